@@ -1,5 +1,7 @@
 -- What inputs hold: bytes and an ending, and what counts of them.
-use Rattle.std.specs.Prelude.{ℕ, ◌≡◌, ◌<◌, ◌-◌, ◌^◌, List, [], ◌++◌, take, length, Option, None, Some, Result, Ok, Err, ⊤, nat_lt, if◌then◌else◌}
+use Rattle.std.specs.Prelude.{ℕ, ◌≡◌, ◌<◌, ◌-◌, ◌^◌, List, [], ◌++◌, take, length, Option, None, Some, Result, Ok, Err, ⊤, nat_lt, if◌then◌else◌, MatchResult}
+use Rattle.digest_kinds.specs.Digests.{digest}
+use Rattle.digest_kinds.specs.Kinds.{KindValue}
 use Rattle.sum_sources.specs.declared.fault.Fault.{Fault}
 use Rattle.sum_sources.specs.declared.fault.Fault.TheVariants.{Other}
 use Rattle.sum_sources.specs.declared.fault.Ending.{Ending}
@@ -25,3 +27,7 @@ ReadGives None new r buf = ⊤
 ReadGives (Some c) None r buf = ⊥
 ReadGives (Some c) (Some d) (Ok n) buf = (c.bytes ≡ take n buf ++ d.bytes) × (d.ending ≡ c.ending) × (n ≡ 0 → 0 < length buf → (c.bytes ≡ []) × (c.ending ≡ Whole))
 ReadGives (Some c) (Some d) (Err f) buf = (c.bytes ≡ []) × (c.ending ≡ Broken f) × (d ≡ c)
+
+-- the digest of a content that ends whole, or the fault by which it ends
+abbrev pub Hashes : KindValue → Content → Result (List ℕ) Fault → Type 0
+Hashes kind c r = MatchResult r (λ d. (c.ending ≡ Whole) × (d ≡ digest kind c.bytes)) (λ f. c.ending ≡ Broken f)

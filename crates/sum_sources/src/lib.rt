@@ -4,10 +4,12 @@
 
 mod fault;
 mod from_read;
+mod hashing;
 mod input;
 mod told;
 
 pub use fault::{Ending, Fault};
 pub use from_read::FromRead;
+pub use hashing::hash_input;
 pub use input::Input;
 pub use told::Told;
