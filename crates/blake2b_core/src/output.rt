@@ -28,7 +28,8 @@ impl Output {
     pub(crate) fn of_state(h: &[u64; 8], len: usize) -> Output
         requires low { 1 ≤ len }
         requires high { len ≤ 64 }
-        ensures { result ≡ take len (flat_map (little_bytes 8) h.now) }
+        ensures value { result ≡ take len (flat_map (little_bytes 8) h.now) }
+        ensures len { length result ≡ len }
     {
         let mut bytes = [0; 64];
         LittleEndian::write_u64_into(h, &mut bytes);

@@ -138,7 +138,8 @@ impl Blake2b {
 
     /// The digest of the message (RFC 7693, 3.3).
     pub fn finish(self) -> Output
-        ensures { (m : List ℕ) → Holds self m → result ≡ blake2b (digest_len self) m }
+        ensures digest { (m : List ℕ) → Holds self m → result ≡ blake2b (digest_len self) m }
+        ensures len { length result ≡ digest_len self }
     {
         let last = zero_filled(&self.held[..self.used]);
         let h = compress(&self.h, &last, u128::from(self.taken), true);

@@ -17,5 +17,5 @@ returns-clause-digest c =
     let are : AreBlocksFrom m 0 front = subst (AreBlocksFrom m 0) (sym c.followed_blocks-front.ensures.value) (are_blocks m 0 ((length m - 1) / 128) fits) in
     let from : 0 + length front ≡ length front = omega arith in
     let hash = c.chained-h.ensures n m 0 refl are c.initial.ensures ∙ ap (hash_after n (blocks m)) from in
-    rw (c.of_state.ensures, c.compress-h.ensures)
+    rw (c.of_state.ensures.value, c.compress-h.ensures)
     (blake2b-from n m (length front) c.chained-h.result c.zero_filled-last.result _ (length m) last hash c.zero_filled-last.ensures (take_rest m (128 * length front)) refl)
