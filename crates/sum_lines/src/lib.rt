@@ -8,7 +8,7 @@ mod sink;
 mod told_sink;
 mod written;
 
-pub use escape::{needs_escape, put_escaped};
+pub use escape::{needs_escape, put_escaped, unescape_in};
 pub use from_write::FromWrite;
 pub use parts::{Part, put_number, put_parts};
 pub use sink::{Sink, SinkFault, put_all};
