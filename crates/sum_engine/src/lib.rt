@@ -1,8 +1,8 @@
-//! What one operand of generation or of checking writes.
+//! Hashes files, and checks files against manifests.
 #![tactic(auto)]
 
 mod settings;
 mod stop;
 
-pub use settings::{CheckSettings, Mode, Report, Settings, Style};
+pub use settings::{CheckSettings, Report, Settings};
 pub use stop::Stop;

@@ -1,19 +1,7 @@
 //! What generation and checking are told by the command line.
 
 use digest_kinds::{Algos, Kind};
-
-#[derive(Clone, Copy, Debug, PartialEq, Eq)]
-pub enum Mode {
-    Text,
-    Binary,
-    Tag,
-}
-
-#[derive(Clone, Copy, Debug, PartialEq, Eq)]
-pub struct Style {
-    pub mode: Mode,
-    pub zero: bool,
-}
+use sum_lines::Style;
 
 /// What generation is told: which digests, and in which style their lines are written.
 #[derive(Clone, Copy, Debug, PartialEq, Eq)]

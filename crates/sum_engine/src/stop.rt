@@ -1,14 +1,14 @@
-//! Why a run ends early.
+//! Why a run stops early.
 
 use thiserror::Error;
 
-/// Why a run ends before its end. Nothing more is written after it.
+/// Why a run stopped before its end. Nothing is written after it.
 #[derive(Clone, Copy, Debug, PartialEq, Eq, Error)]
 pub enum Stop {
-    /// A growth of memory was refused.
+    /// A growth was refused.
     #[error("memory exhausted")]
     Memory,
-    /// An output took no more bytes.
+    /// A write to an output failed.
     #[error("write error")]
     Write,
 }
