@@ -1,10 +1,8 @@
 -- What a command line asks for: the request that its items make, or the first fault that counts.
-use Rattle.std.specs.Prelude.{ℕ, ◌==◌, ◌&&◌, ◌||◌, not, Bool, true, false, List, [], ◌∷◌, length, Option, None, Some, Result, Ok, Err, codes, if◌then◌else◌, unwrap_or}
-use Rattle.std.specs.Result.{result_map}
+use Rattle.std.specs.Prelude.{◌&&◌, ◌||◌, not, Bool, false, List, [], ◌∷◌, Option, None, Some, Result, Ok, Err, codes, if◌then◌else◌, unwrap_or}
 use Rattle.std.specs.List.{list_any}
 use Rattle.std.specs.Str.{bytes_eq, all_ascii_digits}
 use Rattle.std.specs.Str.Parse.{digits_value}
-use Rattle.digest_kinds.specs.declared.algo.Algo.{Algo}
 use Rattle.digest_kinds.specs.declared.algo.Algos.{Algos}
 use Rattle.digest_kinds.specs.declared.algo.Algos.TheVariants.{One, Any}
 use Rattle.digest_kinds.specs.declared.kind.LengthFault.{LengthFault}
@@ -94,7 +92,8 @@ kind_or_fault value (Err TooLong) = Err (length_invalid value)
 kind_or_fault value (Err NotBytes) = Err (length_not_bytes value)
 
 abbrev pub is_number : Text → Bool
-is_number value = not (length value == 0) && all_ascii_digits value
+is_number [] = false
+is_number (b ∷ bs) = all_ascii_digits (b ∷ bs)
 
 abbrev pub length_kind : Text → Result KindValue Fault
 length_kind value =
@@ -143,9 +142,13 @@ asked t kind o words =
     else generation (algos_of t) kind o words
 
 -- a fault of the length value counts before these faults
+abbrev pub some_kind : Result KindValue Fault → Result (Option KindValue) Fault
+some_kind (Ok kind) = Ok (Some kind)
+some_kind (Err f) = Err f
+
 abbrev pub kind_asked : Option Text → Result (Option KindValue) Fault
 kind_asked None = Ok None
-kind_asked (Some value) = result_map Some (length_kind value)
+kind_asked (Some value) = some_kind (length_kind value)
 
 abbrev pub unless : Option Fault → Result Request Fault → Result Request Fault
 unless None r = r

@@ -1,6 +1,7 @@
 //! What the words ask for.
 ghost use Rattle.std.specs.Prelude.{◌≡◌, ◌∷◌, [], None, Some, MatchResult};
 ghost use Rattle.std.specs.Option.{option_copied, option_map};
+ghost use Rattle.std.specs.Str.{all_ascii_digits};
 ghost use Rattle.digests.specs.Items.{items, option};
 ghost use Rattle.digests.specs.Walk.{fault_of, full_name};
 ghost use Rattle.digests.specs.Request.{options, ends, first_of, holding, faults, length_kind, kind_asked, report_of, mode_of, request};
@@ -106,9 +107,11 @@ fn read_options<'a>(tool: Tool, words: &'a Words) -> Result<Chosen<'a>, Result<R
     while let Some(item) = items.next() {
         match item {
             Item::Fault(fault) => return Err(Err(fault)),
-            Item::Flag(Flag::Help) => return Err(Ok(Request::Help)),
-            Item::Flag(Flag::Version) => return Err(Ok(Request::Version)),
-            Item::Flag(flag) => chosen = with_flag(chosen, flag),
+            Item::Flag(flag) => match flag {
+                Flag::Help => return Err(Ok(Request::Help)),
+                Flag::Version => return Err(Ok(Request::Version)),
+                _ => chosen = with_flag(chosen, flag),
+            },
             Item::Length(value) => chosen.length = Some(value),
             Item::Operand(_) => {}
         }
@@ -176,10 +179,21 @@ fn length_kind(value: &str) -> Result<Kind, WordFault<'_>>
 fn number(value: &str) -> Option<u64>
     ensures { IsNumberOf value.now result }
 {
-    if !value.bytes().all(|byte| byte.is_ascii_digit()) {
+    if !all_digits(value.as_bytes()) {
         return None;
     }
-    value.parse().ok()
+    value.parse::<u64>().ok()
+}
+
+fn all_digits(bytes: &[u8]) -> bool
+    ensures { result ≡ all_ascii_digits bytes.now }
+{
+    for byte in bytes {
+        if !byte.is_ascii_digit() {
+            return false;
+        }
+    }
+    true
 }
 
 // The first fault of the options themselves, of which `--check` needs none and several need it.
