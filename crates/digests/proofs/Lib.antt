@@ -2,3 +2,4 @@ mod ToolLemmas
 mod PieceLemmas
 mod OptionLemmas
 mod WordLemmas
+mod ReadingLemmas

@@ -3,3 +3,5 @@ pub mod Pieces
 pub mod Faults
 pub mod Items
 pub mod Walk
+pub mod Request
+pub mod Reading

@@ -5,6 +5,7 @@ pub mod arguments;
 pub mod faults;
 pub mod items;
 pub mod options;
+pub mod reading;
 pub mod tool;
 pub mod words;
 
