@@ -2,3 +2,5 @@ pub mod Escape
 pub mod Sinks
 pub mod ToldSinks
 pub mod Parts
+pub mod Shapes
+pub mod Entries

@@ -3,12 +3,15 @@
 
 mod escape;
 mod from_write;
+mod line_reading;
 mod parts;
+mod scanning;
 mod sink;
 mod told_sink;
 
 pub use escape::{needs_escape, put_escaped};
 pub use from_write::FromWrite;
+pub use line_reading::{Form, Reading};
 pub use parts::{Part, put_number, put_parts};
 pub use sink::{Sink, SinkFault, put_all};
 pub use told_sink::ToldSink;
