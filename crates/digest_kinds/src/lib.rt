@@ -11,6 +11,8 @@ mod hasher;
 mod kind;
 mod kit_hashers;
 pub mod laws;
+#[cfg(test)]
+mod tests;
 
 pub use algo::{Algo, Algos};
 pub use digest::Digest;
