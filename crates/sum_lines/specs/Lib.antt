@@ -4,3 +4,4 @@ pub mod ToldSinks
 pub mod Parts
 pub mod Shapes
 pub mod Entries
+pub mod Lines
