@@ -1,0 +1,9 @@
+pub mod Worlds
+pub mod Outcomes
+pub mod Generation
+pub mod Scenes
+pub mod Asking
+pub mod Grammar
+pub mod Verdicts
+pub mod Reports
+pub mod Checking
