@@ -6,6 +6,8 @@
 #![tactic(auto)]
 
 mod algo;
+mod any_hasher;
+mod blake2b_hasher;
 mod digest;
 mod hasher;
 mod kind;
@@ -15,6 +17,7 @@ pub mod laws;
 mod tests;
 
 pub use algo::{Algo, Algos};
+pub use any_hasher::AnyHasher;
 pub use digest::Digest;
 pub use hasher::Hasher;
 pub use kind::{Kind, LengthFault};
