@@ -7,8 +7,12 @@ mod line_reading;
 mod parts;
 mod scanning;
 mod sink;
+#[cfg(test)]
+mod sink_tests;
 mod told_sink;
 mod written;
+#[cfg(test)]
+mod written_tests;
 
 pub use escape::{needs_escape, put_escaped, unescape_in};
 pub use from_write::FromWrite;
