@@ -12,7 +12,8 @@ use Rattle.sum_sources.specs.declared.lines.Next.TheVariants.{Line, NoMore}
 use Rattle.sum_sources.specs.declared.lines.LineStop.TheVariants as stops
 use Rattle.sum_sources.specs.Contents.{Content, WhereTold}
 use Rattle.sum_sources.specs.Standard.{nothing}
-use Rattle.sum_sources.specs.LineReading.{behind, clip_to, at_state, NoNewline, FillOf, TakesPiece, EndsPiece, IsLastPiece, PieceOf}
+use Rattle.sum_sources.specs.LineReading.{behind, clip_to, at_state, FillOf, TakesPiece, EndsPiece, IsLastPiece, PieceOf}
+use Rattle.sum_sources.specs.ManifestLines.{NoNewline}
 use Rattle.sum_sources.proofs.FillLemmas.{content-same}
 use Rattle.sum_sources.proofs.ToldLemmas.{WhereTold-map, WhereTold-then}
 
@@ -93,7 +94,7 @@ pub PieceOf-fault : (s : State) (x y z : Option Content) (f : Fault) (line : Lis
 PieceOf-fault s x y z f line none h g =
     WhereTold-state s x z (λ c. NoNewline line × (c.bytes ≡ line) × (c.ending ≡ Broken f))
     (WhereTold-then x y z (λ c d. Came c d line) (λ c d. FillOf c d (Err f)) (λ c d. NoNewline line × (c.bytes ≡ line) × (c.ending ≡ Broken f))
-      (λ c d e came is. (none, came.0 ∙ ap (λ (x : Content). line ++ x.bytes) is ∙ append-nil line, sym came.1 ∙ ap (λ (x : Content). x.ending) is)) h g)
+    (λ c d e came is. (none, came.0 ∙ ap (λ (x : Content). line ++ x.bytes) is ∙ append-nil line, sym came.1 ∙ ap (λ (x : Content). x.ending) is)) h g)
 
 -- there was no memory
 pub PieceOf-memory : (s : State) (old x : Option Content) (f g : Content → Content) (line line' : List ℕ) → WhereTold old (option_map f x) (λ c d. Came c d line)

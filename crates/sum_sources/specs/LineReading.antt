@@ -1,5 +1,5 @@
 -- What a line reader has still to give, what it counts, and what each of its steps does with that.
-use Rattle.std.specs.Prelude.{Bool, true, false, ℕ, ◌≡◌, ◌<◌, ◌+◌, ◌-◌, ◌==◌, List, [], ◌∷◌, ◌++◌, take, drop, length, Option, None, Some, Result, Ok, Err, ⊤, ◌⊎◌, All, nat_lt, if◌then◌else◌}
+use Rattle.std.specs.Prelude.{Bool, true, false, ℕ, ◌≡◌, ◌<◌, ◌+◌, ◌-◌, List, [], ◌∷◌, ◌++◌, take, drop, length, Option, None, Some, Result, Ok, Err, ⊤, ◌⊎◌, nat_lt, if◌then◌else◌}
 use Rattle.std.specs.Option.{option_map}
 use Rattle.sum_sources.specs.declared.fault.Fault.{Fault}
 use Rattle.sum_sources.specs.declared.fault.Fault.TheVariants.{Other}
@@ -12,7 +12,7 @@ use Rattle.sum_sources.specs.declared.lines.Next.TheVariants.{Line, NoMore}
 use Rattle.sum_sources.specs.declared.lines.LineStop.{LineStop}
 use Rattle.sum_sources.specs.declared.lines.LineStop.TheVariants as stops
 use Rattle.sum_sources.specs.Contents.{Content, limit}
-use Rattle.sum_sources.specs.ManifestLines.{lines, past_line}
+use Rattle.sum_sources.specs.ManifestLines.{lines, past_line, NoNewline}
 use Rattle.sum_sources.specs.Standard.{nothing}
 
 -- what next_line answers: the first line, with what stands past it still to come; or that none is left, by the ending
@@ -85,10 +85,6 @@ is_stop (Some (Err e)) = true
 
 abbrev pub has_stopped : {I : Type 0} → LineReader I → Bool
 has_stopped s = is_stop (answer_of s)
-
--- no byte is a newline
-abbrev pub NoNewline : List ℕ → Type 0
-NoNewline piece = All (λ b. (b == 10) ≡ false) piece
 
 -- filling the empty buffer: what is still to come stays, and is nothing where the end was found
 abbrev pub FillOf : Content → Content → Result Bool Fault → Type 0

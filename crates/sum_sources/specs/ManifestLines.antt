@@ -1,6 +1,6 @@
 -- The lines of a manifest.
-use Rattle.std.specs.Prelude.{ℕ, ◌==◌, List, [], ◌∷◌, map}
-use Rattle.std.specs.List.{slice_split, after_first}
+use Rattle.std.specs.Prelude.{ℕ, ◌≡◌, ◌==◌, false, List, [], ◌∷◌, ◌++◌, map, All}
+use Rattle.std.specs.List.{slice_split, after_first, flat_map}
 use Rattle.std.specs.Str.Lines.{strip_carriage_return}
 use Rattle.sum_sources.specs.declared.fault.Ending.{Ending}
 use Rattle.sum_sources.specs.declared.fault.Ending.TheVariants.{Whole, Broken}
@@ -29,3 +29,17 @@ lines c = map strip_carriage_return (pieces c)
 -- what stands past the first line
 abbrev pub past_line : Content → Content
 past_line c = record { bytes = after_first (λ b. b == 10) c.bytes; ending = c.ending }
+
+-- no byte is a newline
+abbrev pub NoNewline : List ℕ → Type 0
+NoNewline piece = All (λ b. (b == 10) ≡ false) piece
+
+-- these pieces, each ended by a newline, and then the tail
+abbrev pub joined : List (List ℕ) → List ℕ → List ℕ
+joined ended tail = flat_map (λ piece. piece ++ 10 ∷ []) ended ++ tail
+
+-- the bytes are cut at every newline into these pieces and the tail
+pub record CutsInto (bytes : List ℕ) (ended : List (List ℕ)) (tail : List ℕ) : Type 0 where
+  pub bytes_are : bytes ≡ joined ended tail
+  pub pieces_plain : All NoNewline ended
+  pub tail_plain : NoNewline tail

@@ -7,6 +7,7 @@ mod files;
 mod from_read;
 mod hashing;
 mod input;
+pub mod laws;
 mod lines;
 mod source;
 mod standard;
