@@ -4,7 +4,7 @@ ghost use Rattle.sum_sources.specs.Sources.{after_refusal};
 ghost use Rattle.sum_engine.specs.Worlds.{is_dash};
 ghost use Rattle.sum_engine.specs.Scenes.{world};
 
-use digest_kinds::{Digest, Kind, Md5Hasher};
+use digest_kinds::{AnyHasher, Digest, Kind};
 use sum_sources::{Fault, Input, OpenFault, Source, Stdin, hash_input};
 
 /// What came of a name that was asked.
@@ -53,7 +53,7 @@ fn read_digest<F: Input>(kind: Kind, file: &mut F) -> Asked
     ensures gives { IfSome (F.content file.old) (λ c. ComesOf kind c result) }
     ensures sized { Sized kind (Some result) }
 {
-    match hash_input(file, Md5Hasher::new()) {
+    match hash_input(file, AnyHasher::new(kind)) {
         Ok(digest) => Asked::Read(digest),
         Err(fault) => Asked::Broken(fault),
     }

@@ -1,4 +1,4 @@
-use Rattle.std.proofs.Common.{[], ◌^◌, ◌<◌, length, arith, rules, sym, ◌∙◌, ap}
+use Rattle.std.proofs.Common.{[], [], ◌^◌, ◌<◌, length, arith, rules, sym, ◌∙◌, ap}
 use Rattle.std.proofs.lemmas.Result.{err_from_is_err_and}
 use Rattle.digest_kinds.specs.Digests.{digest}
 use Rattle.sum_sources.proofs.hashing.hash_input.Goals as goal
