@@ -1,3 +1,4 @@
 pub mod Escape
 pub mod Shapes
 pub mod Entries
+pub mod Scanned
