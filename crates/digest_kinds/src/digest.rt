@@ -1,7 +1,8 @@
 //! A digest.
 
-ghost use Rattle.std.specs.Prelude.{◌≡◌, ◌*◌, ◌++◌, ◌≤◌, ◌↔◌, IsTrue, drop, length};
-ghost use Rattle.hex.specs.Hex.{encode_lower};
+ghost use Rattle.std.specs.Prelude.{◌≡◌, ◌*◌, ◌++◌, ◌≤◌, ◌↔◌, IsTrue, drop, length, IsSome, IfSome, Ok};
+ghost use Rattle.digest_kinds.specs.Digits.{IsDigits};
+ghost use Rattle.hex.specs.Hex.{decode_of, encode_lower};
 
 use std::marker::Model;
 
@@ -35,6 +36,21 @@ impl Digest {
             bytes,
             len: digest.len(),
         }
+    }
+
+    /// The digest that the digits spell, in either case; None exactly where the text isn't 2 to 128 hexadecimal digits
+    /// of an even count.
+    pub fn from_hex(text: &[u8]) -> Option<Digest>
+        ensures value { IfSome result (λ digest. decode_of text.now ≡ Ok digest) }
+        ensures found { IsSome result ↔ IsDigits text.now }
+    {
+        let len = text.len() / 2;
+        if len < 1 || len > 64 {
+            return None;
+        }
+        let mut bytes = [0; 64];
+        hex::decode_to_slice(text, &mut bytes[..len]).ok()?;
+        Some(Digest { bytes, len })
     }
 
     /// The bytes, of which there are 1 to 64.

@@ -2,9 +2,22 @@
 
 ghost use Rattle.std.specs.Prelude.{◌≡◌, ◌*◌, ◌≤◌, IsTrue};
 ghost use Rattle.digest_kinds.specs.Kinds.{full_kind, has_len, tag};
+ghost use Rattle.digest_kinds.specs.Lengths.{blake2b_of_bits};
 
 use crate::algo::Algo;
 use std::marker::Model;
+use thiserror::Error;
+
+/// Why no BLAKE2b digest has so many bits.
+#[derive(Clone, Copy, Debug, PartialEq, Eq, Error)]
+pub enum LengthFault {
+    /// There are more than 512.
+    #[error("a BLAKE2b digest has at most 512 bits")]
+    TooLong,
+    /// They are no multiple of 8.
+    #[error("a BLAKE2b digest has a multiple of 8 bits")]
+    NotBytes,
+}
 
 /// An algorithm and the number of bytes of its digest: 1 to 64 for BLAKE2b, the full digest for the others.
 #[derive(Clone, Copy, Debug, PartialEq, Eq)]
@@ -42,6 +55,26 @@ impl Kind {
         Kind { algo, len }
     }
 
+    /// BLAKE2b with a digest of so many bits (RFC 7693, 2.1), 0 standing for the full 512. `TooLong` for more than 512,
+    /// and otherwise `NotBytes` where they are no multiple of 8.
+    pub fn blake2b_bits(bits: u64) -> Result<Kind, LengthFault>
+        ensures { result ≡ blake2b_of_bits bits }
+    {
+        if bits > 512 {
+            return Err(LengthFault::TooLong);
+        }
+        if bits == 0 {
+            return Ok(Kind::of(Algo::Blake2b));
+        }
+        if bits % 8 != 0 {
+            return Err(LengthFault::NotBytes);
+        }
+        Ok(Kind {
+            algo: Algo::Blake2b,
+            len: (bits / 8) as usize,
+        })
+    }
+
     /// The algorithm.
     pub fn algo(self) -> Algo
         ensures { result ≡ self.algo }
@@ -53,15 +86,7 @@ impl Kind {
     pub fn tag(self) -> &'static str
         ensures { result.now ≡ tag self.algo }
     {
-        match self.algo {
-            Algo::Md5 => "MD5",
-            Algo::Sha1 => "SHA1",
-            Algo::Sha224 => "SHA224",
-            Algo::Sha256 => "SHA256",
-            Algo::Sha384 => "SHA384",
-            Algo::Sha512 => "SHA512",
-            Algo::Blake2b => "BLAKE2b",
-        }
+        self.algo.tag()
     }
 
     /// The number of bits of the digest.

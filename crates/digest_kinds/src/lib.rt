@@ -10,11 +10,12 @@ mod digest;
 mod hasher;
 mod kind;
 mod kit_hashers;
+pub mod laws;
 
 pub use algo::{Algo, Algos};
 pub use digest::Digest;
 pub use hasher::Hasher;
-pub use kind::Kind;
+pub use kind::{Kind, LengthFault};
 pub use kit_hashers::{
     Md5Hasher, Sha1Hasher, Sha224Hasher, Sha256Hasher, Sha384Hasher, Sha512Hasher,
 };

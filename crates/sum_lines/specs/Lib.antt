@@ -3,3 +3,7 @@ pub mod Shapes
 pub mod Entries
 pub mod Scanned
 pub mod Laws
+pub mod Sinks
+pub mod ToldSinks
+pub mod Parts
+pub mod Lines
