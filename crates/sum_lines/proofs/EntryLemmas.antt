@@ -14,39 +14,13 @@ use Rattle.sum_lines.specs.Scanned.{Parts, after_while, unmarked, past, plain_of
 use Rattle.sum_lines.specs.Entries.{ignored, begins_standard, form_of_tail, Decides, IsForm, Spells, RawOf, Spelled, kind_of, ByTag, ByTail, Entry, form_then, form_of_parts, line_form, form}
 use Rattle.sum_lines.specs.Laws.{OneEntry, OneForm}
 use Rattle.sum_lines.proofs.EscapeApart.{escape_apart}
-use Rattle.sum_lines.proofs.TaggedLemmas.{tagged-front, tagged_is_read, same_parts}
+use Rattle.sum_lines.proofs.TaggedLemmas.{tagged_is_read, same_parts}
 use Rattle.sum_lines.proofs.PlainLemmas.{apart, plain-once, plain_is_read, read_is_plain}
 
 -- ---- one entry
 
--- the algorithm whose tag stands in front
-abbrev is_past : Option (List ℕ) → Bool
-is_past None = false
-is_past (Some s) = true
-
-abbrev algo_of : List ℕ → Option Algo
-algo_of s = cond (is_past (past (tag Md5) s)) (Some Md5) (cond (is_past (past (tag Sha1) s)) (Some Sha1) (cond (is_past (past (tag Sha224) s)) (Some Sha224) (cond (is_past (past (tag Sha256) s)) (Some Sha256)
-    (cond (is_past (past (tag Sha384) s)) (Some Sha384) (cond (is_past (past (tag Sha512) s)) (Some Sha512) (cond (is_past (past (tag Blake2b) s)) (Some Blake2b) None))))))
-
-algo_of-tag : (a : Algo) (s : List ℕ) → algo_of (tag a ++ s) ≡ Some a
-algo_of-tag Md5 s = refl
-algo_of-tag Sha1 s = refl
-algo_of-tag Sha224 s = refl
-algo_of-tag Sha256 s = refl
-algo_of-tag Sha384 s = refl
-algo_of-tag Sha512 s = refl
-algo_of-tag Blake2b s = refl
-
-same_algo : (a b : Algo) → Some a ≡ Some b → a ≡ b
-same_algo a b h = cc
-
-pub tagged-once : (algos others : Algos) (line : List ℕ) (p q : Parts) → Tagged algos line p.escaped p.kind p.digest p.text → Tagged others line q.escaped q.kind q.digest q.text → p ≡ q
-tagged-once algos others line p q s t =
-    let f = tagged-front algos line p.escaped p.kind p.digest p.text s in
-    let g = tagged-front others line q.escaped q.kind q.digest q.text t in
-    let rests : tag p.kind.algo ++ f.0 ≡ tag q.kind.algo ++ g.0 = ap (λ (x : Bool × List ℕ). x.1) (sym f.1 ∙ g.1) in
-    let algo : p.kind.algo ≡ q.kind.algo = same_algo _ _ (sym (algo_of-tag p.kind.algo f.0) ∙ ap algo_of rests ∙ algo_of-tag q.kind.algo g.0) in
-    same_parts p q (sym (tagged_is_read algos line p s) ∙ ap (λ x. tagged_of x line) algo ∙ tagged_is_read others line q t)
+pub tagged-once : (algos : Algos) (line : List ℕ) (p q : Parts) → Tagged algos line p.escaped p.kind p.digest p.text → Tagged algos line q.escaped q.kind q.digest q.text → p ≡ q
+tagged-once algos line p q s t = same_parts p q (sym (tagged_is_read algos line p s) ∙ tagged_is_read algos line q t)
 
 pub spelled_same : (s t : Spelled) → s.algo ≡ t.algo → s.digest ≡ t.digest → s.name ≡ t.name → s ≡ t
 spelled_same s t a d n =
@@ -64,7 +38,7 @@ tags_one : (algos : Algos) (line : List ℕ) (s t : Spelled) → ByTag escape al
 tags_one algos line s t p q =
     let a : Parts = record { escaped = p.escaped; kind = kind_of s; digest = s.digest; text = p.raw } in
     let b : Parts = record { escaped = q.escaped; kind = kind_of t; digest = t.digest; text = q.raw } in
-    let same : a ≡ b = tagged-once algos algos line a b p.tagged q.tagged in
+    let same : a ≡ b = tagged-once algos line a b p.tagged q.tagged in
     spelled_same s t (ap (λ (x : Parts). x.kind.algo) same) (ap (λ (x : Parts). x.digest) same)
     (spells_one p.escaped q.escaped p.raw q.raw s.name t.name (ap (λ (x : Parts). x.escaped) same) (ap (λ (x : Parts). x.text) same) p.spells q.spells)
 

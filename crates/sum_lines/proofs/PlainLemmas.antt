@@ -21,9 +21,19 @@ use Rattle.sum_lines.proofs.TaggedLemmas.{Begins, unmarked-front, hex-no_blank, 
 
 -- ---- what is read joins to the line
 
-sized-some : (a : Algo) (r : Result (List ℕ) FromHexError) (d : List ℕ) → sized a r ≡ Some d → (r ≡ Ok d) × (has_len a (length d) ≡ true)
-sized-some a (Ok x) d h = let e = cond_some (has_len a (length x)) x d h in (ap Ok e.1, ap (λ l. has_len a (length l)) (sym e.1) ∙ e.0)
-sized-some a (Err e) d h = cc
+-- a kind and its digest that digits spell
+record Sized (a : Algo) (r : Result (List ℕ) FromHexError) (k : KindValue × List ℕ) : Type 0 where
+  is_algo : k.0.algo ≡ a
+  size : length k.1 ≡ k.0.len
+  spelled : r ≡ Ok k.1
+  has : has_len a k.0.len ≡ true
+
+sized-some : (a : Algo) (r : Result (List ℕ) FromHexError) (k : KindValue × List ℕ) → sized a r ≡ Some k → Sized a r k
+sized-some a (Ok d) k h =
+    let e = cond_some (has_len a (length d)) (record { algo = a; len = length d }, d) k h in
+    let P : KindValue × List ℕ → Type 0 = Sized a (Ok d) in
+    subst P e.1 (record { is_algo = refl; size = refl; spelled = refl; has = e.0 })
+sized-some a (Err e) k h = cc
 
 pub tail_of-some : (s tail : List ℕ) → tail_of s ≡ Some tail → (b : ℕ) × (is_blank b ≡ true) × (s ≡ b ∷ tail) × (0 < length tail)
 tail_of-some [] tail h = cc
@@ -32,9 +42,7 @@ tail_of-some (b ∷ x ∷ xs) tail h = let e = cond_some (is_blank b) (x ∷ xs)
 
 record Found (a : Algo) (e : Bool) (s : List ℕ) (p : Parts) : Type 0 where
   escaped : p.escaped ≡ e
-  is_algo : p.kind.algo ≡ a
-  size : length p.digest ≡ p.kind.len
-  spelled : sized a (decode_of (take_while is_hex_digit s)) ≡ Some p.digest
+  sized : Sized a (decode_of (take_while is_hex_digit s)) (p.kind, p.digest)
   tail : tail_of (after_while is_hex_digit s) ≡ Some p.text
 
 plain_behind-some : (a : Algo) (e : Bool) (s : List ℕ) (p : Parts) → plain_behind a e s ≡ Some p → Found a e s p
@@ -42,25 +50,25 @@ unfolding plain_behind
 plain_behind-some a e s p h =
     let d = bind_some _ _ _ h in
     let t = bind_some _ _ _ d.2 in
-    let is : record { escaped = e; kind = record { algo = a; len = length d.0 }; digest = d.0; text = t.0 } ≡ p = same_parts _ p t.2 in
+    let is : record { escaped = e; kind = d.0.0; digest = d.0.1; text = t.0 } ≡ p = same_parts _ p t.2 in
     let P : Parts → Type 0 = Found a e s in
-    subst P is (record { escaped = refl; is_algo = refl; size = refl; spelled = d.1; tail = t.1 })
+    subst P is (record { escaped = refl; sized = sized-some a _ d.0 d.1; tail = t.1 })
 
 read_is_plain_as : (a : Algo) (line : List ℕ) (p : Parts) → plain_as a line ≡ Some p → Plain (One a) line p.escaped p.kind p.digest p.text
 read_is_plain_as a line p h =
     let u : Bool × List ℕ = unmarked (after_while is_blank line) in
     let f = plain_behind-some a u.0 u.1 p h in
-    let d = sized-some a _ p.digest f.spelled in
+    let d = f.sized in
     let t = tail_of-some _ p.text f.tail in
     record {
       blanks = take_while is_blank line;
       digits = take_while is_hex_digit u.1;
       blank = t.0;
-      one = ap One (sym f.is_algo);
-      has = ap (λ x. has_len x p.kind.len) f.is_algo ∙ ap (has_len a) (sym f.size) ∙ d.1;
+      one = ap One (sym d.is_algo);
+      has = ap (λ x. has_len x p.kind.len) d.is_algo ∙ d.has;
       are_blanks = front-passes is_blank line;
-      spelled = d.0;
-      size = f.size;
+      spelled = d.spelled;
+      size = d.size;
       is_one_blank = t.1;
       some = t.3;
       whole = front-and-rest is_blank line ∙ ap (λ l. take_while is_blank line ++ l) (unmarked-is (after_while is_blank line) ∙ ap (λ l. mark u.0 ++ l) (front-and-rest is_hex_digit u.1 ∙ ap (λ l. take_while is_hex_digit u.1 ++ l) t.2))
@@ -132,8 +140,8 @@ plain-front algos line e kind d tail p =
     let ds = plain-digits algos line e kind d tail p in
     ap (λ l. unmarked (after_while is_blank l)) p.whole ∙ unmarked-front p.blanks e p.digits (p.blank ∷ tail) p.are_blanks ds.begins
 
-sized-ok : (a : Algo) (ds d : List ℕ) → decode_of ds ≡ Ok d → has_len a (length d) ≡ true → sized a (decode_of ds) ≡ Some d
-sized-ok a ds d h size = rw h (cond-true (has_len a (length d)) (Some d) None size)
+sized-ok : (a : Algo) (ds d : List ℕ) → decode_of ds ≡ Ok d → has_len a (length d) ≡ true → sized a (decode_of ds) ≡ Some (record { algo = a; len = length d }, d)
+sized-ok a ds d h size = rw h (cond-true (has_len a (length d)) (Some (record { algo = a; len = length d }, d)) None size)
 
 tail_of-at : (b : ℕ) (tail : List ℕ) → is_blank b ≡ true → 0 < length tail → tail_of (b ∷ tail) ≡ Some tail
 tail_of-at b [] h lt = absurd (omega arith)

@@ -14,8 +14,9 @@ use Rattle.digest_kinds.specs.Kinds.{KindValue, full, full_kind, has_len, tag}
 use Rattle.digest_kinds.specs.declared.algo.Algo.{Algo}
 use Rattle.digest_kinds.specs.declared.algo.Algo.TheVariants.{Md5, Sha1, Sha224, Sha256, Sha384, Sha512, Blake2b}
 use Rattle.digest_kinds.specs.declared.algo.Algos.{Algos}
+use Rattle.digest_kinds.specs.declared.algo.Algos.TheVariants.{One, Any}
 use Rattle.sum_lines.specs.Shapes.{is_blank, mark, optional, Width, Allows, Tagged}
-use Rattle.sum_lines.specs.Scanned.{◌>>=◌, Parts, after_while, unmarked, past, unspaced, digest_at, is_digit, kind_at, bits_at, blake2b_at, width_at, split_last, some_of, digest_behind, name_behind, tagged_behind, tagged_of}
+use Rattle.sum_lines.specs.Scanned.{◌>>=◌, Parts, after_while, unmarked, past, unspaced, algo_of, algo_at, digest_at, is_digit, kind_at, bits_at, blake2b_at, width_at, split_last, some_of, digest_behind, name_behind, tagged_behind, tagged_text, tagged_of}
 use Rattle.sum_lines.proofs.FrontLemmas.{bind_some, front-passes, front-and-rest, front-at, rest-at, prefix_len-all, unmarked-is, unspaced-is, past-some, past-front, split_last-some, split_last-at, isn't, some_of-is, some_of-some}
 use Rattle.sum_lines.proofs.BitsLemmas.{kind_at-some, decimal-kind_at, decimal-digits}
 
@@ -137,25 +138,28 @@ tagged_behind-some a e s p h =
     let w = bind_some (width_at a i.0) (λ w. name_behind e w.0 w.1) p i.2 in
     (w.0, i.0, past-some (tag a) s i.0 i.1, width_at-some a i.0 w.0 w.1, name_behind-some e w.0.0 w.0.1 p w.2)
 
--- the kind that was read is of the algorithm
-pub read-algo : (a : Algo) (line : List ℕ) (p : Parts) → tagged_of a line ≡ Some p → p.kind.algo ≡ a
-read-algo a line p h =
-    let u : Bool × List ℕ = unmarked (after_while is_blank line) in
-    let t = tagged_behind-some a u.0 u.1 p h in
-    let wide = t.3 in
-    let named = t.4 in
-    ap (λ (k : KindValue). k.algo) named.is_kind ∙ wide.is_algo
+-- the algorithm that is looked for is allowed, and it is the one whose tag stands there
+algo_at-allowed : (algos : Algos) (s : List ℕ) (a : Algo) → algo_at algos s ≡ Some a → Allows algos a
+algo_at-allowed (One b) s a h = cc
+algo_at-allowed Any s a h = tt
 
-pub read_is_tagged : (algos : Algos) (a : Algo) (line : List ℕ) (p : Parts) → Allows algos a → tagged_of a line ≡ Some p → Tagged algos line p.escaped p.kind p.digest p.text
-read_is_tagged algos a line p fine h =
+tagged_text-some : (algos : Algos) (e : Bool) (s : List ℕ) (p : Parts) → tagged_text algos e s ≡ Some p → (a : Algo) × Allows algos a × (tagged_behind a e s ≡ Some p)
+unfolding tagged_text
+tagged_text-some algos e s p h = let a = bind_some (algo_at algos s) (λ a. tagged_behind a e s) p h in (a.0, algo_at-allowed algos s a.0 a.1, a.2)
+
+pub read_is_tagged : (algos : Algos) (line : List ℕ) (p : Parts) → tagged_of algos line ≡ Some p → Tagged algos line p.escaped p.kind p.digest p.text
+read_is_tagged algos line p h =
     let u : Bool × List ℕ = unmarked (after_while is_blank line) in
-    let t = tagged_behind-some a u.0 u.1 p h in
+    let found = tagged_text-some algos u.0 u.1 p h in
+    let a : Algo = found.0 in
+    let t = tagged_behind-some a u.0 u.1 p found.2 in
     let wide = t.3 in
     let named = t.4 in
     let behind = named.behind in
-    let algo : p.kind.algo ≡ a = read-algo a line p h in
+    let algo : p.kind.algo ≡ a = ap (λ (k : KindValue). k.algo) named.is_kind ∙ wide.is_algo in
     let A : Algo → Type 0 = Allows algos in
     let W : KindValue → Type 0 = λ k. Width k wide.width in
+    let behind_tag : List ℕ = wide.width ++ (optional named.gap (32 ∷ []) ++ (40 ∷ (p.text ++ (41 ∷ (behind.before ++ (61 ∷ (behind.after ++ behind.digits))))))) in
     record {
       blanks = take_while is_blank line;
       width = wide.width;
@@ -163,7 +167,7 @@ read_is_tagged algos a line p fine h =
       before = behind.before;
       after = behind.after;
       digits = behind.digits;
-      allowed = subst A (sym algo) fine;
+      allowed = subst A (sym algo) found.1;
       are_blanks = front-passes is_blank line;
       is_width = subst W (sym named.is_kind) wide.is_width;
       some = named.some;
@@ -173,8 +177,8 @@ read_is_tagged algos a line p fine h =
       size = behind.size ∙ ap (λ (k : KindValue). k.len) (sym named.is_kind);
       whole = front-and-rest is_blank line ∙ ap (λ l. take_while is_blank line ++ l) (unmarked-is (after_while is_blank line) ∙ ap (λ l. mark u.0 ++ l)
         (t.2 ∙ ap (λ l. tag a ++ l) (wide.whole ∙ ap (λ l. wide.width ++ l) (named.whole ∙ ap (λ l. optional named.gap (32 ∷ []) ++ (40 ∷ (p.text ++ (41 ∷ l)))) behind.whole))))
-        ∙ ap (λ m. take_while is_blank line ++ (mark m ++ (tag a ++ (wide.width ++ (optional named.gap (32 ∷ []) ++ (40 ∷ (p.text ++ (41 ∷ (behind.before ++ (61 ∷ (behind.after ++ behind.digits))))))))))) (sym named.escaped)
-        ∙ ap (λ x. take_while is_blank line ++ (mark p.escaped ++ (tag x ++ (wide.width ++ (optional named.gap (32 ∷ []) ++ (40 ∷ (p.text ++ (41 ∷ (behind.before ++ (61 ∷ (behind.after ++ behind.digits))))))))))) (sym algo);
+        ∙ ap (λ m. take_while is_blank line ++ (mark m ++ (tag a ++ behind_tag))) (sym named.escaped)
+        ∙ ap (λ x. take_while is_blank line ++ (mark p.escaped ++ (tag x ++ behind_tag))) (sym algo);
     }
 
 -- ---- what joins to the line is read
@@ -312,10 +316,29 @@ tagged-front algos line e kind d raw t =
     let rest : List ℕ = t.width ++ opening t.gap (raw ++ (41 ∷ (t.before ++ (61 ∷ (t.after ++ t.digits))))) in
     (rest, ap (λ l. unmarked (after_while is_blank l)) t.whole ∙ unmarked-front t.blanks e (tag kind.algo) rest t.are_blanks (tag-begins kind.algo))
 
-pub tagged_is_read : (algos : Algos) (line : List ℕ) (p : Parts) → Tagged algos line p.escaped p.kind p.digest p.text → tagged_of p.kind.algo line ≡ Some p
+-- the tag that stands there is found
+pub algo_of-tag : (a : Algo) (s : List ℕ) → algo_of (tag a ++ s) ≡ Some a
+algo_of-tag Md5 s = refl
+algo_of-tag Sha1 s = refl
+algo_of-tag Sha224 s = refl
+algo_of-tag Sha256 s = refl
+algo_of-tag Sha384 s = refl
+algo_of-tag Sha512 s = refl
+algo_of-tag Blake2b s = refl
+
+algo_at-tag : (algos : Algos) (a : Algo) (s : List ℕ) → Allows algos a → algo_at algos (tag a ++ s) ≡ Some a
+algo_at-tag (One b) a s fine = ap Some (sym fine)
+algo_at-tag Any a s fine = algo_of-tag a s
+
+tagged_text-of : (algos : Algos) (a : Algo) (e : Bool) (s : List ℕ) → Allows algos a → tagged_text algos e (tag a ++ s) ≡ tagged_behind a e (tag a ++ s)
+unfolding tagged_text
+tagged_text-of algos a e s fine = ap (λ o. o >>= (λ x. tagged_behind x e (tag a ++ s))) (algo_at-tag algos a s fine)
+
+pub tagged_is_read : (algos : Algos) (line : List ℕ) (p : Parts) → Tagged algos line p.escaped p.kind p.digest p.text → tagged_of algos line ≡ Some p
 tagged_is_read algos line p t =
     let back : List ℕ = p.text ++ (41 ∷ (t.before ++ (61 ∷ (t.after ++ t.digits)))) in
-    let u : unmarked (after_while is_blank line) ≡ (p.escaped, tag p.kind.algo ++ (t.width ++ opening t.gap back)) =
-        ap (λ l. unmarked (after_while is_blank l)) t.whole ∙ unmarked-front t.blanks p.escaped (tag p.kind.algo) (t.width ++ opening t.gap back) t.are_blanks (tag-begins p.kind.algo) in
-    ap (λ (x : Bool × List ℕ). tagged_behind p.kind.algo x.0 x.1) u ∙ tagged_behind-of p.kind p.escaped t.width t.gap back t.is_width
+    let text : List ℕ = t.width ++ opening t.gap back in
+    let u : unmarked (after_while is_blank line) ≡ (p.escaped, tag p.kind.algo ++ text) =
+        ap (λ l. unmarked (after_while is_blank l)) t.whole ∙ unmarked-front t.blanks p.escaped (tag p.kind.algo) text t.are_blanks (tag-begins p.kind.algo) in
+    ap (λ (x : Bool × List ℕ). tagged_text algos x.0 x.1) u ∙ tagged_text-of algos p.kind.algo p.escaped text t.allowed ∙ tagged_behind-of p.kind p.escaped t.width t.gap back t.is_width
     ∙ name_behind-of p.escaped p.kind t.gap p.text t.before t.after t.digits p.digest t.some t.before_blanks t.after_blanks t.spelled t.size

@@ -42,6 +42,25 @@ past [] ys = Some ys
 past (x ∷ xs) [] = None
 past (x ∷ xs) (y ∷ ys) = if y == x then past xs ys else None
 
+-- the algorithm whose tag stands in front, where there is one
+abbrev pub is_past : Option (List ℕ) → Bool
+is_past None = false
+is_past (Some s) = true
+
+abbrev pub begins : Algo → List ℕ → Bool
+begins a s = is_past (past (tag a) s)
+
+abbrev pub algo_of : List ℕ → Option Algo
+algo_of s =
+    if begins Md5 s then Some Md5 else if begins Sha1 s then Some Sha1 else if begins Sha224 s then Some Sha224
+    else if begins Sha256 s then Some Sha256 else if begins Sha384 s then Some Sha384
+    else if begins Sha512 s then Some Sha512 else if begins Blake2b s then Some Blake2b else None
+
+-- the algorithm whose tag is looked for
+abbrev pub algo_at : Algos → List ℕ → Option Algo
+algo_at (One a) s = Some a
+algo_at Any s = algo_of s
+
 -- the digits, where they spell a digest of that length
 abbrev pub digest_at : ℕ → Result (List ℕ) FromHexError → Option (List ℕ)
 digest_at n (Ok d) = if length d == n then Some d else None
@@ -109,12 +128,17 @@ tagged_behind a e s = do
   w ← width_at a rest
   name_behind e w.0 w.1
 
-abbrev pub tagged_of : Algo → List ℕ → Option Parts
-tagged_of a line = let u = unmarked (after_while is_blank line) in tagged_behind a u.0 u.1
+unfoldable pub tagged_text : Algos → Bool → List ℕ → Option Parts
+tagged_text algos e s = do
+  a ← algo_at algos s
+  tagged_behind a e s
 
--- a plain line: the digest that the digits spell, the tail behind the blank, and the whole
-abbrev pub sized : Algo → Result (List ℕ) FromHexError → Option (List ℕ)
-sized a (Ok d) = if has_len a (length d) then Some d else None
+abbrev pub tagged_of : Algos → List ℕ → Option Parts
+tagged_of algos line = let u = unmarked (after_while is_blank line) in tagged_text algos u.0 u.1
+
+-- a plain line: the kind and the digest that the digits spell, the tail behind the blank, and the whole
+abbrev pub sized : Algo → Result (List ℕ) FromHexError → Option (KindValue × List ℕ)
+sized a (Ok d) = if has_len a (length d) then Some (record { algo = a; len = length d }, d) else None
 sized a (Err e) = None
 
 abbrev pub tail_of : List ℕ → Option (List ℕ)
@@ -126,7 +150,7 @@ unfoldable pub plain_behind : Algo → Bool → List ℕ → Option Parts
 plain_behind a e s = do
   d ← sized a (decode_of (take_while is_hex_digit s))
   tail ← tail_of (after_while is_hex_digit s)
-  Some (record { escaped = e; kind = record { algo = a; len = length d }; digest = d; text = tail })
+  Some (record { escaped = e; kind = d.0; digest = d.1; text = tail })
 
 abbrev pub plain_as : Algo → List ℕ → Option Parts
 plain_as a line = let u = unmarked (after_while is_blank line) in plain_behind a u.0 u.1
