@@ -1,10 +1,11 @@
 -- What a manifest's line says: the form that plain lines give the whole list, and the entry that a line spells.
-use Rattle.std.specs.Prelude.{ℕ, ◌≡◌, ◌<◌, ◌⊎◌, ◌==◌, ◌||◌, Bool, true, false, List, [], ◌∷◌, length, IsTrue, if◌then◌else◌}
+use Rattle.std.specs.Prelude.{ℕ, ◌≡◌, ◌<◌, ◌⊎◌, ◌==◌, ◌||◌, Bool, true, false, List, [], ◌∷◌, length, IsTrue, Option, None, Some, if◌then◌else◌}
 use Rattle.std.specs.List.{All}
 use Rattle.digest_kinds.specs.Kinds.{KindValue}
 use Rattle.digest_kinds.specs.declared.algo.Algo.{Algo}
 use Rattle.digest_kinds.specs.declared.algo.Algos.{Algos}
 use Rattle.sum_lines.specs.Shapes.{Plain, Tagged}
+use Rattle.sum_lines.specs.Scanned.{Parts, plain_of}
 use Rattle.sum_lines.specs.declared.line_reading.Form.{Form}
 use Rattle.sum_lines.specs.declared.line_reading.Form.TheVariants.{Undecided, Standard, Reversed}
 
@@ -74,3 +75,21 @@ pub record ByTail (escape : List ℕ → List ℕ) (algos : Algos) (form : Form)
 -- An entry: what a line spells in a list of that form. Names are escaped by `escape`.
 abbrev pub Entry : (List ℕ → List ℕ) → Algos → Form → List ℕ → Spelled → Type 0
 Entry escape algos form line s = (ignored line ≡ false) × (ByTag escape algos line s ⊎ ByTail escape algos form line s)
+
+-- The form, computed: the first line that decides does. That this is the one form that the list has is the law
+-- `one_form`.
+abbrev pub form_then : Form → Form → Form
+form_then Undecided later = later
+form_then Standard later = Standard
+form_then Reversed later = Reversed
+
+abbrev pub form_of_parts : Option Parts → Form
+form_of_parts None = Undecided
+form_of_parts (Some p) = form_of_tail p.text
+
+abbrev pub line_form : Algos → List ℕ → Form
+line_form algos line = if ignored line then Undecided else form_of_parts (plain_of algos line)
+
+abbrev pub form : Algos → List (List ℕ) → Form
+form algos [] = Undecided
+form algos (line ∷ later) = form_then (line_form algos line) (form algos later)

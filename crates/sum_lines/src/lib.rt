@@ -3,6 +3,7 @@
 
 mod escape;
 mod from_write;
+pub mod laws;
 mod line_reading;
 mod parts;
 mod scanning;
