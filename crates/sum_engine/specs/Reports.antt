@@ -1,12 +1,14 @@
 -- What checking writes: the reports of the lines, and the end of a manifest.
 use Rattle.std.specs.Prelude.{ℕ, ◌+◌, ◌==◌, ◌&&◌, ◌||◌, Bool, true, false, not, List, [], ◌∷◌, ◌++◌, count_by, decimal, codes, if◌then◌else◌}
+use Rattle.std.specs.List.{concat}
 use Rattle.digest_kinds.specs.declared.algo.Algos.{Algos}
 use Rattle.digest_kinds.specs.declared.algo.Algos.TheVariants.{One, Any}
 use Rattle.digest_kinds.specs.Kinds.{tag}
 use Rattle.sum_sources.specs.declared.fault.Fault.{Fault}
 use Rattle.sum_sources.specs.declared.fault.Ending.{Ending}
 use Rattle.sum_sources.specs.declared.fault.Ending.TheVariants.{Whole, Broken}
-use Rattle.sum_lines.specs.Escape.{escape, escape_differs}
+use Rattle.sum_lines.specs.Escape.{escape}
+use Rattle.sum_lines.specs.Lines.{mark}
 use Rattle.sum_engine.specs.declared.settings.Report.{Report}
 use Rattle.sum_engine.specs.declared.settings.Report.TheVariants.{All, Quiet, Warn, Status}
 use Rattle.sum_engine.specs.declared.summary.Counts.{Counts}
@@ -17,7 +19,7 @@ use Rattle.sum_engine.specs.Verdicts.{Rules, Judged}
 
 -- NAME: TEXT, where a backslash stands before a name that its escape changes
 abbrev pub name_line : List ℕ → List ℕ → List ℕ
-name_line name text = (if escape_differs name then codes "\\" else []) ++ (escape name ++ (codes ": " ++ (text ++ codes "\n")))
+name_line name text = concat (mark name ∷ escape name ∷ codes ": " ∷ text ∷ codes "\n" ∷ [])
 
 abbrev pub said_of : Verdict → List ℕ → List ℕ
 said_of Ignored name = []
@@ -45,8 +47,8 @@ tag_word Any = codes "tagged"
 
 -- TOOL: LIST: N: improperly formatted TAG checksum line
 abbrev pub bad_line : Rules → ℕ → List ℕ
-bad_line r n = r.tool ++ (codes ": " ++ (escape r.shown ++ (codes ": " ++ (decimal n
-    ++ (codes ": improperly formatted " ++ (tag_word r.settings.algo ++ codes " checksum line\n"))))))
+bad_line r n = concat (r.tool ∷ codes ": " ∷ escape r.shown ∷ codes ": " ∷ decimal n ∷ codes ": improperly formatted "
+    ∷ tag_word r.settings.algo ∷ codes " checksum line\n" ∷ [])
 
 abbrev pub if_warned : Report → List ℕ → List ℕ
 if_warned All text = []
@@ -103,11 +105,11 @@ entries c = c.right + c.wrong + c.missing + c.unread
 -- TOOL: WARNING: N TEXT, where the count isn't 0
 abbrev pub warning : List ℕ → ℕ → List ℕ → List ℕ → List ℕ
 warning tool n one many = if n == 0 then []
-    else tool ++ (codes ": WARNING: " ++ (decimal n ++ ((if n == 1 then one else many) ++ codes "\n")))
+    else concat (tool ∷ codes ": WARNING: " ∷ decimal n ∷ (if n == 1 then one else many) ∷ codes "\n" ∷ [])
 
 -- TOOL: LIST: TEXT
 abbrev pub list_line : Rules → List ℕ → List ℕ
-list_line r text = r.tool ++ (codes ": " ++ (escape r.shown ++ (codes ": " ++ (text ++ codes "\n"))))
+list_line r text = concat (r.tool ∷ codes ": " ∷ escape r.shown ∷ codes ": " ∷ text ∷ codes "\n" ∷ [])
 
 abbrev pub warnings : Rules → Counts → List ℕ
 warnings r c = warning r.tool c.bad (codes " line is improperly formatted") (codes " lines are improperly formatted")

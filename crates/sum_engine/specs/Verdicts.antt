@@ -1,17 +1,17 @@
 -- The verdicts of a manifest's lines.
-use Rattle.std.specs.Prelude.{ℕ, ◌+◌, ◌&&◌, Bool, true, false, List, [], ◌∷◌, codes, Option, None, Some, Result, Ok, Err, if◌then◌else◌}
+use Rattle.std.specs.Prelude.{ℕ, ◌+◌, ◌&&◌, Bool, true, false, List, [], ◌∷◌, codes, Result, Ok, Err, if◌then◌else◌}
 use Rattle.std.specs.Str.{bytes_eq}
 use Rattle.sum_sources.specs.declared.fault.Fault.{Fault}
 use Rattle.sum_sources.specs.declared.fault.Fault.TheVariants.{NotFound, Denied, Other}
-use Rattle.sum_sources.specs.Contents.{Content, clip}
+use Rattle.sum_sources.specs.Contents.{Content}
 use Rattle.sum_sources.specs.Sources.{Reply, Refused, Given}
 use Rattle.sum_sources.specs.ManifestLines.{lines}
 use Rattle.sum_lines.specs.declared.line_reading.Form.{Form}
-use Rattle.sum_lines.specs.Entries.{ignored, Spelled, kind_of}
+use Rattle.sum_lines.specs.Entries.{Spelled, kind_of, form}
 use Rattle.sum_engine.specs.declared.settings.CheckSettings.{CheckSettings}
 use Rattle.sum_engine.specs.declared.verdict.Verdict.{Verdict}
 use Rattle.sum_engine.specs.declared.verdict.Verdict.TheVariants.{Ignored, Bad, Right, Wrong, Missing, Unread}
-use Rattle.sum_engine.specs.Grammar.{form_of, entry_of}
+use Rattle.sum_engine.specs.Grammar.{Said, Nothing, Improper, Spells, says}
 use Rattle.sum_engine.specs.Worlds.{World, is_dash, reply, after, read}
 
 -- what a manifest is checked by: the settings, the tool's name, the name under which the manifest is shown, and
@@ -47,15 +47,11 @@ verdict_of r w s =
     else if r.settings.ignore_missing && not_found (reply w s.name) then Missing
     else against s.digest (read (kind_of s) (reply w s.name))
 
-abbrev pub judge_entry : Rules → World → ℕ → Option Spelled → Judged
-judge_entry r w n None = record { number = n; verdict = Bad; name = [] }
-judge_entry r w n (Some s) = record { number = n; verdict = verdict_of r w s; name = s.name }
-
--- line n, in a manifest of that form
-abbrev pub judge : Rules → Form → World → ℕ → List ℕ → Judged
-judge r f w n line =
-    if ignored line then record { number = n; verdict = Ignored; name = [] }
-    else judge_entry r w n (entry_of r.settings.algo f line)
+-- line n, which says this
+abbrev pub judge : Rules → World → ℕ → Said → Judged
+judge r w n Nothing = record { number = n; verdict = Ignored; name = [] }
+judge r w n Improper = record { number = n; verdict = Bad; name = [] }
+judge r w n (Spells s) = record { number = n; verdict = verdict_of r w s; name = s.name }
 
 -- the name of an entry is asked
 abbrev pub asks_by : Verdict → List ℕ → List (List ℕ)
@@ -69,11 +65,13 @@ asks_by (Unread f) name = name ∷ []
 abbrev pub asks_of : Judged → List (List ℕ)
 asks_of j = asks_by j.verdict j.name
 
--- the lines behind line n, each after the asks of those before it
+-- the lines behind line n in a manifest of that form, each after the asks of those before it
 abbrev pub verdicts : Rules → Form → World → ℕ → List (List ℕ) → List Judged
 verdicts r f w n [] = []
-verdicts r f w n (l ∷ ls) = judge r f w (n + 1) l ∷ verdicts r f (after w (asks_of (judge r f w (n + 1) l))) (n + 1) ls
+verdicts r f w n (l ∷ ls) =
+    judge r w (n + 1) (says r.settings.algo f l)
+    ∷ verdicts r f (after w (asks_of (judge r w (n + 1) (says r.settings.algo f l)))) (n + 1) ls
 
 -- a whole manifest, whose form is that of all its lines
 abbrev pub all_verdicts : Rules → World → Content → List Judged
-all_verdicts r w c = verdicts r (form_of r.settings.algo (lines c)) w 0 (lines c)
+all_verdicts r w c = verdicts r (form r.settings.algo (lines c)) w 0 (lines c)

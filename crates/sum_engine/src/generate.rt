@@ -39,11 +39,13 @@ pub fn generate_one<I: Input + Drop, S: Source, O: Sink, E: Sink>(
                 Err(_) => Err(Stop::Write),
             }
         }
-        Some(Asked::Refused(fault) | Asked::Broken(fault)) => {
-            match put_fault_line(err, tool, name, fault) {
-                Ok(()) => Ok(false),
-                Err(_) => Err(Stop::Write),
-            }
-        }
+        Some(Asked::Refused(fault)) => match put_fault_line(err, tool, name, fault) {
+            Ok(()) => Ok(false),
+            Err(_) => Err(Stop::Write),
+        },
+        Some(Asked::Broken(fault)) => match put_fault_line(err, tool, name, fault) {
+            Ok(()) => Ok(false),
+            Err(_) => Err(Stop::Write),
+        },
     }
 }

@@ -3,6 +3,7 @@
 
 mod asking;
 mod generate;
+mod progress;
 mod report;
 mod settings;
 mod stop;
@@ -10,5 +11,6 @@ mod summary;
 mod verdict;
 
 pub use generate::generate_one;
+pub use progress::Progress;
 pub use settings::{CheckSettings, Report, Settings};
 pub use stop::Stop;

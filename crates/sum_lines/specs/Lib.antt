@@ -6,6 +6,4 @@ pub mod Laws
 pub mod Sinks
 pub mod ToldSinks
 pub mod Parts
-pub mod Shapes
-pub mod Entries
 pub mod Lines
