@@ -6,7 +6,9 @@ use crate::algo::Algo;
 use crate::digest::Digest;
 use crate::hasher::Hasher;
 use crate::kind::Kind;
-use crate::kit_hashers::{Md5Hasher, Sha1Hasher, Sha224Hasher, Sha256Hasher, Sha384Hasher, Sha512Hasher};
+use crate::kit_hashers::{
+    Md5Hasher, Sha1Hasher, Sha224Hasher, Sha256Hasher, Sha384Hasher, Sha512Hasher,
+};
 use blake2b_core::Blake2b;
 
 /// Computes digests of one kind, which is chosen when it is made.

@@ -80,7 +80,7 @@ Half-more start bytes read write b width h here some fits =
     let now : take (write + 1) (set bytes write b) ≡ take write bytes ++ b ∷ [] = take_more_set bytes write b (omega (arith, h.behind)) in
     let after : drop next (set bytes write b) ≡ rest = drop-set-lt next bytes write b (omega (arith, h.behind)) in
     let written : escape (take write bytes ++ b ∷ []) ≡ escape (take write bytes) ++ escape_of b =
-        flat_map-append escape_of (take write bytes) (b ∷ []) ∙ ap (λ l. escape (take write bytes) ++ l) (append-nil (escape_of b)) in
+    flat_map-append escape_of (take write bytes) (b ∷ []) ∙ ap (λ l. escape (take write bytes) ++ l) (append-nil (escape_of b)) in
     record {
       behind = omega (arith, h.behind);
       within = omega (arith, length-set bytes write b);

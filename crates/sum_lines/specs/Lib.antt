@@ -1,4 +1,8 @@
 pub mod Escape
+pub mod Shapes
+pub mod Entries
+pub mod Scanned
+pub mod Laws
 pub mod Sinks
 pub mod ToldSinks
 pub mod Parts

@@ -3,13 +3,21 @@
 
 mod escape;
 mod from_write;
+pub mod laws;
+mod line_reading;
 mod parts;
+mod scanning;
 mod sink;
+#[cfg(test)]
+mod sink_tests;
 mod told_sink;
 mod written;
+#[cfg(test)]
+mod written_tests;
 
 pub use escape::{needs_escape, put_escaped, unescape_in};
 pub use from_write::FromWrite;
+pub use line_reading::{Form, Reading};
 pub use parts::{Part, put_number, put_parts};
 pub use sink::{Sink, SinkFault, put_all};
 pub use told_sink::ToldSink;

@@ -46,10 +46,26 @@ pub fn put_line<S: Sink>(
     let count = digest.hex_into(&mut digits);
     let digits = &digits[..count];
     if style.zero {
-        return put_form(sink, style.mode, kind, b"", Part::Bytes(name), digits, b"\0");
+        return put_form(
+            sink,
+            style.mode,
+            kind,
+            b"",
+            Part::Bytes(name),
+            digits,
+            b"\0",
+        );
     }
     let mark = if needs_escape(name) { "\\" } else { "" };
-    put_form(sink, style.mode, kind, mark.as_bytes(), Part::Escaped(name), digits, b"\n")
+    put_form(
+        sink,
+        style.mode,
+        kind,
+        mark.as_bytes(),
+        Part::Escaped(name),
+        digits,
+        b"\n",
+    )
 }
 
 // Writes a line, of which these are the parts.
@@ -74,10 +90,34 @@ fn put_form<'a, S: Sink>(
         Mode::Tag => {
             let tag = Part::Bytes(kind.tag().as_bytes());
             if kind.len() == Kind::of(kind.algo()).len() {
-                put_parts(sink, &[mark, tag, Part::Bytes(b" ("), name, Part::Bytes(b") = "), digits, end])
+                put_parts(
+                    sink,
+                    &[
+                        mark,
+                        tag,
+                        Part::Bytes(b" ("),
+                        name,
+                        Part::Bytes(b") = "),
+                        digits,
+                        end,
+                    ],
+                )
             } else {
                 let bits = Part::Number(kind.bits());
-                put_parts(sink, &[mark, tag, Part::Bytes(b"-"), bits, Part::Bytes(b" ("), name, Part::Bytes(b") = "), digits, end])
+                put_parts(
+                    sink,
+                    &[
+                        mark,
+                        tag,
+                        Part::Bytes(b"-"),
+                        bits,
+                        Part::Bytes(b" ("),
+                        name,
+                        Part::Bytes(b") = "),
+                        digits,
+                        end,
+                    ],
+                )
             }
         }
     }
