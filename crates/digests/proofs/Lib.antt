@@ -3,3 +3,4 @@ mod PieceLemmas
 mod OptionLemmas
 mod WordLemmas
 mod ReadingLemmas
+mod RunLemmas
