@@ -3,3 +3,5 @@ mod PieceLemmas
 mod OptionLemmas
 mod WordLemmas
 mod ReadingLemmas
+mod TextLemmas
+mod Rows

@@ -5,3 +5,5 @@ pub mod Items
 pub mod Walk
 pub mod Request
 pub mod Reading
+pub mod Texts
+pub mod Shown

@@ -6,6 +6,7 @@ pub mod faults;
 pub mod items;
 pub mod options;
 pub mod reading;
+pub mod texts;
 pub mod tool;
 pub mod words;
 
