@@ -4,3 +4,5 @@ mod OptionLemmas
 mod WordLemmas
 mod ReadingLemmas
 mod RunLemmas
+mod TextLemmas
+mod Rows

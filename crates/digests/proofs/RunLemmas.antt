@@ -7,12 +7,16 @@ use Rattle.sum_engine.specs.declared.stop.Stop.{Stop}
 use Rattle.sum_engine.specs.declared.stop.Stop.TheVariants.{Memory, Write}
 use Rattle.sum_engine.specs.Worlds.{World, after}
 use Rattle.sum_engine.specs.Outcomes.{Outcome}
-use Rattle.sum_engine.specs.Scenes.{Scene, Does, Cut, Generates}
+use Rattle.sum_engine.specs.Scenes.{Scene, scene_by, AppendsUpTo, Does, Cut, Generates}
+use Rattle.std.specs.Io.KnownBytes.{Appends}
+use Rattle.std.proofs.KnownBytes.{Appends-nil}
+use Rattle.std.proofs.Math.Bool.{or-false}
+use Rattle.sum_lines.specs.Sinks.{AppendsFront}
 use Rattle.sum_engine.proofs.WorldLemmas.{after-none, after-append}
 use Rattle.sum_engine.proofs.SceneLemmas.{does_nothing, does_both, cut_after}
 use Rattle.digests.specs.Items.{Text}
-use Rattle.digests.specs.Meaning.{nothing, joined, all_of, upto}
-use Rattle.digests.specs.Runs.{Stands, Reached, Comes, CutShort, OneGives, EachGives}
+use Rattle.digests.specs.Meaning.{nothing, joined, all_of, upto, status_of, on_out, on_err}
+use Rattle.digests.specs.Runs.{Stands, Reached, Comes, CutShort, OneGives, RunGives}
 
 abbrev outcome : List ℕ → List ℕ → List Text → Bool → Outcome
 outcome o e a g = record { out = o; err = e; asks = a; good = g }
@@ -73,18 +77,18 @@ reached-step one part names (Some a) (Some b) (Some c) good this n rest r o =
 
 -- no operand is left
 pub reached-end : (one : World → Text → Outcome) (part : World → Text → ℕ → Outcome) (names : List Text) (s t : Option Scene) (good : Bool)
-    → Reached one part names s t good [] → EachGives one part names s t (Ok good)
+    → Reached one part names s t good [] → RunGives (λ w. all_of one w names) (λ w. upto one part w names) s t (Ok (status_of good))
 reached-end one part names None t good r = tt
 reached-end one part names (Some a) None good r = absurd r
 reached-end one part names (Some a) (Some b) good r =
     let done : Outcome = r.0 in
     let whole : all_of one a.world names ≡ done = r.2.total ∙ joined-nothing done in
-    (r.4 ∙ sym (ap (λ o. o.good) whole), rw whole r.3)
+    (ap status_of (r.4 ∙ sym (ap (λ o. o.good) whole)), rw whole r.3)
 
 -- the next operand stopped the run
 pub reached-stop : (one : World → Text → Outcome) (part : World → Text → ℕ → Outcome) (names : List Text) (s t u : Option Scene) (good : Bool) (n : Text) (rest : List Text) (stop : Stop)
     → Reached one part names s t good (n ∷ rest) → OneGives (λ w. one w n) (λ w. part w n) t u (Err stop)
-    → EachGives one part names s u (Err stop)
+    → RunGives (λ w. all_of one w names) (λ w. upto one part w names) s u (Err stop)
 reached-stop one part names None t u good n rest stop r o = tt
 reached-stop one part names (Some a) None u good n rest stop r o = absurd r
 reached-stop one part names (Some a) (Some b) None good n rest stop r o = absurd o
@@ -106,6 +110,31 @@ reached-stop one part names (Some a) (Some b) (Some c) good n rest Memory r o =
     let o' : P (after a.world done.asks) = subst P is o in
     let place : upto one part a.world names (r.1 + 0) o'.0 ≡ joined done (part (after a.world done.asks) n o'.0) = r.2.places 0 o'.0 in
     (r.1 + 0, o'.0, rw place (does_both a b c done.out done.err done.asks _ _ _ r.3 o'.1))
+
+-- what was appended is a front of itself; a shorter front is a front
+pub upto_front : (a b : Option (List ℕ)) (x : List ℕ) → AppendsFront a b x → AppendsUpTo a b x
+upto_front a b x h = (h.0, h.1, h.2, h.4)
+
+-- a text alone was written, or cut short
+pub text_on_out : (text : List ℕ) (w : Option World) (taken : Bool) (place : World → ℕ → ℕ → Outcome) (o o' e : Option (List ℕ))
+    → Appends o o' text → RunGives (λ v. on_out text) place (scene_by w taken o e) (scene_by w taken o' e) (Ok 0)
+text_on_out text None taken place o o' e h = tt
+text_on_out text (Some w) taken place o o' e h = (refl, record { world = after-none w; taken = sym (or-false taken); out = h; err = Appends-nil e })
+
+pub text_cut_on_out : (text : List ℕ) (w : Option World) (taken : Bool) (place : World → ℕ → ℕ → Outcome) (o o' e : Option (List ℕ))
+    → AppendsFront o o' text → RunGives (λ v. on_out text) place (scene_by w taken o e) (scene_by w taken o' e) (Err Write)
+text_cut_on_out text None taken place o o' e h = tt
+text_cut_on_out text (Some w) taken place o o' e h = ([], [], refl, record { world = after-none w; out = upto_front o o' text h; err = ([], [], refl, Appends-nil e) })
+
+pub text_on_err : (text : List ℕ) (w : Option World) (taken : Bool) (place : World → ℕ → ℕ → Outcome) (o e e' : Option (List ℕ))
+    → Appends e e' text → RunGives (λ v. on_err text) place (scene_by w taken o e) (scene_by w taken o e') (Ok 1)
+text_on_err text None taken place o e e' h = tt
+text_on_err text (Some w) taken place o e e' h = (refl, record { world = after-none w; taken = sym (or-false taken); out = Appends-nil o; err = h })
+
+pub text_cut_on_err : (text : List ℕ) (w : Option World) (taken : Bool) (place : World → ℕ → ℕ → Outcome) (o e e' : Option (List ℕ))
+    → AppendsFront e e' text → RunGives (λ v. on_err text) place (scene_by w taken o e) (scene_by w taken o e') (Err Write)
+text_cut_on_err text None taken place o e e' h = tt
+text_cut_on_err text (Some w) taken place o e e' h = ([], [], refl, record { world = after-none w; out = ([], [], refl, Appends-nil o); err = upto_front e e' text h })
 
 -- a name that is hashed is done as a whole or not at all
 pub one-generates : (outcome : World → Outcome) (s t : Option Scene) (r : Result Bool Stop)

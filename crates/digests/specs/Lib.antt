@@ -7,3 +7,5 @@ pub mod Request
 pub mod Reading
 pub mod Meaning
 pub mod Runs
+pub mod Texts
+pub mod Shown

@@ -1,12 +1,24 @@
 -- Joins the calls of a run to its meaning: what each did to the world and the outputs.
-use Rattle.std.specs.Prelude.{ℕ, Bool, ◌≡◌, ◌+◌, List, [], ◌∷◌, ◌++◌, Option, None, Some, Result, Ok, Err, ⊤}
+use Rattle.std.specs.Prelude.{ℕ, ◌≡◌, ◌+◌, ◌⊎◌, Bool, List, [], ◌∷◌, ◌++◌, Option, None, Some, Result, Ok, Err, ⊤}
+use Rattle.sum_sources.specs.Sources.{after_refusal}
+use Rattle.sum_engine.specs.declared.settings.Settings.{Settings}
 use Rattle.sum_engine.specs.declared.stop.Stop.{Stop}
 use Rattle.sum_engine.specs.declared.stop.Stop.TheVariants.{Memory, Write}
 use Rattle.sum_engine.specs.Worlds.{World, after}
 use Rattle.sum_engine.specs.Outcomes.{Outcome}
+use Rattle.sum_engine.specs.Generation.{generated}
 use Rattle.sum_engine.specs.Scenes.{Scene, Does, Cut}
+use Rattle.digests.specs.declared.run.Job.{Job}
+use Rattle.digests.specs.declared.run.Job.TheVariants as jobs
 use Rattle.digests.specs.Items.{Text}
-use Rattle.digests.specs.Meaning.{nothing, joined, all_of, upto}
+use Rattle.digests.specs.Meaning.{nothing, joined, all_of, upto, no_part, status_of}
+
+-- one operand of a job, and what stands at a place in it
+abbrev pub one_of : Job → Text → World → Text → Outcome
+one_of (jobs.Generate settings) tool w name = generated settings tool w name
+
+abbrev pub part_of : Job → Text → World → Text → ℕ → Outcome
+part_of (jobs.Generate settings) tool w name k = no_part w name k
 
 -- the outcome came about
 abbrev pub Comes : Outcome → Scene → Scene → Type 0
@@ -27,16 +39,16 @@ OneGives outcome part None b r = ⊤
 OneGives outcome part (Some a) None r = ⊥
 OneGives outcome part (Some a) (Some b) r = OneOf (outcome a.world) (part a.world) a b r
 
--- all operands: all of them, cut short, or stopped at a place
-abbrev pub EachOf : (World → Text → Outcome) → (World → Text → ℕ → Outcome) → List Text → Scene → Scene → Result Bool Stop → Type 0
-EachOf one part names a b (Ok good) = (good ≡ (all_of one a.world names).good) × Comes (all_of one a.world names) a b
-EachOf one part names a b (Err Write) = CutShort (all_of one a.world names) a b
-EachOf one part names a b (Err Memory) = (j : ℕ) × (k : ℕ) × Comes (upto one part a.world names j k) a b
+-- a run: all of it, with its status, cut short, or stopped at a place
+abbrev pub RunOf : Outcome → (ℕ → ℕ → Outcome) → Scene → Scene → Result ℕ Stop → Type 0
+RunOf o place a b (Ok status) = (status ≡ status_of o.good) × Comes o a b
+RunOf o place a b (Err Write) = CutShort o a b
+RunOf o place a b (Err Memory) = (j : ℕ) × (k : ℕ) × Comes (place j k) a b
 
-abbrev pub EachGives : (World → Text → Outcome) → (World → Text → ℕ → Outcome) → List Text → Option Scene → Option Scene → Result Bool Stop → Type 0
-EachGives one part names None b r = ⊤
-EachGives one part names (Some a) None r = ⊥
-EachGives one part names (Some a) (Some b) r = EachOf one part names a b r
+abbrev pub RunGives : (World → Outcome) → (World → ℕ → ℕ → Outcome) → Option Scene → Option Scene → Result ℕ Stop → Type 0
+RunGives outcome place None b r = ⊤
+RunGives outcome place (Some a) None r = ⊥
+RunGives outcome place (Some a) (Some b) r = RunOf (outcome a.world) (place a.world) a b r
 
 -- the operands before the rest came to `done`, and there are j of them
 pub record Stands (one : World → Text → Outcome) (part : World → Text → ℕ → Outcome) (w : World) (names : List Text) (done : Outcome) (j : ℕ) (rest : List Text) : Type 0 where

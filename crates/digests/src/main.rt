@@ -7,6 +7,7 @@ pub mod items;
 pub mod options;
 pub mod reading;
 pub mod run;
+pub mod texts;
 pub mod tool;
 pub mod words;
 
