@@ -1,22 +1,26 @@
 -- Operands, one after another: what those before came to, joined to what the rest comes to, is the whole.
 use Rattle.std.proofs.Common.{◌≡◌, ℕ, ◌+◌, suc, Bool, true, List, [], ◌∷◌, ◌++◌, Option, None, Some, refl, sym, ◌∙◌, ap, append_assoc, arith, zero-add, subst}
-use Rattle.std.specs.Prelude.{◌&&◌, Result, Ok, Err}
+use Rattle.std.specs.Prelude.{◌&&◌, Result, Ok, Err, MatchResult}
 use Rattle.std.proofs.Math.Bool.{and_assoc, and-true}
 use Rattle.std.proofs.lemmas.List.{append-nil}
 use Rattle.sum_engine.specs.declared.stop.Stop.{Stop}
 use Rattle.sum_engine.specs.declared.stop.Stop.TheVariants.{Memory, Write}
 use Rattle.sum_engine.specs.Worlds.{World, after}
 use Rattle.sum_engine.specs.Outcomes.{Outcome}
-use Rattle.sum_engine.specs.Scenes.{Scene, scene_by, AppendsUpTo, Does, Cut, Generates}
+use Rattle.sum_engine.specs.Scenes.{Scene, scene_by, Does, Cut, Generates}
 use Rattle.std.specs.Io.KnownBytes.{Appends}
 use Rattle.std.proofs.KnownBytes.{Appends-nil}
 use Rattle.std.proofs.Math.Bool.{or-false}
 use Rattle.sum_lines.specs.Sinks.{AppendsFront}
 use Rattle.sum_engine.proofs.WorldLemmas.{after-none, after-append}
-use Rattle.sum_engine.proofs.SceneLemmas.{does_nothing, does_both, cut_after}
+use Rattle.sum_engine.proofs.SceneLemmas.{does_nothing, does_both, cut_after, none_yet, front_of}
 use Rattle.digests.specs.Items.{Text}
-use Rattle.digests.specs.Meaning.{nothing, joined, all_of, upto, status_of, on_out, on_err}
-use Rattle.digests.specs.Runs.{Stands, Reached, Comes, CutShort, OneGives, RunGives}
+use Rattle.digests.specs.Meaning.{nothing, joined, all_of, upto, status_of, on_out, on_err, answered, meaning, place_of, place}
+use Rattle.digests.specs.declared.tool.Tool.{Tool}
+use Rattle.digests.specs.declared.reading.Request.{Request}
+use Rattle.digests.specs.Faults.{Fault}
+use Rattle.digests.specs.Request.{request}
+use Rattle.digests.specs.Runs.{told_of, Stands, Reached, Comes, CutShort, OneGives, RunGives}
 
 abbrev outcome : List ℕ → List ℕ → List Text → Bool → Outcome
 outcome o e a g = record { out = o; err = e; asks = a; good = g }
@@ -111,30 +115,28 @@ reached-stop one part names (Some a) (Some b) (Some c) good n rest Memory r o =
     let place : upto one part a.world names (r.1 + 0) o'.0 ≡ joined done (part (after a.world done.asks) n o'.0) = r.2.places 0 o'.0 in
     (r.1 + 0, o'.0, rw place (does_both a b c done.out done.err done.asks _ _ _ r.3 o'.1))
 
--- what was appended is a front of itself; a shorter front is a front
-pub upto_front : (a b : Option (List ℕ)) (x : List ℕ) → AppendsFront a b x → AppendsUpTo a b x
-upto_front a b x h = (h.0, h.1, h.2, h.4)
-
 -- a text alone was written, or cut short
-pub text_on_out : (text : List ℕ) (w : Option World) (taken : Bool) (place : World → ℕ → ℕ → Outcome) (o o' e : Option (List ℕ))
-    → Appends o o' text → RunGives (λ v. on_out text) place (scene_by w taken o e) (scene_by w taken o' e) (Ok 0)
-text_on_out text None taken place o o' e h = tt
-text_on_out text (Some w) taken place o o' e h = (refl, record { world = after-none w; taken = sym (or-false taken); out = h; err = Appends-nil e })
+pub said_on_out : {E : Type 0} (text : List ℕ) (w : Option World) (taken : Bool) (place : World → ℕ → ℕ → Outcome) (o o' e : Option (List ℕ)) (A B : Type 0) (r : Result (Unit {0}) E)
+    → MatchResult r (λ _. Appends o o' text × A) (λ _. AppendsFront o o' text × B)
+    → RunGives (λ v. on_out text) place (scene_by w taken o e) (scene_by w taken o' e) (told_of r 0)
+said_on_out text None taken place o o' e A B r h = tt
+said_on_out text (Some w) taken place o o' e A B (Ok u) h = (refl, record { world = after-none w; taken = sym (or-false taken); out = h.0; err = Appends-nil e })
+said_on_out text (Some w) taken place o o' e A B (Err f) h = ([], [], refl, record { world = after-none w; out = front_of o o' text h.0; err = none_yet e [] })
 
-pub text_cut_on_out : (text : List ℕ) (w : Option World) (taken : Bool) (place : World → ℕ → ℕ → Outcome) (o o' e : Option (List ℕ))
-    → AppendsFront o o' text → RunGives (λ v. on_out text) place (scene_by w taken o e) (scene_by w taken o' e) (Err Write)
-text_cut_on_out text None taken place o o' e h = tt
-text_cut_on_out text (Some w) taken place o o' e h = ([], [], refl, record { world = after-none w; out = upto_front o o' text h; err = ([], [], refl, Appends-nil e) })
+pub said_on_err : {E : Type 0} (text : List ℕ) (w : Option World) (taken : Bool) (place : World → ℕ → ℕ → Outcome) (o e e' : Option (List ℕ)) (A B : Type 0) (r : Result (Unit {0}) E)
+    → MatchResult r (λ _. Appends e e' text × A) (λ _. AppendsFront e e' text × B)
+    → RunGives (λ v. on_err text) place (scene_by w taken o e) (scene_by w taken o e') (told_of r 1)
+said_on_err text None taken place o e e' A B r h = tt
+said_on_err text (Some w) taken place o e e' A B (Ok u) h = (refl, record { world = after-none w; taken = sym (or-false taken); out = Appends-nil o; err = h.0 })
+said_on_err text (Some w) taken place o e e' A B (Err f) h = ([], [], refl, record { world = after-none w; out = none_yet o []; err = front_of e e' text h.0 })
 
-pub text_on_err : (text : List ℕ) (w : Option World) (taken : Bool) (place : World → ℕ → ℕ → Outcome) (o e e' : Option (List ℕ))
-    → Appends e e' text → RunGives (λ v. on_err text) place (scene_by w taken o e) (scene_by w taken o e') (Ok 1)
-text_on_err text None taken place o e e' h = tt
-text_on_err text (Some w) taken place o e e' h = (refl, record { world = after-none w; taken = sym (or-false taken); out = Appends-nil o; err = h })
-
-pub text_cut_on_err : (text : List ℕ) (w : Option World) (taken : Bool) (place : World → ℕ → ℕ → Outcome) (o e e' : Option (List ℕ))
-    → AppendsFront e e' text → RunGives (λ v. on_err text) place (scene_by w taken o e) (scene_by w taken o e') (Err Write)
-text_cut_on_err text None taken place o e e' h = tt
-text_cut_on_err text (Some w) taken place o e e' h = ([], [], refl, record { world = after-none w; out = ([], [], refl, Appends-nil o); err = upto_front e e' text h })
+-- the meaning of words, by what they ask for
+pub meant : (t : Tool) (words : List Text) (asked : Result Request Fault) (s u : Option Scene) (r r' : Result ℕ Stop)
+    → asked ≡ request t words → r' ≡ r → RunGives (answered t asked) (place_of t asked) s u r → RunGives (meaning t words) (place t words) s u r'
+meant t words asked s u r r' is told h =
+    let P : Result Request Fault → Type 0 = λ a. RunGives (answered t a) (place_of t a) s u r in
+    let Q : Result ℕ Stop → Type 0 = λ x. RunGives (meaning t words) (place t words) s u x in
+    subst Q (sym told) (subst P is h)
 
 -- a name that is hashed is done as a whole or not at all
 pub one-generates : (outcome : World → Outcome) (s t : Option Scene) (r : Result Bool Stop)

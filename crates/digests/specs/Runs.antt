@@ -1,24 +1,12 @@
 -- Joins the calls of a run to its meaning: what each did to the world and the outputs.
-use Rattle.std.specs.Prelude.{ℕ, ◌≡◌, ◌+◌, ◌⊎◌, Bool, List, [], ◌∷◌, ◌++◌, Option, None, Some, Result, Ok, Err, ⊤}
-use Rattle.sum_sources.specs.Sources.{after_refusal}
-use Rattle.sum_engine.specs.declared.settings.Settings.{Settings}
+use Rattle.std.specs.Prelude.{ℕ, ◌≡◌, ◌+◌, Bool, List, ◌++◌, Option, None, Some, Result, Ok, Err, ⊤}
 use Rattle.sum_engine.specs.declared.stop.Stop.{Stop}
 use Rattle.sum_engine.specs.declared.stop.Stop.TheVariants.{Memory, Write}
 use Rattle.sum_engine.specs.Worlds.{World, after}
 use Rattle.sum_engine.specs.Outcomes.{Outcome}
-use Rattle.sum_engine.specs.Generation.{generated}
 use Rattle.sum_engine.specs.Scenes.{Scene, Does, Cut}
-use Rattle.digests.specs.declared.run.Job.{Job}
-use Rattle.digests.specs.declared.run.Job.TheVariants as jobs
 use Rattle.digests.specs.Items.{Text}
-use Rattle.digests.specs.Meaning.{nothing, joined, all_of, upto, no_part, status_of}
-
--- one operand of a job, and what stands at a place in it
-abbrev pub one_of : Job → Text → World → Text → Outcome
-one_of (jobs.Generate settings) tool w name = generated settings tool w name
-
-abbrev pub part_of : Job → Text → World → Text → ℕ → Outcome
-part_of (jobs.Generate settings) tool w name k = no_part w name k
+use Rattle.digests.specs.Meaning.{joined, all_of, upto, status_of}
 
 -- the outcome came about
 abbrev pub Comes : Outcome → Scene → Scene → Type 0
@@ -49,6 +37,11 @@ abbrev pub RunGives : (World → Outcome) → (World → ℕ → ℕ → Outcome
 RunGives outcome place None b r = ⊤
 RunGives outcome place (Some a) None r = ⊥
 RunGives outcome place (Some a) (Some b) r = RunOf (outcome a.world) (place a.world) a b r
+
+-- the end of a run that wrote one text
+abbrev pub told_of : {U E : Type 0} → Result U E → ℕ → Result ℕ Stop
+told_of (Ok u) status = Ok status
+told_of (Err e) status = Err Write
 
 -- the operands before the rest came to `done`, and there are j of them
 pub record Stands (one : World → Text → Outcome) (part : World → Text → ℕ → Outcome) (w : World) (names : List Text) (done : Outcome) (j : ℕ) (rest : List Text) : Type 0 where

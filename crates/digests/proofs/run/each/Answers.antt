@@ -1,8 +1,6 @@
 use Rattle.std.proofs.Common.{◌≡◌, ◌∷◌, List, ℕ, [], refl, sym, ap, ◌∙◌, subst}
 use Rattle.std.specs.Prelude.{◌&&◌}
 use Rattle.digests.specs.Tools.{name_of}
-use Rattle.digests.specs.Meaning.{one_of, part_of, or_dash}
-use Rattle.digests.specs.Runs.{Reached}
 use Rattle.digests.proofs.RunLemmas.{reached-start, reached-step, reached-end, reached-stop, reached-with}
 use Rattle.digests.proofs.run.each.Goals as goal
 use Rattle.digests.proofs.run.each.Goals.{then-good, else-good}
@@ -30,4 +28,4 @@ returns-in-None-clause-gives g c =
     let is : c.if-good.good ≡ (c.operands.good && c.in-Ok.this) =
         elim c.if-good.branch [ then-good w ↦ w.good-is ∙ sym (ap (λ b. b && c.in-Ok.this) w.if-good.true)
         | else-good w ↦ w.good-is ∙ w.if-good.false ∙ sym (ap (λ b. b && c.in-Ok.this) w.if-good.false) ] in
-    reached-end _ _ _ _ _ _ (reached-with _ _ _ _ _ _ _ _ _ is c.in-None.ensures.0 (reached-step _ _ _ _ _ _ _ _ _ _ c.operands.invariant.reached c.in-Ok.ensures.gives))
+    rw c.status.ensures (reached-end _ _ _ _ _ _ (reached-with _ _ _ _ _ _ _ _ _ is c.in-None.ensures.0 (reached-step _ _ _ _ _ _ _ _ _ _ c.operands.invariant.reached c.in-Ok.ensures.gives)))
