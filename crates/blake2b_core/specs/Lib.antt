@@ -1,3 +1,4 @@
 pub mod Compression
 pub mod Digest
 pub mod Holding
+pub mod Laws

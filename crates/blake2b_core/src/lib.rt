@@ -3,6 +3,7 @@
 #![tactic(auto)]
 
 mod compression;
+pub mod laws;
 mod output;
 mod pieces;
 mod whole;
