@@ -7,12 +7,10 @@ ghost use Rattle.blake2b_core.specs.Digest.{blocks};
 /// appendix A).
 pub fn vectors()
     ensures { HasVectors }
-{
-}
+{}
 
 /// The blocks of a message have 128 bytes each, and their join is the message and the fewest zeros that
 /// fill them; the empty message has one (RFC 7693, 3.3).
 pub fn blocks()
     ensures { (m : List ℕ) → IsBlocksOf (blocks m) m }
-{
-}
+{}
