@@ -107,10 +107,9 @@ fn block_words(block: &[u8; 128]) -> [u64; 16]
     m
 }
 
-/// The compression function F (RFC 7693, 3.2): the state after `block`, from the state `h` before it.
-/// `t` is the number of message bytes up to the end of this block, `last` whether it is the last one.
-pub fn compress(h: &[u64; 8], block: &[u8; 128], t: u128, last: bool) -> [u64; 8]
-    ensures { result ≡ compress h.now block.now t last }
+// The compression function F, which leaves the new state in the place of the old one.
+pub(crate) fn advance(h: &mut [u64; 8], block: &[u8; 128], t: u128, last: bool)
+    ensures { h.new ≡ compress h.old block.now t last }
 {
     let m = block_words(block);
     let mut v = start(h, t, last);
@@ -127,7 +126,7 @@ pub fn compress(h: &[u64; 8], block: &[u8; 128], t: u128, last: bool) -> [u64; 8
     round(&m, &mut v, 9);
     round(&m, &mut v, 10);
     round(&m, &mut v, 11);
-    [
+    *h = [
         h[0] ^ v[0] ^ v[8],
         h[1] ^ v[1] ^ v[9],
         h[2] ^ v[2] ^ v[10],
@@ -136,5 +135,15 @@ pub fn compress(h: &[u64; 8], block: &[u8; 128], t: u128, last: bool) -> [u64; 8
         h[5] ^ v[5] ^ v[13],
         h[6] ^ v[6] ^ v[14],
         h[7] ^ v[7] ^ v[15],
-    ]
+    ];
+}
+
+/// The compression function F (RFC 7693, 3.2): the state after `block`, from the state `h` before it.
+/// `t` is the number of message bytes up to the end of this block, and `last` says that it is the last.
+pub fn compress(h: &[u64; 8], block: &[u8; 128], t: u128, last: bool) -> [u64; 8]
+    ensures { result ≡ compress h.now block.now t last }
+{
+    let mut next = *h;
+    advance(&mut next, block, t, last);
+    next
 }
