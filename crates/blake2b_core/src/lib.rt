@@ -2,6 +2,7 @@
 //! digest of a message that comes in pieces. Nothing here takes memory.
 #![tactic(auto)]
 
+mod columns;
 mod compression;
 pub mod laws;
 mod output;
