@@ -1,10 +1,6 @@
 -- Joins the round of the compression function, G by G, and the code that mixes four columns at once.
-use Rattle.std.specs.Prelude.{ℕ, ◌+◌, List, [], ◌∷◌}
+use Rattle.std.specs.Prelude.{ℕ, List, [], ◌∷◌}
 use Rattle.blake2b_core.specs.Compression.{◌!◌, ◌⊞◌, ◌⊻◌, ◌⋙◌, mix}
-
--- four words, from the given one on every second one
-abbrev pub every_second : (ℕ → ℕ) → ℕ → List ℕ
-every_second word first = word first ∷ word (first + 2) ∷ word (first + 4) ∷ word (first + 6) ∷ []
 
 -- word by word: the sums, and the exclusive ors rotated by k bits
 unfoldable pub sums : List ℕ → List ℕ → List ℕ

@@ -48,13 +48,22 @@ pub(crate) fn mixed_columns(v: [u64; 16], x: [u64; 4], y: [u64; 4]) -> [u64; 16]
     ]
 }
 
-// G on the diagonals: they are the columns of the vector whose rows are turned.
+// G on the diagonals: they stand in columns where the second, third and fourth row are turned by one,
+// two and three places.
 #[inline(always)]
 pub(crate) fn mixed_diagonals(v: [u64; 16], x: [u64; 4], y: [u64; 4]) -> [u64; 16]
     ensures { result ≡ diagonals v x y }
 {
-    let [a0, a1, a2, a3, b0, b1, b2, b3, c0, c1, c2, c3, d0, d1, d2, d3] = v;
-    let straight = [a0, a1, a2, a3, b1, b2, b3, b0, c2, c3, c0, c1, d3, d0, d1, d2];
-    let [a0, a1, a2, a3, b1, b2, b3, b0, c2, c3, c0, c1, d3, d0, d1, d2] = mixed_columns(straight, x, y);
-    [a0, a1, a2, a3, b0, b1, b2, b3, c0, c1, c2, c3, d0, d1, d2, d3]
+    let a = sums(sums([v[0], v[1], v[2], v[3]], [v[5], v[6], v[7], v[4]]), x);
+    let d = turned([v[15], v[12], v[13], v[14]], a, 32);
+    let c = sums([v[10], v[11], v[8], v[9]], d);
+    let b = turned([v[5], v[6], v[7], v[4]], c, 24);
+    let a = sums(sums(a, b), y);
+    let d = turned(d, a, 16);
+    let c = sums(c, d);
+    let b = turned(b, c, 63);
+    [
+        a[0], a[1], a[2], a[3], b[3], b[0], b[1], b[2], c[2], c[3], c[0], c[1], d[1], d[2], d[3],
+        d[0],
+    ]
 }

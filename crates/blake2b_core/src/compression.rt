@@ -1,6 +1,5 @@
 //! The compression function F of RFC 7693, sections 3.1 and 3.2, with the constants of 2.6 and 2.7.
-ghost use Rattle.std.specs.Prelude.{◌≡◌, ◌+◌, ◌<◌};
-ghost use Rattle.blake2b_core.specs.Columns.{every_second};
+ghost use Rattle.std.specs.Prelude.{◌≡◌, ◌<◌};
 ghost use Rattle.blake2b_core.specs.Compression.{block_words, compress, round, scheduled, start};
 
 use crate::columns::{mixed_columns, mixed_diagonals};
@@ -31,21 +30,15 @@ const SIGMA: [[usize; 16]; 10] = [
     [10, 2, 8, 4, 7, 6, 1, 5, 15, 11, 9, 14, 3, 12, 13, 0],
 ];
 
-// Four words of the block: those that round `r` takes at the places `first`, `first + 2`, `first + 4`
-// and `first + 6` of its row of SIGMA. Where `r` and `first` are literals the compiler looks them up.
+// The word of the block that round `r` takes at place `i` of its row of SIGMA. Where `r` and `i` are
+// literals the compiler looks it up.
 #[inline(always)]
-fn scheduled(m: &[u64; 16], r: usize, first: usize) -> [u64; 4]
+fn scheduled(m: &[u64; 16], r: usize, i: usize) -> u64
     requires round { r < 12 }
-    requires place { first + 6 < 16 }
-    ensures { result ≡ every_second (scheduled m.now r) first }
+    requires place { i < 16 }
+    ensures { result ≡ scheduled m.now r i }
 {
-    let row = SIGMA[r % 10];
-    [
-        m[row[first] % 16],
-        m[row[first + 2] % 16],
-        m[row[first + 4] % 16],
-        m[row[first + 6] % 16],
-    ]
+    m[SIGMA[r % 10][i] % 16]
 }
 
 // Round `r`: four columns, then four diagonals.
@@ -55,8 +48,16 @@ fn round(m: &[u64; 16], v: [u64; 16], r: usize) -> [u64; 16]
     requires { r < 12 }
     ensures { result ≡ round m.now v r }
 {
-    let v = mixed_columns(v, scheduled(m, r, 0), scheduled(m, r, 1));
-    mixed_diagonals(v, scheduled(m, r, 8), scheduled(m, r, 9))
+    let v = mixed_columns(
+        v,
+        [scheduled(m, r, 0), scheduled(m, r, 2), scheduled(m, r, 4), scheduled(m, r, 6)],
+        [scheduled(m, r, 1), scheduled(m, r, 3), scheduled(m, r, 5), scheduled(m, r, 7)],
+    );
+    mixed_diagonals(
+        v,
+        [scheduled(m, r, 8), scheduled(m, r, 10), scheduled(m, r, 12), scheduled(m, r, 14)],
+        [scheduled(m, r, 9), scheduled(m, r, 11), scheduled(m, r, 13), scheduled(m, r, 15)],
+    )
 }
 
 // The working vector before the first round.
