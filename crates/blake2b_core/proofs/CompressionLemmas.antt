@@ -65,8 +65,8 @@ unfolding block_words
 block_words-is m block sixteen size read =
     let count : length (map (little_number 8) (first_chunks 8 16 block)) ≡ 16 = length-map (first_chunks 8 16 block) (little_number 8) in
     ext_get_or 0 m _ (sixteen ∙ sym count) (λ i below.
-      let i_below : i < 16 = omega arith in
-      let chunk = get_or-first_chunks 8 16 block i [] i_below in
-      let word = get_or-map (little_number 8) (first_chunks 8 16 block) i [] 0 i_below in
-      let long : 8 ≤ length (drop (8 * i) block) = omega (arith, length-drop (8 * i) block) in
-      read i below ∙ sym (word ∙ ap (little_number 8) chunk ∙ little_number-take (drop (8 * i) block) long))
+    let i_below : i < 16 = omega arith in
+    let chunk = get_or-first_chunks 8 16 block i [] i_below in
+    let word = get_or-map (little_number 8) (first_chunks 8 16 block) i [] 0 i_below in
+    let long : 8 ≤ length (drop (8 * i) block) = omega (arith, length-drop (8 * i) block) in
+    read i below ∙ sym (word ∙ ap (little_number 8) chunk ∙ little_number-take (drop (8 * i) block) long))
