@@ -86,7 +86,10 @@ fn put_form<'a, S: Sink>(
         Mode::Binary => put_parts(sink, &[digits, Part::Bytes(b" *"), name]),
         Mode::Tag => {
             put_tag(sink, kind)?;
-            put_parts(sink, &[Part::Bytes(b" ("), name, Part::Bytes(b") = "), digits])
+            put_parts(
+                sink,
+                &[Part::Bytes(b" ("), name, Part::Bytes(b") = "), digits],
+            )
         }
     }
 }

@@ -1,4 +1,4 @@
-use Rattle.std.proofs.Common.{rules, arith, ap, sym, ◌∙◌, ◌+◌, ◌≡◌, length, length-append}
+use Rattle.std.proofs.Common.{rules, length-append}
 use Rattle.hex.proofs.HexLemmas.{length-encode_with}
 use Rattle.sum_lines.proofs.written.digits_of.Goals as goal
 

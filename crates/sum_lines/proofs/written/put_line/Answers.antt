@@ -1,8 +1,5 @@
-use Rattle.std.proofs.Common.{refl, append_assoc, ◌≡◌, ◌++◌, List, codes, ap, ℕ}
+use Rattle.std.proofs.Common.{refl}
 use Rattle.std.proofs.lemmas.Result.{err_from_is_err_and}
-use Rattle.sum_lines.specs.Lines.{line, form_of, mark}
-use Rattle.sum_lines.specs.Escape.{escape}
-use Rattle.hex.specs.Hex.{encode_lower}
 use Rattle.sum_lines.proofs.SinkLemmas.{Ends-then, Ends-three, Ends-at_first, Ends-at_second}
 use Rattle.sum_lines.proofs.written.put_line.Goals as goal
 
