@@ -7,3 +7,4 @@ pub mod Sinks
 pub mod ToldSinks
 pub mod Parts
 pub mod Lines
+pub mod Found

@@ -6,10 +6,12 @@ mod from_write;
 pub mod laws;
 mod line_reading;
 mod parts;
+mod plain;
 mod scanning;
 mod sink;
 #[cfg(test)]
 mod sink_tests;
+mod tagged;
 mod told_sink;
 mod written;
 #[cfg(test)]
