@@ -18,9 +18,9 @@ use Rattle.digest_kinds.specs.declared.algo.Algo.{Algo}
 use Rattle.digest_kinds.specs.declared.algo.Algo.TheVariants.{Md5, Sha1, Sha224, Sha256, Sha384, Sha512, Blake2b}
 use Rattle.digest_kinds.specs.declared.algo.Algos.{Algos}
 use Rattle.sum_lines.specs.Shapes.{is_blank, mark, optional}
-use Rattle.sum_lines.specs.Scanned.{Parts, after_while, unmarked, unspaced, past, split_last, is_past, begins, algo_of, algo_at, digest_at, width_at, name_behind, tagged_behind, tagged_text, tagged_of, sized, tail_of, plain_behind, plain_as}
+use Rattle.sum_lines.specs.Scanned.{Parts, after_while, unmarked, unspaced, past, split_last, is_past, begins, algo_of, algo_at, digest_at, Opened, opened_of, name_behind, tagged_of, sized, tail_of, plain_behind, plain_as}
 use Rattle.sum_lines.proofs.FrontLemmas.{isn't, split_last-none, split_last-at, front-and-rest, unmarked-is, past-some, past-front, unspaced-is, split_last-some}
-use Rattle.sum_lines.proofs.TaggedLemmas.{width_at-some, algo_of-tag}
+use Rattle.sum_lines.proofs.TaggedLemmas.{opened_of-some, algo_of-tag}
 use Rattle.sum_lines.proofs.PlainLemmas.{tail_of-some, has_len-some}
 
 -- ---- a text in front
@@ -122,32 +122,20 @@ sized_refused a s (Ok d) h none = elim (cases_Bool (has_len a (length d))) [
 pub sized_none : (a : Algo) (s : List ℕ) → (IsDigits s → ⊥) → sized a (decode_of s) ≡ None
 sized_none a s none = sized_refused a s (decode_of s) refl none
 
--- ---- a tagged line, step by step up to the name
-
-pub record Steps (algos : Algos) (a : Algo) (line blank : List ℕ) (e : Bool) (text behind : List ℕ) (kind : KindValue) (wide space inner : List ℕ) : Type 0 where
-  pub blank_is : blank ≡ after_while is_blank line
-  pub mark_is : (e, text) ≡ unmarked blank
-  pub algo_is : Some a ≡ algo_at algos text
-  pub behind_is : Some behind ≡ past (tag a) text
-  pub wide_is : Some (kind, wide) ≡ width_at a behind
-  pub space_is : space ≡ unspaced wide
-  pub inner_is : Some inner ≡ past (40 ∷ []) space
+-- ---- a tagged line
 
 regroup : (a b c d e f i : List ℕ) → a ++ (b ++ (c ++ (d ++ (e ++ (f ++ i))))) ≡ (a ++ (b ++ (c ++ (d ++ (e ++ f))))) ++ i
 regroup a b c d e f i = simp append_assoc
 
--- what stands behind the parenthesis is the line's end
-pub Steps-ends : (algos : Algos) (a : Algo) (line blank : List ℕ) (e : Bool) (text behind : List ℕ) (kind : KindValue) (wide space inner : List ℕ) → Steps algos a line blank e text behind kind wide space inner → (front : List ℕ) × (line ≡ front ++ inner)
-Steps-ends algos a line blank e text behind kind wide space inner s =
-    let marked : blank ≡ mark e ++ text = unmarked-is blank ∙ ap (λ (x : Bool × List ℕ). mark x.0 ++ x.1) (sym s.mark_is) in
-    let named : text ≡ tag a ++ behind = past-some (tag a) text behind (sym s.behind_is) in
-    let w = width_at-some a behind (kind, wide) (sym s.wide_is) in
-    let g = unspaced-is wide in
-    let opened : space ≡ 40 ∷ inner = past-some (40 ∷ []) space inner (sym s.inner_is) in
-    let all : List ℕ = take_while is_blank line ++ (mark e ++ (tag a ++ (w.width ++ (optional g.0 (32 ∷ []) ++ (40 ∷ []))))) in
-    (all,
-      front-and-rest is_blank line ∙ ap (λ l. take_while is_blank line ++ l) (sym s.blank_is ∙ marked ∙ ap (λ l. mark e ++ l) (named ∙ ap (λ l. tag a ++ l) (w.whole ∙ ap (λ l. w.width ++ l) (g.1 ∙ ap (λ l. optional g.0 (32 ∷ []) ++ l) (sym s.space_is ∙ opened)))))
-      ∙ regroup (take_while is_blank line) (mark e) (tag a) w.width (optional g.0 (32 ∷ [])) (40 ∷ []) inner)
+-- what stands behind the opening parenthesis is the line's end
+pub opened-ends : (algos : Algos) (line : List ℕ) (o : Opened) → Some o ≡ opened_of algos line → (front : List ℕ) × (line ≡ front ++ o.inner)
+opened-ends algos line o h =
+    let u : Bool × List ℕ = unmarked (after_while is_blank line) in
+    let f = opened_of-some algos line o (sym h) in
+    let space : List ℕ = optional f.gap (32 ∷ []) in
+    (take_while is_blank line ++ (mark u.0 ++ (tag o.kind.algo ++ (f.width ++ (space ++ (40 ∷ []))))),
+      front-and-rest is_blank line ∙ ap (λ l. take_while is_blank line ++ l) (unmarked-is (after_while is_blank line) ∙ ap (λ l. mark u.0 ++ l) f.whole)
+      ∙ regroup (take_while is_blank line) (mark u.0) (tag o.kind.algo) f.width space (40 ∷ []) o.inner)
 
 -- the places of the name
 pub name-range : (line front inner raw behind : List ℕ) → line ≡ front ++ inner → Some (raw, behind) ≡ split_last 41 inner
@@ -161,22 +149,18 @@ name-range line front inner raw behind ends split =
     let len : (length front + length raw) - length front ≡ length raw = omega arith in
     (omega arith, omega arith, rw (start, len, rest) (take_at raw (41 ∷ behind) (length raw) refl))
 
--- all of the steps
-pub Steps-read : (algos : Algos) (a : Algo) (line blank : List ℕ) (e : Bool) (text behind : List ℕ) (kind : KindValue) (wide space inner : List ℕ) → Steps algos a line blank e text behind kind wide space inner
-    → (raw after name after_blank digits digits_blank d : List ℕ) → Some (raw, after) ≡ split_last 41 inner → 0 < length raw → after_blank ≡ after_while is_blank after → Some digits ≡ past (61 ∷ []) after_blank → digits_blank ≡ after_while is_blank digits
-    → Some d ≡ digest_at kind.len (decode_of digits_blank) → name ≡ raw → Some (record { escaped = e; kind = kind; digest = d; text = name }) ≡ tagged_of algos line
-unfolding name_behind tagged_behind tagged_text
-Steps-read algos a line blank e text behind kind wide space inner s [] after name after_blank digits digits_blank d hs some hb hd hdb hh is = absurd (omega arith)
-Steps-read algos a line blank e text behind kind wide space inner s (r ∷ rs) after name after_blank digits digits_blank d hs some hb hd hdb hh is =
-    let u : unmarked (after_while is_blank line) ≡ (e, text) = ap unmarked (sym s.blank_is) ∙ sym s.mark_is in
-    let g : algo_at algos text ≡ Some a = sym s.algo_is in
-    let t : past (tag a) text ≡ Some behind = sym s.behind_is in
-    let w : width_at a behind ≡ Some (kind, wide) = sym s.wide_is in
-    let o : past (40 ∷ []) (unspaced wide) ≡ Some inner = rw (← s.space_is) (sym s.inner_is) in
-    let q : split_last 41 inner ≡ Some (r ∷ rs, after) = sym hs in
+-- all of it
+pub tagged-read : (algos : Algos) (line : List ℕ) (o : Opened) → Some o ≡ opened_of algos line
+    → (raw after name after_blank digits digits_blank d : List ℕ) → Some (raw, after) ≡ split_last 41 o.inner → 0 < length raw → after_blank ≡ after_while is_blank after → Some digits ≡ past (61 ∷ []) after_blank → digits_blank ≡ after_while is_blank digits
+    → Some d ≡ digest_at o.kind.len (decode_of digits_blank) → name ≡ raw → Some (record { escaped = o.escaped; kind = o.kind; digest = d; text = name }) ≡ tagged_of algos line
+unfolding name_behind
+tagged-read algos line o h [] after name after_blank digits digits_blank d hs some hb hd hdb hh is = absurd (omega arith)
+tagged-read algos line o h (r ∷ rs) after name after_blank digits digits_blank d hs some hb hd hdb hh is =
+    let front : opened_of algos line ≡ Some o = sym h in
+    let q : split_last 41 o.inner ≡ Some (r ∷ rs, after) = sym hs in
     let dd : past (61 ∷ []) (after_while is_blank after) ≡ Some digits = rw (← hb) (sym hd) in
-    let ee : digest_at kind.len (decode_of (after_while is_blank digits)) ≡ Some d = rw (← hdb) (sym hh) in
-    rw (u, g, t, w, o, q, dd, ee, is) refl
+    let ee : digest_at o.kind.len (decode_of (after_while is_blank digits)) ≡ Some d = rw (← hdb) (sym hh) in
+    rw (front, q, dd, ee, is) refl
 
 -- ---- a plain line
 

@@ -5,7 +5,7 @@ ghost use Rattle.std.specs.List.{AllPass, prefix_len, take_while};
 ghost use Rattle.std.specs.Option.{option_copied, option_map};
 ghost use Rattle.hex.specs.Hex.{decode_of};
 ghost use Rattle.digest_kinds.specs.Kinds.{tag};
-ghost use Rattle.sum_lines.specs.Scanned.{after_while, algo_at, bits_at, blake2b_at, digest_at, is_digit, kind_at, past, tagged_of, width_at};
+ghost use Rattle.sum_lines.specs.Scanned.{after_while, algo_at, bits_at, blake2b_at, digest_at, is_digit, kind_at, opened_of, past, tagged_of, width_at};
 ghost use Rattle.sum_lines.specs.Found.{tagged_parts};
 
 use crate::scanning::{past_text, skip_blanks, split_at_last, unmark, unspace};
@@ -22,32 +22,53 @@ pub(crate) struct TaggedLine {
 }
 
 /// Reads a tagged line of these algorithms. None where the line isn't tagged.
-#[tactic(auto, unfolding(crate::specs::Scanned::name_behind, crate::specs::Scanned::tagged_behind, crate::specs::Scanned::tagged_text))]
+#[tactic(auto, unfolding(crate::specs::Scanned::name_behind))]
 pub(crate) fn tagged(algos: Algos, line: &[u8]) -> Option<TaggedLine>
     ensures parts { option_map (tagged_parts line.now) result ≡ tagged_of algos line.now }
     ensures range { IfSome result (λ t. (t.start ≤ t.stop) × (t.stop ≤ length line.now)) }
 {
-    let (escaped, text) = unmark(skip_blanks(line));
-    let algo = algo_at(algos, text)?;
-    let behind_tag = past_tag(algo, text)?;
-    let Some((kind, behind_width)) = width(algo, behind_tag) else {
+    let Some(opened) = open_line(algos, line) else {
         return None;
     };
-    let inner = past_text(b"(", unspace(behind_width))?;
     // The name may hold `)`, and what follows the closing one can't.
-    let (raw, behind_name) = split_at_last(b')', inner)?;
+    let (raw, behind_name) = split_at_last(b')', opened.inner)?;
     if raw.is_empty() {
         return None;
     }
     let digits = past_text(b"=", skip_blanks(behind_name))?;
-    let digest = digest_of(kind.len(), skip_blanks(digits))?;
-    let start = line.len() - inner.len();
+    let digest = digest_of(opened.kind.len(), skip_blanks(digits))?;
+    let start = line.len() - opened.inner.len();
     Some(TaggedLine {
-        escaped,
-        kind,
+        escaped: opened.escaped,
+        kind: opened.kind,
         digest,
         start,
         stop: start + raw.len(),
+    })
+}
+
+// A tagged line up to its opening parenthesis, and what stands behind that.
+#[derive(Clone, Copy)]
+struct OpenedLine<'a> {
+    escaped: bool,
+    kind: Kind,
+    inner: &'a [u8],
+}
+
+#[tactic(auto, unfolding(crate::specs::Scanned::opened_text))]
+fn open_line(algos: Algos, line: &[u8]) -> Option<OpenedLine<'_>>
+    ensures { option_map (λ o. record { escaped = o.escaped; kind = o.kind; inner = o.inner.now }) result ≡ opened_of algos line.now }
+{
+    let (escaped, text) = unmark(skip_blanks(line));
+    let algo = algo_at(algos, text)?;
+    let Some((kind, behind_width)) = width(algo, past_tag(algo, text)?) else {
+        return None;
+    };
+    let inner = past_text(b"(", unspace(behind_width))?;
+    Some(OpenedLine {
+        escaped,
+        kind,
+        inner,
     })
 }
 
