@@ -8,3 +8,4 @@ pub mod ToldSinks
 pub mod Parts
 pub mod Lines
 pub mod Found
+pub mod Readings

@@ -5,6 +5,7 @@ mod escape;
 mod from_write;
 pub mod laws;
 mod line_reading;
+mod names;
 mod parts;
 mod plain;
 mod scanning;
@@ -19,7 +20,7 @@ mod written_tests;
 
 pub use escape::{needs_escape, put_escaped, unescape_in};
 pub use from_write::FromWrite;
-pub use line_reading::{Form, Reading};
+pub use line_reading::{Form, Reading, read_line};
 pub use parts::{Part, put_number, put_parts};
 pub use sink::{Sink, SinkFault, put_all};
 pub use told_sink::ToldSink;
