@@ -5,6 +5,8 @@ mod escape;
 mod from_write;
 pub mod laws;
 mod line_reading;
+#[cfg(test)]
+mod line_reading_tests;
 mod names;
 mod parts;
 mod plain;
