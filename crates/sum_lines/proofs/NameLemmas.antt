@@ -1,12 +1,12 @@
 -- The name that is left in place of a raw name.
-use Rattle.std.proofs.Common.{ℕ, zero, suc, ◌≡◌, ◌+◌, ◌-◌, ◌<◌, ◌≤◌, ◌↔◌, Bool, true, false, not, cond, List, [], ◌∷◌, ◌++◌, length, take, drop, get_or, slice_range, Option, None, Some, refl, ap, sym, ◌∙◌, arith, subst, length-append, length-drop}
+use Rattle.std.proofs.Common.{ℕ, zero, suc, ◌≡◌, ◌+◌, ◌-◌, ◌<◌, ◌≤◌, ◌↔◌, Bool, true, false, not, cond, List, ◌++◌, length, take, drop, get_or, slice_range, Option, None, Some, refl, ap, sym, ◌∙◌, arith, subst, length-append}
 use Rattle.std.specs.List.{All}
 use Rattle.std.specs.Option.{is_some}
 use Rattle.std.proofs.lemmas.Bool.{eqb-true}
 use Rattle.std.proofs.lemmas.List.{drop-take, take-append-drop, drop_at, length-take-le}
 use Rattle.std.proofs.lemmas.List.Elements.{All-from_get_or, All-get_or}
 use Rattle.std.proofs.lemmas.Grind.{common_steps}
-use Rattle.memchr.specs.Find.{Nowhere, Passes, IsFirstByte, is_byte}
+use Rattle.memchr.specs.Find.{IsFirstByte, is_byte}
 use Rattle.sum_lines.specs.Escape.{escape}
 use Rattle.sum_lines.specs.Entries.{Spells}
 use Rattle.sum_lines.specs.Found.{Names}

@@ -1,19 +1,18 @@
 -- What a line reads as, by its shape.
-use Rattle.std.proofs.Common.{ℕ, ◌≡◌, ◌+◌, ◌-◌, ◌<◌, ◌≤◌, Bool, true, false, cond, List, [], ◌∷◌, ◌++◌, length, take, drop, slice_range, Option, None, Some, refl, ap, sym, ◌∙◌, arith, ◌⊎◌, inl, inr, subst, length-drop}
-use Rattle.std.proofs.lemmas.Bool.{cond-true, cond-false}
+use Rattle.std.proofs.Common.{ℕ, ◌≡◌, ◌+◌, ◌-◌, ◌≤◌, Bool, true, false, List, [], ◌∷◌, length, drop, slice_range, Option, None, Some, refl, ap, sym, ◌∙◌, arith, inl, inr, subst, length-drop}
+use Rattle.std.proofs.lemmas.Bool.{cond-false}
 use Rattle.std.proofs.lemmas.List.{take_all, drop-drop}
 use Rattle.digest_kinds.specs.Kinds.{KindValue}
-use Rattle.digest_kinds.specs.declared.algo.Algo.{Algo}
 use Rattle.digest_kinds.specs.declared.algo.Algos.{Algos}
 use Rattle.sum_lines.specs.declared.line_reading.Form.{Form}
-use Rattle.sum_lines.specs.declared.line_reading.Form.TheVariants.{Undecided, Standard, Reversed}
+use Rattle.sum_lines.specs.declared.line_reading.Form.TheVariants.{Undecided, Standard}
 use Rattle.sum_lines.specs.declared.line_reading.Reading.{Reading}
 use Rattle.sum_lines.specs.declared.line_reading.Reading.TheVariants as readings
 use Rattle.sum_lines.specs.declared.plain.PlainLine.{PlainLine}
 use Rattle.sum_lines.specs.Escape.{escape}
 use Rattle.sum_lines.specs.Shapes.{Plain, Tagged}
 use Rattle.sum_lines.specs.Scanned.{Parts, plain_of, tagged_of}
-use Rattle.sum_lines.specs.Entries.{ignored, begins_standard, form_of_tail, Spells, RawOf, Spelled, kind_of, ByTag, ByTail, Entry, form_then, form_of_parts, line_form, form}
+use Rattle.sum_lines.specs.Entries.{ignored, begins_standard, Spells, RawOf, Spelled, kind_of, ByTag, ByTail, form_then, form_of_parts}
 use Rattle.sum_lines.specs.Found.{plain_parts, NamesEntry, NamesTail}
 use Rattle.sum_lines.specs.Readings.{form_after, Reads}
 use Rattle.sum_lines.proofs.TaggedLemmas.{read_is_tagged, tagged_is_read, same_parts}
@@ -44,10 +43,13 @@ no_tail : (algos : Algos) (f : Form) (line : List ℕ) (s : Spelled) → None �
 no_tail algos f line s p by = let bad = p ∙ plain_is_read algos line (record { escaped = by.escaped; kind = kind_of s; digest = s.digest; text = by.tail }) by.plain in cc
 
 pub reads-none : (algos : Algos) (f : Form) (line new : List ℕ) → None ≡ tagged_of algos line → None ≡ plain_of algos line → ignored line ≡ false → Reads algos f line new readings.Bad
-reads-none algos f line new t p h = (h, λ s x. elim x.1 [
-  | inl by ↦ no_tag algos line s t by
-  | inr by ↦ no_tail algos f line s p by
-])
+reads-none algos f line new t p h = (
+  h,
+  λ s x. elim x.1 [
+    | inl by ↦ no_tag algos line s t by
+    | inr by ↦ no_tail algos f line s p by
+  ],
+)
 
 -- ---- a tagged line
 
@@ -66,14 +68,17 @@ tagged-entry algos f line new e kind d raw start stop t h ordered within spells 
 pub reads-tagged : (algos : Algos) (f : Form) (line new : List ℕ) (e : Bool) (kind : KindValue) (d raw : List ℕ) (r : Reading) → Some (record { escaped = e; kind = kind; digest = d; text = raw }) ≡ tagged_of algos line → ignored line ≡ false
     → NamesEntry kind d e raw new r → Reads algos f line new r
 reads-tagged algos f line new e kind d raw readings.Ignored t h names = absurd names
-reads-tagged algos f line new e kind d raw readings.Bad t h names = (h, λ s x. elim x.1 [
-  | inl by ↦
-      let p : Parts = record { escaped = by.escaped; kind = kind_of s; digest = s.digest; text = by.raw } in
-      let same : record { escaped = e; kind = kind; digest = d; text = raw } ≡ p = same_parts _ p (t ∙ tagged_is_read algos line p by.tagged) in
-      let Q : Bool × List ℕ → Type 0 = λ y. Spells escape y.0 y.1 s.name in
-      names s.name (subst Q (sym (ap (λ (x : Parts). (x.escaped, x.text)) same)) by.spells)
-  | inr by ↦ apart algos algos line by.escaped e (kind_of s) kind s.digest d by.tail raw by.plain (read_is_tagged algos line (record { escaped = e; kind = kind; digest = d; text = raw }) (sym t))
-])
+reads-tagged algos f line new e kind d raw readings.Bad t h names = (
+  h,
+  λ s x. elim x.1 [
+    | inl by ↦
+        let p : Parts = record { escaped = by.escaped; kind = kind_of s; digest = s.digest; text = by.raw } in
+        let same : record { escaped = e; kind = kind; digest = d; text = raw } ≡ p = same_parts _ p (t ∙ tagged_is_read algos line p by.tagged) in
+        let Q : Bool × List ℕ → Type 0 = λ y. Spells escape y.0 y.1 s.name in
+        names s.name (subst Q (sym (ap (λ (x : Parts). (x.escaped, x.text)) same)) by.spells)
+    | inr by ↦ apart algos algos line by.escaped e (kind_of s) kind s.digest d by.tail raw by.plain (read_is_tagged algos line (record { escaped = e; kind = kind; digest = d; text = raw }) (sym t))
+  ],
+)
 reads-tagged algos f line new e kind d raw (readings.Entry k c start stop) t h names =
     let P : KindValue → Type 0 = λ x. Reads algos f line new (readings.Entry x c start stop) in
     let Q : List ℕ → Type 0 = λ x. Reads algos f line new (readings.Entry kind x start stop) in
@@ -92,15 +97,18 @@ plain-entry algos g line new p raw start stop h speaks ordered within is_raw spe
 pub reads-plain : (algos : Algos) (g : Form) (line new : List ℕ) (found : PlainLine) (r : Reading) → ignored line ≡ false → None ≡ tagged_of algos line → Some (plain_parts line found) ≡ plain_of algos line
     → NamesTail found g (slice_range line found.start (length line)) new r → Reads algos g line new r
 reads-plain algos g line new found readings.Ignored h t p names = absurd names
-reads-plain algos g line new found readings.Bad h t p names = (h, λ s x. elim x.1 [
-  | inl by ↦ no_tag algos line s t by
-  | inr by ↦
-      let q : Parts = record { escaped = by.escaped; kind = kind_of s; digest = s.digest; text = by.tail } in
-      let same : plain_parts line found ≡ q = same_parts _ q (p ∙ plain_is_read algos line q by.plain) in
-      let Q : Bool → Type 0 = λ y. Spells escape y by.raw s.name in
-      let R : List ℕ → Type 0 = λ y. RawOf g y by.raw in
-      names by.raw s.name (subst R (sym (ap (λ (x : Parts). x.text) same)) by.is_raw) (subst Q (sym (ap (λ (x : Parts). x.escaped) same)) by.spells)
-])
+reads-plain algos g line new found readings.Bad h t p names = (
+  h,
+  λ s x. elim x.1 [
+    | inl by ↦ no_tag algos line s t by
+    | inr by ↦
+        let q : Parts = record { escaped = by.escaped; kind = kind_of s; digest = s.digest; text = by.tail } in
+        let same : plain_parts line found ≡ q = same_parts _ q (p ∙ plain_is_read algos line q by.plain) in
+        let Q : Bool → Type 0 = λ y. Spells escape y by.raw s.name in
+        let R : List ℕ → Type 0 = λ y. RawOf g y by.raw in
+        names by.raw s.name (subst R (sym (ap (λ (x : Parts). x.text) same)) by.is_raw) (subst Q (sym (ap (λ (x : Parts). x.escaped) same)) by.spells)
+  ],
+)
 reads-plain algos g line new found (readings.Entry k c start stop) h t p names =
     let P : KindValue → Type 0 = λ x. Reads algos g line new (readings.Entry x c start stop) in
     let Q : List ℕ → Type 0 = λ x. Reads algos g line new (readings.Entry found.kind x start stop) in

@@ -1,11 +1,11 @@
 -- What the scanning functions answer, step by step.
-use Rattle.std.proofs.Common.{ℕ, zero, suc, ◌≡◌, ◌≢◌, ◌+◌, ◌-◌, ◌*◌, ◌/◌, ◌<◌, ◌≤◌, not, Bool, true, false, cond, eqb, eq-eqb, ◌==◌, nat_le, List, [], ◌∷◌, ◌++◌, length, take, drop, get_or, slice_range, Option, None, Some, MatchOption, IsSome, IfSome, Result, Ok, Err, Bor, ◌↔◌, refl, ap, sym, ◌∙◌, arith, ◌⊎◌, inl, inr, subst, append_assoc, length-append, length-drop}
+use Rattle.std.proofs.Common.{ℕ, ◌≡◌, ◌+◌, ◌-◌, ◌*◌, ◌<◌, ◌≤◌, Bool, true, false, cond, eqb, ◌==◌, nat_le, List, [], ◌∷◌, ◌++◌, length, take, drop, get_or, slice_range, Option, None, Some, MatchOption, IfSome, Result, Ok, Err, Bor, refl, ap, sym, ◌∙◌, arith, inl, inr, subst, append_assoc, length-append, length-drop}
 use lib.Pointwise.{pointwise}
-use Rattle.std.specs.List.{AllPass, prefix_len, take_while}
-use Rattle.std.specs.Option.{option_copied, is_some}
+use Rattle.std.specs.List.{AllPass, take_while}
+use Rattle.std.specs.Option.{option_copied}
 use Rattle.std.proofs.lemmas.Bool.{cases_Bool, cond-true, cond-false, eqb-true, and_parts, leb-true}
 use Rattle.std.proofs.lemmas.Bool.Decides.{eqb_tells}
-use Rattle.std.proofs.lemmas.List.{length-take-le, drop_at, get_or-drop, take-append-drop, drop_more, take_at, take_all}
+use Rattle.std.proofs.lemmas.List.{drop_at, get_or-drop, take-append-drop, drop_more, take_at, take_all}
 use Rattle.std.proofs.lemmas.List.Elements.{All-from_get_or}
 use Rattle.memchr.specs.Find.{Nowhere, Passes, IsLastByte, is_byte}
 use Rattle.hex.specs.Hex.{decode_of, is_hex_digit}
@@ -18,8 +18,8 @@ use Rattle.digest_kinds.specs.declared.algo.Algo.{Algo}
 use Rattle.digest_kinds.specs.declared.algo.Algo.TheVariants.{Md5, Sha1, Sha224, Sha256, Sha384, Sha512, Blake2b}
 use Rattle.digest_kinds.specs.declared.algo.Algos.{Algos}
 use Rattle.sum_lines.specs.Shapes.{is_blank, mark, optional}
-use Rattle.sum_lines.specs.Scanned.{Parts, after_while, unmarked, unspaced, past, split_last, is_past, begins, algo_of, algo_at, digest_at, Opened, opened_of, name_behind, tagged_of, sized, tail_of, plain_behind, plain_as}
-use Rattle.sum_lines.proofs.FrontLemmas.{isn't, split_last-none, split_last-at, front-and-rest, unmarked-is, past-some, past-front, unspaced-is, split_last-some}
+use Rattle.sum_lines.specs.Scanned.{after_while, unmarked, past, split_last, is_past, begins, algo_of, digest_at, Opened, opened_of, name_behind, tagged_of, sized, tail_of, plain_behind, plain_as}
+use Rattle.sum_lines.proofs.FrontLemmas.{isn't, split_last-none, split_last-at, front-and-rest, unmarked-is, past-some, split_last-some}
 use Rattle.sum_lines.proofs.TaggedLemmas.{opened_of-some, algo_of-tag}
 use Rattle.sum_lines.proofs.PlainLemmas.{tail_of-some, has_len-some}
 
@@ -55,7 +55,7 @@ last_some c k s h =
     let high : k < length s = h.0.high in
     let cut : s ≡ take k s ++ (c ∷ drop (k + 1) s) = sym (take-append-drop k s) ∙ ap (λ l. take k s ++ l) (drop_more s k 0 high ∙ ap (λ x. x ∷ drop (k + 1) s) at) in
     let free : AllPass (isn't c) (drop (k + 1) s) = All-from_get_or (λ x. isn't c x ≡ true) (drop (k + 1) s) 0
-        (λ j lt. rw (get_or-drop (k + 1) s j 0) (other_byte c (get_or s (k + 1 + j) 0) (h.0.after (k + 1 + j) (omega arith) (let l = length-drop (k + 1) s in omega arith)))) in
+    (λ j lt. rw (get_or-drop (k + 1) s j 0) (other_byte c (get_or s (k + 1 + j) 0) (h.0.after (k + 1 + j) (omega arith) (let l = length-drop (k + 1) s in omega arith)))) in
     ap (split_last c) cut ∙ split_last-at c (take k s) (drop (k + 1) s) free
 
 -- ---- the algorithm whose tag stands in front
@@ -132,10 +132,11 @@ pub opened-ends : (algos : Algos) (line : List ℕ) (o : Opened) → Some o ≡ 
 opened-ends algos line o h =
     let u : Bool × List ℕ = unmarked (after_while is_blank line) in
     let f = opened_of-some algos line o (sym h) in
-    let space : List ℕ = optional f.gap (32 ∷ []) in
-    (take_while is_blank line ++ (mark u.0 ++ (tag o.kind.algo ++ (f.width ++ (space ++ (40 ∷ []))))),
+    let space : List ℕ = optional f.gap (32 ∷ []) in (
+      take_while is_blank line ++ (mark u.0 ++ (tag o.kind.algo ++ (f.width ++ (space ++ (40 ∷ []))))),
       front-and-rest is_blank line ∙ ap (λ l. take_while is_blank line ++ l) (unmarked-is (after_while is_blank line) ∙ ap (λ l. mark u.0 ++ l) f.whole)
-      ∙ regroup (take_while is_blank line) (mark u.0) (tag o.kind.algo) f.width space (40 ∷ []) o.inner)
+          ∙ regroup (take_while is_blank line) (mark u.0) (tag o.kind.algo) f.width space (40 ∷ []) o.inner,
+    )
 
 -- the places of the name
 pub name-range : (line front inner raw behind : List ℕ) → line ≡ front ++ inner → Some (raw, behind) ≡ split_last 41 inner

@@ -1,12 +1,12 @@
 -- A line that joins from the parts of a tagged line is read as these parts, and no other line is read.
-use Rattle.std.proofs.Common.{ℕ, zero, suc, ◌≡◌, ◌+◌, ◌*◌, ◌/◌, ◌<◌, ◌≤◌, not, Bool, true, false, cond, ◌&&◌, ◌||◌, ◌==◌, nat_le, eq-eqb, List, [], ◌∷◌, ◌++◌, length, Option, None, Some, Result, Ok, Err, refl, ap, sym, ◌∙◌, arith, ◌⊎◌, inl, inr, subst}
+use Rattle.std.proofs.Common.{ℕ, ◌≡◌, ◌*◌, ◌<◌, ◌≤◌, Bool, true, false, ◌==◌, nat_le, eq-eqb, List, [], ◌∷◌, ◌++◌, length, None, Some, Result, Ok, Err, refl, ap, sym, ◌∙◌, arith, inl, inr, subst}
 use Rattle.std.proofs.lemmas.List.{append-nil, drop_all}
 use Rattle.std.specs.List.{AllPass, take_while, prefix_len}
 use Rattle.std.specs.Fmt.{decimal}
 use Rattle.std.proofs.lemmas.Bool.{cond-true, cond-false, eqb-true, and_parts, and_from, le-leb, leb-true}
 use Rattle.std.proofs.lemmas.Bool.Decides.{eqb_tells}
 use Rattle.std.proofs.lemmas.Option.{cond_some}
-use Rattle.std.proofs.lemmas.List.Elements.{All-cons, All-head, All-nil, All-append, All-weaker}
+use Rattle.std.proofs.lemmas.List.Elements.{All-cons, All-head, All-append, All-weaker}
 use Rattle.hex.specs.Hex.{decode_of, is_hex_digit}
 use Rattle.hex.specs.declared.error.FromHexError.{FromHexError}
 use Rattle.hex.proofs.HexLemmas.{decode_of-ok}
@@ -16,7 +16,7 @@ use Rattle.digest_kinds.specs.declared.algo.Algo.TheVariants.{Md5, Sha1, Sha224,
 use Rattle.digest_kinds.specs.declared.algo.Algos.{Algos}
 use Rattle.digest_kinds.specs.declared.algo.Algos.TheVariants.{One, Any}
 use Rattle.sum_lines.specs.Shapes.{is_blank, mark, optional, Width, Allows, Tagged}
-use Rattle.sum_lines.specs.Scanned.{◌>>=◌, Parts, after_while, unmarked, past, unspaced, algo_of, algo_at, digest_at, is_digit, kind_at, bits_at, blake2b_at, width_at, split_last, some_of, digest_behind, Opened, opened_text, opened_of, name_behind, tagged_of}
+use Rattle.sum_lines.specs.Scanned.{◌>>=◌, Parts, after_while, unmarked, past, unspaced, algo_of, algo_at, digest_at, is_digit, kind_at, bits_at, blake2b_at, width_at, digest_behind, Opened, opened_text, opened_of, name_behind, tagged_of}
 use Rattle.sum_lines.proofs.FrontLemmas.{bind_some, front-passes, front-and-rest, front-at, rest-at, prefix_len-all, unmarked-is, unspaced-is, past-some, past-front, split_last-some, split_last-at, isn't, some_of-is, some_of-some}
 use Rattle.sum_lines.proofs.BitsLemmas.{kind_at-some, decimal-kind_at, decimal-digits}
 
@@ -196,9 +196,9 @@ read_is_tagged algos line p h =
       spelled = behind.spelled;
       size = behind.size ∙ ap (λ (k : KindValue). k.len) (sym named.is_kind);
       whole = front-and-rest is_blank line ∙ ap (λ l. take_while is_blank line ++ l) (unmarked-is (after_while is_blank line) ∙ ap (λ l. mark u.0 ++ l) front.whole)
-        ∙ ap (λ m. take_while is_blank line ++ (mark m ++ (tag o.kind.algo ++ (front.width ++ (optional front.gap (32 ∷ []) ++ (40 ∷ o.inner)))))) (sym (named.escaped ∙ front.escaped))
-        ∙ ap (λ (k : KindValue). take_while is_blank line ++ (mark p.escaped ++ (tag k.algo ++ (front.width ++ (optional front.gap (32 ∷ []) ++ (40 ∷ o.inner)))))) (sym named.is_kind)
-        ∙ ap (λ l. take_while is_blank line ++ (mark p.escaped ++ (tag p.kind.algo ++ (front.width ++ (optional front.gap (32 ∷ []) ++ (40 ∷ l)))))) inner;
+          ∙ ap (λ m. take_while is_blank line ++ (mark m ++ (tag o.kind.algo ++ (front.width ++ (optional front.gap (32 ∷ []) ++ (40 ∷ o.inner)))))) (sym (named.escaped ∙ front.escaped))
+          ∙ ap (λ (k : KindValue). take_while is_blank line ++ (mark p.escaped ++ (tag k.algo ++ (front.width ++ (optional front.gap (32 ∷ []) ++ (40 ∷ o.inner)))))) (sym named.is_kind)
+          ∙ ap (λ l. take_while is_blank line ++ (mark p.escaped ++ (tag p.kind.algo ++ (front.width ++ (optional front.gap (32 ∷ []) ++ (40 ∷ l)))))) inner;
     }
 
 -- ---- what joins to the line is read
@@ -291,9 +291,9 @@ pub hex-no_blank : (x : ℕ) → is_hex_digit x ≡ true → is_blank x ≡ fals
 hex-no_blank x h = elim (eqb_tells x 32) [
   | inl same ↦ let bad = rw same.1 at h in cc
   | inr other ↦ elim (eqb_tells x 9) [
-      | inl same ↦ let bad = rw same.1 at h in cc
-      | inr another ↦ rw (other.0, another.0) refl
-    ]
+    | inl same ↦ let bad = rw same.1 at h in cc
+    | inr another ↦ rw (other.0, another.0) refl
+  ]
 ]
 
 -- digits behind blanks, up to the end
@@ -323,7 +323,7 @@ name_behind-of e kind raw before after ds d some hb ha h size =
     let all : AllPass is_hex_digit ds = (decode_of-ok ds d h).1 in
     let end : AllPass (isn't 41) (after ++ ds) = All-append Not41 after ds (All-weaker _ Not41 blank-not41 after ha) (All-weaker _ Not41 hex-not41 ds all) in
     let free : AllPass (isn't 41) (before ++ (61 ∷ (after ++ ds))) =
-        All-append Not41 before (61 ∷ (after ++ ds)) (All-weaker _ Not41 blank-not41 before hb) (All-cons Not41 61 (after ++ ds) refl end) in
+    All-append Not41 before (61 ∷ (after ++ ds)) (All-weaker _ Not41 blank-not41 before hb) (All-cons Not41 61 (after ++ ds) refl end) in
     rw (split_last-at 41 raw (before ++ (61 ∷ (after ++ ds))) free, some_of-some raw some, digest_behind-of before after ds d kind.len hb ha h size) refl
 
 -- a tagged line's front
@@ -357,7 +357,7 @@ tagged_is_read algos line p t =
     let inner : List ℕ = p.text ++ (41 ∷ (t.before ++ (61 ∷ (t.after ++ t.digits)))) in
     let text : List ℕ = t.width ++ opening t.gap inner in
     let u : unmarked (after_while is_blank line) ≡ (p.escaped, tag p.kind.algo ++ text) =
-        ap (λ l. unmarked (after_while is_blank l)) t.whole ∙ unmarked-front t.blanks p.escaped (tag p.kind.algo) text t.are_blanks (tag-begins p.kind.algo) in
+    ap (λ l. unmarked (after_while is_blank l)) t.whole ∙ unmarked-front t.blanks p.escaped (tag p.kind.algo) text t.are_blanks (tag-begins p.kind.algo) in
     let o : opened_of algos line ≡ Some (record { escaped = p.escaped; kind = p.kind; inner = inner }) =
-        ap (λ (x : Bool × List ℕ). opened_text algos x.0 x.1) u ∙ opened_text-of algos p.escaped p.kind t.width t.gap inner t.allowed t.is_width in
+    ap (λ (x : Bool × List ℕ). opened_text algos x.0 x.1) u ∙ opened_text-of algos p.escaped p.kind t.width t.gap inner t.allowed t.is_width in
     ap (λ x. x >>= name_behind) o ∙ name_behind-of p.escaped p.kind p.text t.before t.after t.digits p.digest t.some t.before_blanks t.after_blanks t.spelled t.size

@@ -49,7 +49,14 @@ pub fn read_line(algos: Algos, form: Form, line: &mut Vec<u8>) -> (Reading, Form
     match shape_of(algos, line) {
         Shape::Ignored => (Reading::Ignored, form),
         Shape::Tagged(found) => (
-            read_name(line, found.kind, found.digest, found.escaped, found.start, found.stop),
+            read_name(
+                line,
+                found.kind,
+                found.digest,
+                found.escaped,
+                found.start,
+                found.stop,
+            ),
             form,
         ),
         Shape::Plain(found) => read_tail(form, line, found),
@@ -102,12 +109,18 @@ fn read_tail(form: Form, line: &mut Vec<u8>, found: PlainLine) -> (Reading, Form
     match form {
         Form::Standard if standard => {
             let start = found.start + 1;
-            (read_name(line, found.kind, found.digest, found.escaped, start, stop), form)
+            (
+                read_name(line, found.kind, found.digest, found.escaped, start, stop),
+                form,
+            )
         }
         Form::Standard => (Reading::Bad, form),
         _ => {
             let start = found.start;
-            (read_name(line, found.kind, found.digest, found.escaped, start, stop), form)
+            (
+                read_name(line, found.kind, found.digest, found.escaped, start, stop),
+                form,
+            )
         }
     }
 }

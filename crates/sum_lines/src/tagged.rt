@@ -161,5 +161,9 @@ fn digest_of(len: usize, digits: &[u8]) -> Option<Digest>
     ensures { result ≡ digest_at len (decode_of digits.now) }
 {
     let digest = Digest::from_hex(digits)?;
-    if digest.as_slice().len() == len { Some(digest) } else { None }
+    if digest.as_slice().len() == len {
+        Some(digest)
+    } else {
+        None
+    }
 }

@@ -1,4 +1,3 @@
-use Rattle.std.proofs.Common.{sym}
 use Rattle.sum_lines.proofs.ScanLemmas.{tail-place, plain-read}
 use Rattle.sum_lines.proofs.plain.plain_as.Goals as goal
 

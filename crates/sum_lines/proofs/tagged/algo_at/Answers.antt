@@ -1,4 +1,3 @@
-use Rattle.std.proofs.Common.{refl}
 use Rattle.sum_lines.proofs.ScanLemmas.{algo_is}
 use Rattle.sum_lines.proofs.tagged.algo_at.Goals as goal
 
