@@ -1,9 +1,9 @@
 -- The bits that a BLAKE2b tag may carry: the digits that the code takes are those of `decimal`.
-use Rattle.std.proofs.Common.{ℕ, zero, suc, ◌≡◌, ◌≢◌, ◌+◌, ◌-◌, ◌*◌, ◌/◌, ◌%◌, ◌^◌, ◌<◌, ◌≤◌, not, Bool, true, false, cond, ◌==◌, ◌&&◌, nat_le, nat_lt, List, [], ◌∷◌, ◌++◌, length, Option, None, Some, refl, ap, sym, ◌∙◌, arith, length-append, ◌⊎◌, inl, inr, subst}
+use Rattle.std.proofs.Common.{ℕ, ◌≡◌, ◌≢◌, ◌+◌, ◌-◌, ◌*◌, ◌/◌, ◌%◌, ◌<◌, ◌≤◌, true, false, ◌==◌, nat_le, nat_lt, List, [], ◌∷◌, ◌++◌, length, Some, refl, ap, sym, ◌∙◌, arith, length-append, inl, inr, subst}
 use Rattle.std.specs.Fmt.{decimal}
 use Rattle.std.proofs.lemmas.Fmt.{decimal_digit, decimal_step}
 use Rattle.std.proofs.lemmas.Option.{cond_some}
-use Rattle.std.proofs.lemmas.Bool.{eqb-false, cond-true, cond-false, cases_lt, lt-ltb, le-leb, ltb-true, leb-true, eqb-true, eq-eqb, ne_eqb, not-true, and_parts}
+use Rattle.std.proofs.lemmas.Bool.{eqb-false, cases_lt, lt-ltb, le-leb, ltb-true, leb-true, eqb-true, ne_eqb, not-true, and_parts}
 use Rattle.std.proofs.lemmas.List.Elements.{All-append, All-cons, All-head, All-tail, All-nil}
 use Rattle.std.specs.List.{AllPass}
 use Rattle.digest_kinds.specs.Kinds.{KindValue}
@@ -104,7 +104,7 @@ short-more n v q r parts lt low high s =
     let front : v / 10 ≡ q = omega arith in
     let last : v % 10 ≡ r = omega arith in
     let is : decimal v ≡ (s.first ∷ s.more) ++ ((48 + r) ∷ []) =
-        decimal_step v low (omega arith) ∙ ap (λ k. decimal k ++ ((48 + v % 10) ∷ [])) front ∙ ap (λ k. decimal q ++ ((48 + k) ∷ [])) last ∙ ap (λ l. l ++ ((48 + r) ∷ [])) s.are in
+    decimal_step v low (omega arith) ∙ ap (λ k. decimal k ++ ((48 + v % 10) ∷ [])) front ∙ ap (λ k. decimal q ++ ((48 + k) ∷ [])) last ∙ ap (λ l. l ++ ((48 + r) ∷ [])) s.are in
     let all : AllPass is_digit ((s.first ∷ s.more) ++ ((48 + r) ∷ [])) = All-append Digit (s.first ∷ s.more) ((48 + r) ∷ []) s.digits (All-cons Digit (48 + r) [] (digit-of r lt) (All-nil Digit)) in
     let long : length (s.more ++ ((48 + r) ∷ [])) ≡ length s.more + 1 = length-append s.more ((48 + r) ∷ []) in
     let val : number_after 0 ((s.first ∷ s.more) ++ ((48 + r) ∷ [])) ≡ number_after (number_after 0 (s.first ∷ s.more)) ((48 + r) ∷ []) = number_after-append 0 (s.first ∷ s.more) ((48 + r) ∷ []) in

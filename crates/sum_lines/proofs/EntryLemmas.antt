@@ -1,19 +1,17 @@
 -- A line spells at most one entry, and a list of lines has one form.
-use Rattle.std.proofs.Common.{ℕ, ◌≡◌, ◌<◌, ◌↔◌, Bool, true, false, cond, List, [], ◌∷◌, ◌++◌, length, Option, None, Some, refl, ap, sym, ◌∙◌, ◌⊎◌, inl, inr, subst}
+use Rattle.std.proofs.Common.{ℕ, ◌≡◌, Bool, true, false, cond, List, [], ◌∷◌, ◌++◌, Option, None, Some, refl, ap, sym, ◌∙◌, ◌⊎◌, inl, inr, subst}
 use Rattle.std.proofs.lemmas.Bool.{cond-true, cond-false, cases_Bool}
-use Rattle.digest_kinds.specs.Kinds.{KindValue, tag}
 use Rattle.digest_kinds.specs.declared.algo.Algo.{Algo}
-use Rattle.digest_kinds.specs.declared.algo.Algo.TheVariants.{Md5, Sha1, Sha224, Sha256, Sha384, Sha512, Blake2b}
 use Rattle.digest_kinds.specs.declared.algo.Algos.{Algos}
-use Rattle.digest_kinds.specs.declared.algo.Algos.TheVariants.{One, Any}
+use Rattle.digest_kinds.specs.declared.algo.Algos.TheVariants.{Any}
 use Rattle.sum_lines.specs.declared.line_reading.Form.{Form}
 use Rattle.sum_lines.specs.declared.line_reading.Form.TheVariants.{Undecided, Standard, Reversed}
 use Rattle.sum_lines.specs.Escape.{escape}
-use Rattle.sum_lines.specs.Shapes.{is_blank, Plain, Tagged}
-use Rattle.sum_lines.specs.Scanned.{Parts, after_while, unmarked, past, plain_of, tagged_of}
-use Rattle.sum_lines.specs.Entries.{ignored, begins_standard, form_of_tail, Decides, IsForm, Spells, RawOf, Spelled, kind_of, ByTag, ByTail, Entry, form_then, form_of_parts, line_form, form}
+use Rattle.sum_lines.specs.Shapes.{Tagged}
+use Rattle.sum_lines.specs.Scanned.{Parts, plain_of}
+use Rattle.sum_lines.specs.Entries.{ignored, begins_standard, form_of_tail, Decides, IsForm, Spells, RawOf, Spelled, kind_of, ByTag, ByTail, form_then, form_of_parts, line_form, form}
 use Rattle.sum_lines.specs.Laws.{OneEntry, OneForm}
-use Rattle.sum_lines.proofs.EscapeApart.{escape_apart}
+use Rattle.sum_lines.proofs.UnescapeLemmas.{escape-apart}
 use Rattle.sum_lines.proofs.TaggedLemmas.{tagged_is_read, same_parts}
 use Rattle.sum_lines.proofs.PlainLemmas.{apart, plain-once, plain_is_read, read_is_plain}
 
@@ -28,7 +26,7 @@ spelled_same s t a d n =
     ap (λ x. make x s.digest s.name) a ∙ ap (λ y. make t.algo y s.name) d ∙ ap (λ z. make t.algo t.digest z) n
 
 spelling_apart : (e : Bool) (m n : List ℕ) → cond e (escape m) m ≡ cond e (escape n) n → m ≡ n
-spelling_apart true m n h = escape_apart m n h
+spelling_apart true m n h = escape-apart m n h
 spelling_apart false m n h = h
 
 spells_one : (e f : Bool) (raw war m n : List ℕ) → e ≡ f → raw ≡ war → Spells escape e raw m → Spells escape f war n → m ≡ n
@@ -83,18 +81,21 @@ decides-form algos line f d =
 
 -- a line that is read as plain parts decides; any other decides nothing
 decided : (algos : Algos) (line : List ℕ) (o : Option Parts) → o ≡ plain_of algos line → ignored line ≡ false → Decides algos line (form_of_parts o) ⊎ ((o ≡ None) × ((f : Form) → Decides algos line f → ⊥))
-decided algos line None h speaks = inr (refl, λ f d.
-    let p : Parts = record { escaped = d.escaped; kind = d.kind; digest = d.digest; text = d.tail } in
-    let bad = h ∙ plain_is_read algos line p d.plain in cc)
+decided algos line None h speaks = inr (
+  refl,
+  λ f d.
+      let p : Parts = record { escaped = d.escaped; kind = d.kind; digest = d.digest; text = d.tail } in
+      let bad = h ∙ plain_is_read algos line p d.plain in cc,
+)
 decided algos line (Some p) h speaks = inl (record { escaped = p.escaped; kind = p.kind; digest = p.digest; tail = p.text; speaks = speaks; plain = read_is_plain algos line p (sym h); is = refl })
 
 pub decides-or : (algos : Algos) (line : List ℕ) → Decides algos line (line_form algos line) ⊎ ((line_form algos line ≡ Undecided) × ((f : Form) → Decides algos line f → ⊥))
 decides-or algos line = let P : Form → Type 0 = λ g. Decides algos line g ⊎ ((g ≡ Undecided) × ((f : Form) → Decides algos line f → ⊥)) in elim (cases_Bool (ignored line)) [
   | inl mute ↦ subst P (sym (cond-true (ignored line) Undecided (form_of_parts (plain_of algos line)) mute)) (inr (refl, λ f d. let bad = sym mute ∙ d.speaks in cc))
   | inr speaks ↦ subst P (sym (cond-false (ignored line) Undecided (form_of_parts (plain_of algos line)) speaks)) (elim (decided algos line (plain_of algos line) refl speaks) [
-      | inl d ↦ inl d
-      | inr none ↦ inr (ap form_of_parts none.0, none.1)
-    ])
+    | inl d ↦ inl d
+    | inr none ↦ inr (ap form_of_parts none.0, none.1)
+  ])
 ]
 
 is-form : (algos : Algos) (lines : List (List ℕ)) → IsForm algos lines (form algos lines)

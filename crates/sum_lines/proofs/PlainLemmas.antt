@@ -1,8 +1,8 @@
 -- A line that joins from the parts of a plain line is read as these parts, and no other line is read. No line is both
 -- plain and tagged, and either gives its parts once.
-use Rattle.std.proofs.Common.{ℕ, zero, suc, ◌≡◌, ◌+◌, ◌*◌, ◌<◌, ◌≤◌, Bool, true, false, cond, ◌==◌, nat_le, List, [], ◌∷◌, ◌++◌, length, Option, None, Some, Result, Ok, Err, refl, ap, sym, ◌∙◌, arith, ◌⊎◌, inl, inr, subst}
+use Rattle.std.proofs.Common.{ℕ, zero, suc, ◌≡◌, ◌*◌, ◌<◌, ◌≤◌, Bool, true, false, ◌==◌, List, [], ◌∷◌, ◌++◌, length, None, Some, Result, Ok, Err, refl, ap, sym, ◌∙◌, arith, inl, inr, subst}
 use Rattle.std.specs.List.{AllPass, take_while}
-use Rattle.std.proofs.lemmas.Bool.{cond-true, cond-false}
+use Rattle.std.proofs.lemmas.Bool.{cond-true}
 use Rattle.std.proofs.lemmas.Bool.Decides.{eqb_tells}
 use Rattle.std.proofs.lemmas.Option.{cond_some}
 use Rattle.std.proofs.lemmas.List.Elements.{All-head, All-tail}
@@ -15,9 +15,9 @@ use Rattle.digest_kinds.specs.declared.algo.Algo.TheVariants.{Md5, Sha1, Sha224,
 use Rattle.digest_kinds.specs.declared.algo.Algos.{Algos}
 use Rattle.digest_kinds.specs.declared.algo.Algos.TheVariants.{One, Any}
 use Rattle.sum_lines.specs.Shapes.{is_blank, mark, Plain, Tagged}
-use Rattle.sum_lines.specs.Scanned.{◌>>=◌, Parts, after_while, unmarked, sized, tail_of, plain_behind, plain_as, plain_of, tagged_of}
+use Rattle.sum_lines.specs.Scanned.{Parts, after_while, unmarked, sized, tail_of, plain_behind, plain_as, plain_of}
 use Rattle.sum_lines.proofs.FrontLemmas.{bind_some, front-passes, front-and-rest, front-at, rest-at, unmarked-is}
-use Rattle.sum_lines.proofs.TaggedLemmas.{Begins, unmarked-front, hex-no_blank, same_parts, tagged-front, tagged_is_read}
+use Rattle.sum_lines.proofs.TaggedLemmas.{Begins, unmarked-front, hex-no_blank, same_parts, tagged-front}
 
 -- ---- what is read joins to the line
 
@@ -72,7 +72,7 @@ read_is_plain_as a line p h =
       is_one_blank = t.1;
       some = t.3;
       whole = front-and-rest is_blank line ∙ ap (λ l. take_while is_blank line ++ l) (unmarked-is (after_while is_blank line) ∙ ap (λ l. mark u.0 ++ l) (front-and-rest is_hex_digit u.1 ∙ ap (λ l. take_while is_hex_digit u.1 ++ l) t.2))
-        ∙ ap (λ m. take_while is_blank line ++ (mark m ++ (take_while is_hex_digit u.1 ++ (t.0 ∷ p.text)))) (sym f.escaped);
+          ∙ ap (λ m. take_while is_blank line ++ (mark m ++ (take_while is_hex_digit u.1 ++ (t.0 ∷ p.text)))) (sym f.escaped);
     }
 
 pub read_is_plain : (algos : Algos) (line : List ℕ) (p : Parts) → plain_of algos line ≡ Some p → Plain algos line p.escaped p.kind p.digest p.text
@@ -97,9 +97,9 @@ blank-no_hex : (b : ℕ) → is_blank b ≡ true → is_hex_digit b ≡ false
 blank-no_hex b h = elim (eqb_tells b 32) [
   | inl same ↦ rw same.1 refl
   | inr other ↦ elim (eqb_tells b 9) [
-      | inl same ↦ rw same.1 refl
-      | inr another ↦ let p = rw (other.0, another.0) at h in cc
-    ]
+    | inl same ↦ rw same.1 refl
+    | inr another ↦ let p = rw (other.0, another.0) at h in cc
+  ]
 ]
 
 no_none : (a : Algo) → has_len a 0 ≡ true → ⊥

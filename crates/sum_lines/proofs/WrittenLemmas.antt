@@ -1,5 +1,5 @@
 -- A line that is written is read back.
-use Rattle.std.proofs.Common.{ℕ, ◌≡◌, ◌≢◌, ◌+◌, ◌*◌, ◌<◌, ◌≤◌, ◌↔◌, not, Bool, true, false, cond, ◌==◌, ◌||◌, ◌&&◌, nat_le, List, [], ◌∷◌, ◌++◌, length, refl, ap, sym, ◌∙◌, arith, ◌⊎◌, inl, inr, subst, append_assoc}
+use Rattle.std.proofs.Common.{ℕ, ◌≡◌, ◌≢◌, ◌*◌, ◌<◌, not, Bool, true, false, cond, ◌==◌, ◌||◌, nat_le, List, [], ◌∷◌, ◌++◌, length, refl, ap, sym, ◌∙◌, arith, ◌⊎◌, inl, inr, subst, append_assoc}
 use Rattle.std.specs.List.{All, AllPass, list_all}
 use Rattle.std.proofs.lemmas.List.Sums.{AllPass-from_list_all}
 use Rattle.std.specs.Str.{bytes_eq}
@@ -9,8 +9,8 @@ use Rattle.std.proofs.lemmas.Bool.Decides.{eqb_tells}
 use Rattle.std.proofs.lemmas.List.{append-nil}
 use Rattle.std.proofs.lemmas.List.Elements.{All-cons, All-nil, All-append, All-weaker}
 use Rattle.std.proofs.lemmas.Slice.Eq.{bytes_eq-Decides}
-use Rattle.hex.specs.Hex.{decode_of, encode_lower, is_hex_digit}
-use Rattle.hex.proofs.HexLemmas.{decode_of-encode_lower, decode_of-ok}
+use Rattle.hex.specs.Hex.{encode_lower, is_hex_digit}
+use Rattle.hex.proofs.HexLemmas.{decode_of-encode_lower}
 use Rattle.digest_kinds.specs.Kinds.{KindValue, full, has_len, tag}
 use Rattle.digest_kinds.specs.declared.algo.Algo.{Algo}
 use Rattle.digest_kinds.specs.declared.algo.Algo.TheVariants.{Md5, Sha1, Sha224, Sha256, Sha384, Sha512, Blake2b}
@@ -18,13 +18,12 @@ use Rattle.digest_kinds.specs.declared.algo.Algos.{Algos}
 use Rattle.digest_kinds.specs.declared.algo.Algos.TheVariants.{One, Any}
 use Rattle.sum_lines.specs.declared.line_reading.Form.{Form}
 use Rattle.sum_lines.specs.declared.line_reading.Form.TheVariants.{Undecided, Standard, Reversed}
-use Rattle.sum_lines.specs.declared.written.Mode.{Mode}
 use Rattle.sum_lines.specs.declared.written.Mode.TheVariants as modes
 use Rattle.sum_lines.specs.Escape.{escape, escape_of, escape_differs}
 use Rattle.sum_lines.specs.Lines as written
-use Rattle.sum_lines.specs.Shapes.{is_blank, mark, optional, Width, Allows, Plain, Tagged}
+use Rattle.sum_lines.specs.Shapes.{is_blank, mark, Width, Allows, Plain, Tagged}
 use Rattle.sum_lines.specs.Scanned.{is_digit}
-use Rattle.sum_lines.specs.Entries.{ignored, begins_standard, Decides, Spells, Spelled, kind_of, ByTag, ByTail, Entry, form_then, line_form, form}
+use Rattle.sum_lines.specs.Entries.{ignored, begins_standard, Decides, Spells, Spelled, kind_of, ByTail, Entry, form_then, line_form, form}
 use Rattle.sum_lines.specs.Laws.{ReadBy, Writable, SpellsBack, ReadBack}
 use Rattle.sum_lines.proofs.BitsLemmas.{decimal-digits}
 use Rattle.sum_lines.proofs.TaggedLemmas.{Begins, tag-begins}
@@ -216,13 +215,13 @@ plain-entry x kind name digest f w h is =
     let K : KindValue → Type 0 = λ k. Plain (One kind.algo) (plain_line x name digest) (escape_differs name) k digest (x ∷ escape name) in
     let F : Form → Type 0 = λ g. ByTail escape (One kind.algo) g (plain_line x name digest) (spelled kind name digest) in
     let by : ByTail escape (One kind.algo) Standard (plain_line x name digest) (spelled kind name digest) = record {
-          escaped = escape_differs name;
-          tail = x ∷ escape name;
-          raw = escape name;
-          plain = subst K (kind-is kind name digest w) (plain-written x kind name digest w);
-          is_raw = (standard x name w.some h, x, refl);
-          spells = spells kind name digest w;
-        } in
+      escaped = escape_differs name;
+      tail = x ∷ escape name;
+      raw = escape name;
+      plain = subst K (kind-is kind name digest w) (plain-written x kind name digest w);
+      is_raw = (standard x name w.some h, x, refl);
+      spells = spells kind name digest w;
+    } in
     (d.speaks, inr (subst F (sym is) by))
 
 -- ---- a tagged line
@@ -237,24 +236,25 @@ tagged-entry algos kind width name digest f fine is w =
     let space : AllPass is_blank (32 ∷ []) = All-cons (λ b. is_blank b ≡ true) 32 [] refl (All-nil (λ b. is_blank b ≡ true)) in
     let K : KindValue → Type 0 = λ k. Tagged algos (tagged_line kind width name digest) (escape_differs name) k digest (escape name) in
     let by : Tagged algos (tagged_line kind width name digest) (escape_differs name) kind digest (escape name) = record {
-          blanks = [];
-          width = width;
-          gap = true;
-          before = 32 ∷ [];
-          after = 32 ∷ [];
-          digits = encode_lower digest;
-          allowed = fine;
-          are_blanks = All-nil (λ b. is_blank b ≡ true);
-          is_width = is;
-          some = (rw s.are (omega arith));
-          before_blanks = space;
-          after_blanks = space;
-          spelled = decode_of-encode_lower digest w.bytes;
-          size = w.size;
-          whole = refl;
-        } in
-    (not_ignored (escape_differs name) (tag kind.algo) _ (tag-begins kind.algo),
-      inl (record { escaped = escape_differs name; raw = escape name; tagged = subst K (kind-is kind name digest w) by; spells = spells kind name digest w }))
+      blanks = [];
+      width = width;
+      gap = true;
+      before = 32 ∷ [];
+      after = 32 ∷ [];
+      digits = encode_lower digest;
+      allowed = fine;
+      are_blanks = All-nil (λ b. is_blank b ≡ true);
+      is_width = is;
+      some = (rw s.are (omega arith));
+      before_blanks = space;
+      after_blanks = space;
+      spelled = decode_of-encode_lower digest w.bytes;
+      size = w.size;
+      whole = refl;
+    } in (
+      not_ignored (escape_differs name) (tag kind.algo) _ (tag-begins kind.algo),
+      inl (record { escaped = escape_differs name; raw = escape name; tagged = subst K (kind-is kind name digest w) by; spells = spells kind name digest w }),
+    )
 
 -- ---- the law
 
@@ -271,7 +271,7 @@ Inline-digits kind name digest w = let ds = written-digits kind name digest w in
 Inline-plain : (x : ℕ) (kind : KindValue) (name digest : List ℕ) → Writable kind name digest → inline x ≡ true → All Inline (plain_line x name digest)
 Inline-plain x kind name digest w h =
     All-append Inline (mark (escape_differs name)) _ (Inline-mark (escape_differs name)) (All-append Inline (encode_lower digest) (32 ∷ x ∷ escape name) (Inline-digits kind name digest w)
-      (All-cons Inline 32 (x ∷ escape name) (Inline-test 32 refl) (All-cons Inline x (escape name) (Inline-test x h) (Inline-escape name))))
+    (All-cons Inline 32 (x ∷ escape name) (Inline-test 32 refl) (All-cons Inline x (escape name) (Inline-test x h) (Inline-escape name))))
 
 Inline-tagged : (kind : KindValue) (width name digest : List ℕ) → Width kind width → Writable kind name digest → All Inline (tagged_line kind width name digest)
 Inline-tagged kind width name digest is w =
@@ -317,7 +317,7 @@ tagged-back algos kind name digest before later fine w =
     let l : List ℕ = tagged_line kind t.width name digest in
     let T : List ℕ → Type 0 = λ x. SpellsBack algos before later x kind name digest in
     subst T (sym (tagged-text kind t name digest)) (back algos before later kind name digest l (Inline-tagged kind t.width name digest t.is_width w)
-      (tagged-entry algos kind t.width name digest (form algos (before ++ (l ∷ later))) fine t.is_width w))
+    (tagged-entry algos kind t.width name digest (form algos (before ++ (l ∷ later))) fine t.is_width w))
 
 text-reads : (algos : Algos) (algo : Algo) → ReadBy algos modes.Text algo → algos ≡ One algo
 text-reads (One a) algo h = ap One h
