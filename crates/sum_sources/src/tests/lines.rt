@@ -39,6 +39,14 @@ fn ends(rt: HostRuntime) {
     let fault = Err(LineStop::Fault(Fault::Other));
     let other = Ending::Broken(Fault::Other);
     reads(&rt, ABC, Ending::Whole, &[ABC], Ok(Next::NoMore));
+    let five: [&[u8]; 5] = [b"M  a", b"#c", b"junk", b"M *x", b"M  e"];
+    reads(
+        &rt,
+        b"M  a\n#c\njunk\nM *x\nM  e\n",
+        Ending::Whole,
+        &five,
+        Ok(Next::NoMore),
+    );
     reads(&rt, b"one\ntwo", other, &[b"one"], fault);
     reads(&rt, b"", Ending::Whole, &[], Ok(Next::NoMore));
     reads(&rt, b"", other, &[], fault);
