@@ -72,7 +72,8 @@ fn drop_return(line: &mut Vec<u8>)
 impl<I: Input> LineReader<I> {
     ghost use Rattle.std.specs.Option.{option_map};
     ghost use Rattle.sum_sources.specs.Contents.{WhereTold, clip};
-    ghost use Rattle.sum_sources.specs.LineReading.{LineOf, PieceOf, FillOf, TakesPiece, lines_after, buffered, taken_of, used_of, count_of, left, ahead, coming, answer_of, has_stopped};
+    ghost use Rattle.sum_sources.specs.ManifestLines.{LineOf, lines_after};
+    ghost use Rattle.sum_sources.specs.LineReading.{PieceOf, FillOf, TakesPiece, buffered, taken_of, used_of, count_of, left, ahead, coming, answer_of, has_stopped};
 
     /// A reader of the lines of `input`. An input of `LIMIT` bytes or more counts as its first
     /// `LIMIT - 1` bytes and then `Fault::Other`.
