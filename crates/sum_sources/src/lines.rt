@@ -72,7 +72,8 @@ fn drop_return(line: &mut Vec<u8>)
 impl<I: Input> LineReader<I> {
     ghost use Rattle.std.specs.Option.{option_map};
     ghost use Rattle.sum_sources.specs.Contents.{WhereTold, clip};
-    ghost use Rattle.sum_sources.specs.LineReading.{LineOf, PieceOf, FillOf, TakesPiece, lines_after, buffered, taken_of, used_of, count_of, left, ahead, coming, answer_of, has_stopped};
+    ghost use Rattle.sum_sources.specs.ManifestLines.{LineOf, lines_after};
+    ghost use Rattle.sum_sources.specs.LineReading.{PieceOf, FillOf, TakesPiece, buffered, taken_of, used_of, count_of, left, ahead, coming, answer_of, has_stopped};
 
     /// A reader of the lines of `input`. An input of `LIMIT` bytes or more counts as its first
     /// `LIMIT - 1` bytes and then `Fault::Other`.
@@ -187,16 +188,14 @@ impl<I: Input> LineReader<I> {
             (λ c d. used_of self.new + length d.bytes ≡ used_of self.old + length c.bytes)) }
         ensures input { WhereTold (left I.content self.old) (left I.content self.new)
             (λ c d. self.new.taken + length d.bytes ≡ self.old.taken + length c.bytes) }
-        ensures lines { self.new.lines ≡ lines_after self.old.lines result }
+        ensures some { result ≡ Ok Next.Line → used_of self.old < used_of self.new }
+        ensures lines { self.new.lines ≡ self.old.lines }
         ensures ended { result ≡ Ok Next.NoMore → self.new.state ≡ State.Ended }
         ensures going { OnOk result (has_stopped self.new ≡ false) }
     {
         loop {
             match self.take_piece(line) {
-                Ok(true) => {
-                    self.lines += 1;
-                    return Ok(Next::Line);
-                }
+                Ok(true) => return Ok(Next::Line),
                 Ok(false) => {}
                 Err(_) => return Err(LineStop::Memory),
             }
@@ -207,7 +206,6 @@ impl<I: Input> LineReader<I> {
                     if line.is_empty() {
                         return Ok(Next::NoMore);
                     }
-                    self.lines += 1;
                     return Ok(Next::Line);
                 }
                 Err(fault) => return Err(LineStop::Fault(fault)),
@@ -242,7 +240,10 @@ impl<I: Input> LineReader<I> {
         line.clear();
         let result = self.read_on(line);
         match result {
-            Ok(Next::Line) => drop_return(line),
+            Ok(Next::Line) => {
+                drop_return(line);
+                self.lines += 1;
+            }
             Ok(Next::NoMore) => {}
             Err(stop) => self.state = State::Stopped(stop),
         }

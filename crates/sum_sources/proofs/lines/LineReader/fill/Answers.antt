@@ -1,13 +1,14 @@
-use Rattle.std.proofs.Common.{rules, ◌≡◌, ◌≢◌, ◌≤◌, ◌<◌, ◌-◌, ℕ, List, [], length, take, drop, arith, ap, refl, ◌∙◌}
+use Rattle.std.proofs.Common.{rules, ◌≡◌, ◌≤◌, ◌<◌, ◌-◌, ℕ, [], length, take, arith, ap, refl, ◌∙◌}
 use Rattle.std.proofs.lemmas.Result.{err_from_is_err_and}
 use Rattle.std.proofs.lemmas.List.{length-take-le, take-take}
+use Rattle.sum_sources.specs.LineReading.{buffered}
 use Rattle.sum_sources.proofs.FillLemmas.{filled, filled_end, filled_fault, filled_long, none_buffered}
 use Rattle.sum_sources.proofs.lines.LineReader.fill.Goals as goal
 
 pub returns-in_err-n-clause-gives : goal.returns-in_err-n-clause-gives
 returns-in_err-n-clause-gives g c =
     let fault = err_from_is_err_and c.from_residual.result c.from_residual.ensures.1 in
-    rw (fault.1, fault.2) (filled_fault _ _ _ [] _ _ c.args.self.now.taken (none_buffered _ _ _ c.requires.empty) c.in_err-n.ensures.bytes (omega arith))
+    rw (fault.1, fault.2) (filled_fault _ _ (buffered c.args.self.now) [] _ _ c.args.self.now.taken (none_buffered _ _ _ c.requires.empty) c.in_err-n.ensures.bytes (omega arith))
 
 pub returns-then-n-eq0-clause-gives : goal.returns-then-n-eq0-clause-gives
 returns-then-n-eq0-clause-gives g c =
@@ -20,7 +21,7 @@ returns-then-room-eq0-clause-gives g c =
 pub returns-in_err-n-2-clause-gives : goal.returns-in_err-n-2-clause-gives
 returns-in_err-n-2-clause-gives g c =
     let fault = err_from_is_err_and c.from_residual-in_err-n-2.result c.from_residual-in_err-n-2.ensures.1 in
-    rw (fault.1, fault.2) (filled_fault _ _ _ [] _ _ c.args.self.now.taken (none_buffered _ _ _ c.requires.empty) c.in_err-n-2.ensures.bytes (omega arith))
+    rw (fault.1, fault.2) (filled_fault _ _ (buffered c.args.self.now) [] _ _ c.args.self.now.taken (none_buffered _ _ _ c.requires.empty) c.in_err-n-2.ensures.bytes (omega arith))
 
 pub returns-clause-gives : goal.returns-clause-gives
 returns-clause-gives g c =
