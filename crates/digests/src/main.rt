@@ -10,6 +10,9 @@ pub mod texts;
 pub mod tool;
 pub mod words;
 
+#[cfg(test)]
+mod tests;
+
 fn main(rt: HostRuntime) {
     let _ = arguments::read_command_line(&rt).is_ok();
 }
