@@ -5,3 +5,4 @@ mod WordLemmas
 mod ReadingLemmas
 mod TextLemmas
 mod Rows
+mod PlainLemmas

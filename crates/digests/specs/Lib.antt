@@ -7,3 +7,4 @@ pub mod Request
 pub mod Reading
 pub mod Texts
 pub mod Shown
+pub mod PlainWords

@@ -4,6 +4,7 @@
 pub mod arguments;
 pub mod faults;
 pub mod items;
+pub mod laws;
 pub mod options;
 pub mod reading;
 pub mod texts;
