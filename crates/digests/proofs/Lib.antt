@@ -6,3 +6,4 @@ mod ReadingLemmas
 mod RunLemmas
 mod TextLemmas
 mod Rows
+mod PlainLemmas

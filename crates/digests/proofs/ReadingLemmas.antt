@@ -22,7 +22,8 @@ or-false false = refl
 
 -- before the first item nothing was said
 abbrev pub unsaid : Options
-unsaid = record { mode = None; report = None; length = None; binary = false; check = false; tag = false; text = false; zero = false; ignore_missing = false; strict = false }
+unsaid = record { mode = None; report = None; length = None; binary = false; check = false; tag = false; text =
+    false; zero = false; ignore_missing = false; strict = false }
 
 pub after-unsaid : (xs : List Item) → after unsaid xs ≡ options xs
 after-unsaid xs = simp (or_else-none, or-false)
@@ -69,14 +70,17 @@ number_if : (value : Text) → 0 < length value → all_ascii_digits value ≡ t
 number_if [] some digits = absurd (omega arith)
 number_if (b ∷ bs) some digits = digits
 
-number_told : {E : Type 0} (value : Text) (r : Result ℕ E) → OkIff r ((0 < length value) × (digits_value 10 value < 2 ^ 64)) (digits_value 10 value) → all_ascii_digits value ≡ true → IsNumberOf value (result_ok r)
+number_told : {E : Type 0} (value : Text) (r : Result ℕ E) →
+    OkIff r ((0 < length value) × (digits_value 10 value < 2 ^ 64)) (digits_value 10 value) →
+    all_ascii_digits value ≡ true → IsNumberOf value (result_ok r)
 number_told value (Ok n) h digits = (number_if value h.0.0 digits, h.1)
 number_told value (Err e) h digits = λ number. elim (cases_lt (digits_value 10 value) (2 ^ 64)) [
   | inl small ↦ absurd (h (some_digits value number, small))
   | inr large ↦ large
 ]
 
-pub number_parsed : {E : Type 0} (value : Text) (r : Result ℕ E) → ParsesUnsigned 64 10 value r → all_ascii_digits value ≡ true → IsNumberOf value (result_ok r)
+pub number_parsed : {E : Type 0} (value : Text) (r : Result ℕ E) → ParsesUnsigned 64 10 value r →
+    all_ascii_digits value ≡ true → IsNumberOf value (result_ok r)
 number_parsed value r h digits = number_told value r (parse_digits numerals 64 value r h digits) digits
 
 pub no_number : (value : Text) → all_ascii_digits value ≡ false → IsNumberOf value None

@@ -16,7 +16,8 @@ use Rattle.digests.specs.Items.{Text, resolved, lettered}
 use Rattle.digests.specs.Request.{request}
 
 abbrev pub writes : Algo → ℕ → Mode → List Text → Result Request Fault
-writes algo len mode operands = Ok (Generate (record { kind = record { algo = algo; len = len }; style = record { mode = mode; zero = false } }) operands)
+writes algo len mode operands = Ok (Generate
+    (record { kind = record { algo = algo; len = len }; style = record { mode = mode; zero = false } }) operands)
 
 -- length faults
 length_faults_1 : request B2sum (codes "-l" ∷ codes "520" ∷ codes "e" ∷ []) ≡ Err (length_invalid (codes "520"))
@@ -31,7 +32,8 @@ length_faults_3 : request B2sum (codes "-l" ∷ codes "12" ∷ codes "e" ∷ [])
 unfolding chars encode resolved lettered
 length_faults_3 = refl
 
-length_faults_4 : request B2sum (codes "-l" ∷ codes "12" ∷ codes "-l" ∷ codes "8" ∷ codes "e" ∷ []) ≡ writes Blake2b 1 modes.Text (codes "e" ∷ [])
+length_faults_4 : request B2sum (codes "-l" ∷ codes "12" ∷ codes "-l" ∷ codes "8" ∷ codes "e" ∷ [])
+    ≡ writes Blake2b 1 modes.Text (codes "e" ∷ [])
 unfolding chars encode resolved lettered
 length_faults_4 = refl
 
@@ -119,7 +121,8 @@ length_values_2 : request B2sum (codes "--help" ∷ codes "-l" ∷ []) ≡ Ok He
 unfolding chars encode resolved lettered
 length_values_2 = refl
 
-length_values_3 : request B2sum (codes "--len" ∷ codes "256" ∷ codes "e" ∷ []) ≡ writes Blake2b 32 modes.Text (codes "e" ∷ [])
+length_values_3 : request B2sum (codes "--len" ∷ codes "256" ∷ codes "e" ∷ [])
+    ≡ writes Blake2b 32 modes.Text (codes "e" ∷ [])
 unfolding chars encode resolved lettered
 length_values_3 = refl
 
@@ -127,15 +130,18 @@ length_values_4 : request B2sum (codes "-bl256" ∷ codes "e" ∷ []) ≡ writes
 unfolding chars encode resolved lettered
 length_values_4 = refl
 
-length_values_5 : request B2sum (codes "-l" ∷ codes "0256" ∷ codes "e" ∷ []) ≡ writes Blake2b 32 modes.Text (codes "e" ∷ [])
+length_values_5 : request B2sum (codes "-l" ∷ codes "0256" ∷ codes "e" ∷ [])
+    ≡ writes Blake2b 32 modes.Text (codes "e" ∷ [])
 unfolding chars encode resolved lettered
 length_values_5 = refl
 
-length_values_6 : request B2sum (codes "-l" ∷ codes "0" ∷ codes "--tag" ∷ codes "e" ∷ []) ≡ writes Blake2b 64 modes.Tag (codes "e" ∷ [])
+length_values_6 : request B2sum (codes "-l" ∷ codes "0" ∷ codes "--tag" ∷ codes "e" ∷ [])
+    ≡ writes Blake2b 64 modes.Tag (codes "e" ∷ [])
 unfolding chars encode resolved lettered
 length_values_6 = refl
 
-length_values_7 : request B2sum (codes "-l" ∷ codes "512" ∷ codes "--tag" ∷ codes "e" ∷ []) ≡ writes Blake2b 64 modes.Tag (codes "e" ∷ [])
+length_values_7 : request B2sum (codes "-l" ∷ codes "512" ∷ codes "--tag" ∷ codes "e" ∷ [])
+    ≡ writes Blake2b 64 modes.Tag (codes "e" ∷ [])
 unfolding chars encode resolved lettered
 length_values_7 = refl
 
@@ -152,11 +158,13 @@ unfolding chars encode resolved lettered
 length_values_10 = refl
 
 -- long lengths
-long_lengths_1 : request B2sum (codes "-l" ∷ codes "99999999999999999999999999999999999999999999999999" ∷ codes "e" ∷ []) ≡ Err (length_invalid (codes "99999999999999999999999999999999999999999999999999"))
+long_lengths_1 : request B2sum (codes "-l" ∷ codes "99999999999999999999999999999999999999999999999999" ∷ codes "e" ∷
+    []) ≡ Err (length_invalid (codes "99999999999999999999999999999999999999999999999999"))
 unfolding chars encode resolved lettered
 long_lengths_1 = refl
 
-long_lengths_2 : request B2sum (codes "-l" ∷ codes "0000000000000000000000000000008" ∷ codes "e" ∷ []) ≡ writes Blake2b 1 modes.Text (codes "e" ∷ [])
+long_lengths_2 : request B2sum (codes "-l" ∷ codes "0000000000000000000000000000008" ∷ codes "e" ∷ [])
+    ≡ writes Blake2b 1 modes.Text (codes "e" ∷ [])
 unfolding chars encode resolved lettered
 long_lengths_2 = refl
 
@@ -173,11 +181,13 @@ order_of_faults_3 : request Md5sum (codes "-c" ∷ codes "-b" ∷ codes "l" ∷ 
 unfolding chars encode resolved lettered
 order_of_faults_3 = refl
 
-order_of_faults_4 : request Md5sum (codes "--strict" ∷ codes "--ignore-missing" ∷ codes "a" ∷ []) ≡ Err ignore_without_check
+order_of_faults_4 : request Md5sum (codes "--strict" ∷ codes "--ignore-missing" ∷ codes "a" ∷ [])
+    ≡ Err ignore_without_check
 unfolding chars encode resolved lettered
 order_of_faults_4 = refl
 
-order_of_faults_5 : request Md5sum (codes "--quiet" ∷ codes "-w" ∷ codes "--status" ∷ codes "a" ∷ []) ≡ Err status_without_check
+order_of_faults_5 : request Md5sum (codes "--quiet" ∷ codes "-w" ∷ codes "--status" ∷ codes "a" ∷ [])
+    ≡ Err status_without_check
 unfolding chars encode resolved lettered
 order_of_faults_5 = refl
 
@@ -185,7 +195,8 @@ order_of_faults_6 : request Md5sum (codes "--status" ∷ codes "-w" ∷ codes "a
 unfolding chars encode resolved lettered
 order_of_faults_6 = refl
 
-order_of_faults_7 : request Md5sum (codes "-c" ∷ codes "-t" ∷ codes "--tag" ∷ codes "-t" ∷ codes "l" ∷ []) ≡ Err tag_with_text
+order_of_faults_7 : request Md5sum (codes "-c" ∷ codes "-t" ∷ codes "--tag" ∷ codes "-t" ∷ codes "l" ∷ [])
+    ≡ Err tag_with_text
 unfolding chars encode resolved lettered
 order_of_faults_7 = refl
 
@@ -229,10 +240,15 @@ unfolding chars encode resolved lettered
 version_1 = refl
 
 -- checking
-checking_1 : request Anysum (codes "-c" ∷ codes "--strict" ∷ codes "-w" ∷ codes "m" ∷ codes "n" ∷ []) ≡ Ok (Check (record { algo = Any; report = reports.Warn; strict = true; ignore_missing = false }) (codes "m" ∷ codes "n" ∷ []))
+checking_1 : request Anysum (codes "-c" ∷ codes "--strict" ∷ codes "-w" ∷ codes "m" ∷ codes "n" ∷ [])
+    ≡ Ok (Check (record { algo = Any; report = reports.Warn; strict = true; ignore_missing = false })
+    (codes "m" ∷ codes "n" ∷ []))
 unfolding chars encode resolved lettered
 checking_1 = refl
 
-checking_2 : request B2sum (codes "-c" ∷ codes "-l" ∷ codes "8" ∷ codes "--status" ∷ codes "--quiet" ∷ codes "--ignore-missing" ∷ codes "-" ∷ codes "l" ∷ []) ≡ Ok (Check (record { algo = One Blake2b; report = reports.Quiet; strict = false; ignore_missing = true }) (codes "-" ∷ codes "l" ∷ []))
+checking_2 : request B2sum (codes "-c" ∷ codes "-l" ∷ codes "8" ∷ codes "--status" ∷ codes "--quiet" ∷ codes
+    "--ignore-missing" ∷ codes "-" ∷ codes "l" ∷ [])
+    ≡ Ok (Check (record { algo = One Blake2b; report = reports.Quiet; strict = false; ignore_missing = true })
+    (codes "-" ∷ codes "l" ∷ []))
 unfolding chars encode resolved lettered
 checking_2 = refl

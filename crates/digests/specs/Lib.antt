@@ -9,3 +9,4 @@ pub mod Meaning
 pub mod Runs
 pub mod Texts
 pub mod Shown
+pub mod PlainWords

@@ -134,11 +134,17 @@ report_of report =
 
 abbrev pub generation : Algos → Option KindValue → Options → List Text → Result Request Fault
 generation Any kind o words = Err check_needed
-generation (One algo) kind o words = Ok (Generate (record { kind = unwrap_or kind (full_kind algo); style = record { mode = mode_of o; zero = o.zero } }) words)
+generation (One algo) kind o words =
+    Ok (Generate (record { kind = unwrap_or kind (full_kind algo); style =
+        record { mode = mode_of o; zero = o.zero } }) words)
 
 abbrev pub asked : Tool → Option KindValue → Options → List Text → Result Request Fault
 asked t kind o words =
-    if o.check then Ok (Check (record { algo = algos_of t; report = report_of o.report; strict = o.strict; ignore_missing = o.ignore_missing }) words)
+    if o.check then Ok (Check (record {
+      algo = algos_of t;
+      report = report_of o.report;
+      strict = o.strict;
+      ignore_missing = o.ignore_missing }) words)
     else generation (algos_of t) kind o words
 
 -- a fault of the length value counts before these faults
@@ -160,7 +166,10 @@ settled t (Ok kind) o words = unless (first_of holding (faults o)) (asked t kind
 
 -- the first fault among the items, --help or --version decides where there is one
 abbrev pub ends : Item → Option (Result Request Fault)
-ends (option full) = if bytes_eq full (codes "help") then Some (Ok Help) else if bytes_eq full (codes "version") then Some (Ok Version) else None
+ends (option full) =
+    if bytes_eq full (codes "help") then Some (Ok Help)
+    else if bytes_eq full (codes "version") then Some (Ok Version)
+    else None
 ends (length_value value) = None
 ends (operand word) = None
 ends (fault f) = Some (Err f)

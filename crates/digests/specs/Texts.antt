@@ -42,7 +42,8 @@ fault_lines t f = lines_of (name_of t) (fault_text f)
 
 -- help: what the tool is for, and its options
 abbrev pub purpose : Algos → Text
-purpose (One algo) = codes "Print or check " ++ tag algo ++ codes " checksums. With no FILE, or when FILE is -, read standard input.\n"
+purpose (One algo) =
+    codes "Print or check " ++ tag algo ++ codes " checksums. With no FILE, or when FILE is -, read standard input.\n"
 purpose Any = codes "Check checksums of tagged lines. With no FILE, or when FILE is -, read standard input.\n"
 
 abbrev pub length_help : Tool → Text
@@ -50,7 +51,9 @@ length_help tools.B2sum = codes "  -l, --length=BITS     digest length in bits, 
 length_help t = []
 
 abbrev pub first_options : Text
-first_options = codes "  -b, --binary          mark each line as binary\n  -c, --check           read checksums from the FILEs and check them\n"
+first_options =
+     codes "  -b, --binary          mark each line as binary\n"
+  ++ codes "  -c, --check           read checksums from the FILEs and check them\n"
 
 abbrev pub last_options : Text
 last_options =
@@ -66,7 +69,12 @@ last_options =
   ++ codes "      --version         print the version\n"
 
 abbrev pub help : Tool → Text
-help t = codes "Usage: " ++ name_of t ++ codes " [OPTION]... [FILE]...\n" ++ purpose (algos_of t) ++ first_options ++ length_help t ++ last_options
+help t =
+     codes "Usage: " ++ name_of t ++ codes " [OPTION]... [FILE]...\n"
+  ++ purpose (algos_of t)
+  ++ first_options
+  ++ length_help t
+  ++ last_options
 
 abbrev pub version : Tool → Text
 version t = name_of t ++ codes " (digests), profile 2\n"

@@ -7,7 +7,8 @@ use Rattle.digests.proofs.ReadingLemmas.{after-unsaid, after-then, ends_not}
 use Rattle.digests.proofs.reading.read_options.Goals as goal
 
 pub loop-item-init : goal.loop-item-init
-loop-item-init c = rw c.new-items.ensures (record { options = after-unsaid (items c.args.tool c.args.words.now); ends = refl })
+loop-item-init c = rw c.new-items.ensures
+    (record { options = after-unsaid (items c.args.tool c.args.words.now); ends = refl })
 
 pub loop-item-preserved-in_default-flag : goal.loop-item-preserved-in_default-flag
 loop-item-preserved-in_default-flag c =
@@ -17,6 +18,7 @@ loop-item-preserved-in_default-flag c =
     record {
       options = ap (λ o. after o rest) c.with_flag-chosen.ensures ∙ after-then (chosen_of c.loop-item.chosen) one rest
         ∙ ap (after (chosen_of c.loop-item.chosen)) (sym taken) ∙ c.loop-item.invariant.options;
-      ends = sym (ap (λ e. or_else e (first_of ends rest)) (ends_not c.in-Flag.flag c.in_default-flag.not-Help c.in_default-flag.not-Version))
+      ends = sym (ap (λ e. or_else e (first_of ends rest))
+          (ends_not c.in-Flag.flag c.in_default-flag.not-Help c.in_default-flag.not-Version))
         ∙ ap (first_of ends) (sym taken) ∙ c.loop-item.invariant.ends;
     }
