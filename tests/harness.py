@@ -20,8 +20,8 @@ PROGRAM = ""
 WITHOUT_CHECK = False
 
 TOP = os.path.dirname(os.path.dirname(os.path.abspath(__file__)))
-RUN_SECONDS = 40
-TEST_SECONDS = 60
+RUN_SECONDS = 100
+TEST_SECONDS = 120
 
 M = "900150983cd24fb0d6963f7d28e17f72"  # MD5 of "abc"
 E = "d41d8cd98f00b204e9800998ecf8427e"  # MD5 of nothing

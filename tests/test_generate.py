@@ -4,7 +4,6 @@ import hashlib
 import os
 import pwd
 import shutil
-import unittest
 
 import harness
 from harness import B, E, M, S, TOOLS, Case, Ran
@@ -219,7 +218,3 @@ class Operands(Case):
         os.chmod(self.path("l"), 0)
         ran = self.run_command([program, "md5sum", "-c", "l"], **how)
         self.assertEqual(ran, Ran(1, b"", b"md5sum: l: Permission denied\n"))
-
-
-if __name__ == "__main__":
-    unittest.main()
