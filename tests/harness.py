@@ -91,6 +91,18 @@ def gnu(tool):
     return path if b"GNU coreutils" in said.stdout else None
 
 
+# "All verdicts": a manifest that comes to every verdict, what it writes to both outputs, and its words.
+VERDICTS = [f"{M}  a", "#c", "junk", f"{M} *x", f"{M}  e"]
+VERDICTS_OUT = as_bytes(["a: OK", "x: FAILED open or read", "e: FAILED"])
+X_MISSING = "md5sum: x: No such file or directory"
+VERDICTS_ERR = as_bytes([
+    X_MISSING,
+    "md5sum: WARNING: 1 line is improperly formatted",
+    "md5sum: WARNING: 1 listed file could not be read",
+    "md5sum: WARNING: 1 computed checksum did NOT match",
+])
+
+
 def needs_check(test):
     """Marks a test, or a class of tests, that calls the checker."""
     return unittest.skipIf(WITHOUT_CHECK, "checking is left out")(test)
@@ -178,6 +190,17 @@ class Case(unittest.TestCase):
         self.addCleanup(os.close, shows)
         return shows, writes
 
+    def broken_input(self, content):
+        """An input that gives this content and then a fault: the master side of a terminal that nobody writes to any more."""
+        reads, writes = pty.openpty()
+        tty.setraw(writes)
+        self.addCleanup(os.close, reads)
+        content = as_bytes(content)
+        while content:
+            content = content[os.write(writes, content):]
+        os.close(writes)
+        return reads
+
     def shown(self, descriptor, text, seconds=10):
         """Waits until a terminal or pipe has given so many bytes as the text has, and compares them."""
         wanted, got = as_bytes(text), b""
@@ -195,13 +218,13 @@ class Case(unittest.TestCase):
             got += piece
         self.assertEqual(got, wanted)
 
-    def peak_of(self, words, stdin=None, out="out"):
+    def peak_of(self, words, out="out", **how):
         """Runs `digests` with standard output into the file `out`: its status, its standard error and its peak memory in
         bytes. A process of its own starts it, since a child counts the memory of the one that it was forked from."""
         peak_file = self.path("peak")
         watcher = [sys.executable, "-IS", os.path.join(TOP, "tests", "peak.py"), peak_file, PROGRAM, *as_words(words)]
         with open(self.path(out), "wb") as sink:
-            ran = self.run_command(watcher, stdin or subprocess.DEVNULL, stdout=sink)
+            ran = self.run_command(watcher, stdout=sink, **how)
         return ran.status, ran.err, int(self.read("peak"))
 
 

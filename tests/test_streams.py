@@ -7,20 +7,10 @@ import signal
 import subprocess
 
 import harness
-from harness import E, M, TOOLS, Case, Ran, as_bytes, limits, needs_check
+from harness import E, M, TOOLS, VERDICTS, VERDICTS_ERR, VERDICTS_OUT, X_MISSING, Case, Ran, as_bytes, limits, needs_check
 
 FULL = "/dev/full"
 WRITE_ERROR = b"md5sum: write error\n"
-
-# "All verdicts": a manifest that comes to every verdict, what it writes to both outputs, and its words.
-VERDICTS = [f"{M}  a", "#c", "junk", f"{M} *x", f"{M}  e"]
-VERDICTS_OUT = as_bytes(["a: OK", "x: FAILED open or read", "e: FAILED"])
-VERDICTS_ERR = as_bytes([
-    "md5sum: x: No such file or directory",
-    "md5sum: WARNING: 1 line is improperly formatted",
-    "md5sum: WARNING: 1 listed file could not be read",
-    "md5sum: WARNING: 1 computed checksum did NOT match",
-])
 
 
 class StandardInput(Case):
@@ -73,6 +63,36 @@ class StandardInput(Case):
         self.assertEqual(out, as_bytes([f"{M}  -", f"{E}  -"]))
 
 
+class BrokenInput(Case):
+    """Standard input that gives bytes and then a fault."""
+
+    def test_a_content_that_breaks_off_has_no_digest(self):
+        for content in ("", "abc", "y" * 300, "y" * 9000):
+            with self.subTest(length=len(content)):
+                broken = self.broken_input(content)
+                self.expect("md5sum - a", stdin=broken, out=[f"{M}  a"], err=["md5sum: -: Input/output error"], status=1)
+
+    @needs_check
+    def test_a_listed_standard_input_that_breaks_off(self):
+        self.write("l", [f"{M}  -", f"{M}  a"])
+        self.expect("md5sum -c l", stdin=self.broken_input("abc"), out=["-: FAILED open or read", "a: OK"], status=1,
+                    err=["md5sum: -: Input/output error", "md5sum: WARNING: 1 listed file could not be read"])
+
+    @needs_check
+    def test_a_manifest_cut_at_every_byte(self):
+        """Only lines that a newline ended are reported, then the fault, and no summary."""
+        manifest = as_bytes(VERDICTS)
+        fault = "md5sum: standard input: Input/output error"
+        reports = {len(as_bytes(VERDICTS[:n])): n for n in range(6)}
+        handled = 0
+        for cut in range(len(manifest) + 1):
+            handled = reports.get(cut, handled)
+            out = VERDICTS_OUT.splitlines()[: [0, 1, 1, 1, 2, 3][handled]]
+            err = [X_MISSING, fault] if handled >= 4 else [fault]
+            with self.subTest(cut=cut):
+                self.expect("md5sum -c", stdin=self.broken_input(manifest[:cut]), out=out, err=err, status=1)
+
+
 class Outputs(Case):
     """Outputs that fail, end or are slow."""
 
@@ -89,7 +109,7 @@ class Outputs(Case):
 
     def test_nothing_to_write_needs_no_output(self):
         with open(FULL, "wb") as full:
-            self.expect("md5sum x", err=["md5sum: x: No such file or directory"], status=1, stdout=full)
+            self.expect("md5sum x", err=[X_MISSING], status=1, stdout=full)
 
     def test_standard_output_closed(self):
         ran = self.run_command(["sh", "-c", 'exec "$0" md5sum a >&-', harness.PROGRAM])
@@ -117,7 +137,7 @@ class Outputs(Case):
     def test_both_outputs_in_one_file(self):
         with open(self.path("both"), "wb") as both:
             self.assertEqual(self.run_words("md5sum a x e", stdout=both, stderr=subprocess.STDOUT).status, 1)
-        lines = [f"{M}  a", "md5sum: x: No such file or directory", f"{E}  e"]
+        lines = [f"{M}  a", X_MISSING, f"{E}  e"]
         self.assertEqual(sorted(self.read("both").splitlines()), sorted(map(str.encode, lines)))
 
     def test_a_reader_that_goes_away(self):
@@ -156,7 +176,7 @@ class Outputs(Case):
         shows, writes = self.terminal()
         started = self.start("md5sum x p", stdout=subprocess.DEVNULL, stderr=writes)
         os.close(writes)
-        self.shown(shows, ["md5sum: x: No such file or directory"])
+        self.shown(shows, [X_MISSING])
         with open(self.path("p"), "wb"):
             pass
         self.assertEqual(started.wait(timeout=harness.RUN_SECONDS), 1)
@@ -164,7 +184,7 @@ class Outputs(Case):
     def test_a_pipe_as_standard_error_has_faults_at_once(self):
         os.mkfifo(self.path("p"))
         started = self.start("md5sum x p", stdout=subprocess.DEVNULL, stderr=subprocess.PIPE)
-        self.shown(started.stderr.fileno(), ["md5sum: x: No such file or directory"])
+        self.shown(started.stderr.fileno(), [X_MISSING])
         with open(self.path("p"), "wb"):
             pass
         self.assertEqual(started.wait(timeout=harness.RUN_SECONDS), 1)
