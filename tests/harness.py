@@ -1,6 +1,7 @@
 """What the end-to-end tests share: a folder for each test, a run of the program with a time limit, and the values that
 the tests expect. The values are those of the standards, and were not taken from any output of the program."""
 
+import functools
 import os
 import pty
 import resource
@@ -82,6 +83,7 @@ def as_words(words):
     return words.split(" ") if isinstance(words, str) else list(words)
 
 
+@functools.lru_cache
 def gnu(tool):
     """The path of GNU coreutils' tool of that name, or None where it is not installed."""
     path = shutil.which(tool)
