@@ -1,0 +1,5 @@
+pub mod Digests
+pub mod Digits
+pub mod Kinds
+pub mod Lengths
+pub mod Tags

@@ -1,0 +1,82 @@
+//! A digest.
+
+ghost use Rattle.std.specs.Prelude.{◌≡◌, ◌*◌, ◌++◌, ◌≤◌, ◌↔◌, IsTrue, drop, length, IsSome, IfSome, Ok};
+ghost use Rattle.digest_kinds.specs.Digits.{IsDigits};
+ghost use Rattle.hex.specs.Hex.{decode_of, encode_lower};
+
+use std::marker::Model;
+
+/// A digest, of 1 to 64 bytes.
+#[derive(Debug, Drop)]
+pub struct Digest {
+    bytes: [u8; 64],
+    len: usize,
+}
+
+impl Model for Digest {
+    ghost use Rattle.std.specs.Prelude.{ℕ, ◌≤◌, List, take};
+
+    ghost Value = { List ℕ };
+
+    ghost view = { λ d. take d.len d.bytes };
+
+    ghost invariant = { λ d. (1 ≤ d.len) × (d.len ≤ 64) };
+}
+
+impl Digest {
+    /// The digest of these bytes.
+    pub(crate) fn of_bytes(digest: &[u8]) -> Digest
+        requires some { 1 ≤ length digest.now }
+        requires few { length digest.now ≤ 64 }
+        ensures { result ≡ digest.now }
+    {
+        let mut bytes = [0; 64];
+        bytes[..digest.len()].copy_from_slice(digest);
+        Digest {
+            bytes,
+            len: digest.len(),
+        }
+    }
+
+    /// The digest that the digits spell, in either case; None exactly where the text isn't 2 to 128 hexadecimal digits
+    /// of an even count.
+    pub fn from_hex(text: &[u8]) -> Option<Digest>
+        ensures value { IfSome result (λ digest. decode_of text.now ≡ Ok digest) }
+        ensures found { IsSome result ↔ IsDigits text.now }
+    {
+        let len = text.len() / 2;
+        if len < 1 || len > 64 {
+            return None;
+        }
+        let mut bytes = [0; 64];
+        hex::decode_to_slice(text, &mut bytes[..len]).ok()?;
+        Some(Digest { bytes, len })
+    }
+
+    /// The bytes, of which there are 1 to 64.
+    pub fn as_slice(&self) -> &[u8]
+        ensures value { result.now ≡ self.now }
+        ensures some { 1 ≤ length self.now }
+        ensures few { length self.now ≤ 64 }
+    {
+        &self.bytes[..self.len]
+    }
+
+    /// Whether the two have the same bytes.
+    pub fn same(&self, other: &Digest) -> bool
+        ensures { IsTrue result ↔ (self.now ≡ other.now) }
+    {
+        self.as_slice() == other.as_slice()
+    }
+
+    /// Writes the digits, in lower case, in front of `out`, leaves the rest, and answers their number.
+    pub fn hex_into(&self, out: &mut [u8; 128]) -> usize
+        ensures number { result ≡ 2 * length self.now }
+        ensures digits { out.new ≡ encode_lower self.now ++ drop (2 * length self.now) out.old }
+    {
+        let bytes = self.as_slice();
+        let digits = 2 * bytes.len();
+        hex::encode_to_slice(bytes, &mut out[..digits]).unwrap();
+        digits
+    }
+}

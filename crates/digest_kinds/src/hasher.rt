@@ -1,0 +1,42 @@
+//! What every hasher does.
+
+ghost use Rattle.std.specs.Prelude.{◌≡◌, ℕ, ◌+◌, ◌^◌, ◌<◌, List, ◌++◌, length};
+ghost use Rattle.digest_kinds.specs.Kinds.{KindValue};
+ghost use Rattle.digest_kinds.specs.Digests.{digest};
+
+use crate::digest::Digest;
+use crate::kind::Kind;
+
+/// Takes a message in pieces and gives its digest.
+pub trait Hasher {
+    // The hasher has taken this message. A hasher need not store it, so this is a relation.
+    ghost holds: { Self → List ℕ → Type 0 };
+
+    ghost kind_of: { Self → KindValue };
+
+    // How many bytes it has taken.
+    ghost taken_of: { Self → ℕ };
+
+    /// The kind of digest that `finish` gives.
+    fn kind(&self) -> Kind
+        ensures { result ≡ kind_of self.now };
+
+    /// The number of bytes taken so far.
+    fn taken(&self) -> u64
+        ensures { result ≡ taken_of self.now };
+
+    /// Takes the message's next piece. The whole message has to stay below [`LIMIT`](crate::LIMIT) bytes.
+    fn update(&mut self, piece: &[u8])
+        requires { taken_of self.old + length piece.now < 2 ^ 61 }
+        ensures holds { (m : List ℕ) → holds self.old m → holds self.new (m ++ piece.now) }
+        ensures taken { taken_of self.new ≡ taken_of self.old + length piece.now }
+        ensures kind { kind_of self.new ≡ kind_of self.old };
+
+    /// The digest of the message that was taken, of the kind's length.
+    fn finish(self) -> Digest
+        ensures value { (m : List ℕ) → holds self m → result ≡ digest (kind_of self) m }
+        ensures len { length result ≡ (kind_of self).len };
+
+    // What was taken is as long as the message.
+    ghost counts: { (h : Self) (m : List ℕ) → holds h m → taken_of h ≡ length m };
+}

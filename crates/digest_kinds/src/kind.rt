@@ -1,0 +1,110 @@
+//! An algorithm with its digest's length.
+
+ghost use Rattle.std.specs.Prelude.{◌≡◌, ◌*◌, ◌≤◌, IsTrue};
+ghost use Rattle.digest_kinds.specs.Kinds.{full_kind, has_len, tag};
+ghost use Rattle.digest_kinds.specs.Lengths.{blake2b_of_bits};
+
+use crate::algo::Algo;
+use std::marker::Model;
+use thiserror::Error;
+
+/// Why no BLAKE2b digest has so many bits.
+#[derive(Clone, Copy, Debug, PartialEq, Eq, Error)]
+pub enum LengthFault {
+    /// There are more than 512.
+    #[error("a BLAKE2b digest has at most 512 bits")]
+    TooLong,
+    /// They are no multiple of 8.
+    #[error("a BLAKE2b digest has a multiple of 8 bits")]
+    NotBytes,
+}
+
+/// An algorithm and the number of bytes of its digest: 1 to 64 for BLAKE2b, the full digest for the others.
+#[derive(Clone, Copy, Debug, PartialEq, Eq)]
+pub struct Kind {
+    algo: Algo,
+    len: usize,
+}
+
+impl Model for Kind {
+    ghost use Rattle.std.specs.Prelude.{IsTrue};
+    ghost use Rattle.digest_kinds.specs.Kinds.{KindValue, has_len};
+
+    ghost Value = { KindValue };
+
+    ghost view = { λ k. record { algo = k.algo; len = k.len } };
+
+    ghost inverse = { λ k. record { algo = k.algo; len = k.len } };
+
+    ghost invariant = { λ k. IsTrue (has_len k.algo k.len) };
+}
+
+impl Kind {
+    /// The algorithm with its full digest.
+    pub fn of(algo: Algo) -> Kind
+        ensures { result ≡ full_kind algo }
+    {
+        let len = match algo {
+            Algo::Md5 => 16,
+            Algo::Sha1 => 20,
+            Algo::Sha224 => 28,
+            Algo::Sha256 => 32,
+            Algo::Sha384 => 48,
+            Algo::Sha512 | Algo::Blake2b => 64,
+        };
+        Kind { algo, len }
+    }
+
+    /// BLAKE2b with a digest of so many bits (RFC 7693, 2.1), 0 standing for the full 512. `TooLong` for more than 512,
+    /// and otherwise `NotBytes` where they are no multiple of 8.
+    pub fn blake2b_bits(bits: u64) -> Result<Kind, LengthFault>
+        ensures { result ≡ blake2b_of_bits bits }
+    {
+        if bits > 512 {
+            return Err(LengthFault::TooLong);
+        }
+        if bits == 0 {
+            return Ok(Kind::of(Algo::Blake2b));
+        }
+        if bits % 8 != 0 {
+            return Err(LengthFault::NotBytes);
+        }
+        Ok(Kind {
+            algo: Algo::Blake2b,
+            len: (bits / 8) as usize,
+        })
+    }
+
+    /// The algorithm.
+    pub fn algo(self) -> Algo
+        ensures { result ≡ self.algo }
+    {
+        self.algo
+    }
+
+    /// The algorithm's tag, which begins a tagged line.
+    pub fn tag(self) -> &'static str
+        ensures { result.now ≡ tag self.algo }
+    {
+        self.algo.tag()
+    }
+
+    /// The number of bits of the digest.
+    pub fn bits(self) -> u64
+        ensures value { result ≡ 8 * self.len }
+        ensures some { 8 ≤ result }
+        ensures few { result ≤ 512 }
+    {
+        8 * self.len as u64
+    }
+
+    /// The number of bytes of the digest, from 1 to 64.
+    pub fn len(self) -> usize
+        ensures value { result ≡ self.len }
+        ensures some { 1 ≤ result }
+        ensures few { result ≤ 64 }
+        ensures fits { IsTrue (has_len self.algo self.len) }
+    {
+        self.len
+    }
+}

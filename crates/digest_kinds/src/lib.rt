@@ -1,0 +1,25 @@
+//! Digest algorithms, their digests, and hashers that compute them.
+//!
+//! A [`Kind`] is an algorithm with its digest's length. A [`Hasher`] takes a message in pieces and gives its
+//! [`Digest`], which is the one that the algorithm's standard defines: RFC 1321 for MD5, FIPS 180-4 for SHA, RFC 7693
+//! for BLAKE2b without a key.
+#![tactic(auto)]
+
+mod algo;
+mod digest;
+mod hasher;
+mod kind;
+mod kit_hashers;
+pub mod laws;
+
+pub use algo::{Algo, Algos};
+pub use digest::Digest;
+pub use hasher::Hasher;
+pub use kind::{Kind, LengthFault};
+pub use kit_hashers::{
+    Md5Hasher, Sha1Hasher, Sha224Hasher, Sha256Hasher, Sha384Hasher, Sha512Hasher,
+};
+
+/// A message has fewer bytes than this. FIPS 180-4 defines SHA-1, SHA-224 and SHA-256 for messages of fewer than 2^64
+/// bits, which is 2^61 bytes, and every other algorithm here allows as many.
+pub const LIMIT: u64 = 1 << 61;

@@ -1,0 +1,2 @@
+mod ToolLemmas
+mod PieceLemmas

@@ -1,0 +1,10 @@
+//! The GNU digest tools and `anysum`, in one program.
+#![tactic(auto)]
+
+pub mod arguments;
+pub mod tool;
+pub mod words;
+
+fn main(rt: HostRuntime) {
+    let _ = arguments::read_command_line(&rt).is_ok();
+}

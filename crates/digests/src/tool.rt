@@ -1,0 +1,67 @@
+//! The tools, and what each is called.
+ghost use Rattle.std.specs.Prelude.{◌≡◌, ◌↔◌, Some};
+ghost use Rattle.digests.specs.declared.tool.Tool.{Tool};
+ghost use Rattle.digests.specs.Tools.{name_of, is_called};
+ghost use Rattle.std.specs.List.{find};
+
+/// One of the eight tools: the seven GNU digest tools of the coreutils manual, and `anysum`, which checks manifests of
+/// mixed tagged lines.
+#[derive(Clone, Copy, Debug, PartialEq, Eq)]
+pub enum Tool {
+    Md5sum,
+    Sha1sum,
+    Sha224sum,
+    Sha256sum,
+    Sha384sum,
+    Sha512sum,
+    B2sum,
+    Anysum,
+}
+
+static TOOLS: [Tool; 8] = [
+    Tool::Md5sum,
+    Tool::Sha1sum,
+    Tool::Sha224sum,
+    Tool::Sha256sum,
+    Tool::Sha384sum,
+    Tool::Sha512sum,
+    Tool::B2sum,
+    Tool::Anysum,
+];
+
+impl Tool {
+    /// The tool of this name; `None` for every word that names no tool.
+    pub fn from_word(word: &str) -> Option<Tool>
+        ensures { (tool : Tool) → (result ≡ Some tool) ↔ (name_of tool ≡ word.now) }
+    {
+        first_called(&TOOLS, word)
+    }
+
+    /// The tool's name, as it is typed and as it begins each of its messages.
+    pub fn name(self) -> &'static str
+        ensures { result.now ≡ name_of self }
+    {
+        match self {
+            Tool::Md5sum => "md5sum",
+            Tool::Sha1sum => "sha1sum",
+            Tool::Sha224sum => "sha224sum",
+            Tool::Sha256sum => "sha256sum",
+            Tool::Sha384sum => "sha384sum",
+            Tool::Sha512sum => "sha512sum",
+            Tool::B2sum => "b2sum",
+            Tool::Anysum => "anysum",
+        }
+    }
+}
+
+// The first of these tools that has this name.
+fn first_called(tools: &[Tool], word: &str) -> Option<Tool>
+    ensures { result ≡ find (is_called word.now) tools.now }
+{
+    for tool in tools {
+        if tool.name() == word {
+            return Some(*tool);
+        }
+    }
+    None
+}

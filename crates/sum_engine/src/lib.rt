@@ -1,0 +1,6 @@
+//! Hashes files, and checks files against manifests.
+#![tactic(auto)]
+
+mod stop;
+
+pub use stop::Stop;

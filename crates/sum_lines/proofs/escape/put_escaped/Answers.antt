@@ -1,0 +1,28 @@
+use Rattle.std.proofs.Common.{refl}
+use Rattle.std.proofs.lemmas.Result.{err_from_is_err_and}
+use Rattle.sum_lines.proofs.SinkLemmas.{Left-step, Left-stop, Left-last}
+use Rattle.sum_lines.proofs.EscapeLemmas.{escape-parts}
+use Rattle.sum_lines.proofs.escape.put_escaped.Goals as goal
+
+pub returns-in_err-put_all : goal.returns-in_err-put_all
+returns-in_err-put_all g c =
+    let failed = err_from_is_err_and c.from_residual.result c.from_residual.ensures.1 in
+    let cut = escape-parts _ _ _ _ c.split_at.ensures.front c.split_at.ensures.back c.in-Some.ensures.cut in
+    rw failed.1 (Left-stop _ _ _ _ _ _ _ _ _ _ c.loop-at.invariant cut c.in_err-put_all.ensures)
+
+pub returns-in_err-put_escape : goal.returns-in_err-put_escape
+returns-in_err-put_escape g c =
+    let failed = err_from_is_err_and c.from_residual-in_err-put_escape.result c.from_residual-in_err-put_escape.ensures.1 in
+    let cut = escape-parts _ _ _ _ c.split_at.ensures.front c.split_at.ensures.back c.in-Some.ensures.cut in
+    let plain = Left-step _ _ _ _ _ _ _ _ _ _ c.loop-at.invariant cut c.in_ok-put_all.ensures in
+    rw failed.1 (Left-stop _ _ _ _ _ _ _ _ _ _ plain refl c.in_err-put_escape.ensures)
+
+pub loop-at-preserved : goal.loop-at-preserved
+loop-at-preserved g c =
+    let cut = escape-parts _ _ _ _ c.split_at.ensures.front c.split_at.ensures.back c.in-Some.ensures.cut in
+    let plain = Left-step _ _ _ _ _ _ _ _ _ _ c.loop-at.invariant cut c.in_ok-put_all.ensures in
+    Left-step _ _ _ _ _ _ _ _ _ _ plain refl c.in_ok-put_escape.ensures
+
+pub returns : goal.returns
+returns g c =
+    Left-last _ _ _ _ _ _ _ _ c.put_all-2.result (rw c.in_default.ensures.cut at c.loop-at.invariant) c.put_all-2.ensures

@@ -1,0 +1,14 @@
+-- The escape of a name: each byte by itself.
+use Rattle.std.specs.Prelude.{ℕ, ◌==◌, Bool, not, List, [], ◌∷◌, flat_map, bytes_eq, codes, if◌then◌else◌}
+
+-- a backslash (92) becomes `\\`, a newline (10) `\n`, a carriage return (13) `\r`; any other byte stays
+abbrev pub escape_of : ℕ → List ℕ
+escape_of b =
+    if b == 92 then codes "\\\\" else if b == 10 then codes "\\n" else if b == 13 then codes "\\r" else b ∷ []
+
+abbrev pub escape : List ℕ → List ℕ
+escape name = flat_map escape_of name
+
+-- whether the escaped name differs from the name
+abbrev pub escape_differs : List ℕ → Bool
+escape_differs name = not (bytes_eq (escape name) name)

@@ -1,0 +1,4 @@
+pub mod Escape
+pub mod Sinks
+pub mod ToldSinks
+pub mod Parts

@@ -1,0 +1,13 @@
+-- The text of a list of parts: one after another.
+use Rattle.std.specs.Prelude.{ℕ, List, flat_map, decimal}
+use Rattle.sum_lines.specs.declared.parts.Part.{Part}
+use Rattle.sum_lines.specs.declared.parts.Part.TheVariants.{Bytes, Escaped, Number}
+use Rattle.sum_lines.specs.Escape.{escape}
+
+abbrev pub part_text : Part → List ℕ
+part_text (Bytes bytes) = bytes.now
+part_text (Escaped name) = escape name.now
+part_text (Number n) = decimal n
+
+abbrev pub parts_text : List Part → List ℕ
+parts_text parts = flat_map part_text parts

@@ -1,0 +1,11 @@
+-- What is seen of a ToldSink.
+use Rattle.std.specs.Prelude.{ℕ, ◌-◌, List, take}
+use Rattle.sum_lines.specs.declared.told_sink.ToldSink.{ToldSink}
+
+-- the bytes that were written
+abbrev pub bytes_of : {N : ℕ} → ToldSink N → List ℕ
+bytes_of s = take s.len s.bytes
+
+-- how many more bytes it takes before it fails
+abbrev pub room : {N : ℕ} → ToldSink N → ℕ
+room s = s.limit - s.len

@@ -1,0 +1,78 @@
+//! A sink over a writer of the standard library.
+ghost use Rattle.std.specs.Prelude.{◌≡◌, OnOk, OnErr};
+ghost use Rattle.std.specs.Io.KnownBytes.{Keeps};
+ghost use Rattle.sum_lines.specs.Sinks.{after_failure};
+
+use crate::sink::{Sink, SinkFault};
+use std::io::{ErrorKind, Write};
+
+/// How often in a row one call tries to write before interruptions count as a fault.
+const TRIES: u32 = 1000;
+
+/// A sink that hands its bytes to a writer.
+#[derive(Drop)]
+pub struct FromWrite<W> {
+    writer: W,
+    failures: u64,
+}
+
+impl<W: Write> FromWrite<W> {
+    /// A sink over the writer, which holds what the writer holds.
+    pub fn new(writer: W) -> Self
+        ensures written { ⟦<FromWrite<W> as Sink>⟧.written result ≡ W.contents writer }
+        ensures failures { ⟦<FromWrite<W> as Sink>⟧.failures result ≡ 0 }
+    {
+        FromWrite {
+            writer,
+            failures: 0,
+        }
+    }
+
+    /// Flushes the writer once. A fault where that fails, which counts as a failure of the sink.
+    pub fn flush(&mut self) -> Result<(), SinkFault>
+        ensures bytes { Keeps (⟦<FromWrite<W> as Sink>⟧.written self.old) (⟦<FromWrite<W> as Sink>⟧.written self.new) }
+        ensures kept { OnOk result (⟦<FromWrite<W> as Sink>⟧.failures self.new ≡ ⟦<FromWrite<W> as Sink>⟧.failures self.old) }
+        ensures failed { OnErr result
+            (⟦<FromWrite<W> as Sink>⟧.failures self.new ≡ after_failure (⟦<FromWrite<W> as Sink>⟧.failures self.old)) }
+    {
+        match self.writer.flush() {
+            Ok(()) => Ok(()),
+            Err(_) => Err(self.fault()),
+        }
+    }
+
+    // Counts a failure.
+    fn fault(&mut self) -> SinkFault
+        ensures writer { self.new.writer ≡ self.old.writer }
+        ensures failures { self.new.failures ≡ after_failure self.old.failures }
+    {
+        self.failures = self.failures.saturating_add(1);
+        SinkFault
+    }
+}
+
+impl<W: Write> Sink for FromWrite<W> {
+    ghost written = { λ s. W.contents s.writer };
+
+    ghost failures = { λ s. s.failures };
+
+    /// Hands the piece to the writer, again after each interruption. A fault where the writer fails, takes
+    /// nothing of a piece that isn't empty, or is interrupted a thousand times in a row.
+    fn write(&mut self, piece: &[u8]) -> Result<usize, SinkFault> {
+        if piece.is_empty() {
+            return Ok(0);
+        }
+        for _ in 0..TRIES {
+            match self.writer.write(piece) {
+                Ok(0) => break,
+                Ok(count) => return Ok(count),
+                Err(error) => {
+                    if error.kind() != ErrorKind::Interrupted {
+                        break;
+                    }
+                }
+            }
+        }
+        Err(self.fault())
+    }
+}

@@ -1,0 +1,50 @@
+//! Texts that are written part after part.
+ghost use Rattle.std.specs.Prelude.{◌≡◌, decimal};
+ghost use Rattle.sum_lines.specs.Sinks.{Writes};
+
+use crate::escape::put_escaped;
+use crate::sink::{Sink, SinkFault, put_all};
+use itoa::Buffer;
+
+/// A part of a text.
+#[derive(Clone, Copy, Debug)]
+pub enum Part<'a> {
+    /// These bytes as they are.
+    Bytes(&'a [u8]),
+    /// A name, escaped.
+    Escaped(&'a [u8]),
+    /// A number in decimal digits, without a leading zero.
+    Number(u64),
+}
+
+ghost use Rattle.sum_lines.specs.Parts.{part_text, parts_text};
+
+/// Writes the parts, one after another. A fault where a write failed; a shorter front of their text is
+/// then written.
+pub fn put_parts<S: Sink>(sink: &mut S, parts: &[Part]) -> Result<(), SinkFault>
+    ensures { Writes S.written S.failures sink.old sink.new (parts_text parts.now) result }
+{
+    for part in parts {
+        put_part(sink, *part)?;
+    }
+    Ok(())
+}
+
+fn put_part<S: Sink>(sink: &mut S, part: Part) -> Result<(), SinkFault>
+    ensures { Writes S.written S.failures sink.old sink.new (part_text part.entry) result }
+{
+    match part {
+        Part::Bytes(bytes) => put_all(sink, bytes),
+        Part::Escaped(name) => put_escaped(sink, name),
+        Part::Number(number) => put_number(sink, number),
+    }
+}
+
+/// Writes the number's decimal digits, without a leading zero. A fault where a write failed; a shorter
+/// front of the digits is then written.
+pub fn put_number<S: Sink>(sink: &mut S, number: u64) -> Result<(), SinkFault>
+    ensures { Writes S.written S.failures sink.old sink.new (decimal number) result }
+{
+    let mut buffer = Buffer::new();
+    put_all(sink, buffer.format(number).as_bytes())
+}

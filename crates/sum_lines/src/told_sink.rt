@@ -1,0 +1,73 @@
+//! A sink that keeps its bytes in an array.
+ghost use Rattle.std.specs.Prelude.{◌≡◌, ◌≤◌, ◌+◌, ◌<◌, ℕ, List, [], length, take, min, Some, IfOk, OnOk, OnErr, IsErr, ◌↔◌};
+
+use crate::sink::{Sink, SinkFault};
+
+/// A sink that keeps up to N bytes, tells them, and fails once it is full.
+#[derive(Drop)]
+pub struct ToldSink<const N: usize> {
+    bytes: [u8; N],
+    len: usize,
+    limit: usize,
+    failures: u64,
+    ghost in_range: { (len ≤ limit) × (limit ≤ N) },
+}
+
+impl<const N: usize> ToldSink<N> {
+    ghost use Rattle.sum_lines.specs.ToldSinks.{bytes_of, room};
+
+    /// An empty sink that takes `stop` bytes, or N where that is less, and then fails.
+    pub fn new(stop: usize) -> Self
+        ensures empty { bytes_of result ≡ [] }
+        ensures room { room result ≡ min stop N }
+        ensures failures { ⟦<ToldSink<N> as Sink>⟧.failures result ≡ 0 }
+    {
+        ToldSink {
+            bytes: [0; N],
+            len: 0,
+            limit: stop.min(N),
+            failures: 0,
+        }
+    }
+
+    /// The bytes that were written.
+    pub fn bytes(&self) -> &[u8]
+        ensures { result.now ≡ bytes_of self.now }
+    {
+        &self.bytes[..self.len]
+    }
+}
+
+impl<const N: usize> Sink for ToldSink<N> {
+    ghost use Rattle.std.specs.Io.KnownBytes.{WriteAppends};
+    ghost use Rattle.sum_lines.specs.Sinks.{Takes, after_failure};
+    ghost use Rattle.sum_lines.specs.ToldSinks.{bytes_of, room};
+
+    ghost written = { λ s. Some (bytes_of s) };
+
+    ghost failures = { λ s. s.failures };
+
+    /// Takes what there is room for. A fault exactly where there is none and the piece isn't empty.
+    fn write(&mut self, piece: &[u8]) -> Result<usize, SinkFault>
+        ensures count { IfOk result (λ n. Takes n piece.now) }
+        ensures bytes { WriteAppends (Some (bytes_of self.old)) (Some (bytes_of self.new)) result piece.now }
+        ensures kept { OnOk result (self.new.failures ≡ self.old.failures) }
+        ensures failed { OnErr result (self.new.failures ≡ after_failure self.old.failures) }
+        ensures all { IfOk result (λ n. n ≡ min (room self.old) (length piece.now)) }
+        ensures full { IsErr result ↔ ((room self.old ≡ 0) × (0 < length piece.now)) }
+        ensures room { IfOk result (λ n. room self.new + n ≡ room self.old) }
+    {
+        if piece.is_empty() {
+            return Ok(0);
+        }
+        let count = piece.len().min(self.limit - self.len);
+        if count == 0 {
+            self.failures = self.failures.saturating_add(1);
+            return Err(SinkFault);
+        }
+        let bytes = &mut self.bytes[..];
+        bytes[self.len..self.len + count].copy_from_slice(&piece[..count]);
+        self.len += count;
+        Ok(count)
+    }
+}

@@ -1,0 +1,33 @@
+-- What inputs hold: bytes and an ending, and what counts of them.
+use Rattle.std.specs.Prelude.{ℕ, ◌≡◌, ◌<◌, ◌-◌, ◌^◌, List, [], ◌++◌, take, length, Option, None, Some, Result, Ok, Err, ⊤, nat_lt, if◌then◌else◌, MatchResult}
+use Rattle.digest_kinds.specs.Digests.{digest}
+use Rattle.digest_kinds.specs.Kinds.{KindValue}
+use Rattle.sum_sources.specs.declared.fault.Fault.{Fault}
+use Rattle.sum_sources.specs.declared.fault.Fault.TheVariants.{Other}
+use Rattle.sum_sources.specs.declared.fault.Ending.{Ending}
+use Rattle.sum_sources.specs.declared.fault.Ending.TheVariants.{Whole, Broken}
+
+-- bytes that come, and how they end
+pub record Content : Type 0 where
+  pub bytes : List ℕ
+  pub ending : Ending
+
+-- an input of so many bytes or more is too long
+unfoldable pub limit : ℕ
+limit = 2 ^ 61
+
+-- what is too long counts as its front and then a fault
+abbrev pub clip : Content → Content
+clip c = if nat_lt (length c.bytes) limit then c else record { bytes = take (limit - 1) c.bytes; ending = Broken Other }
+
+-- what a read does, where an input tells its content: it takes the first bytes; it finds the end only where no byte is
+-- left, and the fault that the input ends by likewise
+abbrev pub ReadGives : Option Content → Option Content → Result ℕ Fault → List ℕ → Type 0
+ReadGives None new r buf = ⊤
+ReadGives (Some c) None r buf = ⊥
+ReadGives (Some c) (Some d) (Ok n) buf = (c.bytes ≡ take n buf ++ d.bytes) × (d.ending ≡ c.ending) × (n ≡ 0 → 0 < length buf → (c.bytes ≡ []) × (c.ending ≡ Whole))
+ReadGives (Some c) (Some d) (Err f) buf = (c.bytes ≡ []) × (c.ending ≡ Broken f) × (d ≡ c)
+
+-- the digest of a content that ends whole, or the fault by which it ends
+abbrev pub Hashes : KindValue → Content → Result (List ℕ) Fault → Type 0
+Hashes kind c r = MatchResult r (λ d. (c.ending ≡ Whole) × (d ≡ digest kind c.bytes)) (λ f. c.ending ≡ Broken f)

@@ -1,0 +1,5 @@
+pub mod Contents
+pub mod Faults
+pub mod Sources
+pub mod Standard
+pub mod ToldPairs

@@ -1,0 +1,62 @@
+-- What sources of files answer, and what they were asked.
+use Rattle.std.specs.Prelude.{ℕ, ◌≡◌, ◌+◌, ◌-◌, ◌^◌, min, List, [], ◌∷◌, ◌++◌, Option, None, Some, Result, Ok, Err, ⊤, if◌then◌else◌}
+use Rattle.std.specs.Str.{bytes_eq}
+use Rattle.sum_sources.specs.declared.fault.Fault.{Fault}
+use Rattle.sum_sources.specs.declared.fault.Fault.TheVariants.{NotFound}
+use Rattle.sum_sources.specs.declared.source.OpenFault.{OpenFault}
+use Rattle.sum_sources.specs.declared.source.OpenFault.TheVariants as faults
+use Rattle.sum_sources.specs.Contents.{Content}
+
+-- what a source has for a name
+pub data Reply : Type 0 where
+  Refused : Fault → Reply
+  Given : Content → Reply
+
+-- what a source tells: its reply to each name, and the names that it was asked, in order
+pub record Telling : Type 0 where
+  pub answer : List ℕ → Reply
+  pub asked : List (List ℕ)
+
+-- a count of refusals after one more, which stays at its last value
+abbrev pub after_refusal : ℕ → ℕ
+after_refusal n = min (n + 1) (2 ^ 64 - 1)
+
+-- only want of memory changes the count of refusals
+abbrev pub refusals_after : {F : Type 0} → ℕ → Result F OpenFault → ℕ
+refusals_after n (Ok file) = n
+refusals_after n (Err (faults.Fault f)) = n
+refusals_after n (Err faults.Memory) = after_refusal n
+
+-- every call but one that wants memory adds its name
+abbrev pub asked_after : {F : Type 0} → List (List ℕ) → List ℕ → Result F OpenFault → List (List ℕ)
+asked_after asked name (Ok file) = asked ++ name ∷ []
+asked_after asked name (Err (faults.Fault f)) = asked ++ name ∷ []
+asked_after asked name (Err faults.Memory) = asked
+
+-- opening comes out as the reply says, where memory was there
+abbrev pub Opens : {F : Type 0} → (F → Option Content) → Reply → Result F OpenFault → Type 0
+Opens content reply (Ok file) = (c : Content) × (reply ≡ Given c) × (content file ≡ Some c)
+Opens content reply (Err (faults.Fault f)) = reply ≡ Refused f
+Opens content reply (Err faults.Memory) = ⊤
+
+-- what opening a name does, where a source tells: its replies stay the same
+abbrev pub OpenGives : {F : Type 0} → (F → Option Content) → Option Telling → Option Telling → List ℕ → Result F OpenFault → Type 0
+OpenGives content None new name r = ⊤
+OpenGives content (Some s) None name r = ⊥
+OpenGives content (Some s) (Some t) name r = (t.answer ≡ s.answer) × (t.asked ≡ asked_after s.asked name r) × Opens content (s.answer name) r
+
+-- a name with the reply to it
+pub record Pair : Type 0 where
+  pub name : List ℕ
+  pub reply : Reply
+
+-- the first pair with the name answers; a name without a pair is not found
+abbrev pub first_reply : List Pair → List ℕ → Reply
+first_reply [] name = Refused NotFound
+first_reply (p ∷ ps) name = if bytes_eq p.name name then p.reply else first_reply ps name
+
+-- a told source: its pairs in the order in which they were added, the names asked, and how often memory was refused
+pub record ToldFiles : Type 0 where
+  pub pairs : List Pair
+  pub asked : List (List ℕ)
+  pub refusals : ℕ

@@ -1,0 +1,12 @@
+-- Joins the pairs that a told source stores to the pairs that contracts see.
+use Rattle.sum_sources.specs.declared.told_source.Answer.{Answer}
+use Rattle.sum_sources.specs.declared.told_source.Answer.TheVariants as answers
+use Rattle.sum_sources.specs.declared.told_source.StoredPair.{StoredPair}
+use Rattle.sum_sources.specs.Sources.{Reply, Refused, Given, Pair}
+
+abbrev pub reply_of : Answer → Reply
+reply_of (answers.Fault f) = Refused f
+reply_of (answers.Content content ending) = Given (record { bytes = content.now; ending = ending })
+
+abbrev pub pair_of : StoredPair → Pair
+pair_of p = record { name = p.name.items; reply = reply_of p.answer }

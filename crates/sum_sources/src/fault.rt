@@ -1,0 +1,36 @@
+//! What may go wrong in opening and reading, and how an input ends.
+ghost use Rattle.std.specs.Prelude.{◌≡◌};
+ghost use Rattle.sum_sources.specs.Faults.{fault_text};
+
+/// Why an input could not be opened or read to its end.
+#[derive(Clone, Copy, Debug, PartialEq, Eq)]
+pub enum Fault {
+    /// There is no file of that name.
+    NotFound,
+    /// The file may not be read.
+    Denied,
+    /// Anything else.
+    Other,
+}
+
+impl Fault {
+    /// The fault as diagnostics show it.
+    pub fn text(self) -> &'static str
+        ensures { result.now ≡ fault_text self }
+    {
+        match self {
+            Fault::NotFound => "No such file or directory",
+            Fault::Denied => "Permission denied",
+            Fault::Other => "Input/output error",
+        }
+    }
+}
+
+/// How an input ends after its last byte.
+#[derive(Clone, Copy, Debug, PartialEq, Eq)]
+pub enum Ending {
+    /// All bytes were given.
+    Whole,
+    /// Reading on met this fault.
+    Broken(Fault),
+}

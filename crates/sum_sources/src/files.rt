@@ -1,0 +1,46 @@
+//! Real files.
+ghost use Rattle.std.specs.Prelude.{◌≡◌};
+ghost use Rattle.sum_sources.specs.Sources.{refusals_after};
+
+use crate::from_read::fault_of;
+use crate::{Fault, FromRead, OpenFault, Source};
+use std::io::{ErrorKind, Read};
+use std::{fs, rt};
+
+/// The files that the runtime opens. It tells nothing of them.
+#[derive(Drop)]
+pub struct Files<R> {
+    rt: R,
+    refusals: u64,
+}
+
+impl<R: rt::Files + Drop> Files<R> {
+    /// The files of that runtime.
+    pub fn new(rt: R) -> Self {
+        Files { rt, refusals: 0 }
+    }
+}
+
+impl<R: rt::Files> Source for Files<R>
+where
+    R::File: Read + Drop,
+{
+    type File = FromRead<R::File>;
+
+    ghost refusals = { λ s. s.refusals };
+
+    fn open_file(&mut self, name: &[u8]) -> Result<FromRead<R::File>, OpenFault> {
+        // The runtime's paths are texts.
+        let Ok(path) = str::from_utf8(name) else {
+            return Err(OpenFault::Fault(Fault::Other));
+        };
+        match fs::open(&self.rt, path) {
+            Ok(file) => Ok(FromRead::new(file)),
+            Err(error) if error.kind() == ErrorKind::OutOfMemory => {
+                self.refusals = self.refusals.saturating_add(1);
+                Err(OpenFault::Memory)
+            }
+            Err(error) => Err(OpenFault::Fault(fault_of(&error))),
+        }
+    }
+}

@@ -1,0 +1,18 @@
+//! What can be read.
+ghost use Rattle.std.specs.Prelude.{ℕ, ◌≤◌, length, Option, None, IfOk};
+ghost use Rattle.sum_sources.specs.Contents.{Content, ReadGives};
+
+use crate::Fault;
+
+/// An input: bytes to come, and then an end or a fault.
+pub trait Input {
+    /// What is still to come, where the input tells it.
+    ghost content: { Self → Option Content } = { λ _. None };
+
+    /// Reads some of the bytes to come into the front of `buf` and answers how many, at most as many
+    /// as `buf` holds. It answers 0 for a `buf` that isn't empty only where the input has ended, and
+    /// a fault only where no byte is to come and the input ends by that fault.
+    fn read(&mut self, buf: &mut [u8]) -> Result<usize, Fault>
+        ensures count { IfOk result (λ n. n ≤ length buf.new) }
+        ensures bytes { ReadGives (content self.old) (content self.new) result buf.new };
+}

@@ -1,0 +1,23 @@
+//! Where bytes come from: inputs and sources of files, told ones and real ones, the digest of an
+//! input, and the lines of a manifest.
+#![tactic(auto)]
+
+mod fault;
+mod files;
+mod from_read;
+mod hashing;
+mod input;
+mod source;
+mod standard;
+mod told;
+mod told_source;
+
+pub use fault::{Ending, Fault};
+pub use files::Files;
+pub use from_read::FromRead;
+pub use hashing::hash_input;
+pub use input::Input;
+pub use source::{OpenFault, Source};
+pub use standard::{Given, Stdin};
+pub use told::Told;
+pub use told_source::{Answer, NoRoom, ToldSource};

@@ -1,0 +1,55 @@
+//! An input in memory.
+ghost use Rattle.std.specs.Prelude.{◌≡◌, ℕ, ◌≤◌, Some, length, max, IfOk};
+ghost use Rattle.sum_sources.specs.Contents.{ReadGives};
+
+use crate::{Ending, Fault, Input};
+
+/// An input that gives bytes from memory, and tells them.
+#[derive(Drop)]
+pub struct Told<'a> {
+    rest: &'a [u8],
+    ending: Ending,
+    piece: usize,
+    ghost some: { 1 ≤ piece },
+}
+
+impl<'a> Told<'a> {
+    /// An input that gives `content`, at most `piece` bytes a read (0 counts as 1), and then ends by
+    /// `ending`.
+    pub fn new(content: &'a [u8], ending: Ending, piece: usize) -> Told<'a>
+        ensures content { ⟦<Told<'a> as Input>⟧.content result
+            ≡ Some (record { bytes = content.entry.now; ending = ending }) }
+        ensures piece { result.piece ≡ max piece 1 }
+    {
+        Told {
+            rest: content,
+            ending,
+            piece: piece.max(1),
+        }
+    }
+}
+
+impl<'a> Input for Told<'a> {
+    ghost use Rattle.std.specs.Prelude.{Some};
+
+    ghost content = { λ s. Some (record { bytes = s.rest.now; ending = s.ending }) };
+
+    fn read(&mut self, buf: &mut [u8]) -> Result<usize, Fault>
+        ensures count { IfOk result (λ n. n ≤ length buf.new) }
+        ensures bytes { ReadGives (⟦<Told<'a> as Input>⟧.content self.old) (⟦<Told<'a> as Input>⟧.content self.new) result buf.new }
+        ensures few { IfOk result (λ n. n ≤ self.old.piece) }
+        ensures piece { self.new.piece ≡ self.old.piece }
+    {
+        if self.rest.is_empty() {
+            return match self.ending {
+                Ending::Whole => Ok(0),
+                Ending::Broken(fault) => Err(fault),
+            };
+        }
+        let n = self.piece.min(self.rest.len()).min(buf.len());
+        let (front, back) = self.rest.split_at(n);
+        buf[..n].copy_from_slice(front);
+        self.rest = back;
+        Ok(n)
+    }
+}

@@ -1,0 +1,132 @@
+//! A source in memory.
+ghost use Rattle.std.specs.Prelude.{◌≡◌, ◌++◌, ◌∷◌, [], OnOk, OnErr, map, slice_get};
+ghost use Rattle.std.specs.Option.{option_map};
+ghost use Rattle.sum_sources.specs.Sources.{first_reply};
+ghost use Rattle.sum_sources.specs.ToldPairs.{pair_of, reply_of};
+
+use crate::{Ending, Fault, OpenFault, Source, Told};
+use std::alloc::Global;
+use std::marker::Model;
+
+/// What a told source answers for a name.
+#[derive(Clone, Copy)]
+pub enum Answer<'a> {
+    /// The file can't be opened.
+    Fault(Fault),
+    /// The file has these bytes and ends so.
+    Content(&'a [u8], Ending),
+}
+
+/// Want of memory.
+#[derive(Clone, Copy, Debug, PartialEq, Eq)]
+pub struct NoRoom;
+
+#[derive(Drop)]
+struct StoredPair<'a> {
+    name: Vec<u8>,
+    answer: Answer<'a>,
+}
+
+/// A source that answers from pairs of names and answers, and tells them.
+#[derive(Drop)]
+pub struct ToldSource<'a> {
+    pairs: Vec<StoredPair<'a>>,
+    asked: Vec<Vec<u8>>,
+    alloc: Global,
+    piece: usize,
+    refusals: u64,
+}
+
+impl<'a> Model for ToldSource<'a> {
+    ghost use Rattle.std.specs.Prelude.{map};
+    ghost use Rattle.sum_sources.specs.Sources.{ToldFiles};
+    ghost use Rattle.sum_sources.specs.ToldPairs.{pair_of};
+
+    ghost Value = { ToldFiles };
+
+    ghost view = { λ s. record {
+      pairs = map pair_of s.pairs.items;
+      asked = map (λ v. v.items) s.asked.items;
+      refusals = s.refusals;
+    } };
+}
+
+/// The answer of the first pair that has the name.
+fn answer_to<'a>(pairs: &[StoredPair<'a>], name: &[u8]) -> Answer<'a>
+    ensures { reply_of result ≡ first_reply (map pair_of pairs.now) name.now }
+{
+    for pair in pairs {
+        if pair.name.as_slice() == name {
+            return pair.answer;
+        }
+    }
+    Answer::Fault(Fault::NotFound)
+}
+
+impl<'a> ToldSource<'a> {
+    /// A source without names, whose files give at most `piece` bytes a read (0 counts as 1).
+    pub fn new(alloc: Global, piece: usize) -> ToldSource<'a>
+        ensures { result ≡ record { pairs = []; asked = []; refusals = 0 } }
+    {
+        ToldSource {
+            pairs: Vec::new(alloc),
+            asked: Vec::new(alloc),
+            alloc,
+            piece,
+            refusals: 0,
+        }
+    }
+
+    /// Has `answer` stand for `name`, unless an earlier pair has that name. For want of memory the
+    /// pairs stay as they were.
+    pub fn add(&mut self, name: &[u8], answer: Answer<'a>) -> Result<(), NoRoom>
+        ensures ok { OnOk result (self.new ≡ record self.old {
+          pairs = self.old.pairs ++ record { name = name.now; reply = reply_of answer.entry } ∷ [];
+        }) }
+        ensures err { OnErr result (self.new ≡ self.old) }
+    {
+        let Ok(name) = Vec::from_slice(self.alloc, name) else {
+            return Err(NoRoom);
+        };
+        match self.pairs.push(StoredPair { name, answer }) {
+            Ok(()) => Ok(()),
+            Err(_) => Err(NoRoom),
+        }
+    }
+
+    /// The name at place `i`, from 0, of the names asked so far.
+    pub fn asked_name(&self, i: usize) -> Option<&[u8]>
+        ensures { option_map (λ n. n.now) result ≡ slice_get self.now.asked i }
+    {
+        match self.asked.get(i) {
+            Some(name) => Some(name.as_slice()),
+            None => None,
+        }
+    }
+}
+
+impl<'a> Source for ToldSource<'a> {
+    type File = Told<'a>;
+
+    ghost use Rattle.std.specs.Prelude.{Some};
+    ghost use Rattle.sum_sources.specs.Sources.{first_reply};
+
+    ghost told = { λ s. Some (record { answer = first_reply s.pairs; asked = s.asked }) };
+
+    ghost refusals = { λ s. s.refusals };
+
+    fn open_file(&mut self, name: &[u8]) -> Result<Told<'a>, OpenFault> {
+        let Ok(copy) = Vec::from_slice(self.alloc, name) else {
+            self.refusals = self.refusals.saturating_add(1);
+            return Err(OpenFault::Memory);
+        };
+        if self.asked.push(copy).is_err() {
+            self.refusals = self.refusals.saturating_add(1);
+            return Err(OpenFault::Memory);
+        }
+        match answer_to(&self.pairs, name) {
+            Answer::Fault(fault) => Err(OpenFault::Fault(fault)),
+            Answer::Content(content, ending) => Ok(Told::new(content, ending, self.piece)),
+        }
+    }
+}
