@@ -40,27 +40,27 @@ def least_times(contenders, rounds, stdin=os.devnull, stdout=os.devnull, folder=
 
 
 def peak_memory(contender, stdin=os.devnull, stdout=os.devnull, folder=None):
-    """The peak of resident memory in bytes.
+    """The peak of resident memory in bytes, or None where the system tells none.
 
-    Linux tells the peak of a running process, which is asked for again and again; what `wait4` tells afterwards includes
-    what the process shared with its parent before it became the command, and is taken only where there is no other."""
-    started = contender.start(stdin, stdout, folder)
-    peak = 0
-    while True:
-        pid, _, used = os.wait4(started.pid, os.WNOHANG)
-        if pid:
-            started.returncode = 0
-            return peak or used.ru_maxrss * 1024
-        try:
-            with open(f"/proc/{started.pid}/status", "rb") as file:
-                for line in file:
-                    if line.startswith(b"VmHWM:") and os.readlink(f"/proc/{started.pid}/exe") == contender_file(contender):
-                        peak = max(peak, int(line.split()[1]) * 1024)
-        except OSError:
-            pass
-        time.sleep(0.0005)
+    Linux tells the peak of a running process, which is asked for again and again. What `wait4` tells afterwards is no
+    use here: it counts what the process shared with its parent before it became the command."""
+    for _ in range(5):  # a process that ends very soon may not be seen
+        started = contender.start(stdin, stdout, folder)
+        peak = 0
+        while started.poll() is None:
+            peak = max(peak, peak_so_far(started.pid, os.path.realpath(contender.program or contender.words[0])))
+            time.sleep(0.0002)
+        if peak:
+            return peak
+    return None
 
 
-def contender_file(contender):
-    """The file that the process runs once it has become the command."""
-    return os.path.realpath(contender.program or contender.words[0])
+def peak_so_far(pid, program):
+    """The peak of a running process in bytes; 0 where it isn't that program yet, or no more."""
+    try:
+        if os.readlink(f"/proc/{pid}/exe") != program:
+            return 0
+        with open(f"/proc/{pid}/status", "rb") as file:
+            return next((int(line.split()[1]) * 1024 for line in file if line.startswith(b"VmHWM:")), 0)
+    except OSError:
+        return 0

@@ -28,7 +28,7 @@ OURS, GNU, BARE = "ours", "GNU", "bare"
 
 def built_program():
     """The program of this repository, built where it is stale."""
-    script = f'top=$1; . "$top/build.sh"; build_program && echo "$program"'
+    script = 'top=$1; . "$top/build.sh"; build_program && echo "$program"'
     built = subprocess.run(["sh", "-c", script, "sh", TOP], stdout=subprocess.PIPE, text=True)
     if built.returncode:
         sys.exit(1)
@@ -194,8 +194,8 @@ def memory(bench):
     ]
     for name, tool, words in works:
         found = bench.contenders(tool, *words)
-        peaks = {it.name: f"{peak_memory(it, stdout=bench.out, folder=bench.folder) / 1e6:.1f} MB" for it in found}
-        row(name, peaks[OURS], peaks.get(GNU, "-"))
+        peaks = {it.name: peak_memory(it, stdout=bench.out, folder=bench.folder) for it in found}
+        row(name, *(f"{peaks[who] / 1e6:.1f} MB" if peaks.get(who) else "-" for who in (OURS, GNU)))
 
 
 PARTS = {"hashing": hashing, "blake": blake, "start": start, "files": files, "memory": memory}
