@@ -2,7 +2,8 @@
 
 import os
 
-from harness import B, E, M, S, TOOLS, VERDICTS, VERDICTS_ERR, VERDICTS_OUT, X_MISSING, Case, needs_check
+import harness
+from harness import B, E, M, S, TOOLS, VERDICTS, VERDICTS_ERR, VERDICTS_OUT, X_MISSING, Case, Ran, needs_check
 
 NONE_FOUND = "no properly formatted checksum lines found"
 SPECIAL = "q\\\nz"
@@ -120,6 +121,12 @@ class Manifests(Case):
         self.write("standard", [f"{M}  a"])
         self.write("reversed", [f"{M} a"])
         self.expect("md5sum -c standard reversed standard", out=["a: OK"] * 3)
+
+    def test_open_files_are_closed_again(self):
+        """With few descriptors allowed, many manifests and many listed files are read one after the other."""
+        self.write("l", [f"{M}  a"] * 100)
+        script = 'ulimit -n 16; exec "$0" md5sum -c --quiet --strict "$@"'
+        self.assertEqual(self.run_command(["sh", "-c", script, harness.PROGRAM, *["l"] * 50]), Ran(0, b"", b""))
 
     def test_standard_input_listed(self):
         self.write("l5", [f"{M}  -"])

@@ -206,6 +206,7 @@ class Operands(Case):
         self.write("f", "abc")
         os.chmod(self.path("f"), 0)
         os.mkdir(self.path("d"), 0)
+        self.addCleanup(os.chmod, self.path("d"), 0o700)
         denied = ["md5sum: f: Permission denied", "md5sum: d/f: Permission denied"]
         ran = self.run_command([program, "md5sum", "f", "a", "d/f"], **how)
         self.assertEqual(ran, Ran(1, f"{M}  a\n".encode(), harness.as_bytes(denied)))
