@@ -36,7 +36,7 @@ def built_program():
 
 
 def built_bare():
-    """The bare loops, proved and built in a small repository of their own beside their source; None where that can't be."""
+    """The bare loops, proved and built in a small repository of their own; None where that can't be."""
     source = os.path.join(HERE, "bare", "src", "main.rt")
     repository = os.path.join(HERE, "out")
     crate = os.path.join(repository, "crates", "bare")
@@ -136,7 +136,8 @@ def seconds(times, name, digits=3):
 
 def hashing(bench):
     """Each tool over standard input."""
-    heading(f"Standard input of {bench.size} MiB", "tool", "ours", "GNU", "bare loop", "MB/s", "against GNU", "against bare")
+    columns = ("tool", "ours", "GNU", "bare loop", "MB/s", "against GNU", "against bare")
+    heading(f"Standard input of {bench.size} MiB", *columns)
     large = bench.large(bench.size)
     for tool in TOOLS:
         contenders = bench.contenders(tool)
@@ -212,7 +213,8 @@ def main():
     os.environ["LC_ALL"] = "C"
     with tempfile.TemporaryDirectory(prefix="digests-bench-") as folder:
         bench = Bench(asked, folder)
-        print(f"{platform.platform()}, {os.cpu_count()} processors, load {os.getloadavg()[0]:.1f}; least of {asked.rounds} rounds or more")
+        print(f"{platform.platform()}, {os.cpu_count()} processors, load {os.getloadavg()[0]:.1f}")
+        print(f"least of {asked.rounds} rounds or more")
         print(f"GNU: {gnu_tool('md5sum')[1] or 'not installed, left out'}")
         if bench.bare is None and not asked.no_bare:
             print("bare loops: not built, left out")

@@ -193,7 +193,7 @@ class Case(unittest.TestCase):
         return shows, writes
 
     def broken_input(self, content):
-        """An input that gives this content and then a fault: the master side of a terminal that nobody writes to any more."""
+        """An input that gives this content and then a fault: the master of a terminal whose other side is closed."""
         reads, writes = pty.openpty()
         tty.setraw(writes)
         self.addCleanup(os.close, reads)
@@ -221,8 +221,8 @@ class Case(unittest.TestCase):
         self.assertEqual(got, wanted)
 
     def peak_of(self, words, out="out", **how):
-        """Runs `digests` with standard output into the file `out`: its status, its standard error and its peak memory in
-        bytes. A process of its own starts it, since a child counts the memory of the one that it was forked from."""
+        """Runs `digests` with standard output into the file `out`: its status, its standard error and its peak memory
+        in bytes. A process of its own starts it, since a child counts the memory of the one that it was forked from."""
         peak_file = self.path("peak")
         watcher = [sys.executable, "-IS", os.path.join(TOP, "tests", "peak.py"), peak_file, PROGRAM, *as_words(words)]
         with open(self.path(out), "wb") as sink:

@@ -1,4 +1,5 @@
-"""Runs a command and writes its peak memory in bytes to a file: `peak.py FILE COMMAND WORD..`; the status is the command's.
+"""Runs a command and writes its peak memory in bytes to a file: `peak.py FILE COMMAND WORD..`. The status is the
+command's.
 
 It is a process of its own because a child's peak counts what it shared with its parent before it became the command."""
 

@@ -1,8 +1,8 @@
 #!/usr/bin/env python3
 """Runs the end-to-end tests of the built program: `run.py [--without-check] [--only WORD] PROGRAM`.
 
-Every test runs the program from the outside, on real files, pipes, terminals and devices. The last line counts the tests;
-the status is 1 where one failed."""
+Every test runs the program from the outside, on real files, pipes, terminals and devices. The last line counts the
+tests; the status is 1 where one failed."""
 
 import argparse
 import os

@@ -1,4 +1,4 @@
-"""Lines that the tools write: digests of standard input and of files, the styles, names, and names that can't be read."""
+"""Lines that the tools write: digests of standard input and of files, the styles, and names that can't be read."""
 
 import hashlib
 import os
@@ -200,7 +200,7 @@ class Operands(Case):
             except KeyError:
                 self.skipTest("there is no user nobody")
             how = {"user": nobody.pw_uid, "group": nobody.pw_gid, "extra_groups": []}
-            program = os.fsdecode(self.path("digests"))  # a copy, since the program's own folder may be closed to others
+            program = os.fsdecode(self.path("digests"))  # a copy: the program's own folder may be closed to others
             shutil.copy(harness.PROGRAM, program)
             os.chmod(program, 0o755)
         self.write("f", "abc")

@@ -1,5 +1,5 @@
-"""Side by side with GNU coreutils, where it is installed: the same lines byte for byte in every style, and manifests of one
-verified by the other."""
+"""Side by side with GNU coreutils, where it is installed: the same lines byte for byte in every style, and manifests
+of one verified by the other."""
 
 import os
 import random
@@ -9,7 +9,8 @@ import harness
 from harness import TOOLS, Case, as_bytes, gnu, needs_check
 
 STYLES = (["-t"], ["-b"], ["--tag"], ["-z"], ["-z", "-b"], ["-z", "--tag"])
-PLAIN_NAMES = ["a", "e", " ", " lead", "trail ", "*star", "a)", "(b", "x = y", "-dash", "--", "#", "tab\t", "\x01", "é", "日本", "d/f"]
+PLAIN_NAMES = ["a", "e", " ", " lead", "trail ", "*star", "a)", "(b", "x = y", "-dash", "--", "#", "tab\t", "\x01"]
+PLAIN_NAMES += ["é", "日本", "d/f"]
 NEWLINE_NAMES = ["new\nline", "\n", "both\\\n"]
 # In reports of checking, GNU 9.1 escapes a name only where it holds a newline; ours escapes these too, as lines do.
 BACKSLASH_NAMES = ["back\\slash", "\\n", "\\", "d/\\"]
@@ -17,7 +18,7 @@ BACKSLASH_NAMES = ["back\\slash", "\\n", "\\", "d/\\"]
 
 def escapes_returns(path):
     """Whether this version of the tool escapes a carriage return in a name, as ours does."""
-    said = subprocess.run([path, "--", "a\rb"], stdout=subprocess.PIPE, stderr=subprocess.PIPE, cwd="/", timeout=harness.RUN_SECONDS)
+    said = subprocess.run([path, "--", "a\rb"], capture_output=True, cwd="/", timeout=harness.RUN_SECONDS)
     return b"a\\rb" in said.stdout + said.stderr
 
 
@@ -177,7 +178,8 @@ class Verified(Beside):
                     self.assertEqual(ours.status, 1)
 
     def test_upper_case_digits(self):
-        manifest = b"".join(self.run_command([gnu("md5sum"), name]).out[:32].upper() + f"  {name}\n".encode() for name in ("a", "e"))
+        lines = self.run_command([gnu("md5sum"), "a", "e"]).out.splitlines(keepends=True)
+        manifest = b"".join(line[:32].upper() + line[32:] for line in lines)
         ours, theirs = self.checks("md5sum", manifest)
         self.assertEqual(ours, theirs)
         self.assertEqual(ours, (0, b"a: OK\ne: OK\n", b""))

@@ -1,5 +1,5 @@
-"""The scripts at the top of the repository: `install`, and `digests`, which builds the program and becomes it. They run in
-a copy of the repository that has the program under test, and a stand-in for the command that builds."""
+"""The scripts at the top of the repository: `install`, and `digests`, which builds the program and becomes it. They run
+in a copy of the repository that has the program under test, and a stand-in for the command that builds."""
 
 import hashlib
 import os
@@ -72,23 +72,26 @@ class Launcher(Repository):
     def test_from_any_folder_and_by_any_link(self):
         os.mkdir(self.path("d"))
         self.write("d/f", "abc")
-        for link, target in (("link", os.path.join(self.top, "digests")), ("d/second", "../link"), ("d/sha256sum", "second")):
-            os.symlink(target, self.path(link))
+        os.symlink(os.path.join(self.top, "digests"), self.path("link"))
+        os.symlink("../link", self.path("d/second"))
+        os.symlink("second", self.path("d/sha256sum"))
         here = os.fsdecode(self.path("d"))
         expected = Ran(0, f"{M}  f\n".encode(), b"")
         for called in (os.path.join(self.top, "digests"), "../the repository/digests", "../link", "./second"):
             with self.subTest(called=called):
                 self.assertEqual(self.run_command([called, "md5sum", "f"], cwd=here, env=self.env), expected)
         self.assertEqual(self.run_command(["./digests", "md5sum", "../a"], cwd=self.top, env=self.env).status, 0)
-        self.assertEqual(self.run_command(["./sha256sum", "f"], cwd=here, env=self.env), Ran(0, f"{S}  f\n".encode(), b""))
-        path = os.path.join(here) + os.pathsep + self.env["PATH"]
+        ran = self.run_command(["./sha256sum", "f"], cwd=here, env=self.env)
+        self.assertEqual(ran, Ran(0, f"{S}  f\n".encode(), b""))
+        path = here + os.pathsep + self.env["PATH"]
         ran = self.run_command(["sh", "-c", "second md5sum a"], env={**self.env, "PATH": path, "CDPATH": "/:/tmp"})
         self.assertEqual(ran, Ran(0, f"{M}  a\n".encode(), b""))
 
     def test_signals_reach_the_program(self):
         os.mkfifo(self.path("p"))
         for number in (signal.SIGTERM, signal.SIGINT, signal.SIGKILL):
-            started = subprocess.Popen([os.path.join(self.top, "digests"), "md5sum", "p"], cwd=self.folder, env=self.env)
+            words = [os.path.join(self.top, "digests"), "md5sum", "p"]
+            started = subprocess.Popen(words, cwd=self.folder, env=self.env)
             self.addCleanup(harness.end, started)
             with open(self.path("p"), "wb"):  # opens once the program reads
                 started.send_signal(number)
@@ -99,7 +102,8 @@ class Launcher(Repository):
                                  (">&-", Ran(1, b"", b"md5sum: write error\n")),
                                  ("2>&-", Ran(0, f"{E}  -\n".encode(), b""))):
             with self.subTest(closed=closed):
-                ran = self.run_command(["sh", "-c", f'"$0" md5sum {closed}', os.path.join(self.top, "digests")], env=self.env)
+                words = ["sh", "-c", f'"$0" md5sum {closed}', os.path.join(self.top, "digests")]
+                ran = self.run_command(words, env=self.env)
                 self.assertEqual(ran, expected)
 
     def builds(self):
@@ -107,11 +111,12 @@ class Launcher(Repository):
         return self.read(self.notes).count(b"\n")
 
     def test_builds_what_is_missing_or_stale(self):
-        built = Ran(0, f"{M}  a\n".encode(), b"digests: proving and building the program; a first build takes some minutes\n")
-        fresh = built._replace(err=b"")
+        fresh = Ran(0, f"{M}  a\n".encode(), b"")
+        built = fresh._replace(err=b"digests: proving and building the program; a first build takes some minutes\n")
+        crate = os.path.dirname(os.path.dirname(self.program))
         os.remove(self.program)
         self.assertEqual(self.script("digests", "md5sum", "a"), built)
-        self.assertEqual(self.read(self.notes).decode(), f"{os.path.dirname(os.path.dirname(self.program))} run -- sha256sum\n")
+        self.assertEqual(self.read(self.notes).decode(), f"{crate} run -- sha256sum\n")
         self.assertEqual(self.script("digests", "md5sum", "a"), fresh)
         os.utime(self.source)
         self.assertEqual(self.script("digests", "md5sum", "a"), built)
@@ -158,7 +163,8 @@ class Install(Repository):
         for folder, _, names in os.walk(self.prefix):
             for name in names:
                 path = os.path.join(folder, name)
-                found[os.path.relpath(path, self.prefix)] = os.readlink(path) if os.path.islink(path) else self.read(path)
+                content = os.readlink(path) if os.path.islink(path) else self.read(path)
+                found[os.path.relpath(path, self.prefix)] = content
         return found
 
     def test_installed_tools_run(self):
@@ -169,7 +175,8 @@ class Install(Repository):
             self.assertEqual(ran, Ran(0, f"{of_abc}  a\n{of_nothing}  e\n".encode(), b""))
         ran = self.run_command([os.path.join(self.bin, "anysum")])
         self.assertEqual(ran.err, b"anysum: --check is required\nTry 'anysum --help' for more information.\n")
-        self.assertEqual(self.run_command([os.path.join(self.bin, "digests"), "md5sum", "a"]), Ran(0, f"{M}  a\n".encode(), b""))
+        ran = self.run_command([os.path.join(self.bin, "digests"), "md5sum", "a"])
+        self.assertEqual(ran, Ran(0, f"{M}  a\n".encode(), b""))
         self.assertEqual(sorted(os.listdir(self.bin)), sorted([*NAMES, "digests"]))
         self.assertEqual(os.stat(os.path.join(self.bin, "digests")).st_mode & 0o777, 0o755)
 
@@ -214,7 +221,8 @@ class Install(Repository):
         os.symlink("elsewhere", os.path.join(self.bin, "b2sum"))
         self.write(os.path.join(self.bin, "other"), "theirs")
         said = self.installs("--remove", self.prefix)
-        self.assertEqual(self.tree(), {f"bin/{name}": b"theirs" for name in ("md5sum", "digests", "other")} | {"bin/b2sum": "elsewhere"})
+        theirs = {f"bin/{name}": b"theirs" for name in ("md5sum", "digests", "other")}
+        self.assertEqual(self.tree(), {**theirs, "bin/b2sum": "elsewhere"})
         self.assertEqual(said.count("stays"), 3)
 
     def test_what_was_not_installed_is_not_taken_away(self):
@@ -228,12 +236,13 @@ class Install(Repository):
 
     def test_prefixes(self):
         os.mkdir(self.path("inner"))
-        ran = self.run_command(["../the repository/install", "here/and\nthere"], cwd=self.path("inner"), env=self.env)
-        self.assertEqual(ran, Ran(0, b"", b""))
-        self.assertEqual(self.run_command([self.path("inner/here/and\nthere/bin/md5sum"), "a"]).out, f"{M}  a\n".encode())
-        ran = self.run_command(["../the repository/install", "--remove", "here/and\nthere/"], cwd=self.path("inner"), env=self.env)
-        self.assertEqual(ran, Ran(0, b"", b""))
-        self.assertEqual(os.listdir(self.path("inner/here/and\nthere/bin")), [])
+        how = {"cwd": self.path("inner"), "env": self.env}
+        script = "../the repository/install"
+        self.assertEqual(self.run_command([script, "here/and\nthere"], **how), Ran(0, b"", b""))
+        installed = self.path("inner/here/and\nthere/bin")
+        self.assertEqual(self.run_command([installed + b"/md5sum", "a"]).out, f"{M}  a\n".encode())
+        self.assertEqual(self.run_command([script, "--remove", "here/and\nthere/"], **how), Ran(0, b"", b""))
+        self.assertEqual(os.listdir(installed), [])
 
     def test_usage(self):
         for words in ([], [""], ["--remove"], ["a", "b"], ["--other"], ["-x"], ["--remove", ""]):

@@ -121,8 +121,9 @@ class LongOptions(Case):
     """Faults 1 to 4, and names that are cut short."""
 
     def test_unrecognized(self):
-        for word, name in (("--foo", "foo"), ("--foo=1", "foo"), ("--taga", "taga"), ("--Tag", "Tag"), ("--length", "length"),
-                           ("--length=8", "length"), ("---", "-"), ("--a\\\n\r=x", "a\\\\\\n\\r"), ("--é", "é")):
+        for word, name in (("--foo", "foo"), ("--foo=1", "foo"), ("--taga", "taga"), ("--Tag", "Tag"), ("---", "-"),
+                           ("--length", "length"), ("--length=8", "length"), ("--é", "é"),
+                           ("--a\\\n\r=x", "a\\\\\\n\\r")):
             with self.subTest(word=word):
                 self.expect_fault(["md5sum", word, "a"], f"unrecognized option '--{name}'")
 
@@ -142,8 +143,8 @@ class LongOptions(Case):
         self.expect("b2sum --l=256 e", out=[f"{B}  e"])
 
     def test_value_not_allowed(self):
-        for word, full in (("--tag=1", "tag"), ("--tag=", "tag"), ("--ta=1", "tag"), ("--help=1", "help"), ("--version=", "version"),
-                           ("--i=x", "ignore-missing"), ("--zero=a=b", "zero")):
+        for word, full in (("--tag=1", "tag"), ("--tag=", "tag"), ("--ta=1", "tag"), ("--help=1", "help"),
+                           ("--version=", "version"), ("--i=x", "ignore-missing"), ("--zero=a=b", "zero")):
             with self.subTest(word=word):
                 self.expect_fault(["md5sum", word, "a"], f"option '--{full}' doesn't allow an argument")
 
@@ -182,7 +183,7 @@ class ShortOptions(Case):
 
     def test_two_dashes_alone_name_no_operand(self):
         self.expect("md5sum --", stdin="abc", out=[f"{M}  -"])
-        self.expect("b2sum -l -- e", err=["b2sum: invalid length: '--'", "Try 'b2sum --help' for more information."], status=1)
+        self.expect_fault("b2sum -l -- e", "invalid length: '--'")
 
 
 class Lengths(Case):
