@@ -185,6 +185,12 @@ class Case(unittest.TestCase):
         self.addCleanup(end, started)
         return started
 
+    def full(self):
+        """The device that has no room for a single byte, opened for writing."""
+        if not os.path.exists("/dev/full"):
+            self.skipTest("there is no /dev/full")
+        return open("/dev/full", "wb")
+
     def terminal(self):
         """A new terminal that changes no byte: the side that shows, and the side that the program writes to."""
         shows, writes = pty.openpty()

@@ -5,6 +5,7 @@ Every test runs the program from the outside, on real files, pipes, terminals an
 tests; the status is 1 where one failed."""
 
 import argparse
+import collections
 import os
 import sys
 import time
@@ -45,8 +46,8 @@ def main():
     # Parts of one test that fail each have an entry; the test counts once.
     failed = len({getattr(test, "test_case", test).id() for test, _ in result.failures + result.errors})
     skipped = len(result.skipped)
-    for test, why in result.skipped:
-        print(f"skipped {test.id()}: {why}")
+    for why, count in collections.Counter(why for _, why in result.skipped).items():
+        print(f"skipped {count}: {why}")
     passed = result.testsRun - failed - skipped
     seconds = time.monotonic() - started
     print(f"{passed} end-to-end tests passed, {failed} failed, {skipped} skipped, in {seconds:.0f} s")

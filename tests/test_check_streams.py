@@ -77,7 +77,7 @@ class Outputs(Case):
 
     def test_full(self):
         self.write("l", VERDICTS)
-        with open("/dev/full", "wb") as full:
+        with self.full() as full:
             ran = self.run_words("md5sum -c l", stdout=full)
             self.assertEqual(ran.status, 1)
             self.assertTrue(ran.err.endswith(b"md5sum: write error\n"), ran.err)

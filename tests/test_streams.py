@@ -9,7 +9,6 @@ import harness
 from harness import E, M, TOOLS, VERDICTS, VERDICTS_ERR, VERDICTS_OUT, X_MISSING
 from harness import Case, Ran, as_bytes, limits, needs_check
 
-FULL = "/dev/full"
 WRITE_ERROR = b"md5sum: write error\n"
 
 
@@ -98,18 +97,18 @@ class Outputs(Case):
     """Outputs that fail, end or are slow."""
 
     def test_standard_output_full(self):
-        with open(FULL, "wb") as full:
+        with self.full() as full:
             for words in ("md5sum a", "md5sum --help", "md5sum --version", "md5sum -z a e"):
                 with self.subTest(words=words):
                     self.expect(words, err=WRITE_ERROR, status=1, stdout=full)
 
     def test_standard_output_full_names_each_tool(self):
-        with open(FULL, "wb") as full:
+        with self.full() as full:
             for tool in TOOLS:
                 self.expect([tool, "a"], err=[f"{tool}: write error"], status=1, stdout=full)
 
     def test_nothing_to_write_needs_no_output(self):
-        with open(FULL, "wb") as full:
+        with self.full() as full:
             self.expect("md5sum x", err=[X_MISSING], status=1, stdout=full)
 
     def test_standard_output_closed(self):
@@ -117,7 +116,7 @@ class Outputs(Case):
         self.assertEqual(ran, Ran(1, b"", WRITE_ERROR))
 
     def test_standard_error_full(self):
-        with open(FULL, "wb") as full:
+        with self.full() as full:
             ran = self.run_words("md5sum a x e", stderr=full)
             self.assertEqual(ran.status, 1)
             self.assertTrue(as_bytes([f"{M}  a", f"{E}  e"]).startswith(ran.out), ran.out)
@@ -132,7 +131,7 @@ class Outputs(Case):
         self.assertEqual(ran, Ran(1, b"", b""))
 
     def test_both_outputs_full(self):
-        with open(FULL, "wb") as full:
+        with self.full() as full:
             self.expect("md5sum a x", status=1, stdout=full, stderr=full)
 
     def test_both_outputs_in_one_file(self):
