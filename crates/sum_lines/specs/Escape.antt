@@ -1,5 +1,5 @@
 -- The escape of a name: each byte by itself.
-use Rattle.std.specs.Prelude.{ℕ, ◌==◌, Bool, not, List, [], ◌∷◌, flat_map, bytes_eq, codes, if◌then◌else◌}
+use Rattle.std.specs.Prelude.{◌≡◌, ℕ, ◌==◌, Bool, not, List, [], ◌∷◌, flat_map, bytes_eq, codes, if◌then◌else◌}
 
 -- a backslash (92) becomes `\\`, a newline (10) `\n`, a carriage return (13) `\r`; any other byte stays
 abbrev pub escape_of : ℕ → List ℕ
@@ -12,3 +12,7 @@ escape name = flat_map escape_of name
 -- whether the escaped name differs from the name
 abbrev pub escape_differs : List ℕ → Bool
 escape_differs name = not (bytes_eq (escape name) name)
+
+-- the bytes are the escape of some name
+abbrev pub IsEscaped : List ℕ → Type 0
+IsEscaped bytes = (n : List ℕ) × (bytes ≡ escape n)

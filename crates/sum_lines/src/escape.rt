@@ -1,7 +1,7 @@
 //! The escape of names in lines and diagnostics.
-ghost use Rattle.std.specs.Prelude.{◌≡◌, ◌+◌, ◌<◌, ◌++◌, length, take, drop, slice_index, is_some, IfSome, MatchOption};
+ghost use Rattle.std.specs.Prelude.{◌≡◌, ◌≢◌, ◌↔◌, ◌+◌, ◌<◌, ◌≤◌, ◌++◌, ℕ, List, length, vec_len, take, drop, slice_index, is_some, true, IsTrue, IfSome, IfNone, MatchOption};
 ghost use Rattle.sum_lines.specs.Sinks.{Writes};
-ghost use Rattle.sum_lines.specs.Escape.{escape, escape_of, escape_differs};
+ghost use Rattle.sum_lines.specs.Escape.{IsEscaped, escape, escape_of, escape_differs};
 
 use crate::sink::{Sink, SinkFault, put_all};
 use memchr::memchr3;
@@ -47,5 +47,57 @@ fn put_escape<S: Sink>(sink: &mut S, byte: u8) -> Result<(), SinkFault>
         b'\n' => put_all(sink, b"\\n"),
         b'\r' => put_all(sink, b"\\r"),
         other => put_all(sink, &[other]),
+    }
+}
+
+/// Unescapes the bytes of the line from that place on. True: they were the escape of a name, and are now
+/// that name. False: they are the escape of no name; what stands before the place is as it was, what stands
+/// behind it is open, and the line isn't longer.
+pub fn unescape_in(line: &mut Vec<u8>, from: usize) -> bool
+    requires { from ≤ vec_len line.old }
+    ensures name { (n : List ℕ) → (drop from line.old.items ≡ escape n)
+        ↔ ((result ≡ true) × (line.new.items ≡ take from line.old.items ++ n)) }
+    ensures found { IsTrue result ↔ IsEscaped (drop from line.old.items) }
+    ensures before { take from line.new.items ≡ take from line.old.items }
+    ensures len { vec_len line.new ≤ vec_len line.old }
+{
+    match unescape(&mut line[from..]) {
+        Some(len) => {
+            line.truncate(from + len);
+            true
+        }
+        None => false,
+    }
+}
+
+// Writes the name whose escape the bytes are over their front, and answers its length.
+fn unescape(bytes: &mut [u8]) -> Option<usize>
+    ensures len { IfSome result (λ len. len ≤ length bytes.old) }
+    ensures name { IfSome result (λ len. bytes.old ≡ escape (take len bytes.new)) }
+    ensures none { IfNone result (¬ IsEscaped bytes.old) }
+{
+    let mut read = 0;
+    let mut write = 0;
+    while read < bytes.len() {
+        let (byte, width) = first_escaped(&bytes[read..])?;
+        bytes[write] = byte;
+        read += width;
+        write += 1;
+    }
+    Some(write)
+}
+
+// The byte whose escape stands in front, and the length of its escape.
+fn first_escaped(bytes: &[u8]) -> Option<(u8, usize)>
+    ensures some { IfSome result (λ r. bytes.now ≡ escape_of r.0 ++ drop r.1 bytes.now) }
+    ensures width { IfSome result (λ r. (0 < r.1) × (r.1 ≤ length bytes.now)) }
+    ensures none { IfNone result ((b : ℕ) (rest : List ℕ) → bytes.now ≢ escape_of b ++ rest) }
+{
+    match bytes {
+        [b'\\', b'\\', ..] => Some((b'\\', 2)),
+        [b'\\', b'n', ..] => Some((b'\n', 2)),
+        [b'\\', b'r', ..] => Some((b'\r', 2)),
+        [] | [b'\\' | b'\n' | b'\r', ..] => None,
+        [byte, ..] => Some((*byte, 1)),
     }
 }

@@ -12,6 +12,11 @@ pub record Content : Type 0 where
   pub bytes : List ℕ
   pub ending : Ending
 
+-- an input in memory: what it has still to give, and the most bytes that one read gives
+pub record ToldContent : Type 0 where
+  pub content : Content
+  pub piece : ℕ
+
 -- an input of so many bytes or more is too long
 unfoldable pub limit : ℕ
 limit = 2 ^ 61

@@ -1,0 +1,3 @@
+pub mod CompressionLemmas
+pub mod DigestLemmas
+pub mod HeldLemmas

@@ -1,0 +1,3 @@
+pub mod Compression
+pub mod Digest
+pub mod Holding
