@@ -2,7 +2,9 @@
 #![tactic(auto)]
 
 mod asking;
+mod checker;
 mod generate;
+mod listing;
 mod progress;
 mod report;
 mod settings;
@@ -10,6 +12,7 @@ mod stop;
 mod summary;
 mod verdict;
 
+pub use checker::Checker;
 pub use generate::generate_one;
 pub use progress::Progress;
 pub use settings::{CheckSettings, Report, Settings};
