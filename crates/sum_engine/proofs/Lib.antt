@@ -4,3 +4,6 @@ pub mod GenerateLemmas
 pub mod WriteLemmas
 pub mod VerdictLemmas
 pub mod StepLemmas
+pub mod RestLemmas
+pub mod CountLemmas
+pub mod RunLemmas

@@ -52,3 +52,49 @@ handling_cut A r f line n c d None v t t' o o' e e' x j h is out err = tt
 handling_cut A r f line n c d (Some w) None t t' o o' e e' x j h is out err = absurd h
 handling_cut A r f line n c d (Some w) (Some v) t t' o o' e e' x j h is out err =
     rw (judged_as r f line n w x j h.0 is) (record { world = h.1; out = out; err = err })
+
+-- a step, by what the reader answered: a line was handled
+pub step_line : {A : Type 0} (r : Rules) (cc dd : Option Content) (f : Form) (n m u v : ℕ) (c d : Counts) (a b : Option Scene) (line held : List ℕ) (x : A) →
+    WhereTold cc dd (λ c d. LineOf c d (Ok Line) line) → WhereTold cc dd (λ c d. v + length d.bytes ≡ u + length c.bytes) → m ≡ n + 1 → length held ≤ length line
+    → HandleGives r (form_then f (line_form r.settings.algo line)) line m c d a b (Ok x)
+    → StepGives r (now_by cc n u f c a) (now_by dd m v (form_then f (line_form r.settings.algo line)) d b) held (Ok Going)
+step_line r None dd f n m u v c d a b line held x g used is few h = tt
+step_line r (Some p) dd f n m u v c d None b line held x g used is few h = tt
+step_line r (Some p) None f n m u v c d (Some a) b line held x g used is few h = absurd g
+step_line r (Some p) (Some q) f n m u v c d (Some a) None line held x g used is few h = absurd h
+step_line r (Some p) (Some q) f n m u v c d (Some a) (Some b) line held x g used is few h =
+    let done = rw is at h in
+    record { line = line; lines = g.0; rest = g.1; used = used; number = is; form = refl; counts = done.0; done = done.1; held = few }
+
+-- a line was not handled to its end
+pub step_line_stop : (A : Type 0) (r : Rules) (cc dd : Option Content) (f : Form) (n m u v : ℕ) (c d : Counts) (a b : Option Scene) (line held : List ℕ) (stop : Stop) →
+    WhereTold cc dd (λ c d. LineOf c d (Ok Line) line) → m ≡ n + 1
+    → HandleGives {A = A} r (form_then f (line_form r.settings.algo line)) line m c d a b (Err stop)
+    → StepGives r (now_by cc n u f c a) (now_by dd m v (form_then f (line_form r.settings.algo line)) d b) held (Err stop)
+step_line_stop A r None dd f n m u v c d a b line held stop g is h = tt
+step_line_stop A r (Some p) dd f n m u v c d None b line held stop g is h = tt
+step_line_stop A r (Some p) None f n m u v c d (Some a) b line held stop g is h = absurd g
+step_line_stop A r (Some p) (Some q) f n m u v c d (Some a) None line held stop g is h = absurd h
+step_line_stop A r (Some p) (Some q) f n m u v c d (Some a) (Some b) line held Write g is h =
+    let done = rw is at h in rw g.0 done
+step_line_stop A r (Some p) (Some q) f n m u v c d (Some a) (Some b) line held Memory g is h = h
+
+-- the summary was cut off
+pub step_end_cut : (r : Rules) (cc dd : Option Content) (f : Form) (n m u v : ℕ) (c : Counts) (w : Option World) (t : Bool) (o e e' : Option (List ℕ)) (line held : List ℕ) →
+    WhereTold cc dd (λ c d. LineOf c d (Ok NoMore) line) → AppendsFront e e' (summary r c)
+    → StepGives r (now_by cc n u f c (scene_by w t o e)) (now_by dd m v f c (scene_by w t o e')) held (Err Write)
+step_end_cut r None dd f n m u v c w t o e e' line held g h = tt
+step_end_cut r (Some p) dd f n m u v c None t o e e' line held g h = tt
+step_end_cut r (Some p) None f n m u v c (Some w) t o e e' line held g h = absurd g
+step_end_cut r (Some p) (Some q) f n m u v c (Some w) t o e e' line held g h =
+    rw (g.0, g.1) (record { world = after-none w; out = none_yet o []; err = front_of e e' _ h })
+
+-- the line of the manifest's fault was cut off
+pub step_fault_cut : (r : Rules) (cc dd : Option Content) (f : Form) (n m u v : ℕ) (c : Counts) (w : Option World) (t : Bool) (o e e' : Option (List ℕ)) (line held : List ℕ) (x : Fault) →
+    WhereTold cc dd (λ c d. LineOf c d (Err (line_stops.Fault x)) line) → AppendsFront e e' (fault_line r.tool r.shown x)
+    → StepGives r (now_by cc n u f c (scene_by w t o e)) (now_by dd m v f c (scene_by w t o e')) held (Err Write)
+step_fault_cut r None dd f n m u v c w t o e e' line held x g h = tt
+step_fault_cut r (Some p) dd f n m u v c None t o e e' line held x g h = tt
+step_fault_cut r (Some p) None f n m u v c (Some w) t o e e' line held x g h = absurd g
+step_fault_cut r (Some p) (Some q) f n m u v c (Some w) t o e e' line held x g h =
+    rw (g.0, g.1) (record { world = after-none w; out = none_yet o []; err = front_of e e' _ h })

@@ -12,3 +12,4 @@ pub mod Listings
 pub mod Judging
 pub mod States
 pub mod Views
+pub mod Runs

@@ -4,7 +4,9 @@
 mod asking;
 mod checker;
 mod generate;
+pub mod laws;
 mod listing;
+mod manifest;
 mod progress;
 mod report;
 mod settings;
@@ -14,6 +16,7 @@ mod verdict;
 
 pub use checker::Checker;
 pub use generate::generate_one;
+pub use manifest::check_one;
 pub use progress::Progress;
 pub use settings::{CheckSettings, Report, Settings};
 pub use stop::Stop;
