@@ -7,3 +7,4 @@ pub mod StepLemmas
 pub mod RestLemmas
 pub mod CountLemmas
 pub mod RunLemmas
+pub mod ManifestLemmas

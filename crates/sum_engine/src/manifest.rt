@@ -73,7 +73,7 @@ fn check_input<'a, I: Input + Drop, J: Input + Drop, S: Source, O: Sink, E: Sink
 {
     let mut checker = Checker::new(settings, tool, shown, from_stdin, input);
     let mut line = Vec::new(alloc);
-    loop {
+    'lines: loop {
         match checker.step(&mut line, stdin, source, out, err) {
             Err(stop) => return Err(stop),
             Ok(Progress::Ended(good)) => return Ok(good),
