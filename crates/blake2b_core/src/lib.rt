@@ -11,3 +11,6 @@ pub use compression::compress;
 pub use output::Output;
 pub use pieces::{Blake2b, LIMIT};
 pub use whole::blake2b;
+
+#[cfg(test)]
+mod tests;

@@ -33,6 +33,7 @@ impl Blake2b {
         ensures none { IsNone result ↔ ((len ≡ 0) ⊎ (64 < len)) }
         ensures holds { IfSome result (λ s. Holds s []) }
         ensures len { IfSome result (λ s. digest_len s ≡ len) }
+        ensures taken { IfSome result (λ s. taken s ≡ 0) }
     {
         if len == 0 || len > 64 {
             return None;

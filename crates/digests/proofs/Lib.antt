@@ -1,2 +1,4 @@
 mod ToolLemmas
 mod PieceLemmas
+mod OptionLemmas
+mod WordLemmas

@@ -1,2 +1,5 @@
 pub mod Tools
 pub mod Pieces
+pub mod Faults
+pub mod Items
+pub mod Walk

@@ -2,6 +2,9 @@
 #![tactic(auto)]
 
 pub mod arguments;
+pub mod faults;
+pub mod items;
+pub mod options;
 pub mod tool;
 pub mod words;
 

@@ -1,5 +1,5 @@
 //! The words of a command line, kept in memory.
-ghost use Rattle.std.specs.Prelude.{◌≡◌, ◌<◌, [], ◌∷◌, ◌++◌, OnOk, OnErr, length, slice_get, slice_index};
+ghost use Rattle.std.specs.Prelude.{◌≡◌, ◌<◌, [], ◌∷◌, ◌++◌, ◌+◌, ◌^◌, OnOk, OnErr, OnSome, length, slice_get, slice_index};
 ghost use Rattle.std.specs.Option.{option_copied};
 
 use std::alloc::Global;
@@ -57,7 +57,8 @@ impl Words {
 
     /// The word at this place, counted from 0; `None` past the last.
     pub fn get(&self, i: usize) -> Option<&str>
-        ensures { option_copied result ≡ slice_get self.now i }
+        ensures word { option_copied result ≡ slice_get self.now i }
+        ensures within { OnSome result (i + 1 < 2 ^ 64) }
     {
         let text = self.text.as_str();
         let ends = self.ends.as_slice();

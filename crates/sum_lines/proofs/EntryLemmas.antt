@@ -13,7 +13,7 @@ use Rattle.sum_lines.specs.Shapes.{is_blank, Plain, Tagged}
 use Rattle.sum_lines.specs.Scanned.{Parts, after_while, unmarked, past, plain_of, tagged_of}
 use Rattle.sum_lines.specs.Entries.{ignored, begins_standard, form_of_tail, Decides, IsForm, Spells, RawOf, Spelled, kind_of, ByTag, ByTail, Entry, form_then, form_of_parts, line_form, form}
 use Rattle.sum_lines.specs.Laws.{OneEntry, OneForm}
-use Rattle.sum_lines.proofs.EscapeApart.{escape_apart}
+use Rattle.sum_lines.proofs.UnescapeLemmas.{escape-apart}
 use Rattle.sum_lines.proofs.TaggedLemmas.{tagged_is_read, same_parts}
 use Rattle.sum_lines.proofs.PlainLemmas.{apart, plain-once, plain_is_read, read_is_plain}
 
@@ -28,7 +28,7 @@ spelled_same s t a d n =
     ap (λ x. make x s.digest s.name) a ∙ ap (λ y. make t.algo y s.name) d ∙ ap (λ z. make t.algo t.digest z) n
 
 spelling_apart : (e : Bool) (m n : List ℕ) → cond e (escape m) m ≡ cond e (escape n) n → m ≡ n
-spelling_apart true m n h = escape_apart m n h
+spelling_apart true m n h = escape-apart m n h
 spelling_apart false m n h = h
 
 spells_one : (e f : Bool) (raw war m n : List ℕ) → e ≡ f → raw ≡ war → Spells escape e raw m → Spells escape f war n → m ≡ n

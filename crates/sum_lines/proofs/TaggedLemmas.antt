@@ -16,7 +16,7 @@ use Rattle.digest_kinds.specs.declared.algo.Algo.TheVariants.{Md5, Sha1, Sha224,
 use Rattle.digest_kinds.specs.declared.algo.Algos.{Algos}
 use Rattle.digest_kinds.specs.declared.algo.Algos.TheVariants.{One, Any}
 use Rattle.sum_lines.specs.Shapes.{is_blank, mark, optional, Width, Allows, Tagged}
-use Rattle.sum_lines.specs.Scanned.{◌>>=◌, Parts, after_while, unmarked, past, unspaced, algo_of, algo_at, digest_at, is_digit, kind_at, bits_at, blake2b_at, width_at, split_last, some_of, digest_behind, name_behind, tagged_behind, tagged_text, tagged_of}
+use Rattle.sum_lines.specs.Scanned.{◌>>=◌, Parts, after_while, unmarked, past, unspaced, algo_of, algo_at, digest_at, is_digit, kind_at, bits_at, blake2b_at, width_at, split_last, some_of, digest_behind, Opened, opened_text, opened_of, name_behind, tagged_of}
 use Rattle.sum_lines.proofs.FrontLemmas.{bind_some, front-passes, front-and-rest, front-at, rest-at, prefix_len-all, unmarked-is, unspaced-is, past-some, past-front, split_last-some, split_last-at, isn't, some_of-is, some_of-some}
 use Rattle.sum_lines.proofs.BitsLemmas.{kind_at-some, decimal-kind_at, decimal-digits}
 
@@ -97,88 +97,108 @@ width_at-some Sha384 s w h = wide-none Sha384 s w h
 width_at-some Sha512 s w h = wide-none Sha512 s w h
 width_at-some Blake2b s w h = wide-blake2b s w h
 
--- the parts behind the width
-record Named (e : Bool) (kind : KindValue) (s : List ℕ) (p : Parts) : Type 0 where
-  escaped : p.escaped ≡ e
-  is_kind : p.kind ≡ kind
-  gap : Bool
-  some : 0 < length p.text
-  rest : List ℕ
-  behind : Behind kind.len rest p.digest
-  whole : s ≡ optional gap (32 ∷ []) ++ (40 ∷ (p.text ++ (41 ∷ rest)))
+-- a line up to its opening parenthesis
+pub record Front (algos : Algos) (e : Bool) (s : List ℕ) (o : Opened) : Type 0 where
+  pub escaped : o.escaped ≡ e
+  pub allowed : Allows algos o.kind.algo
+  pub width : List ℕ
+  pub gap : Bool
+  pub is_width : Width o.kind width
+  pub whole : s ≡ tag o.kind.algo ++ (width ++ (optional gap (32 ∷ []) ++ (40 ∷ o.inner)))
 
-pub same_parts : (a b : Parts) → Some a ≡ Some b → a ≡ b
-same_parts a b h = cc
+same_opened : (a b : Opened) → Some a ≡ Some b → a ≡ b
+same_opened a b h = cc
 
-name_behind-some : (e : Bool) (kind : KindValue) (s : List ℕ) (p : Parts) → name_behind e kind s ≡ Some p → Named e kind s p
-unfolding name_behind
-name_behind-some e kind s p h =
-    let i = bind_some _ _ _ h in
-    let q = bind_some _ _ _ i.2 in
-    let r = bind_some _ _ _ q.2 in
-    let d = bind_some _ _ _ r.2 in
-    let is : record { escaped = e; kind = kind; digest = d.0; text = r.0 } ≡ p = same_parts _ _ d.2 in
-    let g = unspaced-is s in
-    let raw = some_of-is q.0.0 r.0 r.1 in
-    let P : Parts → Type 0 = Named e kind s in
-    subst P is (record {
-      escaped = refl;
-      is_kind = refl;
-      gap = g.0;
-      some = raw.0;
-      rest = q.0.1;
-      behind = digest_behind-some kind.len q.0.1 d.0 d.1;
-      whole = g.1 ∙ ap (λ l. optional g.0 (32 ∷ []) ++ l) (past-some (40 ∷ []) (unspaced s) i.0 i.1 ∙ ap (λ l. 40 ∷ l) (split_last-some 41 i.0 q.0 q.1 ∙ ap (λ l. l ++ (41 ∷ q.0.1)) raw.1));
-    })
-
-tagged_behind-some : (a : Algo) (e : Bool) (s : List ℕ) (p : Parts) → tagged_behind a e s ≡ Some p → (w : KindValue × List ℕ) × (rest : List ℕ) × (s ≡ tag a ++ rest) × Wide a rest w × Named e w.0 w.1 p
-unfolding tagged_behind
-tagged_behind-some a e s p h =
-    let i = bind_some (past (tag a) s) (λ rest. width_at a rest >>= (λ w. name_behind e w.0 w.1)) p h in
-    let w = bind_some (width_at a i.0) (λ w. name_behind e w.0 w.1) p i.2 in
-    (w.0, i.0, past-some (tag a) s i.0 i.1, width_at-some a i.0 w.0 w.1, name_behind-some e w.0.0 w.0.1 p w.2)
-
--- the algorithm that is looked for is allowed, and it is the one whose tag stands there
+-- the algorithm that is looked for is allowed
 algo_at-allowed : (algos : Algos) (s : List ℕ) (a : Algo) → algo_at algos s ≡ Some a → Allows algos a
 algo_at-allowed (One b) s a h = cc
 algo_at-allowed Any s a h = tt
 
-tagged_text-some : (algos : Algos) (e : Bool) (s : List ℕ) (p : Parts) → tagged_text algos e s ≡ Some p → (a : Algo) × Allows algos a × (tagged_behind a e s ≡ Some p)
-unfolding tagged_text
-tagged_text-some algos e s p h = let a = bind_some (algo_at algos s) (λ a. tagged_behind a e s) p h in (a.0, algo_at-allowed algos s a.0 a.1, a.2)
+opened_text-some : (algos : Algos) (e : Bool) (s : List ℕ) (o : Opened) → opened_text algos e s ≡ Some o → Front algos e s o
+unfolding opened_text
+opened_text-some algos e s o h =
+    let a = bind_some _ _ _ h in
+    let t = bind_some _ _ _ a.2 in
+    let w = bind_some _ _ _ t.2 in
+    let i = bind_some _ _ _ w.2 in
+    let is : record { escaped = e; kind = w.0.0; inner = i.0 } ≡ o = same_opened _ _ i.2 in
+    let wide = width_at-some a.0 t.0 w.0 w.1 in
+    let g = unspaced-is w.0.1 in
+    let A : Algo → Type 0 = Allows algos in
+    let P : Opened → Type 0 = Front algos e s in
+    subst P is (record {
+      escaped = refl;
+      allowed = subst A (sym wide.is_algo) (algo_at-allowed algos s a.0 a.1);
+      width = wide.width;
+      gap = g.0;
+      is_width = wide.is_width;
+      whole = past-some (tag a.0) s t.0 t.1 ∙ ap (λ x. tag x ++ t.0) (sym wide.is_algo)
+          ∙ ap (λ l. tag w.0.0.algo ++ l) (wide.whole ∙ ap (λ l. wide.width ++ l) (g.1 ∙ ap (λ l. optional g.0 (32 ∷ []) ++ l) (past-some (40 ∷ []) (unspaced w.0.1) i.0 i.1)));
+    })
+
+pub opened_of-some : (algos : Algos) (line : List ℕ) (o : Opened) → opened_of algos line ≡ Some o → Front algos (unmarked (after_while is_blank line)).0 (unmarked (after_while is_blank line)).1 o
+opened_of-some algos line o h = opened_text-some algos (unmarked (after_while is_blank line)).0 (unmarked (after_while is_blank line)).1 o h
+
+-- what stands behind the opening parenthesis
+record Named (o : Opened) (p : Parts) : Type 0 where
+  escaped : p.escaped ≡ o.escaped
+  is_kind : p.kind ≡ o.kind
+  some : 0 < length p.text
+  rest : List ℕ
+  behind : Behind o.kind.len rest p.digest
+  whole : o.inner ≡ p.text ++ (41 ∷ rest)
+
+pub same_parts : (a b : Parts) → Some a ≡ Some b → a ≡ b
+same_parts a b h = cc
+
+name_behind-some : (o : Opened) (p : Parts) → name_behind o ≡ Some p → Named o p
+unfolding name_behind
+name_behind-some o p h =
+    let q = bind_some _ _ _ h in
+    let r = bind_some _ _ _ q.2 in
+    let d = bind_some _ _ _ r.2 in
+    let is : record { escaped = o.escaped; kind = o.kind; digest = d.0; text = r.0 } ≡ p = same_parts _ _ d.2 in
+    let raw = some_of-is q.0.0 r.0 r.1 in
+    let P : Parts → Type 0 = Named o in
+    subst P is (record {
+      escaped = refl;
+      is_kind = refl;
+      some = raw.0;
+      rest = q.0.1;
+      behind = digest_behind-some o.kind.len q.0.1 d.0 d.1;
+      whole = split_last-some 41 o.inner q.0 q.1 ∙ ap (λ l. l ++ (41 ∷ q.0.1)) raw.1;
+    })
 
 pub read_is_tagged : (algos : Algos) (line : List ℕ) (p : Parts) → tagged_of algos line ≡ Some p → Tagged algos line p.escaped p.kind p.digest p.text
 read_is_tagged algos line p h =
     let u : Bool × List ℕ = unmarked (after_while is_blank line) in
-    let found = tagged_text-some algos u.0 u.1 p h in
-    let a : Algo = found.0 in
-    let t = tagged_behind-some a u.0 u.1 p found.2 in
-    let wide = t.3 in
-    let named = t.4 in
+    let found = bind_some (opened_of algos line) name_behind p h in
+    let o : Opened = found.0 in
+    let front = opened_of-some algos line o found.1 in
+    let named = name_behind-some o p found.2 in
     let behind = named.behind in
-    let algo : p.kind.algo ≡ a = ap (λ (k : KindValue). k.algo) named.is_kind ∙ wide.is_algo in
-    let A : Algo → Type 0 = Allows algos in
-    let W : KindValue → Type 0 = λ k. Width k wide.width in
-    let behind_tag : List ℕ = wide.width ++ (optional named.gap (32 ∷ []) ++ (40 ∷ (p.text ++ (41 ∷ (behind.before ++ (61 ∷ (behind.after ++ behind.digits))))))) in
+    let A : KindValue → Type 0 = λ k. Allows algos k.algo in
+    let W : KindValue → Type 0 = λ k. Width k front.width in
+    let inner : o.inner ≡ p.text ++ (41 ∷ (behind.before ++ (61 ∷ (behind.after ++ behind.digits)))) = named.whole ∙ ap (λ l. p.text ++ (41 ∷ l)) behind.whole in
     record {
       blanks = take_while is_blank line;
-      width = wide.width;
-      gap = named.gap;
+      width = front.width;
+      gap = front.gap;
       before = behind.before;
       after = behind.after;
       digits = behind.digits;
-      allowed = subst A (sym algo) found.1;
+      allowed = subst A (sym named.is_kind) front.allowed;
       are_blanks = front-passes is_blank line;
-      is_width = subst W (sym named.is_kind) wide.is_width;
+      is_width = subst W (sym named.is_kind) front.is_width;
       some = named.some;
       before_blanks = behind.before_blanks;
       after_blanks = behind.after_blanks;
       spelled = behind.spelled;
       size = behind.size ∙ ap (λ (k : KindValue). k.len) (sym named.is_kind);
-      whole = front-and-rest is_blank line ∙ ap (λ l. take_while is_blank line ++ l) (unmarked-is (after_while is_blank line) ∙ ap (λ l. mark u.0 ++ l)
-        (t.2 ∙ ap (λ l. tag a ++ l) (wide.whole ∙ ap (λ l. wide.width ++ l) (named.whole ∙ ap (λ l. optional named.gap (32 ∷ []) ++ (40 ∷ (p.text ++ (41 ∷ l)))) behind.whole))))
-        ∙ ap (λ m. take_while is_blank line ++ (mark m ++ (tag a ++ behind_tag))) (sym named.escaped)
-        ∙ ap (λ x. take_while is_blank line ++ (mark p.escaped ++ (tag x ++ behind_tag))) (sym algo);
+      whole = front-and-rest is_blank line ∙ ap (λ l. take_while is_blank line ++ l) (unmarked-is (after_while is_blank line) ∙ ap (λ l. mark u.0 ++ l) front.whole)
+        ∙ ap (λ m. take_while is_blank line ++ (mark m ++ (tag o.kind.algo ++ (front.width ++ (optional front.gap (32 ∷ []) ++ (40 ∷ o.inner)))))) (sym (named.escaped ∙ front.escaped))
+        ∙ ap (λ (k : KindValue). take_while is_blank line ++ (mark p.escaped ++ (tag k.algo ++ (front.width ++ (optional front.gap (32 ∷ []) ++ (40 ∷ o.inner)))))) (sym named.is_kind)
+        ∙ ap (λ l. take_while is_blank line ++ (mark p.escaped ++ (tag p.kind.algo ++ (front.width ++ (optional front.gap (32 ∷ []) ++ (40 ∷ l)))))) inner;
     }
 
 -- ---- what joins to the line is read
@@ -296,19 +316,15 @@ digest_behind-of before after ds d n hb ha h size =
 abbrev Not41 : ℕ → Type 0
 Not41 x = isn't 41 x ≡ true
 
-name_behind-of : (e : Bool) (kind : KindValue) (g : Bool) (raw before after ds d : List ℕ) → 0 < length raw → AllPass is_blank before → AllPass is_blank after → decode_of ds ≡ Ok d → length d ≡ kind.len
-    → name_behind e kind (opening g (raw ++ (41 ∷ (before ++ (61 ∷ (after ++ ds)))))) ≡ Some (record { escaped = e; kind = kind; digest = d; text = raw })
+name_behind-of : (e : Bool) (kind : KindValue) (raw before after ds d : List ℕ) → 0 < length raw → AllPass is_blank before → AllPass is_blank after → decode_of ds ≡ Ok d → length d ≡ kind.len
+    → name_behind (record { escaped = e; kind = kind; inner = raw ++ (41 ∷ (before ++ (61 ∷ (after ++ ds)))) }) ≡ Some (record { escaped = e; kind = kind; digest = d; text = raw })
 unfolding name_behind
-name_behind-of e kind g raw before after ds d some hb ha h size =
+name_behind-of e kind raw before after ds d some hb ha h size =
     let all : AllPass is_hex_digit ds = (decode_of-ok ds d h).1 in
     let end : AllPass (isn't 41) (after ++ ds) = All-append Not41 after ds (All-weaker _ Not41 blank-not41 after ha) (All-weaker _ Not41 hex-not41 ds all) in
     let free : AllPass (isn't 41) (before ++ (61 ∷ (after ++ ds))) =
         All-append Not41 before (61 ∷ (after ++ ds)) (All-weaker _ Not41 blank-not41 before hb) (All-cons Not41 61 (after ++ ds) refl end) in
-    rw (unspaced-opening g (raw ++ (41 ∷ (before ++ (61 ∷ (after ++ ds))))), split_last-at 41 raw (before ++ (61 ∷ (after ++ ds))) free, some_of-some raw some, digest_behind-of before after ds d kind.len hb ha h size) refl
-
-tagged_behind-of : (kind : KindValue) (e : Bool) (w : List ℕ) (g : Bool) (s : List ℕ) → Width kind w → tagged_behind kind.algo e (tag kind.algo ++ (w ++ opening g s)) ≡ name_behind e kind (opening g s)
-unfolding tagged_behind
-tagged_behind-of kind e w g s h = rw (past-front (tag kind.algo) (w ++ opening g s), width_at-of kind w g s h) refl
+    rw (split_last-at 41 raw (before ++ (61 ∷ (after ++ ds))) free, some_of-some raw some, digest_behind-of before after ds d kind.len hb ha h size) refl
 
 -- a tagged line's front
 pub tagged-front : (algos : Algos) (line : List ℕ) (e : Bool) (kind : KindValue) (d raw : List ℕ) → Tagged algos line e kind d raw → (rest : List ℕ) × (unmarked (after_while is_blank line) ≡ (e, tag kind.algo ++ rest))
@@ -330,15 +346,18 @@ algo_at-tag : (algos : Algos) (a : Algo) (s : List ℕ) → Allows algos a → a
 algo_at-tag (One b) a s fine = ap Some (sym fine)
 algo_at-tag Any a s fine = algo_of-tag a s
 
-tagged_text-of : (algos : Algos) (a : Algo) (e : Bool) (s : List ℕ) → Allows algos a → tagged_text algos e (tag a ++ s) ≡ tagged_behind a e (tag a ++ s)
-unfolding tagged_text
-tagged_text-of algos a e s fine = ap (λ o. o >>= (λ x. tagged_behind x e (tag a ++ s))) (algo_at-tag algos a s fine)
+opened_text-of : (algos : Algos) (e : Bool) (kind : KindValue) (w : List ℕ) (g : Bool) (inner : List ℕ) → Allows algos kind.algo → Width kind w
+    → opened_text algos e (tag kind.algo ++ (w ++ opening g inner)) ≡ Some (record { escaped = e; kind = kind; inner = inner })
+unfolding opened_text
+opened_text-of algos e kind w g inner fine h =
+    rw (algo_at-tag algos kind.algo (w ++ opening g inner) fine, past-front (tag kind.algo) (w ++ opening g inner), width_at-of kind w g inner h, unspaced-opening g inner) refl
 
 pub tagged_is_read : (algos : Algos) (line : List ℕ) (p : Parts) → Tagged algos line p.escaped p.kind p.digest p.text → tagged_of algos line ≡ Some p
 tagged_is_read algos line p t =
-    let back : List ℕ = p.text ++ (41 ∷ (t.before ++ (61 ∷ (t.after ++ t.digits)))) in
-    let text : List ℕ = t.width ++ opening t.gap back in
+    let inner : List ℕ = p.text ++ (41 ∷ (t.before ++ (61 ∷ (t.after ++ t.digits)))) in
+    let text : List ℕ = t.width ++ opening t.gap inner in
     let u : unmarked (after_while is_blank line) ≡ (p.escaped, tag p.kind.algo ++ text) =
         ap (λ l. unmarked (after_while is_blank l)) t.whole ∙ unmarked-front t.blanks p.escaped (tag p.kind.algo) text t.are_blanks (tag-begins p.kind.algo) in
-    ap (λ (x : Bool × List ℕ). tagged_text algos x.0 x.1) u ∙ tagged_text-of algos p.kind.algo p.escaped text t.allowed ∙ tagged_behind-of p.kind p.escaped t.width t.gap back t.is_width
-    ∙ name_behind-of p.escaped p.kind t.gap p.text t.before t.after t.digits p.digest t.some t.before_blanks t.after_blanks t.spelled t.size
+    let o : opened_of algos line ≡ Some (record { escaped = p.escaped; kind = p.kind; inner = inner }) =
+        ap (λ (x : Bool × List ℕ). opened_text algos x.0 x.1) u ∙ opened_text-of algos p.escaped p.kind t.width t.gap inner t.allowed t.is_width in
+    ap (λ x. x >>= name_behind) o ∙ name_behind-of p.escaped p.kind p.text t.before t.after t.digits p.digest t.some t.before_blanks t.after_blanks t.spelled t.size

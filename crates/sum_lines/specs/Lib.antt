@@ -7,3 +7,5 @@ pub mod Sinks
 pub mod ToldSinks
 pub mod Parts
 pub mod Lines
+pub mod Found
+pub mod Readings

@@ -108,33 +108,40 @@ abbrev pub some_of : List ℕ → Option (List ℕ)
 some_of [] = None
 some_of (x ∷ xs) = Some (x ∷ xs)
 
--- a tagged line: behind the closing parenthesis, behind the width, behind the tag, and the whole
+-- a tagged line up to its opening parenthesis, and what stands behind that
+pub record Opened : Type 0 where
+  pub escaped : Bool
+  pub kind : KindValue
+  pub inner : List ℕ
+
+unfoldable pub opened_text : Algos → Bool → List ℕ → Option Opened
+opened_text algos e s = do
+  a ← algo_at algos s
+  rest ← past (tag a) s
+  w ← width_at a rest
+  inner ← past (codes "(") (unspaced w.1)
+  Some (record { escaped = e; kind = w.0; inner = inner })
+
+abbrev pub opened_of : Algos → List ℕ → Option Opened
+opened_of algos line = let u = unmarked (after_while is_blank line) in opened_text algos u.0 u.1
+
+-- what stands behind the closing parenthesis, and a tagged line as a whole
 abbrev pub digest_behind : ℕ → List ℕ → Option (List ℕ)
 digest_behind n s = do
   t ← past (codes "=") (after_while is_blank s)
   digest_at n (decode_of (after_while is_blank t))
 
-unfoldable pub name_behind : Bool → KindValue → List ℕ → Option Parts
-name_behind e kind s = do
-  inner ← past (codes "(") (unspaced s)
-  p ← split_last 41 inner
+unfoldable pub name_behind : Opened → Option Parts
+name_behind o = do
+  p ← split_last 41 o.inner
   raw ← some_of p.0
-  d ← digest_behind kind.len p.1
-  Some (record { escaped = e; kind = kind; digest = d; text = raw })
-
-unfoldable pub tagged_behind : Algo → Bool → List ℕ → Option Parts
-tagged_behind a e s = do
-  rest ← past (tag a) s
-  w ← width_at a rest
-  name_behind e w.0 w.1
-
-unfoldable pub tagged_text : Algos → Bool → List ℕ → Option Parts
-tagged_text algos e s = do
-  a ← algo_at algos s
-  tagged_behind a e s
+  d ← digest_behind o.kind.len p.1
+  Some (record { escaped = o.escaped; kind = o.kind; digest = d; text = raw })
 
 abbrev pub tagged_of : Algos → List ℕ → Option Parts
-tagged_of algos line = let u = unmarked (after_while is_blank line) in tagged_text algos u.0 u.1
+tagged_of algos line = do
+  o ← opened_of algos line
+  name_behind o
 
 -- a plain line: the kind and the digest that the digits spell, the tail behind the blank, and the whole
 abbrev pub sized : Algo → Result (List ℕ) FromHexError → Option (KindValue × List ℕ)

@@ -1,4 +1,4 @@
-use Rattle.std.proofs.Common.{◌≡◌, sym}
+use Rattle.std.proofs.Common.{sym}
 use Rattle.digests.proofs.ToolLemmas.{named_by}
 use Rattle.digests.proofs.tool.Tool.from_word.Goals as goal
 

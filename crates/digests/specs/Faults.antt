@@ -1,0 +1,23 @@
+-- What may be wrong with the words of a command line, in the order in which faults count. Each holds what its text
+-- shows: a long option's name as it was typed, an option's full name, whether an option was long, a character, or a
+-- value.
+use Rattle.std.specs.Prelude.{ℕ, Bool, List}
+
+pub data Fault : Type 0 where
+  unknown_long : List ℕ → Fault
+  ambiguous_long : List ℕ → Fault
+  value_not_allowed : List ℕ → Fault
+  value_missing : Bool → Fault
+  unknown_short : ℕ → Fault
+  length_invalid : List ℕ → Fault
+  length_not_bytes : List ℕ → Fault
+  tag_with_text : Fault
+  zero_with_check : Fault
+  tag_with_check : Fault
+  mode_with_check : Fault
+  ignore_without_check : Fault
+  status_without_check : Fault
+  warn_without_check : Fault
+  quiet_without_check : Fault
+  strict_without_check : Fault
+  check_needed : Fault
