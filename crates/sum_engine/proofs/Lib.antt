@@ -8,3 +8,6 @@ pub mod RestLemmas
 pub mod CountLemmas
 pub mod RunLemmas
 pub mod ManifestLemmas
+pub mod UnescapeOf
+pub mod EntryLemmas
+pub mod SameFront

@@ -19,7 +19,7 @@ form_on Standard x g = refl
 form_on Reversed x g = refl
 
 -- what is decided stays
-decided : (f : Form) (b : Bool) (g : Form) → form_then (form_then f (cond b Standard Reversed)) g ≡ form_then f (cond b Standard Reversed)
+pub decided : (f : Form) (b : Bool) (g : Form) → form_then (form_then f (cond b Standard Reversed)) g ≡ form_then f (cond b Standard Reversed)
 decided Undecided true g = refl
 decided Undecided false g = refl
 decided Standard b g = refl

@@ -13,3 +13,4 @@ pub mod Judging
 pub mod States
 pub mod Views
 pub mod Runs
+pub mod Laws

@@ -11,7 +11,7 @@ ghost use Rattle.sum_engine.specs.Scenes.{world};
 use crate::asking::{Asked, DASH, ask};
 use crate::listing::Listing;
 use digest_kinds::{Algos, Digest};
-use sum_lines::{Form, Reading};
+use sum_lines::{Form, Reading, read_line};
 use sum_sources::{Fault, Input, Source, Stdin};
 
 /// What checking finds of a manifest's line.
@@ -48,8 +48,7 @@ pub(crate) fn read(algos: Algos, form: Form, line: &mut Vec<u8>) -> (Reading, Fo
     ensures within { Within line.new.items result.0 }
     ensures held { length line.new.items ≤ length line.old.items }
 {
-    line.clear();
-    (Reading::Bad, form)
+    read_line(algos, form, line)
 }
 
 /// The verdict of a line that was read. None where the source had no memory to open the name; nothing was then asked.
