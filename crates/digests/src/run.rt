@@ -41,7 +41,9 @@ pub fn run<I: Input + Drop, S: Source, O: Sink, E: Sink>(
         Ok(Request::Help) => told(put_help(out, tool), 0),
         Ok(Request::Version) => told(put_version(out, tool), 0),
         Ok(Request::Check(_settings, _operands)) => told(put_not_supported(err, tool), 1),
-        Ok(Request::Generate(settings, operands)) => each(&settings, tool, operands, stdin, source, out, err),
+        Ok(Request::Generate(settings, operands)) => each(
+            &settings, tool, operands, stdin, source, out, err,
+        ),
     }
 }
 
@@ -58,7 +60,13 @@ fn told(written: Result<(), SinkFault>, status: u8) -> Result<u8, Stop>
 fn put_not_supported<E: Sink>(err: &mut E, tool: Tool) -> Result<(), SinkFault>
     ensures { Writes E.written E.failures err.old err.new (not_supported tool) result }
 {
-    put_parts(err, &[Part::Bytes(tool.name().as_bytes()), Part::Bytes(b": --check is not supported yet\n")])
+    put_parts(
+        err,
+        &[
+            Part::Bytes(tool.name().as_bytes()),
+            Part::Bytes(b": --check is not supported yet\n"),
+        ],
+    )
 }
 
 // One operand.
