@@ -1,5 +1,5 @@
 -- Lemmas on four columns or diagonals that are mixed at once.
-use Rattle.std.proofs.Common.{◌≡◌, ℕ, List, [], ◌∷◌, length, refl, sym, arith}
+use Rattle.std.proofs.Common.{◌≡◌, ℕ, List, [], ◌∷◌, length, refl, arith}
 use Rattle.blake2b_core.specs.Compression.{◌!◌, mix}
 use Rattle.blake2b_core.specs.Columns.{columns, diagonals, sums, turned}
 

@@ -1,4 +1,4 @@
-use Rattle.std.proofs.Common.{◌≡◌, ℕ, ◌+◌, ◌-◌, ◌*◌, ◌/◌, ◌≤◌, List, [], length, ap, sym, subst, ◌∙◌, arith, refl}
+use Rattle.std.proofs.Common.{◌≡◌, ◌+◌, ◌-◌, ◌*◌, ◌/◌, ◌≤◌, length, ap, sym, subst, ◌∙◌, arith, refl}
 use Rattle.std.proofs.lemmas.List.{take_rest}
 use Rattle.blake2b_core.specs.Digest.{blocks, hash_after}
 use Rattle.blake2b_core.specs.Holding.{AreBlocksFrom}

@@ -1,5 +1,4 @@
 use Rattle.std.proofs.Common.{◌≡◌, ◌+◌, ◌*◌, ap, sym, ◌∙◌, arith}
-use Rattle.blake2b_core.specs.Compression.{compress}
 use Rattle.blake2b_core.specs.Digest.{blocks, hash_after}
 use Rattle.blake2b_core.proofs.DigestLemmas.{hash_after-more}
 use Rattle.blake2b_core.proofs.whole.chained.Goals as goal

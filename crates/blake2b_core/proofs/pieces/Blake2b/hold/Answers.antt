@@ -1,4 +1,4 @@
-use Rattle.std.proofs.Common.{◌≡◌, ℕ, ◌+◌, ◌*◌, ◌≤◌, length, ap, sym, ◌∙◌, arith, length-append, rules}
+use Rattle.std.proofs.Common.{◌≡◌, ◌+◌, ◌*◌, ◌≤◌, length, sym, ◌∙◌, arith, length-append, rules}
 use Rattle.blake2b_core.proofs.DigestLemmas.{hash_after-append}
 use Rattle.blake2b_core.proofs.HeldLemmas.{held-more}
 use Rattle.blake2b_core.proofs.pieces.Blake2b.hold.Goals as goal

@@ -1,4 +1,4 @@
-use Rattle.std.proofs.Common.{◌≡◌, ℕ, ◌+◌, ◌-◌, List, [], ◌++◌, length, take, drop, ap, subst, arith, length-append}
+use Rattle.std.proofs.Common.{◌≡◌, ℕ, ◌+◌, ◌-◌, List, ◌++◌, length, take, drop, ap, subst, arith, length-append}
 use Rattle.std.proofs.lemmas.List.{length-drop, nil_from_length, take_rest}
 use Rattle.blake2b_core.specs.Holding.{HoldsSoFar}
 use Rattle.blake2b_core.proofs.HeldLemmas.{three_parts, none_left}
