@@ -43,7 +43,6 @@ fn scheduled(m: &[u64; 16], r: usize, i: usize) -> u64
 
 // Round `r`: four columns, then four diagonals.
 #[inline(always)]
-#[tactic(auto, unfolding(crate::specs::Compression::round, crate::specs::Columns::columns, crate::specs::Columns::diagonals))]
 fn round(m: &[u64; 16], v: [u64; 16], r: usize) -> [u64; 16]
     requires { r < 12 }
     ensures { result ≡ round m.now v r }
