@@ -25,7 +25,8 @@ ShapeIs algos line (shapes.Tagged p) = (ignored line ≡ false) × (Some (line_p
     × (p.start ≤ p.stop) × (p.stop ≤ length line)
 ShapeIs algos line (shapes.Plain p) = (ignored line ≡ false) × (Some (line_parts line p) ≡ plain_of algos line)
     × (p.start ≤ p.stop) × (p.stop ≤ length line) × (None ≡ tagged_of algos line)
-ShapeIs algos line shapes.Neither = (ignored line ≡ false) × (None ≡ tagged_of algos line) × (None ≡ plain_of algos line)
+ShapeIs algos line shapes.Neither = (ignored line ≡ false) × (None ≡ tagged_of algos line)
+    × (None ≡ plain_of algos line)
 
 -- whether the raw name spells a name, which then stands in new from start on
 abbrev pub Names : Bool → List ℕ → ℕ → List ℕ → Bool → Type 0

@@ -47,7 +47,8 @@ struct OpenedLine<'a> {
 
 #[tactic(auto, unfolding(crate::specs::Scanned::opened_text))]
 fn open_line(algos: Algos, line: &[u8]) -> Option<OpenedLine<'_>>
-    ensures { option_map (λ o. record { escaped = o.escaped; kind = o.kind; inner = o.inner.now }) result ≡ opened_of algos line.now }
+    ensures { option_map (λ o. record { escaped = o.escaped; kind = o.kind; inner = o.inner.now }) result
+        ≡ opened_of algos line.now }
 {
     let (escaped, text) = unmark(skip_blanks(line));
     let algo = algo_at(algos, text)?;
