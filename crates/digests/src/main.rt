@@ -7,12 +7,11 @@ pub mod items;
 pub mod laws;
 pub mod options;
 pub mod reading;
+#[cfg(test)]
+mod tests;
 pub mod texts;
 pub mod tool;
 pub mod words;
-
-#[cfg(test)]
-mod tests;
 
 fn main(rt: HostRuntime) {
     let _ = arguments::read_command_line(&rt).is_ok();

@@ -87,8 +87,12 @@ pub struct Chosen<'a> {
 }
 
 // What all options say, or the answer where one of the words decides it.
-fn read_options<'a>(tool: Tool, words: &'a Words) -> Result<Chosen<'a>, Result<Request<'a>, WordFault<'a>>>
-    ensures read { MatchResult result (λ c. chosen_of c ≡ options (items tool words.now)) (λ r. first_of ends (items tool words.now) ≡ Some (answer_of r)) }
+fn read_options<'a>(
+    tool: Tool,
+    words: &'a Words,
+) -> Result<Chosen<'a>, Result<Request<'a>, WordFault<'a>>>
+    ensures read { MatchResult result (λ c. chosen_of c ≡ options (items tool words.now))
+        (λ r. first_of ends (items tool words.now) ≡ Some (answer_of r)) }
     ensures none { MatchResult result (λ _. first_of ends (items tool words.now) ≡ None) (λ _. Unit {0}) }
 {
     let mut items = Items::new(tool, words);
