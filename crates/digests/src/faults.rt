@@ -12,7 +12,7 @@ use sum_engine::Stop;
 use sum_lines::{Part, Sink, SinkFault, put_all, put_parts};
 
 /// A fault in the words. Each holds what its text shows, and the faults stand in the order in which they count.
-#[derive(Clone, Copy)]
+#[derive(Clone, Copy, Debug, PartialEq, Eq)]
 pub enum WordFault<'a> {
     /// A long option, of this name as it was typed, that no option's name begins with.
     UnknownLong(&'a str),

@@ -33,7 +33,7 @@ pub struct Items<'a> {
 
 // How reading goes on: with a whole word, with the rest of a cluster, with operands alone, or not at all.
 #[derive(Clone, Copy)]
-pub enum State<'a> {
+enum State<'a> {
     Word,
     Cluster(char, &'a str),
     Operands,

@@ -73,7 +73,7 @@ pub fn read_words<'a>(tool: Tool, words: &'a Words) -> Result<Request<'a>, WordF
 
 // What the options say, as far as they were read. A mode, a report setting and a length are the last of theirs.
 #[derive(Clone, Copy)]
-pub struct Chosen<'a> {
+struct Chosen<'a> {
     mode: Option<Mode>,
     report: Option<Report>,
     length: Option<&'a str>,
