@@ -1,2 +1,3 @@
+pub mod DigestLemmas
 pub mod DigitLemmas
 pub mod TagLemmas

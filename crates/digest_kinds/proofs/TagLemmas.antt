@@ -35,8 +35,8 @@ pub IfSome-find-begins : (bytes : List ℕ) (algos : List Algo) → IfSome (find
 IfSome-find-begins bytes [] = tt
 IfSome-find-begins bytes (a ∷ algos) =
     let at_test : (b : Bool) → begins bytes a ≡ b → IfSome (cond b (Some a) (find (begins bytes) algos)) (λ x. BeginsWithTag bytes x)
-          = λ b. elim b as (λ b. begins bytes a ≡ b → IfSome (cond b (Some a) (find (begins bytes) algos)) (λ x. BeginsWithTag bytes x)) [
-              | true ↦ λ h. BeginsWithTag-begins bytes a h
-              | false ↦ λ _. IfSome-find-begins bytes algos
-            ]
+    = λ b. elim b as (λ b. begins bytes a ≡ b → IfSome (cond b (Some a) (find (begins bytes) algos)) (λ x. BeginsWithTag bytes x)) [
+      | true ↦ λ h. BeginsWithTag-begins bytes a h
+      | false ↦ λ _. IfSome-find-begins bytes algos
+    ]
     in at_test (begins bytes a) refl

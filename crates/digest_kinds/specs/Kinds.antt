@@ -41,3 +41,7 @@ pub record KindValue : Type 0 where
 -- the algorithm with its full digest
 abbrev pub full_kind : Algo → KindValue
 full_kind a = record { algo = a; len = full a }
+
+-- BLAKE2b with a digest of n bytes
+abbrev pub blake2b_kind : ℕ → KindValue
+blake2b_kind n = record { algo = Blake2b; len = n }

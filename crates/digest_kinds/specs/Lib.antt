@@ -1,3 +1,4 @@
+pub mod AnyHasherState
 pub mod Digests
 pub mod Digits
 pub mod Kinds

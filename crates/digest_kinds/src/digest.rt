@@ -72,6 +72,7 @@ impl Digest {
     /// Writes the digits, in lower case, in front of `out`, leaves the rest, and answers their number.
     pub fn hex_into(&self, out: &mut [u8; 128]) -> usize
         ensures number { result ≡ 2 * length self.now }
+        ensures few { result ≤ 128 }
         ensures digits { out.new ≡ encode_lower self.now ++ drop (2 * length self.now) out.old }
     {
         let bytes = self.as_slice();

@@ -1,7 +1,7 @@
 //! An algorithm with its digest's length.
 
 ghost use Rattle.std.specs.Prelude.{◌≡◌, ◌*◌, ◌≤◌, IsTrue};
-ghost use Rattle.digest_kinds.specs.Kinds.{full_kind, has_len, tag};
+ghost use Rattle.digest_kinds.specs.Kinds.{blake2b_kind, full_kind, has_len, tag};
 ghost use Rattle.digest_kinds.specs.Lengths.{blake2b_of_bits};
 
 use crate::algo::Algo;
@@ -69,10 +69,19 @@ impl Kind {
         if bits % 8 != 0 {
             return Err(LengthFault::NotBytes);
         }
-        Ok(Kind {
+        Ok(Kind::blake2b((bits / 8) as usize))
+    }
+
+    /// BLAKE2b with a digest of `len` bytes.
+    pub(crate) fn blake2b(len: usize) -> Kind
+        requires some { 1 ≤ len }
+        requires few { len ≤ 64 }
+        ensures { result ≡ blake2b_kind len }
+    {
+        Kind {
             algo: Algo::Blake2b,
-            len: (bits / 8) as usize,
-        })
+            len,
+        }
     }
 
     /// The algorithm.

@@ -5,5 +5,4 @@ ghost use Rattle.digest_kinds.specs.Tags.{TagsApart};
 /// No algorithm's tag is a prefix of another's.
 pub fn tags_apart()
     ensures { TagsApart }
-{
-}
+{}

@@ -6,13 +6,18 @@
 #![tactic(auto)]
 
 mod algo;
+mod any_hasher;
+mod blake2b_hasher;
 mod digest;
 mod hasher;
 mod kind;
 mod kit_hashers;
 pub mod laws;
+#[cfg(test)]
+mod tests;
 
 pub use algo::{Algo, Algos};
+pub use any_hasher::AnyHasher;
 pub use digest::Digest;
 pub use hasher::Hasher;
 pub use kind::{Kind, LengthFault};

@@ -3,6 +3,7 @@ mod PieceLemmas
 mod OptionLemmas
 mod WordLemmas
 mod ReadingLemmas
+mod RunLemmas
 mod TextLemmas
 mod Rows
 mod PlainLemmas

@@ -5,6 +5,8 @@ pub mod Items
 pub mod Walk
 pub mod Request
 pub mod Reading
+pub mod Meaning
+pub mod Runs
 pub mod Texts
 pub mod Shown
 pub mod PlainWords

@@ -1,36 +1,39 @@
-//! What generation and checking are told by the command line.
+//! What a run is asked to do.
 
 use digest_kinds::{Algos, Kind};
 use sum_lines::Style;
 
-/// What generation is told: which digests, and in which style their lines are written.
+/// How names are hashed and their lines are written.
 #[derive(Clone, Copy, Debug, PartialEq, Eq)]
 pub struct Settings {
+    /// The digest's algorithm and length.
     pub kind: Kind,
+    /// The form of a line.
     pub style: Style,
 }
 
-/// How much checking reports.
+/// What checking reports, by the options `--quiet`, `--warn` and `--status` of the coreutils manual.
 #[derive(Clone, Copy, Debug, PartialEq, Eq)]
 pub enum Report {
-    /// A line for each entry, the default.
+    /// Each file, and the warnings at a manifest's end.
     All,
-    /// As the default, but no line for an entry whose digest is right.
+    /// As `All`, without the files that match.
     Quiet,
-    /// As the default, and a line for each improperly formatted line.
+    /// As `All`, and each line that is improperly formatted.
     Warn,
-    /// No line for any entry: the status alone.
+    /// No file and no warning: the answer alone, and faults.
     Status,
 }
 
-/// What checking is told.
+/// How manifests are checked.
 #[derive(Clone, Copy, Debug, PartialEq, Eq)]
 pub struct CheckSettings {
-    /// The algorithms that a manifest's lines may use.
+    /// The algorithms that lines may name.
     pub algo: Algos,
+    /// What is reported.
     pub report: Report,
-    /// Whether a manifest with an improperly formatted line fails.
+    /// Whether an improperly formatted line makes a manifest bad.
     pub strict: bool,
-    /// Whether a listed file that is missing is passed over.
+    /// Whether a listed file that isn't there is passed over.
     pub ignore_missing: bool,
 }

@@ -1,8 +1,8 @@
 -- What is escaped can be read back: no escape of a byte begins another's.
-use Rattle.std.proofs.Common.{◌≡◌, ◌≢◌, ℕ, suc, ◌+◌, ◌-◌, ◌<◌, ◌≤◌, Bool, true, false, cond, ◌==◌, List, [], ◌∷◌, ◌++◌, length, take, drop, set, get_or, Option, None, Some, refl, ap, sym, ◌∙◌, inl, inr, append_assoc, arith, rules, length-set, length-drop}
+use Rattle.std.proofs.Common.{◌≡◌, ◌≢◌, ℕ, ◌+◌, ◌-◌, ◌<◌, ◌≤◌, true, cond, ◌==◌, List, [], ◌∷◌, ◌++◌, length, take, drop, set, Option, None, Some, refl, ap, sym, ◌∙◌, inl, inr, append_assoc, arith, length-set, length-drop}
 use Rattle.std.proofs.lemmas.Bool.Decides.{eqb_tells}
-use Rattle.std.proofs.lemmas.List.{append_cancel_left, append-nil, take_rest, drop_all, length-take-le, drop-drop, take-take, take-append-le, take_more_set, drop-set-lt}
-use Rattle.std.proofs.lemmas.Grind.{flat_map-append, common_steps}
+use Rattle.std.proofs.lemmas.List.{append_cancel_left, append-nil, take_rest, length-take-le, drop-drop, take-take, take-append-le, take_more_set, drop-set-lt}
+use Rattle.std.proofs.lemmas.Grind.{flat_map-append}
 use Rattle.std.proofs.Math.Seq.{take-append-add}
 use Rattle.sum_lines.specs.Escape.{escape_of, escape, IsEscaped}
 
@@ -80,7 +80,7 @@ Half-more start bytes read write b width h here some fits =
     let now : take (write + 1) (set bytes write b) ≡ take write bytes ++ b ∷ [] = take_more_set bytes write b (omega (arith, h.behind)) in
     let after : drop next (set bytes write b) ≡ rest = drop-set-lt next bytes write b (omega (arith, h.behind)) in
     let written : escape (take write bytes ++ b ∷ []) ≡ escape (take write bytes) ++ escape_of b =
-        flat_map-append escape_of (take write bytes) (b ∷ []) ∙ ap (λ l. escape (take write bytes) ++ l) (append-nil (escape_of b)) in
+    flat_map-append escape_of (take write bytes) (b ∷ []) ∙ ap (λ l. escape (take write bytes) ++ l) (append-nil (escape_of b)) in
     record {
       behind = omega (arith, h.behind);
       within = omega (arith, length-set bytes write b);

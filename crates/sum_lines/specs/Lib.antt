@@ -1,5 +1,11 @@
 pub mod Escape
+pub mod Shapes
+pub mod Entries
+pub mod Scanned
+pub mod Laws
 pub mod Sinks
 pub mod ToldSinks
 pub mod Parts
 pub mod Lines
+pub mod Found
+pub mod Readings

@@ -3,13 +3,26 @@
 
 mod escape;
 mod from_write;
+pub mod laws;
+mod line_reading;
+#[cfg(test)]
+mod line_reading_tests;
+mod names;
 mod parts;
+mod plain;
+mod scanning;
 mod sink;
+#[cfg(test)]
+mod sink_tests;
+mod tagged;
 mod told_sink;
 mod written;
+#[cfg(test)]
+mod written_tests;
 
 pub use escape::{needs_escape, put_escaped, unescape_in};
 pub use from_write::FromWrite;
+pub use line_reading::{Form, Reading, read_line};
 pub use parts::{Part, put_number, put_parts};
 pub use sink::{Sink, SinkFault, put_all};
 pub use told_sink::ToldSink;

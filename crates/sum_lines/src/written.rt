@@ -4,7 +4,7 @@ ghost use Rattle.sum_lines.specs.Sinks.{Writes};
 
 use crate::escape::needs_escape;
 use crate::parts::{Part, put_parts};
-use crate::sink::{Sink, SinkFault};
+use crate::sink::{Sink, SinkFault, put_all};
 use digest_kinds::{Digest, Kind};
 
 /// The form of a line (coreutils manual, "md5sum invocation").
@@ -27,7 +27,8 @@ pub struct Style {
     pub zero: bool,
 }
 
-ghost use Rattle.sum_lines.specs.Lines.{form_of, line};
+ghost use Rattle.sum_lines.specs.Lines.{form_of, line, line_tag, mark};
+ghost use Rattle.hex.specs.Hex.{encode_lower};
 ghost use Rattle.sum_lines.specs.Parts.{part_text};
 
 /// Writes the line of a name and its digest. A fault where a write failed; a shorter front of the line is
@@ -42,43 +43,64 @@ pub fn put_line<S: Sink>(
     requires { length digest.now ≡ kind.len }
     ensures { Writes S.written S.failures sink.old sink.new (line style kind name.now digest.now) result }
 {
-    let mut digits = [0; 128];
-    let count = digest.hex_into(&mut digits);
-    let digits = &digits[..count];
+    let mut buffer = [0; 128];
+    let digits = digits_of(digest, &mut buffer);
     if style.zero {
-        return put_form(sink, style.mode, kind, b"", Part::Bytes(name), digits, b"\0");
+        put_form(sink, style.mode, kind, Part::Bytes(name), digits)?;
+        return put_all(sink, b"\0");
     }
-    let mark = if needs_escape(name) { "\\" } else { "" };
-    put_form(sink, style.mode, kind, mark.as_bytes(), Part::Escaped(name), digits, b"\n")
+    put_all(sink, mark_of(name))?;
+    put_form(sink, style.mode, kind, Part::Escaped(name), digits)?;
+    put_all(sink, b"\n")
 }
 
-// Writes a line, of which these are the parts.
+// The digits of a digest.
+fn digits_of<'a>(digest: &Digest, buffer: &'a mut [u8; 128]) -> &'a [u8]
+    ensures { result.now ≡ encode_lower digest.now }
+{
+    let count = digest.hex_into(buffer);
+    &buffer[..count]
+}
+
+// What stands before a line.
+fn mark_of(name: &[u8]) -> &'static [u8]
+    ensures { result.now ≡ mark name.now }
+{
+    if needs_escape(name) { b"\\" } else { b"" }
+}
+
+// Writes a line without its end and without a backslash before it.
 fn put_form<'a, S: Sink>(
     sink: &mut S,
     mode: Mode,
     kind: Kind,
-    mark: &'a [u8],
     name: Part<'a>,
     digits: &'a [u8],
-    end: &'a [u8],
 ) -> Result<(), SinkFault>
     ensures { Writes S.written S.failures sink.old sink.new
-        (mark.now ++ form_of mode kind (part_text name.entry) digits.now ++ end.now) result }
+        (form_of mode kind (part_text name.entry) digits.now) result }
 {
-    let mark = Part::Bytes(mark);
     let digits = Part::Bytes(digits);
-    let end = Part::Bytes(end);
     match mode {
-        Mode::Text => put_parts(sink, &[mark, digits, Part::Bytes(b"  "), name, end]),
-        Mode::Binary => put_parts(sink, &[mark, digits, Part::Bytes(b" *"), name, end]),
+        Mode::Text => put_parts(sink, &[digits, Part::Bytes(b"  "), name]),
+        Mode::Binary => put_parts(sink, &[digits, Part::Bytes(b" *"), name]),
         Mode::Tag => {
-            let tag = Part::Bytes(kind.tag().as_bytes());
-            if kind.len() == Kind::of(kind.algo()).len() {
-                put_parts(sink, &[mark, tag, Part::Bytes(b" ("), name, Part::Bytes(b") = "), digits, end])
-            } else {
-                let bits = Part::Number(kind.bits());
-                put_parts(sink, &[mark, tag, Part::Bytes(b"-"), bits, Part::Bytes(b" ("), name, Part::Bytes(b") = "), digits, end])
-            }
+            put_tag(sink, kind)?;
+            put_parts(
+                sink,
+                &[Part::Bytes(b" ("), name, Part::Bytes(b") = "), digits],
+            )
         }
     }
+}
+
+// Writes the tag, for a BLAKE2b digest that isn't full with its bits.
+fn put_tag<S: Sink>(sink: &mut S, kind: Kind) -> Result<(), SinkFault>
+    ensures { Writes S.written S.failures sink.old sink.new (line_tag kind) result }
+{
+    let tag = Part::Bytes(kind.tag().as_bytes());
+    if kind.len() == Kind::of(kind.algo()).len() {
+        return put_parts(sink, &[tag]);
+    }
+    put_parts(sink, &[tag, Part::Bytes(b"-"), Part::Number(kind.bits())])
 }

@@ -12,6 +12,11 @@ pub record Content : Type 0 where
   pub bytes : List ℕ
   pub ending : Ending
 
+-- an input in memory: what it has still to give, and the most bytes that one read gives
+pub record ToldContent : Type 0 where
+  pub content : Content
+  pub piece : ℕ
+
 -- an input of so many bytes or more is too long
 unfoldable pub limit : ℕ
 limit = 2 ^ 61
@@ -20,13 +25,21 @@ limit = 2 ^ 61
 abbrev pub clip : Content → Content
 clip c = if nat_lt (length c.bytes) limit then c else record { bytes = take (limit - 1) c.bytes; ending = Broken Other }
 
--- what a read does, where an input tells its content: it takes the first bytes; it finds the end only where no byte is
--- left, and the fault that the input ends by likewise
+-- what holds between two contents, where they are told; what is told stays told
+abbrev pub WhereTold : Option Content → Option Content → (Content → Content → Type 0) → Type 0
+WhereTold None new P = ⊤
+WhereTold (Some c) None P = ⊥
+WhereTold (Some c) (Some d) P = P c d
+
+-- a read takes the first bytes; it finds the end only where no byte is left and the ending is whole, and a fault only
+-- where no byte is left and the ending is that fault
+abbrev pub ReadsFrom : Content → Content → Result ℕ Fault → List ℕ → Type 0
+ReadsFrom c d (Ok n) buf = (c.bytes ≡ take n buf ++ d.bytes) × (d.ending ≡ c.ending) × (n ≡ 0 → 0 < length buf → (c.bytes ≡ []) × (c.ending ≡ Whole))
+ReadsFrom c d (Err f) buf = (c.bytes ≡ []) × (c.ending ≡ Broken f) × (d ≡ c)
+
+-- what a read does, where an input tells its content
 abbrev pub ReadGives : Option Content → Option Content → Result ℕ Fault → List ℕ → Type 0
-ReadGives None new r buf = ⊤
-ReadGives (Some c) None r buf = ⊥
-ReadGives (Some c) (Some d) (Ok n) buf = (c.bytes ≡ take n buf ++ d.bytes) × (d.ending ≡ c.ending) × (n ≡ 0 → 0 < length buf → (c.bytes ≡ []) × (c.ending ≡ Whole))
-ReadGives (Some c) (Some d) (Err f) buf = (c.bytes ≡ []) × (c.ending ≡ Broken f) × (d ≡ c)
+ReadGives old new r buf = WhereTold old new (λ c d. ReadsFrom c d r buf)
 
 -- the digest of a content that ends whole, or the fault by which it ends
 abbrev pub Hashes : KindValue → Content → Result (List ℕ) Fault → Type 0

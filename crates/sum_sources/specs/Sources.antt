@@ -55,8 +55,14 @@ abbrev pub first_reply : List Pair → List ℕ → Reply
 first_reply [] name = Refused NotFound
 first_reply (p ∷ ps) name = if bytes_eq p.name name then p.reply else first_reply ps name
 
--- a told source: its pairs in the order in which they were added, the names asked, and how often memory was refused
+-- a source in memory: its pairs in the order in which they were added, the names asked, the most bytes that one read of
+-- its files gives, and how often memory was refused
 pub record ToldFiles : Type 0 where
   pub pairs : List Pair
   pub asked : List (List ℕ)
+  pub piece : ℕ
   pub refusals : ℕ
+
+-- what it tells
+abbrev pub telling_of : ToldFiles → Telling
+telling_of s = record { answer = first_reply s.pairs; asked = s.asked }

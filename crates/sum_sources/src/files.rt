@@ -1,10 +1,12 @@
 //! Real files.
 ghost use Rattle.std.specs.Prelude.{◌≡◌};
+ghost use Rattle.std.specs.Str.{IsUtf8};
 ghost use Rattle.sum_sources.specs.Sources.{refusals_after};
 
 use crate::from_read::fault_of;
 use crate::{Fault, FromRead, OpenFault, Source};
 use std::io::{ErrorKind, Read};
+use std::marker::Model;
 use std::{fs, rt};
 
 /// The files that the runtime opens. It tells nothing of them.
@@ -14,9 +16,20 @@ pub struct Files<R> {
     refusals: u64,
 }
 
+impl<R> Model for Files<R> {
+    ghost use Rattle.std.specs.Prelude.{ℕ};
+
+    // How often memory was refused: nothing more is known of real files.
+    ghost Value = { ℕ };
+
+    ghost view = { λ s. s.refusals };
+}
+
 impl<R: rt::Files + Drop> Files<R> {
     /// The files of that runtime.
-    pub fn new(rt: R) -> Self {
+    pub fn new(rt: R) -> Self
+        ensures { result ≡ 0 }
+    {
         Files { rt, refusals: 0 }
     }
 }
@@ -27,10 +40,13 @@ where
 {
     type File = FromRead<R::File>;
 
-    ghost refusals = { λ s. s.refusals };
+    ghost refusals = { λ s. s };
 
-    fn open_file(&mut self, name: &[u8]) -> Result<FromRead<R::File>, OpenFault> {
-        // The runtime's paths are texts.
+    /// Opens the file; a name that isn't UTF-8 is `Fault::Other`, since the runtime's paths are texts.
+    fn open_file(&mut self, name: &[u8]) -> Result<FromRead<R::File>, OpenFault>
+        ensures refusals { self.new ≡ refusals_after self.old result }
+        ensures text { (IsUtf8 name.now → ⊥) → result ≡ Err (OpenFault.Fault Fault.Other) }
+    {
         let Ok(path) = str::from_utf8(name) else {
             return Err(OpenFault::Fault(Fault::Other));
         };

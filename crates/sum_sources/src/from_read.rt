@@ -1,6 +1,9 @@
 //! Inputs over std's readers.
+ghost use Rattle.std.specs.Prelude.{◌≡◌};
+
 use crate::{Fault, Input};
 use std::io::{self, ErrorKind, Read};
+use std::marker::Model;
 
 /// How often in a row a reader may be interrupted before that is a fault.
 const INTERRUPTIONS: u32 = 1000;
@@ -20,10 +23,18 @@ pub struct FromRead<R> {
     reader: R,
 }
 
+impl<R> Model for FromRead<R> {
+    ghost Value = { R };
+
+    ghost view = { λ s. s.reader };
+}
+
 impl<R: Read> FromRead<R> {
     /// The input that gives what `reader` gives. Each fault of the reader is answered by its kind;
     /// the 1,000th interruption in a row within one read is `Fault::Other`.
-    pub fn new(reader: R) -> Self {
+    pub fn new(reader: R) -> Self
+        ensures { result ≡ reader }
+    {
         FromRead { reader }
     }
 }

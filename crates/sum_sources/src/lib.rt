@@ -7,6 +7,8 @@ mod files;
 mod from_read;
 mod hashing;
 mod input;
+pub mod laws;
+mod lines;
 mod source;
 mod standard;
 mod told;
@@ -17,7 +19,11 @@ pub use files::Files;
 pub use from_read::FromRead;
 pub use hashing::hash_input;
 pub use input::Input;
+pub use lines::{LineReader, LineStop, Next};
 pub use source::{OpenFault, Source};
 pub use standard::{Given, Stdin};
 pub use told::Told;
 pub use told_source::{Answer, NoRoom, ToldSource};
+
+#[cfg(test)]
+mod tests;

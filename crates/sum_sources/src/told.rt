@@ -1,8 +1,9 @@
 //! An input in memory.
-ghost use Rattle.std.specs.Prelude.{◌≡◌, ℕ, ◌≤◌, Some, length, max, IfOk};
+ghost use Rattle.std.specs.Prelude.{◌≡◌, ◌≤◌, length, max, IfOk};
 ghost use Rattle.sum_sources.specs.Contents.{ReadGives};
 
 use crate::{Ending, Fault, Input};
+use std::marker::Model;
 
 /// An input that gives bytes from memory, and tells them.
 #[derive(Drop)]
@@ -10,16 +11,30 @@ pub struct Told<'a> {
     rest: &'a [u8],
     ending: Ending,
     piece: usize,
-    ghost some: { 1 ≤ piece },
+}
+
+impl<'a> Model for Told<'a> {
+    ghost use Rattle.std.specs.Prelude.{◌≤◌};
+    ghost use Rattle.sum_sources.specs.Contents.{ToldContent};
+
+    ghost Value = { ToldContent };
+
+    ghost view = { λ s. record {
+      content = record { bytes = s.rest.now; ending = s.ending };
+      piece = s.piece;
+    } };
+
+    ghost invariant = { λ s. 1 ≤ s.piece };
 }
 
 impl<'a> Told<'a> {
     /// An input that gives `content`, at most `piece` bytes a read (0 counts as 1), and then ends by
     /// `ending`.
     pub fn new(content: &'a [u8], ending: Ending, piece: usize) -> Told<'a>
-        ensures content { ⟦<Told<'a> as Input>⟧.content result
-            ≡ Some (record { bytes = content.entry.now; ending = ending }) }
-        ensures piece { result.piece ≡ max piece 1 }
+        ensures { result ≡ record {
+          content = record { bytes = content.entry.now; ending = ending };
+          piece = max piece 1;
+        } }
     {
         Told {
             rest: content,
@@ -32,11 +47,11 @@ impl<'a> Told<'a> {
 impl<'a> Input for Told<'a> {
     ghost use Rattle.std.specs.Prelude.{Some};
 
-    ghost content = { λ s. Some (record { bytes = s.rest.now; ending = s.ending }) };
+    ghost content = { λ s. Some s.content };
 
     fn read(&mut self, buf: &mut [u8]) -> Result<usize, Fault>
         ensures count { IfOk result (λ n. n ≤ length buf.new) }
-        ensures bytes { ReadGives (⟦<Told<'a> as Input>⟧.content self.old) (⟦<Told<'a> as Input>⟧.content self.new) result buf.new }
+        ensures bytes { ReadGives (Some self.old.content) (Some self.new.content) result buf.new }
         ensures few { IfOk result (λ n. n ≤ self.old.piece) }
         ensures piece { self.new.piece ≡ self.old.piece }
     {

@@ -1,10 +1,10 @@
 //! A source in memory.
-ghost use Rattle.std.specs.Prelude.{◌≡◌, ◌++◌, ◌∷◌, [], OnOk, OnErr, map, slice_get};
+ghost use Rattle.std.specs.Prelude.{◌≡◌, ◌++◌, ◌∷◌, [], OnOk, OnErr, IfOk, Some, map, max, slice_get};
 ghost use Rattle.std.specs.Option.{option_map};
-ghost use Rattle.sum_sources.specs.Sources.{first_reply};
+ghost use Rattle.sum_sources.specs.Sources.{first_reply, telling_of, OpenGives, after_refusal, refusals_after};
 ghost use Rattle.sum_sources.specs.ToldPairs.{pair_of, reply_of};
 
-use crate::{Ending, Fault, OpenFault, Source, Told};
+use crate::{Ending, Fault, Input, OpenFault, Source, Told};
 use std::alloc::Global;
 use std::marker::Model;
 
@@ -47,6 +47,7 @@ impl<'a> Model for ToldSource<'a> {
     ghost view = { λ s. record {
       pairs = map pair_of s.pairs.items;
       asked = map (λ v. v.items) s.asked.items;
+      piece = s.piece;
       refusals = s.refusals;
     } };
 }
@@ -66,13 +67,13 @@ fn answer_to<'a>(pairs: &[StoredPair<'a>], name: &[u8]) -> Answer<'a>
 impl<'a> ToldSource<'a> {
     /// A source without names, whose files give at most `piece` bytes a read (0 counts as 1).
     pub fn new(alloc: Global, piece: usize) -> ToldSource<'a>
-        ensures { result ≡ record { pairs = []; asked = []; refusals = 0 } }
+        ensures { result ≡ record { pairs = []; asked = []; piece = max piece 1; refusals = 0 } }
     {
         ToldSource {
             pairs: Vec::new(alloc),
             asked: Vec::new(alloc),
             alloc,
-            piece,
+            piece: piece.max(1),
             refusals: 0,
         }
     }
@@ -94,6 +95,22 @@ impl<'a> ToldSource<'a> {
         }
     }
 
+    // Adds the name to those asked, or counts the refusal.
+    fn ask(&mut self, name: &[u8]) -> Result<(), NoRoom>
+        ensures ok { OnOk result (self.new ≡ record self.old { asked = self.old.asked ++ name.now ∷ [] }) }
+        ensures err { OnErr result (self.new ≡ record self.old { refusals = after_refusal self.old.refusals }) }
+    {
+        let asked = match Vec::from_slice(self.alloc, name) {
+            Ok(name) => self.asked.push(name).is_ok(),
+            Err(_) => false,
+        };
+        if asked {
+            return Ok(());
+        }
+        self.refusals = self.refusals.saturating_add(1);
+        Err(NoRoom)
+    }
+
     /// The name at place `i`, from 0, of the names asked so far.
     pub fn asked_name(&self, i: usize) -> Option<&[u8]>
         ensures { option_map (λ n. n.now) result ≡ slice_get self.now.asked i }
@@ -109,21 +126,21 @@ impl<'a> Source for ToldSource<'a> {
     type File = Told<'a>;
 
     ghost use Rattle.std.specs.Prelude.{Some};
-    ghost use Rattle.sum_sources.specs.Sources.{first_reply};
+    ghost use Rattle.sum_sources.specs.Sources.{telling_of};
 
-    ghost told = { λ s. Some (record { answer = first_reply s.pairs; asked = s.asked }) };
+    ghost told = { λ s. Some (telling_of s) };
 
     ghost refusals = { λ s. s.refusals };
 
-    fn open_file(&mut self, name: &[u8]) -> Result<Told<'a>, OpenFault> {
-        let Ok(copy) = Vec::from_slice(self.alloc, name) else {
-            self.refusals = self.refusals.saturating_add(1);
+    fn open_file(&mut self, name: &[u8]) -> Result<Told<'a>, OpenFault>
+        ensures answer { OpenGives ⟦<Told<'a> as Input>⟧.content (Some (telling_of self.old)) (Some (telling_of self.new)) name.now result }
+        ensures refusals { self.new.refusals ≡ refusals_after self.old.refusals result }
+        ensures piece { IfOk result (λ file. file.piece ≡ max self.old.piece 1) }
+        ensures same { (self.new.pairs ≡ self.old.pairs) × (self.new.piece ≡ self.old.piece) }
+    {
+        let Ok(()) = self.ask(name) else {
             return Err(OpenFault::Memory);
         };
-        if self.asked.push(copy).is_err() {
-            self.refusals = self.refusals.saturating_add(1);
-            return Err(OpenFault::Memory);
-        }
         match answer_to(&self.pairs, name) {
             Answer::Fault(fault) => Err(OpenFault::Fault(fault)),
             Answer::Content(content, ending) => Ok(Told::new(content, ending, self.piece)),

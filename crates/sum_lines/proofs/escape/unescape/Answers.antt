@@ -1,4 +1,4 @@
-use Rattle.std.proofs.Common.{rules, arith, ◌≡◌, ◌≤◌, ◌-◌, length, take, drop, slice_index}
+use Rattle.std.proofs.Common.{rules}
 use Rattle.std.proofs.lemmas.List.{take_rest}
 use Rattle.sum_lines.proofs.UnescapeLemmas.{Half-more, Half-fits, Half-refused}
 use Rattle.sum_lines.proofs.escape.unescape.Goals as goal

@@ -1,4 +1,4 @@
-use Rattle.std.proofs.Common.{◌^◌, ◌<◌, length, arith, rules, sym, ◌∙◌, ap}
+use Rattle.std.proofs.Common.{[], [], ◌^◌, ◌<◌, length, arith, rules, sym, ◌∙◌, ap}
 use Rattle.std.proofs.lemmas.Result.{err_from_is_err_and}
 use Rattle.digest_kinds.specs.Digests.{digest}
 use Rattle.sum_sources.proofs.hashing.hash_input.Goals as goal
@@ -9,7 +9,7 @@ returns-in_err-read-clause-gives g c =
     let held = c.loop-buf.invariant.held in
     let few : length held.0 < 2 ^ 61 = rw (sym (g.met.H.Hasher.counts _ _ held.1)) c.loop-buf.invariant.few in
     let fault = err_from_is_err_and c.from_residual.result c.from_residual.ensures.1 in
-    rw (fault.1, fault.2) (Hashes-fault _ _ _ held.0 _ (g.H.Hasher.kind_of c.args.hasher) _ held.2 c.in_err-read.ensures.bytes few)
+    rw (fault.1, fault.2) (Hashes-fault _ _ _ held.0 [] (g.H.Hasher.kind_of c.args.hasher) _ held.2 c.in_err-read.ensures.bytes few)
 
 pub returns-in-0-clause-gives : goal.returns-in-0-clause-gives
 returns-in-0-clause-gives g c =
@@ -28,7 +28,7 @@ returns-in_err-n-clause-gives g c =
     let held = c.loop-buf.invariant.held in
     let few : length held.0 < 2 ^ 61 = rw (sym (g.met.H.Hasher.counts _ _ held.1)) c.loop-buf.invariant.few in
     let fault = err_from_is_err_and c.from_residual-in_err-n.result c.from_residual-in_err-n.ensures.1 in
-    rw (fault.1, fault.2) (Hashes-fault _ _ _ held.0 _ (g.H.Hasher.kind_of c.args.hasher) _ held.2 c.in_err-n.ensures.bytes few)
+    rw (fault.1, fault.2) (Hashes-fault _ _ _ held.0 [] (g.H.Hasher.kind_of c.args.hasher) _ held.2 c.in_err-n.ensures.bytes few)
 
 pub returns-then-n-eq0-clause-gives : goal.returns-then-n-eq0-clause-gives
 returns-then-n-eq0-clause-gives g c =

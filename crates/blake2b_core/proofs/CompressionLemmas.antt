@@ -1,0 +1,72 @@
+-- Lemmas on the compression function's definitions.
+use Rattle.std.proofs.Common.{◌≡◌, ℕ, zero, suc, ◌+◌, ◌*◌, ◌/◌, ◌%◌, ◌^◌, ◌<◌, ◌≤◌, Bool, true, false, ◌&&◌, List, [], ◌∷◌, ◌++◌, length, take, drop, map, get_or, nat_lt, if◌then◌else◌, refl, sym, ap, ◌∙◌, arith, lit<, lit≤}
+use Rattle.std.proofs.Math.Nat.{mod-eq_of_lt}
+use Rattle.std.proofs.lemmas.Bool.{ltb-true}
+use Rattle.std.proofs.lemmas.List.{take-append-drop, length-take-le, length-drop, drop-drop, length-map, get_or-map, ext_get_or}
+use Rattle.std.specs.Int.{w64, bit_not}
+use Rattle.std.specs.List.{list_all}
+use Rattle.std.specs.Simd.{first_chunks}
+use Rattle.byteorder.specs.Endian.{little_number}
+use Rattle.byteorder.specs.Numbers.{little_from-append}
+use Rattle.blake2b_core.specs.Compression.{◌!◌, ◌⊻◌, sigma, iv, start, block_words}
+
+and_left : (a b : Bool) → (a && b) ≡ true → a ≡ true
+and_left true b h = refl
+and_left false b h = cc
+
+and_right : (a b : Bool) → (a && b) ≡ true → b ≡ true
+and_right true b h = h
+and_right false b h = cc
+
+row_below : (row : List ℕ) → list_all (λ x. nat_lt x 16) row ≡ true → (k : ℕ) → get_or row k 0 < 16
+row_below [] h k = lit< tt
+row_below (x ∷ row) h zero = ltb-true x 16 (and_left (nat_lt x 16) _ h)
+row_below (x ∷ row) h (suc k) = row_below row (and_right (nat_lt x 16) _ h) k
+
+rows_below : (rows : List (List ℕ)) → list_all (list_all (λ x. nat_lt x 16)) rows ≡ true → (r k : ℕ) → get_or (get_or rows r []) k 0 < 16
+rows_below [] h r k = lit< tt
+rows_below (row ∷ rows) h zero k = row_below row (and_left (list_all (λ x. nat_lt x 16) row) _ h) k
+rows_below (row ∷ rows) h (suc r) k = rows_below rows (and_right (list_all (λ x. nat_lt x 16) row) _ h) r k
+
+-- each entry of SIGMA is a place in a block of sixteen words
+pub sigma-mod : (r k : ℕ) → get_or (get_or sigma r []) k 0 % 16 ≡ get_or (get_or sigma r []) k 0
+sigma-mod r k = mod-eq_of_lt (rows_below sigma refl r k)
+
+-- the working vector before the first round, written out
+pub start-is : (h : List ℕ) (t : ℕ) (last : Bool) → length h ≡ 8 →
+    start h t last ≡ h ! 0 ∷ h ! 1 ∷ h ! 2 ∷ h ! 3 ∷ h ! 4 ∷ h ! 5 ∷ h ! 6 ∷ h ! 7 ∷ iv ! 0 ∷ iv ! 1 ∷ iv ! 2 ∷ iv ! 3
+    ∷ (iv ! 4 ⊻ t % 2 ^ 64) ∷ (iv ! 5 ⊻ t / 2 ^ 64) ∷ (if last then bit_not w64 (iv ! 6) else iv ! 6) ∷ iv ! 7 ∷ []
+unfolding start
+start-is (a ∷ b ∷ c ∷ d ∷ e ∷ f ∷ g ∷ h ∷ []) t true size = refl
+start-is (a ∷ b ∷ c ∷ d ∷ e ∷ f ∷ g ∷ h ∷ []) t false size = refl
+start-is _ t last size = absurd (omega arith)
+
+pub length-first_chunks : {X : Type 0} (n k : ℕ) (xs : List X) → length (first_chunks n k xs) ≡ k
+length-first_chunks n zero xs = refl
+length-first_chunks n (suc k) xs = ap suc (length-first_chunks n k (drop n xs))
+
+pub get_or-first_chunks : {X : Type 0} (n k : ℕ) (xs : List X) (i : ℕ) (d : List X) → i < k → get_or (first_chunks n k xs) i d ≡ take n (drop (n * i) xs)
+get_or-first_chunks n zero xs i d h = absurd (omega arith)
+get_or-first_chunks n (suc k) xs zero d h = let e : n * 0 ≡ 0 = omega arith in rw e refl
+get_or-first_chunks n (suc k) xs (suc i) d h =
+    let e : n + n * i ≡ n * suc i = omega arith in
+    get_or-first_chunks n k (drop n xs) i d (omega arith) ∙ ap (take n) (drop-drop (n * i) n xs ∙ ap (λ j. drop j xs) e)
+
+-- a number of eight bytes is the number in the first eight
+little_number-take : (xs : List ℕ) → 8 ≤ length xs → little_number 8 (take 8 xs) ≡ little_number 8 xs
+little_number-take xs long =
+    let front : 8 ≤ length (take 8 xs) = omega (arith, length-take-le 8 xs long) in
+    sym (little_from-append 8 (take 8 xs) (drop 8 xs) front) ∙ ap (little_number 8) (take-append-drop 8 xs)
+
+-- sixteen words that read as the bytes of a block are its words
+pub block_words-is : (m block : List ℕ) → length m ≡ 16 → length block ≡ 128
+    → ((k : ℕ) → k < length m → m ! k ≡ little_number 8 (drop (8 * k) block)) → m ≡ block_words block
+unfolding block_words
+block_words-is m block sixteen size read =
+    let count : length (map (little_number 8) (first_chunks 8 16 block)) ≡ 16 = length-map (first_chunks 8 16 block) (little_number 8) in
+    ext_get_or 0 m _ (sixteen ∙ sym count) (λ i below.
+    let i_below : i < 16 = omega arith in
+    let chunk = get_or-first_chunks 8 16 block i [] i_below in
+    let word = get_or-map (little_number 8) (first_chunks 8 16 block) i [] 0 i_below in
+    let long : 8 ≤ length (drop (8 * i) block) = omega (arith, length-drop (8 * i) block) in
+    read i below ∙ sym (word ∙ ap (little_number 8) chunk ∙ little_number-take (drop (8 * i) block) long))

@@ -1,0 +1,19 @@
+use Rattle.std.proofs.Common.{◌≡◌, ℕ, ◌+◌, ◌*◌, ◌≤◌, length, ap, sym, ◌∙◌, arith, length-append, rules}
+use Rattle.blake2b_core.proofs.DigestLemmas.{hash_after-append}
+use Rattle.blake2b_core.proofs.HeldLemmas.{held-more}
+use Rattle.blake2b_core.proofs.pieces.Blake2b.hold.Goals as goal
+
+pub returns-clause-holds : goal.returns-clause-holds
+returns-clause-holds c = λ m held.
+    let s = c.args.self.now in
+    let bytes = c.args.bytes.now in
+    let counted : 128 * held.done + s.used ≡ length m = held.count in
+    let within : 128 * held.done ≤ length m = omega arith in
+    let room : s.used ≤ length s.held = search rules in
+    record {
+      taken = let taken = held.taken in omega (arith, length-append m bytes);
+      done = held.done;
+      count = omega (arith, length-append m bytes);
+      hash = held.hash ∙ sym (hash_after-append s.len m bytes held.done within);
+      rest = held-more s.used _ s.held _ bytes m (128 * held.done) room c.copy_from_slice.ensures.after within held.rest;
+    }

@@ -1,0 +1,10 @@
+use Rattle.std.proofs.Common.{refl, arith}
+use Rattle.blake2b_core.specs.Digest.{hash_after}
+use Rattle.blake2b_core.proofs.pieces.Blake2b.new.Goals as goal
+
+pub returns-clause-holds : goal.returns-clause-holds
+unfolding hash_after
+returns-clause-holds c = record {
+  so_far = record { taken = refl; done = 0; count = refl; hash = c.initial.ensures; rest = refl };
+  none_held = λ _. refl;
+}

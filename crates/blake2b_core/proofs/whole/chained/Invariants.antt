@@ -1,0 +1,11 @@
+use Rattle.std.proofs.Common.{◌≡◌, ℕ, ◌+◌, ◌*◌, List}
+use Rattle.blake2b_core.specs.Digest.{blocks, hash_after}
+use Rattle.blake2b_core.specs.Holding.{AreBlocksFrom}
+use Rattle.blake2b_core.proofs.whole.chained.Given as goal
+
+abbrev pub invariant-loop-block : goal.invariant-loop-block
+invariant-loop-block l = record {
+  counted : l.taken ≡ l.before + 128 * l.block-index;
+  hashed : (n : ℕ) (m : List ℕ) (k : ℕ) → 128 * k ≡ l.before → AreBlocksFrom m k l.followed
+      → l.fn.h ≡ hash_after n (blocks m) k → l.h ≡ hash_after n (blocks m) (k + l.block-index);
+}

@@ -1,0 +1,93 @@
+-- The compression function F of BLAKE2b (RFC 7693, 2.6, 2.7, 3.1 and 3.2). A word is a number below
+-- 2 ^ 64, a block is a list of 128 bytes.
+use Rattle.std.specs.Prelude.{ℕ, ◌+◌, ◌*◌, ◌/◌, ◌%◌, ◌^◌, Bool, List, [], ◌∷◌, ◌++◌, map, fold, bit_xor, slice_index, slice_index_or, slice_set, if◌then◌else◌}
+use Rattle.std.specs.List.{range_with_len}
+use Rattle.std.specs.Int.{w64, bit_not, rotate_right}
+use Rattle.std.specs.Simd.{first_chunks}
+use Rattle.byteorder.specs.Endian.{little_number}
+
+-- the initialization vector
+abbrev pub iv : List ℕ
+iv =
+    0x6a09e667f3bcc908 ∷ 0xbb67ae8584caa73b ∷ 0x3c6ef372fe94f82b ∷ 0xa54ff53a5f1d36f1 ∷
+    0x510e527fade682d1 ∷ 0x9b05688c2b3e6c1f ∷ 0x1f83d9abfb41bd6b ∷ 0x5be0cd19137e2179 ∷ []
+
+-- the order in which the rounds take the words of a block
+abbrev pub sigma : List (List ℕ)
+sigma =
+    (0 ∷ 1 ∷ 2 ∷ 3 ∷ 4 ∷ 5 ∷ 6 ∷ 7 ∷ 8 ∷ 9 ∷ 10 ∷ 11 ∷ 12 ∷ 13 ∷ 14 ∷ 15 ∷ []) ∷
+    (14 ∷ 10 ∷ 4 ∷ 8 ∷ 9 ∷ 15 ∷ 13 ∷ 6 ∷ 1 ∷ 12 ∷ 0 ∷ 2 ∷ 11 ∷ 7 ∷ 5 ∷ 3 ∷ []) ∷
+    (11 ∷ 8 ∷ 12 ∷ 0 ∷ 5 ∷ 2 ∷ 15 ∷ 13 ∷ 10 ∷ 14 ∷ 3 ∷ 6 ∷ 7 ∷ 1 ∷ 9 ∷ 4 ∷ []) ∷
+    (7 ∷ 9 ∷ 3 ∷ 1 ∷ 13 ∷ 12 ∷ 11 ∷ 14 ∷ 2 ∷ 6 ∷ 5 ∷ 10 ∷ 4 ∷ 0 ∷ 15 ∷ 8 ∷ []) ∷
+    (9 ∷ 0 ∷ 5 ∷ 7 ∷ 2 ∷ 4 ∷ 10 ∷ 15 ∷ 14 ∷ 1 ∷ 11 ∷ 12 ∷ 6 ∷ 8 ∷ 3 ∷ 13 ∷ []) ∷
+    (2 ∷ 12 ∷ 6 ∷ 10 ∷ 0 ∷ 11 ∷ 8 ∷ 3 ∷ 4 ∷ 13 ∷ 7 ∷ 5 ∷ 15 ∷ 14 ∷ 1 ∷ 9 ∷ []) ∷
+    (12 ∷ 5 ∷ 1 ∷ 15 ∷ 14 ∷ 13 ∷ 4 ∷ 10 ∷ 0 ∷ 7 ∷ 6 ∷ 3 ∷ 9 ∷ 2 ∷ 8 ∷ 11 ∷ []) ∷
+    (13 ∷ 11 ∷ 7 ∷ 14 ∷ 12 ∷ 1 ∷ 3 ∷ 9 ∷ 5 ∷ 0 ∷ 15 ∷ 4 ∷ 8 ∷ 6 ∷ 2 ∷ 10 ∷ []) ∷
+    (6 ∷ 15 ∷ 14 ∷ 9 ∷ 11 ∷ 3 ∷ 0 ∷ 8 ∷ 12 ∷ 2 ∷ 13 ∷ 7 ∷ 1 ∷ 4 ∷ 10 ∷ 5 ∷ []) ∷
+    (10 ∷ 2 ∷ 8 ∷ 4 ∷ 7 ∷ 6 ∷ 1 ∷ 5 ∷ 15 ∷ 11 ∷ 9 ∷ 14 ∷ 3 ∷ 12 ∷ 13 ∷ 0 ∷ []) ∷ []
+
+-- v ! i: the word at place i
+infixl 90 ◌!◌
+abbrev pub ◌!◌ : List ℕ → ℕ → ℕ
+v ! i = slice_index v i
+
+-- x ⊞ y: the sum modulo 2 ^ 64
+infixl 65 ◌⊞◌
+abbrev pub ◌⊞◌ : ℕ → ℕ → ℕ
+x ⊞ y = (x + y) % 2 ^ 64
+
+-- x ⊻ y: exclusive or
+infixl 60 ◌⊻◌
+abbrev pub ◌⊻◌ : ℕ → ℕ → ℕ
+x ⊻ y = bit_xor x y
+
+-- x ⋙ k: rotation to the right by k bits
+infixl 55 ◌⋙◌
+abbrev pub ◌⋙◌ : ℕ → ℕ → ℕ
+x ⋙ k = rotate_right w64 x k
+
+-- the mixing function G (3.1): it mixes the words x and y into v at the places a, b, c and d
+unfoldable pub mix : List ℕ → ℕ → ℕ → ℕ → ℕ → ℕ → ℕ → List ℕ
+mix v a b c d x y =
+    let v = slice_set v a (v ! a ⊞ v ! b ⊞ x) in
+    let v = slice_set v d (v ! d ⊻ v ! a ⋙ 32) in
+    let v = slice_set v c (v ! c ⊞ v ! d) in
+    let v = slice_set v b (v ! b ⊻ v ! c ⋙ 24) in
+    let v = slice_set v a (v ! a ⊞ v ! b ⊞ y) in
+    let v = slice_set v d (v ! d ⊻ v ! a ⋙ 16) in
+    let v = slice_set v c (v ! c ⊞ v ! d) in
+    slice_set v b (v ! b ⊻ v ! c ⋙ 63)
+
+-- the word of the block m that round r takes at place i of its row of SIGMA
+unfoldable pub scheduled : List ℕ → ℕ → ℕ → ℕ
+scheduled m r i = m ! (slice_index_or sigma (r % 10) [] ! i)
+
+-- round r: G on the four columns and then on the four diagonals of v
+unfoldable pub round : List ℕ → List ℕ → ℕ → List ℕ
+round m v r =
+    let v = mix v 0 4 8 12 (scheduled m r 0) (scheduled m r 1) in
+    let v = mix v 1 5 9 13 (scheduled m r 2) (scheduled m r 3) in
+    let v = mix v 2 6 10 14 (scheduled m r 4) (scheduled m r 5) in
+    let v = mix v 3 7 11 15 (scheduled m r 6) (scheduled m r 7) in
+    let v = mix v 0 5 10 15 (scheduled m r 8) (scheduled m r 9) in
+    let v = mix v 1 6 11 12 (scheduled m r 10) (scheduled m r 11) in
+    let v = mix v 2 7 8 13 (scheduled m r 12) (scheduled m r 13) in
+    mix v 3 4 9 14 (scheduled m r 14) (scheduled m r 15)
+
+-- the sixteen words of a block, each of eight bytes, the lowest first
+unfoldable pub block_words : List ℕ → List ℕ
+block_words block = map (little_number 8) (first_chunks 8 16 block)
+
+-- v before the first round: h and IV, with the counter t and, at the last block, a flag
+unfoldable pub start : List ℕ → ℕ → Bool → List ℕ
+start h t last =
+    let v = h ++ iv in
+    let v = slice_set v 12 (v ! 12 ⊻ t % 2 ^ 64) in
+    let v = slice_set v 13 (v ! 13 ⊻ t / 2 ^ 64) in
+    if last then slice_set v 14 (bit_not w64 (v ! 14)) else v
+
+-- the compression function F (3.2)
+unfoldable pub compress : List ℕ → List ℕ → ℕ → Bool → List ℕ
+compress h block t last =
+    let v = fold (round (block_words block)) (start h t last) (range_with_len 0 12) in
+    map (λ i. h ! i ⊻ v ! i ⊻ v ! (i + 8)) (range_with_len 0 8)

@@ -1,0 +1,47 @@
+//! A digest.
+ghost use Rattle.std.specs.Prelude.{◌≡◌, ◌≤◌, length, take};
+ghost use Rattle.std.specs.List.{flat_map};
+ghost use Rattle.byteorder.specs.Endian.{little_bytes};
+
+use byteorder::{ByteOrder, LittleEndian};
+use std::marker::Model;
+
+/// A digest of 1 to 64 bytes.
+#[derive(Drop)]
+pub struct Output {
+    bytes: [u8; 64],
+    len: usize,
+}
+
+impl Model for Output {
+    ghost use Rattle.std.specs.Prelude.{ℕ, ◌≤◌, List, take};
+
+    ghost Value = { List ℕ };
+
+    ghost view = { λ o. take o.len o.bytes };
+
+    ghost invariant = { λ o. (1 ≤ o.len) × (o.len ≤ 64) };
+}
+
+impl Output {
+    // The first `len` bytes of the words of `h`, each written low byte first.
+    pub(crate) fn of_state(h: &[u64; 8], len: usize) -> Output
+        requires low { 1 ≤ len }
+        requires high { len ≤ 64 }
+        ensures value { result ≡ take len (flat_map (little_bytes 8) h.now) }
+        ensures len { length result ≡ len }
+    {
+        let mut bytes = [0; 64];
+        LittleEndian::write_u64_into(h, &mut bytes);
+        Output { bytes, len }
+    }
+
+    /// The digest's bytes, 1 to 64 of them.
+    pub fn as_slice(&self) -> &[u8]
+        ensures value { result.now ≡ self.now }
+        ensures some { 1 ≤ length self.now }
+        ensures few { length self.now ≤ 64 }
+    {
+        &self.bytes[..self.len]
+    }
+}

@@ -1,0 +1,149 @@
+//! The digest of a message that comes in pieces.
+ghost use Rattle.std.specs.Prelude.{◌≡◌, ◌↔◌, ◌⊎◌, ℕ, ◌+◌, ◌-◌, ◌*◌, ◌/◌, ◌^◌, ◌<◌, ◌≤◌, List, [], ◌++◌, length, take, IsNone, IfSome};
+
+use crate::compression::compress;
+use crate::output::Output;
+use crate::whole::{BLOCK, chained, followed_blocks, initial, zero_filled};
+
+/// A `Blake2b` takes fewer bytes than this, 2^61.
+pub const LIMIT: u64 = 1 << 61;
+
+/// A BLAKE2b digest in the making: the message so far, of which at most one block is kept back.
+#[derive(Drop)]
+pub struct Blake2b {
+    // The state after the blocks before the held one.
+    h: [u64; 8],
+    // A full block stays here until a byte follows it, since the last block is compressed as the last.
+    held: [u8; 128],
+    used: usize,
+    taken: u64,
+    len: usize,
+    ghost used_high: { used ≤ 128 },
+    ghost len_low: { 1 ≤ len },
+    ghost len_high: { len ≤ 64 },
+}
+
+impl Blake2b {
+    ghost use Rattle.blake2b_core.specs.Digest.{blake2b};
+    ghost use Rattle.blake2b_core.specs.Holding.{Holds, HoldsSoFar, digest_len, taken};
+
+    /// The state of the empty message, for a digest of `len` bytes. `None` exactly where `len` is 0 or
+    /// over 64.
+    pub fn new(len: usize) -> Option<Blake2b>
+        ensures none { IsNone result ↔ ((len ≡ 0) ⊎ (64 < len)) }
+        ensures holds { IfSome result (λ s. Holds s []) }
+        ensures len { IfSome result (λ s. digest_len s ≡ len) }
+        ensures taken { IfSome result (λ s. taken s ≡ 0) }
+    {
+        if len == 0 || len > 64 {
+            return None;
+        }
+        Some(Blake2b {
+            h: initial(len),
+            held: [0; 128],
+            used: 0,
+            taken: 0,
+            len,
+        })
+    }
+
+    /// The digest's length in bytes, 1 to 64.
+    pub fn len(&self) -> usize
+        ensures value { result ≡ digest_len self.now }
+        ensures some { 1 ≤ result }
+        ensures few { result ≤ 64 }
+    {
+        self.len
+    }
+
+    /// The length of the message so far, in bytes.
+    pub fn taken(&self) -> u64
+        ensures value { result ≡ taken self.now }
+        ensures length { (m : List ℕ) → Holds self.now m → result ≡ length m }
+    {
+        self.taken
+    }
+
+    // Appends bytes to those that are held.
+    fn hold(&mut self, bytes: &[u8])
+        requires room { self.old.used + length bytes.now ≤ 128 }
+        requires fits { self.old.taken + length bytes.now < 2 ^ 61 }
+        ensures holds { (m : List ℕ) → HoldsSoFar self.old m → HoldsSoFar self.new (m ++ bytes.now) }
+        ensures size { length self.new.held ≡ 128 }
+        ensures used { self.new.used ≡ self.old.used + length bytes.now }
+        ensures taken { self.new.taken ≡ self.old.taken + length bytes.now }
+        ensures len { self.new.len ≡ self.old.len }
+    {
+        let held = &mut self.held[..];
+        held[self.used..self.used + bytes.len()].copy_from_slice(bytes);
+        self.used += bytes.len();
+        self.taken += bytes.len() as u64;
+    }
+
+    // Fills the held block up and compresses it, where some bytes are held and more follow than it has
+    // room for. Answers how many bytes it took.
+    fn fill(&mut self, piece: &[u8]) -> usize
+        requires { self.old.taken + length piece.now < 2 ^ 61 }
+        ensures holds { (m : List ℕ) → HoldsSoFar self.old m → HoldsSoFar self.new (m ++ take result piece.now) }
+        ensures some_left { 0 < length piece.now → result < length piece.now }
+        ensures none { length piece.now ≡ 0 → (result ≡ 0) × (self.new.used ≡ self.old.used) }
+        ensures room { 128 < self.new.used + (length piece.now - result) → self.new.used ≡ 0 }
+        ensures taken { self.new.taken ≡ self.old.taken + result }
+        ensures len { self.new.len ≡ self.old.len }
+    {
+        let room = BLOCK - self.used;
+        if self.used == 0 || piece.len() <= room {
+            return 0;
+        }
+        self.hold(&piece[..room]);
+        self.h = compress(&self.h, &self.held, u128::from(self.taken), false);
+        self.used = 0;
+        room
+    }
+
+    // Compresses the whole blocks at the front of the piece that a byte follows, where nothing is held.
+    // Answers how many bytes it took.
+    fn absorb(&mut self, piece: &[u8]) -> usize
+        requires fits { self.old.taken + length piece.now < 2 ^ 61 }
+        requires room { 128 < self.old.used + length piece.now → self.old.used ≡ 0 }
+        ensures holds { (m : List ℕ) → HoldsSoFar self.old m → HoldsSoFar self.new (m ++ take result piece.now) }
+        ensures some_left { 0 < length piece.now → result < length piece.now }
+        ensures none { length piece.now ≡ 0 → result ≡ 0 }
+        ensures room { self.new.used + (length piece.now - result) ≤ 128 }
+        ensures used { self.new.used ≡ self.old.used }
+        ensures taken { self.new.taken ≡ self.old.taken + result }
+        ensures len { self.new.len ≡ self.old.len }
+    {
+        if self.used > 0 {
+            return 0;
+        }
+        let blocks = followed_blocks(piece);
+        self.h = chained(self.h, blocks, self.taken);
+        self.taken += (BLOCK * blocks.len()) as u64;
+        BLOCK * blocks.len()
+    }
+
+    /// Appends a piece to the message. What it has taken and the piece's length add up to less than
+    /// `LIMIT`.
+    pub fn update(&mut self, piece: &[u8])
+        requires { taken self.old + length piece.now < LIMIT }
+        ensures holds { (m : List ℕ) → Holds self.old m → Holds self.new (m ++ piece.now) }
+        ensures taken { taken self.new ≡ taken self.old + length piece.now }
+        ensures len { digest_len self.new ≡ digest_len self.old }
+    {
+        let filled = self.fill(piece);
+        let rest = &piece[filled..];
+        let absorbed = self.absorb(rest);
+        self.hold(&rest[absorbed..]);
+    }
+
+    /// The digest of the message (RFC 7693, 3.3).
+    pub fn finish(self) -> Output
+        ensures digest { (m : List ℕ) → Holds self m → result ≡ blake2b (digest_len self) m }
+        ensures len { length result ≡ digest_len self }
+    {
+        let last = zero_filled(&self.held[..self.used]);
+        let h = compress(&self.h, &last, u128::from(self.taken), true);
+        Output::of_state(&h, self.len)
+    }
+}

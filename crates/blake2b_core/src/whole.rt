@@ -1,0 +1,71 @@
+//! The digest of a whole message (RFC 7693, 3.3).
+ghost use Rattle.std.specs.Prelude.{◌≡◌, ◌↔◌, ◌⊎◌, ℕ, ◌+◌, ◌-◌, ◌*◌, ◌/◌, ◌^◌, ◌<◌, ◌≤◌, List, ◌++◌, length, replicate, IsNone, IfSome};
+ghost use Rattle.std.specs.Simd.{first_chunks};
+ghost use Rattle.blake2b_core.specs.Digest.{blake2b, blocks, hash_after, initial};
+ghost use Rattle.blake2b_core.specs.Holding.{AreBlocksFrom};
+
+use crate::compression::{IV, advance, compress};
+use crate::output::Output;
+
+// The bytes of a block.
+pub(crate) const BLOCK: usize = 128;
+
+// The state before the first block of a message whose digest has `len` bytes.
+pub(crate) fn initial(len: usize) -> [u64; 8]
+    requires { len ≤ 64 }
+    ensures { result ≡ initial len }
+{
+    let mut h = IV;
+    h[0] ^= 0x0101_0000 ^ len as u64;
+    h
+}
+
+// The whole blocks at the front of `bytes` that a byte follows: none of them is a message's last block.
+pub(crate) fn followed_blocks(bytes: &[u8]) -> &[[u8; 128]]
+    ensures value { result.now ≡ first_chunks 128 ((length bytes.now - 1) / 128) bytes.now }
+    ensures count { length result.now ≡ (length bytes.now - 1) / 128 }
+{
+    let followed = bytes.len().saturating_sub(1);
+    bytes[..followed].as_chunks::<128>().0
+}
+
+// The state after the blocks `followed`, none of which is the last, from the state `h` after the
+// `before` bytes in front of them.
+pub(crate) fn chained(mut h: [u64; 8], followed: &[[u8; 128]], before: u64) -> [u64; 8]
+    requires { before + 128 * length followed.now < 2 ^ 64 }
+    ensures { (n : ℕ) (m : List ℕ) (k : ℕ) → 128 * k ≡ before → AreBlocksFrom m k followed.now
+        → h ≡ hash_after n (blocks m) k → result ≡ hash_after n (blocks m) (k + length followed.now) }
+{
+    let mut taken = before;
+    for block in followed {
+        taken += 128;
+        advance(&mut h, block, u128::from(taken), false);
+    }
+    h
+}
+
+// The bytes, and zeros that fill them up to a block.
+pub(crate) fn zero_filled(bytes: &[u8]) -> [u8; 128]
+    requires { length bytes.now ≤ 128 }
+    ensures { result ≡ bytes.now ++ replicate (128 - length bytes.now) 0 }
+{
+    let mut block = [0; 128];
+    block[..bytes.len()].copy_from_slice(bytes);
+    block
+}
+
+/// The BLAKE2b digest of `len` bytes of a message, without a key (RFC 7693, 3.3). `None` exactly where
+/// `len` is 0 or over 64.
+pub fn blake2b(len: usize, message: &[u8]) -> Option<Output>
+    ensures none { IsNone result ↔ ((len ≡ 0) ⊎ (64 < len)) }
+    ensures digest { IfSome result (λ d. d ≡ blake2b len message.now) }
+{
+    if len == 0 || len > 64 {
+        return None;
+    }
+    let front = followed_blocks(message);
+    let last = zero_filled(&message[BLOCK * front.len()..]);
+    let h = chained(initial(len), front, 0);
+    let h = compress(&h, &last, message.len() as u128, true);
+    Some(Output::of_state(&h, len))
+}

@@ -1,0 +1,3 @@
+pub mod WorldLemmas
+pub mod SceneLemmas
+pub mod GenerateLemmas

@@ -1,0 +1,24 @@
+-- What hashing one name comes to.
+use Rattle.std.specs.Prelude.{ℕ, true, false, List, [], ◌∷◌, codes, Result, Ok, Err}
+use Rattle.std.specs.List.{concat}
+use Rattle.sum_sources.specs.declared.fault.Fault.{Fault}
+use Rattle.sum_sources.specs.Faults.{fault_text}
+use Rattle.sum_lines.specs.Escape.{escape}
+use Rattle.sum_lines.specs.Lines.{line}
+use Rattle.sum_engine.specs.declared.settings.Settings.{Settings}
+use Rattle.sum_engine.specs.Worlds.{World, reply, read}
+use Rattle.sum_engine.specs.Outcomes.{Outcome}
+
+-- TOOL: NAME: TEXT
+abbrev pub fault_line : List ℕ → List ℕ → Fault → List ℕ
+fault_line tool name fault = concat (tool ∷ codes ": " ∷ escape name ∷ codes ": " ∷ fault_text fault ∷ codes "\n" ∷ [])
+
+abbrev pub generated_by : Settings → List ℕ → List ℕ → Result (List ℕ) Fault → Outcome
+generated_by settings tool name (Ok d) =
+    record { out = line settings.style settings.kind name d; err = []; asks = name ∷ []; good = true }
+generated_by settings tool name (Err f) =
+    record { out = []; err = fault_line tool name f; asks = name ∷ []; good = false }
+
+-- a name that is read gives its line, any other the line of its fault
+abbrev pub generated : Settings → List ℕ → World → List ℕ → Outcome
+generated settings tool w name = generated_by settings tool name (read settings.kind (reply w name))

@@ -1,0 +1,73 @@
+-- The entry that a line spells, as a value. That it is the one that the line grammar's Entry allows is the law
+-- `entry_is`.
+use Rattle.std.specs.Prelude.{ℕ, ◌==◌, ◌||◌, Bool, true, false, List, [], ◌∷◌, drop, nat_lt, Option, None, Some, if◌then◌else◌}
+use Rattle.std.specs.List.{list_all}
+use Rattle.digest_kinds.specs.declared.algo.Algos.{Algos}
+use Rattle.sum_lines.specs.declared.line_reading.Form.{Form}
+use Rattle.sum_lines.specs.declared.line_reading.Form.TheVariants.{Undecided, Standard, Reversed}
+use Rattle.sum_lines.specs.Entries.{Spelled, ignored, begins_standard}
+use Rattle.sum_lines.specs.Scanned.{Parts, tagged_of, plain_of}
+
+-- the byte whose escape is a backslash (92) and this letter
+abbrev pub letter : ℕ → Option ℕ
+letter c = if c == 92 then Some 92 else if c == 110 then Some 10 else if c == 114 then Some 13 else None
+
+abbrev pub onto : Option ℕ → Option (List ℕ) → Option (List ℕ)
+onto None rest = None
+onto (Some b) None = None
+onto (Some b) (Some bs) = Some (b ∷ bs)
+
+-- a byte that stands for itself
+abbrev pub itself : ℕ → Option ℕ
+itself b = if b == 10 || b == 13 then None else Some b
+
+-- the name whose escape the bytes are
+abbrev pub unescape : List ℕ → Option (List ℕ)
+unescape [] = Some []
+unescape (b ∷ []) = if b == 92 then None else onto (itself b) (Some [])
+unescape (b ∷ c ∷ cs) = if b == 92 then onto (letter c) (unescape cs) else onto (itself b) (unescape (c ∷ cs))
+
+-- a name without NUL
+abbrev pub without_nul : Option (List ℕ) → Option (List ℕ)
+without_nul None = None
+without_nul (Some name) = if list_all (nat_lt 0) name then Some name else None
+
+-- the name that a raw name spells
+abbrev pub name_of : Bool → List ℕ → Option (List ℕ)
+name_of escaped raw = without_nul (if escaped then unescape raw else Some raw)
+
+-- the raw name in a plain line's tail
+abbrev pub raw_of : Form → List ℕ → Option (List ℕ)
+raw_of Undecided tail = None
+raw_of Standard tail = if begins_standard tail then Some (drop 1 tail) else None
+raw_of Reversed tail = Some tail
+
+abbrev pub named : Parts → Option (List ℕ) → Option Spelled
+named p None = None
+named p (Some name) = Some (record { algo = p.kind.algo; digest = p.digest; name = name })
+
+abbrev pub spelled : Parts → Option (List ℕ) → Option Spelled
+spelled p None = None
+spelled p (Some raw) = named p (name_of p.escaped raw)
+
+-- of a tagged line, or else of a plain one
+abbrev pub entry_by : Form → Option Parts → Option Parts → Option Spelled
+entry_by f (Some p) q = spelled p (Some p.text)
+entry_by f None None = None
+entry_by f None (Some q) = spelled q (raw_of f q.text)
+
+unfoldable pub entry_of : Algos → Form → List ℕ → Option Spelled
+entry_of algos f line = entry_by f (tagged_of algos line) (plain_of algos line)
+
+-- what a line says: nothing, an entry, or something improper
+pub data Said : Type 0 where
+  Nothing : Said
+  Improper : Said
+  Spells : Spelled → Said
+
+abbrev pub said_of : Option Spelled → Said
+said_of None = Improper
+said_of (Some s) = Spells s
+
+abbrev pub says : Algos → Form → List ℕ → Said
+says algos f line = if ignored line then Nothing else said_of (entry_of algos f line)

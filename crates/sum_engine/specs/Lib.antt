@@ -1,0 +1,10 @@
+pub mod Worlds
+pub mod Outcomes
+pub mod Generation
+pub mod Grammar
+pub mod Verdicts
+pub mod Reports
+pub mod Checking
+pub mod Scenes
+pub mod Asking
+pub mod Steps

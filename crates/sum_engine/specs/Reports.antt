@@ -1,0 +1,140 @@
+-- What checking writes: the reports of the lines, and the end of a manifest.
+use Rattle.std.specs.Prelude.{ℕ, ◌+◌, ◌==◌, ◌&&◌, ◌||◌, Bool, true, false, not, List, [], ◌∷◌, ◌++◌, count_by, decimal, codes, if◌then◌else◌}
+use Rattle.std.specs.List.{concat}
+use Rattle.digest_kinds.specs.declared.algo.Algos.{Algos}
+use Rattle.digest_kinds.specs.declared.algo.Algos.TheVariants.{One, Any}
+use Rattle.digest_kinds.specs.Kinds.{tag}
+use Rattle.sum_sources.specs.declared.fault.Fault.{Fault}
+use Rattle.sum_sources.specs.declared.fault.Ending.{Ending}
+use Rattle.sum_sources.specs.declared.fault.Ending.TheVariants.{Whole, Broken}
+use Rattle.sum_lines.specs.Escape.{escape}
+use Rattle.sum_lines.specs.Lines.{mark}
+use Rattle.sum_engine.specs.declared.settings.Report.{Report}
+use Rattle.sum_engine.specs.declared.settings.Report.TheVariants.{All, Quiet, Warn, Status}
+use Rattle.sum_engine.specs.declared.summary.Counts.{Counts}
+use Rattle.sum_engine.specs.declared.verdict.Verdict.{Verdict}
+use Rattle.sum_engine.specs.declared.verdict.Verdict.TheVariants.{Ignored, Bad, Right, Wrong, Missing, Unread}
+use Rattle.sum_engine.specs.Generation.{fault_line}
+use Rattle.sum_engine.specs.Verdicts.{Rules, Judged}
+
+-- NAME: TEXT, where a backslash stands before a name that its escape changes
+abbrev pub name_line : List ℕ → List ℕ → List ℕ
+name_line name text = concat (mark name ∷ escape name ∷ codes ": " ∷ text ∷ codes "\n" ∷ [])
+
+abbrev pub said_of : Verdict → List ℕ → List ℕ
+said_of Ignored name = []
+said_of Bad name = []
+said_of Right name = name_line name (codes "OK")
+said_of Wrong name = name_line name (codes "FAILED")
+said_of Missing name = []
+said_of (Unread f) name = name_line name (codes "FAILED open or read")
+
+-- what a report setting leaves out of standard output
+abbrev pub hides : Report → Verdict → Bool
+hides All v = false
+hides Warn v = false
+hides Quiet Right = true
+hides Quiet v = false
+hides Status v = true
+
+-- a line's report on standard output
+abbrev pub out_of : Rules → Judged → List ℕ
+out_of r j = if hides r.settings.report j.verdict then [] else said_of j.verdict j.name
+
+abbrev pub tag_word : Algos → List ℕ
+tag_word (One a) = tag a
+tag_word Any = codes "tagged"
+
+-- TOOL: LIST: N: improperly formatted TAG checksum line
+abbrev pub bad_line : Rules → ℕ → List ℕ
+bad_line r n = concat (r.tool ∷ codes ": " ∷ escape r.shown ∷ codes ": " ∷ decimal n ∷ codes ": improperly formatted "
+    ∷ tag_word r.settings.algo ∷ codes " checksum line\n" ∷ [])
+
+abbrev pub if_warned : Report → List ℕ → List ℕ
+if_warned All text = []
+if_warned Quiet text = []
+if_warned Warn text = text
+if_warned Status text = []
+
+-- a line's report on standard error
+abbrev pub err_by : Rules → ℕ → Verdict → List ℕ → List ℕ
+err_by r n Ignored name = []
+err_by r n Bad name = if_warned r.settings.report (bad_line r n)
+err_by r n Right name = []
+err_by r n Wrong name = []
+err_by r n Missing name = []
+err_by r n (Unread f) name = fault_line r.tool name f
+
+abbrev pub err_of : Rules → Judged → List ℕ
+err_of r j = err_by r j.number j.verdict j.name
+
+abbrev pub is_right : Verdict → Bool
+is_right Right = true
+is_right v = false
+
+abbrev pub is_wrong : Verdict → Bool
+is_wrong Wrong = true
+is_wrong v = false
+
+abbrev pub is_missing : Verdict → Bool
+is_missing Missing = true
+is_missing v = false
+
+abbrev pub is_unread : Verdict → Bool
+is_unread (Unread f) = true
+is_unread v = false
+
+abbrev pub is_bad : Verdict → Bool
+is_bad Bad = true
+is_bad v = false
+
+-- how many lines have each verdict
+abbrev pub counts : List Judged → Counts
+counts js = record {
+  right = count_by (λ j. is_right j.verdict) js;
+  wrong = count_by (λ j. is_wrong j.verdict) js;
+  missing = count_by (λ j. is_missing j.verdict) js;
+  unread = count_by (λ j. is_unread j.verdict) js;
+  bad = count_by (λ j. is_bad j.verdict) js;
+}
+
+-- how many lines are entries
+abbrev pub entries : Counts → ℕ
+entries c = c.right + c.wrong + c.missing + c.unread
+
+-- TOOL: WARNING: N TEXT, where the count isn't 0
+abbrev pub warning : List ℕ → ℕ → List ℕ → List ℕ → List ℕ
+warning tool n one many = if n == 0 then []
+    else concat (tool ∷ codes ": WARNING: " ∷ decimal n ∷ (if n == 1 then one else many) ∷ codes "\n" ∷ [])
+
+-- TOOL: LIST: TEXT
+abbrev pub list_line : Rules → List ℕ → List ℕ
+list_line r text = concat (r.tool ∷ codes ": " ∷ escape r.shown ∷ codes ": " ∷ text ∷ codes "\n" ∷ [])
+
+abbrev pub warnings : Rules → Counts → List ℕ
+warnings r c = warning r.tool c.bad (codes " line is improperly formatted") (codes " lines are improperly formatted")
+    ++ (warning r.tool c.unread (codes " listed file could not be read") (codes " listed files could not be read")
+    ++ (warning r.tool c.wrong (codes " computed checksum did NOT match") (codes " computed checksums did NOT match")
+    ++ (if r.settings.ignore_missing && (c.right == 0) then list_line r (codes "no file was verified") else [])))
+
+abbrev pub unless_status : Report → List ℕ → List ℕ
+unless_status All text = text
+unless_status Quiet text = text
+unless_status Warn text = text
+unless_status Status text = []
+
+-- the end of a manifest that was read whole
+abbrev pub summary : Rules → Counts → List ℕ
+summary r c = if entries c == 0 then list_line r (codes "no properly formatted checksum lines found")
+    else unless_status r.settings.report (warnings r c)
+
+-- the end of a manifest on standard error
+abbrev pub end_text : Rules → Ending → Counts → List ℕ
+end_text r Whole c = summary r c
+end_text r (Broken f) c = fault_line r.tool r.shown f
+
+-- A manifest is good where it was read whole, some line is Right, which is an entry then, none is Wrong or Unread,
+-- and under the strict setting none is Bad.
+abbrev pub good : Rules → Ending → Counts → Bool
+good r Whole c = not (c.right == 0) && (c.wrong == 0) && (c.unread == 0) && (not r.settings.strict || (c.bad == 0))
+good r (Broken f) c = false

@@ -1,0 +1,105 @@
+-- Joins a checker to the definitions: where it stands in its manifest, and what each of its steps does there.
+use Rattle.std.specs.Prelude.{ℕ, zero, suc, ◌≡◌, ◌+◌, ◌≤◌, ◌⊎◌, ◌<◌, Bool, List, [], ◌∷◌, length, Option, None, Some, Result, Ok, Err, ⊤}
+use Rattle.sum_sources.specs.Contents.{Content}
+use Rattle.sum_sources.specs.ManifestLines.{lines, past_line}
+use Rattle.sum_lines.specs.declared.line_reading.Form.{Form}
+use Rattle.sum_lines.specs.declared.line_reading.Form.TheVariants.{Undecided}
+use Rattle.sum_lines.specs.Entries.{form_then, line_form, form}
+use Rattle.sum_engine.specs.declared.progress.Progress.{Progress}
+use Rattle.sum_engine.specs.declared.progress.Progress.TheVariants.{Going, Ended}
+use Rattle.sum_engine.specs.declared.stop.Stop.{Stop}
+use Rattle.sum_engine.specs.declared.stop.Stop.TheVariants.{Memory, Write}
+use Rattle.sum_engine.specs.declared.summary.Counts.{Counts}
+use Rattle.sum_engine.specs.declared.verdict.Verdict.{Verdict}
+use Rattle.sum_engine.specs.declared.verdict.Verdict.TheVariants.{Ignored, Bad, Right, Wrong, Missing, Unread}
+use Rattle.sum_engine.specs.Grammar.{says}
+use Rattle.sum_engine.specs.Verdicts.{Rules, Judged, judge, asks_of, verdicts}
+use Rattle.sum_engine.specs.Reports.{out_of, err_of, end_text, good}
+use Rattle.sum_engine.specs.Scenes.{Scene, Does, Cut}
+
+-- what is still to come of the manifest, the lines handled and the bytes that they used, the form and the counts
+-- so far, and the scene
+pub record Now : Type 0 where
+  pub rest : Content
+  pub number : ℕ
+  pub used : ℕ
+  pub form : Form
+  pub counts : Counts
+  pub scene : Scene
+
+abbrev pub now_by : Option Content → ℕ → ℕ → Form → Counts → Option Scene → Option Now
+now_by None n u f c s = None
+now_by (Some rest) n u f c None = None
+now_by (Some rest) n u f c (Some s) = Some (record { rest = rest; number = n; used = u; form = f; counts = c; scene = s })
+
+-- one more line of that verdict
+abbrev pub counted : Counts → Verdict → Counts
+counted c Ignored = c
+counted c Bad = record c { bad = c.bad + 1 }
+counted c Right = record c { right = c.right + 1 }
+counted c Wrong = record c { wrong = c.wrong + 1 }
+counted c Missing = record c { missing = c.missing + 1 }
+counted c (Unread f) = record c { unread = c.unread + 1 }
+
+-- the next line's verdict
+abbrev pub next_judged : Rules → Now → List ℕ → Judged
+next_judged r a l = judge r a.scene.world (a.number + 1) (says r.settings.algo (form_then a.form (line_form r.settings.algo l)) l)
+
+-- one line was handled; the line's vector holds this then
+pub record Handles (r : Rules) (a b : Now) (vector : List ℕ) : Type 0 where
+  pub line : List ℕ
+  pub lines : lines a.rest ≡ line ∷ lines b.rest
+  pub rest : b.rest ≡ past_line a.rest
+  pub used : b.used + length b.rest.bytes ≡ a.used + length a.rest.bytes
+  pub number : b.number ≡ a.number + 1
+  pub form : b.form ≡ form_then a.form (line_form r.settings.algo line)
+  pub counts : b.counts ≡ counted a.counts (next_judged r a line).verdict
+  pub done : Does a.scene b.scene (out_of r (next_judged r a line)) (err_of r (next_judged r a line)) (asks_of (next_judged r a line))
+  pub held : length vector ≤ length line
+
+-- the end was handled
+pub record Ends (r : Rules) (a b : Now) (x : Bool) : Type 0 where
+  pub lines : lines a.rest ≡ []
+  pub answer : x ≡ good r a.rest.ending a.counts
+  pub done : Does a.scene b.scene [] (end_text r a.rest.ending a.counts) []
+
+-- what the next step writes and asks
+abbrev pub next_out : Rules → Now → List (List ℕ) → List ℕ
+next_out r a [] = []
+next_out r a (l ∷ ls) = out_of r (next_judged r a l)
+
+abbrev pub next_err : Rules → Now → List (List ℕ) → List ℕ
+next_err r a [] = end_text r a.rest.ending a.counts
+next_err r a (l ∷ ls) = err_of r (next_judged r a l)
+
+abbrev pub next_asks : Rules → Now → List (List ℕ) → List (List ℕ)
+next_asks r a [] = []
+next_asks r a (l ∷ ls) = asks_of (next_judged r a l)
+
+abbrev pub StepOf : Rules → Now → Now → List ℕ → Result Progress Stop → Type 0
+StepOf r a b held (Ok Going) = Handles r a b held
+StepOf r a b held (Ok (Ended answer)) = Ends r a b answer
+StepOf r a b held (Err Write) = Cut a.scene b.scene (next_out r a (lines a.rest)) (next_err r a (lines a.rest)) (next_asks r a (lines a.rest))
+StepOf r a b held (Err Memory) = b.scene ≡ a.scene
+
+-- what a step does, where the manifest and the scene tell
+abbrev pub StepGives : Rules → Option Now → Option Now → List ℕ → Result Progress Stop → Type 0
+StepGives r None b held x = ⊤
+StepGives r (Some a) None held x = ⊥
+StepGives r (Some a) (Some b) held x = StepOf r a b held x
+
+-- what is still to be found
+abbrev pub rest_verdicts : Rules → Now → List Judged
+rest_verdicts r a = verdicts r (form_then a.form (form r.settings.algo (lines a.rest))) a.scene.world a.number (lines a.rest)
+
+abbrev pub no_counts : Counts
+no_counts = record { right = 0; wrong = 0; missing = 0; unread = 0; bad = 0 }
+
+-- a new checker
+abbrev pub start : Content → Scene → Now
+start c s = record { rest = c; number = 0; used = 0; form = Undecided; counts = no_counts; scene = s }
+
+-- the content past so many lines
+abbrev pub past_lines : ℕ → Content → Content
+past_lines zero c = c
+past_lines (suc k) c = past_lines k (past_line c)

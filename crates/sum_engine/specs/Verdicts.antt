@@ -1,0 +1,77 @@
+-- The verdicts of a manifest's lines.
+use Rattle.std.specs.Prelude.{ℕ, ◌+◌, ◌&&◌, Bool, true, false, List, [], ◌∷◌, codes, Result, Ok, Err, if◌then◌else◌}
+use Rattle.std.specs.Str.{bytes_eq}
+use Rattle.sum_sources.specs.declared.fault.Fault.{Fault}
+use Rattle.sum_sources.specs.declared.fault.Fault.TheVariants.{NotFound, Denied, Other}
+use Rattle.sum_sources.specs.Contents.{Content}
+use Rattle.sum_sources.specs.Sources.{Reply, Refused, Given}
+use Rattle.sum_sources.specs.ManifestLines.{lines}
+use Rattle.sum_lines.specs.declared.line_reading.Form.{Form}
+use Rattle.sum_lines.specs.Entries.{Spelled, kind_of, form}
+use Rattle.sum_engine.specs.declared.settings.CheckSettings.{CheckSettings}
+use Rattle.sum_engine.specs.declared.verdict.Verdict.{Verdict}
+use Rattle.sum_engine.specs.declared.verdict.Verdict.TheVariants.{Ignored, Bad, Right, Wrong, Missing, Unread}
+use Rattle.sum_engine.specs.Grammar.{Said, Nothing, Improper, Spells, says}
+use Rattle.sum_engine.specs.Worlds.{World, is_dash, reply, after, read}
+
+-- what a manifest is checked by: the settings, the tool's name, the name under which the manifest is shown, and
+-- whether it came from standard input
+pub record Rules : Type 0 where
+  pub settings : CheckSettings
+  pub tool : List ℕ
+  pub shown : List ℕ
+  pub from_stdin : Bool
+
+-- a line's number (the first is 1), its verdict, and the name of its entry
+pub record Judged : Type 0 where
+  pub number : ℕ
+  pub verdict : Verdict
+  pub name : List ℕ
+
+-- opening answered that there is no such file
+abbrev pub not_found : Reply → Bool
+not_found (Refused NotFound) = true
+not_found (Refused Denied) = false
+not_found (Refused Other) = false
+not_found (Given c) = false
+
+-- what was read, against the digest that the line gives
+abbrev pub against : List ℕ → Result (List ℕ) Fault → Verdict
+against d (Ok found) = if bytes_eq found d then Right else Wrong
+against d (Err f) = Unread f
+
+-- the verdict of an entry
+abbrev pub verdict_of : Rules → World → Spelled → Verdict
+verdict_of r w s =
+    if r.from_stdin && is_dash s.name then Bad
+    else if r.settings.ignore_missing && not_found (reply w s.name) then Missing
+    else against s.digest (read (kind_of s) (reply w s.name))
+
+-- line n, which says this
+abbrev pub judge : Rules → World → ℕ → Said → Judged
+judge r w n Nothing = record { number = n; verdict = Ignored; name = [] }
+judge r w n Improper = record { number = n; verdict = Bad; name = [] }
+judge r w n (Spells s) = record { number = n; verdict = verdict_of r w s; name = s.name }
+
+-- the name of an entry is asked
+abbrev pub asks_by : Verdict → List ℕ → List (List ℕ)
+asks_by Ignored name = []
+asks_by Bad name = []
+asks_by Right name = name ∷ []
+asks_by Wrong name = name ∷ []
+asks_by Missing name = name ∷ []
+asks_by (Unread f) name = name ∷ []
+
+abbrev pub asks_of : Judged → List (List ℕ)
+asks_of j = asks_by j.verdict j.name
+
+-- the lines behind line n in a manifest of that form, each after the asks of those before it
+abbrev pub verdicts : Rules → Form → World → ℕ → List (List ℕ) → List Judged
+verdicts r f w n [] = []
+verdicts r f w n (l ∷ ls) =
+    judge r w (n + 1) (says r.settings.algo f l)
+    ∷ verdicts r f (after w (asks_of (judge r w (n + 1) (says r.settings.algo f l)))) (n + 1) ls
+
+-- a whole manifest, whose form is that of all its lines
+abbrev pub all_verdicts : Rules → World → Content → List Judged
+all_verdicts r w c = verdicts r (form r.settings.algo (lines c)) w 0 (lines c)

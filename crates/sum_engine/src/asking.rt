@@ -1,0 +1,60 @@
+//! Asking one name.
+ghost use Rattle.std.specs.Prelude.{◌≡◌, ◌||◌, IfNone, IfSome, MatchOption, is_none};
+ghost use Rattle.sum_sources.specs.Sources.{after_refusal};
+ghost use Rattle.sum_engine.specs.Worlds.{is_dash};
+ghost use Rattle.sum_engine.specs.Scenes.{world};
+
+use digest_kinds::{AnyHasher, Digest, Kind};
+use sum_sources::{Fault, Input, OpenFault, Source, Stdin, hash_input};
+
+/// What came of a name that was asked.
+#[derive(Drop)]
+pub(crate) enum Asked {
+    /// It was read whole, and this is its digest.
+    Read(Digest),
+    /// It could not be opened.
+    Refused(Fault),
+    /// It was opened, and reading it failed.
+    Broken(Fault),
+}
+
+/// The name of standard input.
+pub(crate) const DASH: &[u8] = b"-";
+
+ghost use Rattle.sum_engine.specs.Asking.{AskGives, ComesOf, Sized};
+
+/// Opens the name, where `-` is standard input, and reads it to its end. None where the source had no memory to open
+/// it; the name then doesn't count as asked.
+pub(crate) fn ask<I: Input + Drop, S: Source>(
+    kind: Kind,
+    name: &[u8],
+    stdin: &mut Stdin<I>,
+    source: &mut S,
+) -> Option<Asked>
+    ensures gives { AskGives kind (world I.content (S.told source.old) stdin.old)
+        (world I.content (S.told source.new) stdin.new) name.now result }
+    ensures taken { is_none stdin.new ≡ is_none stdin.old || is_dash name.now }
+    ensures kept { IfNone result (stdin.new ≡ stdin.old) }
+    ensures refusals { MatchOption result (S.refusals source.new ≡ after_refusal (S.refusals source.old))
+        (λ _. S.refusals source.new ≡ S.refusals source.old) }
+    ensures sized { Sized kind result }
+{
+    if name == DASH {
+        return Some(read_digest(kind, &mut stdin.take()));
+    }
+    match source.open_file(name) {
+        Ok(mut file) => Some(read_digest(kind, &mut file)),
+        Err(OpenFault::Fault(fault)) => Some(Asked::Refused(fault)),
+        Err(OpenFault::Memory) => None,
+    }
+}
+
+fn read_digest<F: Input>(kind: Kind, file: &mut F) -> Asked
+    ensures gives { IfSome (F.content file.old) (λ c. ComesOf kind c result) }
+    ensures sized { Sized kind (Some result) }
+{
+    match hash_input(file, AnyHasher::new(kind)) {
+        Ok(digest) => Asked::Read(digest),
+        Err(fault) => Asked::Broken(fault),
+    }
+}

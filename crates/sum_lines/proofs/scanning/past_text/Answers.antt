@@ -1,0 +1,5 @@
+use Rattle.sum_lines.proofs.ScanLemmas.{past_is}
+use Rattle.sum_lines.proofs.scanning.past_text.Goals as goal
+
+pub returns : goal.returns
+returns c = past_is c.args.text.now c.args.s.now c.strip_prefix.result c.strip_prefix.ensures.cases

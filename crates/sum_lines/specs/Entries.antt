@@ -1,0 +1,95 @@
+-- What a manifest's line says: the form that plain lines give the whole list, and the entry that a line spells.
+use Rattle.std.specs.Prelude.{ℕ, ◌≡◌, ◌<◌, ◌⊎◌, ◌==◌, ◌||◌, Bool, true, false, List, [], ◌∷◌, length, IsTrue, Option, None, Some, if◌then◌else◌}
+use Rattle.std.specs.List.{All}
+use Rattle.digest_kinds.specs.Kinds.{KindValue}
+use Rattle.digest_kinds.specs.declared.algo.Algo.{Algo}
+use Rattle.digest_kinds.specs.declared.algo.Algos.{Algos}
+use Rattle.sum_lines.specs.Shapes.{Plain, Tagged}
+use Rattle.sum_lines.specs.Scanned.{Parts, plain_of}
+use Rattle.sum_lines.specs.declared.line_reading.Form.{Form}
+use Rattle.sum_lines.specs.declared.line_reading.Form.TheVariants.{Undecided, Standard, Reversed}
+
+-- a line that says nothing: it is empty, or `#` (35) stands first
+abbrev pub ignored : List ℕ → Bool
+ignored [] = true
+ignored (b ∷ bs) = b == 35
+
+-- two bytes at least, the first of them a space (32) or a star (42)
+abbrev pub begins_standard : List ℕ → Bool
+begins_standard [] = false
+begins_standard (b ∷ []) = false
+begins_standard (b ∷ c ∷ bs) = b == 32 || b == 42
+
+abbrev pub form_of_tail : List ℕ → Form
+form_of_tail tail = if begins_standard tail then Standard else Reversed
+
+-- The form of a list of lines: the first line that isn't ignored and is plain decides it, by its tail.
+pub record Decides (algos : Algos) (line : List ℕ) (form : Form) : Type 0 where
+  pub escaped : Bool
+  pub kind : KindValue
+  pub digest : List ℕ
+  pub tail : List ℕ
+  pub speaks : ignored line ≡ false
+  pub plain : Plain algos line escaped kind digest tail
+  pub is : form ≡ form_of_tail tail
+
+abbrev pub IsForm : Algos → List (List ℕ) → Form → Type 0
+IsForm algos [] form = form ≡ Undecided
+IsForm algos (line ∷ later) form = Decides algos line form ⊎ (((f : Form) → ¬ Decides algos line f) × IsForm algos later form)
+
+-- The raw name, as it stands in the line, spells a name: the name holds no NUL, and the raw name is its escape
+-- behind a leading backslash, and the name itself otherwise.
+pub record Spells (escape : List ℕ → List ℕ) (escaped : Bool) (raw name : List ℕ) : Type 0 where
+  pub no_nul : All (λ b. 0 < b) name
+  pub is : raw ≡ (if escaped then escape name else name)
+
+-- the raw name in a plain line's tail: in a Reversed list the whole of it, in a Standard one all but its first byte
+abbrev pub RawOf : Form → List ℕ → List ℕ → Type 0
+RawOf Undecided tail raw = ⊥
+RawOf Reversed tail raw = raw ≡ tail
+RawOf Standard tail raw = IsTrue (begins_standard tail) × (b : ℕ) × (tail ≡ b ∷ raw)
+
+-- what an entry spells; its kind is the algorithm with the digest's length
+pub record Spelled : Type 0 where
+  pub algo : Algo
+  pub digest : List ℕ
+  pub name : List ℕ
+
+abbrev pub kind_of : Spelled → KindValue
+kind_of s = record { algo = s.algo; len = length s.digest }
+
+pub record ByTag (escape : List ℕ → List ℕ) (algos : Algos) (line : List ℕ) (s : Spelled) : Type 0 where
+  pub escaped : Bool
+  pub raw : List ℕ
+  pub tagged : Tagged algos line escaped (kind_of s) s.digest raw
+  pub spells : Spells escape escaped raw s.name
+
+pub record ByTail (escape : List ℕ → List ℕ) (algos : Algos) (form : Form) (line : List ℕ) (s : Spelled) : Type 0 where
+  pub escaped : Bool
+  pub tail : List ℕ
+  pub raw : List ℕ
+  pub plain : Plain algos line escaped (kind_of s) s.digest tail
+  pub is_raw : RawOf form tail raw
+  pub spells : Spells escape escaped raw s.name
+
+-- An entry: what a line spells in a list of that form. Names are escaped by `escape`.
+abbrev pub Entry : (List ℕ → List ℕ) → Algos → Form → List ℕ → Spelled → Type 0
+Entry escape algos form line s = (ignored line ≡ false) × (ByTag escape algos line s ⊎ ByTail escape algos form line s)
+
+-- The form, computed: the first line that decides does. That this is the one form that the list has is the law
+-- `one_form`.
+abbrev pub form_then : Form → Form → Form
+form_then Undecided later = later
+form_then Standard later = Standard
+form_then Reversed later = Reversed
+
+abbrev pub form_of_parts : Option Parts → Form
+form_of_parts None = Undecided
+form_of_parts (Some p) = form_of_tail p.text
+
+abbrev pub line_form : Algos → List ℕ → Form
+line_form algos line = if ignored line then Undecided else form_of_parts (plain_of algos line)
+
+abbrev pub form : Algos → List (List ℕ) → Form
+form algos [] = Undecided
+form algos (line ∷ later) = form_then (line_form algos line) (form algos later)

@@ -1,0 +1,57 @@
+-- What the laws of the line grammar say.
+use Rattle.std.specs.Prelude.{ℕ, ◌≡◌, ◌≢◌, ◌<◌, ◌↔◌, ◌⊎◌, Bool, false, List, ◌∷◌, ◌++◌, length, codes, IsTrue}
+use Rattle.std.specs.List.{All}
+use Rattle.hex.specs.Hex.{IsBytes}
+use Rattle.digest_kinds.specs.Kinds.{KindValue, has_len}
+use Rattle.digest_kinds.specs.declared.algo.Algo.{Algo}
+use Rattle.digest_kinds.specs.declared.algo.Algos.{Algos}
+use Rattle.digest_kinds.specs.declared.algo.Algos.TheVariants.{One, Any}
+use Rattle.sum_lines.specs.declared.line_reading.Form.{Form}
+use Rattle.sum_lines.specs.declared.line_reading.Form.TheVariants.{Undecided, Standard}
+use Rattle.sum_lines.specs.declared.written.Mode.{Mode}
+use Rattle.sum_lines.specs.declared.written.Mode.TheVariants.{Tag}
+use Rattle.sum_lines.specs.Escape.{escape}
+use Rattle.sum_lines.specs.Lines.{line}
+use Rattle.sum_lines.specs.Shapes.{Plain, Tagged}
+use Rattle.sum_lines.specs.Entries.{Spelled, Entry, IsForm, form}
+
+-- a line spells at most one entry
+abbrev pub OneEntry : Type 0
+OneEntry = (algos : Algos) (f : Form) (line : List ℕ) (s t : Spelled) → Entry escape algos f line s → Entry escape algos f line t → s ≡ t
+
+-- no line has both shapes, whichever algorithms they name
+abbrev pub Apart : Type 0
+Apart = (algos others : Algos) (line : List ℕ) (e f : Bool) (kind other : KindValue) (d c tail raw : List ℕ)
+    → Plain algos line e kind d tail → ¬ Tagged others line f other c raw
+
+-- a list of lines has one form, which is the computed one
+abbrev pub OneForm : Type 0
+OneForm = (algos : Algos) (lines : List (List ℕ)) (f : Form) → IsForm algos lines f ↔ (f ≡ form algos lines)
+
+-- who reads a line of that mode: the tool of its algorithm, and in tagged mode the one that takes any algorithm
+abbrev pub ReadBy : Algos → Mode → Algo → Type 0
+ReadBy (One a) mode algo = a ≡ algo
+ReadBy Any mode algo = mode ≡ Tag
+
+-- a name that isn't empty and holds no NUL, and a digest of its kind's length
+pub record Writable (kind : KindValue) (name digest : List ℕ) : Type 0 where
+  pub some : 0 < length name
+  pub no_nul : All (λ b. 0 < b) name
+  pub bytes : IsBytes digest
+  pub size : length digest ≡ kind.len
+  pub has : IsTrue (has_len kind.algo kind.len)
+
+-- what stands before the newline spells that entry, and no other
+pub record SpellsBack (algos : Algos) (before later : List (List ℕ)) (text : List ℕ) (kind : KindValue) (name digest : List ℕ) : Type 0 where
+  pub front : List ℕ
+  pub whole : text ≡ front ++ codes "\n"
+  pub one_line : All (λ b. (b ≢ 10) × (b ≢ 13)) front
+  pub spells : (s : Spelled) → Entry escape algos (form algos (before ++ (front ∷ later))) front s
+      ↔ (s ≡ record { algo = kind.algo; digest = digest; name = name })
+
+-- a line that is written without zero is read back, in a list whose form is Undecided or Standard before it
+abbrev pub ReadBack : Type 0
+ReadBack = (algos : Algos) (mode : Mode) (kind : KindValue) (name digest : List ℕ) (before later : List (List ℕ))
+    → ReadBy algos mode kind.algo → Writable kind name digest
+    → (form algos before ≡ Undecided) ⊎ (form algos before ≡ Standard)
+    → SpellsBack algos before later (line (record { mode = mode; zero = false }) kind name digest) kind name digest

@@ -1,0 +1,70 @@
+-- The two shapes of a manifest's line: how the whole line is put together from its parts.
+-- These are relations, and no reading from the front: a line has a shape where some parts join to it.
+use Rattle.std.specs.Prelude.{ℕ, ◌≡◌, ◌*◌, ◌<◌, ◌⊎◌, ◌==◌, ◌||◌, ⊤, Bool, true, false, List, [], ◌∷◌, ◌++◌, length, codes, IsTrue, Ok}
+use Rattle.std.specs.List.{AllPass}
+use Rattle.std.specs.Fmt.{decimal}
+use Rattle.hex.specs.Hex.{decode_of}
+use Rattle.digest_kinds.specs.Kinds.{KindValue, full, has_len, tag}
+use Rattle.digest_kinds.specs.declared.algo.Algo.{Algo}
+use Rattle.digest_kinds.specs.declared.algo.Algo.TheVariants.{Blake2b}
+use Rattle.digest_kinds.specs.declared.algo.Algos.{Algos}
+use Rattle.digest_kinds.specs.declared.algo.Algos.TheVariants.{One, Any}
+
+-- a blank is a space (32) or a tab (9)
+abbrev pub is_blank : ℕ → Bool
+is_blank b = b == 32 || b == 9
+
+-- the bytes, where they are there at all
+abbrev pub optional : Bool → List ℕ → List ℕ
+optional true bytes = bytes
+optional false bytes = []
+
+-- what stands in front of the rest of a line, where its name is escaped: a backslash
+abbrev pub mark : Bool → List ℕ
+mark escaped = optional escaped (codes "\\")
+
+-- A plain line: digits, one blank, and a tail that isn't empty. The digits are hexadecimal, in any case, and spell
+-- a digest of a length that the one algorithm has. Where any algorithm may do, no line is plain.
+pub record Plain (algos : Algos) (line : List ℕ) (escaped : Bool) (kind : KindValue) (digest tail : List ℕ) : Type 0 where
+  pub blanks : List ℕ
+  pub digits : List ℕ
+  pub blank : ℕ
+  pub one : algos ≡ One kind.algo
+  pub has : IsTrue (has_len kind.algo kind.len)
+  pub are_blanks : AllPass is_blank blanks
+  pub spelled : decode_of digits ≡ Ok digest
+  pub size : length digest ≡ kind.len
+  pub is_one_blank : is_blank blank ≡ true
+  pub some : 0 < length tail
+  pub whole : line ≡ blanks ++ (mark escaped ++ (digits ++ (blank ∷ tail)))
+
+-- What may stand between the tag and the name: nothing for the full length; for BLAKE2b a `-` and the number
+-- of bits, which are 8 to 512, in decimal
+abbrev pub Width : KindValue → List ℕ → Type 0
+Width kind width = ((width ≡ []) × (kind.len ≡ full kind.algo))
+    ⊎ ((width ≡ codes "-" ++ decimal (8 * kind.len)) × (kind.algo ≡ Blake2b) × IsTrue (has_len Blake2b kind.len))
+
+-- the algorithms that a list of lines may name
+abbrev pub Allows : Algos → Algo → Type 0
+Allows (One a) algo = algo ≡ a
+Allows Any algo = ⊤
+
+-- A tagged line: the tag with its width, a name in parentheses that isn't empty, `=` between blanks or none,
+-- and the digits, up to the line's end
+pub record Tagged (algos : Algos) (line : List ℕ) (escaped : Bool) (kind : KindValue) (digest raw : List ℕ) : Type 0 where
+  pub blanks : List ℕ
+  pub width : List ℕ
+  pub gap : Bool
+  pub before : List ℕ
+  pub after : List ℕ
+  pub digits : List ℕ
+  pub allowed : Allows algos kind.algo
+  pub are_blanks : AllPass is_blank blanks
+  pub is_width : Width kind width
+  pub some : 0 < length raw
+  pub before_blanks : AllPass is_blank before
+  pub after_blanks : AllPass is_blank after
+  pub spelled : decode_of digits ≡ Ok digest
+  pub size : length digest ≡ kind.len
+  pub whole : line ≡ blanks ++ (mark escaped ++ (tag kind.algo ++ (width ++ (optional gap (codes " ") ++ (codes "(" ++ (raw
+      ++ (codes ")" ++ (before ++ (codes "=" ++ (after ++ digits))))))))))

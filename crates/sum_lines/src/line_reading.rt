@@ -1,0 +1,169 @@
+//! One line of a manifest.
+
+ghost use Rattle.std.specs.Prelude.{◌≡◌, ◌≤◌, if◌then◌else◌, length, slice_range, vec_len};
+ghost use Rattle.sum_lines.specs.Entries.{begins_standard, form_of_tail, form_then, ignored};
+ghost use Rattle.sum_lines.specs.Found.{NamesEntry, NamesTail, ShapeIs};
+ghost use Rattle.sum_lines.specs.Readings.{Reads, form_after};
+
+use crate::names::name_in;
+use crate::plain::{PlainLine, plain};
+use crate::tagged::{TaggedLine, tagged};
+use digest_kinds::{Algos, Digest, Kind};
+
+/// Where the plain lines of a manifest have their names. The first of them decides.
+#[derive(Clone, Copy, Debug, PartialEq, Eq)]
+pub enum Form {
+    /// There was no plain line yet.
+    Undecided,
+    /// Behind one blank and a space or a star, as the tools write lines.
+    Standard,
+    /// Behind one blank.
+    Reversed,
+}
+
+/// What a line of a manifest says.
+#[derive(Debug, Drop)]
+pub enum Reading {
+    /// Nothing: the line is empty, or `#` stands first.
+    Ignored,
+    /// Nothing that can be read: the line is improperly formatted.
+    Bad,
+    /// The digest of a file, with its kind, and the file's name, which stands in the line's vector from `start` up to
+    /// `stop`.
+    Entry {
+        kind: Kind,
+        digest: Digest,
+        start: usize,
+        stop: usize,
+    },
+}
+
+/// Reads a line, without its end, in a manifest whose lines before it have this form, and answers the form with it.
+/// An entry's name, without its escape, is left in the line's vector. An ignored line is left as it is; what a bad one
+/// leaves is open. The vector never gets longer.
+pub fn read_line(algos: Algos, form: Form, line: &mut Vec<u8>) -> (Reading, Form)
+    ensures form { result.1 ≡ form_after algos form line.old.items }
+    ensures reads { Reads algos result.1 line.old.items line.new.items result.0 }
+    ensures len { vec_len line.new ≤ vec_len line.old }
+{
+    match shape_of(algos, line) {
+        Shape::Ignored => (Reading::Ignored, form),
+        Shape::Tagged(found) => (
+            read_name(
+                line,
+                found.kind,
+                found.digest,
+                found.escaped,
+                found.start,
+                found.stop,
+            ),
+            form,
+        ),
+        Shape::Plain(found) => read_tail(form, line, found),
+        Shape::Neither => (Reading::Bad, form),
+    }
+}
+
+// What a line is as a whole.
+#[derive(Debug, Drop)]
+enum Shape {
+    Ignored,
+    Tagged(TaggedLine),
+    Plain(PlainLine),
+    Neither,
+}
+
+fn shape_of(algos: Algos, line: &[u8]) -> Shape
+    ensures { ShapeIs algos line.now result }
+{
+    if is_ignored(line) {
+        Shape::Ignored
+    } else if let Some(found) = tagged(algos, line) {
+        Shape::Tagged(found)
+    } else if let Some(found) = plain(algos, line) {
+        Shape::Plain(found)
+    } else {
+        Shape::Neither
+    }
+}
+
+fn is_ignored(line: &[u8]) -> bool
+    ensures { result ≡ ignored line.now }
+{
+    match line {
+        [] => true,
+        [first, ..] => *first == b'#',
+    }
+}
+
+// Reads a plain line's tail. The first plain line of a manifest decides the form, whether it is bad or not.
+fn read_tail(form: Form, line: &mut Vec<u8>, found: PlainLine) -> (Reading, Form)
+    requires { found.start ≤ length line.old.items }
+    ensures form { result.1 ≡ form_then form (form_of_tail (slice_range line.old.items found.start (length line.old.items))) }
+    ensures names { NamesTail found result.1 (slice_range line.old.items found.start (length line.old.items)) line.new.items result.0 }
+    ensures len { vec_len line.new ≤ vec_len line.old }
+{
+    let stop = line.len();
+    let standard = begins_standard(&line[found.start..]);
+    let form = decided(form, standard);
+    match form {
+        Form::Standard if standard => {
+            let start = found.start + 1;
+            (
+                read_name(line, found.kind, found.digest, found.escaped, start, stop),
+                form,
+            )
+        }
+        Form::Standard => (Reading::Bad, form),
+        _ => {
+            let start = found.start;
+            (
+                read_name(line, found.kind, found.digest, found.escaped, start, stop),
+                form,
+            )
+        }
+    }
+}
+
+// The form, where the tail of a plain line is that of a Standard one or not.
+fn decided(form: Form, standard: bool) -> Form
+    ensures { result ≡ form_then form (if standard then Form.Standard else Form.Reversed) }
+{
+    match form {
+        Form::Undecided if standard => Form::Standard,
+        Form::Undecided => Form::Reversed,
+        decided => decided,
+    }
+}
+
+fn begins_standard(tail: &[u8]) -> bool
+    ensures { result ≡ begins_standard tail.now }
+{
+    matches!(tail, [b' ' | b'*', _, ..])
+}
+
+// The entry of the raw name from `start` up to `stop`, where it spells a name.
+fn read_name(
+    line: &mut Vec<u8>,
+    kind: Kind,
+    digest: Digest,
+    escaped: bool,
+    start: usize,
+    stop: usize,
+) -> Reading
+    requires ordered { start ≤ stop }
+    requires within { stop ≤ length line.old.items }
+    ensures names { NamesEntry kind digest escaped (slice_range line.old.items start stop) line.new.items result }
+    ensures len { vec_len line.new ≤ vec_len line.old }
+{
+    if name_in(line, escaped, start, stop) {
+        Reading::Entry {
+            kind,
+            digest,
+            start,
+            stop: line.len(),
+        }
+    } else {
+        Reading::Bad
+    }
+}

@@ -1,0 +1,299 @@
+//! Worked lines of manifests.
+
+use crate::{Form, Reading, read_line};
+use digest_kinds::{Algo, Algos, Digest, Kind};
+use std::alloc::Global;
+use std::process::Abort;
+use std::test::Fail;
+
+const MD5: Algos = Algos::One(Algo::Md5);
+
+const BLAKE2B: Algos = Algos::One(Algo::Blake2b);
+
+// MD5 and SHA-256 of `abc`, MD5 of nothing, and BLAKE2b of 32 bytes of nothing.
+const M: &[u8] = b"900150983cd24fb0d6963f7d28e17f72";
+
+const S: &[u8] = b"ba7816bf8f01cfea414140de5dae2223b00361a396177a9cb410ff61f20015ad";
+
+const E: &[u8] = b"d41d8cd98f00b204e9800998ecf8427e";
+
+const B: &[u8] = b"0e5751c026e543b2e8ab2eb06099daa1d1e5df47778f7787faab45cdf12fe3a8";
+
+// What a line is to say: an entry with its name and where that is left.
+#[derive(Clone, Copy)]
+enum Want<'a> {
+    Ignored,
+    Bad,
+    Entry(&'a [u8], usize, usize),
+}
+
+use Want::{Bad, Entry, Ignored};
+
+// A line, as what stands before its digits, the digits and what stands behind them, what it is to say, and the form
+// with it.
+type Row<'a> = (&'a [u8], &'a [u8], &'a [u8], Want<'a>, Form);
+
+// Reads the row's line in a manifest of that form, and answers the form with it.
+fn check_line(
+    rt: &impl Abort,
+    algos: Algos,
+    kind: Kind,
+    form: Form,
+    line: &mut Vec<u8>,
+    row: Row,
+) -> Form {
+    let (_, digits, _, want, after) = row;
+    let before = line.len();
+    let (reading, form) = read_line(algos, form, line);
+    assert_eq!(rt; form, after);
+    assert!(rt; line.len() <= before);
+    match reading {
+        Reading::Ignored => assert!(rt; matches!(want, Ignored) && line.len() == before),
+        Reading::Bad => assert!(rt; matches!(want, Bad)),
+        Reading::Entry {
+            kind: found,
+            digest,
+            start,
+            stop,
+        } => {
+            assert!(rt; found.algo() == kind.algo() && found.len() == kind.len());
+            let digits = Digest::from_hex(digits).expect(rt, "digits");
+            assert!(rt; digest.same(&digits));
+            let Entry(name, from, to) = want else {
+                panic!(rt; "no entry is wanted");
+            };
+            assert_eq!(rt; (start, stop), (from, to));
+            assert_eq!(rt; line.get(start..stop), Some(name));
+        }
+    }
+    form
+}
+
+// Reads the rows' lines as those of one manifest.
+fn check_manifest(
+    rt: &impl Abort,
+    alloc: Global,
+    algos: Algos,
+    kind: Kind,
+    rows: &[Row],
+) -> Result<(), Fail> {
+    let mut form = Form::Undecided;
+    for row in rows {
+        let mut line = row.0.to_vec(alloc)?;
+        line.extend_from_slice(row.1)?;
+        line.extend_from_slice(row.2)?;
+        form = check_line(rt, algos, kind, form, &mut line, *row);
+    }
+    Ok(())
+}
+
+// Reads the line of each row as that of a manifest of its own.
+fn check_each(
+    rt: &impl Abort,
+    alloc: Global,
+    algos: Algos,
+    kind: Kind,
+    rows: &[Row],
+) -> Result<(), Fail> {
+    for row in rows {
+        check_manifest(rt, alloc, algos, kind, &[*row])?;
+    }
+    Ok(())
+}
+
+#[test]
+fn plain_lines(rt: HostRuntime) -> Result<(), Fail> {
+    let rows: [Row; 12] = [
+        (b"", M, b"  a", Entry(b"a", 34, 35), Form::Standard),
+        (b"", M, b" a", Entry(b"a", 33, 34), Form::Reversed),
+        (b"  ", M, b"  a", Entry(b"a", 36, 37), Form::Standard),
+        (b"", M, b"\t a", Entry(b"a", 34, 35), Form::Standard),
+        (b"", M, b"  ", Entry(b" ", 33, 34), Form::Reversed),
+        (b"", M, b" *", Entry(b"*", 33, 34), Form::Reversed),
+        (b"", M, b" ", Bad, Form::Undecided),
+        (b"\\", M, b"  a", Entry(b"a", 35, 36), Form::Standard),
+        (b"\\", M, b"  q\\x", Bad, Form::Standard),
+        (b"", M, b"  a\0", Bad, Form::Standard),
+        (b"\\", M, b"  a\rb", Bad, Form::Standard),
+        (b"", M, b"  a\rb", Entry(b"a\rb", 34, 37), Form::Standard),
+    ];
+    check_each(&rt, rt.alloc(), MD5, Kind::of(Algo::Md5), &rows)
+}
+
+#[test]
+fn tagged_lines(rt: HostRuntime) -> Result<(), Fail> {
+    let rows: [Row; 8] = [
+        (b"MD5 (a) = ", M, b"", Entry(b"a", 5, 6), Form::Undecided),
+        (b"MD5 (a)) = ", M, b"", Entry(b"a)", 5, 7), Form::Undecided),
+        (
+            b"\\MD5 (a\\nb) = ",
+            M,
+            b"",
+            Entry(b"a\nb", 6, 9),
+            Form::Undecided,
+        ),
+        (b"MD5(a)= ", M, b"", Entry(b"a", 4, 5), Form::Undecided),
+        (b"MD5 () = ", M, b"", Bad, Form::Undecided),
+        (b"MD5  (a) = ", M, b"", Bad, Form::Undecided),
+        (b"md5 (a) = ", M, b"", Bad, Form::Undecided),
+        (b"MD5 (a) = ", M, b" ", Bad, Form::Undecided),
+    ];
+    check_each(&rt, rt.alloc(), MD5, Kind::of(Algo::Md5), &rows)
+}
+
+#[test]
+fn lengths_of_blake2b(rt: HostRuntime) -> Result<(), Fail> {
+    let rows: [Row; 5] = [
+        (b"BLAKE2b-08 (e) = ", b"00", b"", Bad, Form::Undecided),
+        (b"BLAKE2b-520 (e) = ", B, b"", Bad, Form::Undecided),
+        (b"BLAKE2b-256 (e) = ", M, b"", Bad, Form::Undecided),
+        (b"", b"00", b" e", Entry(b"e", 3, 4), Form::Reversed),
+        (
+            b"BLAKE2b-8 (e) = ",
+            b"00",
+            b"",
+            Entry(b"e", 11, 12),
+            Form::Undecided,
+        ),
+    ];
+    check_each(&rt, rt.alloc(), BLAKE2B, Kind::blake2b_bits(8)?, &rows)
+}
+
+#[test]
+fn other_tags_and_ignored_lines(rt: HostRuntime) -> Result<(), Fail> {
+    let rows: [Row; 3] = [
+        (b"SHA512 (a) = ", S, b"", Bad, Form::Undecided),
+        (b"#", b"", b"", Ignored, Form::Undecided),
+        (b"", b"", b"", Ignored, Form::Undecided),
+    ];
+    check_each(
+        &rt,
+        rt.alloc(),
+        Algos::One(Algo::Sha256),
+        Kind::of(Algo::Sha256),
+        &rows,
+    )
+}
+
+#[test]
+fn the_first_plain_line_decides(rt: HostRuntime) -> Result<(), Fail> {
+    let md5 = Kind::of(Algo::Md5);
+    let upper: [Row; 1] = [(
+        b"",
+        b"900150983CD24FB0D6963F7D28E17F72",
+        b"  a",
+        Entry(b"a", 34, 35),
+        Form::Standard,
+    )];
+    check_manifest(&rt, rt.alloc(), MD5, md5, &upper)?;
+    let reversed: [Row; 2] = [
+        (b"", M, b" a", Entry(b"a", 33, 34), Form::Reversed),
+        (b"", M, b"  a", Entry(b" a", 33, 35), Form::Reversed),
+    ];
+    check_manifest(&rt, rt.alloc(), MD5, md5, &reversed)?;
+    let standard: [Row; 2] = [
+        (b"", M, b"  a", Entry(b"a", 34, 35), Form::Standard),
+        (b"", M, b" a", Bad, Form::Standard),
+    ];
+    check_manifest(&rt, rt.alloc(), MD5, md5, &standard)?;
+    let tagged_between: [Row; 4] = [
+        (b"MD5 (a) = ", M, b"", Entry(b"a", 5, 6), Form::Undecided),
+        (b"", M, b" a", Entry(b"a", 33, 34), Form::Reversed),
+        (b"MD5 (e) = ", E, b"", Entry(b"e", 5, 6), Form::Reversed),
+        (b"", M, b"  a", Entry(b" a", 33, 35), Form::Reversed),
+    ];
+    check_manifest(&rt, rt.alloc(), MD5, md5, &tagged_between)
+}
+
+#[test]
+fn escaped_names(rt: HostRuntime) -> Result<(), Fail> {
+    let rows: [Row; 5] = [
+        (
+            b"\\",
+            M,
+            b"  q\\\\\\nz",
+            Entry(b"q\\\nz", 35, 39),
+            Form::Standard,
+        ),
+        (b"\\", M, b"  q\\x", Bad, Form::Standard),
+        (b"\\", M, b"  q\\", Bad, Form::Standard),
+        (b"\\", M, b"  a\\r", Entry(b"a\r", 35, 37), Form::Standard),
+        (b"", M, b"  q\\x", Entry(b"q\\x", 34, 37), Form::Standard),
+    ];
+    check_manifest(&rt, rt.alloc(), MD5, Kind::of(Algo::Md5), &rows)
+}
+
+#[test]
+fn a_blake2b_manifest(rt: HostRuntime) -> Result<(), Fail> {
+    let rows: [Row; 4] = [
+        (b"", B, b"  e", Entry(b"e", 66, 67), Form::Standard),
+        (
+            b"BLAKE2b-256 (e) = ",
+            B,
+            b"",
+            Entry(b"e", 13, 14),
+            Form::Standard,
+        ),
+        (b"", b"0e5", b" e", Bad, Form::Standard),
+        (b"BLAKE2b-256 (e) = ", &B[..62], b"", Bad, Form::Standard),
+    ];
+    check_manifest(&rt, rt.alloc(), BLAKE2B, Kind::blake2b_bits(256)?, &rows)
+}
+
+#[test]
+fn any_algorithm(rt: HostRuntime) -> Result<(), Fail> {
+    let bad: [Row; 2] = [
+        (b"", M, b"  a", Bad, Form::Undecided),
+        (b"SHA256 (e) = ", E, b"", Bad, Form::Undecided),
+    ];
+    check_manifest(&rt, rt.alloc(), Algos::Any, Kind::of(Algo::Md5), &bad)?;
+    let md5: [Row; 1] = [(b"MD5 (a) = ", M, b"", Entry(b"a", 5, 6), Form::Undecided)];
+    check_manifest(&rt, rt.alloc(), Algos::Any, Kind::of(Algo::Md5), &md5)?;
+    let sha256: [Row; 1] = [(b"SHA256 (a) = ", S, b"", Entry(b"a", 8, 9), Form::Undecided)];
+    check_manifest(&rt, rt.alloc(), Algos::Any, Kind::of(Algo::Sha256), &sha256)?;
+    let blake2b: [Row; 1] = [(
+        b"BLAKE2b-256 (e) = ",
+        B,
+        b"",
+        Entry(b"e", 13, 14),
+        Form::Undecided,
+    )];
+    check_manifest(
+        &rt,
+        rt.alloc(),
+        Algos::Any,
+        Kind::blake2b_bits(256)?,
+        &blake2b,
+    )
+}
+
+#[test]
+fn hostile_lines(rt: HostRuntime) -> Result<(), Fail> {
+    let md5 = Kind::of(Algo::Md5);
+    let letters = [b'x'; 1000];
+    let nuls = [0; 1000];
+    let mut comment = [b'y'; 8193];
+    comment[0] = b'#';
+    let nothing: [Row; 6] = [
+        (&letters, b"", b"", Bad, Form::Undecided),
+        (&nuls, b"", b"", Bad, Form::Undecided),
+        (b"   \t", b"", b"", Bad, Form::Undecided),
+        (&comment[..8191], b"", b"", Ignored, Form::Undecided),
+        (&comment[..8192], b"", b"", Ignored, Form::Undecided),
+        (&comment, b"", b"", Ignored, Form::Undecided),
+    ];
+    check_manifest(&rt, rt.alloc(), MD5, md5, &nothing)?;
+    let backslashes: [Row; 5] = [
+        (b"\\", b"", b"", Bad, Form::Undecided),
+        (b"\\\\", M, b"  a", Bad, Form::Undecided),
+        (b"\\", M, b"  a\\", Bad, Form::Standard),
+        (b"", M, b" a", Bad, Form::Standard),
+        (b"", M, b"  a", Entry(b"a", 34, 35), Form::Standard),
+    ];
+    check_manifest(&rt, rt.alloc(), MD5, md5, &backslashes)?;
+    let mut long = [b'y'; 1002];
+    long[0] = b' ';
+    long[1] = b' ';
+    let tails: [Row; 1] = [(b"", M, &long, Entry(&long[2..], 34, 1034), Form::Standard)];
+    check_manifest(&rt, rt.alloc(), MD5, md5, &tails)
+}

@@ -1,0 +1,78 @@
+//! Plain lines: digits, a blank, a tail.
+
+ghost use Rattle.std.specs.Prelude.{◌≡◌, ◌≤◌, IfSome, if◌then◌else◌, length, Some, None};
+ghost use Rattle.std.specs.Option.{option_copied, option_map};
+ghost use Rattle.hex.specs.Hex.{decode_of};
+ghost use Rattle.digest_kinds.specs.Kinds.{has_len};
+ghost use Rattle.sum_lines.specs.Scanned.{plain_of, plain_as, sized, tail_of};
+ghost use Rattle.sum_lines.specs.Found.{plain_parts};
+
+use crate::scanning::{skip_blanks, split_hex_digits, unmark};
+use digest_kinds::{Algo, Algos, Digest, Kind};
+
+/// What a plain line holds. Its tail stands from `start` on.
+#[derive(Debug, Drop)]
+pub(crate) struct PlainLine {
+    pub(crate) escaped: bool,
+    pub(crate) kind: Kind,
+    pub(crate) digest: Digest,
+    pub(crate) start: usize,
+}
+
+/// Reads a plain line of the one algorithm. None where the line isn't plain.
+pub(crate) fn plain(algos: Algos, line: &[u8]) -> Option<PlainLine>
+    ensures parts { option_map (plain_parts line.now) result ≡ plain_of algos line.now }
+    ensures range { IfSome result (λ p. p.start ≤ length line.now) }
+{
+    match algos {
+        Algos::One(algo) => plain_as(algo, line),
+        Algos::Any => None,
+    }
+}
+
+#[tactic(auto, unfolding(crate::specs::Scanned::plain_behind))]
+fn plain_as(algo: Algo, line: &[u8]) -> Option<PlainLine>
+    ensures parts { option_map (plain_parts line.now) result ≡ plain_as algo line.now }
+    ensures range { IfSome result (λ p. p.start ≤ length line.now) }
+{
+    let (escaped, text) = unmark(skip_blanks(line));
+    let (digits, rest) = split_hex_digits(text);
+    let (kind, digest) = kind_and_digest(algo, digits)?;
+    let tail = tail(rest)?;
+    Some(PlainLine {
+        escaped,
+        kind,
+        digest,
+        start: line.len() - tail.len(),
+    })
+}
+
+// The digest that the digits spell, with its kind, where the algorithm has digests of that length.
+fn kind_and_digest(algo: Algo, digits: &[u8]) -> Option<(Kind, Digest)>
+    ensures { result ≡ sized algo (decode_of digits.now) }
+{
+    let digest = Digest::from_hex(digits)?;
+    let kind = kind_of_len(algo, digest.as_slice().len())?;
+    Some((kind, digest))
+}
+
+// The algorithm's kind with digests of that length.
+fn kind_of_len(algo: Algo, len: usize) -> Option<Kind>
+    ensures { result ≡ (if has_len algo len then Some (record { algo = algo; len = len }) else None) }
+{
+    let kind = match algo {
+        Algo::Blake2b if 1 <= len && len <= 64 => Kind::blake2b_bits(8 * len as u64).ok()?,
+        _ => Kind::of(algo),
+    };
+    if kind.len() == len { Some(kind) } else { None }
+}
+
+// What stands behind one blank, where it isn't empty.
+fn tail(s: &[u8]) -> Option<&[u8]>
+    ensures { option_copied result ≡ tail_of s.now }
+{
+    match s {
+        [b' ' | b'\t', tail @ ..] if !tail.is_empty() => Some(tail),
+        _ => None,
+    }
+}

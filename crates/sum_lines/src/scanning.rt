@@ -1,0 +1,87 @@
+//! The steps by which a line is read from the front.
+
+ghost use Rattle.std.specs.Prelude.{◌≡◌, ◌≤◌, length};
+ghost use Rattle.std.specs.List.{prefix_len, take_while};
+ghost use Rattle.std.specs.Option.{option_copied, option_map};
+ghost use Rattle.sum_lines.specs.Scanned.{after_while, past, split_last, unmarked, unspaced};
+ghost use Rattle.sum_lines.specs.Shapes.{is_blank};
+ghost use Rattle.hex.specs.Hex.{is_hex_digit};
+
+use memchr::memrchr;
+
+/// Whether the byte is a space or a tab.
+fn is_blank(byte: u8) -> bool
+    ensures { result ≡ is_blank byte }
+{
+    matches!(byte, b' ' | b'\t')
+}
+
+/// What stands behind the blanks in front.
+pub(crate) fn skip_blanks(s: &[u8]) -> &[u8]
+    ensures { result.now ≡ after_while is_blank s.now }
+{
+    &s[blanks(s)..]
+}
+
+fn blanks(s: &[u8]) -> usize
+    ensures value { result ≡ prefix_len is_blank s.now }
+    ensures within { result ≤ length s.now }
+{
+    s.iter().take_while(|byte| is_blank(**byte)).count()
+}
+
+/// Whether a backslash stands in front, and what stands behind it.
+pub(crate) fn unmark(s: &[u8]) -> (bool, &[u8])
+    ensures { (result.0, result.1.now) ≡ unmarked s.now }
+{
+    match s {
+        [b'\\', rest @ ..] => (true, rest),
+        _ => (false, s),
+    }
+}
+
+/// What stands behind the one space in front, where there is one.
+pub(crate) fn unspace(s: &[u8]) -> &[u8]
+    ensures { result.now ≡ unspaced s.now }
+{
+    match s {
+        [b' ', rest @ ..] => rest,
+        _ => s,
+    }
+}
+
+/// What stands behind the text, where it stands in front.
+pub(crate) fn past_text<'a>(text: &[u8], s: &'a [u8]) -> Option<&'a [u8]>
+    ensures { option_copied result ≡ past text.now s.now }
+{
+    s.strip_prefix(text)
+}
+
+/// What stands before and behind the last such byte.
+pub(crate) fn split_at_last(byte: u8, s: &[u8]) -> Option<(&[u8], &[u8])>
+    ensures { option_map (λ p. (p.0.now, p.1.now)) result ≡ split_last byte s.now }
+{
+    let at = memrchr(byte, s)?;
+    Some((&s[..at], &s[at + 1..]))
+}
+
+fn is_hex_digit(byte: u8) -> bool
+    ensures { result ≡ is_hex_digit byte }
+{
+    matches!(byte, b'0'..=b'9' | b'A'..=b'F' | b'a'..=b'f')
+}
+
+/// The hexadecimal digits in front, and what stands behind them.
+pub(crate) fn split_hex_digits(s: &[u8]) -> (&[u8], &[u8])
+    ensures digits { result.0.now ≡ take_while is_hex_digit s.now }
+    ensures rest { result.1.now ≡ after_while is_hex_digit s.now }
+{
+    s.split_at(hex_digits(s))
+}
+
+fn hex_digits(s: &[u8]) -> usize
+    ensures value { result ≡ prefix_len is_hex_digit s.now }
+    ensures within { result ≤ length s.now }
+{
+    s.iter().take_while(|byte| is_hex_digit(**byte)).count()
+}

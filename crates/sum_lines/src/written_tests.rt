@@ -1,0 +1,163 @@
+//! Worked lines, and worked names that are read back.
+
+use crate::{Mode, SinkFault, Style, ToldSink, needs_escape, put_all, put_line, unescape_in};
+use digest_kinds::{Algo, Digest, Kind};
+use std::process::Abort;
+use std::test::Fail;
+
+const ABC: &[u8] = b"900150983cd24fb0d6963f7d28e17f72";
+
+const EMPTY: &[u8] = b"d41d8cd98f00b204e9800998ecf8427e";
+
+const SHORT: &[u8] = b"0e5751c026e543b2e8ab2eb06099daa1d1e5df47778f7787faab45cdf12fe3a8";
+
+const LONG: &[u8] =
+    b"786a02f742015903c6c6fd852552d272912f4740e15847618a86e217f71f5419d25e1031afee585313896444934eb04b903a685b1448b755d56f701afe9be2ce";
+
+const TEXT: Style = Style {
+    mode: Mode::Text,
+    zero: false,
+};
+
+const BINARY: Style = Style {
+    mode: Mode::Binary,
+    zero: false,
+};
+
+const TAG: Style = Style {
+    mode: Mode::Tag,
+    zero: false,
+};
+
+const ZERO: Style = Style {
+    mode: Mode::Text,
+    zero: true,
+};
+
+// A name and its digest, and the line that is wanted for them: what stands before the digits and behind them.
+#[derive(Clone, Copy)]
+struct Row<'a> {
+    style: Style,
+    kind: Kind,
+    digits: &'a [u8],
+    name: &'a [u8],
+    before: &'a [u8],
+    behind: &'a [u8],
+}
+
+// Writes the row's line into a sink that stops after each count of bytes up to the line's length.
+fn check_row(rt: &impl Abort, row: &Row) {
+    let digest = Digest::from_hex(row.digits).expect(rt, "digits");
+    assert_eq!(rt; digest.as_slice().len(), row.kind.len());
+    let mut want = ToldSink::<256>::new(256);
+    for piece in [row.before, row.digits, row.behind] {
+        assert_eq!(rt; put_all(&mut want, piece), Ok(()));
+    }
+    let want = want.bytes();
+    for stop in 0..=want.len() {
+        let mut sink = ToldSink::<256>::new(stop);
+        let result = put_line(&mut sink, row.style, row.kind, row.name, &digest);
+        let whole = stop == want.len();
+        assert_eq!(rt; result, if whole { Ok(()) } else { Err(SinkFault) });
+        assert_eq!(rt; sink.bytes(), &want[..stop]);
+    }
+}
+
+#[test]
+fn plain_lines(rt: HostRuntime) {
+    let md5 = Kind::of(Algo::Md5);
+    let rows: [(Style, &[u8], &[u8], &[u8], &[u8]); 11] = [
+        (TEXT, ABC, b"a", b"", b"  a\n"),
+        (TEXT, EMPTY, b"e", b"", b"  e\n"),
+        (BINARY, ABC, b"a", b"", b" *a\n"),
+        (TEXT, ABC, b"q\\\nz", b"\\", b"  q\\\\\\nz\n"),
+        (ZERO, ABC, b"q\\\nz", b"", b"  q\\\nz\0"),
+        (TEXT, ABC, b"a\rb", b"\\", b"  a\\rb\n"),
+        (ZERO, ABC, b"a\rb", b"", b"  a\rb\0"),
+        (TEXT, ABC, b"\\\\", b"\\", b"  \\\\\\\\\n"),
+        (TEXT, ABC, b"", b"", b"  \n"),
+        (TEXT, ABC, b"\r", b"\\", b"  \\r\n"),
+        (TAG, ABC, b"a", b"MD5 (a) = ", b"\n"),
+    ];
+    for (style, digits, name, before, behind) in rows {
+        check_row(
+            &rt,
+            &Row {
+                style,
+                kind: md5,
+                digits,
+                name,
+                before,
+                behind,
+            },
+        );
+    }
+}
+
+#[test]
+fn tagged_blake2b_lines(rt: HostRuntime) -> Result<(), Fail> {
+    let short = Kind::blake2b_bits(256)?;
+    let full = Kind::blake2b_bits(0)?;
+    let rows: [(Style, Kind, &[u8], &[u8], &[u8]); 4] = [
+        (TEXT, short, SHORT, b"", b"  e\n"),
+        (TAG, short, SHORT, b"BLAKE2b-256 (e) = ", b"\n"),
+        (TAG, full, LONG, b"BLAKE2b (e) = ", b"\n"),
+        (
+            Style {
+                mode: Mode::Tag,
+                zero: true,
+            },
+            full,
+            LONG,
+            b"BLAKE2b (e) = ",
+            b"\0",
+        ),
+    ];
+    for (style, kind, digits, before, behind) in rows {
+        check_row(
+            &rt,
+            &Row {
+                style,
+                kind,
+                digits,
+                name: b"e",
+                before,
+                behind,
+            },
+        );
+    }
+    Ok(())
+}
+
+#[test]
+fn escaped_names_are_read_back(rt: HostRuntime) -> Result<(), Fail> {
+    let rows: [(&[u8], Option<&[u8]>); 8] = [
+        (b"x", Some(b"x")),
+        (b"x\\n", Some(b"x\n")),
+        (b"x\\r", Some(b"x\r")),
+        (b"xq\\\\\\nz", Some(b"xq\\\nz")),
+        (b"x\\", None),
+        (b"x\\x", None),
+        (b"x\n", None),
+        (b"x\r", None),
+    ];
+    for (bytes, want) in rows {
+        let mut line = bytes.to_vec(rt.alloc())?;
+        assert!(rt; line.len() >= 1);
+        assert_eq!(rt; unescape_in(&mut line, 1), want.is_some());
+        if let Some(name) = want {
+            assert_eq!(rt; line.as_slice(), name);
+        }
+        assert_eq!(rt; line.first(), Some(&b'x'));
+    }
+    Ok(())
+}
+
+#[test]
+fn names_that_are_escaped(rt: HostRuntime) {
+    for name in [b"a\\", b"a\n", b"a\r"] {
+        assert!(rt; needs_escape(name));
+    }
+    assert!(rt; !needs_escape(b"a b\tn\0\x7f"));
+    assert!(rt; !needs_escape(b""));
+}

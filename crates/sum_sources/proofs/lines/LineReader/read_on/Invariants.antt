@@ -1,0 +1,19 @@
+use Rattle.std.proofs.Common.{◌≡◌, length, ◌^◌, ◌-◌, ◌+◌}
+use Rattle.sum_sources.specs.Contents.{WhereTold}
+use Rattle.sum_sources.specs.LineReading.{ahead, left, used_of}
+use Rattle.sum_sources.specs.ManifestLines.{NoNewline}
+use Rattle.sum_sources.proofs.ReadOnLemmas.{Came}
+use Rattle.sum_sources.proofs.lines.LineReader.read_on.Given as goal
+
+abbrev pub invariant-loop-self : goal.invariant-loop-self
+invariant-loop-self g l = record {
+  came : WhereTold (ahead g.I.Input.content l.fn.self) (ahead g.I.Input.content l.self) (λ c d. Came c d l.line.items);
+  plain : NoNewline l.line.items;
+  input : WhereTold (left g.I.Input.content l.fn.self) (left g.I.Input.content l.self) (λ c d. l.self.taken + length d.bytes ≡ l.fn.self.taken + length c.bytes);
+  used : used_of l.self ≡ used_of l.fn.self + length l.line.items;
+  lines : l.self.lines ≡ l.fn.self.lines;
+  state : l.self.state ≡ l.fn.self.state;
+}
+
+abbrev pub decreases-loop-self : goal.decreases-loop-self
+decreases-loop-self g l = 2 ^ 61 - l.self.taken

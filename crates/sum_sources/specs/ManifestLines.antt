@@ -1,0 +1,62 @@
+-- The lines of a manifest.
+use Rattle.std.specs.Prelude.{ℕ, ◌≡◌, ◌+◌, ◌==◌, false, List, [], ◌∷◌, ◌++◌, map, All, Result, Ok, Err, ⊤}
+use Rattle.std.specs.List.{slice_split, after_first, flat_map}
+use Rattle.std.specs.Str.Lines.{strip_carriage_return}
+use Rattle.sum_sources.specs.declared.fault.Ending.{Ending}
+use Rattle.sum_sources.specs.declared.fault.Ending.TheVariants.{Whole, Broken}
+use Rattle.sum_sources.specs.declared.lines.Next.{Next}
+use Rattle.sum_sources.specs.declared.lines.Next.TheVariants.{Line, NoMore}
+use Rattle.sum_sources.specs.declared.lines.LineStop.{LineStop}
+use Rattle.sum_sources.specs.declared.lines.LineStop.TheVariants as stops
+use Rattle.sum_sources.specs.Contents.{Content}
+
+-- the last piece, which no newline ended, is a line where it isn't empty and the content ends whole
+abbrev pub last_line : Ending → List ℕ → List (List ℕ)
+last_line Whole [] = []
+last_line Whole (b ∷ bs) = (b ∷ bs) ∷ []
+last_line (Broken f) piece = []
+
+-- which of the pieces between newlines are lines: each that a newline ended, and the last one by its own rule
+abbrev pub line_pieces : Ending → List (List ℕ) → List (List ℕ)
+line_pieces e [] = []
+line_pieces e (last ∷ []) = last_line e last
+line_pieces e (piece ∷ next ∷ more) = piece ∷ line_pieces e (next ∷ more)
+
+-- the lines of a content with their carriage returns
+unfoldable pub pieces : Content → List (List ℕ)
+pieces c = line_pieces c.ending (slice_split (λ b. b == 10) c.bytes)
+
+-- the lines of a content: each without one carriage return at its end, where it has one
+abbrev pub lines : Content → List (List ℕ)
+lines c = map strip_carriage_return (pieces c)
+
+-- what stands past the first line
+abbrev pub past_line : Content → Content
+past_line c = record { bytes = after_first (λ b. b == 10) c.bytes; ending = c.ending }
+
+-- no byte is a newline
+abbrev pub NoNewline : List ℕ → Type 0
+NoNewline piece = All (λ b. (b == 10) ≡ false) piece
+
+-- these pieces, each ended by a newline, and then the tail
+abbrev pub joined : List (List ℕ) → List ℕ → List ℕ
+joined ended tail = flat_map (λ piece. piece ++ 10 ∷ []) ended ++ tail
+
+-- the bytes are cut at every newline into these pieces and the tail
+pub record CutsInto (bytes : List ℕ) (ended : List (List ℕ)) (tail : List ℕ) : Type 0 where
+  pub bytes_are : bytes ≡ joined ended tail
+  pub pieces_plain : All NoNewline ended
+  pub tail_plain : NoNewline tail
+
+-- what next_line answers: the first line, with what stands past it still to come; or that none is left, by the ending
+abbrev pub LineOf : Content → Content → Result Next LineStop → List ℕ → Type 0
+LineOf c d (Ok Line) line = (lines c ≡ line ∷ lines d) × (d ≡ past_line c)
+LineOf c d (Ok NoMore) line = (lines c ≡ []) × (c.ending ≡ Whole)
+LineOf c d (Err (stops.Fault f)) line = (lines c ≡ []) × (c.ending ≡ Broken f)
+LineOf c d (Err stops.Memory) line = ⊤
+
+-- how many lines were answered
+abbrev pub lines_after : ℕ → Result Next LineStop → ℕ
+lines_after n (Ok Line) = n + 1
+lines_after n (Ok NoMore) = n
+lines_after n (Err e) = n

@@ -1,0 +1,252 @@
+//! The lines of a manifest, one at a time.
+ghost use Rattle.std.specs.Prelude.{◌≡◌, ◌≤◌, ◌<◌, ◌^◌, ◌+◌, ◌-◌, [], true, false, take, length, IfOk, IfSome, IsErr, OnOk, if◌then◌else◌};
+ghost use Rattle.std.specs.Str.Lines.{strip_carriage_return};
+ghost use Rattle.sum_sources.specs.Contents.{ReadGives};
+ghost use Rattle.sum_sources.specs.LineStates.{IsReading};
+
+use crate::{Fault, Input};
+use digest_kinds::LIMIT;
+use memchr::memchr;
+use std::alloc::AllocError;
+
+/// What there was to read.
+#[derive(Clone, Copy, Debug, PartialEq, Eq)]
+pub enum Next {
+    /// The next line.
+    Line,
+    /// No line any more.
+    NoMore,
+}
+
+/// Why there is no next line.
+#[derive(Clone, Copy, Debug, PartialEq, Eq)]
+pub enum LineStop {
+    /// The input ended by this fault. Every line that a newline ended was given.
+    Fault(Fault),
+    /// There was no memory for the line.
+    Memory,
+}
+
+#[derive(Clone, Copy, Debug, PartialEq, Eq)]
+enum State {
+    Reading,
+    Ended,
+    Stopped(LineStop),
+}
+
+/// Reads an input line by line, at most 8192 bytes ahead.
+#[derive(Drop)]
+pub struct LineReader<I> {
+    input: I,
+    buf: [u8; 8192],
+    start: usize,
+    end: usize,
+    taken: u64,
+    lines: u64,
+    state: State,
+    ghost start_in: { start ≤ end },
+    ghost end_in: { end ≤ 8192 },
+    ghost few: { taken ≤ 2 ^ 61 },
+    ghost each: { lines + (end - start) ≤ taken },
+    ghost going: { IsReading state → taken < 2 ^ 61 },
+}
+
+// Reads into the front of `buf`.
+fn read_front<I: Input>(input: &mut I, buf: &mut [u8], size: usize) -> Result<usize, Fault>
+    requires { size ≤ length buf.old }
+    ensures count { IfOk result (λ n. n ≤ size) }
+    ensures bytes { ReadGives (I.content input.old) (I.content input.new) result (take size buf.new) }
+{
+    input.read(&mut buf[..size])
+}
+
+// Drops the one carriage return at the end of the line, where there is one.
+fn drop_return(line: &mut Vec<u8>)
+    ensures { line.new.items ≡ strip_carriage_return line.old.items }
+{
+    if line.last() == Some(&b'\r') {
+        line.pop();
+    }
+}
+
+impl<I: Input> LineReader<I> {
+    ghost use Rattle.std.specs.Option.{option_map};
+    ghost use Rattle.sum_sources.specs.Contents.{WhereTold, clip};
+    ghost use Rattle.sum_sources.specs.ManifestLines.{LineOf, lines_after};
+    ghost use Rattle.sum_sources.specs.LineReading.{PieceOf, FillOf, TakesPiece, buffered, taken_of, used_of, count_of, left, ahead, coming, answer_of, has_stopped};
+
+    /// A reader of the lines of `input`. An input of `LIMIT` bytes or more counts as its first
+    /// `LIMIT - 1` bytes and then `Fault::Other`.
+    pub fn new(input: I) -> Self
+        ensures coming { coming I.content result ≡ option_map clip (I.content input) }
+        ensures left { left I.content result ≡ I.content input }
+        ensures going { answer_of result ≡ None }
+        ensures taken { taken_of result ≡ 0 }
+        ensures used { used_of result ≡ 0 }
+        ensures lines { count_of result ≡ 0 }
+    {
+        LineReader {
+            input,
+            buf: [0; 8192],
+            start: 0,
+            end: 0,
+            taken: 0,
+            lines: 0,
+            state: State::Reading,
+        }
+    }
+
+    /// How many bytes the input has given.
+    pub fn taken(&self) -> u64
+        ensures value { result ≡ taken_of self.now }
+        ensures most { result ≤ 2 ^ 61 }
+    {
+        self.taken
+    }
+
+    /// How many lines were given.
+    pub fn lines(&self) -> u64
+        ensures value { result ≡ count_of self.now }
+        ensures few { result ≤ taken_of self.now }
+    {
+        self.lines
+    }
+
+    // Reads into the empty buffer. False means that the input has ended.
+    fn fill(&mut self) -> Result<bool, Fault>
+        requires empty { self.old.start ≡ self.old.end }
+        requires few { self.old.taken < 2 ^ 61 }
+        ensures gives { WhereTold (ahead I.content self.old) (ahead I.content self.new) (λ c d. FillOf c d result) }
+        ensures more { result ≡ Ok true → self.old.taken < self.new.taken }
+        ensures none { result ≡ Ok false → self.new.start ≡ self.new.end }
+        ensures few { IfOk result (λ _. self.new.taken < 2 ^ 61) }
+        ensures used { IfOk result (λ _. used_of self.new ≡ used_of self.old) }
+        ensures input { WhereTold (left I.content self.old) (left I.content self.new)
+            (λ c d. self.new.taken + length d.bytes ≡ self.old.taken + length c.bytes) }
+        ensures lines { self.new.lines ≡ self.old.lines }
+        ensures state { IfOk result (λ _. self.new.state ≡ self.old.state) }
+    {
+        let room = LIMIT - 1 - self.taken;
+        if room == 0 {
+            let mut one = [0; 1];
+            let n = read_front(&mut self.input, &mut one, 1)?;
+            if n == 0 {
+                return Ok(false);
+            }
+            self.state = State::Stopped(LineStop::Fault(Fault::Other));
+            self.taken += 1;
+            return Err(Fault::Other);
+        }
+        let size = room.min(8192) as usize;
+        self.start = 0;
+        self.end = 0;
+        let n = read_front(&mut self.input, &mut self.buf, size)?;
+        self.taken += n as u64;
+        self.end = n;
+        Ok(n != 0)
+    }
+
+    // Moves the buffer's bytes up to its first newline to the line's end, and drops that newline.
+    // False means that there was none, and all bytes were moved.
+    fn take_piece(&mut self, line: &mut Vec<u8>) -> Result<bool, AllocError>
+        ensures piece { IfOk result (λ ended. TakesPiece ended (buffered self.old) (buffered self.new) line.old.items line.new.items) }
+        ensures memory { IsErr result → 0 < length (buffered self.old) }
+        ensures empty { result ≡ Ok false → self.new.start ≡ self.new.end }
+        ensures used { IfOk result (λ ended. used_of self.new + length line.old.items
+            ≡ used_of self.old + length line.new.items + (if ended then 1 else 0)) }
+        ensures input { self.new.input ≡ self.old.input }
+        ensures taken { self.new.taken ≡ self.old.taken }
+        ensures lines { self.new.lines ≡ self.old.lines }
+        ensures state { self.new.state ≡ self.old.state }
+    {
+        if self.start == self.end {
+            return Ok(false);
+        }
+        let chunk = &self.buf[self.start..self.end];
+        match memchr(b'\n', chunk) {
+            Some(at) => {
+                line.extend_from_slice(&chunk[..at])?;
+                self.start += at + 1;
+                Ok(true)
+            }
+            None => {
+                line.extend_from_slice(chunk)?;
+                self.start = self.end;
+                Ok(false)
+            }
+        }
+    }
+
+    // Reads the next piece behind an empty line, with its carriage return.
+    fn read_on(&mut self, line: &mut Vec<u8>) -> Result<Next, LineStop>
+        requires empty { line.old.items ≡ [] }
+        requires reading { self.old.state ≡ State.Reading }
+        ensures piece { WhereTold (ahead I.content self.old) (coming I.content self.new) (λ c d. PieceOf c d result line.new.items) }
+        ensures memory { result ≡ Err LineStop.Memory → IfSome (ahead I.content self.old) (λ c. 0 < length c.bytes) }
+        ensures few { IfOk result (λ _. self.new.taken < 2 ^ 61) }
+        ensures used { OnOk result (WhereTold (ahead I.content self.old) (coming I.content self.new)
+            (λ c d. used_of self.new + length d.bytes ≡ used_of self.old + length c.bytes)) }
+        ensures input { WhereTold (left I.content self.old) (left I.content self.new)
+            (λ c d. self.new.taken + length d.bytes ≡ self.old.taken + length c.bytes) }
+        ensures some { result ≡ Ok Next.Line → used_of self.old < used_of self.new }
+        ensures lines { self.new.lines ≡ self.old.lines }
+        ensures ended { result ≡ Ok Next.NoMore → self.new.state ≡ State.Ended }
+        ensures going { OnOk result (has_stopped self.new ≡ false) }
+    {
+        loop {
+            match self.take_piece(line) {
+                Ok(true) => return Ok(Next::Line),
+                Ok(false) => {}
+                Err(_) => return Err(LineStop::Memory),
+            }
+            match self.fill() {
+                Ok(true) => {}
+                Ok(false) => {
+                    self.state = State::Ended;
+                    if line.is_empty() {
+                        return Ok(Next::NoMore);
+                    }
+                    return Ok(Next::Line);
+                }
+                Err(fault) => return Err(LineStop::Fault(fault)),
+            }
+        }
+    }
+
+    /// Puts the next line into `line`, without its newline and without the one carriage return
+    /// before it. `NoMore` and each `LineStop` is answered again by every later call. What `line`
+    /// holds after these isn't said; what it held before doesn't matter.
+    pub fn next_line(&mut self, line: &mut Vec<u8>) -> Result<Next, LineStop>
+        ensures gives { WhereTold (coming I.content self.old) (coming I.content self.new) (λ c d. LineOf c d result line.new.items) }
+        ensures memory { has_stopped self.old ≡ false → result ≡ Err LineStop.Memory → IfSome (coming I.content self.old) (λ c. 0 < length c.bytes) }
+        ensures again { IfSome (answer_of self.old) (λ answer. (result ≡ answer) × (self.new ≡ self.old)) }
+        ensures no_more { result ≡ Ok Next.NoMore → answer_of self.new ≡ Some result }
+        ensures stop { IsErr result → answer_of self.new ≡ Some result }
+        ensures going { OnOk result (has_stopped self.new ≡ false) }
+        ensures lines { count_of self.new ≡ lines_after (count_of self.old) result }
+        ensures few { count_of self.new ≤ taken_of self.new }
+        ensures most { taken_of self.new ≤ 2 ^ 61 }
+        ensures taken { WhereTold (left I.content self.old) (left I.content self.new)
+            (λ c d. taken_of self.new + length d.bytes ≡ taken_of self.old + length c.bytes) }
+        ensures used { OnOk result (WhereTold (coming I.content self.old) (coming I.content self.new)
+            (λ c d. used_of self.new + length d.bytes ≡ used_of self.old + length c.bytes)) }
+        ensures ahead { taken_of self.new ≤ used_of self.new + 8192 }
+    {
+        match self.state {
+            State::Ended => return Ok(Next::NoMore),
+            State::Stopped(stop) => return Err(stop),
+            State::Reading => {}
+        }
+        line.clear();
+        let result = self.read_on(line);
+        match result {
+            Ok(Next::Line) => {
+                drop_return(line);
+                self.lines += 1;
+            }
+            Ok(Next::NoMore) => {}
+            Err(stop) => self.state = State::Stopped(stop),
+        }
+        result
+    }
+}
