@@ -11,6 +11,7 @@ use Rattle.digest_kinds.specs.Kinds.{KindValue, full_kind}
 use Rattle.digest_kinds.specs.Lengths.{blake2b_of_bits}
 use Rattle.sum_lines.specs.declared.written.Mode.{Mode}
 use Rattle.sum_lines.specs.declared.written.Mode.TheVariants as modes
+use Rattle.sum_lines.specs.declared.written.Style.{Style}
 use Rattle.sum_engine.specs.declared.settings.Report.{Report}
 use Rattle.sum_engine.specs.declared.settings.Report.TheVariants as reports
 use Rattle.digests.specs.declared.tool.Tool.{Tool}
@@ -126,6 +127,9 @@ holding p = if p.0 then Some p.1 else None
 abbrev pub mode_of : Options → Mode
 mode_of o = if o.tag then modes.Tag else if is o.mode (codes "binary") then modes.Binary else modes.Text
 
+abbrev pub style_of : Options → Style
+style_of o = record { mode = mode_of o; zero = o.zero }
+
 abbrev pub report_of : Option Text → Report
 report_of report =
     if is report (codes "status") then reports.Status
@@ -136,11 +140,7 @@ report_of report =
 abbrev pub generation : Algos → Option KindValue → Options → List Text → Result Request Fault
 generation Any kind o words = Err check_needed
 generation (One algo) kind o words =
-    Ok (Generate (record {
-      kind = unwrap_or kind (full_kind algo);
-      style =
-          record { mode = mode_of o; zero = o.zero };
-    }) words)
+    Ok (Generate (record { kind = unwrap_or kind (full_kind algo); style = style_of o }) words)
 
 abbrev pub asked : Tool → Option KindValue → Options → List Text → Result Request Fault
 asked t kind o words =
