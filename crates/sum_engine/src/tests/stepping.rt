@@ -91,10 +91,10 @@ fn memory_refused(rt: HostRuntime) -> Result<(), Fail> {
     let mut err = ToldSink::<6000>::new(6000);
     let mut checker = Checker::new(CHECK, "md5sum", b"l", false, Told::new(&manifest, Ending::Whole, 8192));
     let mut line = Vec::new(rt.alloc());
-    let mut lines = 0;
+    let mut lines: u64 = 0;
     for _ in 0..4 {
         match checker.step(&mut line, &mut stdin, &mut source, &mut out, &mut err) {
-            Ok(Progress::Going) => lines += 1,
+            Ok(Progress::Going) => lines = lines.saturating_add(1),
             Ok(Progress::Ended(good)) => assert!(rt; lines == 2 && !good),
             Err(stop) => {
                 assert!(rt; stop == Stop::Memory);
