@@ -36,16 +36,16 @@ outcome o e a g = record { out = o; err = e; asks = a; good = g }
 pub joined-assoc : (a b c : Outcome) → joined (joined a b) c ≡ joined a (joined b c)
 joined-assoc a b c =
     ap (λ x. outcome x ((a.err ++ b.err) ++ c.err) ((a.asks ++ b.asks) ++ c.asks) ((a.good && b.good) && c.good)) (append_assoc a.out b.out c.out)
-  ∙ ap (λ x. outcome (a.out ++ (b.out ++ c.out)) x ((a.asks ++ b.asks) ++ c.asks) ((a.good && b.good) && c.good)) (append_assoc a.err b.err c.err)
-  ∙ ap (λ x. outcome (a.out ++ (b.out ++ c.out)) (a.err ++ (b.err ++ c.err)) x ((a.good && b.good) && c.good)) (append_assoc a.asks b.asks c.asks)
-  ∙ ap (λ x. outcome (a.out ++ (b.out ++ c.out)) (a.err ++ (b.err ++ c.err)) (a.asks ++ (b.asks ++ c.asks)) x) (and_assoc a.good b.good c.good)
+    ∙ ap (λ x. outcome (a.out ++ (b.out ++ c.out)) x ((a.asks ++ b.asks) ++ c.asks) ((a.good && b.good) && c.good)) (append_assoc a.err b.err c.err)
+    ∙ ap (λ x. outcome (a.out ++ (b.out ++ c.out)) (a.err ++ (b.err ++ c.err)) x ((a.good && b.good) && c.good)) (append_assoc a.asks b.asks c.asks)
+    ∙ ap (λ x. outcome (a.out ++ (b.out ++ c.out)) (a.err ++ (b.err ++ c.err)) (a.asks ++ (b.asks ++ c.asks)) x) (and_assoc a.good b.good c.good)
 
 pub joined-nothing : (a : Outcome) → joined a nothing ≡ a
 joined-nothing a =
     ap (λ x. outcome x (a.err ++ []) (a.asks ++ []) (a.good && true)) (append-nil a.out)
-  ∙ ap (λ x. outcome a.out x (a.asks ++ []) (a.good && true)) (append-nil a.err)
-  ∙ ap (λ x. outcome a.out a.err x (a.good && true)) (append-nil a.asks)
-  ∙ ap (λ x. outcome a.out a.err a.asks x) (and-true a.good)
+    ∙ ap (λ x. outcome a.out x (a.asks ++ []) (a.good && true)) (append-nil a.err)
+    ∙ ap (λ x. outcome a.out a.err x (a.good && true)) (append-nil a.asks)
+    ∙ ap (λ x. outcome a.out a.err a.asks x) (and-true a.good)
 
 pub stands-start : (one : World → Text → Outcome) (part : World → Text → ℕ → Outcome) (w : World) (names : List Text)
     → Stands one part w names nothing 0 names
@@ -60,13 +60,13 @@ pub stands-step : (one : World → Text → Outcome) (part : World → Text → 
     → Stands one part w names (joined done (one (after w done.asks) n)) (j + 1) rest
 stands-step one part w names done j n rest s = let a : Outcome = one (after w done.asks) n in record {
   total = s.total ∙ sym (joined-assoc done a (all_of one (after (after w done.asks) a.asks) rest))
-    ∙ ap (λ v. joined (joined done a) (all_of one v rest)) (after-append w done.asks a.asks);
+      ∙ ap (λ v. joined (joined done a) (all_of one v rest)) (after-append w done.asks a.asks);
   places = λ i k. let e : (j + 1) + i ≡ j + suc i = omega arith in rw e (s.places (suc i) k
-    ∙ sym (joined-assoc done a (upto one part (after (after w done.asks) a.asks) rest i k))
-    ∙ ap (λ v. joined (joined done a) (upto one part v rest i k)) (after-append w done.asks a.asks));
+      ∙ sym (joined-assoc done a (upto one part (after (after w done.asks) a.asks) rest i k))
+      ∙ ap (λ v. joined (joined done a) (upto one part v rest i k)) (after-append w done.asks a.asks));
   wanting = λ p m i k h. let e : (j + 1) + i ≡ j + suc i = omega arith in
-    let P : World → Type 0 = λ v. PlaceAt p m one v rest i k in
-    rw e (s.wanting p m (suc i) k (subst P (sym (after-append w done.asks a.asks)) h));
+      let P : World → Type 0 = λ v. PlaceAt p m one v rest i k in
+      rw e (s.wanting p m (suc i) k (subst P (sym (after-append w done.asks a.asks)) h));
 }
 
 pub reached-start : (one : World → Text → Outcome) (part : World → Text → ℕ → Outcome) (names : List Text) (s : Option Scene) (rest : List Text)
@@ -86,10 +86,13 @@ reached-step one part names (Some a) (Some b) (Some c) good this p m n rest r o 
     let done : Outcome = r.0 in
     let is : b.world ≡ after a.world done.asks = r.3.world in
     let P : World → Type 0 = λ w. (this ≡ (one w n).good) × Comes (one w n) b c in
-    let o' : P (after a.world done.asks) = subst P is o in
-    (joined done (one (after a.world done.asks) n), r.1 + 1, stands-step one part a.world names done r.1 n rest r.2,
-    does_both a b c done.out done.err done.asks _ _ _ r.3 o'.1,
-    ap (λ g. g && this) r.4 ∙ ap (λ g. done.good && g) o'.0)
+    let o' : P (after a.world done.asks) = subst P is o in (
+      joined done (one (after a.world done.asks) n),
+      r.1 + 1,
+      stands-step one part a.world names done r.1 n rest r.2,
+      does_both a b c done.out done.err done.asks _ _ _ r.3 o'.1,
+      ap (λ g. g && this) r.4 ∙ ap (λ g. done.good && g) o'.0,
+    )
 
 -- no operand is left
 pub reached-end : (one : World → Text → Outcome) (part : World → Text → ℕ → Outcome) (names : List Text) (s t : Option Scene) (good : Bool) (wanting : World → ℕ → ℕ → Type 0)
@@ -115,10 +118,12 @@ reached-stop one part names (Some a) (Some b) (Some c) good p p' m n rest Write 
     let P : World → Type 0 = λ v. CutShort (one v n) b c in
     let o' : P w = subst P is o in
     let later : Outcome = all_of one (after w (one w n).asks) rest in
-    let whole : all_of one a.world names ≡ joined done (joined (one w n) later) = r.2.total in
-    (done.asks ++ o'.0, o'.1 ++ later.asks,
-    ap (λ x. x.asks) whole ∙ ap (λ l. done.asks ++ (l ++ later.asks)) o'.2 ∙ ap (λ l. done.asks ++ l) (append_assoc o'.0 o'.1 later.asks) ∙ sym (append_assoc done.asks o'.0 (o'.1 ++ later.asks)),
-    cut_after a b c done.out done.err done.asks (one w n).out (one w n).err o'.0 later.out later.err _ _ r.3 o'.3 (ap (λ x. x.out) whole) (ap (λ x. x.err) whole))
+    let whole : all_of one a.world names ≡ joined done (joined (one w n) later) = r.2.total in (
+      done.asks ++ o'.0,
+      o'.1 ++ later.asks,
+      ap (λ x. x.asks) whole ∙ ap (λ l. done.asks ++ (l ++ later.asks)) o'.2 ∙ ap (λ l. done.asks ++ l) (append_assoc o'.0 o'.1 later.asks) ∙ sym (append_assoc done.asks o'.0 (o'.1 ++ later.asks)),
+      cut_after a b c done.out done.err done.asks (one w n).out (one w n).err o'.0 later.out later.err _ _ r.3 o'.3 (ap (λ x. x.out) whole) (ap (λ x. x.err) whole),
+    )
 reached-stop one part names (Some a) (Some b) (Some c) good p p' m n rest Memory same r o =
     let done : Outcome = r.0 in
     let is : b.world ≡ after a.world done.asks = r.3.world in

@@ -19,8 +19,10 @@ returns-in-Err-clause-refusals g c = refused-since (Refused c.args.job.now) _ _ 
 pub operands-preserved : goal.operands-preserved
 operands-preserved g c =
     let is : c.if-good.good ≡ (c.operands.good && c.in-Ok.this) =
-        elim c.if-good.branch [ then-good w ↦ w.good-is ∙ sym (ap (λ b. b && c.in-Ok.this) w.if-good.true)
-        | else-good w ↦ w.good-is ∙ w.if-good.false ∙ sym (ap (λ b. b && c.in-Ok.this) w.if-good.false) ] in
+    elim c.if-good.branch [
+      | then-good w ↦ w.good-is ∙ sym (ap (λ b. b && c.in-Ok.this) w.if-good.true)
+      | else-good w ↦ w.good-is ∙ w.if-good.false ∙ sym (ap (λ b. b && c.in-Ok.this) w.if-good.false)
+    ] in
     record {
       reached = reached-with _ _ _ _ _ _ _ _ _ is c.in-Some.ensures (reached-step _ _ _ _ _ _ _ _ _ _ _ _ c.operands.invariant.reached c.in-Ok.ensures.gives);
       refusals = c.in-Ok.ensures.refusals ∙ c.operands.invariant.refusals;
@@ -31,6 +33,8 @@ operands-preserved g c =
 pub returns-in-None-clause-gives : goal.returns-in-None-clause-gives
 returns-in-None-clause-gives g c =
     let is : c.if-good.good ≡ (c.operands.good && c.in-Ok.this) =
-        elim c.if-good.branch [ then-good w ↦ w.good-is ∙ sym (ap (λ b. b && c.in-Ok.this) w.if-good.true)
-        | else-good w ↦ w.good-is ∙ w.if-good.false ∙ sym (ap (λ b. b && c.in-Ok.this) w.if-good.false) ] in
+    elim c.if-good.branch [
+      | then-good w ↦ w.good-is ∙ sym (ap (λ b. b && c.in-Ok.this) w.if-good.true)
+      | else-good w ↦ w.good-is ∙ w.if-good.false ∙ sym (ap (λ b. b && c.in-Ok.this) w.if-good.false)
+    ] in
     rw c.status.ensures (reached-end _ _ _ _ _ _ _ (reached-with _ _ _ _ _ _ _ _ _ is c.in-None.ensures.0 (reached-step _ _ _ _ _ _ _ _ _ _ _ _ c.operands.invariant.reached c.in-Ok.ensures.gives)))

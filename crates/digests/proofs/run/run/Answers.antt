@@ -42,4 +42,3 @@ returns-in-Ok-Check-clause-gives g c =
 
 pub returns-in-Ok-Check-clause-refusals : goal.returns-in-Ok-Check-clause-refusals
 returns-in-Ok-Check-clause-refusals g c = refused-meant c.args.tool c.args.words.now _ _ _ _ (rw c.in-Ok-Check.field-0-is at c.in-Ok-Check.ensures) c.each-in-Ok-Check.ensures.refusals
-
