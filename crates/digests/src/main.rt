@@ -13,6 +13,8 @@ pub mod tool;
 pub mod words;
 
 #[cfg(test)]
+mod run_tests;
+#[cfg(test)]
 mod tests;
 
 use arguments::{CommandLine, read_command_line};
