@@ -8,7 +8,6 @@ use Rattle.digests.specs.declared.tool.Tool.{Tool}
 use Rattle.digests.specs.Tools.{name_of, algos_of}
 use Rattle.digests.specs.Items.{Text}
 use Rattle.digests.specs.Texts.{lines_of, version, help, first_options, last_options, length_help}
-use Rattle.digests.specs.Meaning.{not_supported}
 
 -- the two lines of a fault
 lines_parts : (name colon front shown back hint end : Text) →
@@ -28,9 +27,6 @@ fault_parts name front shown back n f b name_is front_is back_is =
 pub version_parts : (t : Tool) (name : Text) → name ≡ name_of t →
     name ++ (codes " (digests), profile 2\n" ++ []) ≡ version t
 version_parts t name name_is = ap (λ n. n ++ codes " (digests), profile 2\n") name_is
-
-pub not_supported_parts : (t : Tool) (name : Text) → name ≡ name_of t → name ++ (codes ": --check is not supported yet\n" ++ []) ≡ not_supported t
-not_supported_parts t name name_is = ap (λ n. n ++ codes ": --check is not supported yet\n") name_is
 
 -- the help text, of a tool with one algorithm, and of one without
 tagged_parts : (a b c d e f g h i : Text) →

@@ -4,6 +4,7 @@ use Rattle.std.specs.Prelude.{ℕ, zero, suc, ◌&&◌, Bool, true, false, List,
 use Rattle.sum_engine.specs.Worlds.{World, after}
 use Rattle.sum_engine.specs.Outcomes.{Outcome}
 use Rattle.sum_engine.specs.Generation.{generated}
+use Rattle.sum_engine.specs.Checking.{checked, checked_upto}
 use Rattle.digests.specs.declared.tool.Tool.{Tool}
 use Rattle.digests.specs.declared.reading.Request.{Request}
 use Rattle.digests.specs.declared.reading.Request.TheVariants.{Generate, Check, Help, Version}
@@ -38,15 +39,12 @@ on_out text = record { out = text; err = []; asks = []; good = true }
 abbrev pub on_err : Text → Outcome
 on_err text = record { out = []; err = text; asks = []; good = false }
 
-abbrev pub not_supported : Tool → Text
-not_supported t = name_of t ++ codes ": --check is not supported yet\n"
-
 abbrev pub answered : Tool → Result Request Fault → World → Outcome
 answered t (Err fault) w = on_err (fault_lines t fault)
 answered t (Ok Help) w = on_out (help t)
 answered t (Ok Version) w = on_out (version t)
 answered t (Ok (Generate settings names)) w = all_of (generated settings (name_of t)) w (or_dash names)
-answered t (Ok (Check settings names)) w = on_err (not_supported t)
+answered t (Ok (Check settings names)) w = all_of (checked settings (name_of t)) w (or_dash names)
 
 abbrev pub meaning : Tool → List Text → World → Outcome
 meaning t words w = answered t (request t words) w
@@ -62,12 +60,13 @@ upto one part w [] j k = nothing
 upto one part w (n ∷ ns) zero k = part w n k
 upto one part w (n ∷ ns) (suc j) k = joined (one w n) (upto one part (after w (one w n).asks) ns j k)
 
--- nothing is said of a part of one name that is hashed: its line is there or not
+-- a name that is hashed has no place within: its line is there or not
 abbrev pub no_part : World → Text → ℕ → Outcome
 no_part w name k = nothing
 
 abbrev pub place_of : Tool → Result Request Fault → World → ℕ → ℕ → Outcome
 place_of t (Ok (Generate settings names)) w j k = upto (generated settings (name_of t)) no_part w (or_dash names) j k
+place_of t (Ok (Check settings names)) w j k = upto (checked settings (name_of t)) (checked_upto settings (name_of t)) w (or_dash names) j k
 place_of t r w j k = nothing
 
 abbrev pub place : Tool → List Text → World → ℕ → ℕ → Outcome

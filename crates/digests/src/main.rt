@@ -79,7 +79,7 @@ fn perform_into<W: Write + Drop, E: Write>(
     let mut out = FromWrite::new(writer);
     let mut stdin = Stdin::new(FromRead::new(rt.stdin()));
     let mut files = Files::new(*rt);
-    let status = run(tool, words, &mut stdin, &mut files, &mut out, err);
+    let status = run(rt.alloc(), tool, words, &mut stdin, &mut files, &mut out, err);
     let is_flushed = out.flush().is_ok() & err.flush().is_ok();
     if is_flushed { status } else { status.and(Err(Stop::Write)) }
 }

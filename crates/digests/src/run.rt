@@ -1,12 +1,11 @@
 //! What a whole command line does.
 ghost use Rattle.std.specs.Prelude.{◌≡◌, ◌∷◌, List, ℕ, [], None};
-ghost use Rattle.sum_lines.specs.Sinks.{Writes};
 ghost use Rattle.sum_engine.specs.Scenes.{scene, Failures};
-ghost use Rattle.sum_engine.specs.Generation.{generated};
 ghost use Rattle.digests.specs.Tools.{name_of};
 ghost use Rattle.digests.specs.Walk.{Takes};
-ghost use Rattle.digests.specs.Meaning.{all_of, upto, no_part, or_dash, meaning, place, not_supported, status_of};
-ghost use Rattle.digests.specs.Runs.{told_of, OneGives, RunGives};
+ghost use Rattle.digests.specs.Request.{request};
+ghost use Rattle.digests.specs.Meaning.{all_of, upto, or_dash, meaning, place, status_of};
+ghost use Rattle.digests.specs.Runs.{one_of, part_of, told_of, OneGives, RunGives, PlaceAt, Wanting, Refused, RefusedBy, RefusalsOf};
 
 use crate::faults::put_fault;
 use crate::items::Operands;
@@ -14,8 +13,9 @@ use crate::reading::{Request, read_words};
 use crate::texts::{put_help, put_version};
 use crate::tool::Tool;
 use crate::words::Words;
-use sum_engine::{Settings, Stop, generate_one};
-use sum_lines::{Part, Sink, SinkFault, put_parts};
+use std::alloc::Global;
+use sum_engine::{CheckSettings, Settings, Stop, check_one, generate_one};
+use sum_lines::{Sink, SinkFault};
 use sum_sources::{Input, Source, Stdin};
 
 /// Runs a tool on its words: writes what they mean for what standard input and the source have to give, and answers the
@@ -24,6 +24,7 @@ use sum_sources::{Input, Source, Stdin};
 /// `Stop::Memory` where memory was refused; the outputs then stand at a place between two operands. `Stop::Write` where
 /// a write failed; each output then holds a front of its text.
 pub fn run<I: Input + Drop, S: Source, O: Sink, E: Sink>(
+    alloc: Global,
     tool: Tool,
     words: &Words,
     stdin: &mut Stdin<I>,
@@ -32,16 +33,22 @@ pub fn run<I: Input + Drop, S: Source, O: Sink, E: Sink>(
     err: &mut E,
 ) -> Result<u8, Stop>
     ensures gives { RunGives (meaning tool words.now) (place tool words.now)
+        (λ w. Wanting (S.refusals source.old) (S.refusals source.new) (name_of tool) w (request tool words.now))
         (scene I.content (S.told source.old) stdin.old (O.written out.old) (E.written err.old))
         (scene I.content (S.told source.new) stdin.new (O.written out.new) (E.written err.new)) result }
+    ensures refusals { RefusalsOf (RefusedBy (request tool words.now)) (S.refusals source.old) (S.refusals source.new) result }
     ensures failures { Failures (O.failures out.old) (O.failures out.new) (E.failures err.old) (E.failures err.new) result }
 {
     match read_words(tool, words) {
         Err(fault) => told(put_fault(err, tool, &fault), 1),
         Ok(Request::Help) => told(put_help(out, tool), 0),
         Ok(Request::Version) => told(put_version(out, tool), 0),
-        Ok(Request::Check(_settings, _operands)) => told(put_not_supported(err, tool), 1),
-        Ok(Request::Generate(settings, operands)) => each(&settings, tool, operands, stdin, source, out, err),
+        Ok(Request::Generate(settings, operands)) => {
+            each(alloc, &Job::Generate(settings), tool, operands, stdin, source, out, err)
+        }
+        Ok(Request::Check(settings, operands)) => {
+            each(alloc, &Job::Check(settings), tool, operands, stdin, source, out, err)
+        }
     }
 }
 
@@ -55,15 +62,19 @@ fn told(written: Result<(), SinkFault>, status: u8) -> Result<u8, Stop>
     }
 }
 
-fn put_not_supported<E: Sink>(err: &mut E, tool: Tool) -> Result<(), SinkFault>
-    ensures { Writes E.written E.failures err.old err.new (not_supported tool) result }
-{
-    put_parts(err, &[Part::Bytes(tool.name().as_bytes()), Part::Bytes(b": --check is not supported yet\n")])
+/// What is done with each operand.
+#[derive(Clone, Copy)]
+pub enum Job {
+    /// Its line is written.
+    Generate(Settings),
+    /// It is a manifest, which is checked.
+    Check(CheckSettings),
 }
 
 // One operand.
 fn one<I: Input + Drop, S: Source, O: Sink, E: Sink>(
-    settings: &Settings,
+    alloc: Global,
+    job: &Job,
     tool: Tool,
     name: &[u8],
     stdin: &mut Stdin<I>,
@@ -71,12 +82,16 @@ fn one<I: Input + Drop, S: Source, O: Sink, E: Sink>(
     out: &mut O,
     err: &mut E,
 ) -> Result<bool, Stop>
-    ensures gives { OneGives (λ w. generated settings.now (name_of tool) w name.now) (λ w. no_part w name.now)
+    ensures gives { OneGives (S.refusals source.old) (S.refusals source.new) (one_of job.now (name_of tool)) (part_of job.now (name_of tool)) name.now
         (scene I.content (S.told source.old) stdin.old (O.written out.old) (E.written err.old))
         (scene I.content (S.told source.new) stdin.new (O.written out.new) (E.written err.new)) result }
+    ensures refusals { RefusalsOf (Refused job.now) (S.refusals source.old) (S.refusals source.new) result }
     ensures failures { Failures (O.failures out.old) (O.failures out.new) (E.failures err.old) (E.failures err.new) result }
 {
-    generate_one(settings, tool.name(), name, stdin, source, out, err)
+    match job {
+        Job::Generate(settings) => generate_one(settings, tool.name(), name, stdin, source, out, err),
+        Job::Check(settings) => check_one(alloc, *settings, tool.name(), name, stdin, source, out, err),
+    }
 }
 
 // The first operand that is left.
@@ -101,7 +116,8 @@ fn first_name<'a>(operands: &mut Operands<'a>) -> &'a [u8]
 
 // All operands, one after another.
 fn each<I: Input + Drop, S: Source, O: Sink, E: Sink>(
-    settings: &Settings,
+    alloc: Global,
+    job: &Job,
     tool: Tool,
     operands: Operands,
     stdin: &mut Stdin<I>,
@@ -109,17 +125,19 @@ fn each<I: Input + Drop, S: Source, O: Sink, E: Sink>(
     out: &mut O,
     err: &mut E,
 ) -> Result<u8, Stop>
-    ensures gives { RunGives (λ w. all_of (generated settings.now (name_of tool)) w (or_dash operands.entry))
-        (λ w. upto (generated settings.now (name_of tool)) (no_part) w (or_dash operands.entry))
+    ensures gives { RunGives (λ w. all_of (one_of job.now (name_of tool)) w (or_dash operands.entry))
+        (λ w. upto (one_of job.now (name_of tool)) (part_of job.now (name_of tool)) w (or_dash operands.entry))
+        (λ w. PlaceAt (S.refusals source.old) (S.refusals source.new) (one_of job.now (name_of tool)) w (or_dash operands.entry))
         (scene I.content (S.told source.old) stdin.old (O.written out.old) (E.written err.old))
         (scene I.content (S.told source.new) stdin.new (O.written out.new) (E.written err.new)) result }
+    ensures refusals { RefusalsOf (Refused job.now) (S.refusals source.old) (S.refusals source.new) result }
     ensures failures { Failures (O.failures out.old) (O.failures out.new) (E.failures err.old) (E.failures err.new) result }
 {
     let mut operands = operands;
     let mut name = first_name(&mut operands);
     let mut good = true;
     'operands: loop {
-        match one(settings, tool, name, stdin, source, out, err) {
+        match one(alloc, job, tool, name, stdin, source, out, err) {
             Ok(this) => good = good && this,
             Err(stop) => return Err(stop),
         }
@@ -130,6 +148,7 @@ fn each<I: Input + Drop, S: Source, O: Sink, E: Sink>(
     }
 }
 
+// The status of a run over operands.
 fn status(good: bool) -> u8
     ensures { result ≡ status_of good }
 {

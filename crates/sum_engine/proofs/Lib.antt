@@ -1,3 +1,13 @@
 pub mod WorldLemmas
 pub mod SceneLemmas
 pub mod GenerateLemmas
+pub mod WriteLemmas
+pub mod VerdictLemmas
+pub mod StepLemmas
+pub mod RestLemmas
+pub mod CountLemmas
+pub mod RunLemmas
+pub mod ManifestLemmas
+pub mod UnescapeOf
+pub mod EntryLemmas
+pub mod SameFront

@@ -8,3 +8,9 @@ pub mod Checking
 pub mod Scenes
 pub mod Asking
 pub mod Steps
+pub mod Listings
+pub mod Judging
+pub mod States
+pub mod Views
+pub mod Runs
+pub mod Laws

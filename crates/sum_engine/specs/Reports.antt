@@ -38,8 +38,11 @@ hides Quiet v = false
 hides Status v = true
 
 -- a line's report on standard output
+abbrev pub out_by : Report → Verdict → List ℕ → List ℕ
+out_by report v name = if hides report v then [] else said_of v name
+
 abbrev pub out_of : Rules → Judged → List ℕ
-out_of r j = if hides r.settings.report j.verdict then [] else said_of j.verdict j.name
+out_of r j = out_by r.settings.report j.verdict j.name
 
 abbrev pub tag_word : Algos → List ℕ
 tag_word (One a) = tag a
@@ -98,9 +101,24 @@ counts js = record {
   bad = count_by (λ j. is_bad j.verdict) js;
 }
 
--- how many lines are entries
+-- the counts as the checker keeps them: none, and one more line of that verdict
+abbrev pub no_counts : Counts
+no_counts = record { right = 0; wrong = 0; missing = 0; unread = 0; bad = 0 }
+
+abbrev pub counted : Counts → Verdict → Counts
+counted c Ignored = c
+counted c Bad = record c { bad = c.bad + 1 }
+counted c Right = record c { right = c.right + 1 }
+counted c Wrong = record c { wrong = c.wrong + 1 }
+counted c Missing = record c { missing = c.missing + 1 }
+counted c (Unread f) = record c { unread = c.unread + 1 }
+
+-- how many lines are entries, and how many lines are not ignored
 abbrev pub entries : Counts → ℕ
 entries c = c.right + c.wrong + c.missing + c.unread
+
+abbrev pub total : Counts → ℕ
+total c = entries c + c.bad
 
 -- TOOL: WARNING: N TEXT, where the count isn't 0
 abbrev pub warning : List ℕ → ℕ → List ℕ → List ℕ → List ℕ
@@ -111,11 +129,14 @@ warning tool n one many = if n == 0 then []
 abbrev pub list_line : Rules → List ℕ → List ℕ
 list_line r text = concat (r.tool ∷ codes ": " ∷ escape r.shown ∷ codes ": " ∷ text ∷ codes "\n" ∷ [])
 
+abbrev pub unverified : Rules → Counts → List ℕ
+unverified r c = if r.settings.ignore_missing && (c.right == 0) then list_line r (codes "no file was verified") else []
+
 abbrev pub warnings : Rules → Counts → List ℕ
 warnings r c = warning r.tool c.bad (codes " line is improperly formatted") (codes " lines are improperly formatted")
     ++ (warning r.tool c.unread (codes " listed file could not be read") (codes " listed files could not be read")
     ++ (warning r.tool c.wrong (codes " computed checksum did NOT match") (codes " computed checksums did NOT match")
-    ++ (if r.settings.ignore_missing && (c.right == 0) then list_line r (codes "no file was verified") else [])))
+    ++ unverified r c))
 
 abbrev pub unless_status : Report → List ℕ → List ℕ
 unless_status All text = text

@@ -68,8 +68,15 @@ refusals_after n (Ok a) = n
 refusals_after n (Err Write) = n
 refusals_after n (Err Memory) = after_refusal n
 
+-- no write failed; one of the two outputs had a write that failed
+abbrev pub Kept : ℕ → ℕ → ℕ → ℕ → Type 0
+Kept o o' e e' = (o' ≡ o) × (e' ≡ e)
+
+abbrev pub Rose : ℕ → ℕ → ℕ → ℕ → Type 0
+Rose o o' e e' = ((o' ≡ after_failure o) × (e' ≡ e)) ⊎ ((o' ≡ o) × (e' ≡ after_failure e))
+
 -- the failures of the two outputs over a call that answers a write fault exactly where one of them failed
 abbrev pub Failures : {A : Type 0} → ℕ → ℕ → ℕ → ℕ → Result A Stop → Type 0
-Failures o o' e e' (Ok a) = (o' ≡ o) × (e' ≡ e)
-Failures o o' e e' (Err Write) = ((o' ≡ after_failure o) × (e' ≡ e)) ⊎ ((o' ≡ o) × (e' ≡ after_failure e))
-Failures o o' e e' (Err Memory) = (o' ≡ o) × (e' ≡ e)
+Failures o o' e e' (Ok a) = Kept o o' e e'
+Failures o o' e e' (Err Write) = Rose o o' e e'
+Failures o o' e e' (Err Memory) = Kept o o' e e'

@@ -1,6 +1,7 @@
 -- Joins a checker to the definitions: where it stands in its manifest, and what each of its steps does there.
-use Rattle.std.specs.Prelude.{ℕ, zero, suc, ◌≡◌, ◌+◌, ◌≤◌, ◌⊎◌, ◌<◌, Bool, List, [], ◌∷◌, length, Option, None, Some, Result, Ok, Err, ⊤}
+use Rattle.std.specs.Prelude.{ℕ, zero, suc, ◌≡◌, ◌+◌, ◌≤◌, ◌⊎◌, ◌<◌, Bool, List, [], ◌∷◌, length, Option, None, Some, Result, Ok, Err, IfSome, ⊤}
 use Rattle.sum_sources.specs.Contents.{Content}
+use Rattle.sum_sources.specs.Sources.{after_refusal}
 use Rattle.sum_sources.specs.ManifestLines.{lines, past_line}
 use Rattle.sum_lines.specs.declared.line_reading.Form.{Form}
 use Rattle.sum_lines.specs.declared.line_reading.Form.TheVariants.{Undecided}
@@ -10,11 +11,9 @@ use Rattle.sum_engine.specs.declared.progress.Progress.TheVariants.{Going, Ended
 use Rattle.sum_engine.specs.declared.stop.Stop.{Stop}
 use Rattle.sum_engine.specs.declared.stop.Stop.TheVariants.{Memory, Write}
 use Rattle.sum_engine.specs.declared.summary.Counts.{Counts}
-use Rattle.sum_engine.specs.declared.verdict.Verdict.{Verdict}
-use Rattle.sum_engine.specs.declared.verdict.Verdict.TheVariants.{Ignored, Bad, Right, Wrong, Missing, Unread}
 use Rattle.sum_engine.specs.Grammar.{says}
 use Rattle.sum_engine.specs.Verdicts.{Rules, Judged, judge, asks_of, verdicts}
-use Rattle.sum_engine.specs.Reports.{out_of, err_of, end_text, good}
+use Rattle.sum_engine.specs.Reports.{out_of, err_of, end_text, good, counted, no_counts}
 use Rattle.sum_engine.specs.Scenes.{Scene, Does, Cut}
 
 -- what is still to come of the manifest, the lines handled and the bytes that they used, the form and the counts
@@ -31,15 +30,6 @@ abbrev pub now_by : Option Content → ℕ → ℕ → Form → Counts → Optio
 now_by None n u f c s = None
 now_by (Some rest) n u f c None = None
 now_by (Some rest) n u f c (Some s) = Some (record { rest = rest; number = n; used = u; form = f; counts = c; scene = s })
-
--- one more line of that verdict
-abbrev pub counted : Counts → Verdict → Counts
-counted c Ignored = c
-counted c Bad = record c { bad = c.bad + 1 }
-counted c Right = record c { right = c.right + 1 }
-counted c Wrong = record c { wrong = c.wrong + 1 }
-counted c Missing = record c { missing = c.missing + 1 }
-counted c (Unread f) = record c { unread = c.unread + 1 }
 
 -- the next line's verdict
 abbrev pub next_judged : Rules → Now → List ℕ → Judged
@@ -92,9 +82,6 @@ StepGives r (Some a) (Some b) held x = StepOf r a b held x
 abbrev pub rest_verdicts : Rules → Now → List Judged
 rest_verdicts r a = verdicts r (form_then a.form (form r.settings.algo (lines a.rest))) a.scene.world a.number (lines a.rest)
 
-abbrev pub no_counts : Counts
-no_counts = record { right = 0; wrong = 0; missing = 0; unread = 0; bad = 0 }
-
 -- a new checker
 abbrev pub start : Content → Scene → Now
 start c s = record { rest = c; number = 0; used = 0; form = Undecided; counts = no_counts; scene = s }
@@ -103,3 +90,20 @@ start c s = record { rest = c; number = 0; used = 0; form = Undecided; counts = 
 abbrev pub past_lines : ℕ → Content → Content
 past_lines zero c = c
 past_lines (suc k) c = past_lines k (past_line c)
+
+-- a line was handled that has this verdict
+abbrev pub HandleOf : {A : Type 0} → Rules → Judged → Counts → Counts → Scene → Scene → Result A Stop → Type 0
+HandleOf r j c d a b (Ok u) = (d ≡ counted c j.verdict) × Does a b (out_of r j) (err_of r j) (asks_of j)
+HandleOf r j c d a b (Err Write) = Cut a b (out_of r j) (err_of r j) (asks_of j)
+HandleOf r j c d a b (Err Memory) = b ≡ a
+
+abbrev pub HandleGives : {A : Type 0} → Rules → Form → List ℕ → ℕ → Counts → Counts → Option Scene → Option Scene → Result A Stop → Type 0
+HandleGives r f line n c d None b x = ⊤
+HandleGives r f line n c d (Some a) None x = ⊥
+HandleGives r f line n c d (Some a) (Some b) x = HandleOf r (judge r a.world n (says r.settings.algo f line)) c d a b x
+
+-- a step's want of memory: the source was refused it, or bytes of the manifest were still to come
+abbrev pub Wants : ℕ → ℕ → Option Content → Result Progress Stop → Type 0
+Wants n m c (Ok p) = m ≡ n
+Wants n m c (Err Write) = m ≡ n
+Wants n m c (Err Memory) = (m ≡ after_refusal n) ⊎ ((m ≡ n) × IfSome c (λ d. 0 < length d.bytes))

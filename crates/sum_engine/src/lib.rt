@@ -2,7 +2,11 @@
 #![tactic(auto)]
 
 mod asking;
+mod checker;
 mod generate;
+pub mod laws;
+mod listing;
+mod manifest;
 mod progress;
 mod report;
 mod settings;
@@ -10,7 +14,9 @@ mod stop;
 mod summary;
 mod verdict;
 
+pub use checker::Checker;
 pub use generate::generate_one;
+pub use manifest::check_one;
 pub use progress::Progress;
 pub use settings::{CheckSettings, Report, Settings};
 pub use stop::Stop;

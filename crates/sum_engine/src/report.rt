@@ -1,8 +1,17 @@
 //! The lines that checking writes about a manifest's lines.
+ghost use Rattle.std.specs.Prelude.{MatchResult};
+ghost use Rattle.std.specs.Io.KnownBytes.{Appends};
 ghost use Rattle.sum_lines.specs.Sinks.{Writes};
 ghost use Rattle.sum_engine.specs.Generation.{fault_line};
+ghost use Rattle.sum_engine.specs.Reports.{name_line, said_of, out_by, bad_line, err_by};
+ghost use Rattle.sum_engine.specs.Listings.{rules_in};
+ghost use Rattle.sum_engine.specs.Scenes.{AppendsUpTo, Kept, Rose};
 
-use sum_lines::{Part, Sink, SinkFault, put_parts};
+use crate::listing::Listing;
+use crate::settings::Report;
+use crate::verdict::Verdict;
+use digest_kinds::{Algos, Kind};
+use sum_lines::{Part, Sink, SinkFault, needs_escape, put_parts};
 use sum_sources::Fault;
 
 /// Writes `TOOL: NAME: TEXT` for a name that could not be opened or read.
@@ -26,4 +35,121 @@ pub(crate) fn put_fault_line<'a, E: Sink>(
             Part::Bytes(b"\n"),
         ],
     )
+}
+
+/// Writes what is reported of a line: first to `err`, and then to `out`.
+pub(crate) fn put_report<O: Sink, E: Sink>(
+    out: &mut O,
+    err: &mut E,
+    listing: &Listing,
+    number: u64,
+    verdict: Verdict,
+    name: &[u8],
+) -> Result<(), SinkFault>
+    ensures out { MatchResult result
+        (λ _. Appends (O.written out.old) (O.written out.new) (out_by listing.now.settings.report verdict name.now))
+        (λ _. AppendsUpTo (O.written out.old) (O.written out.new) (out_by listing.now.settings.report verdict name.now)) }
+    ensures err { MatchResult result
+        (λ _. Appends (E.written err.old) (E.written err.new) (err_by (rules_in listing.now) number verdict name.now))
+        (λ _. AppendsUpTo (E.written err.old) (E.written err.new) (err_by (rules_in listing.now) number verdict name.now)) }
+    ensures failures { MatchResult result
+        (λ _. Kept (O.failures out.old) (O.failures out.new) (E.failures err.old) (E.failures err.new))
+        (λ _. Rose (O.failures out.old) (O.failures out.new) (E.failures err.old) (E.failures err.new)) }
+{
+    match put_err(err, listing, number, verdict, name) {
+        Ok(()) => put_out(out, listing.settings.report, verdict, name),
+        Err(fault) => Err(fault),
+    }
+}
+
+fn put_out<O: Sink>(out: &mut O, report: Report, verdict: Verdict, name: &[u8]) -> Result<(), SinkFault>
+    ensures { Writes O.written O.failures out.old out.new (out_by report verdict name.now) result }
+{
+    match report {
+        Report::All => put_said(out, verdict, name),
+        Report::Warn => put_said(out, verdict, name),
+        Report::Quiet => match verdict {
+            Verdict::Right => Ok(()),
+            _ => put_said(out, verdict, name),
+        },
+        Report::Status => Ok(()),
+    }
+}
+
+fn put_said<O: Sink>(out: &mut O, verdict: Verdict, name: &[u8]) -> Result<(), SinkFault>
+    ensures { Writes O.written O.failures out.old out.new (said_of verdict name.now) result }
+{
+    match verdict {
+        Verdict::Ignored | Verdict::Bad | Verdict::Missing => Ok(()),
+        Verdict::Right => put_name_line(out, name, b"OK"),
+        Verdict::Wrong => put_name_line(out, name, b"FAILED"),
+        Verdict::Unread(_) => put_name_line(out, name, b"FAILED open or read"),
+    }
+}
+
+fn put_name_line<'a, O: Sink>(out: &mut O, name: &'a [u8], text: &'a [u8]) -> Result<(), SinkFault>
+    ensures { Writes O.written O.failures out.old out.new (name_line name.now text.now) result }
+{
+    let mark: &[u8] = if needs_escape(name) { b"\\" } else { b"" };
+    put_parts(
+        out,
+        &[
+            Part::Bytes(mark),
+            Part::Escaped(name),
+            Part::Bytes(b": "),
+            Part::Bytes(text),
+            Part::Bytes(b"\n"),
+        ],
+    )
+}
+
+fn put_err<E: Sink>(
+    err: &mut E,
+    listing: &Listing,
+    number: u64,
+    verdict: Verdict,
+    name: &[u8],
+) -> Result<(), SinkFault>
+    ensures { Writes E.written E.failures err.old err.new (err_by (rules_in listing.now) number verdict name.now) result }
+{
+    match verdict {
+        Verdict::Ignored | Verdict::Right | Verdict::Wrong | Verdict::Missing => Ok(()),
+        Verdict::Bad => match listing.settings.report {
+            Report::Warn => put_bad_line(err, listing, number),
+            _ => Ok(()),
+        },
+        Verdict::Unread(fault) => put_fault_line(err, listing.tool, name, fault),
+    }
+}
+
+fn put_bad_line<E: Sink>(err: &mut E, listing: &Listing, number: u64) -> Result<(), SinkFault>
+    ensures { Writes E.written E.failures err.old err.new (bad_line (rules_in listing.now) number) result }
+{
+    let word = tag_word(listing.settings.algo);
+    put_parts(
+        err,
+        &[
+            Part::Bytes(listing.tool.as_bytes()),
+            Part::Bytes(b": "),
+            Part::Escaped(listing.shown),
+            Part::Bytes(b": "),
+            Part::Number(number),
+            Part::Bytes(b": improperly formatted "),
+            Part::Bytes(word.as_bytes()),
+            Part::Bytes(b" checksum line\n"),
+        ],
+    )
+}
+
+ghost use Rattle.std.specs.Prelude.{◌≡◌};
+ghost use Rattle.sum_engine.specs.Reports.{tag_word};
+
+// What stands for the tag in a report.
+fn tag_word(algos: Algos) -> &'static str
+    ensures { result.now ≡ tag_word algos }
+{
+    match algos {
+        Algos::One(algo) => Kind::of(algo).tag(),
+        Algos::Any => "tagged",
+    }
 }

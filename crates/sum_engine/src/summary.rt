@@ -1,4 +1,11 @@
 //! The end of a manifest.
+ghost use Rattle.std.specs.Prelude.{◌≡◌, ◌<◌, ◌^◌};
+ghost use Rattle.sum_lines.specs.Sinks.{Writes};
+
+use crate::listing::Listing;
+use crate::settings::Report;
+use crate::verdict::Verdict;
+use sum_lines::{Part, Sink, SinkFault, put_parts};
 
 /// How many lines of a manifest have each verdict.
 #[derive(Clone, Copy, Debug, PartialEq, Eq)]
@@ -8,4 +15,125 @@ pub(crate) struct Counts {
     pub missing: u64,
     pub unread: u64,
     pub bad: u64,
+}
+
+ghost use Rattle.sum_engine.specs.Reports.{list_line, warning, warnings, unverified, summary, good, entries, total, counted, no_counts};
+ghost use Rattle.sum_engine.specs.Listings.{rules_in};
+ghost use Rattle.sum_sources.specs.declared.fault.Ending.TheVariants.{Whole};
+
+impl Counts {
+    /// No line yet.
+    pub(crate) const NONE: Counts = Counts {
+        right: 0,
+        wrong: 0,
+        missing: 0,
+        unread: 0,
+        bad: 0,
+    };
+
+    /// One more line, of that verdict.
+    pub(crate) fn counted(self, verdict: Verdict) -> Counts
+        requires { total self < 2 ^ 63 }
+        ensures { result ≡ counted self verdict }
+    {
+        let mut counts = self;
+        match verdict {
+            Verdict::Ignored => {}
+            Verdict::Bad => counts.bad += 1,
+            Verdict::Right => counts.right += 1,
+            Verdict::Wrong => counts.wrong += 1,
+            Verdict::Missing => counts.missing += 1,
+            Verdict::Unread(_) => counts.unread += 1,
+        }
+        counts
+    }
+
+    fn entries(self) -> u64
+        requires { total self < 2 ^ 63 }
+        ensures { result ≡ entries self }
+    {
+        self.right + self.wrong + self.missing + self.unread
+    }
+}
+
+/// Whether a manifest that was read whole is good.
+pub(crate) fn is_good(listing: &Listing, counts: Counts) -> bool
+    ensures { result ≡ good (rules_in listing.now) Whole counts }
+{
+    counts.right != 0 && counts.wrong == 0 && counts.unread == 0 && (!listing.settings.strict || counts.bad == 0)
+}
+
+/// Writes the end of a manifest that was read whole.
+pub(crate) fn put_summary<E: Sink>(err: &mut E, listing: &Listing, counts: Counts) -> Result<(), SinkFault>
+    requires { total counts < 2 ^ 63 }
+    ensures { Writes E.written E.failures err.old err.new (summary (rules_in listing.now) counts) result }
+{
+    if counts.entries() == 0 {
+        return put_list_line(err, listing, b"no properly formatted checksum lines found");
+    }
+    match listing.settings.report {
+        Report::Status => Ok(()),
+        _ => put_warnings(err, listing, counts),
+    }
+}
+
+fn put_warnings<E: Sink>(err: &mut E, listing: &Listing, counts: Counts) -> Result<(), SinkFault>
+    ensures { Writes E.written E.failures err.old err.new (warnings (rules_in listing.now) counts) result }
+{
+    let tool = listing.tool;
+    put_warning(err, tool, counts.bad, b" line is improperly formatted", b" lines are improperly formatted")?;
+    put_warning(err, tool, counts.unread, b" listed file could not be read", b" listed files could not be read")?;
+    put_warning(err, tool, counts.wrong, b" computed checksum did NOT match", b" computed checksums did NOT match")?;
+    put_unverified(err, listing, counts)
+}
+
+fn put_warning<'a, E: Sink>(
+    err: &mut E,
+    tool: &'a str,
+    count: u64,
+    one: &'a [u8],
+    many: &'a [u8],
+) -> Result<(), SinkFault>
+    ensures { Writes E.written E.failures err.old err.new (warning tool.now count one.now many.now) result }
+{
+    if count == 0 {
+        return Ok(());
+    }
+    let text = if count == 1 { one } else { many };
+    put_parts(
+        err,
+        &[
+            Part::Bytes(tool.as_bytes()),
+            Part::Bytes(b": WARNING: "),
+            Part::Number(count),
+            Part::Bytes(text),
+            Part::Bytes(b"\n"),
+        ],
+    )
+}
+
+fn put_unverified<E: Sink>(err: &mut E, listing: &Listing, counts: Counts) -> Result<(), SinkFault>
+    ensures { Writes E.written E.failures err.old err.new (unverified (rules_in listing.now) counts) result }
+{
+    if listing.settings.ignore_missing && counts.right == 0 {
+        return put_list_line(err, listing, b"no file was verified");
+    }
+    Ok(())
+}
+
+// Writes `TOOL: LIST: TEXT`.
+fn put_list_line<E: Sink>(err: &mut E, listing: &Listing, text: &'static [u8]) -> Result<(), SinkFault>
+    ensures { Writes E.written E.failures err.old err.new (list_line (rules_in listing.now) text.now) result }
+{
+    put_parts(
+        err,
+        &[
+            Part::Bytes(listing.tool.as_bytes()),
+            Part::Bytes(b": "),
+            Part::Escaped(listing.shown),
+            Part::Bytes(b": "),
+            Part::Bytes(text),
+            Part::Bytes(b"\n"),
+        ],
+    )
 }

@@ -1,6 +1,18 @@
 //! The verdict of a line.
+ghost use Rattle.std.specs.Prelude.{◌≡◌, ◌||◌, ◌≤◌, length, MatchOption, is_none};
+ghost use Rattle.std.specs.List.{list_any};
+ghost use Rattle.sum_sources.specs.Sources.{after_refusal};
+ghost use Rattle.sum_lines.specs.Entries.{form_then, line_form};
+ghost use Rattle.sum_engine.specs.Worlds.{is_dash};
+ghost use Rattle.sum_engine.specs.Grammar.{says};
+ghost use Rattle.sum_engine.specs.Verdicts.{asks_by};
+ghost use Rattle.sum_engine.specs.Scenes.{world};
 
-use sum_sources::Fault;
+use crate::asking::{Asked, DASH, ask};
+use crate::listing::Listing;
+use digest_kinds::{Algos, Digest};
+use sum_lines::{Form, Reading, read_line};
+use sum_sources::{Fault, Input, Source, Stdin};
 
 /// What checking finds of a manifest's line.
 #[derive(Clone, Copy, Debug, PartialEq, Eq)]
@@ -17,4 +29,83 @@ pub(crate) enum Verdict {
     Missing,
     /// The file could not be opened or read.
     Unread(Fault),
+}
+
+/// A line's verdict, and the name of its entry.
+#[derive(Drop)]
+pub(crate) struct Judgement<'a> {
+    pub verdict: Verdict,
+    pub name: &'a [u8],
+}
+
+ghost use Rattle.sum_engine.specs.Listings.{rules_in};
+ghost use Rattle.sum_engine.specs.Judging.{said_by, Within, JudgeGives, compared, judgement_asks};
+
+/// Reads a line, in a list of the form that the lines before it have.
+pub(crate) fn read(algos: Algos, form: Form, line: &mut Vec<u8>) -> (Reading, Form)
+    ensures form { result.1 ≡ form_then form (line_form algos line.old.items) }
+    ensures said { said_by line.new.items result.0 ≡ says algos result.1 line.old.items }
+    ensures within { Within line.new.items result.0 }
+    ensures held { length line.new.items ≤ length line.old.items }
+{
+    read_line(algos, form, line)
+}
+
+/// The verdict of a line that was read. None where the source had no memory to open the name; nothing was then asked.
+pub(crate) fn judge<'a, I: Input + Drop, S: Source>(
+    listing: &Listing,
+    line: &'a [u8],
+    reading: &Reading,
+    stdin: &mut Stdin<I>,
+    source: &mut S,
+) -> Option<Judgement<'a>>
+    requires { Within line.now reading.now }
+    ensures gives { JudgeGives (rules_in listing.now) (world I.content (S.told source.old) stdin.old)
+        (world I.content (S.told source.new) stdin.new) (said_by line.now reading.now) result }
+    ensures taken { MatchOption result (stdin.new ≡ stdin.old)
+        (λ j. is_none stdin.new ≡ is_none stdin.old || list_any is_dash (judgement_asks j)) }
+    ensures refusals { MatchOption result (S.refusals source.new ≡ after_refusal (S.refusals source.old))
+        (λ _. S.refusals source.new ≡ S.refusals source.old) }
+{
+    match reading {
+        Reading::Ignored => Some(Judgement {
+            verdict: Verdict::Ignored,
+            name: b"",
+        }),
+        Reading::Bad => Some(Judgement {
+            verdict: Verdict::Bad,
+            name: b"",
+        }),
+        Reading::Entry { kind, digest, start, stop } => {
+            let name = &line[*start..*stop];
+            if listing.from_stdin && name == DASH {
+                return Some(Judgement {
+                    verdict: Verdict::Bad,
+                    name,
+                });
+            }
+            let Some(asked) = ask(*kind, name, stdin, source) else {
+                return None;
+            };
+            let verdict = compare(&asked, digest, listing.settings.ignore_missing);
+            Some(Judgement { verdict, name })
+        }
+    }
+}
+
+fn compare(asked: &Asked, digest: &Digest, ignore_missing: bool) -> Verdict
+    ensures { result ≡ compared ignore_missing digest.now asked.now }
+{
+    match asked {
+        Asked::Read(found) => {
+            if found.same(digest) {
+                Verdict::Right
+            } else {
+                Verdict::Wrong
+            }
+        }
+        Asked::Refused(Fault::NotFound) if ignore_missing => Verdict::Missing,
+        Asked::Refused(fault) => Verdict::Unread(*fault),
+        Asked::Broken(fault) => Verdict::Unread(*fault),
+    }
 }

@@ -1,0 +1,44 @@
+use Rattle.std.proofs.Common.{refl, ◌∙◌, rules}
+use Rattle.sum_engine.proofs.ManifestLemmas.{along_none, along_more, along_end, along_stop}
+use Rattle.sum_engine.proofs.manifest.check_input.Goals as goal
+
+pub lines-init : goal.lines-init
+lines-init g c = record {
+  along = rw c.new-checker.ensures.now (along_none _ _ _);
+  rules = c.new-checker.ensures.rules;
+  going = c.new-checker.ensures.going;
+  refusals = refl;
+  out = refl;
+  err = refl;
+}
+
+pub returns-in-Err-clause-gives : goal.returns-in-Err-clause-gives
+returns-in-Err-clause-gives g c =
+    let here = c.lines.checker in
+    let last = c.step.new.self in
+    let so_far = c.lines.invariant in
+    let gives = rw so_far.rules at (c.in-Err.ensures.gives so_far.going) in
+    along_stop _ _ _ _ _ _ here.form here.counts _ _ _ _ last.form last.counts _ _ c.in-Err.stop _ _ _ so_far.along gives so_far.refusals (c.in-Err.ensures.wants so_far.going)
+
+pub returns-in-Ok-Ended-clause-gives : goal.returns-in-Ok-Ended-clause-gives
+returns-in-Ok-Ended-clause-gives g c =
+    let last = c.step.new.self in
+    let so_far = c.lines.invariant in
+    let step = rw c.in-Ok-Ended.field-0-is at (c.in-Ok-Ended.ensures.gives so_far.going) in
+    let gives = rw so_far.rules at step in
+    along_end _ _ _ _ _ _ _ last.form last.counts _ _ _ _ _ so_far.along gives
+
+pub lines-preserved : goal.lines-preserved
+lines-preserved g c =
+    let so_far = c.lines.invariant in
+    let step = rw c.in-Ok-Going.field-0-is at (c.in-Ok-Going.ensures.gives so_far.going) in
+    let gives = rw so_far.rules at step in
+    let failures = c.in-Ok-Going.ensures.failures so_far.going in
+    record {
+      along = along_more _ _ _ _ _ _ so_far.along gives;
+      rules = c.in-Ok-Going.ensures.rules ∙ so_far.rules;
+      going = c.in-Ok-Going.ensures.going (search rules);
+      refusals = c.in-Ok-Going.ensures.wants so_far.going ∙ so_far.refusals;
+      out = failures.0 ∙ so_far.out;
+      err = failures.1 ∙ so_far.err;
+    }

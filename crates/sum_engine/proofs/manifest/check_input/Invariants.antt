@@ -1,0 +1,25 @@
+use Rattle.std.proofs.Common.{◌≡◌, ◌^◌, ◌-◌, None}
+use Rattle.std.specs.Option.{option_map}
+use Rattle.sum_sources.specs.Contents.{clip}
+use Rattle.sum_engine.specs.Scenes.{scene}
+use Rattle.sum_engine.specs.Views.{rules_of_checker, now_of, answer_of, number_of}
+use Rattle.sum_engine.specs.Verdicts.{Rules}
+use Rattle.sum_engine.proofs.ManifestLemmas.{Along}
+use Rattle.sum_engine.proofs.manifest.check_input.Given as goal
+
+abbrev pub invariant-lines : goal.invariant-lines
+invariant-lines g l =
+    let first = scene g.J.Input.content (g.S.Source.told l.fn.source) l.fn.stdin (g.O.Sink.written l.fn.out) (g.E.Sink.written l.fn.err) in
+    let here = scene g.J.Input.content (g.S.Source.told l.source) l.stdin (g.O.Sink.written l.out) (g.E.Sink.written l.err) in
+    let r : Rules = record { settings = l.fn.settings; tool = l.tool; shown = l.shown; from_stdin = l.from_stdin } in
+    record {
+      along : Along r (option_map clip (g.I.Input.content l.fn.input)) first (now_of g.I.Input.content l.checker here);
+      rules : rules_of_checker l.checker ≡ r;
+      going : answer_of l.checker ≡ None;
+      refusals : g.S.Source.refusals l.source ≡ g.S.Source.refusals l.fn.source;
+      out : g.O.Sink.failures l.out ≡ g.O.Sink.failures l.fn.out;
+      err : g.E.Sink.failures l.err ≡ g.E.Sink.failures l.fn.err;
+    }
+
+abbrev pub decreases-lines : goal.decreases-lines
+decreases-lines g l = 2 ^ 61 - number_of l.checker

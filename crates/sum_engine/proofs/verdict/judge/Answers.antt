@@ -1,0 +1,18 @@
+use Rattle.std.proofs.Common.{◌≡◌, ◌&&◌, Bool, true, false, slice_range, ap, sym, refl, rules}
+use Rattle.digest_kinds.specs.Kinds.{KindValue}
+use Rattle.sum_lines.specs.Entries.{Spelled}
+use Rattle.sum_engine.specs.Worlds.{is_dash}
+use Rattle.sum_engine.specs.Listings.{rules_in}
+use Rattle.sum_engine.proofs.VerdictLemmas.{judged_entry}
+use Rattle.sum_engine.proofs.verdict.judge.Goals as goal
+use Rattle.sum_engine.proofs.verdict.judge.Goals.{else-listing-via-then-listing+else-eq, else-listing-via-else-listing}
+
+pub returns-in-Some-clause-gives : goal.returns-in-Some-clause-gives
+returns-in-Some-clause-gives g c =
+    let kind = c.in-Entry.kind in
+    let name = slice_range c.args.line.now c.in-Entry.start c.in-Entry.stop in
+    let within = rw c.in-Entry.is at c.requires in
+    let s : Spelled = record { algo = kind.algo; digest = c.in-Entry.digest; name = name } in
+    let dash : c.args.listing.now.from_stdin && is_dash name ≡ false =
+    elim c.else-listing.branch [ else-listing-via-then-listing+else-eq w ↦ search rules | else-listing-via-else-listing w ↦ search rules ] in
+    rw c.in-Entry.is (judged_entry (rules_in c.args.listing.now) _ _ kind s c.in-Some.asked _ (ap (λ n. record { algo = kind.algo; len = n }) (sym within.2)) dash c.in-Some.ensures.gives c.compare-verdict.ensures refl)

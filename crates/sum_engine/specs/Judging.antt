@@ -1,0 +1,46 @@
+-- Joins what the code finds of a line to what the line says, and to its verdict.
+use Rattle.std.specs.Prelude.{ℕ, ◌≡◌, ◌≤◌, ◌-◌, Bool, List, [], ◌∷◌, length, take, drop, slice_range, Option, None, Some, ⊤, if◌then◌else◌}
+use Rattle.std.specs.Str.{bytes_eq}
+use Rattle.sum_sources.specs.declared.fault.Fault.{Fault}
+use Rattle.sum_sources.specs.declared.fault.Fault.TheVariants.{NotFound, Denied, Other}
+use Rattle.sum_lines.specs.declared.line_reading.Reading.{Reading}
+use Rattle.sum_lines.specs.declared.line_reading.Reading.TheVariants as readings
+use Rattle.sum_engine.specs.declared.asking.Asked.{Asked}
+use Rattle.sum_engine.specs.declared.asking.Asked.TheVariants as asked
+use Rattle.sum_engine.specs.declared.verdict.Judgement.{Judgement}
+use Rattle.sum_engine.specs.declared.verdict.Verdict.{Verdict}
+use Rattle.sum_engine.specs.declared.verdict.Verdict.TheVariants.{Right, Wrong, Missing, Unread}
+use Rattle.sum_engine.specs.Grammar.{Said, Nothing, Improper, Spells}
+use Rattle.sum_engine.specs.Worlds.{World, after}
+use Rattle.sum_engine.specs.Verdicts.{Rules, judge, asks_by}
+
+-- what a reading says, whose name stands in the line's vector
+abbrev pub said_by : List ℕ → Reading → Said
+said_by line readings.Ignored = Nothing
+said_by line readings.Bad = Improper
+said_by line (readings.Entry kind digest start stop) = Spells (record { algo = kind.algo; digest = digest; name = slice_range line start stop })
+
+-- the name stands in the line, and the digest is as long as the kind's
+abbrev pub Within : List ℕ → Reading → Type 0
+Within line readings.Ignored = ⊤
+Within line readings.Bad = ⊤
+Within line (readings.Entry kind digest start stop) = (start ≤ stop) × (stop ≤ length line) × (length digest ≡ kind.len)
+
+abbrev pub judgement_asks : Judgement → List (List ℕ)
+judgement_asks j = asks_by j.verdict j.name.now
+
+-- the verdict by what came of asking the name
+abbrev pub compared : Bool → List ℕ → Asked → Verdict
+compared ignore d (asked.Read found) = if bytes_eq found d then Right else Wrong
+compared ignore d (asked.Refused NotFound) = if ignore then Missing else Unread NotFound
+compared ignore d (asked.Refused Denied) = Unread Denied
+compared ignore d (asked.Refused Other) = Unread Other
+compared ignore d (asked.Broken f) = Unread f
+
+-- a line that says this has this judgement, whatever its number, and its name was asked
+abbrev pub JudgeGives : Rules → Option World → Option World → Said → Option Judgement → Type 0
+JudgeGives r None v x j = ⊤
+JudgeGives r (Some w) None x j = ⊥
+JudgeGives r (Some w) (Some v) x None = v ≡ w
+JudgeGives r (Some w) (Some v) x (Some j) =
+    ((n : ℕ) → judge r w n x ≡ record { number = n; verdict = j.verdict; name = j.name.now }) × (v ≡ after w (judgement_asks j))

@@ -1,0 +1,109 @@
+-- Joins a checker's steps to a whole manifest.
+use Rattle.std.specs.Prelude.{ℕ, zero, suc, ◌≡◌, ◌+◌, ◌≤◌, ◌⊎◌, ◌<◌, Bool, List, [], ◌∷◌, ◌++◌, take, drop, length, flat_map, Option, None, Some, Result, Ok, Err, ⊤}
+use Rattle.sum_sources.specs.Contents.{Content, clip}
+use Rattle.sum_sources.specs.ManifestLines.{lines, past_line}
+use Rattle.sum_sources.specs.Sources.{Reply, Refused, Given, after_refusal}
+use Rattle.sum_engine.specs.declared.settings.CheckSettings.{CheckSettings}
+use Rattle.sum_engine.specs.declared.stop.Stop.{Stop}
+use Rattle.sum_engine.specs.declared.stop.Stop.TheVariants.{Memory, Write}
+use Rattle.sum_engine.specs.Worlds.{World, reply}
+use Rattle.sum_engine.specs.Outcomes.{Outcome}
+use Rattle.sum_engine.specs.Verdicts.{Rules, Judged, asks_of, all_verdicts}
+use Rattle.sum_engine.specs.Reports.{out_of, err_of, counts, end_text, good}
+use Rattle.sum_engine.specs.Checking.{checked, checked_upto}
+use Rattle.sum_engine.specs.Scenes.{Scene, Does, Cut}
+use Rattle.sum_engine.specs.Steps.{Now, Handles, Ends, start, past_lines, next_out, next_err, next_asks}
+
+-- these names were asked and a front of each text was written, and these are a front of what a whole run comes to
+abbrev pub CutOff : Scene → Scene → List ℕ → List ℕ → List (List ℕ) → Type 0
+CutOff a b out err asks = (asked : List (List ℕ)) × (rest : List (List ℕ)) × (asks ≡ asked ++ rest) × Cut a b out err asked
+
+-- bytes stand past so many lines
+abbrev pub BytesPast : ℕ → Content → Type 0
+BytesPast k c = 0 < length (past_lines k c).bytes
+
+-- the source was refused memory, or bytes of the manifest stand past the lines handled
+abbrev pub WantsAt : ℕ → ℕ → ℕ → Content → Type 0
+WantsAt n m k c = (m ≡ after_refusal n) ⊎ ((m ≡ n) × BytesPast k c)
+
+-- a new checker that was run to its end, on a manifest that was asked as the first thing
+abbrev pub RunOf : Rules → Content → ℕ → ℕ → Scene → Scene → Result Bool Stop → Type 0
+RunOf r c n m a b (Ok x) = (x ≡ good r c.ending (counts (all_verdicts r a.world c)))
+    × Does a b (flat_map (out_of r) (all_verdicts r a.world c))
+    (flat_map (err_of r) (all_verdicts r a.world c) ++ end_text r c.ending (counts (all_verdicts r a.world c)))
+    (flat_map asks_of (all_verdicts r a.world c))
+RunOf r c n m a b (Err Write) = CutOff a b (flat_map (out_of r) (all_verdicts r a.world c))
+    (flat_map (err_of r) (all_verdicts r a.world c) ++ end_text r c.ending (counts (all_verdicts r a.world c)))
+    (flat_map asks_of (all_verdicts r a.world c))
+RunOf r c n m a b (Err Memory) = (k : ℕ) × Does a b (flat_map (out_of r) (take k (all_verdicts r a.world c)))
+    (flat_map (err_of r) (take k (all_verdicts r a.world c))) (flat_map asks_of (take k (all_verdicts r a.world c)))
+    × WantsAt n m k c
+
+abbrev pub RunGives : Rules → Option Content → ℕ → ℕ → Option Scene → Option Scene → Result Bool Stop → Type 0
+RunGives r None n m a b x = ⊤
+RunGives r (Some c) n m None b x = ⊤
+RunGives r (Some c) n m (Some a) None x = ⊥
+RunGives r (Some c) n m (Some a) (Some b) x = RunOf r c n m a b x
+
+-- the reply to the manifest's name has bytes past so many lines
+abbrev pub RepliesPast : ℕ → Reply → Type 0
+RepliesPast k (Refused f) = ⊥
+RepliesPast k (Given c) = BytesPast k (clip c)
+
+-- where a run of one manifest stands that wants memory: before it was opened, where the source was refused memory; or
+-- after it was opened and some lines were handled, where memory was refused or bytes stand past these lines
+abbrev pub PlaceOf : ℕ → ℕ → ℕ → Reply → Type 0
+PlaceOf n m zero r = m ≡ after_refusal n
+PlaceOf n m (suc k) r = (m ≡ after_refusal n) ⊎ ((m ≡ n) × RepliesPast k r)
+
+-- what checking one manifest does: all of its outcome; on a write fault a front of it; on want of memory all up to a place
+abbrev pub CheckOf : CheckSettings → List ℕ → List ℕ → ℕ → ℕ → Scene → Scene → Result Bool Stop → Type 0
+CheckOf settings tool name n m a b (Ok x) = let o = checked settings tool a.world name in (x ≡ o.good) × Does a b o.out o.err o.asks
+CheckOf settings tool name n m a b (Err Write) = let o = checked settings tool a.world name in CutOff a b o.out o.err o.asks
+CheckOf settings tool name n m a b (Err Memory) = (k : ℕ) × (let o = checked_upto settings tool a.world name k in Does a b o.out o.err o.asks) × PlaceOf n m k (reply a.world name)
+
+abbrev pub CheckGives : CheckSettings → List ℕ → List ℕ → ℕ → ℕ → Option Scene → Option Scene → Result Bool Stop → Type 0
+CheckGives settings tool name n m None b x = ⊤
+CheckGives settings tool name n m (Some a) None x = ⊥
+CheckGives settings tool name n m (Some a) (Some b) x = CheckOf settings tool name n m a b x
+
+-- only want of memory changes what the source was refused, by one
+abbrev pub RefusedOnMemory : {A : Type 0} → ℕ → ℕ → Result A Stop → Type 0
+RefusedOnMemory n m (Ok a) = m ≡ n
+RefusedOnMemory n m (Err Write) = m ≡ n
+RefusedOnMemory n m (Err Memory) = (m ≡ n) ⊎ (m ≡ after_refusal n)
+
+-- so many lines were handled, one after another
+abbrev pub HandledTimes : Rules → Now → Now → ℕ → Type 0
+HandledTimes r a b zero = b ≡ a
+HandledTimes r a b (suc k) = (m : Now) × (held : List ℕ) × Handles r a m held × HandledTimes r m b k
+
+-- after k lines of a new checker the outputs have the reports of the manifest's first k lines and nothing else, and
+-- the bytes used are those up to the k-th line's end
+pub record Joined (r : Rules) (c : Content) (s : Scene) (b : Now) (k : ℕ) : Type 0 where
+  pub rest : b.rest ≡ past_lines k c
+  pub lines : lines b.rest ≡ drop k (lines c)
+  pub number : b.number ≡ k
+  pub used : b.used + length (past_lines k c).bytes ≡ length c.bytes
+  pub done : Does s b.scene (flat_map (out_of r) (take k (all_verdicts r s.world c)))
+      (flat_map (err_of r) (take k (all_verdicts r s.world c))) (flat_map asks_of (take k (all_verdicts r s.world c)))
+
+-- any number of lines, handled one after another
+abbrev pub StepsJoin : Type 0
+StepsJoin = (r : Rules) (c : Content) (s : Scene) (b : Now) (k : ℕ) → HandledTimes r (start c s) b k → Joined r c s b k
+
+-- the step that ends comes after all lines, and all texts are then written
+abbrev pub StepsEnd : Type 0
+StepsEnd = (r : Rules) (c : Content) (s : Scene) (b z : Now) (k : ℕ) (x : Bool) → HandledTimes r (start c s) b k → Ends r b z x
+    → (k ≡ length (lines c)) × (x ≡ good r c.ending (counts (all_verdicts r s.world c)))
+    × Does s z.scene (flat_map (out_of r) (all_verdicts r s.world c))
+    (flat_map (err_of r) (all_verdicts r s.world c) ++ end_text r c.ending (counts (all_verdicts r s.world c)))
+    (flat_map asks_of (all_verdicts r s.world c))
+
+-- a step that a write fault cut off leaves fronts of all texts
+abbrev pub StepsCut : Type 0
+StepsCut = (r : Rules) (c : Content) (s : Scene) (b z : Now) (k : ℕ) → HandledTimes r (start c s) b k
+    → Cut b.scene z.scene (next_out r b (lines b.rest)) (next_err r b (lines b.rest)) (next_asks r b (lines b.rest))
+    → CutOff s z.scene (flat_map (out_of r) (all_verdicts r s.world c))
+    (flat_map (err_of r) (all_verdicts r s.world c) ++ end_text r c.ending (counts (all_verdicts r s.world c)))
+    (flat_map asks_of (all_verdicts r s.world c))

@@ -1,0 +1,46 @@
+-- Joins a checker's fields to where it stands.
+use Rattle.std.specs.Prelude.{ℕ, ◌≡◌, Option, None, Some, Result, Ok, Err}
+use Rattle.sum_sources.specs.Contents.{Content}
+use Rattle.sum_sources.specs.LineReading.{coming, taken_of, used_of, count_of}
+use Rattle.sum_lines.specs.declared.line_reading.Form.{Form}
+use Rattle.sum_engine.specs.declared.checker.Checker.{Checker}
+use Rattle.sum_engine.specs.declared.checker.State.{State}
+use Rattle.sum_engine.specs.declared.checker.State.TheVariants.{Running, Ended, Stopped}
+use Rattle.sum_engine.specs.declared.progress.Progress.{Progress}
+use Rattle.sum_engine.specs.declared.progress.Progress.TheVariants as progress
+use Rattle.sum_engine.specs.declared.stop.Stop.{Stop}
+use Rattle.sum_engine.specs.Verdicts.{Rules}
+use Rattle.sum_engine.specs.Listings.{rules_in}
+use Rattle.sum_engine.specs.Scenes.{Scene}
+use Rattle.sum_engine.specs.Steps.{Now, now_by}
+
+-- what its manifest is checked by
+abbrev pub rules_of_checker : {I : Type 0} → Checker I → Rules
+rules_of_checker s = rules_in s.listing
+
+-- where it stands, where its manifest and the scene tell
+abbrev pub now_of : {I : Type 0} → (I → Option Content) → Checker I → Option Scene → Option Now
+now_of content s scene = now_by (coming content s.reader) (count_of s.reader) (used_of s.reader) s.form s.counts scene
+
+-- what is still to come of its manifest
+abbrev pub to_come : {I : Type 0} → (I → Option Content) → Checker I → Option Content
+to_come content s = coming content s.reader
+
+-- the bytes that its input has given, those that the lines handled used, and the number of these lines
+abbrev pub given_of : {I : Type 0} → Checker I → ℕ
+given_of s = taken_of s.reader
+
+abbrev pub handled_of : {I : Type 0} → Checker I → ℕ
+handled_of s = used_of s.reader
+
+abbrev pub number_of : {I : Type 0} → Checker I → ℕ
+number_of s = count_of s.reader
+
+-- the answer that every later step gives again, where there is one
+abbrev pub answer_at : State → Option (Result Progress Stop)
+answer_at Running = None
+answer_at (Ended good) = Some (Ok (progress.Ended good))
+answer_at (Stopped stop) = Some (Err stop)
+
+abbrev pub answer_of : {I : Type 0} → Checker I → Option (Result Progress Stop)
+answer_of s = answer_at s.state

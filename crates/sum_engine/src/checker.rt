@@ -1,0 +1,206 @@
+//! Checking a manifest, a line at a time.
+ghost use Rattle.std.specs.Prelude.{◌≡◌, ◌≤◌, ◌<◌, ◌^◌, ◌+◌, ◌⊎◌, Ok, Err, Some, None, true, false, OnOk, IfOk, IfSome, IsErr, Option, length};
+ghost use Rattle.sum_sources.specs.LineReading.{count_of, has_stopped};
+ghost use Rattle.sum_engine.specs.Reports.{total, no_counts};
+ghost use Rattle.sum_engine.specs.States.{IsRunning};
+
+use crate::listing::Listing;
+use crate::progress::Progress;
+use crate::report::{put_fault_line, put_report};
+use crate::settings::CheckSettings;
+use crate::stop::Stop;
+use crate::summary::{Counts, is_good, put_summary};
+use crate::verdict::{judge, read};
+use sum_lines::{Form, Sink};
+use sum_sources::{Input, LineReader, LineStop, Next, Source, Stdin};
+
+#[derive(Clone, Copy, Debug, PartialEq, Eq)]
+enum State {
+    Running,
+    Ended(bool),
+    Stopped(Stop),
+}
+
+/// A manifest that is being checked. It reads a line, handles it, and only then reads on.
+#[derive(Drop)]
+pub struct Checker<'a, I> {
+    listing: Listing<'a>,
+    reader: LineReader<I>,
+    form: Form,
+    counts: Counts,
+    state: State,
+    ghost few: { total counts ≤ count_of reader },
+    ghost work: { IsRunning state → has_stopped reader ≡ false },
+}
+
+impl<'a, I: Input> Checker<'a, I> {
+    ghost use Rattle.std.specs.Option.{option_map};
+    ghost use Rattle.sum_sources.specs.Contents.{clip};
+    ghost use Rattle.sum_lines.specs.Entries.{form_then, line_form};
+    ghost use Rattle.sum_engine.specs.Scenes.{Scene, scene, Failures, refusals_after};
+    ghost use Rattle.sum_engine.specs.Steps.{now_by, StepGives, HandleGives, Wants};
+    ghost use Rattle.sum_engine.specs.Views.{rules_of_checker, now_of, to_come, given_of, handled_of, number_of, answer_of};
+
+    /// A checker of the manifest that `input` gives. In diagnostics the manifest has the name `shown`; `from_stdin` says
+    /// whether it came from standard input, where a line that names `-` is improperly formatted.
+    pub fn new(settings: CheckSettings, tool: &'a str, shown: &'a [u8], from_stdin: bool, input: I) -> Self
+        ensures rules { rules_of_checker result
+            ≡ record { settings = settings; tool = tool.entry.now; shown = shown.entry.now; from_stdin = from_stdin } }
+        ensures now { (s : Option Scene) → now_of I.content result s ≡ now_by (option_map clip (I.content input)) 0 0 Form.Undecided no_counts s }
+        ensures going { answer_of result ≡ None }
+        ensures given { given_of result ≡ 0 }
+    {
+        let listing = Listing {
+            settings,
+            tool,
+            shown,
+            from_stdin,
+        };
+        Checker {
+            listing,
+            reader: LineReader::new(input),
+            form: Form::Undecided,
+            counts: Counts::NONE,
+            state: State::Running,
+        }
+    }
+
+    /// How many bytes the manifest's input has given.
+    pub fn taken(&self) -> u64
+        ensures value { result ≡ given_of self.now }
+        ensures most { result ≤ 2 ^ 61 }
+    {
+        self.reader.taken()
+    }
+
+    /// Handles the next line, or the end: writes the line's report, or the summary or the fault by which the manifest
+    /// ended. `line` is grown for the line; what it held before doesn't matter, and what it holds after isn't said.
+    ///
+    /// `Stop::Memory` where there was no memory for the line or for opening the file that it names; nothing is then
+    /// written. `Stop::Write` where a write failed; fronts of the texts are then written. After `Ended` and after a stop
+    /// each step answers the same again and writes nothing.
+    pub fn step<J: Input + Drop, S: Source, O: Sink, E: Sink>(
+        &mut self,
+        line: &mut Vec<u8>,
+        stdin: &mut Stdin<J>,
+        source: &mut S,
+        out: &mut O,
+        err: &mut E,
+    ) -> Result<Progress, Stop>
+        ensures gives { answer_of self.old ≡ None → StepGives (rules_of_checker self.old)
+            (now_of I.content self.old (scene J.content (S.told source.old) stdin.old (O.written out.old) (E.written err.old)))
+            (now_of I.content self.new (scene J.content (S.told source.new) stdin.new (O.written out.new) (E.written err.new)))
+            line.new.items result }
+        ensures again { IfSome (answer_of self.old) (λ r. (result ≡ r) × (out.new ≡ out.old) × (err.new ≡ err.old)
+            × (source.new ≡ source.old) × (stdin.new ≡ stdin.old) × (self.new ≡ self.old)) }
+        ensures wants { answer_of self.old ≡ None → Wants (S.refusals source.old) (S.refusals source.new) (to_come I.content self.old) result }
+        ensures failures { answer_of self.old ≡ None
+            → Failures (O.failures out.old) (O.failures out.new) (E.failures err.old) (E.failures err.new) result }
+        ensures untouched { result ≡ Err Stop.Memory → (out.new ≡ out.old) × (err.new ≡ err.old) }
+        ensures ahead { OnOk result (given_of self.new ≤ handled_of self.new + 8192) }
+        ensures going { result ≡ Ok Progress.Going → answer_of self.new ≡ None }
+        ensures ended { IfOk result (λ p. (p ≡ Progress.Going) ⊎ (answer_of self.new ≡ Some result)) }
+        ensures stopped { IsErr result → answer_of self.new ≡ Some result }
+        ensures rules { rules_of_checker self.new ≡ rules_of_checker self.old }
+        ensures number { result ≡ Ok Progress.Going → number_of self.new ≡ number_of self.old + 1 }
+        ensures few { number_of self.new ≤ 2 ^ 61 }
+    {
+        match self.state {
+            State::Ended(good) => return Ok(Progress::Ended(good)),
+            State::Stopped(stop) => return Err(stop),
+            State::Running => {}
+        }
+        self.state = State::Stopped(Stop::Memory);
+        let result = self.go(line, stdin, source, out, err);
+        self.state = match result {
+            Ok(Progress::Going) => State::Running,
+            Ok(Progress::Ended(good)) => State::Ended(good),
+            Err(stop) => State::Stopped(stop),
+        };
+        result
+    }
+
+    // A step of a checker that has not stopped. Meanwhile its state counts as stopped.
+    fn go<J: Input + Drop, S: Source, O: Sink, E: Sink>(
+        &mut self,
+        line: &mut Vec<u8>,
+        stdin: &mut Stdin<J>,
+        source: &mut S,
+        out: &mut O,
+        err: &mut E,
+    ) -> Result<Progress, Stop>
+        requires work { has_stopped self.old.reader ≡ false }
+        requires idle { IsRunning self.old.state → ⊥ }
+        ensures gives { StepGives (rules_of_checker self.old)
+            (now_of I.content self.old (scene J.content (S.told source.old) stdin.old (O.written out.old) (E.written err.old)))
+            (now_of I.content self.new (scene J.content (S.told source.new) stdin.new (O.written out.new) (E.written err.new)))
+            line.new.items result }
+        ensures wants { Wants (S.refusals source.old) (S.refusals source.new) (to_come I.content self.old) result }
+        ensures failures { Failures (O.failures out.old) (O.failures out.new) (E.failures err.old) (E.failures err.new) result }
+        ensures untouched { result ≡ Err Stop.Memory → (out.new ≡ out.old) × (err.new ≡ err.old) }
+        ensures ahead { OnOk result (given_of self.new ≤ handled_of self.new + 8192) }
+        ensures work { result ≡ Ok Progress.Going → has_stopped self.new.reader ≡ false }
+        ensures rules { rules_of_checker self.new ≡ rules_of_checker self.old }
+        ensures state { self.new.state ≡ self.old.state }
+        ensures number { result ≡ Ok Progress.Going → number_of self.new ≡ number_of self.old + 1 }
+        ensures few { number_of self.new ≤ 2 ^ 61 }
+    {
+        match self.reader.next_line(line) {
+            Err(LineStop::Memory) => Err(Stop::Memory),
+            Err(LineStop::Fault(fault)) => {
+                match put_fault_line(err, self.listing.tool, self.listing.shown, fault) {
+                    Ok(()) => Ok(Progress::Ended(false)),
+                    Err(_) => Err(Stop::Write),
+                }
+            }
+            Ok(Next::NoMore) => match put_summary(err, &self.listing, self.counts) {
+                Ok(()) => Ok(Progress::Ended(is_good(&self.listing, self.counts))),
+                Err(_) => Err(Stop::Write),
+            },
+            Ok(Next::Line) => match self.handle(line, stdin, source, out, err) {
+                Ok(()) => Ok(Progress::Going),
+                Err(stop) => Err(stop),
+            },
+        }
+    }
+
+    // Handles a line that was read.
+    fn handle<J: Input + Drop, S: Source, O: Sink, E: Sink>(
+        &mut self,
+        line: &mut Vec<u8>,
+        stdin: &mut Stdin<J>,
+        source: &mut S,
+        out: &mut O,
+        err: &mut E,
+    ) -> Result<(), Stop>
+        requires room { total self.old.counts < count_of self.old.reader }
+        requires few { count_of self.old.reader ≤ 2 ^ 61 }
+        ensures gives { HandleGives (rules_of_checker self.old)
+            (form_then self.old.form (line_form self.old.listing.settings.algo line.old.items)) line.old.items
+            (count_of self.old.reader) self.old.counts self.new.counts
+            (scene J.content (S.told source.old) stdin.old (O.written out.old) (E.written err.old))
+            (scene J.content (S.told source.new) stdin.new (O.written out.new) (E.written err.new)) result }
+        ensures form { self.new.form ≡ form_then self.old.form (line_form self.old.listing.settings.algo line.old.items) }
+        ensures held { length line.new.items ≤ length line.old.items }
+        ensures refusals { S.refusals source.new ≡ refusals_after (S.refusals source.old) result }
+        ensures failures { Failures (O.failures out.old) (O.failures out.new) (E.failures err.old) (E.failures err.new) result }
+        ensures untouched { result ≡ Err Stop.Memory → (out.new ≡ out.old) × (err.new ≡ err.old) }
+        ensures reader { self.new.reader ≡ self.old.reader }
+        ensures state { self.new.state ≡ self.old.state }
+        ensures rules { rules_of_checker self.new ≡ rules_of_checker self.old }
+    {
+        let (reading, form) = read(self.listing.settings.algo, self.form, line);
+        self.form = form;
+        let Some(judgement) = judge(&self.listing, line, &reading, stdin, source) else {
+            return Err(Stop::Memory);
+        };
+        let number = self.reader.lines();
+        match put_report(out, err, &self.listing, number, judgement.verdict, judgement.name) {
+            Err(_) => Err(Stop::Write),
+            Ok(()) => {
+                self.counts = self.counts.counted(judgement.verdict);
+                Ok(())
+            }
+        }
+    }
+}
