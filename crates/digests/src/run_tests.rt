@@ -1,5 +1,7 @@
 //! Worked command lines, run over told input and told files into told sinks.
+mod checking;
 mod generating;
+mod hostile;
 mod words;
 
 use crate::run::run;
@@ -92,6 +94,7 @@ fn run_line(
     let mut out = ToldSink::new(out_stop);
     let mut err = ToldSink::new(err_stop);
     let answer = run(
+        alloc,
         tool,
         &words,
         &mut Stdin::new(input),
