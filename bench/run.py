@@ -37,7 +37,7 @@ def built_program():
 
 def built_bare():
     """The bare loops, proved and built in a small repository of their own; None where that can't be."""
-    source = os.path.join(HERE, "bare", "src", "main.rt")
+    source = os.path.join(HERE, "bare", "main.rt.txt")  # a file named *.rt stands only in a crate
     repository = os.path.join(HERE, "out")
     crate = os.path.join(repository, "crates", "bare")
     program = os.path.join(crate, "out", "bare")

@@ -7,7 +7,7 @@ unfoldable pub sums : List ℕ → List ℕ → List ℕ
 sums x y = (x ! 0 ⊞ y ! 0) ∷ (x ! 1 ⊞ y ! 1) ∷ (x ! 2 ⊞ y ! 2) ∷ (x ! 3 ⊞ y ! 3) ∷ []
 
 unfoldable pub turned : List ℕ → List ℕ → ℕ → List ℕ
-turned x y k = (x ! 0 ⊻ y ! 0 ⋙ k) ∷ (x ! 1 ⊻ y ! 1 ⋙ k) ∷ (x ! 2 ⊻ y ! 2 ⋙ k) ∷ (x ! 3 ⊻ y ! 3 ⋙ k) ∷ []
+turned x y k = ((x ! 0 ⊻ y ! 0) ⋙ k) ∷ ((x ! 1 ⊻ y ! 1) ⋙ k) ∷ ((x ! 2 ⊻ y ! 2) ⋙ k) ∷ ((x ! 3 ⊻ y ! 3) ⋙ k) ∷ []
 
 -- G on the four columns and on the four diagonals of v
 unfoldable pub columns : List ℕ → List ℕ → List ℕ → List ℕ

@@ -43,20 +43,39 @@ fn scheduled(m: &[u64; 16], r: usize, i: usize) -> u64
 
 // Round `r`: four columns, then four diagonals.
 #[inline(always)]
-#[tactic(auto, unfolding(crate::specs::Compression::round, crate::specs::Columns::columns, crate::specs::Columns::diagonals))]
 fn round(m: &[u64; 16], v: [u64; 16], r: usize) -> [u64; 16]
     requires { r < 12 }
     ensures { result ≡ round m.now v r }
 {
     let v = mixed_columns(
         v,
-        [scheduled(m, r, 0), scheduled(m, r, 2), scheduled(m, r, 4), scheduled(m, r, 6)],
-        [scheduled(m, r, 1), scheduled(m, r, 3), scheduled(m, r, 5), scheduled(m, r, 7)],
+        [
+            scheduled(m, r, 0),
+            scheduled(m, r, 2),
+            scheduled(m, r, 4),
+            scheduled(m, r, 6),
+        ],
+        [
+            scheduled(m, r, 1),
+            scheduled(m, r, 3),
+            scheduled(m, r, 5),
+            scheduled(m, r, 7),
+        ],
     );
     mixed_diagonals(
         v,
-        [scheduled(m, r, 8), scheduled(m, r, 10), scheduled(m, r, 12), scheduled(m, r, 14)],
-        [scheduled(m, r, 9), scheduled(m, r, 11), scheduled(m, r, 13), scheduled(m, r, 15)],
+        [
+            scheduled(m, r, 8),
+            scheduled(m, r, 10),
+            scheduled(m, r, 12),
+            scheduled(m, r, 14),
+        ],
+        [
+            scheduled(m, r, 9),
+            scheduled(m, r, 11),
+            scheduled(m, r, 13),
+            scheduled(m, r, 15),
+        ],
     )
 }
 

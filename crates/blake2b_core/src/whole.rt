@@ -1,5 +1,6 @@
 //! The digest of a whole message (RFC 7693, 3.3).
-ghost use Rattle.std.specs.Prelude.{◌≡◌, ◌↔◌, ◌⊎◌, ℕ, ◌+◌, ◌-◌, ◌*◌, ◌/◌, ◌^◌, ◌<◌, ◌≤◌, List, ◌++◌, length, replicate, IsNone, IfSome};
+ghost use Rattle.std.specs.Prelude.{◌≡◌, ◌↔◌, ◌⊎◌, ℕ, ◌+◌, ◌-◌, ◌*◌, ◌/◌, ◌^◌, ◌<◌, ◌≤◌, List, ◌++◌, length};
+ghost use Rattle.std.specs.Prelude.{replicate, IsNone, IfSome};
 ghost use Rattle.std.specs.Simd.{first_chunks};
 ghost use Rattle.blake2b_core.specs.Digest.{blake2b, blocks, hash_after, initial};
 ghost use Rattle.blake2b_core.specs.Holding.{AreBlocksFrom};

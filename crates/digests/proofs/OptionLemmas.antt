@@ -37,7 +37,7 @@ pub second_begun : (name : Text) (flags : List Flag) (i : ℕ) (d : Flag) (found
 second_begun name flags i d None inside fits some = cc
 second_begun name flags i d (Some flag) inside fits some =
     ap (λ ns. the_one name (full_name flag ∷ ns))
-        (begun_at name flags i d inside ∙ begun-yes name (get_or flags i d) (drop (i + 1) flags) (sym fits))
+    (begun_at name flags i d inside ∙ begun-yes name (get_or flags i d) (drop (i + 1) flags) (sym fits))
 
 -- the first one
 pub first_begun : (name : Text) (flags : List Flag) (i : ℕ) (d : Flag) (found : Option Flag) → i < length flags →
@@ -47,7 +47,7 @@ pub first_begun : (name : Text) (flags : List Flag) (i : ℕ) (d : Flag) (found 
 first_begun name flags i d (Some flag) inside fits none = cc
 first_begun name flags i d None inside fits none =
     ap (the_one name) (begun_at name flags i d inside
-        ∙ begun-yes name (get_or flags i d) (drop (i + 1) flags) (sym fits))
+    ∙ begun-yes name (get_or flags i d) (drop (i + 1) flags) (sym fits))
 
 -- none
 pub not_begun : (name : Text) (flags : List Flag) (i : ℕ) (d : Flag) (found : Option Flag) → i < length flags →
@@ -55,7 +55,7 @@ pub not_begun : (name : Text) (flags : List Flag) (i : ℕ) (d : Flag) (found : 
     the_one_with name found (begun name (drop i flags)) ≡ the_one_with name found (begun name (drop (i + 1) flags))
 not_begun name flags i d found inside other =
     ap (the_one_with name found) (begun_at name flags i d inside
-        ∙ begun-no name (get_or flags i d) (drop (i + 1) flags) (sym other))
+    ∙ begun-no name (get_or flags i d) (drop (i + 1) flags) (sym other))
 
 -- what a search for the full name says
 named_same : (name full : Text) (fulls : List Text) → named name fulls ≡ Some full →
@@ -63,7 +63,7 @@ named_same : (name full : Text) (fulls : List Text) → named name fulls ≡ Som
 named_same name full [] h = cc
 named_same name full (f ∷ fs) h =
     elim (is_full name f) as (λ b. is_full name f ≡ b → cond b (Some f) (named name fs) ≡ Some full →
-        ((b || list_any (is_full name) fs) ≡ true) × (full ≡ name)) [
+    ((b || list_any (is_full name) fs) ≡ true) × (full ≡ name)) [
       | true ↦ λ same here. let e : f ≡ full = cc in (refl, sym e ∙ (bytes_eq-Decides f name).0 same)
       | false ↦ λ _ later. named_same name full fs later
     ] refl h
@@ -81,7 +81,7 @@ pub meant_in_full : (name : Text) (flag : Flag) (fulls : List Text) → Some (fu
 meant_in_full name flag fulls h =
     let n = named_same name (full_name flag) fulls (sym h) in
     ap Ok n.1 ∙ sym (ap (the_one name) (cond-true (list_any (is_full name) fulls) (name ∷ [])
-        (filter (is_begun_by name) fulls) n.0))
+    (filter (is_begun_by name) fulls) n.0))
 
 pub meant_by_front : (name : Text) (fulls : List Text) → None ≡ named name fulls →
     meant name fulls ≡ filter (is_begun_by name) fulls

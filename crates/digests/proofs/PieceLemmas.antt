@@ -10,8 +10,11 @@ use Rattle.digests.specs.Pieces.{pieces, CutsAt}
 -- a place at which a text may be cut stays one when valid text is added
 boundary_longer : (text word : List ℕ) (i : ℕ) → IsUtf8 word → IsCharBoundary text i → IsCharBoundary (text ++ word) i
 boundary_longer text word i valid cut = elim (cases_lt i (length text)) [
-  | inl inside ↦ (omega (arith, length-append text word), λ _. rw (get_or_append_left text word 0 i inside)
-      (λ high. cut.1 inside high))
+  | inl inside ↦ (
+    omega (arith, length-append text word),
+    λ _. rw (get_or_append_left text word 0 i inside)
+        (λ high. cut.1 inside high),
+  )
   | inr past ↦ let e : i ≡ length text = omega (arith, cut.0) in
       rw e (IsCharBoundary-at_seam (text ++ word) text word refl valid)
 ]
@@ -34,8 +37,8 @@ pieces-push text word from [] cuts =
 pieces-push text word from (end ∷ ends) cuts =
     let fits : from ≤ length text = omega (arith, cuts.0, cuts.1.0) in
     let first : take (end - from) (drop from (text ++ word)) ≡ take (end - from) (drop from text) =
-        rw (drop-append-le from text word fits)
-            (take-append-le (end - from) (drop from text) word (omega (arith, length-drop from text, cuts.1.0))) in
+    rw (drop-append-le from text word fits)
+    (take-append-le (end - from) (drop from text) word (omega (arith, length-drop from text, cuts.1.0))) in
     rw (first, pieces-push text word end ends cuts.2) refl
 
 pub pieces-length : (text : List ℕ) (from : ℕ) (ends : List ℕ) → length (pieces text from ends) ≡ length ends
@@ -56,7 +59,7 @@ piece_at text from (end ∷ ends) zero d cuts here less =
     record { order = cuts.0; start_cuts = here; end_cuts = cuts.1; piece = refl }
 piece_at text from (end ∷ ends) (suc i) d cuts here less =
     let p : PieceAt text (pieces text end ends) i (get_or (end ∷ ends) i 0) (get_or ends i d) =
-        piece_at text end ends i d cuts.2 cuts.1 (omega (arith, less)) in
+    piece_at text end ends i d cuts.2 cuts.1 (omega (arith, less)) in
     record { order = p.order; start_cuts = p.start_cuts; end_cuts = p.end_cuts; piece = p.piece }
 
 -- the same of the values that a body read
@@ -65,5 +68,5 @@ pub piece_read : (text now : List ℕ) (ends read : List ℕ) (i start end : ℕ
     IsUtf8 text → PieceAt now (pieces text 0 ends) i start end
 piece_read text now ends read i start end text_is ends_is start_is inside end_is cuts valid =
     rw (text_is, start_is, end_is, ends_is)
-        (piece_at text 0 ends i end cuts (IsCharBoundary-start text valid)
-        (let less : true ≡ ltb i (length ends) = rw ends_is at inside in ltb-true _ _ (sym less)))
+    (piece_at text 0 ends i end cuts (IsCharBoundary-start text valid)
+    (let less : true ≡ ltb i (length ends) = rw ends_is at inside in ltb-true _ _ (sym less)))

@@ -1,12 +1,11 @@
 -- Plain words are operands.
-use Rattle.std.proofs.Common.{◌≡◌, ◌≢◌, ℕ, eqb, Bool, true, false, not, ◌||◌, List, [], ◌∷◌, ◌++◌, map, codes, refl, ap, sym, ◌∙◌, inl, inr}
-use Rattle.std.specs.List.{AllPass, starts_with}
-use Rattle.std.specs.Str.{bytes_eq, chars}
+use Rattle.std.proofs.Common.{◌≡◌, ℕ, eqb, true, false, [], ◌∷◌, ◌++◌, refl, ap, sym, ◌∙◌, inl, inr}
+use Rattle.std.specs.Str.{chars}
 use Rattle.std.proofs.lemmas.Bool.{ne_eqb}
 use Rattle.std.proofs.lemmas.Bool.Decides.{eqb_tells}
 use Rattle.std.proofs.lemmas.List.Elements.{All-head, All-tail}
 use Rattle.digests.specs.declared.tool.Tool.{Tool}
-use Rattle.digests.specs.Items.{Text, Item, Read, operand, says, read_word, items, items_from}
+use Rattle.digests.specs.Items.{Text, Read, operand, says, read_word, items_from}
 use Rattle.digests.specs.PlainWords.{is_plain, PlainWordsAreOperands, WordsBehindAreOperands}
 
 -- a word that begins with another character

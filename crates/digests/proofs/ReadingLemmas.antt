@@ -22,8 +22,19 @@ or-false false = refl
 
 -- before the first item nothing was said
 abbrev pub unsaid : Options
-unsaid = record { mode = None; report = None; length = None; binary = false; check = false; tag = false; text =
-    false; zero = false; ignore_missing = false; strict = false }
+unsaid = record {
+  mode = None;
+  report = None;
+  length = None;
+  binary = false;
+  check = false;
+  tag = false;
+  text =
+      false;
+  zero = false;
+  ignore_missing = false;
+  strict = false;
+}
 
 pub after-unsaid : (xs : List Item) → after unsaid xs ≡ options xs
 after-unsaid xs = simp (or_else-none, or-false)

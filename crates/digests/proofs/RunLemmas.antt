@@ -14,6 +14,7 @@ use Rattle.sum_engine.specs.Generation.{generated}
 use Rattle.sum_engine.specs.Checking.{checked, checked_upto}
 use Rattle.sum_engine.specs.Runs.{CheckGives, RefusedOnMemory, PlaceOf}
 use Rattle.digests.specs.Tools.{name_of}
+use Rattle.digests.specs.declared.run.Job.{Job}
 use Rattle.digests.specs.declared.run.Job.TheVariants as jobs
 use Rattle.std.specs.Io.KnownBytes.{Appends}
 use Rattle.std.proofs.KnownBytes.{Appends-nil}
@@ -27,7 +28,7 @@ use Rattle.digests.specs.declared.tool.Tool.{Tool}
 use Rattle.digests.specs.declared.reading.Request.{Request}
 use Rattle.digests.specs.Faults.{Fault}
 use Rattle.digests.specs.Request.{request}
-use Rattle.digests.specs.Runs.{told_of, Stands, Reached, Comes, CutShort, OneGives, RunGives, PlaceAt, Wanting, Refused, RefusedBy, RefusalsOf}
+use Rattle.digests.specs.Runs.{one_of, part_of, told_of, Stands, Reached, Comes, CutShort, OneGives, RunGives, PlaceAt, Wanting, Refused, RefusedBy, RefusalsOf}
 
 abbrev outcome : List ℕ → List ℕ → List Text → Bool → Outcome
 outcome o e a g = record { out = o; err = e; asks = a; good = g }
@@ -35,16 +36,16 @@ outcome o e a g = record { out = o; err = e; asks = a; good = g }
 pub joined-assoc : (a b c : Outcome) → joined (joined a b) c ≡ joined a (joined b c)
 joined-assoc a b c =
     ap (λ x. outcome x ((a.err ++ b.err) ++ c.err) ((a.asks ++ b.asks) ++ c.asks) ((a.good && b.good) && c.good)) (append_assoc a.out b.out c.out)
-  ∙ ap (λ x. outcome (a.out ++ (b.out ++ c.out)) x ((a.asks ++ b.asks) ++ c.asks) ((a.good && b.good) && c.good)) (append_assoc a.err b.err c.err)
-  ∙ ap (λ x. outcome (a.out ++ (b.out ++ c.out)) (a.err ++ (b.err ++ c.err)) x ((a.good && b.good) && c.good)) (append_assoc a.asks b.asks c.asks)
-  ∙ ap (λ x. outcome (a.out ++ (b.out ++ c.out)) (a.err ++ (b.err ++ c.err)) (a.asks ++ (b.asks ++ c.asks)) x) (and_assoc a.good b.good c.good)
+    ∙ ap (λ x. outcome (a.out ++ (b.out ++ c.out)) x ((a.asks ++ b.asks) ++ c.asks) ((a.good && b.good) && c.good)) (append_assoc a.err b.err c.err)
+    ∙ ap (λ x. outcome (a.out ++ (b.out ++ c.out)) (a.err ++ (b.err ++ c.err)) x ((a.good && b.good) && c.good)) (append_assoc a.asks b.asks c.asks)
+    ∙ ap (λ x. outcome (a.out ++ (b.out ++ c.out)) (a.err ++ (b.err ++ c.err)) (a.asks ++ (b.asks ++ c.asks)) x) (and_assoc a.good b.good c.good)
 
 pub joined-nothing : (a : Outcome) → joined a nothing ≡ a
 joined-nothing a =
     ap (λ x. outcome x (a.err ++ []) (a.asks ++ []) (a.good && true)) (append-nil a.out)
-  ∙ ap (λ x. outcome a.out x (a.asks ++ []) (a.good && true)) (append-nil a.err)
-  ∙ ap (λ x. outcome a.out a.err x (a.good && true)) (append-nil a.asks)
-  ∙ ap (λ x. outcome a.out a.err a.asks x) (and-true a.good)
+    ∙ ap (λ x. outcome a.out x (a.asks ++ []) (a.good && true)) (append-nil a.err)
+    ∙ ap (λ x. outcome a.out a.err x (a.good && true)) (append-nil a.asks)
+    ∙ ap (λ x. outcome a.out a.err a.asks x) (and-true a.good)
 
 pub stands-start : (one : World → Text → Outcome) (part : World → Text → ℕ → Outcome) (w : World) (names : List Text)
     → Stands one part w names nothing 0 names
@@ -59,13 +60,13 @@ pub stands-step : (one : World → Text → Outcome) (part : World → Text → 
     → Stands one part w names (joined done (one (after w done.asks) n)) (j + 1) rest
 stands-step one part w names done j n rest s = let a : Outcome = one (after w done.asks) n in record {
   total = s.total ∙ sym (joined-assoc done a (all_of one (after (after w done.asks) a.asks) rest))
-    ∙ ap (λ v. joined (joined done a) (all_of one v rest)) (after-append w done.asks a.asks);
+      ∙ ap (λ v. joined (joined done a) (all_of one v rest)) (after-append w done.asks a.asks);
   places = λ i k. let e : (j + 1) + i ≡ j + suc i = omega arith in rw e (s.places (suc i) k
-    ∙ sym (joined-assoc done a (upto one part (after (after w done.asks) a.asks) rest i k))
-    ∙ ap (λ v. joined (joined done a) (upto one part v rest i k)) (after-append w done.asks a.asks));
+      ∙ sym (joined-assoc done a (upto one part (after (after w done.asks) a.asks) rest i k))
+      ∙ ap (λ v. joined (joined done a) (upto one part v rest i k)) (after-append w done.asks a.asks));
   wanting = λ p m i k h. let e : (j + 1) + i ≡ j + suc i = omega arith in
-    let P : World → Type 0 = λ v. PlaceAt p m one v rest i k in
-    rw e (s.wanting p m (suc i) k (subst P (sym (after-append w done.asks a.asks)) h));
+      let P : World → Type 0 = λ v. PlaceAt p m one v rest i k in
+      rw e (s.wanting p m (suc i) k (subst P (sym (after-append w done.asks a.asks)) h));
 }
 
 pub reached-start : (one : World → Text → Outcome) (part : World → Text → ℕ → Outcome) (names : List Text) (s : Option Scene) (rest : List Text)
@@ -85,10 +86,13 @@ reached-step one part names (Some a) (Some b) (Some c) good this p m n rest r o 
     let done : Outcome = r.0 in
     let is : b.world ≡ after a.world done.asks = r.3.world in
     let P : World → Type 0 = λ w. (this ≡ (one w n).good) × Comes (one w n) b c in
-    let o' : P (after a.world done.asks) = subst P is o in
-    (joined done (one (after a.world done.asks) n), r.1 + 1, stands-step one part a.world names done r.1 n rest r.2,
-    does_both a b c done.out done.err done.asks _ _ _ r.3 o'.1,
-    ap (λ g. g && this) r.4 ∙ ap (λ g. done.good && g) o'.0)
+    let o' : P (after a.world done.asks) = subst P is o in (
+      joined done (one (after a.world done.asks) n),
+      r.1 + 1,
+      stands-step one part a.world names done r.1 n rest r.2,
+      does_both a b c done.out done.err done.asks _ _ _ r.3 o'.1,
+      ap (λ g. g && this) r.4 ∙ ap (λ g. done.good && g) o'.0,
+    )
 
 -- no operand is left
 pub reached-end : (one : World → Text → Outcome) (part : World → Text → ℕ → Outcome) (names : List Text) (s t : Option Scene) (good : Bool) (wanting : World → ℕ → ℕ → Type 0)
@@ -101,30 +105,32 @@ reached-end one part names (Some a) (Some b) good wanting r =
     (ap status_of (r.4 ∙ sym (ap (λ o. o.good) whole)), rw whole r.3)
 
 -- the next operand stopped the run
-pub reached-stop : (one : World → Text → Outcome) (part : World → Text → ℕ → Outcome) (names : List Text) (s t u : Option Scene) (good : Bool) (p m : ℕ) (n : Text) (rest : List Text) (stop : Stop)
-    → Reached one part names s t good (n ∷ rest) → OneGives p m one part n t u (Err stop)
+pub reached-stop : (one : World → Text → Outcome) (part : World → Text → ℕ → Outcome) (names : List Text) (s t u : Option Scene) (good : Bool) (p p' m : ℕ) (n : Text) (rest : List Text) (stop : Stop)
+    → p' ≡ p → Reached one part names s t good (n ∷ rest) → OneGives p' m one part n t u (Err stop)
     → RunGives (λ w. all_of one w names) (λ w. upto one part w names) (λ w. PlaceAt p m one w names) s u (Err stop)
-reached-stop one part names None t u good p m n rest stop r o = tt
-reached-stop one part names (Some a) None u good p m n rest stop r o = absurd r
-reached-stop one part names (Some a) (Some b) None good p m n rest stop r o = absurd o
-reached-stop one part names (Some a) (Some b) (Some c) good p m n rest Write r o =
+reached-stop one part names None t u good p p' m n rest stop same r o = tt
+reached-stop one part names (Some a) None u good p p' m n rest stop same r o = absurd r
+reached-stop one part names (Some a) (Some b) None good p p' m n rest stop same r o = absurd o
+reached-stop one part names (Some a) (Some b) (Some c) good p p' m n rest Write same r o =
     let done : Outcome = r.0 in
     let w : World = after a.world done.asks in
     let is : b.world ≡ w = r.3.world in
     let P : World → Type 0 = λ v. CutShort (one v n) b c in
     let o' : P w = subst P is o in
     let later : Outcome = all_of one (after w (one w n).asks) rest in
-    let whole : all_of one a.world names ≡ joined done (joined (one w n) later) = r.2.total in
-    (done.asks ++ o'.0, o'.1 ++ later.asks,
-    ap (λ x. x.asks) whole ∙ ap (λ l. done.asks ++ (l ++ later.asks)) o'.2 ∙ ap (λ l. done.asks ++ l) (append_assoc o'.0 o'.1 later.asks) ∙ sym (append_assoc done.asks o'.0 (o'.1 ++ later.asks)),
-    cut_after a b c done.out done.err done.asks (one w n).out (one w n).err o'.0 later.out later.err _ _ r.3 o'.3 (ap (λ x. x.out) whole) (ap (λ x. x.err) whole))
-reached-stop one part names (Some a) (Some b) (Some c) good p m n rest Memory r o =
+    let whole : all_of one a.world names ≡ joined done (joined (one w n) later) = r.2.total in (
+      done.asks ++ o'.0,
+      o'.1 ++ later.asks,
+      ap (λ x. x.asks) whole ∙ ap (λ l. done.asks ++ (l ++ later.asks)) o'.2 ∙ ap (λ l. done.asks ++ l) (append_assoc o'.0 o'.1 later.asks) ∙ sym (append_assoc done.asks o'.0 (o'.1 ++ later.asks)),
+      cut_after a b c done.out done.err done.asks (one w n).out (one w n).err o'.0 later.out later.err _ _ r.3 o'.3 (ap (λ x. x.out) whole) (ap (λ x. x.err) whole),
+    )
+reached-stop one part names (Some a) (Some b) (Some c) good p p' m n rest Memory same r o =
     let done : Outcome = r.0 in
     let is : b.world ≡ after a.world done.asks = r.3.world in
-    let P : World → Type 0 = λ w. (k : ℕ) × Comes (part w n k) b c × PlaceOf p m k (reply w n) in
+    let P : World → Type 0 = λ w. (k : ℕ) × Comes (part w n k) b c × PlaceOf p' m k (reply w n) in
     let o' : P (after a.world done.asks) = subst P is o in
     let place : upto one part a.world names (r.1 + 0) o'.0 ≡ joined done (part (after a.world done.asks) n o'.0) = r.2.places 0 o'.0 in
-    (r.1 + 0, o'.0, rw place (does_both a b c done.out done.err done.asks _ _ _ r.3 o'.1), r.2.wanting p m 0 o'.0 o'.2)
+    (r.1 + 0, o'.0, rw place (does_both a b c done.out done.err done.asks _ _ _ r.3 o'.1), r.2.wanting p m 0 o'.0 (let Q : ℕ → Type 0 = λ x. PlaceOf x m o'.0 (reply (after a.world done.asks) n) in subst Q same o'.2))
 
 -- a text alone was written, or cut short
 pub said_on_out : {E : Type 0} (text : List ℕ) (w : Option World) (taken : Bool) (place : World → ℕ → ℕ → Outcome) (wanting : World → ℕ → ℕ → Type 0) (o o' e : Option (List ℕ)) (A B : Type 0) (r : Result (Unit {0}) E)
@@ -199,7 +205,27 @@ pub reached-with : (one : World → Text → Outcome) (part : World → Text →
     → good ≡ this → old ≡ new → Reached one part names s t this old → Reached one part names s t good new
 reached-with one part names s t good this old new is list r = rw (is, ← list) r
 
--- what one operand did, where the source's refusals were the same before
-pub gives-since : (n n' m : ℕ) (one : World → Text → Outcome) (part : World → Text → ℕ → Outcome) (name : Text) (s t : Option Scene) (r : Result Bool Stop)
-    → n' ≡ n → OneGives n' m one part name s t r → OneGives n m one part name s t r
-gives-since n n' m one part name s t r is h = let P : ℕ → Type 0 = λ x. OneGives x m one part name s t r in subst P is h
+-- one operand of a job, by what the job is
+pub job-generates : (job : Job) (settings : Settings) (tool tool' name : Text) (s t : Option Scene) (n m : ℕ) (r : Result Bool Stop)
+    → job ≡ jobs.Generate settings → tool' ≡ tool → Generates (λ w. generated settings tool' w name) s t r → m ≡ refusals_after n r
+    → OneGives n m (one_of job tool) (part_of job tool) name s t r
+job-generates job settings tool tool' name s t n m r is called h k =
+    let P : Job → Type 0 = λ j. OneGives n m (one_of j tool) (part_of j tool) name s t r in
+    let Q : Text → Type 0 = λ x. Generates (λ w. generated settings x w name) s t r in
+    subst P (sym is) (one-generates settings tool name s t n m r (subst Q called h) k)
+
+pub job-checks : (job : Job) (settings : CheckSettings) (tool tool' name : Text) (s t : Option Scene) (n m : ℕ) (r : Result Bool Stop)
+    → job ≡ jobs.Check settings → tool' ≡ tool → CheckGives settings tool' name n m s t r
+    → OneGives n m (one_of job tool) (part_of job tool) name s t r
+job-checks job settings tool tool' name s t n m r is called h =
+    let P : Job → Type 0 = λ j. OneGives n m (one_of j tool) (part_of j tool) name s t r in
+    let Q : Text → Type 0 = λ x. CheckGives settings x name n m s t r in
+    subst P (sym is) (one-checks settings tool name s t n m r (subst Q called h))
+
+pub job-generates-refused : (job : Job) (settings : Settings) (n m : ℕ) (r : Result Bool Stop) → job ≡ jobs.Generate settings → m ≡ refusals_after n r
+    → RefusalsOf (Refused job) n m r
+job-generates-refused job settings n m r is h = let P : Job → Type 0 = λ j. RefusalsOf (Refused j) n m r in subst P (sym is) (generates-refused settings n m r h)
+
+pub job-checks-refused : (job : Job) (settings : CheckSettings) (n m : ℕ) (r : Result Bool Stop) → job ≡ jobs.Check settings → RefusedOnMemory n m r
+    → RefusalsOf (Refused job) n m r
+job-checks-refused job settings n m r is h = let P : Job → Type 0 = λ j. RefusalsOf (Refused j) n m r in subst P (sym is) (checks-refused settings n m r h)

@@ -33,5 +33,6 @@ found_passes test (y ∷ ys) x h =
 pub named_by : (word : List ℕ) (r : Option Tool) → find (is_called word) all_tools ≡ r → (tool : Tool) →
     (r ≡ Some tool) ↔ (name_of tool ≡ word)
 named_by word r e tool = (
-    λ h. (bytes_eq-Decides (name_of tool) word).0 (found_passes (is_called word) all_tools tool (e ∙ h)),
-    λ h. sym e ∙ (rw (← h) (found_by_name tool)))
+  λ h. (bytes_eq-Decides (name_of tool) word).0 (found_passes (is_called word) all_tools tool (e ∙ h)),
+  λ h. sym e ∙ (rw (← h) (found_by_name tool)),
+)

@@ -20,18 +20,18 @@ pub data Item : Type 0 where
 abbrev pub common : List (Text × Text)
 common =
     (codes "b", codes "binary")
-  ∷ (codes "c", codes "check")
-  ∷ (codes "", codes "tag")
-  ∷ (codes "t", codes "text")
-  ∷ (codes "z", codes "zero")
-  ∷ (codes "", codes "ignore-missing")
-  ∷ (codes "", codes "quiet")
-  ∷ (codes "", codes "status")
-  ∷ (codes "", codes "strict")
-  ∷ (codes "w", codes "warn")
-  ∷ (codes "", codes "help")
-  ∷ (codes "", codes "version")
-  ∷ []
+    ∷ (codes "c", codes "check")
+    ∷ (codes "", codes "tag")
+    ∷ (codes "t", codes "text")
+    ∷ (codes "z", codes "zero")
+    ∷ (codes "", codes "ignore-missing")
+    ∷ (codes "", codes "quiet")
+    ∷ (codes "", codes "status")
+    ∷ (codes "", codes "strict")
+    ∷ (codes "w", codes "warn")
+    ∷ (codes "", codes "help")
+    ∷ (codes "", codes "version")
+    ∷ []
 
 -- b2sum has one more, which alone takes a value
 abbrev pub own : Tool → List (Text × Text)

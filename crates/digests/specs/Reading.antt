@@ -37,7 +37,8 @@ chosen_of c = record {
   text = c.text;
   zero = c.zero;
   ignore_missing = c.ignore_missing;
-  strict = c.strict }
+  strict = c.strict;
+}
 
 -- what they say with these items too
 abbrev pub after : Options → List Item → Options
@@ -51,7 +52,8 @@ after o xs = record {
   text = has (codes "text") xs || o.text;
   zero = has (codes "zero") xs || o.zero;
   ignore_missing = has (codes "ignore-missing") xs || o.ignore_missing;
-  strict = has (codes "strict") xs || o.strict }
+  strict = has (codes "strict") xs || o.strict;
+}
 
 -- an answer whose fault is the program's value
 abbrev pub answer_of : {X : Type 0} → Result X WordFault → Result X Fault

@@ -11,6 +11,7 @@ use Rattle.digest_kinds.specs.Kinds.{KindValue, full_kind}
 use Rattle.digest_kinds.specs.Lengths.{blake2b_of_bits}
 use Rattle.sum_lines.specs.declared.written.Mode.{Mode}
 use Rattle.sum_lines.specs.declared.written.Mode.TheVariants as modes
+use Rattle.sum_lines.specs.declared.written.Style.{Style}
 use Rattle.sum_engine.specs.declared.settings.Report.{Report}
 use Rattle.sum_engine.specs.declared.settings.Report.TheVariants as reports
 use Rattle.digests.specs.declared.tool.Tool.{Tool}
@@ -83,7 +84,8 @@ options xs = record {
   text = has (codes "text") xs;
   zero = has (codes "zero") xs;
   ignore_missing = has (codes "ignore-missing") xs;
-  strict = has (codes "strict") xs }
+  strict = has (codes "strict") xs;
+}
 
 -- the kind that a length value asks for: one or more digits, which BLAKE2b has digests of
 abbrev pub kind_or_fault : Text → Result KindValue LengthFault → Result KindValue Fault
@@ -108,15 +110,15 @@ is (Some full) name = bytes_eq full name
 abbrev pub faults : Options → List (Bool × Fault)
 faults o =
     (o.tag && is o.mode (codes "text"), tag_with_text)
-  ∷ (o.zero && o.check, zero_with_check)
-  ∷ (o.tag && o.check, tag_with_check)
-  ∷ ((o.binary || o.text) && o.check, mode_with_check)
-  ∷ (o.ignore_missing && not o.check, ignore_without_check)
-  ∷ (is o.report (codes "status") && not o.check, status_without_check)
-  ∷ (is o.report (codes "warn") && not o.check, warn_without_check)
-  ∷ (is o.report (codes "quiet") && not o.check, quiet_without_check)
-  ∷ (o.strict && not o.check, strict_without_check)
-  ∷ []
+    ∷ (o.zero && o.check, zero_with_check)
+    ∷ (o.tag && o.check, tag_with_check)
+    ∷ ((o.binary || o.text) && o.check, mode_with_check)
+    ∷ (o.ignore_missing && not o.check, ignore_without_check)
+    ∷ (is o.report (codes "status") && not o.check, status_without_check)
+    ∷ (is o.report (codes "warn") && not o.check, warn_without_check)
+    ∷ (is o.report (codes "quiet") && not o.check, quiet_without_check)
+    ∷ (o.strict && not o.check, strict_without_check)
+    ∷ []
 
 abbrev pub holding : Bool × Fault → Option Fault
 holding p = if p.0 then Some p.1 else None
@@ -124,6 +126,9 @@ holding p = if p.0 then Some p.1 else None
 -- what the options ask for where none of these faults holds; a tool without an algorithm of its own needs --check
 abbrev pub mode_of : Options → Mode
 mode_of o = if o.tag then modes.Tag else if is o.mode (codes "binary") then modes.Binary else modes.Text
+
+abbrev pub style_of : Options → Style
+style_of o = record { mode = mode_of o; zero = o.zero }
 
 abbrev pub report_of : Option Text → Report
 report_of report =
@@ -135,8 +140,7 @@ report_of report =
 abbrev pub generation : Algos → Option KindValue → Options → List Text → Result Request Fault
 generation Any kind o words = Err check_needed
 generation (One algo) kind o words =
-    Ok (Generate (record { kind = unwrap_or kind (full_kind algo); style =
-        record { mode = mode_of o; zero = o.zero } }) words)
+    Ok (Generate (record { kind = unwrap_or kind (full_kind algo); style = style_of o }) words)
 
 abbrev pub asked : Tool → Option KindValue → Options → List Text → Result Request Fault
 asked t kind o words =
@@ -144,7 +148,8 @@ asked t kind o words =
       algo = algos_of t;
       report = report_of o.report;
       strict = o.strict;
-      ignore_missing = o.ignore_missing }) words)
+      ignore_missing = o.ignore_missing;
+    }) words)
     else generation (algos_of t) kind o words
 
 -- a fault of the length value counts before these faults

@@ -52,29 +52,29 @@ length_help t = []
 
 abbrev pub first_options : Text
 first_options =
-     codes "  -b, --binary          mark each line as binary\n"
-  ++ codes "  -c, --check           read checksums from the FILEs and check them\n"
+    codes "  -b, --binary          mark each line as binary\n"
+    ++ codes "  -c, --check           read checksums from the FILEs and check them\n"
 
 abbrev pub last_options : Text
 last_options =
-     codes "      --tag             write lines of the tagged form\n"
-  ++ codes "  -t, --text            mark each line as text (default)\n"
-  ++ codes "  -z, --zero            end each line with NUL and escape no name\n"
-  ++ codes "      --ignore-missing  with -c: neither fail nor report for missing files\n"
-  ++ codes "      --quiet           with -c: print no OK lines\n"
-  ++ codes "      --status          with -c: print no report\n"
-  ++ codes "      --strict          with -c: fail for improperly formatted lines\n"
-  ++ codes "  -w, --warn            with -c: name each improperly formatted line\n"
-  ++ codes "      --help            print this text\n"
-  ++ codes "      --version         print the version\n"
+    codes "      --tag             write lines of the tagged form\n"
+    ++ codes "  -t, --text            mark each line as text (default)\n"
+    ++ codes "  -z, --zero            end each line with NUL and escape no name\n"
+    ++ codes "      --ignore-missing  with -c: neither fail nor report for missing files\n"
+    ++ codes "      --quiet           with -c: print no OK lines\n"
+    ++ codes "      --status          with -c: print no report\n"
+    ++ codes "      --strict          with -c: fail for improperly formatted lines\n"
+    ++ codes "  -w, --warn            with -c: name each improperly formatted line\n"
+    ++ codes "      --help            print this text\n"
+    ++ codes "      --version         print the version\n"
 
 abbrev pub help : Tool → Text
 help t =
-     codes "Usage: " ++ name_of t ++ codes " [OPTION]... [FILE]...\n"
-  ++ purpose (algos_of t)
-  ++ first_options
-  ++ length_help t
-  ++ last_options
+    codes "Usage: " ++ name_of t ++ codes " [OPTION]... [FILE]...\n"
+    ++ purpose (algos_of t)
+    ++ first_options
+    ++ length_help t
+    ++ last_options
 
 abbrev pub version : Tool → Text
 version t = name_of t ++ codes " (digests), profile 2\n"

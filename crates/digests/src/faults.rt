@@ -12,7 +12,7 @@ use sum_engine::Stop;
 use sum_lines::{Part, Sink, SinkFault, put_all, put_parts};
 
 /// A fault in the words. Each holds what its text shows, and the faults stand in the order in which they count.
-#[derive(Clone, Copy)]
+#[derive(Clone, Copy, Debug, PartialEq, Eq)]
 pub enum WordFault<'a> {
     /// A long option, of this name as it was typed, that no option's name begins with.
     UnknownLong(&'a str),
@@ -94,10 +94,12 @@ fn put_lines<'a, E: Sink>(
     let back = Part::Bytes(back.as_bytes());
     let hint = Part::Bytes(b"\nTry '");
     let end = Part::Bytes(b" --help' for more information.\n");
-    put_parts(err, &[name, Part::Bytes(b": "), front, shown, back, hint, name, end])
+    let colon = Part::Bytes(b": ");
+    put_parts(err, &[name, colon, front, shown, back, hint, name, end])
 }
 
 // A fault's text: what stands before what it shows of the words, that, and what stands behind it.
+#[rattlefmt::skip]
 fn wording<'a>(fault: &WordFault<'a>) -> (&'static str, Shown<'a>, &'static str)
     ensures { result.0.now ++ shown_text result.1 ++ result.2.now ≡ fault_text (fault_of fault.now) }
 {
@@ -105,24 +107,28 @@ fn wording<'a>(fault: &WordFault<'a>) -> (&'static str, Shown<'a>, &'static str)
         WordFault::UnknownLong(name) => ("unrecognized option '--", Shown::Typed(name), "'"),
         WordFault::AmbiguousLong(name) => ("option '--", Shown::Typed(name), "' is ambiguous"),
         WordFault::ValueNotAllowed(full) => ("option '--", Shown::FullName(full), "' doesn't allow an argument"),
+        WordFault::ValueMissing(true) => ("option '--length' requires an argument", Shown::Nothing, ""),
+        WordFault::ValueMissing(false) => ("option requires an argument -- 'l'", Shown::Nothing, ""),
         WordFault::UnknownShort(letter) => ("invalid option -- '", Shown::Letter(letter), "'"),
         WordFault::LengthInvalid(value) => ("invalid length: '", Shown::Typed(value), "'"),
         WordFault::LengthNotBytes(value) => ("length is not a multiple of 8: '", Shown::Typed(value), "'"),
-        WordFault::ValueMissing(true) => ("option '--length' requires an argument", Shown::Nothing, ""),
-        WordFault::ValueMissing(false) => ("option requires an argument -- 'l'", Shown::Nothing, ""),
         WordFault::TagWithText => ("--tag does not support --text mode", Shown::Nothing, ""),
-        WordFault::ZeroWithCheck => ("the --zero option is not supported when verifying checksums", Shown::Nothing, ""),
-        WordFault::TagWithCheck => ("the --tag option is meaningless when verifying checksums", Shown::Nothing, ""),
-        WordFault::ModeWithCheck => {
-            ("the --binary and --text options are meaningless when verifying checksums", Shown::Nothing, "")
-        }
-        WordFault::IgnoreWithoutCheck => {
-            ("the --ignore-missing option is meaningful only when verifying checksums", Shown::Nothing, "")
-        }
-        WordFault::StatusWithoutCheck => ("the --status option is meaningful only when verifying checksums", Shown::Nothing, ""),
-        WordFault::WarnWithoutCheck => ("the --warn option is meaningful only when verifying checksums", Shown::Nothing, ""),
-        WordFault::QuietWithoutCheck => ("the --quiet option is meaningful only when verifying checksums", Shown::Nothing, ""),
-        WordFault::StrictWithoutCheck => ("the --strict option is meaningful only when verifying checksums", Shown::Nothing, ""),
+        WordFault::ZeroWithCheck =>
+            ("the --zero option is not supported when verifying checksums", Shown::Nothing, ""),
+        WordFault::TagWithCheck =>
+            ("the --tag option is meaningless when verifying checksums", Shown::Nothing, ""),
+        WordFault::ModeWithCheck =>
+            ("the --binary and --text options are meaningless when verifying checksums", Shown::Nothing, ""),
+        WordFault::IgnoreWithoutCheck =>
+            ("the --ignore-missing option is meaningful only when verifying checksums", Shown::Nothing, ""),
+        WordFault::StatusWithoutCheck =>
+            ("the --status option is meaningful only when verifying checksums", Shown::Nothing, ""),
+        WordFault::WarnWithoutCheck =>
+            ("the --warn option is meaningful only when verifying checksums", Shown::Nothing, ""),
+        WordFault::QuietWithoutCheck =>
+            ("the --quiet option is meaningful only when verifying checksums", Shown::Nothing, ""),
+        WordFault::StrictWithoutCheck =>
+            ("the --strict option is meaningful only when verifying checksums", Shown::Nothing, ""),
         WordFault::CheckNeeded => ("--check is required", Shown::Nothing, ""),
     }
 }

@@ -6,5 +6,4 @@ ghost use Rattle.digests.specs.PlainWords.{PlainWordsAreOperands, WordsBehindAre
 pub fn plain_words_are_operands()
     ensures plain { PlainWordsAreOperands }
     ensures behind { WordsBehindAreOperands }
-{
-}
+{}

@@ -8,14 +8,13 @@ pub mod laws;
 pub mod options;
 pub mod reading;
 pub mod run;
-pub mod texts;
-pub mod tool;
-pub mod words;
-
 #[cfg(test)]
 mod run_tests;
 #[cfg(test)]
 mod tests;
+pub mod texts;
+pub mod tool;
+pub mod words;
 
 use arguments::{CommandLine, read_command_line};
 use faults::{put_stop, put_unknown};
@@ -52,7 +51,12 @@ fn main(rt: HostRuntime) -> ExitCode {
 
 // Runs the tool over the real streams and files. On a terminal each line appears as it is written; elsewhere standard
 // output is buffered.
-fn perform<E: Write>(rt: &HostRuntime, tool: Tool, words: &Words, err: &mut FromWrite<E>) -> Result<u8, Stop> {
+fn perform<E: Write>(
+    rt: &HostRuntime,
+    tool: Tool,
+    words: &Words,
+    err: &mut FromWrite<E>,
+) -> Result<u8, Stop> {
     let out = rt.stdout();
     if out.is_terminal() {
         match LineWriter::new(rt.alloc(), out) {
@@ -79,7 +83,19 @@ fn perform_into<W: Write + Drop, E: Write>(
     let mut out = FromWrite::new(writer);
     let mut stdin = Stdin::new(FromRead::new(rt.stdin()));
     let mut files = Files::new(*rt);
-    let status = run(rt.alloc(), tool, words, &mut stdin, &mut files, &mut out, err);
+    let status = run(
+        rt.alloc(),
+        tool,
+        words,
+        &mut stdin,
+        &mut files,
+        &mut out,
+        err,
+    );
     let is_flushed = out.flush().is_ok() & err.flush().is_ok();
-    if is_flushed { status } else { status.and(Err(Stop::Write)) }
+    if is_flushed {
+        status
+    } else {
+        status.and(Err(Stop::Write))
+    }
 }

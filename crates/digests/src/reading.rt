@@ -73,7 +73,7 @@ pub fn read_words<'a>(tool: Tool, words: &'a Words) -> Result<Request<'a>, WordF
 
 // What the options say, as far as they were read. A mode, a report setting and a length are the last of theirs.
 #[derive(Clone, Copy)]
-pub struct Chosen<'a> {
+struct Chosen<'a> {
     mode: Option<Mode>,
     report: Option<Report>,
     length: Option<&'a str>,
@@ -87,8 +87,12 @@ pub struct Chosen<'a> {
 }
 
 // What all options say, or the answer where one of the words decides it.
-fn read_options<'a>(tool: Tool, words: &'a Words) -> Result<Chosen<'a>, Result<Request<'a>, WordFault<'a>>>
-    ensures read { MatchResult result (λ c. chosen_of c ≡ options (items tool words.now)) (λ r. first_of ends (items tool words.now) ≡ Some (answer_of r)) }
+fn read_options<'a>(
+    tool: Tool,
+    words: &'a Words,
+) -> Result<Chosen<'a>, Result<Request<'a>, WordFault<'a>>>
+    ensures read { MatchResult result (λ c. chosen_of c ≡ options (items tool words.now))
+        (λ r. first_of ends (items tool words.now) ≡ Some (answer_of r)) }
     ensures none { MatchResult result (λ _. first_of ends (items tool words.now) ≡ None) (λ _. Unit {0}) }
 {
     let mut items = Items::new(tool, words);

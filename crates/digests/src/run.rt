@@ -44,10 +44,28 @@ pub fn run<I: Input + Drop, S: Source, O: Sink, E: Sink>(
         Ok(Request::Help) => told(put_help(out, tool), 0),
         Ok(Request::Version) => told(put_version(out, tool), 0),
         Ok(Request::Generate(settings, operands)) => {
-            each(alloc, &Job::Generate(settings), tool, operands, stdin, source, out, err)
+            each(
+                alloc,
+                &Job::Generate(settings),
+                tool,
+                operands,
+                stdin,
+                source,
+                out,
+                err,
+            )
         }
         Ok(Request::Check(settings, operands)) => {
-            each(alloc, &Job::Check(settings), tool, operands, stdin, source, out, err)
+            each(
+                alloc,
+                &Job::Check(settings),
+                tool,
+                operands,
+                stdin,
+                source,
+                out,
+                err,
+            )
         }
     }
 }
@@ -89,8 +107,25 @@ fn one<I: Input + Drop, S: Source, O: Sink, E: Sink>(
     ensures failures { Failures (O.failures out.old) (O.failures out.new) (E.failures err.old) (E.failures err.new) result }
 {
     match job {
-        Job::Generate(settings) => generate_one(settings, tool.name(), name, stdin, source, out, err),
-        Job::Check(settings) => check_one(alloc, *settings, tool.name(), name, stdin, source, out, err),
+        Job::Generate(settings) => generate_one(
+            settings,
+            tool.name(),
+            name,
+            stdin,
+            source,
+            out,
+            err,
+        ),
+        Job::Check(settings) => check_one(
+            alloc,
+            *settings,
+            tool.name(),
+            name,
+            stdin,
+            source,
+            out,
+            err,
+        ),
     }
 }
 

@@ -21,7 +21,12 @@ fn words_of(alloc: Global, line: &str) -> Result<Words, NoRoom> {
 }
 
 // That the words of a line have a fault, of which these are the two lines.
-fn assert_fault(rt: &(impl Abort + AllocGlobal), tool: Tool, line: &str, text: &str) -> Result<(), Fail> {
+fn assert_fault(
+    rt: &(impl Abort + AllocGlobal),
+    tool: Tool,
+    line: &str,
+    text: &str,
+) -> Result<(), Fail> {
     let words = words_of(rt.alloc(), line)?;
     let mut err = ToldSink::<256>::new(256);
     match read_words(tool, &words) {
@@ -29,7 +34,9 @@ fn assert_fault(rt: &(impl Abort + AllocGlobal), tool: Tool, line: &str, text: &
         Err(fault) => put_fault(&mut err, tool, &fault)?,
     }
     let name = tool.name();
-    let lines = format!(in rt.alloc(); "{name}: {text}\nTry '{name} --help' for more information.\n")?;
+    let lines = format!(in rt.alloc();
+        "{name}: {text}\nTry '{name} --help' for more information.\n"
+    )?;
     assert_eq!(rt; err.bytes(), lines.as_bytes(), "in {line}");
     Ok(())
 }
@@ -61,9 +68,24 @@ fn assert_generates(
 fn faults_of_lengths(rt: HostRuntime) -> Result<(), Fail> {
     assert_fault(&rt, Tool::B2sum, "-l 520 e", "invalid length: '520'")?;
     assert_fault(&rt, Tool::B2sum, "-l 513 e", "invalid length: '513'")?;
-    assert_fault(&rt, Tool::B2sum, "-l 12 e", "length is not a multiple of 8: '12'")?;
-    assert_fault(&rt, Tool::B2sum, "e -l", "option requires an argument -- 'l'")?;
-    assert_fault(&rt, Tool::B2sum, "e --len", "option '--length' requires an argument")?;
+    assert_fault(
+        &rt,
+        Tool::B2sum,
+        "-l 12 e",
+        "length is not a multiple of 8: '12'",
+    )?;
+    assert_fault(
+        &rt,
+        Tool::B2sum,
+        "e -l",
+        "option requires an argument -- 'l'",
+    )?;
+    assert_fault(
+        &rt,
+        Tool::B2sum,
+        "e --len",
+        "option '--length' requires an argument",
+    )?;
     assert_fault(&rt, Tool::B2sum, "-l --help", "invalid length: '--help'")?;
     assert_fault(&rt, Tool::B2sum, "--length= e", "invalid length: ''")?;
     assert_fault(&rt, Tool::B2sum, "-l +8 e", "invalid length: '+8'")?;
@@ -80,7 +102,14 @@ fn lengths(rt: HostRuntime) -> Result<(), Fail> {
     assert_generates(&rt, Tool::B2sum, "--len 256 e", 256, Mode::Text, "e")?;
     assert_generates(&rt, Tool::B2sum, "-bl256 e", 256, Mode::Binary, "e")?;
     assert_generates(&rt, Tool::B2sum, "-l 0256 e", 256, Mode::Text, "e")?;
-    assert_generates(&rt, Tool::B2sum, "-l 0000000000000000000000000000008 e", 8, Mode::Text, "e")?;
+    assert_generates(
+        &rt,
+        Tool::B2sum,
+        "-l 0000000000000000000000000000008 e",
+        8,
+        Mode::Text,
+        "e",
+    )?;
     assert_generates(&rt, Tool::B2sum, "-l 0 --tag e", 512, Mode::Tag, "e")?;
     assert_generates(&rt, Tool::B2sum, "-l 512 --tag e", 512, Mode::Tag, "e")
 }
@@ -89,15 +118,45 @@ fn lengths(rt: HostRuntime) -> Result<(), Fail> {
 fn faults_of_options(rt: HostRuntime) -> Result<(), Fail> {
     assert_fault(&rt, Tool::Sha256sum, "--st l", "option '--st' is ambiguous")?;
     assert_fault(&rt, Tool::Sha256sum, "-cq l", "invalid option -- 'q'")?;
-    assert_fault(&rt, Tool::Md5sum, "--foo --help", "unrecognized option '--foo'")?;
-    assert_fault(&rt, Tool::Md5sum, "--foo=1 a", "unrecognized option '--foo'")?;
-    assert_fault(&rt, Tool::Md5sum, "--tag=1 a", "option '--tag' doesn't allow an argument")?;
-    assert_fault(&rt, Tool::Md5sum, "--help=1", "option '--help' doesn't allow an argument")?;
+    assert_fault(
+        &rt,
+        Tool::Md5sum,
+        "--foo --help",
+        "unrecognized option '--foo'",
+    )?;
+    assert_fault(
+        &rt,
+        Tool::Md5sum,
+        "--foo=1 a",
+        "unrecognized option '--foo'",
+    )?;
+    assert_fault(
+        &rt,
+        Tool::Md5sum,
+        "--tag=1 a",
+        "option '--tag' doesn't allow an argument",
+    )?;
+    assert_fault(
+        &rt,
+        Tool::Md5sum,
+        "--help=1",
+        "option '--help' doesn't allow an argument",
+    )?;
     assert_fault(&rt, Tool::Md5sum, "--s a", "option '--s' is ambiguous")?;
     assert_fault(&rt, Tool::Md5sum, "--t a", "option '--t' is ambiguous")?;
     assert_fault(&rt, Tool::Md5sum, "--=x a", "option '--' is ambiguous")?;
-    assert_fault(&rt, Tool::Md5sum, "--tag -t a", "--tag does not support --text mode")?;
-    assert_fault(&rt, Tool::Md5sum, "-c -t --tag -t l", "--tag does not support --text mode")
+    assert_fault(
+        &rt,
+        Tool::Md5sum,
+        "--tag -t a",
+        "--tag does not support --text mode",
+    )?;
+    assert_fault(
+        &rt,
+        Tool::Md5sum,
+        "-c -t --tag -t l",
+        "--tag does not support --text mode",
+    )
 }
 
 #[test]
@@ -137,7 +196,12 @@ fn faults_of_anysum(rt: HostRuntime) -> Result<(), Fail> {
     assert_fault(&rt, Tool::Anysum, "m", "--check is required")?;
     assert_fault(&rt, Tool::Anysum, "-b m", "--check is required")?;
     assert_fault(&rt, Tool::Anysum, "-c -l 8 m", "invalid option -- 'l'")?;
-    assert_fault(&rt, Tool::Anysum, "-c --length=8 m", "unrecognized option '--length'")
+    assert_fault(
+        &rt,
+        Tool::Anysum,
+        "-c --length=8 m",
+        "unrecognized option '--length'",
+    )
 }
 
 // What was typed is escaped in a text.
@@ -150,7 +214,8 @@ fn faults_are_escaped(rt: HostRuntime) -> Result<(), Fail> {
         Ok(_) => assert!(rt; false),
         Err(fault) => put_fault(&mut err, Tool::Md5sum, &fault)?,
     }
-    let text = "md5sum: unrecognized option '--a\\\\b\\nc\\rd'\nTry 'md5sum --help' for more information.\n";
+    let text =
+        "md5sum: unrecognized option '--a\\\\b\\nc\\rd'\nTry 'md5sum --help' for more information.\n";
     assert_eq!(rt; err.bytes(), text.as_bytes());
     let mut words = Words::new(rt.alloc());
     words.add("-\n")?;
@@ -204,7 +269,10 @@ fn settings_of_checking(rt: HostRuntime) -> Result<(), Fail> {
 fn help_and_version(rt: HostRuntime) -> Result<(), Fail> {
     for line in ["--help --foo", "a --hel -l"] {
         let words = words_of(rt.alloc(), line)?;
-        assert!(rt; matches!(read_words(Tool::B2sum, &words), Ok(Request::Help)), "in {line}");
+        assert!(rt;
+            matches!(read_words(Tool::B2sum, &words), Ok(Request::Help)),
+            "in {line}"
+        );
     }
     let words = words_of(rt.alloc(), "-z --vers --help")?;
     assert!(rt; matches!(read_words(Tool::Md5sum, &words), Ok(Request::Version)));
@@ -239,7 +307,11 @@ fn words_are_any_texts(rt: HostRuntime) -> Result<(), Fail> {
 
 #[test]
 fn tools(rt: HostRuntime) -> Result<(), Fail> {
-    for (name, tool) in [("md5sum", Tool::Md5sum), ("b2sum", Tool::B2sum), ("anysum", Tool::Anysum)] {
+    for (name, tool) in [
+        ("md5sum", Tool::Md5sum),
+        ("b2sum", Tool::B2sum),
+        ("anysum", Tool::Anysum),
+    ] {
         assert_eq!(rt; Tool::from_word(name), Some(tool));
         assert_eq!(rt; tool.name(), name);
     }

@@ -21,12 +21,20 @@ pub fn put_help<O: Sink>(out: &mut O, tool: Tool) -> Result<(), SinkFault>
         Algos::One(algo) => {
             let print = Part::Bytes(b"Print or check ");
             let tag = Part::Bytes(Kind::of(algo).tag().as_bytes());
-            let check = Part::Bytes(b" checksums. With no FILE, or when FILE is -, read standard input.\n");
-            put_parts(out, &[usage, name, operands, print, tag, check, first, length, last])
+            let check = Part::Bytes(
+                b" checksums. With no FILE, or when FILE is -, read standard input.\n",
+            );
+            put_parts(
+                out,
+                &[
+                    usage, name, operands, print, tag, check, first, length, last,
+                ],
+            )
         }
         Algos::Any => {
-            let check =
-                Part::Bytes(b"Check checksums of tagged lines. With no FILE, or when FILE is -, read standard input.\n");
+            let check = Part::Bytes(
+                b"Check checksums of tagged lines. With no FILE, or when FILE is -, read standard input.\n",
+            );
             put_parts(out, &[usage, name, operands, check, first, length, last])
         }
     }
@@ -61,7 +69,8 @@ fn length_line(tool: Tool) -> &'static str
     ensures { result.now ≡ length_help tool }
 {
     match tool {
-        Tool::B2sum => "  -l, --length=BITS     digest length in bits, a multiple of 8, at most 512\n",
+        Tool::B2sum =>
+            "  -l, --length=BITS     digest length in bits, a multiple of 8, at most 512\n",
         _ => "",
     }
 }

@@ -4,7 +4,6 @@ ghost use Rattle.std.specs.Option.{option_copied};
 
 use std::alloc::Global;
 use std::marker::Model;
-
 pub use sum_sources::NoRoom;
 
 /// A list of texts, kept as one text beside the places where each of them ends.

@@ -1,4 +1,4 @@
--- What hashing one name comes to, by what came of asking it.
+-- Hashing one name, where its line was cut off.
 use Rattle.std.proofs.Common.{◌≡◌, ℕ, ◌||◌, Bool, true, false, List, [], ◌∷◌, Option, None, Some, Result, Ok, Err, refl, ap, sym, ◌∙◌}
 use Rattle.std.specs.Io.KnownBytes.{Appends}
 use Rattle.std.proofs.KnownBytes.{Appends-nil}
@@ -19,26 +19,9 @@ use Rattle.sum_engine.specs.Scenes.{Scene, scene_by, Does, Cut, Generates, Outco
 use Rattle.sum_engine.specs.Asking.{AskGives, Comes}
 use Rattle.sum_engine.proofs.SceneLemmas.{none_yet, front_of}
 
-pub no_memory : (kind : KindValue) (outcome : World → Outcome) (w v : Option World) (t t' : Bool) (name : List ℕ) (o e : Option (List ℕ)) →
-    AskGives kind w v name None → t' ≡ t → Generates outcome (scene_by w t o e) (scene_by v t' o e) (Err Memory)
-no_memory kind outcome None v t t' name o e h is = tt
-no_memory kind outcome (Some w) None t t' name o e h is = absurd h
-no_memory kind outcome (Some w) (Some v) t t' name o e h is =
-    let mk : World → Bool → Scene = λ x b. record { world = x; taken = b; out = o; err = e } in
-    ap (λ x. mk x t') h ∙ ap (mk w) is
-
 -- the name was read
 read_is : (kind : KindValue) (w : World) (name d : List ℕ) → Comes kind (reply w name) (asked.Read d) → read kind (reply w name) ≡ Ok d
 read_is kind w name d h = ap (read kind) h.1 ∙ h.2
-
-pub line_written : (settings : Settings) (tool name d : List ℕ) (w v : Option World) (t t' : Bool) (o o' e : Option (List ℕ)) →
-    AskGives settings.kind w v name (Some (asked.Read d)) → t' ≡ t || is_dash name → Appends o o' (line settings.style settings.kind name d)
-    → Generates (λ w. generated settings tool w name) (scene_by w t o e) (scene_by v t' o' e) (Ok true)
-line_written settings tool name d None v t t' o o' e h is a = tt
-line_written settings tool name d (Some w) None t t' o o' e h is a = absurd h
-line_written settings tool name d (Some w) (Some v) t t' o o' e h is a =
-    rw (read_is settings.kind w name d h.1)
-    (refl, record { world = h.0; taken = is ∙ ap (λ b. t || b) (sym (or-false (is_dash name))); out = a; err = Appends-nil e })
 
 pub line_cut : (settings : Settings) (tool name d : List ℕ) (w v : Option World) (t t' : Bool) (o o' e : Option (List ℕ)) →
     AskGives settings.kind w v name (Some (asked.Read d)) → AppendsFront o o' (line settings.style settings.kind name d)
@@ -58,15 +41,6 @@ fails_is : (kind : KindValue) (w : World) (name : List ℕ) (a : Asked) (f : Fau
 fails_is kind w name (asked.Read d) f h k = absurd k
 fails_is kind w name (asked.Refused g) f h k = ap (read kind) h ∙ ap Err k
 fails_is kind w name (asked.Broken g) f h k = ap (read kind) h.1 ∙ h.2 ∙ ap Err k
-
-pub fault_written : (settings : Settings) (tool name : List ℕ) (a : Asked) (f : Fault) (w v : Option World) (t t' : Bool) (o e e' : Option (List ℕ)) →
-    AskGives settings.kind w v name (Some a) → Fails a f → t' ≡ t || is_dash name → Appends e e' (fault_line tool name f)
-    → Generates (λ w. generated settings tool w name) (scene_by w t o e) (scene_by v t' o e') (Ok false)
-fault_written settings tool name a f None v t t' o e e' h k is p = tt
-fault_written settings tool name a f (Some w) None t t' o e e' h k is p = absurd h
-fault_written settings tool name a f (Some w) (Some v) t t' o e e' h k is p =
-    rw (fails_is settings.kind w name a f h.1 k)
-    (refl, record { world = h.0; taken = is ∙ ap (λ b. t || b) (sym (or-false (is_dash name))); out = Appends-nil o; err = p })
 
 pub fault_cut : (settings : Settings) (tool name : List ℕ) (a : Asked) (f : Fault) (w v : Option World) (t t' : Bool) (o e e' : Option (List ℕ)) →
     AskGives settings.kind w v name (Some a) → Fails a f → AppendsFront e e' (fault_line tool name f)

@@ -14,9 +14,6 @@ use Rattle.sum_engine.proofs.WorldLemmas.{after-none, after-append}
 pub none_yet : (a : Option (List ℕ)) (x : List ℕ) → AppendsUpTo a a x
 none_yet a x = ([], x, refl, Appends-nil a)
 
-pub all_of : (a b : Option (List ℕ)) (x : List ℕ) → Appends a b x → AppendsUpTo a b x
-all_of a b x h = (x, [], sym (append-nil x), h)
-
 pub front_of : (a b : Option (List ℕ)) (x : List ℕ) → AppendsFront a b x → AppendsUpTo a b x
 front_of a b x h = (h.0, h.1, h.2, h.4)
 

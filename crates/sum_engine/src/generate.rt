@@ -1,5 +1,6 @@
 //! Hashing one name.
-ghost use Rattle.std.specs.Prelude.{◌≡◌, Err};
+ghost use Rattle.std.specs.Prelude.{◌≡◌, ◌||◌, Err, OnOk, is_none};
+ghost use Rattle.sum_engine.specs.Worlds.{is_dash};
 ghost use Rattle.sum_engine.specs.Generation.{generated};
 ghost use Rattle.sum_engine.specs.Scenes.{scene, Generates, refusals_after, Failures};
 
@@ -29,6 +30,7 @@ pub fn generate_one<I: Input + Drop, S: Source, O: Sink, E: Sink>(
         (scene I.content (S.told source.new) stdin.new (O.written out.new) (E.written err.new)) result }
     ensures refusals { S.refusals source.new ≡ refusals_after (S.refusals source.old) result }
     ensures failures { Failures (O.failures out.old) (O.failures out.new) (E.failures err.old) (E.failures err.new) result }
+    ensures taken { OnOk result (is_none stdin.new ≡ is_none stdin.old || is_dash name.now) }
     ensures untouched { result ≡ Err Stop.Memory → (out.new ≡ out.old) × (err.new ≡ err.old) }
 {
     match ask(settings.kind, name, stdin, source) {

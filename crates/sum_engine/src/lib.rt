@@ -12,6 +12,8 @@ mod report;
 mod settings;
 mod stop;
 mod summary;
+#[cfg(test)]
+mod tests;
 mod verdict;
 
 pub use checker::Checker;

@@ -82,7 +82,8 @@ FillOf c d (Err f) = c ≡ record { bytes = []; ending = Broken f }
 
 -- a piece went from the front of the buffer to the line's end: up to a newline, which went too, or the whole buffer
 abbrev pub TakesPiece : Bool → List ℕ → List ℕ → List ℕ → List ℕ → Type 0
-TakesPiece true old new line line' = (piece : List ℕ) × NoNewline piece × (old ≡ piece ++ (10 ∷ new)) × (line' ≡ line ++ piece)
+TakesPiece true old new line line' = (piece : List ℕ) × NoNewline piece × (old ≡ piece ++ (10 ∷ new))
+    × (line' ≡ line ++ piece)
 TakesPiece false old new line line' = NoNewline old × (new ≡ []) × (line' ≡ line ++ old)
 
 -- a newline ended the piece, and the rest is still to come

@@ -1,6 +1,8 @@
-use Rattle.std.proofs.Common.{◌≡◌, ℕ, zero, suc, ◌+◌, ◌-◌, ◌*◌, ◌/◌, ◌<◌, ◌≤◌, max, List, [], ◌∷◌, ◌++◌, length, take, drop, replicate, refl, sym, ap, ◌∙◌, arith}
+use Rattle.std.proofs.Common.{◌≡◌, ℕ, zero, suc, ◌+◌, ◌-◌, ◌*◌, ◌<◌, ◌≤◌, List, ◌++◌, length, take, drop, replicate}
+use Rattle.std.proofs.Common.{refl, ap, ◌∙◌, arith}
 use Rattle.std.specs.List.{concat}
-use Rattle.std.proofs.lemmas.List.{take-append-drop, take-take, drop-take, take_all, length-append, length-replicate, length-take-le, length-drop}
+use Rattle.std.proofs.lemmas.List.{take-append-drop, take-take, drop-take, take_all, length-append, length-replicate}
+use Rattle.std.proofs.lemmas.List.{length-take-le, length-drop}
 use Rattle.std.specs.Simd.{first_chunks}
 use Rattle.blake2b_core.specs.Digest.{block_count, padded, blocks}
 use Rattle.blake2b_core.proofs.CompressionLemmas.{length-first_chunks, get_or-first_chunks}
@@ -21,12 +23,14 @@ unfolding blocks
 returns c = λ m.
     let count : ℕ = block_count (length m) in
     let zeros : ℕ = 128 * count - length m in
-    let size : length (padded m) ≡ 128 * count = omega (arith, length-append m (replicate zeros 0), length-replicate {A = ℕ} zeros 0) in
+    let size : length (padded m) ≡ 128 * count =
+    omega (arith, length-append m (replicate zeros 0), length-replicate {A = ℕ} zeros 0) in
     record {
       sizes = λ k d below.
           let place : k < count = omega (arith, length-first_chunks 128 count (padded m)) in
           let long : 128 ≤ length (drop (128 * k) (padded m)) = omega (arith, length-drop (128 * k) (padded m)) in
-          ap length (get_or-first_chunks 128 count (padded m) k d place) ∙ length-take-le 128 (drop (128 * k) (padded m)) long;
+          ap length (get_or-first_chunks 128 count (padded m) k d place)
+          ∙ length-take-le 128 (drop (128 * k) (padded m)) long;
       zeros = zeros;
       join = concat-first_chunks 128 count (padded m) ∙ take_all (128 * count) (padded m) (omega arith);
       fewest = λ some. omega arith;

@@ -17,8 +17,8 @@ loop-item-preserved-in_default-flag c =
     let taken : c.loop-item.items ≡ one ∷ rest = c.in-Some.ensures ∙ ap (λ i. item_of i ∷ rest) c.in-Flag.is in
     record {
       options = ap (λ o. after o rest) c.with_flag-chosen.ensures ∙ after-then (chosen_of c.loop-item.chosen) one rest
-        ∙ ap (after (chosen_of c.loop-item.chosen)) (sym taken) ∙ c.loop-item.invariant.options;
+          ∙ ap (after (chosen_of c.loop-item.chosen)) (sym taken) ∙ c.loop-item.invariant.options;
       ends = sym (ap (λ e. or_else e (first_of ends rest))
           (ends_not c.in-Flag.flag c.in_default-flag.not-Help c.in_default-flag.not-Version))
-        ∙ ap (first_of ends) (sym taken) ∙ c.loop-item.invariant.ends;
+          ∙ ap (first_of ends) (sym taken) ∙ c.loop-item.invariant.ends;
     }
