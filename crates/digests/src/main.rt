@@ -9,6 +9,8 @@ pub mod options;
 pub mod reading;
 pub mod run;
 #[cfg(test)]
+mod run_tests;
+#[cfg(test)]
 mod tests;
 pub mod texts;
 pub mod tool;

@@ -334,7 +334,7 @@ fn stops(rt: HostRuntime) -> Result<(), Fail> {
     Ok(())
 }
 
-const MD5SUM_HELP: &str = "Usage: md5sum [OPTION]... [FILE]...
+pub(crate) const MD5SUM_HELP: &str = "Usage: md5sum [OPTION]... [FILE]...
 Print or check MD5 checksums. With no FILE, or when FILE is -, read standard input.
   -b, --binary          mark each line as binary
   -c, --check           read checksums from the FILEs and check them
