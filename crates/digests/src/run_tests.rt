@@ -142,7 +142,10 @@ fn assert_rows(
             let mut files = ToldSource::new(rt.alloc(), piece);
             add_files(&mut files)?;
             for ((name, _), content) in manifests.iter().zip(contents.iter()) {
-                files.add(name.as_bytes(), Answer::Content(content.as_bytes(), Ending::Whole))?;
+                files.add(
+                    name.as_bytes(),
+                    Answer::Content(content.as_bytes(), Ending::Whole),
+                )?;
             }
             let input = Told::new(input.as_bytes(), Ending::Whole, piece);
             let run = run_line(rt.alloc(), row.0, input, &mut files, (1024, 1024))?;
@@ -153,13 +156,24 @@ fn assert_rows(
 }
 
 // That a line whose input and whose file `f` give these bytes and then a fault does as its row says.
-fn assert_broken(rt: &(impl Abort + AllocGlobal), bytes: &[u8], fault: Fault, row: Row) -> Result<(), Fail> {
+fn assert_broken(
+    rt: &(impl Abort + AllocGlobal),
+    bytes: &[u8],
+    fault: Fault,
+    row: Row,
+) -> Result<(), Fail> {
     let ending = Ending::Broken(fault);
     for piece in PIECES {
         let mut files = ToldSource::new(rt.alloc(), piece);
         add_files(&mut files)?;
         files.add(b"f", Answer::Content(bytes, ending))?;
-        let run = run_line(rt.alloc(), row.0, Told::new(bytes, ending, piece), &mut files, (1024, 1024))?;
+        let run = run_line(
+            rt.alloc(),
+            row.0,
+            Told::new(bytes, ending, piece),
+            &mut files,
+            (1024, 1024),
+        )?;
         assert_as(rt, &run, row)?;
     }
     Ok(())

@@ -68,9 +68,9 @@ rest_on r a b v h =
     let j = next_judged r a l in
     let f : form_then a.form (form algo (l ∷ ls)) ≡ form_then b.form (form algo ls) = form_on a.form (line_form algo l) (form algo ls) ∙ ap (λ g. form_then g (form algo ls)) (sym h.form) in
     rest_head r a l ls h.lines ∙ ap (λ x. j ∷ x) (
-      ap (λ g. verdicts r g (after a.scene.world (asks_of j)) (a.number + 1) ls) f
-      ∙ ap (λ w. verdicts r (form_then b.form (form algo ls)) w (a.number + 1) ls) (sym h.done.world)
-      ∙ ap (λ n. verdicts r (form_then b.form (form algo ls)) b.scene.world n ls) (sym h.number)
+    ap (λ g. verdicts r g (after a.scene.world (asks_of j)) (a.number + 1) ls) f
+    ∙ ap (λ w. verdicts r (form_then b.form (form algo ls)) w (a.number + 1) ls) (sym h.done.world)
+    ∙ ap (λ n. verdicts r (form_then b.form (form algo ls)) b.scene.world n ls) (sym h.number)
     )
 
 -- contents past so many lines

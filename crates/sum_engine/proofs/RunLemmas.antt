@@ -93,8 +93,8 @@ did_end r c s b z js x p h =
     let both = does_both s b.scene z.scene _ _ _ _ _ _ p.done h.done in
     let does : Does s z.scene (outs r js) (errs r js ++ end_text r c.ending (counts js)) (asks js) =
     subst (λ (t : List ℕ). Does s z.scene (outs r js) (errs r js ++ t) (asks js)) text
-      (subst (λ (t : List ℕ). Does s z.scene t (errs r js ++ end_text r b.rest.ending b.counts) (asks js)) (append-nil (outs r js))
-        (subst (λ (q : List (List ℕ)). Does s z.scene (outs r js ++ []) (errs r js ++ end_text r b.rest.ending b.counts) q) (append-nil (asks js)) both)) in
+    (subst (λ (t : List ℕ). Does s z.scene t (errs r js ++ end_text r b.rest.ending b.counts) (asks js)) (append-nil (outs r js))
+    (subst (λ (q : List (List ℕ)). Does s z.scene (outs r js ++ []) (errs r js ++ end_text r b.rest.ending b.counts) q) (append-nil (asks js)) both)) in
     rw all (h.answer ∙ ap (λ e. good r e b.counts) ending ∙ ap (good r c.ending) p.counts, does)
 
 -- what the next step writes and asks begins what is left to write and to ask

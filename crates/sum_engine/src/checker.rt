@@ -43,7 +43,13 @@ impl<'a, I: Input> Checker<'a, I> {
 
     /// A checker of the manifest that `input` gives. In diagnostics the manifest has the name `shown`; `from_stdin` says
     /// whether it came from standard input, where a line that names `-` is improperly formatted.
-    pub fn new(settings: CheckSettings, tool: &'a str, shown: &'a [u8], from_stdin: bool, input: I) -> Self
+    pub fn new(
+        settings: CheckSettings,
+        tool: &'a str,
+        shown: &'a [u8],
+        from_stdin: bool,
+        input: I,
+    ) -> Self
         ensures rules { rules_of_checker result
             ≡ record { settings = settings; tool = tool.entry.now; shown = shown.entry.now; from_stdin = from_stdin } }
         ensures now { (s : Option Scene) → now_of I.content result s ≡ now_by (option_map clip (I.content input)) 0 0 Form.Undecided no_counts s }
@@ -195,7 +201,14 @@ impl<'a, I: Input> Checker<'a, I> {
             return Err(Stop::Memory);
         };
         let number = self.reader.lines();
-        match put_report(out, err, &self.listing, number, judgement.verdict, judgement.name) {
+        match put_report(
+            out,
+            err,
+            &self.listing,
+            number,
+            judgement.verdict,
+            judgement.name,
+        ) {
             Err(_) => Err(Stop::Write),
             Ok(()) => {
                 self.counts = self.counts.counted(judgement.verdict);

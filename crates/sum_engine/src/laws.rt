@@ -9,14 +9,12 @@ pub fn steps_join()
     ensures join { StepsJoin }
     ensures end { StepsEnd }
     ensures cut { StepsCut }
-{
-}
+{}
 
 /// The entry of a line, as verdicts have it, is the one that the line grammar allows.
 pub fn entry_is()
     ensures { EntryIs }
-{
-}
+{}
 
 /// What comes behind a line has no part in its entry, in its verdict after the same asks and, where the line is plain, in
 /// the form.
@@ -24,5 +22,4 @@ pub fn same_front()
     ensures entry { SameEntry }
     ensures form { SameForm }
     ensures verdicts { SameVerdicts }
-{
-}
+{}

@@ -39,7 +39,18 @@ pub fn check_one<J: Input + Drop, S: Source, O: Sink, E: Sink>(
 {
     if name == DASH {
         let input = stdin.take();
-        return check_input(alloc, settings, tool, b"standard input", true, input, stdin, source, out, err);
+        return check_input(
+            alloc,
+            settings,
+            tool,
+            b"standard input",
+            true,
+            input,
+            stdin,
+            source,
+            out,
+            err,
+        );
     }
     match source.open_file(name) {
         Err(OpenFault::Memory) => Err(Stop::Memory),
@@ -47,7 +58,9 @@ pub fn check_one<J: Input + Drop, S: Source, O: Sink, E: Sink>(
             Ok(()) => Ok(false),
             Err(_) => Err(Stop::Write),
         },
-        Ok(file) => check_input(alloc, settings, tool, name, false, file, stdin, source, out, err),
+        Ok(file) => check_input(
+            alloc, settings, tool, name, false, file, stdin, source, out, err,
+        ),
     }
 }
 

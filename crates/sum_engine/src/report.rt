@@ -62,7 +62,12 @@ pub(crate) fn put_report<O: Sink, E: Sink>(
     }
 }
 
-fn put_out<O: Sink>(out: &mut O, report: Report, verdict: Verdict, name: &[u8]) -> Result<(), SinkFault>
+fn put_out<O: Sink>(
+    out: &mut O,
+    report: Report,
+    verdict: Verdict,
+    name: &[u8],
+) -> Result<(), SinkFault>
     ensures { Writes O.written O.failures out.old out.new (out_by report verdict name.now) result }
 {
     match report {

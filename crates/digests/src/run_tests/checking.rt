@@ -28,7 +28,12 @@ fn verdicts(rt: HostRuntime) -> Result<(), Fail> {
              md5sum: WARNING: 1 computed checksum did NOT match\n",
             1,
         ),
-        ("md5sum -c --status l", "", "md5sum: x: No such file or directory\n", 1),
+        (
+            "md5sum -c --status l",
+            "",
+            "md5sum: x: No such file or directory\n",
+            1,
+        ),
         (
             "md5sum -c --ignore-missing -w --strict l",
             "a: OK\ne: FAILED\n",
@@ -37,9 +42,19 @@ fn verdicts(rt: HostRuntime) -> Result<(), Fail> {
              md5sum: WARNING: 1 computed checksum did NOT match\n",
             1,
         ),
-        ("md5sum -c --ignore-missing l2", "", "md5sum: l2: no file was verified\n", 1),
+        (
+            "md5sum -c --ignore-missing l2",
+            "",
+            "md5sum: l2: no file was verified\n",
+            1,
+        ),
         ("md5sum -c l5", "-: OK\n", "", 0),
-        ("md5sum -c l5 l5", "-: OK\n-: FAILED\n", "md5sum: WARNING: 1 computed checksum did NOT match\n", 1),
+        (
+            "md5sum -c l5 l5",
+            "-: OK\n-: FAILED\n",
+            "md5sum: WARNING: 1 computed checksum did NOT match\n",
+            1,
+        ),
     ];
     assert_rows(&rt, "abc", &manifests, &rows)
 }
@@ -51,7 +66,13 @@ fn names_asked(rt: HostRuntime) -> Result<(), Fail> {
     let mut files = ToldSource::new(rt.alloc(), 8192);
     add_files(&mut files)?;
     files.add(b"l", Answer::Content(manifest.as_bytes(), Ending::Whole))?;
-    run_line(rt.alloc(), "md5sum -c l", Told::new(b"", Ending::Whole, 8192), &mut files, (1024, 1024))?;
+    run_line(
+        rt.alloc(),
+        "md5sum -c l",
+        Told::new(b"", Ending::Whole, 8192),
+        &mut files,
+        (1024, 1024),
+    )?;
     assert_asked(&rt, &files, &[b"l", b"a", b"x", b"e"])
 }
 
@@ -64,10 +85,30 @@ fn summaries(rt: HostRuntime) -> Result<(), Fail> {
     ];
     let rows = [
         // On standard input stands the one line that names standard input itself.
-        ("md5sum -c", "", "md5sum: standard input: no properly formatted checksum lines found\n", 1),
-        ("md5sum -c e", "", "md5sum: e: no properly formatted checksum lines found\n", 1),
-        ("md5sum -c --status e", "", "md5sum: e: no properly formatted checksum lines found\n", 1),
-        ("md5sum -c l8 x", "a: OK\n", "md5sum: x: No such file or directory\n", 1),
+        (
+            "md5sum -c",
+            "",
+            "md5sum: standard input: no properly formatted checksum lines found\n",
+            1,
+        ),
+        (
+            "md5sum -c e",
+            "",
+            "md5sum: e: no properly formatted checksum lines found\n",
+            1,
+        ),
+        (
+            "md5sum -c --status e",
+            "",
+            "md5sum: e: no properly formatted checksum lines found\n",
+            1,
+        ),
+        (
+            "md5sum -c l8 x",
+            "a: OK\n",
+            "md5sum: x: No such file or directory\n",
+            1,
+        ),
         (
             "md5sum -c l9 l9",
             "a: OK\na: OK\n",
@@ -93,9 +134,19 @@ fn summaries(rt: HostRuntime) -> Result<(), Fail> {
 #[test]
 fn broken_manifest(rt: HostRuntime) -> Result<(), Fail> {
     let manifest = spelled(rt.alloc(), "$M  a\n$M  a")?;
-    let row = ("md5sum -c f", "a: OK\n", "md5sum: f: Input/output error\n", 1);
+    let row = (
+        "md5sum -c f",
+        "a: OK\n",
+        "md5sum: f: Input/output error\n",
+        1,
+    );
     assert_broken(&rt, manifest.as_bytes(), Fault::Other, row)?;
-    let row = ("md5sum -c", "a: OK\n", "md5sum: standard input: Permission denied\n", 1);
+    let row = (
+        "md5sum -c",
+        "a: OK\n",
+        "md5sum: standard input: Permission denied\n",
+        1,
+    );
     assert_broken(&rt, manifest.as_bytes(), Fault::Denied, row)
 }
 
@@ -106,7 +157,10 @@ fn forms(rt: HostRuntime) -> Result<(), Fail> {
         ("spaced", "MD5(a)= $M\n"),
         ("reversed", "$M a\n$M  a\n"),
         ("standard", "$M  a\n$M a\n"),
-        ("l7", "$B  e\nBLAKE2b-256 (e) = $B\n0e5 e\nBLAKE2b-256 (e) = $C\n"),
+        (
+            "l7",
+            "$B  e\nBLAKE2b-256 (e) = $B\n0e5 e\nBLAKE2b-256 (e) = $C\n",
+        ),
     ];
     let rows = [
         ("md5sum -c upper", "a: OK\n", "", 0),
@@ -118,9 +172,24 @@ fn forms(rt: HostRuntime) -> Result<(), Fail> {
              md5sum: WARNING: 1 listed file could not be read\n",
             1,
         ),
-        ("md5sum -c standard", "a: OK\n", "md5sum: WARNING: 1 line is improperly formatted\n", 0),
-        ("md5sum -c --strict standard", "a: OK\n", "md5sum: WARNING: 1 line is improperly formatted\n", 1),
-        ("b2sum -c l7", "e: OK\ne: OK\n", "b2sum: WARNING: 2 lines are improperly formatted\n", 0),
+        (
+            "md5sum -c standard",
+            "a: OK\n",
+            "md5sum: WARNING: 1 line is improperly formatted\n",
+            0,
+        ),
+        (
+            "md5sum -c --strict standard",
+            "a: OK\n",
+            "md5sum: WARNING: 1 line is improperly formatted\n",
+            1,
+        ),
+        (
+            "b2sum -c l7",
+            "e: OK\ne: OK\n",
+            "b2sum: WARNING: 2 lines are improperly formatted\n",
+            0,
+        ),
     ];
     assert_rows(&rt, "", &manifests, &rows)
 }
@@ -128,7 +197,10 @@ fn forms(rt: HostRuntime) -> Result<(), Fail> {
 #[test]
 fn escapes_and_returns(rt: HostRuntime) -> Result<(), Fail> {
     let manifests = [
-        ("l6", "\\$M  q\\\\\\nz\n\\$M  q\\x\n\\$M  q\\\n\\$M  a\\r\n$M  q\\x\n"),
+        (
+            "l6",
+            "\\$M  q\\\\\\nz\n\\$M  q\\x\n\\$M  q\\\n\\$M  a\\r\n$M  q\\x\n",
+        ),
         ("return", "\\$M  a\\rb\n"),
         ("l11", "$M  a\r\n\n\r\njunk\r\n"),
         ("l12", "$M  a\r\r\n"),
@@ -164,7 +236,10 @@ fn escapes_and_returns(rt: HostRuntime) -> Result<(), Fail> {
 
 #[test]
 fn mixed_tags(rt: HostRuntime) -> Result<(), Fail> {
-    let manifests = [("m", "MD5 (a) = $M\nSHA256 (a) = $S\nBLAKE2b-256 (e) = $B\n$M  a\nSHA256 (e) = $E\n")];
+    let manifests = [(
+        "m",
+        "MD5 (a) = $M\nSHA256 (a) = $S\nBLAKE2b-256 (e) = $B\n$M  a\nSHA256 (e) = $E\n",
+    )];
     let out = "a: OK\na: OK\ne: OK\n";
     let warning = "anysum: WARNING: 2 lines are improperly formatted\n";
     let named = "anysum: m: 4: improperly formatted tagged checksum line\n\
@@ -174,7 +249,12 @@ fn mixed_tags(rt: HostRuntime) -> Result<(), Fail> {
         ("anysum -c m", out, warning, 0),
         ("anysum -c --strict m", out, warning, 1),
         ("anysum -c -w m", out, named, 0),
-        ("anysum -c", "", "anysum: standard input: no properly formatted checksum lines found\n", 1),
+        (
+            "anysum -c",
+            "",
+            "anysum: standard input: no properly formatted checksum lines found\n",
+            1,
+        ),
     ];
     assert_rows(&rt, "$M  a\n", &manifests, &rows)
 }
