@@ -1,7 +1,6 @@
 //! Worked command lines, run over told input and told files into told sinks.
 mod checking;
 mod generating;
-mod hostile;
 mod words;
 
 use crate::run::run;
