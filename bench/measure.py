@@ -6,17 +6,22 @@ import time
 
 
 class Contender:
-    """One of the commands that are compared: a name, its words, and the program where the first word isn't it."""
+    """One of the commands that are compared: a name, its words, the program where the first word isn't it, and the
+    status that is wanted of it. What it says on standard error of a status that is wanted isn't shown."""
 
-    def __init__(self, name, words, program=None):
+    def __init__(self, name, words, program=None, status=0):
         self.name = name
         self.words = [str(word) for word in words]
         self.program = program
+        self.status = status
 
     def start(self, stdin, stdout, folder):
         """Starts it with standard input from the file `stdin` and standard output into the file `stdout`."""
         with open(stdin, "rb") as source, open(stdout, "wb") as sink:
-            return subprocess.Popen(self.words, executable=self.program, stdin=source, stdout=sink, cwd=folder)
+            err = subprocess.DEVNULL if self.status else None
+            return subprocess.Popen(
+                self.words, executable=self.program, stdin=source, stdout=sink, stderr=err, cwd=folder
+            )
 
 
 def run_once(contender, stdin, stdout, folder):
@@ -24,7 +29,7 @@ def run_once(contender, stdin, stdout, folder):
     began = time.perf_counter()
     status = contender.start(stdin, stdout, folder).wait()
     seconds = time.perf_counter() - began
-    if status != 0:
+    if status != contender.status:
         raise SystemExit(f"run.py: {contender.name}: {' '.join(contender.words[:6])} gave the status {status}")
     return seconds
 

@@ -199,7 +199,24 @@ def memory(bench):
         row(name, *(f"{peaks[who] / 1e6:.1f} MB" if peaks.get(who) else "-" for who in (OURS, GNU)))
 
 
-PARTS = {"hashing": hashing, "blake": blake, "start": start, "files": files, "memory": memory}
+def lines(bench):
+    """Improperly formatted lines of several lengths, 64 MiB of them in all: the time for a byte stays level."""
+    columns = ("lines", "of )", "of blanks", "tagged, of )")
+    heading("md5sum -c over 64 MiB of lines", *columns)
+    manifest = os.path.join(bench.folder, "long")
+    for name, length in (("1 KiB", 1 << 10), ("1 MiB", MIB), ("64 MiB", 64 * MIB)):
+        cells = []
+        for line in (b")" * (length - 1), b" " * (length - 1), b"MD5 (" + b")" * (length - 6)):
+            with open(manifest, "wb") as file:
+                for _ in range(64 * MIB // length):
+                    file.write(line + b"\n")
+            ours = [Contender(OURS, [bench.program, "md5sum", "-c", manifest], status=1)]
+            took = bench.least(ours, stdout=bench.out)[OURS]
+            cells.append(f"{took / (64 * MIB) * 1e9:.3f} ns/B")
+        row(name, *cells)
+
+
+PARTS = {"hashing": hashing, "blake": blake, "start": start, "files": files, "lines": lines, "memory": memory}
 
 
 def main():
