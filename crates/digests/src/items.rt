@@ -3,7 +3,8 @@ ghost use Rattle.std.specs.Prelude.{◌≡◌, List, ℕ, [], ◌∷◌, Bool, M
 ghost use Rattle.std.specs.Option.{option_copied};
 ghost use Rattle.std.specs.List.{starts_with};
 ghost use Rattle.std.specs.Str.{chars};
-ghost use Rattle.digests.specs.Items.{name_part, value_part, long_word, dash_word, read_word, cluster, operands_of, items};
+ghost use Rattle.digests.specs.Items.{name_part, value_part, long_word, dash_word, read_word, cluster, operands_of};
+ghost use Rattle.digests.specs.Items.{items};
 ghost use Rattle.digests.specs.Walk.{to_come, read_then, step_says, item_of, Takes, TakesWord, IsBehind};
 ghost use Rattle.digests.specs.declared.tool.Tool.{Tool};
 
@@ -217,7 +218,8 @@ fn first(text: &str) -> Option<(char, &str)>
 
 // What stands behind a front of a word.
 fn behind<'a>(front: &str, word: &'a str) -> Option<&'a str>
-    ensures { MatchOption result (starts_with eqb word.now front.now ≡ false) (λ rest. IsBehind front.now word.now rest.now) }
+    ensures { MatchOption result (starts_with eqb word.now front.now ≡ false)
+        (λ rest. IsBehind front.now word.now rest.now) }
 {
     word.strip_prefix(front)
 }

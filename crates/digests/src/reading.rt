@@ -4,7 +4,8 @@ ghost use Rattle.std.specs.Option.{option_copied, option_map};
 ghost use Rattle.std.specs.Str.{all_ascii_digits};
 ghost use Rattle.digests.specs.Items.{items, option};
 ghost use Rattle.digests.specs.Walk.{fault_of, full_name};
-ghost use Rattle.digests.specs.Request.{options, ends, first_of, holding, faults, length_kind, kind_asked, report_of, mode_of, request};
+ghost use Rattle.digests.specs.Request.{options, ends, first_of, holding, faults, length_kind, kind_asked, report_of};
+ghost use Rattle.digests.specs.Request.{mode_of, request};
 ghost use Rattle.digests.specs.Reading.{chosen_of, after, answer_of, IsNumberOf};
 
 use crate::faults::WordFault;

@@ -5,7 +5,8 @@ ghost use Rattle.digests.specs.Tools.{name_of};
 ghost use Rattle.digests.specs.Walk.{Takes};
 ghost use Rattle.digests.specs.Request.{request};
 ghost use Rattle.digests.specs.Meaning.{all_of, upto, or_dash, meaning, place, status_of};
-ghost use Rattle.digests.specs.Runs.{one_of, part_of, told_of, OneGives, RunGives, PlaceAt, Wanting, Refused, RefusedBy, RefusalsOf};
+ghost use Rattle.digests.specs.Runs.{one_of, part_of, told_of, OneGives, RunGives, PlaceAt, Wanting, Refused};
+ghost use Rattle.digests.specs.Runs.{RefusedBy, RefusalsOf};
 
 use crate::faults::put_fault;
 use crate::items::Operands;
@@ -36,8 +37,10 @@ pub fn run<I: Input + Drop, S: Source, O: Sink, E: Sink>(
         (λ w. Wanting (S.refusals source.old) (S.refusals source.new) (name_of tool) w (request tool words.now))
         (scene I.content (S.told source.old) stdin.old (O.written out.old) (E.written err.old))
         (scene I.content (S.told source.new) stdin.new (O.written out.new) (E.written err.new)) result }
-    ensures refusals { RefusalsOf (RefusedBy (request tool words.now)) (S.refusals source.old) (S.refusals source.new) result }
-    ensures failures { Failures (O.failures out.old) (O.failures out.new) (E.failures err.old) (E.failures err.new) result }
+    ensures refusals { RefusalsOf (RefusedBy (request tool words.now)) (S.refusals source.old)
+        (S.refusals source.new) result }
+    ensures failures { Failures (O.failures out.old) (O.failures out.new) (E.failures err.old)
+        (E.failures err.new) result }
 {
     match read_words(tool, words) {
         Err(fault) => told(put_fault(err, tool, &fault), 1),
@@ -100,11 +103,13 @@ fn one<I: Input + Drop, S: Source, O: Sink, E: Sink>(
     out: &mut O,
     err: &mut E,
 ) -> Result<bool, Stop>
-    ensures gives { OneGives (S.refusals source.old) (S.refusals source.new) (one_of job.now (name_of tool)) (part_of job.now (name_of tool)) name.now
+    ensures gives { OneGives (S.refusals source.old) (S.refusals source.new) (one_of job.now (name_of tool))
+        (part_of job.now (name_of tool)) name.now
         (scene I.content (S.told source.old) stdin.old (O.written out.old) (E.written err.old))
         (scene I.content (S.told source.new) stdin.new (O.written out.new) (E.written err.new)) result }
     ensures refusals { RefusalsOf (Refused job.now) (S.refusals source.old) (S.refusals source.new) result }
-    ensures failures { Failures (O.failures out.old) (O.failures out.new) (E.failures err.old) (E.failures err.new) result }
+    ensures failures { Failures (O.failures out.old) (O.failures out.new) (E.failures err.old)
+        (E.failures err.new) result }
 {
     match job {
         Job::Generate(settings) => generate_one(
@@ -162,11 +167,13 @@ fn each<I: Input + Drop, S: Source, O: Sink, E: Sink>(
 ) -> Result<u8, Stop>
     ensures gives { RunGives (λ w. all_of (one_of job.now (name_of tool)) w (or_dash operands.entry))
         (λ w. upto (one_of job.now (name_of tool)) (part_of job.now (name_of tool)) w (or_dash operands.entry))
-        (λ w. PlaceAt (S.refusals source.old) (S.refusals source.new) (one_of job.now (name_of tool)) w (or_dash operands.entry))
+        (λ w. PlaceAt (S.refusals source.old) (S.refusals source.new) (one_of job.now (name_of tool)) w
+        (or_dash operands.entry))
         (scene I.content (S.told source.old) stdin.old (O.written out.old) (E.written err.old))
         (scene I.content (S.told source.new) stdin.new (O.written out.new) (E.written err.new)) result }
     ensures refusals { RefusalsOf (Refused job.now) (S.refusals source.old) (S.refusals source.new) result }
-    ensures failures { Failures (O.failures out.old) (O.failures out.new) (E.failures err.old) (E.failures err.new) result }
+    ensures failures { Failures (O.failures out.old) (O.failures out.new) (E.failures err.old)
+        (E.failures err.new) result }
 {
     let mut operands = operands;
     let mut name = first_name(&mut operands);

@@ -75,8 +75,8 @@ struct Run {
     answer: Result<u8, Stop>,
 }
 
-// Runs a line, whose first word is the tool and whose words are parted by single spaces. Each output stops after so many
-// bytes.
+// Runs a line, whose first word is the tool and whose words are parted by single spaces. Each output stops
+// after so many bytes.
 fn run_line(
     alloc: Global,
     line: &str,

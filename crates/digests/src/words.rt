@@ -1,5 +1,6 @@
 //! The words of a command line, kept in memory.
-ghost use Rattle.std.specs.Prelude.{◌≡◌, ◌<◌, [], ◌∷◌, ◌++◌, ◌+◌, ◌^◌, OnOk, OnErr, OnSome, length, slice_get, slice_index};
+ghost use Rattle.std.specs.Prelude.{◌≡◌, ◌<◌, [], ◌∷◌, ◌++◌, ◌+◌, ◌^◌, OnOk, OnErr, OnSome, length, slice_get};
+ghost use Rattle.std.specs.Prelude.{slice_index};
 ghost use Rattle.std.specs.Option.{option_copied};
 
 use std::alloc::Global;

@@ -1,5 +1,6 @@
 //! The escape of names in lines and diagnostics.
-ghost use Rattle.std.specs.Prelude.{◌≡◌, ◌≢◌, ◌↔◌, ◌+◌, ◌<◌, ◌≤◌, ◌++◌, ℕ, List, length, vec_len, take, drop, slice_index, is_some, true, IsTrue, IfSome, IfNone, MatchOption};
+ghost use Rattle.std.specs.Prelude.{◌≡◌, ◌≢◌, ◌↔◌, ◌+◌, ◌<◌, ◌≤◌, ◌++◌, ℕ, List, length, vec_len, take, drop};
+ghost use Rattle.std.specs.Prelude.{slice_index, is_some, true, IsTrue, IfSome, IfNone, MatchOption};
 ghost use Rattle.sum_lines.specs.Sinks.{Writes};
 ghost use Rattle.sum_lines.specs.Escape.{IsEscaped, escape, escape_of, escape_differs};
 

@@ -31,7 +31,8 @@ impl<W: Write> FromWrite<W> {
     /// Flushes the writer once. A fault where that fails, which counts as a failure of the sink.
     pub fn flush(&mut self) -> Result<(), SinkFault>
         ensures bytes { Keeps (⟦<FromWrite<W> as Sink>⟧.written self.old) (⟦<FromWrite<W> as Sink>⟧.written self.new) }
-        ensures kept { OnOk result (⟦<FromWrite<W> as Sink>⟧.failures self.new ≡ ⟦<FromWrite<W> as Sink>⟧.failures self.old) }
+        ensures kept { OnOk result
+            (⟦<FromWrite<W> as Sink>⟧.failures self.new ≡ ⟦<FromWrite<W> as Sink>⟧.failures self.old) }
         ensures failed { OnErr result
             (⟦<FromWrite<W> as Sink>⟧.failures self.new ≡ after_failure (⟦<FromWrite<W> as Sink>⟧.failures self.old)) }
     {

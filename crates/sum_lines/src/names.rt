@@ -1,6 +1,7 @@
 //! The names that raw names spell, in place.
 
-ghost use Rattle.std.specs.Prelude.{◌≡◌, ◌≤◌, ◌<◌, ◌++◌, ◌↔◌, ℕ, List, drop, false, if◌then◌else◌, length, slice_range, take, true, vec_len};
+ghost use Rattle.std.specs.Prelude.{◌≡◌, ◌≤◌, ◌<◌, ◌++◌, ◌↔◌, ℕ, List, drop, false, if◌then◌else◌, length, slice_range};
+ghost use Rattle.std.specs.Prelude.{take, true, vec_len};
 ghost use Rattle.std.specs.List.{All};
 ghost use Rattle.sum_lines.specs.Escape.{escape};
 ghost use Rattle.sum_lines.specs.Found.{Names};

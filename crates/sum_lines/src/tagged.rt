@@ -5,7 +5,8 @@ ghost use Rattle.std.specs.List.{AllPass, prefix_len, take_while};
 ghost use Rattle.std.specs.Option.{option_copied, option_map};
 ghost use Rattle.hex.specs.Hex.{decode_of};
 ghost use Rattle.digest_kinds.specs.Kinds.{tag};
-ghost use Rattle.sum_lines.specs.Scanned.{after_while, algo_at, bits_at, blake2b_at, digest_at, is_digit, kind_at, opened_of, past, tagged_of, width_at};
+ghost use Rattle.sum_lines.specs.Scanned.{after_while, algo_at, bits_at, blake2b_at, digest_at, is_digit, kind_at};
+ghost use Rattle.sum_lines.specs.Scanned.{opened_of, past, tagged_of, width_at};
 ghost use Rattle.sum_lines.specs.Found.{line_parts};
 
 use crate::scanning::{LineParts, past_text, skip_blanks, split_at_last, unmark, unspace};

@@ -1,5 +1,6 @@
 //! A sink that keeps its bytes in an array.
-ghost use Rattle.std.specs.Prelude.{◌≡◌, ◌≤◌, ◌+◌, ◌<◌, ℕ, List, [], length, take, min, Some, IfOk, OnOk, OnErr, IsErr, ◌↔◌};
+ghost use Rattle.std.specs.Prelude.{◌≡◌, ◌≤◌, ◌+◌, ◌<◌, ℕ, List, [], length, take, min, Some, IfOk, OnOk, OnErr, IsErr};
+ghost use Rattle.std.specs.Prelude.{◌↔◌};
 
 use crate::sink::{Sink, SinkFault};
 
