@@ -1,5 +1,5 @@
 -- Steps of a new checker, one after another.
-use Rattle.std.proofs.Common.{◌≡◌, ℕ, zero, suc, ◌+◌, ◌<◌, ◌≤◌, Bool, true, false, List, [], ◌∷◌, ◌++◌, length, take, drop, Option, None, Some, refl, ap, sym, ◌∙◌, append_assoc, arith, length-append, zero-add, subst}
+use Rattle.std.proofs.Common.{◌≡◌, ℕ, zero, suc, ◌+◌, Bool, List, [], ◌∷◌, ◌++◌, length, take, drop, refl, ap, sym, ◌∙◌, append_assoc, arith, length-append, zero-add, subst}
 use Rattle.std.specs.List.{flat_map}
 use Rattle.std.proofs.lemmas.List.{append-nil, take_at}
 use Rattle.std.proofs.lemmas.Grind.{flat_map-append}
@@ -14,7 +14,7 @@ use Rattle.sum_engine.specs.Worlds.{after}
 use Rattle.sum_engine.specs.Reports.{out_of, err_of, counts, counted, end_text, good}
 use Rattle.sum_engine.specs.Scenes.{Scene, Does, Cut}
 use Rattle.sum_engine.specs.Steps.{Now, Handles, Ends, next_judged, next_out, next_err, next_asks, rest_verdicts, start, past_lines}
-use Rattle.sum_engine.specs.Runs.{CutOff, HandledTimes, Joined, StepsJoin, StepsEnd, StepsCut}
+use Rattle.sum_engine.specs.Runs.{CutOff, HandledTimes, StepsJoin, StepsEnd, StepsCut}
 use Rattle.sum_engine.proofs.SceneLemmas.{does_nothing, does_both, cut_after}
 use Rattle.sum_engine.proofs.RestLemmas.{rest_head, rest_none, rest_on, past_next, past_ending}
 use Rattle.sum_engine.proofs.CountLemmas.{counts_more}
@@ -93,8 +93,8 @@ did_end r c s b z js x p h =
     let both = does_both s b.scene z.scene _ _ _ _ _ _ p.done h.done in
     let does : Does s z.scene (outs r js) (errs r js ++ end_text r c.ending (counts js)) (asks js) =
     subst (λ (t : List ℕ). Does s z.scene (outs r js) (errs r js ++ t) (asks js)) text
-      (subst (λ (t : List ℕ). Does s z.scene t (errs r js ++ end_text r b.rest.ending b.counts) (asks js)) (append-nil (outs r js))
-        (subst (λ (q : List (List ℕ)). Does s z.scene (outs r js ++ []) (errs r js ++ end_text r b.rest.ending b.counts) q) (append-nil (asks js)) both)) in
+    (subst (λ (t : List ℕ). Does s z.scene t (errs r js ++ end_text r b.rest.ending b.counts) (asks js)) (append-nil (outs r js))
+    (subst (λ (q : List (List ℕ)). Does s z.scene (outs r js ++ []) (errs r js ++ end_text r b.rest.ending b.counts) q) (append-nil (asks js)) both)) in
     rw all (h.answer ∙ ap (λ e. good r e b.counts) ending ∙ ap (good r c.ending) p.counts, does)
 
 -- what the next step writes and asks begins what is left to write and to ask

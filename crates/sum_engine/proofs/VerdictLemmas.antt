@@ -13,8 +13,8 @@ use Rattle.sum_engine.specs.declared.verdict.Judgement.{Judgement}
 use Rattle.sum_engine.specs.declared.verdict.Verdict.{Verdict}
 use Rattle.sum_engine.specs.declared.verdict.Verdict.TheVariants.{Bad, Right, Wrong, Missing, Unread}
 use Rattle.sum_engine.specs.Worlds.{World, is_dash, reply, read, after}
-use Rattle.sum_engine.specs.Grammar.{Said, Spells}
-use Rattle.sum_engine.specs.Verdicts.{Rules, Judged, judge, verdict_of, not_found, against, asks_by}
+use Rattle.sum_engine.specs.Grammar.{Spells}
+use Rattle.sum_engine.specs.Verdicts.{Rules, Judged, verdict_of, not_found, against, asks_by}
 use Rattle.sum_engine.specs.Asking.{AskGives, Comes}
 use Rattle.sum_engine.specs.Judging.{JudgeGives, compared}
 
@@ -60,8 +60,7 @@ judged_entry r None v kind s a j is dash h verdict name = tt
 judged_entry r (Some w) None kind s a j is dash h verdict name = absurd h
 judged_entry r (Some w) (Some v) kind s a j is dash h verdict name =
     let comes : Comes (kind_of s) (reply w s.name) a = rw is at h.1 in
-    let mk : ℕ → Verdict → List ℕ → Judged = λ n x y. record { number = n; verdict = x; name = y } in
-    (
+    let mk : ℕ → Verdict → List ℕ → Judged = λ n x y. record { number = n; verdict = x; name = y } in (
       λ n. ap (λ x. mk n x s.name) (verdict_is r w s a dash comes ∙ sym verdict) ∙ ap (mk n j.verdict) (sym name),
       h.0 ∙ ap (after w) (sym (ap (λ x. asks_by x j.name.now) verdict ∙ asks_compared r.settings.ignore_missing s.digest a j.name.now ∙ ap (λ n. n ∷ []) name)),
     )

@@ -60,11 +60,18 @@ impl Counts {
 pub(crate) fn is_good(listing: &Listing, counts: Counts) -> bool
     ensures { result ≡ good (rules_in listing.now) Whole counts }
 {
-    counts.right != 0 && counts.wrong == 0 && counts.unread == 0 && (!listing.settings.strict || counts.bad == 0)
+    counts.right != 0
+        && counts.wrong == 0
+        && counts.unread == 0
+        && (!listing.settings.strict || counts.bad == 0)
 }
 
 /// Writes the end of a manifest that was read whole.
-pub(crate) fn put_summary<E: Sink>(err: &mut E, listing: &Listing, counts: Counts) -> Result<(), SinkFault>
+pub(crate) fn put_summary<E: Sink>(
+    err: &mut E,
+    listing: &Listing,
+    counts: Counts,
+) -> Result<(), SinkFault>
     requires { total counts < 2 ^ 63 }
     ensures { Writes E.written E.failures err.old err.new (summary (rules_in listing.now) counts) result }
 {
@@ -81,9 +88,27 @@ fn put_warnings<E: Sink>(err: &mut E, listing: &Listing, counts: Counts) -> Resu
     ensures { Writes E.written E.failures err.old err.new (warnings (rules_in listing.now) counts) result }
 {
     let tool = listing.tool;
-    put_warning(err, tool, counts.bad, b" line is improperly formatted", b" lines are improperly formatted")?;
-    put_warning(err, tool, counts.unread, b" listed file could not be read", b" listed files could not be read")?;
-    put_warning(err, tool, counts.wrong, b" computed checksum did NOT match", b" computed checksums did NOT match")?;
+    put_warning(
+        err,
+        tool,
+        counts.bad,
+        b" line is improperly formatted",
+        b" lines are improperly formatted",
+    )?;
+    put_warning(
+        err,
+        tool,
+        counts.unread,
+        b" listed file could not be read",
+        b" listed files could not be read",
+    )?;
+    put_warning(
+        err,
+        tool,
+        counts.wrong,
+        b" computed checksum did NOT match",
+        b" computed checksums did NOT match",
+    )?;
     put_unverified(err, listing, counts)
 }
 
@@ -122,7 +147,11 @@ fn put_unverified<E: Sink>(err: &mut E, listing: &Listing, counts: Counts) -> Re
 }
 
 // Writes `TOOL: LIST: TEXT`.
-fn put_list_line<E: Sink>(err: &mut E, listing: &Listing, text: &'static [u8]) -> Result<(), SinkFault>
+fn put_list_line<E: Sink>(
+    err: &mut E,
+    listing: &Listing,
+    text: &'static [u8],
+) -> Result<(), SinkFault>
     ensures { Writes E.written E.failures err.old err.new (list_line (rules_in listing.now) text.now) result }
 {
     put_parts(

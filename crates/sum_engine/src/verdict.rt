@@ -76,7 +76,12 @@ pub(crate) fn judge<'a, I: Input + Drop, S: Source>(
             verdict: Verdict::Bad,
             name: b"",
         }),
-        Reading::Entry { kind, digest, start, stop } => {
+        Reading::Entry {
+            kind,
+            digest,
+            start,
+            stop,
+        } => {
             let name = &line[*start..*stop];
             if listing.from_stdin && name == DASH {
                 return Some(Judgement {

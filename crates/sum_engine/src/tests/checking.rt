@@ -29,7 +29,11 @@ pub(crate) const ALL: &[u8] = b"900150983cd24fb0d6963f7d28e17f72  a\n\
     900150983cd24fb0d6963f7d28e17f72  e\n";
 
 /// The files `a`, which holds `abc`, and the empty `e`; and a manifest `l`.
-pub(crate) fn files<'a>(alloc: Global, manifest: &'a [u8], ending: Ending) -> Result<ToldSource<'a>, NoRoom> {
+pub(crate) fn files<'a>(
+    alloc: Global,
+    manifest: &'a [u8],
+    ending: Ending,
+) -> Result<ToldSource<'a>, NoRoom> {
     let mut source = ToldSource::new(alloc, 8192);
     source.add(b"a", Answer::Content(b"abc", Ending::Whole))?;
     source.add(b"e", Answer::Content(b"", Ending::Whole))?;
@@ -49,7 +53,16 @@ fn checks(
     let mut stdin = Stdin::new(Told::new(input, Ending::Whole, 1));
     let mut out = ToldSink::<1000>::new(1000);
     let mut err = ToldSink::<1000>::new(1000);
-    let good = check_one(rt.alloc(), settings, "md5sum", name, &mut stdin, source, &mut out, &mut err);
+    let good = check_one(
+        rt.alloc(),
+        settings,
+        "md5sum",
+        name,
+        &mut stdin,
+        source,
+        &mut out,
+        &mut err,
+    );
     assert!(rt; good == Ok(want.0));
     assert_eq!(rt; out.bytes(), want.1.as_bytes());
     assert_eq!(rt; err.bytes(), want.2.as_bytes());
@@ -71,7 +84,14 @@ fn all_verdicts(rt: HostRuntime) -> Result<(), Fail> {
     let mut settings = CHECK;
     settings.report = Report::Quiet;
     let out = "x: FAILED open or read\ne: FAILED\n";
-    checks(&rt, settings, b"l", b"", &mut source, (false, out, warnings));
+    checks(
+        &rt,
+        settings,
+        b"l",
+        b"",
+        &mut source,
+        (false, out, warnings),
+    );
     settings.report = Report::Status;
     let err = "md5sum: x: No such file or directory\n";
     checks(&rt, settings, b"l", b"", &mut source, (false, "", err));
@@ -84,12 +104,26 @@ fn ignore_missing(rt: HostRuntime) -> Result<(), Fail> {
     let err = "md5sum: l: 3: improperly formatted MD5 checksum line\n\
         md5sum: WARNING: 1 line is improperly formatted\n\
         md5sum: WARNING: 1 computed checksum did NOT match\n";
-    checks(&rt, IGNORE_MISSING, b"l", b"", &mut source, (false, "a: OK\ne: FAILED\n", err));
+    checks(
+        &rt,
+        IGNORE_MISSING,
+        b"l",
+        b"",
+        &mut source,
+        (false, "a: OK\ne: FAILED\n", err),
+    );
     let l2 = b"900150983cd24fb0d6963f7d28e17f72  x\n";
     let mut source = files(rt.alloc(), l2, Ending::Whole)?;
     let mut settings = CHECK;
     settings.ignore_missing = true;
-    checks(&rt, settings, b"l", b"", &mut source, (false, "", "md5sum: l: no file was verified\n"));
+    checks(
+        &rt,
+        settings,
+        b"l",
+        b"",
+        &mut source,
+        (false, "", "md5sum: l: no file was verified\n"),
+    );
     Ok(())
 }
 
@@ -97,8 +131,22 @@ fn ignore_missing(rt: HostRuntime) -> Result<(), Fail> {
 fn manifest_fails(rt: HostRuntime) -> Result<(), Fail> {
     let l4 = b"900150983cd24fb0d6963f7d28e17f72  a\n900150983cd24fb0d6963f7d28e17f72  a";
     let mut source = files(rt.alloc(), l4, Ending::Broken(Fault::Other))?;
-    checks(&rt, CHECK, b"l", b"", &mut source, (false, "a: OK\n", "md5sum: l: Input/output error\n"));
-    checks(&rt, CHECK, b"x", b"", &mut source, (false, "", "md5sum: x: No such file or directory\n"));
+    checks(
+        &rt,
+        CHECK,
+        b"l",
+        b"",
+        &mut source,
+        (false, "a: OK\n", "md5sum: l: Input/output error\n"),
+    );
+    checks(
+        &rt,
+        CHECK,
+        b"x",
+        b"",
+        &mut source,
+        (false, "", "md5sum: x: No such file or directory\n"),
+    );
     Ok(())
 }
 

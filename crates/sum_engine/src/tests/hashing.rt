@@ -26,7 +26,16 @@ fn files(rt: HostRuntime) -> Result<(), Fail> {
     let kind = Kind::of(Algo::Md5);
     for (style, name) in [(TEXT, "a"), (TEXT, "e"), (BINARY, "a")] {
         let settings = Settings { kind, style };
-        assert!(rt; generate_one(&settings, "md5sum", name.as_bytes(), &mut stdin, &mut source, &mut out, &mut err) == Ok(true));
+        let answer = generate_one(
+            &settings,
+            "md5sum",
+            name.as_bytes(),
+            &mut stdin,
+            &mut source,
+            &mut out,
+            &mut err,
+        );
+        assert!(rt; answer == Ok(true));
     }
     let lines = "900150983cd24fb0d6963f7d28e17f72  a\n\
         d41d8cd98f00b204e9800998ecf8427e  e\n\
@@ -40,7 +49,10 @@ fn files(rt: HostRuntime) -> Result<(), Fail> {
 fn faults(rt: HostRuntime) -> Result<(), Fail> {
     let content = vec![in rt.alloc(); b'x'; 9000]?;
     let mut source = ToldSource::new(rt.alloc(), 8192);
-    source.add(b"f", Answer::Content(&content, Ending::Broken(Fault::Other)))?;
+    source.add(
+        b"f",
+        Answer::Content(&content, Ending::Broken(Fault::Other)),
+    )?;
     let mut stdin = Stdin::new(Told::new(b"abc", Ending::Broken(Fault::Other), 1));
     let mut out = ToldSink::<200>::new(200);
     let mut err = ToldSink::<200>::new(200);
@@ -49,7 +61,16 @@ fn faults(rt: HostRuntime) -> Result<(), Fail> {
         style: TEXT,
     };
     for name in ["f", "x", "", "-"] {
-        assert!(rt; generate_one(&settings, "md5sum", name.as_bytes(), &mut stdin, &mut source, &mut out, &mut err) == Ok(false));
+        let answer = generate_one(
+            &settings,
+            "md5sum",
+            name.as_bytes(),
+            &mut stdin,
+            &mut source,
+            &mut out,
+            &mut err,
+        );
+        assert!(rt; answer == Ok(false));
     }
     let lines = "md5sum: f: Input/output error\n\
         md5sum: x: No such file or directory\n\
@@ -71,7 +92,16 @@ fn stdin_twice(rt: HostRuntime) -> Result<(), Fail> {
         style: TEXT,
     };
     for _ in 0..2 {
-        assert!(rt; generate_one(&settings, "md5sum", b"-", &mut stdin, &mut source, &mut out, &mut err) == Ok(true));
+        let answer = generate_one(
+            &settings,
+            "md5sum",
+            b"-",
+            &mut stdin,
+            &mut source,
+            &mut out,
+            &mut err,
+        );
+        assert!(rt; answer == Ok(true));
     }
     let lines = "900150983cd24fb0d6963f7d28e17f72  -\nd41d8cd98f00b204e9800998ecf8427e  -\n";
     assert_eq!(rt; out.bytes(), lines.as_bytes());
@@ -90,7 +120,16 @@ fn output_stops(rt: HostRuntime) -> Result<(), Fail> {
         kind: Kind::of(Algo::Md5),
         style: TEXT,
     };
-    assert!(rt; generate_one(&settings, "md5sum", b"a", &mut stdin, &mut source, &mut out, &mut err) == Err(Stop::Write));
+    let answer = generate_one(
+        &settings,
+        "md5sum",
+        b"a",
+        &mut stdin,
+        &mut source,
+        &mut out,
+        &mut err,
+    );
+    assert!(rt; answer == Err(Stop::Write));
     assert_eq!(rt; out.bytes(), "900150983c".as_bytes());
     Ok(())
 }
@@ -128,6 +167,15 @@ fn memory_refused(rt: HostRuntime) {
         kind: Kind::of(Algo::Md5),
         style: TEXT,
     };
-    assert!(rt; generate_one(&settings, "md5sum", b"a", &mut stdin, &mut source, &mut out, &mut err) == Err(Stop::Memory));
+    let answer = generate_one(
+        &settings,
+        "md5sum",
+        b"a",
+        &mut stdin,
+        &mut source,
+        &mut out,
+        &mut err,
+    );
+    assert!(rt; answer == Err(Stop::Memory));
     assert!(rt; out.bytes().is_empty() && err.bytes().is_empty());
 }

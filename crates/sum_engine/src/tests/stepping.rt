@@ -23,7 +23,8 @@ fn step_by_step(rt: HostRuntime) -> Result<(), Fail> {
         "a: OK\nx: FAILED open or read\ne: FAILED\n",
     ];
     for text in after {
-        assert!(rt; checker.step(&mut line, &mut stdin, &mut source, &mut out, &mut err) == Ok(Progress::Going));
+        let answer = checker.step(&mut line, &mut stdin, &mut source, &mut out, &mut err);
+        assert!(rt; answer == Ok(Progress::Going));
         assert_eq!(rt; out.bytes(), text.as_bytes());
     }
     let texts = "md5sum: x: No such file or directory\n\
@@ -31,7 +32,8 @@ fn step_by_step(rt: HostRuntime) -> Result<(), Fail> {
         md5sum: WARNING: 1 listed file could not be read\n\
         md5sum: WARNING: 1 computed checksum did NOT match\n";
     for _ in 0..2 {
-        assert!(rt; checker.step(&mut line, &mut stdin, &mut source, &mut out, &mut err) == Ok(Progress::Ended(false)));
+        let answer = checker.step(&mut line, &mut stdin, &mut source, &mut out, &mut err);
+        assert!(rt; answer == Ok(Progress::Ended(false)));
         assert_eq!(rt; err.bytes(), texts.as_bytes());
     }
     assert!(rt; checker.taken() == 116);
@@ -55,7 +57,8 @@ fn reads_no_further(rt: HostRuntime) -> Result<(), Fail> {
     let mut checker = Checker::new(CHECK, "md5sum", b"l", false, input);
     let mut line = Vec::new(rt.alloc());
     for number in 1..=3 {
-        assert!(rt; checker.step(&mut line, &mut stdin, &mut source, &mut out, &mut err) == Ok(Progress::Going));
+        let answer = checker.step(&mut line, &mut stdin, &mut source, &mut out, &mut err);
+        assert!(rt; answer == Ok(Progress::Going));
         assert!(rt; line.len() <= 6000, "line {number}");
         assert!(rt; number > 1 || checker.taken() <= 14193);
     }
@@ -68,20 +71,29 @@ fn stops_for_good(rt: HostRuntime) {
     let mut stdin = Stdin::new(Told::new(b"", Ending::Whole, 1));
     let mut out = ToldSink::<100>::new(100);
     let mut err = ToldSink::<100>::new(100);
-    let mut checker = Checker::new(CHECK, "md5sum", b"l", false, Told::new(ALL, Ending::Whole, 7));
+    let mut checker = Checker::new(
+        CHECK,
+        "md5sum",
+        b"l",
+        false,
+        Told::new(ALL, Ending::Whole, 7),
+    );
     let mut line = Vec::new(rt.alloc());
     for _ in 0..3 {
-        assert!(rt; checker.step(&mut line, &mut stdin, &mut source, &mut out, &mut err) == Err(Stop::Memory));
+        let answer = checker.step(&mut line, &mut stdin, &mut source, &mut out, &mut err);
+        assert!(rt; answer == Err(Stop::Memory));
         assert!(rt; out.bytes().is_empty() && err.bytes().is_empty());
     }
 }
 
-// The second line is longer than what was grown for the first. Where the growth for it is refused, the report of the first
-// line stands, and each later step answers the same and writes nothing.
+// The second line is longer than what was grown for the first. Where the growth for it is refused, the report of the
+// first line stands, and each later step answers the same and writes nothing.
 #[test]
 fn memory_refused(rt: HostRuntime) -> Result<(), Fail> {
     let mut manifest = Vec::new(rt.alloc());
-    manifest.extend_from_slice(b"900150983cd24fb0d6963f7d28e17f72  a\n900150983cd24fb0d6963f7d28e17f72  ")?;
+    manifest.extend_from_slice(
+        b"900150983cd24fb0d6963f7d28e17f72  a\n900150983cd24fb0d6963f7d28e17f72  ",
+    )?;
     for _ in 0..5000 {
         manifest.push(b'x')?;
     }
@@ -89,7 +101,13 @@ fn memory_refused(rt: HostRuntime) -> Result<(), Fail> {
     let mut stdin = Stdin::new(Told::new(b"", Ending::Whole, 1));
     let mut out = ToldSink::<6000>::new(6000);
     let mut err = ToldSink::<6000>::new(6000);
-    let mut checker = Checker::new(CHECK, "md5sum", b"l", false, Told::new(&manifest, Ending::Whole, 8192));
+    let mut checker = Checker::new(
+        CHECK,
+        "md5sum",
+        b"l",
+        false,
+        Told::new(&manifest, Ending::Whole, 8192),
+    );
     let mut line = Vec::new(rt.alloc());
     let mut lines: u64 = 0;
     for _ in 0..4 {
@@ -117,7 +135,16 @@ fn each_byte_the_last(rt: HostRuntime) -> Result<(), Fail> {
         let mut stdin = Stdin::new(Told::new(b"", Ending::Whole, 1));
         let mut out = ToldSink::<1000>::new(stop);
         let mut err = ToldSink::<1000>::new(1000);
-        let good = check_one(rt.alloc(), CHECK, "md5sum", b"l", &mut stdin, &mut source, &mut out, &mut err);
+        let good = check_one(
+            rt.alloc(),
+            CHECK,
+            "md5sum",
+            b"l",
+            &mut stdin,
+            &mut source,
+            &mut out,
+            &mut err,
+        );
         assert!(rt; good == Err(Stop::Write));
         assert_eq!(rt; out.bytes(), text.get(..stop).ok_or("short")?);
     }
