@@ -1,8 +1,11 @@
 -- Lemmas on the compression function's definitions.
-use Rattle.std.proofs.Common.{◌≡◌, ℕ, zero, suc, ◌+◌, ◌*◌, ◌/◌, ◌%◌, ◌^◌, ◌<◌, ◌≤◌, Bool, true, false, ◌&&◌, List, [], ◌∷◌, ◌++◌, length, take, drop, map, get_or, nat_lt, if◌then◌else◌, refl, sym, ap, ◌∙◌, arith, lit<, lit≤}
+use Rattle.std.proofs.Common.{◌≡◌, ℕ, zero, suc, ◌+◌, ◌*◌, ◌/◌, ◌%◌, ◌^◌, ◌<◌, ◌≤◌, Bool, true, false, ◌&&◌, List, []}
+use Rattle.std.proofs.Common.{◌∷◌, length, take, drop, map, get_or, nat_lt, if◌then◌else◌, refl, sym, ap, ◌∙◌, arith}
+use Rattle.std.proofs.Common.{lit<}
 use Rattle.std.proofs.Math.Nat.{mod-eq_of_lt}
 use Rattle.std.proofs.lemmas.Bool.{ltb-true}
-use Rattle.std.proofs.lemmas.List.{take-append-drop, length-take-le, length-drop, drop-drop, length-map, get_or-map, ext_get_or}
+use Rattle.std.proofs.lemmas.List.{take-append-drop, length-take-le, length-drop, drop-drop, length-map, get_or-map}
+use Rattle.std.proofs.lemmas.List.{ext_get_or}
 use Rattle.std.specs.Int.{w64, bit_not}
 use Rattle.std.specs.List.{list_all}
 use Rattle.std.specs.Simd.{first_chunks}
@@ -23,7 +26,8 @@ row_below [] h k = lit< tt
 row_below (x ∷ row) h zero = ltb-true x 16 (and_left (nat_lt x 16) _ h)
 row_below (x ∷ row) h (suc k) = row_below row (and_right (nat_lt x 16) _ h) k
 
-rows_below : (rows : List (List ℕ)) → list_all (list_all (λ x. nat_lt x 16)) rows ≡ true → (r k : ℕ) → get_or (get_or rows r []) k 0 < 16
+rows_below : (rows : List (List ℕ)) → list_all (list_all (λ x. nat_lt x 16)) rows ≡ true → (r k : ℕ)
+    → get_or (get_or rows r []) k 0 < 16
 rows_below [] h r k = lit< tt
 rows_below (row ∷ rows) h zero k = row_below row (and_left (list_all (λ x. nat_lt x 16) row) _ h) k
 rows_below (row ∷ rows) h (suc r) k = rows_below rows (and_right (list_all (λ x. nat_lt x 16) row) _ h) r k
@@ -45,7 +49,8 @@ pub length-first_chunks : {X : Type 0} (n k : ℕ) (xs : List X) → length (fir
 length-first_chunks n zero xs = refl
 length-first_chunks n (suc k) xs = ap suc (length-first_chunks n k (drop n xs))
 
-pub get_or-first_chunks : {X : Type 0} (n k : ℕ) (xs : List X) (i : ℕ) (d : List X) → i < k → get_or (first_chunks n k xs) i d ≡ take n (drop (n * i) xs)
+pub get_or-first_chunks : {X : Type 0} (n k : ℕ) (xs : List X) (i : ℕ) (d : List X) → i < k
+    → get_or (first_chunks n k xs) i d ≡ take n (drop (n * i) xs)
 get_or-first_chunks n zero xs i d h = absurd (omega arith)
 get_or-first_chunks n (suc k) xs zero d h = let e : n * 0 ≡ 0 = omega arith in rw e refl
 get_or-first_chunks n (suc k) xs (suc i) d h =
@@ -63,10 +68,11 @@ pub block_words-is : (m block : List ℕ) → length m ≡ 16 → length block �
     → ((k : ℕ) → k < length m → m ! k ≡ little_number 8 (drop (8 * k) block)) → m ≡ block_words block
 unfolding block_words
 block_words-is m block sixteen size read =
-    let count : length (map (little_number 8) (first_chunks 8 16 block)) ≡ 16 = length-map (first_chunks 8 16 block) (little_number 8) in
+    let count : length (map (little_number 8) (first_chunks 8 16 block)) ≡ 16 =
+    length-map (first_chunks 8 16 block) (little_number 8) in
     ext_get_or 0 m _ (sixteen ∙ sym count) (λ i below.
-      let i_below : i < 16 = omega arith in
-      let chunk = get_or-first_chunks 8 16 block i [] i_below in
-      let word = get_or-map (little_number 8) (first_chunks 8 16 block) i [] 0 i_below in
-      let long : 8 ≤ length (drop (8 * i) block) = omega (arith, length-drop (8 * i) block) in
-      read i below ∙ sym (word ∙ ap (little_number 8) chunk ∙ little_number-take (drop (8 * i) block) long))
+    let i_below : i < 16 = omega arith in
+    let chunk = get_or-first_chunks 8 16 block i [] i_below in
+    let word = get_or-map (little_number 8) (first_chunks 8 16 block) i [] 0 i_below in
+    let long : 8 ≤ length (drop (8 * i) block) = omega (arith, length-drop (8 * i) block) in
+    read i below ∙ sym (word ∙ ap (little_number 8) chunk ∙ little_number-take (drop (8 * i) block) long))

@@ -1,6 +1,8 @@
 -- Lemmas on the blocks of a message, on the hash after some of them, and on the digest.
-use Rattle.std.proofs.Common.{◌≡◌, ℕ, zero, suc, ◌+◌, ◌-◌, ◌*◌, ◌/◌, ◌<◌, ◌≤◌, max, true, false, List, [], ◌∷◌, ◌++◌, length, take, drop, replicate, slice_index_or, refl, sym, ap, ◌∙◌, arith}
-use Rattle.std.proofs.lemmas.List.{take-append-le, drop-append-le, take_all, length-drop, length-append, length-replicate, drop-drop, drop-take, take-take}
+use Rattle.std.proofs.Common.{◌≡◌, ℕ, zero, suc, ◌+◌, ◌-◌, ◌*◌, ◌<◌, ◌≤◌, true, false, List, [], ◌++◌, length, take}
+use Rattle.std.proofs.Common.{drop, replicate, slice_index_or, refl, sym, ap, ◌∙◌, arith}
+use Rattle.std.proofs.lemmas.List.{take-append-le, drop-append-le, take_all, length-drop, length-append}
+use Rattle.std.proofs.lemmas.List.{length-replicate, drop-drop, drop-take, take-take}
 use Rattle.std.specs.List.{flat_map}
 use Rattle.std.specs.Simd.{first_chunks}
 use Rattle.byteorder.specs.Endian.{little_bytes}
@@ -10,7 +12,8 @@ use Rattle.blake2b_core.specs.Holding.{AreBlocksFrom}
 use Rattle.blake2b_core.proofs.CompressionLemmas.{length-first_chunks, get_or-first_chunks}
 
 -- a block that the message fills
-pub whole_block : (m : List ℕ) (i : ℕ) → 128 * (i + 1) ≤ length m → slice_index_or (blocks m) i [] ≡ take 128 (drop (128 * i) m)
+pub whole_block : (m : List ℕ) (i : ℕ) → 128 * (i + 1) ≤ length m
+    → slice_index_or (blocks m) i [] ≡ take 128 (drop (128 * i) m)
 unfolding blocks
 whole_block m i fits =
     let zeros : List ℕ = replicate (128 * block_count (length m) - length m) 0 in
@@ -21,12 +24,14 @@ whole_block m i fits =
     ∙ ap (take 128) (drop-append-le (128 * i) m zeros within) ∙ take-append-le 128 (drop (128 * i) m) zeros long
 
 -- the blocks of a message from one of them on
-pub are_blocks : (m : List ℕ) (k count : ℕ) → 128 * (k + count) ≤ length m → AreBlocksFrom m k (first_chunks 128 count (drop (128 * k) m))
+pub are_blocks : (m : List ℕ) (k count : ℕ) → 128 * (k + count) ≤ length m
+    → AreBlocksFrom m k (first_chunks 128 count (drop (128 * k) m))
 are_blocks m k count fits i below =
     let place : i < count = omega (arith, length-first_chunks 128 count (drop (128 * k) m)) in
     let at : 128 * k + 128 * i ≡ 128 * (k + i) = omega arith in
     get_or-first_chunks 128 count (drop (128 * k) m) i [] place
-    ∙ ap (take 128) (drop-drop (128 * i) (128 * k) m ∙ ap (λ j. drop j m) at) ∙ sym (whole_block m (k + i) (omega arith))
+    ∙ ap (take 128) (drop-drop (128 * i) (128 * k) m ∙ ap (λ j. drop j m) at)
+    ∙ sym (whole_block m (k + i) (omega arith))
 
 -- whole chunks don't change when what follows them is cut off
 pub first_chunks-take : (n k : ℕ) (xs : List ℕ) (j : ℕ) → n * k ≤ j → first_chunks n k (take j xs) ≡ first_chunks n k xs
@@ -36,7 +41,8 @@ first_chunks-take n (suc k) xs j fits =
     let here : n ≤ j = omega arith in
     let split : n + (j - n) ≡ j = omega arith in
     let front : take n (take j xs) ≡ take n xs = take-take n j xs here in
-    let back : drop n (take j xs) ≡ take (j - n) (drop n xs) = ap (λ i. drop n (take i xs)) (sym split) ∙ drop-take n (j - n) xs in
+    let back : drop n (take j xs) ≡ take (j - n) (drop n xs) = ap (λ i. drop n (take i xs)) (sym split)
+    ∙ drop-take n (j - n) xs in
     rw (front, back, first_chunks-take n k (drop n xs) (j - n) (omega arith)) refl
 
 -- the last block of a message is the one that begins at byte 128 * k
@@ -49,7 +55,8 @@ block_count-last : (m : List ℕ) (k : ℕ) → IsLast m k → block_count (leng
 block_count-last m zero l = let e = l.ends in omega arith
 block_count-last m (suc k) l = let s = l.some (omega arith) in let e = l.ends in omega arith
 
-last_block : (m : List ℕ) (k : ℕ) → IsLast m k → slice_index_or (blocks m) k [] ≡ drop (128 * k) m ++ replicate (128 - length (drop (128 * k) m)) 0
+last_block : (m : List ℕ) (k : ℕ) → IsLast m k
+    → slice_index_or (blocks m) k [] ≡ drop (128 * k) m ++ replicate (128 - length (drop (128 * k) m)) 0
 unfolding blocks
 last_block m k l =
     let starts : 128 * k ≤ length m = l.starts in
@@ -61,16 +68,19 @@ last_block m k l =
     let size : length (drop (128 * k) m ++ replicate fill 0) ≡ 128 =
     omega (arith, length-append (drop (128 * k) m) (replicate fill 0), length-replicate {A = ℕ} fill 0) in
     get_or-first_chunks 128 (block_count (length m)) (padded m) k [] (omega arith)
-    ∙ ap (take 128) (drop-append-le (128 * k) m (replicate fill 0) starts) ∙ take_all 128 (drop (128 * k) m ++ replicate fill 0) (omega arith)
+    ∙ ap (take 128) (drop-append-le (128 * k) m (replicate fill 0) starts)
+    ∙ take_all 128 (drop (128 * k) m ++ replicate fill 0) (omega arith)
     ∙ ap (λ z. drop (128 * k) m ++ replicate z 0) pad
 
 -- one more block
-pub hash_after-more : (n : ℕ) (d : List (List ℕ)) (k : ℕ) → hash_after n d (k + 1) ≡ compress (hash_after n d k) (slice_index_or d k []) (128 * (k + 1)) false
+pub hash_after-more : (n : ℕ) (d : List (List ℕ)) (k : ℕ)
+    → hash_after n d (k + 1) ≡ compress (hash_after n d k) (slice_index_or d k []) (128 * (k + 1)) false
 unfolding hash_after
 hash_after-more n d k = let next : k + 1 ≡ suc k = omega arith in ap (hash_after n d) next
 
 -- what follows the first blocks doesn't change the hash after them
-pub hash_after-append : (n : ℕ) (m x : List ℕ) (k : ℕ) → 128 * k ≤ length m → hash_after n (blocks (m ++ x)) k ≡ hash_after n (blocks m) k
+pub hash_after-append : (n : ℕ) (m x : List ℕ) (k : ℕ) → 128 * k ≤ length m
+    → hash_after n (blocks (m ++ x)) k ≡ hash_after n (blocks m) k
 unfolding hash_after
 hash_after-append n m x zero fits = refl
 hash_after-append n m x (suc k) fits =
@@ -79,27 +89,35 @@ hash_after-append n m x (suc k) fits =
     let here : 128 * (k + 1) ≤ length m = omega arith in
     let long : 128 ≤ length (drop (128 * k) m) = omega (arith, length-drop (128 * k) m) in
     let block : slice_index_or (blocks (m ++ x)) k [] ≡ slice_index_or (blocks m) k [] =
-    whole_block (m ++ x) k longer ∙ ap (take 128) (drop-append-le (128 * k) m x (omega arith)) ∙ take-append-le 128 (drop (128 * k) m) x long ∙ sym (whole_block m k here) in
+    whole_block (m ++ x) k longer ∙ ap (take 128) (drop-append-le (128 * k) m x (omega arith))
+    ∙ take-append-le 128 (drop (128 * k) m) x long ∙ sym (whole_block m k here) in
     rw (before, block) refl
 
 -- a full block that bytes follow
-pub hash_after-full : (n : ℕ) (h held m : List ℕ) (k used t : ℕ) → length held ≡ 128 → used ≡ 128 → t ≡ length m → 128 * k + used ≡ length m
-    → h ≡ hash_after n (blocks m) k → take used held ≡ drop (128 * k) m → compress h held t false ≡ hash_after n (blocks m) (k + 1)
+pub hash_after-full : (n : ℕ) (h held m : List ℕ) (k used t : ℕ) → length held ≡ 128 → used ≡ 128 → t ≡ length m
+    → 128 * k + used ≡ length m
+    → h ≡ hash_after n (blocks m) k → take used held ≡ drop (128 * k) m
+    → compress h held t false ≡ hash_after n (blocks m) (k + 1)
 hash_after-full n h held m k used t size full counted here hash rest =
     let block : slice_index_or (blocks m) k [] ≡ held =
-    whole_block m k (omega arith) ∙ take_all 128 (drop (128 * k) m) (omega (arith, length-drop (128 * k) m)) ∙ sym rest ∙ take_all used held (omega arith) in
+    whole_block m k (omega arith) ∙ take_all 128 (drop (128 * k) m) (omega (arith, length-drop (128 * k) m))
+    ∙ sym rest ∙ take_all used held (omega arith) in
     let total : t ≡ 128 * (k + 1) = omega arith in
     rw (hash_after-more n (blocks m) k, block, hash, total) refl
 
 blake2b-last : (n : ℕ) (m : List ℕ) (k : ℕ) → IsLast m k →
-    blake2b n m ≡ take n (flat_map (little_bytes 8) (compress (hash_after n (blocks m) k) (drop (128 * k) m ++ replicate (128 - length (drop (128 * k) m)) 0) (length m) true))
+    blake2b n m ≡ take n
+    (flat_map (little_bytes 8)
+    (compress (hash_after n (blocks m) k)
+    (drop (128 * k) m ++ replicate (128 - length (drop (128 * k) m)) 0) (length m) true))
 unfolding blake2b
 blake2b-last n m k l =
     let number : block_count (length m) - 1 ≡ k = omega (arith, block_count-last m k l) in
     rw (number, last_block m k l) refl
 
 -- the digest, from the hash before the last block and that block's bytes
-pub blake2b-from : (n : ℕ) (m : List ℕ) (k : ℕ) (h last bytes : List ℕ) (t : ℕ) → IsLast m k → h ≡ hash_after n (blocks m) k
+pub blake2b-from : (n : ℕ) (m : List ℕ) (k : ℕ) (h last bytes : List ℕ) (t : ℕ) → IsLast m k
+    → h ≡ hash_after n (blocks m) k
     → last ≡ bytes ++ replicate (128 - length bytes) 0 → bytes ≡ drop (128 * k) m → t ≡ length m
     → take n (flat_map (little_bytes 8) (compress h last t true)) ≡ blake2b n m
 blake2b-from n m k h last bytes t l hash filled rest total = rw (hash, filled, rest, total) (sym (blake2b-last n m k l))

@@ -1,6 +1,7 @@
 -- The compression function F of BLAKE2b (RFC 7693, 2.6, 2.7, 3.1 and 3.2). A word is a number below
 -- 2 ^ 64, a block is a list of 128 bytes.
-use Rattle.std.specs.Prelude.{ℕ, ◌+◌, ◌*◌, ◌/◌, ◌%◌, ◌^◌, Bool, List, [], ◌∷◌, ◌++◌, map, fold, bit_xor, slice_index, slice_index_or, slice_set, if◌then◌else◌}
+use Rattle.std.specs.Prelude.{ℕ, ◌+◌, ◌/◌, ◌%◌, ◌^◌, Bool, List, [], ◌∷◌, ◌++◌, map, fold, bit_xor, slice_index}
+use Rattle.std.specs.Prelude.{slice_index_or, slice_set, if◌then◌else◌}
 use Rattle.std.specs.List.{range_with_len}
 use Rattle.std.specs.Int.{w64, bit_not, rotate_right}
 use Rattle.std.specs.Simd.{first_chunks}
@@ -50,13 +51,13 @@ x ⋙ k = rotate_right w64 x k
 unfoldable pub mix : List ℕ → ℕ → ℕ → ℕ → ℕ → ℕ → ℕ → List ℕ
 mix v a b c d x y =
     let v = slice_set v a (v ! a ⊞ v ! b ⊞ x) in
-    let v = slice_set v d (v ! d ⊻ v ! a ⋙ 32) in
+    let v = slice_set v d ((v ! d ⊻ v ! a) ⋙ 32) in
     let v = slice_set v c (v ! c ⊞ v ! d) in
-    let v = slice_set v b (v ! b ⊻ v ! c ⋙ 24) in
+    let v = slice_set v b ((v ! b ⊻ v ! c) ⋙ 24) in
     let v = slice_set v a (v ! a ⊞ v ! b ⊞ y) in
-    let v = slice_set v d (v ! d ⊻ v ! a ⋙ 16) in
+    let v = slice_set v d ((v ! d ⊻ v ! a) ⋙ 16) in
     let v = slice_set v c (v ! c ⊞ v ! d) in
-    slice_set v b (v ! b ⊻ v ! c ⋙ 63)
+    slice_set v b ((v ! b ⊻ v ! c) ⋙ 63)
 
 -- the word of the block m that round r takes at place i of its row of SIGMA
 unfoldable pub scheduled : List ℕ → ℕ → ℕ → ℕ
@@ -82,8 +83,8 @@ block_words block = map (little_number 8) (first_chunks 8 16 block)
 unfoldable pub start : List ℕ → ℕ → Bool → List ℕ
 start h t last =
     let v = h ++ iv in
-    let v = slice_set v 12 (v ! 12 ⊻ t % 2 ^ 64) in
-    let v = slice_set v 13 (v ! 13 ⊻ t / 2 ^ 64) in
+    let v = slice_set v 12 (v ! 12 ⊻ (t % 2 ^ 64)) in
+    let v = slice_set v 13 (v ! 13 ⊻ (t / 2 ^ 64)) in
     if last then slice_set v 14 (bit_not w64 (v ! 14)) else v
 
 -- the compression function F (3.2)

@@ -1,5 +1,6 @@
 -- The BLAKE2b digest of a message, without a key (RFC 7693, 3.3).
-use Rattle.std.specs.Prelude.{ℕ, zero, suc, ◌+◌, ◌-◌, ◌*◌, ◌/◌, max, true, false, List, [], ◌++◌, length, take, replicate, slice_index_or, slice_set}
+use Rattle.std.specs.Prelude.{ℕ, zero, suc, ◌+◌, ◌-◌, ◌*◌, ◌/◌, max, true, false, List, [], ◌++◌, length, take}
+use Rattle.std.specs.Prelude.{replicate, slice_index_or, slice_set}
 use Rattle.std.specs.List.{flat_map}
 use Rattle.std.specs.Simd.{first_chunks}
 use Rattle.byteorder.specs.Endian.{little_bytes}

@@ -1,7 +1,8 @@
 //! The compression function F of RFC 7693, sections 3.1 and 3.2, with the constants of 2.6 and 2.7.
 ghost use Rattle.std.specs.Prelude.{◌≡◌, ◌<◌};
-ghost use Rattle.blake2b_core.specs.Compression.{block_words, compress, mix, round, scheduled, start};
+ghost use Rattle.blake2b_core.specs.Compression.{block_words, compress, round, scheduled, start};
 
+use crate::columns::{mixed_columns, mixed_diagonals};
 use byteorder::{ByteOrder, LittleEndian};
 
 pub(crate) const IV: [u64; 8] = [
@@ -32,7 +33,6 @@ const SIGMA: [[usize; 16]; 10] = [
 // The word of the block that round `r` takes at place `i` of its row of SIGMA. Where `r` and `i` are
 // literals the compiler looks it up.
 #[inline(always)]
-#[tactic(auto, unfolding(crate::specs::Compression::scheduled))]
 fn scheduled(m: &[u64; 16], r: usize, i: usize) -> u64
     requires round { r < 12 }
     requires place { i < 16 }
@@ -41,41 +41,42 @@ fn scheduled(m: &[u64; 16], r: usize, i: usize) -> u64
     m[SIGMA[r % 10][i] % 16]
 }
 
-// The mixing function G.
-#[inline(always)]
-#[tactic(auto, unfolding(crate::specs::Compression::mix))]
-fn mix(v: &mut [u64; 16], a: usize, b: usize, c: usize, d: usize, x: u64, y: u64)
-    requires a { a < 16 }
-    requires b { b < 16 }
-    requires c { c < 16 }
-    requires d { d < 16 }
-    ensures { v.new ≡ mix v.old a b c d x y }
-{
-    v[a] = v[a].wrapping_add(v[b]).wrapping_add(x);
-    v[d] = (v[d] ^ v[a]).rotate_right(32);
-    v[c] = v[c].wrapping_add(v[d]);
-    v[b] = (v[b] ^ v[c]).rotate_right(24);
-    v[a] = v[a].wrapping_add(v[b]).wrapping_add(y);
-    v[d] = (v[d] ^ v[a]).rotate_right(16);
-    v[c] = v[c].wrapping_add(v[d]);
-    v[b] = (v[b] ^ v[c]).rotate_right(63);
-}
-
 // Round `r`: four columns, then four diagonals.
 #[inline(always)]
-#[tactic(auto, unfolding(crate::specs::Compression::round))]
-fn round(m: &[u64; 16], v: &mut [u64; 16], r: usize)
+fn round(m: &[u64; 16], v: [u64; 16], r: usize) -> [u64; 16]
     requires { r < 12 }
-    ensures { v.new ≡ round m.now v.old r }
+    ensures { result ≡ round m.now v r }
 {
-    mix(v, 0, 4, 8, 12, scheduled(m, r, 0), scheduled(m, r, 1));
-    mix(v, 1, 5, 9, 13, scheduled(m, r, 2), scheduled(m, r, 3));
-    mix(v, 2, 6, 10, 14, scheduled(m, r, 4), scheduled(m, r, 5));
-    mix(v, 3, 7, 11, 15, scheduled(m, r, 6), scheduled(m, r, 7));
-    mix(v, 0, 5, 10, 15, scheduled(m, r, 8), scheduled(m, r, 9));
-    mix(v, 1, 6, 11, 12, scheduled(m, r, 10), scheduled(m, r, 11));
-    mix(v, 2, 7, 8, 13, scheduled(m, r, 12), scheduled(m, r, 13));
-    mix(v, 3, 4, 9, 14, scheduled(m, r, 14), scheduled(m, r, 15));
+    let v = mixed_columns(
+        v,
+        [
+            scheduled(m, r, 0),
+            scheduled(m, r, 2),
+            scheduled(m, r, 4),
+            scheduled(m, r, 6),
+        ],
+        [
+            scheduled(m, r, 1),
+            scheduled(m, r, 3),
+            scheduled(m, r, 5),
+            scheduled(m, r, 7),
+        ],
+    );
+    mixed_diagonals(
+        v,
+        [
+            scheduled(m, r, 8),
+            scheduled(m, r, 10),
+            scheduled(m, r, 12),
+            scheduled(m, r, 14),
+        ],
+        [
+            scheduled(m, r, 9),
+            scheduled(m, r, 11),
+            scheduled(m, r, 13),
+            scheduled(m, r, 15),
+        ],
+    )
 }
 
 // The working vector before the first round.
@@ -107,27 +108,26 @@ fn block_words(block: &[u8; 128]) -> [u64; 16]
     m
 }
 
-/// The compression function F (RFC 7693, 3.2): the state after `block`, from the state `h` before it.
-/// `t` is the number of message bytes up to the end of this block, `last` whether it is the last one.
-pub fn compress(h: &[u64; 8], block: &[u8; 128], t: u128, last: bool) -> [u64; 8]
-    ensures { result ≡ compress h.now block.now t last }
+// The compression function F, which leaves the new state in the place of the old one.
+pub(crate) fn advance(h: &mut [u64; 8], block: &[u8; 128], t: u128, last: bool)
+    ensures { h.new ≡ compress h.old block.now t last }
 {
     let m = block_words(block);
     let mut v = start(h, t, last);
     // The rounds are written out, so that each place in SIGMA is known to the compiler.
-    round(&m, &mut v, 0);
-    round(&m, &mut v, 1);
-    round(&m, &mut v, 2);
-    round(&m, &mut v, 3);
-    round(&m, &mut v, 4);
-    round(&m, &mut v, 5);
-    round(&m, &mut v, 6);
-    round(&m, &mut v, 7);
-    round(&m, &mut v, 8);
-    round(&m, &mut v, 9);
-    round(&m, &mut v, 10);
-    round(&m, &mut v, 11);
-    [
+    v = round(&m, v, 0);
+    v = round(&m, v, 1);
+    v = round(&m, v, 2);
+    v = round(&m, v, 3);
+    v = round(&m, v, 4);
+    v = round(&m, v, 5);
+    v = round(&m, v, 6);
+    v = round(&m, v, 7);
+    v = round(&m, v, 8);
+    v = round(&m, v, 9);
+    v = round(&m, v, 10);
+    v = round(&m, v, 11);
+    *h = [
         h[0] ^ v[0] ^ v[8],
         h[1] ^ v[1] ^ v[9],
         h[2] ^ v[2] ^ v[10],
@@ -136,5 +136,15 @@ pub fn compress(h: &[u64; 8], block: &[u8; 128], t: u128, last: bool) -> [u64; 8
         h[5] ^ v[5] ^ v[13],
         h[6] ^ v[6] ^ v[14],
         h[7] ^ v[7] ^ v[15],
-    ]
+    ];
+}
+
+/// The compression function F (RFC 7693, 3.2): the state after `block`, from the state `h` before it.
+/// `t` is the number of message bytes up to the end of this block, and `last` says that it is the last.
+pub fn compress(h: &[u64; 8], block: &[u8; 128], t: u128, last: bool) -> [u64; 8]
+    ensures { result ≡ compress h.now block.now t last }
+{
+    let mut next = *h;
+    advance(&mut next, block, t, last);
+    next
 }

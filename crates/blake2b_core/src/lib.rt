@@ -2,7 +2,9 @@
 //! digest of a message that comes in pieces. Nothing here takes memory.
 #![tactic(auto)]
 
+mod columns;
 mod compression;
+pub mod laws;
 mod output;
 mod pieces;
 mod whole;

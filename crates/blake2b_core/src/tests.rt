@@ -7,8 +7,10 @@ use std::test::Fail;
 
 const EMPTY: &str = "786a02f742015903c6c6fd852552d272912f4740e15847618a86e217f71f5419\
     d25e1031afee585313896444934eb04b903a685b1448b755d56f701afe9be2ce";
+
 const ABC: &str = "ba80a53f981c4d0d6a2797b69f12f6e94c212f14685ac4b74b12bb6fdbffa2d1\
     7d87c5392aab792dc252d5de4533cc9518d38aa8dbf1925ab92386edd4009923";
+
 const EMPTY_256: &str = "0e5751c026e543b2e8ab2eb06099daa1d1e5df47778f7787faab45cdf12fe3a8";
 
 fn digits(alloc: Global, bytes: &[u8]) -> Result<String, Fail> {
@@ -51,7 +53,10 @@ fn vectors(rt: HostRuntime) -> Result<(), Fail> {
         assert_eq!(rt; state.len(), len);
         append(&rt, &mut state, message.as_bytes());
         assert_eq!(rt; state.taken(), message.len() as u64);
-        assert_eq!(rt; digits(rt.alloc(), state.finish().as_slice())?.as_str(), value);
+        assert_eq!(rt;
+            digits(rt.alloc(), state.finish().as_slice())?.as_str(),
+            value
+        );
     }
     Ok(())
 }
@@ -88,7 +93,11 @@ fn pieces_of_one_size(rt: HostRuntime) {
                 append(&rt, &mut state, piece);
             }
             let digest = state.finish();
-            assert_eq!(rt; digest.as_slice(), whole(&rt, message).as_slice(), "{len} by {size}");
+            assert_eq!(rt;
+                digest.as_slice(),
+                whole(&rt, message).as_slice(),
+                "{len} by {size}"
+            );
         }
     }
 }
@@ -104,7 +113,11 @@ fn two_pieces_at_every_place(rt: HostRuntime) {
             append(&rt, &mut state, &message[..cut]);
             append(&rt, &mut state, &message[cut..len]);
             append(&rt, &mut state, b"");
-            assert_eq!(rt; state.finish().as_slice(), digest.as_slice(), "{len} cut at {cut}");
+            assert_eq!(rt;
+                state.finish().as_slice(),
+                digest.as_slice(),
+                "{len} cut at {cut}"
+            );
         }
     }
 }

@@ -1,10 +1,11 @@
 //! The digest of a whole message (RFC 7693, 3.3).
-ghost use Rattle.std.specs.Prelude.{◌≡◌, ◌↔◌, ◌⊎◌, ℕ, ◌+◌, ◌-◌, ◌*◌, ◌/◌, ◌^◌, ◌<◌, ◌≤◌, List, ◌++◌, length, replicate, IsNone, IfSome};
+ghost use Rattle.std.specs.Prelude.{◌≡◌, ◌↔◌, ◌⊎◌, ℕ, ◌+◌, ◌-◌, ◌*◌, ◌/◌, ◌^◌, ◌<◌, ◌≤◌, List, ◌++◌, length};
+ghost use Rattle.std.specs.Prelude.{replicate, IsNone, IfSome};
 ghost use Rattle.std.specs.Simd.{first_chunks};
 ghost use Rattle.blake2b_core.specs.Digest.{blake2b, blocks, hash_after, initial};
 ghost use Rattle.blake2b_core.specs.Holding.{AreBlocksFrom};
 
-use crate::compression::{IV, compress};
+use crate::compression::{IV, advance, compress};
 use crate::output::Output;
 
 // The bytes of a block.
@@ -39,7 +40,7 @@ pub(crate) fn chained(mut h: [u64; 8], followed: &[[u8; 128]], before: u64) -> [
     let mut taken = before;
     for block in followed {
         taken += 128;
-        h = compress(&h, block, u128::from(taken), false);
+        advance(&mut h, block, u128::from(taken), false);
     }
     h
 }

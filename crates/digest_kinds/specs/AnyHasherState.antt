@@ -9,6 +9,7 @@ use Rattle.digest_kinds.specs.declared.algo.Algo.TheVariants as algos
 use Rattle.digest_kinds.specs.declared.any_hasher.AnyHasher.{AnyHasher}
 use Rattle.digest_kinds.specs.declared.any_hasher.AnyHasher.TheVariants.{Md5, Sha1, Sha224, Sha256, Sha384, Sha512, Blake2b}
 
+-- the message that it holds
 abbrev pub Holds : AnyHasher → List ℕ → Type 0
 Holds (Md5 h) m = HoldsMd5 h.inner m × (h.taken ≡ length m)
 Holds (Sha1 h) m = HoldsSha1 h.inner m × (h.taken ≡ length m)
@@ -18,6 +19,7 @@ Holds (Sha384 h) m = Holds384 h.inner m × (h.taken ≡ length m)
 Holds (Sha512 h) m = Holds512 h.inner m × (h.taken ≡ length m)
 Holds (Blake2b h) m = HoldsBlake2b h m
 
+-- the kind of its digest
 abbrev pub kind_of : AnyHasher → KindValue
 kind_of (Md5 h) = full_kind algos.Md5
 kind_of (Sha1 h) = full_kind algos.Sha1
@@ -27,6 +29,7 @@ kind_of (Sha384 h) = full_kind algos.Sha384
 kind_of (Sha512 h) = full_kind algos.Sha512
 kind_of (Blake2b h) = blake2b_kind (digest_len h)
 
+-- how many bytes it has taken
 abbrev pub taken_of : AnyHasher → ℕ
 taken_of (Md5 h) = h.taken
 taken_of (Sha1 h) = h.taken
@@ -36,7 +39,7 @@ taken_of (Sha384 h) = h.taken
 taken_of (Sha512 h) = h.taken
 taken_of (Blake2b h) = taken_blake2b h
 
--- a hasher has taken as many bytes as its message has
+-- it has taken as many bytes as its message has
 pub counted : (h : AnyHasher) (m : List ℕ) → Holds h m → taken_of h ≡ length m
 counted (Md5 h) m held = held.1
 counted (Sha1 h) m held = held.1

@@ -14,12 +14,19 @@ use blake2b_core::Blake2b;
 /// Computes digests of one kind, which is chosen when it is made.
 #[derive(Drop)]
 pub enum AnyHasher {
+    /// MD5.
     Md5(Md5Hasher),
+    /// SHA-1.
     Sha1(Sha1Hasher),
+    /// SHA-224.
     Sha224(Sha224Hasher),
+    /// SHA-256.
     Sha256(Sha256Hasher),
+    /// SHA-384.
     Sha384(Sha384Hasher),
+    /// SHA-512.
     Sha512(Sha512Hasher),
+    /// BLAKE2b, of 1 to 64 bytes.
     Blake2b(Blake2b),
 }
 

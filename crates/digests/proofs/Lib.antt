@@ -2,3 +2,8 @@ mod ToolLemmas
 mod PieceLemmas
 mod OptionLemmas
 mod WordLemmas
+mod ReadingLemmas
+mod RunLemmas
+mod TextLemmas
+mod Rows
+mod PlainLemmas

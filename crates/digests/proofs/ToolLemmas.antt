@@ -7,7 +7,8 @@ use Rattle.digests.specs.declared.tool.Tool.TheVariants as tools
 use Rattle.digests.specs.Tools.{name_of, is_called}
 
 abbrev pub all_tools : List Tool
-all_tools = tools.Md5sum ∷ tools.Sha1sum ∷ tools.Sha224sum ∷ tools.Sha256sum ∷ tools.Sha384sum ∷ tools.Sha512sum ∷ tools.B2sum ∷ tools.Anysum ∷ []
+all_tools = tools.Md5sum ∷ tools.Sha1sum ∷ tools.Sha224sum ∷ tools.Sha256sum ∷ tools.Sha384sum ∷ tools.Sha512sum ∷
+    tools.B2sum ∷ tools.Anysum ∷ []
 
 -- each tool is found by its own name
 found_by_name : (tool : Tool) → find (is_called (name_of tool)) all_tools ≡ Some tool
@@ -29,7 +30,9 @@ found_passes test (y ∷ ys) x h =
       | false ↦ λ _ later. found_passes test ys x later
     ] refl h
 
-pub named_by : (word : List ℕ) (r : Option Tool) → find (is_called word) all_tools ≡ r → (tool : Tool) → (r ≡ Some tool) ↔ (name_of tool ≡ word)
+pub named_by : (word : List ℕ) (r : Option Tool) → find (is_called word) all_tools ≡ r → (tool : Tool) →
+    (r ≡ Some tool) ↔ (name_of tool ≡ word)
 named_by word r e tool = (
-    λ h. (bytes_eq-Decides (name_of tool) word).0 (found_passes (is_called word) all_tools tool (e ∙ h)),
-    λ h. sym e ∙ (rw (← h) (found_by_name tool)))
+  λ h. (bytes_eq-Decides (name_of tool) word).0 (found_passes (is_called word) all_tools tool (e ∙ h)),
+  λ h. sym e ∙ (rw (← h) (found_by_name tool)),
+)

@@ -17,12 +17,16 @@ use Rattle.digests.specs.Items.{Text, attached, a_value, says, length_value, opt
 use Rattle.digests.specs.Walk.{IsBehind, full_name}
 
 -- what stands behind a front
-pub behind_front : (front text : List ℕ) (r : Option (Bor (List ℕ))) → MatchOption r (FindsTextPrefix front text None) (λ x. (n : ℕ) × FindsTextPrefix front text (Some n) × (x.now ≡ drop n text) × (length x.now + n ≡ length text)) → MatchOption r (starts_with eqb text front ≡ false) (λ x. IsBehind front text x.now)
+pub behind_front : (front text : List ℕ) (r : Option (Bor (List ℕ))) →
+    MatchOption r (FindsTextPrefix front text None)
+    (λ x. (n : ℕ) × FindsTextPrefix front text (Some n) × (x.now ≡ drop n text) × (length x.now + n ≡ length text)) →
+    MatchOption r (starts_with eqb text front ≡ false) (λ x. IsBehind front text x.now)
 behind_front front text None h = sym (starts_text false front text h)
 behind_front front text (Some x) (n, f, e, l) = (sym (starts_text true front text (n, f, (rw f.0 f.2))), (rw f.0 at e))
 
 -- the first character of a text
-pub first_char : (bs now xs ys : List ℕ) (c : ℕ) → IsUtf8 bs → xs ≡ bs → now ≡ ys → xs ≡ encode_utf8 c ++ ys → chars bs ≡ c ∷ chars now
+pub first_char : (bs now xs ys : List ℕ) (c : ℕ) → IsUtf8 bs → xs ≡ bs → now ≡ ys → xs ≡ encode_utf8 c ++ ys →
+    chars bs ≡ c ∷ chars now
 first_char bs now xs ys c valid same rest first = rw rest (chars_past_char bs ys c valid (sym same ∙ first))
 
 -- a word at a place of a list
@@ -66,16 +70,22 @@ takes_none flags.Version other = refl
 takes_none flags.Length other = absurd (other refl)
 
 -- the letter of length, with no value in its word, and with one
-pub letter_alone : (t : Tool) (c : ℕ) (bs : Text) → Some (codes "length") ≡ lettered t c → length bs ≡ 0 → cluster t (c ∷ chars bs) ≡ record { items = []; next = a_value false }
+pub letter_alone : (t : Tool) (c : ℕ) (bs : Text) → Some (codes "length") ≡ lettered t c → length bs ≡ 0 →
+    cluster t (c ∷ chars bs) ≡ record { items = []; next = a_value false }
 letter_alone t c bs is none = rw (← is) (no_value bs none)
 
-pub letter_with_value : (t : Tool) (c : ℕ) (bs : Text) → IsUtf8 bs → Some (codes "length") ≡ lettered t c → length bs ≢ 0 → cluster t (c ∷ chars bs) ≡ says (length_value bs)
+pub letter_with_value : (t : Tool) (c : ℕ) (bs : Text) → IsUtf8 bs → Some (codes "length") ≡ lettered t c →
+    length bs ≢ 0 → cluster t (c ∷ chars bs) ≡ says (length_value bs)
 letter_with_value t c bs valid is some = rw (← is) (own_value bs valid some)
 
 -- any other letter
-pub letter_of_flag : (t : Tool) (c : ℕ) (cs : List ℕ) (flag : Flag) → flag ≢ flags.Length → Some (full_name flag) ≡ lettered t c → cluster t (c ∷ cs) ≡ record { items = option (full_name flag) ∷ (cluster t cs).items; next = (cluster t cs).next }
-letter_of_flag t c cs flag other is = rw (← is) (cond-false (takes_value (full_name flag)) (attached cs) _ (takes_none flag other))
+pub letter_of_flag : (t : Tool) (c : ℕ) (cs : List ℕ) (flag : Flag) → flag ≢ flags.Length →
+    Some (full_name flag) ≡ lettered t c →
+    cluster t (c ∷ cs) ≡ record { items = option (full_name flag) ∷ (cluster t cs).items; next = (cluster t cs).next }
+letter_of_flag t c cs flag other is = rw (← is)
+    (cond-false (takes_value (full_name flag)) (attached cs) _ (takes_none flag other))
 
 -- a long word, of the name and the value that were read
-pub long_reads : (t : Tool) (text name : Text) (value : Option Text) (r : Result Text Fault) → name ≡ name_part text → value ≡ value_part text → r ≡ resolved t name → long_word t text ≡ long r value
+pub long_reads : (t : Tool) (text name : Text) (value : Option Text) (r : Result Text Fault) → name ≡ name_part text →
+    value ≡ value_part text → r ≡ resolved t name → long_word t text ≡ long r value
 long_reads t text name value r a b e = rw (e, a, b) refl

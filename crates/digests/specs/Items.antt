@@ -20,18 +20,18 @@ pub data Item : Type 0 where
 abbrev pub common : List (Text × Text)
 common =
     (codes "b", codes "binary")
-  ∷ (codes "c", codes "check")
-  ∷ (codes "", codes "tag")
-  ∷ (codes "t", codes "text")
-  ∷ (codes "z", codes "zero")
-  ∷ (codes "", codes "ignore-missing")
-  ∷ (codes "", codes "quiet")
-  ∷ (codes "", codes "status")
-  ∷ (codes "", codes "strict")
-  ∷ (codes "w", codes "warn")
-  ∷ (codes "", codes "help")
-  ∷ (codes "", codes "version")
-  ∷ []
+    ∷ (codes "c", codes "check")
+    ∷ (codes "", codes "tag")
+    ∷ (codes "t", codes "text")
+    ∷ (codes "z", codes "zero")
+    ∷ (codes "", codes "ignore-missing")
+    ∷ (codes "", codes "quiet")
+    ∷ (codes "", codes "status")
+    ∷ (codes "", codes "strict")
+    ∷ (codes "w", codes "warn")
+    ∷ (codes "", codes "help")
+    ∷ (codes "", codes "version")
+    ∷ []
 
 -- b2sum has one more, which alone takes a value
 abbrev pub own : Tool → List (Text × Text)
@@ -74,7 +74,8 @@ abbrev pub name_part : Text → Text
 name_part text = before_first is_equals text
 
 abbrev pub value_part : Text → Option Text
-value_part text = if nat_lt (position_or_len is_equals text) (length text) then Some (after_first is_equals text) else None
+value_part text =
+    if nat_lt (position_or_len is_equals text) (length text) then Some (after_first is_equals text) else None
 
 -- the full names that a name may mean: itself, where it is one of them, or else those that it begins
 abbrev pub names : Tool → List Text
@@ -108,6 +109,7 @@ abbrev pub is_letter : ℕ → Text → Bool
 is_letter c [] = false
 is_letter c (l ∷ ls) = c == l
 
+-- the option of a letter
 abbrev pub short : List (Text × Text) → ℕ → Option Text
 short [] c = None
 short (row ∷ rows) c = if is_letter c row.0 then Some row.1 else short rows c
@@ -115,13 +117,15 @@ short (row ∷ rows) c = if is_letter c row.0 then Some row.1 else short rows c
 unfoldable pub lettered : Tool → ℕ → Option Text
 lettered t c = short (table t) c
 
+-- the value of a short option: the rest of its word, where that isn't empty
 abbrev pub attached : List ℕ → Read
 attached [] = wants_value false
 attached (c ∷ cs) = says (length_value (encode_utf8_all (c ∷ cs)))
 
 abbrev pub letter : ℕ → Option Text → List ℕ → Read → Read
 letter c None cs rest = stops (unknown_short c)
-letter c (Some full) cs rest = if takes_value full then attached cs else record { items = option full ∷ rest.items; next = rest.next }
+letter c (Some full) cs rest =
+    if takes_value full then attached cs else record { items = option full ∷ rest.items; next = rest.next }
 
 abbrev pub cluster : Tool → List ℕ → Read
 cluster t [] = record { items = []; next = a_word }

@@ -3,3 +3,10 @@ pub mod Pieces
 pub mod Faults
 pub mod Items
 pub mod Walk
+pub mod Request
+pub mod Reading
+pub mod Meaning
+pub mod Runs
+pub mod Texts
+pub mod Shown
+pub mod PlainWords

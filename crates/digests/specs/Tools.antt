@@ -1,6 +1,9 @@
--- The names of the tools.
+-- The tools: the name of each, and the algorithms of its digests.
 use Rattle.std.specs.Prelude.{List, ℕ, Bool, codes}
 use Rattle.std.specs.Str.{bytes_eq}
+use Rattle.digest_kinds.specs.declared.algo.Algo.TheVariants.{Md5, Sha1, Sha224, Sha256, Sha384, Sha512, Blake2b}
+use Rattle.digest_kinds.specs.declared.algo.Algos.{Algos}
+use Rattle.digest_kinds.specs.declared.algo.Algos.TheVariants.{One, Any}
 use Rattle.digests.specs.declared.tool.Tool.{Tool}
 use Rattle.digests.specs.declared.tool.Tool.TheVariants as tools
 
@@ -14,6 +17,17 @@ name_of tools.Sha384sum = codes "sha384sum"
 name_of tools.Sha512sum = codes "sha512sum"
 name_of tools.B2sum = codes "b2sum"
 name_of tools.Anysum = codes "anysum"
+
+-- the algorithm whose digests a tool writes and checks; anysum checks those of any
+abbrev pub algos_of : Tool → Algos
+algos_of tools.Md5sum = One Md5
+algos_of tools.Sha1sum = One Sha1
+algos_of tools.Sha224sum = One Sha224
+algos_of tools.Sha256sum = One Sha256
+algos_of tools.Sha384sum = One Sha384
+algos_of tools.Sha512sum = One Sha512
+algos_of tools.B2sum = One Blake2b
+algos_of tools.Anysum = Any
 
 -- the test by which a tool is looked for
 abbrev pub is_called : List ℕ → Tool → Bool

@@ -42,7 +42,11 @@ fn zeros(alloc: Global, size: usize) -> Result<Vec<u8>, AllocError> {
 }
 
 // The bytes of an argument; `None` behind the last.
-fn argument<'a, R: Env>(rt: &R, place: usize, buffer: &'a mut [u8]) -> Result<Option<&'a [u8]>, NotRead> {
+fn argument<'a, R: Env>(
+    rt: &R,
+    place: usize,
+    buffer: &'a mut [u8],
+) -> Result<Option<&'a [u8]>, NotRead> {
     match rt.arg(place, buffer) {
         Ok(len) => Ok(Some(&buffer[..len])),
         Err(FillError::NotPresent) => Ok(None),
@@ -80,7 +84,11 @@ fn tool_named<R: Env>(rt: &R, buffer: &mut [u8]) -> Result<Option<Tool>, NotRead
 }
 
 // The arguments from this place on.
-fn words_from<R: Env + AllocGlobal>(rt: &R, first: usize, buffer: &mut [u8]) -> Result<Words, NotRead> {
+fn words_from<R: Env + AllocGlobal>(
+    rt: &R,
+    first: usize,
+    buffer: &mut [u8],
+) -> Result<Words, NotRead> {
     let mut words = Words::new(rt.alloc());
     for place in first..usize::MAX {
         let Some(word) = argument(rt, place, buffer)? else {

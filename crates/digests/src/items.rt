@@ -33,7 +33,7 @@ pub struct Items<'a> {
 
 // How reading goes on: with a whole word, with the rest of a cluster, with operands alone, or not at all.
 #[derive(Clone, Copy)]
-pub enum State<'a> {
+enum State<'a> {
     Word,
     Cluster(char, &'a str),
     Operands,
@@ -103,7 +103,8 @@ fn say<'a>(
     state: &mut State<'a>,
     step: Step<'a>,
 ) -> Option<Item<'a>>
-    ensures { Takes item_of (step_says tool step.entry (drop at.old words.now)) result (to_come tool state.new (drop at.new words.now)) }
+    ensures { Takes item_of (step_says tool step.entry (drop at.old words.now))
+        result (to_come tool state.new (drop at.new words.now)) }
 {
     match step {
         Step::Say(item, next) => {
@@ -129,7 +130,8 @@ fn say<'a>(
 
 // What a whole word makes of reading.
 fn word_step<'a>(tool: Tool, word: &'a str) -> Step<'a>
-    ensures { (ws : List (List ℕ)) → step_says tool result ws ≡ read_then tool (read_word tool word.now) ws }
+    ensures { (ws : List (List ℕ)) → step_says tool result ws
+        ≡ read_then tool (read_word tool word.now) ws }
 {
     if word == "--" {
         return Step::Operands;
@@ -145,7 +147,8 @@ fn word_step<'a>(tool: Tool, word: &'a str) -> Step<'a>
 
 // What a word that begins with one dash makes of reading.
 fn dash_step<'a>(tool: Tool, word: &'a str, letters: &'a str) -> Step<'a>
-    ensures { (ws : List (List ℕ)) → step_says tool result ws ≡ read_then tool (dash_word tool word.now (chars letters.now)) ws }
+    ensures { (ws : List (List ℕ)) → step_says tool result ws
+        ≡ read_then tool (dash_word tool word.now (chars letters.now)) ws }
 {
     match first(letters) {
         Some((letter, rest)) => letter_step(tool, letter, rest),
@@ -155,7 +158,8 @@ fn dash_step<'a>(tool: Tool, word: &'a str, letters: &'a str) -> Step<'a>
 
 // What a long option makes of reading, its two dashes left out.
 fn long_step<'a>(tool: Tool, text: &'a str) -> Step<'a>
-    ensures { (ws : List (List ℕ)) → step_says tool result ws ≡ read_then tool (long_word tool text.now) ws }
+    ensures { (ws : List (List ℕ)) → step_says tool result ws
+        ≡ read_then tool (long_word tool text.now) ws }
 {
     let (name, value) = name_and_value(text);
     let flag = match Flag::of_name(tool, name) {
@@ -165,14 +169,18 @@ fn long_step<'a>(tool: Tool, text: &'a str) -> Step<'a>
     match (flag.takes_value(), value) {
         (true, Some(value)) => Step::Say(Item::Length(value), State::Word),
         (true, None) => Step::Value(true),
-        (false, Some(_)) => Step::Say(Item::Fault(WordFault::ValueNotAllowed(flag.name())), State::Ended),
+        (false, Some(_)) => Step::Say(
+            Item::Fault(WordFault::ValueNotAllowed(flag.name())),
+            State::Ended,
+        ),
         (false, None) => Step::Say(Item::Flag(flag), State::Word),
     }
 }
 
 // What a letter of a cluster makes of reading, with the rest of the word behind it.
 fn letter_step<'a>(tool: Tool, letter: char, rest: &'a str) -> Step<'a>
-    ensures { (ws : List (List ℕ)) → step_says tool result ws ≡ read_then tool (cluster tool (letter ∷ chars rest.now)) ws }
+    ensures { (ws : List (List ℕ)) → step_says tool result ws
+        ≡ read_then tool (cluster tool (letter ∷ chars rest.now)) ws }
 {
     match Flag::of_letter(tool, letter) {
         None => Step::Say(Item::Fault(WordFault::UnknownShort(letter)), State::Ended),
@@ -189,7 +197,8 @@ fn letter_step<'a>(tool: Tool, letter: char, rest: &'a str) -> Step<'a>
 
 // How reading goes on with the rest of a cluster.
 fn rest_of_cluster(letters: &str) -> State<'_>
-    ensures { (t : Tool) (ws : List (List ℕ)) → to_come t result ws ≡ read_then t (cluster t (chars letters.now)) ws }
+    ensures { (t : Tool) (ws : List (List ℕ)) → to_come t result ws
+        ≡ read_then t (cluster t (chars letters.now)) ws }
 {
     match first(letters) {
         Some((letter, rest)) => State::Cluster(letter, rest),

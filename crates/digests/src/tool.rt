@@ -1,8 +1,10 @@
 //! The tools, and what each is called.
 ghost use Rattle.std.specs.Prelude.{◌≡◌, ◌↔◌, Some};
 ghost use Rattle.digests.specs.declared.tool.Tool.{Tool};
-ghost use Rattle.digests.specs.Tools.{name_of, is_called};
+ghost use Rattle.digests.specs.Tools.{name_of, algos_of, is_called};
 ghost use Rattle.std.specs.List.{find};
+
+use digest_kinds::{Algo, Algos};
 
 /// One of the eight tools: the seven GNU digest tools of the coreutils manual, and `anysum`, which checks manifests of
 /// mixed tagged lines.
@@ -50,6 +52,22 @@ impl Tool {
             Tool::Sha512sum => "sha512sum",
             Tool::B2sum => "b2sum",
             Tool::Anysum => "anysum",
+        }
+    }
+
+    /// The algorithms of the tool's digests: one, and any for `anysum`.
+    pub fn algos(self) -> Algos
+        ensures { result ≡ algos_of self }
+    {
+        match self {
+            Tool::Md5sum => Algos::One(Algo::Md5),
+            Tool::Sha1sum => Algos::One(Algo::Sha1),
+            Tool::Sha224sum => Algos::One(Algo::Sha224),
+            Tool::Sha256sum => Algos::One(Algo::Sha256),
+            Tool::Sha384sum => Algos::One(Algo::Sha384),
+            Tool::Sha512sum => Algos::One(Algo::Sha512),
+            Tool::B2sum => Algos::One(Algo::Blake2b),
+            Tool::Anysum => Algos::Any,
         }
     }
 }

@@ -4,10 +4,7 @@ ghost use Rattle.std.specs.Option.{option_copied};
 
 use std::alloc::Global;
 use std::marker::Model;
-
-/// Want of memory.
-#[derive(Clone, Copy, Debug, PartialEq, Eq)]
-pub struct NoRoom;
+pub use sum_sources::NoRoom;
 
 /// A list of texts, kept as one text beside the places where each of them ends.
 #[derive(Drop)]

@@ -12,7 +12,8 @@ use Rattle.sum_lines.specs.Entries.{Spelled, kind_of, Entry, ByTag, ByTail, RawO
 use Rattle.sum_lines.specs.Scanned.{Parts, tagged_of, plain_of}
 use Rattle.sum_lines.specs.Readings.{Reads}
 use Rattle.sum_lines.proofs.PlainLemmas.{plain_is_read, read_is_plain, apart}
-use Rattle.sum_lines.proofs.TaggedLemmas.{tagged_is_read, read_is_tagged}
+use Rattle.sum_lines.proofs.TaggedLemmas.{tagged_is_read}
+use Rattle.sum_lines.proofs.TaggedParts.{read_is_tagged}
 use Rattle.sum_engine.specs.Grammar.{named, spelled, raw_of, name_of, entry_by, entry_of, said_of, says, Improper}
 use Rattle.sum_engine.specs.Judging.{said_by, Within}
 use Rattle.sum_engine.specs.Laws.{EntryIs}

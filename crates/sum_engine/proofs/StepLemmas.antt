@@ -6,7 +6,7 @@ use Rattle.sum_sources.specs.declared.fault.Fault.{Fault}
 use Rattle.sum_sources.specs.declared.lines.Next.TheVariants.{Line, NoMore}
 use Rattle.sum_sources.specs.declared.lines.LineStop.TheVariants as line_stops
 use Rattle.sum_sources.specs.Contents.{Content, WhereTold}
-use Rattle.sum_sources.specs.LineReading.{LineOf}
+use Rattle.sum_sources.specs.ManifestLines.{LineOf}
 use Rattle.sum_lines.specs.declared.line_reading.Form.{Form}
 use Rattle.sum_lines.specs.Entries.{form_then, line_form}
 use Rattle.sum_lines.specs.Sinks.{AppendsFront}

@@ -1,25 +1,25 @@
 -- A line spells at most one entry, and a list of lines has one form.
-use Rattle.std.proofs.Common.{ℕ, ◌≡◌, ◌<◌, ◌↔◌, Bool, true, false, cond, List, [], ◌∷◌, ◌++◌, length, Option, None, Some, refl, ap, sym, ◌∙◌, ◌⊎◌, inl, inr, subst}
+use Rattle.std.proofs.Common.{ℕ, ◌≡◌, Bool, true, false, cond, List, [], ◌∷◌, ◌++◌, Option, None, Some, refl, ap, sym, ◌∙◌, ◌⊎◌, inl, inr, subst}
 use Rattle.std.proofs.lemmas.Bool.{cond-true, cond-false, cases_Bool}
-use Rattle.digest_kinds.specs.Kinds.{KindValue, tag}
 use Rattle.digest_kinds.specs.declared.algo.Algo.{Algo}
-use Rattle.digest_kinds.specs.declared.algo.Algo.TheVariants.{Md5, Sha1, Sha224, Sha256, Sha384, Sha512, Blake2b}
 use Rattle.digest_kinds.specs.declared.algo.Algos.{Algos}
-use Rattle.digest_kinds.specs.declared.algo.Algos.TheVariants.{One, Any}
+use Rattle.digest_kinds.specs.declared.algo.Algos.TheVariants.{Any}
 use Rattle.sum_lines.specs.declared.line_reading.Form.{Form}
 use Rattle.sum_lines.specs.declared.line_reading.Form.TheVariants.{Undecided, Standard, Reversed}
 use Rattle.sum_lines.specs.Escape.{escape}
-use Rattle.sum_lines.specs.Shapes.{is_blank, Plain, Tagged}
-use Rattle.sum_lines.specs.Scanned.{Parts, after_while, unmarked, past, plain_of, tagged_of}
-use Rattle.sum_lines.specs.Entries.{ignored, begins_standard, form_of_tail, Decides, IsForm, Spells, RawOf, Spelled, kind_of, ByTag, ByTail, Entry, form_then, form_of_parts, line_form, form}
+use Rattle.sum_lines.specs.Shapes.{Tagged}
+use Rattle.sum_lines.specs.Scanned.{Parts, plain_of}
+use Rattle.sum_lines.specs.Entries.{ignored, begins_standard, form_of_tail, Decides, IsForm, Spells, RawOf, Spelled, kind_of, ByTag, ByTail, form_then, form_of_parts, line_form, form}
 use Rattle.sum_lines.specs.Laws.{OneEntry, OneForm}
 use Rattle.sum_lines.proofs.UnescapeLemmas.{escape-apart}
-use Rattle.sum_lines.proofs.TaggedLemmas.{tagged_is_read, same_parts}
+use Rattle.sum_lines.proofs.TaggedParts.{same_parts}
+use Rattle.sum_lines.proofs.TaggedLemmas.{tagged_is_read}
 use Rattle.sum_lines.proofs.PlainLemmas.{apart, plain-once, plain_is_read, read_is_plain}
 
 -- ---- one entry
 
-pub tagged-once : (algos : Algos) (line : List ℕ) (p q : Parts) → Tagged algos line p.escaped p.kind p.digest p.text → Tagged algos line q.escaped q.kind q.digest q.text → p ≡ q
+pub tagged-once : (algos : Algos) (line : List ℕ) (p q : Parts) → Tagged algos line p.escaped p.kind p.digest p.text
+    → Tagged algos line q.escaped q.kind q.digest q.text → p ≡ q
 tagged-once algos line p q s t = same_parts p q (sym (tagged_is_read algos line p s) ∙ tagged_is_read algos line q t)
 
 pub spelled_same : (s t : Spelled) → s.algo ≡ t.algo → s.digest ≡ t.digest → s.name ≡ t.name → s ≡ t
@@ -31,35 +31,45 @@ spelling_apart : (e : Bool) (m n : List ℕ) → cond e (escape m) m ≡ cond e 
 spelling_apart true m n h = escape-apart m n h
 spelling_apart false m n h = h
 
-spells_one : (e f : Bool) (raw war m n : List ℕ) → e ≡ f → raw ≡ war → Spells escape e raw m → Spells escape f war n → m ≡ n
-spells_one e f raw war m n he hr s t = spelling_apart e m n (sym s.is ∙ hr ∙ t.is ∙ ap (λ x. cond x (escape n) n) (sym he))
+spells_one : (e f : Bool) (raw war m n : List ℕ) → e ≡ f → raw ≡ war → Spells escape e raw m → Spells escape f war n
+    → m ≡ n
+spells_one e f raw war m n he hr s t =
+    spelling_apart e m n (sym s.is ∙ hr ∙ t.is ∙ ap (λ x. cond x (escape n) n) (sym he))
 
-tags_one : (algos : Algos) (line : List ℕ) (s t : Spelled) → ByTag escape algos line s → ByTag escape algos line t → s ≡ t
+tags_one : (algos : Algos) (line : List ℕ) (s t : Spelled) → ByTag escape algos line s → ByTag escape algos line t
+    → s ≡ t
 tags_one algos line s t p q =
     let a : Parts = record { escaped = p.escaped; kind = kind_of s; digest = s.digest; text = p.raw } in
     let b : Parts = record { escaped = q.escaped; kind = kind_of t; digest = t.digest; text = q.raw } in
     let same : a ≡ b = tagged-once algos line a b p.tagged q.tagged in
     spelled_same s t (ap (λ (x : Parts). x.kind.algo) same) (ap (λ (x : Parts). x.digest) same)
-    (spells_one p.escaped q.escaped p.raw q.raw s.name t.name (ap (λ (x : Parts). x.escaped) same) (ap (λ (x : Parts). x.text) same) p.spells q.spells)
+    (spells_one p.escaped q.escaped p.raw q.raw s.name t.name (ap (λ (x : Parts). x.escaped) same)
+    (ap (λ (x : Parts). x.text) same) p.spells q.spells)
 
 raws_one : (f : Form) (tail liat raw war : List ℕ) → tail ≡ liat → RawOf f tail raw → RawOf f liat war → raw ≡ war
 raws_one Undecided tail liat raw war e h k = absurd h
 raws_one Reversed tail liat raw war e h k = h ∙ e ∙ sym k
 raws_one Standard tail liat raw war e h k = let both : h.1 ∷ raw ≡ k.1 ∷ war = sym h.2 ∙ e ∙ k.2 in cc
 
-tails_one : (algos : Algos) (f : Form) (line : List ℕ) (s t : Spelled) → ByTail escape algos f line s → ByTail escape algos f line t → s ≡ t
+tails_one : (algos : Algos) (f : Form) (line : List ℕ) (s t : Spelled) → ByTail escape algos f line s
+    → ByTail escape algos f line t → s ≡ t
 tails_one algos f line s t p q =
     let a : Parts = record { escaped = p.escaped; kind = kind_of s; digest = s.digest; text = p.tail } in
     let b : Parts = record { escaped = q.escaped; kind = kind_of t; digest = t.digest; text = q.tail } in
     let same : a ≡ b = plain-once algos line a b p.plain q.plain in
-    let raws : p.raw ≡ q.raw = raws_one f p.tail q.tail p.raw q.raw (ap (λ (x : Parts). x.text) same) p.is_raw q.is_raw in
+    let raws : p.raw ≡ q.raw =
+    raws_one f p.tail q.tail p.raw q.raw (ap (λ (x : Parts). x.text) same) p.is_raw q.is_raw in
     spelled_same s t (ap (λ (x : Parts). x.kind.algo) same) (ap (λ (x : Parts). x.digest) same)
-    (spells_one p.escaped q.escaped p.raw q.raw s.name t.name (ap (λ (x : Parts). x.escaped) same) raws p.spells q.spells)
+    (spells_one p.escaped q.escaped p.raw q.raw s.name t.name (ap (λ (x : Parts). x.escaped) same) raws p.spells
+    q.spells)
 
-not_both : (algos : Algos) (f : Form) (line : List ℕ) (s t : Spelled) → ByTag escape algos line s → ByTail escape algos f line t → ⊥
-not_both algos f line s t p q = apart algos algos line q.escaped p.escaped (kind_of t) (kind_of s) t.digest s.digest q.tail p.raw q.plain p.tagged
+not_both : (algos : Algos) (f : Form) (line : List ℕ) (s t : Spelled) → ByTag escape algos line s
+    → ByTail escape algos f line t → ⊥
+not_both algos f line s t p q =
+    apart algos algos line q.escaped p.escaped (kind_of t) (kind_of s) t.digest s.digest q.tail p.raw q.plain p.tagged
 
-either : (algos : Algos) (f : Form) (line : List ℕ) (s t : Spelled) → ByTag escape algos line s ⊎ ByTail escape algos f line s → ByTag escape algos line t ⊎ ByTail escape algos f line t → s ≡ t
+either : (algos : Algos) (f : Form) (line : List ℕ) (s t : Spelled) → ByTag escape algos line s
+    ⊎ ByTail escape algos f line s → ByTag escape algos line t ⊎ ByTail escape algos f line t → s ≡ t
 either algos f line s t (inl p) (inl q) = tags_one algos line s t p q
 either algos f line s t (inl p) (inr q) = absurd (not_both algos f line s t p q)
 either algos f line s t (inr p) (inl q) = absurd (not_both algos f line t s q p)
@@ -75,27 +85,48 @@ keeps true g = refl
 keeps false g = refl
 
 -- what a line decides, where it decides anything
-pub decides-form : (algos : Algos) (line : List ℕ) (f : Form) → Decides algos line f → (line_form algos line ≡ f) × ((g : Form) → form_then f g ≡ f)
+pub decides-form : (algos : Algos) (line : List ℕ) (f : Form) → Decides algos line f → (line_form algos line ≡ f)
+    × ((g : Form) → form_then f g ≡ f)
 decides-form algos line f d =
     let p : Parts = record { escaped = d.escaped; kind = d.kind; digest = d.digest; text = d.tail } in
-    let here : line_form algos line ≡ form_of_tail d.tail = cond-false (ignored line) Undecided (form_of_parts (plain_of algos line)) d.speaks ∙ ap form_of_parts (plain_is_read algos line p d.plain) in
+    let here : line_form algos line ≡ form_of_tail d.tail =
+    cond-false (ignored line) Undecided (form_of_parts (plain_of algos line)) d.speaks
+    ∙ ap form_of_parts (plain_is_read algos line p d.plain) in
     (here ∙ sym d.is, λ g. ap (λ x. form_then x g) d.is ∙ keeps (begins_standard d.tail) g ∙ sym d.is)
 
 -- a line that is read as plain parts decides; any other decides nothing
-decided : (algos : Algos) (line : List ℕ) (o : Option Parts) → o ≡ plain_of algos line → ignored line ≡ false → Decides algos line (form_of_parts o) ⊎ ((o ≡ None) × ((f : Form) → Decides algos line f → ⊥))
-decided algos line None h speaks = inr (refl, λ f d.
-    let p : Parts = record { escaped = d.escaped; kind = d.kind; digest = d.digest; text = d.tail } in
-    let bad = h ∙ plain_is_read algos line p d.plain in cc)
-decided algos line (Some p) h speaks = inl (record { escaped = p.escaped; kind = p.kind; digest = p.digest; tail = p.text; speaks = speaks; plain = read_is_plain algos line p (sym h); is = refl })
+decided : (algos : Algos) (line : List ℕ) (o : Option Parts) → o ≡ plain_of algos line → ignored line ≡ false
+    → Decides algos line (form_of_parts o) ⊎ ((o ≡ None) × ((f : Form) → Decides algos line f → ⊥))
+decided algos line None h speaks = inr (
+  refl,
+  λ f d.
+      let p : Parts = record { escaped = d.escaped; kind = d.kind; digest = d.digest; text = d.tail } in
+      let bad = h ∙ plain_is_read algos line p d.plain in cc,
+)
+decided algos line (Some p) h speaks =
+    inl (record {
+      escaped = p.escaped;
+      kind = p.kind;
+      digest = p.digest;
+      tail = p.text;
+      speaks = speaks;
+      plain =
+          read_is_plain algos line p (sym h);
+      is = refl;
+    })
 
-pub decides-or : (algos : Algos) (line : List ℕ) → Decides algos line (line_form algos line) ⊎ ((line_form algos line ≡ Undecided) × ((f : Form) → Decides algos line f → ⊥))
-decides-or algos line = let P : Form → Type 0 = λ g. Decides algos line g ⊎ ((g ≡ Undecided) × ((f : Form) → Decides algos line f → ⊥)) in elim (cases_Bool (ignored line)) [
-  | inl mute ↦ subst P (sym (cond-true (ignored line) Undecided (form_of_parts (plain_of algos line)) mute)) (inr (refl, λ f d. let bad = sym mute ∙ d.speaks in cc))
-  | inr speaks ↦ subst P (sym (cond-false (ignored line) Undecided (form_of_parts (plain_of algos line)) speaks)) (elim (decided algos line (plain_of algos line) refl speaks) [
-      | inl d ↦ inl d
-      | inr none ↦ inr (ap form_of_parts none.0, none.1)
-    ])
-]
+pub decides-or : (algos : Algos) (line : List ℕ) → Decides algos line (line_form algos line)
+    ⊎ ((line_form algos line ≡ Undecided) × ((f : Form) → Decides algos line f → ⊥))
+decides-or algos line = let P : Form → Type 0 = λ g. Decides algos line g
+    ⊎ ((g ≡ Undecided) × ((f : Form) → Decides algos line f → ⊥)) in elim (cases_Bool (ignored line)) [
+      | inl mute ↦ subst P (sym (cond-true (ignored line) Undecided (form_of_parts (plain_of algos line)) mute))
+          (inr (refl, λ f d. let bad = sym mute ∙ d.speaks in cc))
+      | inr speaks ↦ subst P (sym (cond-false (ignored line) Undecided (form_of_parts (plain_of algos line)) speaks))
+          (elim (decided algos line (plain_of algos line) refl speaks) [
+            | inl d ↦ inl d
+            | inr none ↦ inr (ap form_of_parts none.0, none.1)
+          ])
+    ]
 
 is-form : (algos : Algos) (lines : List (List ℕ)) → IsForm algos lines (form algos lines)
 is-form algos [] = refl
@@ -106,14 +137,16 @@ is-form algos (line ∷ later) = let P : Form → Type 0 = IsForm algos (line �
 
 form-is : (algos : Algos) (lines : List (List ℕ)) (f : Form) → IsForm algos lines f → f ≡ form algos lines
 form-is algos [] f h = h
-form-is algos (line ∷ later) f (inl d) = let k = decides-form algos line f d in sym (ap (λ x. form_then x (form algos later)) k.0 ∙ k.1 (form algos later))
+form-is algos (line ∷ later) f (inl d) = let k = decides-form algos line f d in
+    sym (ap (λ x. form_then x (form algos later)) k.0 ∙ k.1 (form algos later))
 form-is algos (line ∷ later) f (inr none) = elim (decides-or algos line) [
   | inl d ↦ absurd (none.0 (line_form algos line) d)
   | inr mute ↦ form-is algos later f none.1 ∙ sym (ap (λ x. form_then x (form algos later)) mute.0)
 ]
 
 pub one_form : OneForm
-one_form algos lines f = (form-is algos lines f, λ e. let P : Form → Type 0 = IsForm algos lines in subst P (sym e) (is-form algos lines))
+one_form algos lines f =
+    (form-is algos lines f, λ e. let P : Form → Type 0 = IsForm algos lines in subst P (sym e) (is-form algos lines))
 
 -- ---- lines after lines
 
@@ -130,13 +163,17 @@ form_then-again Undecided g h = refl
 form_then-again Standard g h = refl
 form_then-again Reversed g h = refl
 
-pub form-append : (algos : Algos) (before after : List (List ℕ)) → form algos (before ++ after) ≡ form_then (form algos before) (form algos after)
+pub form-append : (algos : Algos) (before after : List (List ℕ))
+    → form algos (before ++ after) ≡ form_then (form algos before) (form algos after)
 form-append algos [] after = refl
-form-append algos (line ∷ before) after = ap (form_then (line_form algos line)) (form-append algos before after) ∙ sym (form_then-again (line_form algos line) (form algos before) (form algos after))
+form-append algos (line ∷ before) after = ap (form_then (line_form algos line)) (form-append algos before after)
+    ∙ sym (form_then-again (line_form algos line) (form algos before) (form algos after))
 
 pub form-any : (lines : List (List ℕ)) → form Any lines ≡ Undecided
 form-any [] = refl
 form-any (line ∷ later) = elim (cases_Bool (ignored line)) [
-  | inl mute ↦ ap (λ x. form_then x (form Any later)) (cond-true (ignored line) Undecided Undecided mute) ∙ form-any later
-  | inr speaks ↦ ap (λ x. form_then x (form Any later)) (cond-false (ignored line) Undecided Undecided speaks) ∙ form-any later
+  | inl mute ↦ ap (λ x. form_then x (form Any later)) (cond-true (ignored line) Undecided Undecided mute)
+      ∙ form-any later
+  | inr speaks ↦ ap (λ x. form_then x (form Any later)) (cond-false (ignored line) Undecided Undecided speaks)
+      ∙ form-any later
 ]

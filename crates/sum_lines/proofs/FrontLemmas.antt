@@ -1,15 +1,16 @@
 -- The longest front that passes, and what stands behind a text or a byte.
-use Rattle.std.proofs.Common.{ℕ, zero, suc, ◌≡◌, ◌+◌, ◌-◌, ◌<◌, ◌≤◌, not, Bool, true, false, cond, eqb, eq-eqb, ◌==◌, List, [], ◌∷◌, ◌++◌, length, take, drop, get_or, Option, None, Some, refl, ap, sym, ◌∙◌, arith, ◌⊎◌, inl, inr, subst, append_assoc}
+use Rattle.std.proofs.Common.{ℕ, ◌≡◌, ◌+◌, ◌<◌, not, Bool, true, false, eq-eqb, ◌==◌, List, [], ◌∷◌, ◌++◌, length, Option, None, Some, refl, ap, sym, ◌∙◌, arith, inl, inr, subst}
 use Rattle.std.proofs.lemmas.Bool.{cond-true, cond-false, cases_Bool}
 use Rattle.std.proofs.lemmas.Bool.Decides.{eqb_tells}
 use Rattle.std.proofs.lemmas.List.{take-append-drop, take_at, drop_at}
-use Rattle.std.proofs.lemmas.List.Sums.{prefix_len_passes, prefix_len-le-length, take_while-cons}
-use Rattle.std.proofs.lemmas.List.Elements.{All-cons, All-head, All-tail, All-nil, All-append, All-weaker}
-use Rattle.std.specs.List.{AllPass, All, prefix_len, take_while}
+use Rattle.std.proofs.lemmas.List.Sums.{take_while-cons}
+use Rattle.std.proofs.lemmas.List.Elements.{All-cons, All-head, All-tail, All-nil}
+use Rattle.std.specs.List.{AllPass, prefix_len, take_while}
 use Rattle.sum_lines.specs.Scanned.{◌>>=◌, after_while, unmarked, unspaced, past, onto, split_last, some_of}
 use Rattle.sum_lines.specs.Shapes.{mark, optional}
 
-pub bind_some : {A B : Type 0} (o : Option A) (f : A → Option B) (y : B) → (o >>= f) ≡ Some y → (x : A) × (o ≡ Some x) × (f x ≡ Some y)
+pub bind_some : {A B : Type 0} (o : Option A) (f : A → Option B) (y : B) → (o >>= f) ≡ Some y → (x : A)
+    × (o ≡ Some x) × (f x ≡ Some y)
 bind_some None f y h = cc
 bind_some (Some x) f y h = (x, refl, h)
 
@@ -18,14 +19,17 @@ bind_some (Some x) f y h = (x, refl, h)
 pub front-passes : (p : ℕ → Bool) (xs : List ℕ) → AllPass p (take_while p xs)
 front-passes p [] = All-nil (λ x. p x ≡ true)
 front-passes p (x ∷ xs) = let P : List ℕ → Type 0 = AllPass p in elim (cases_Bool (p x)) [
-  | inl pass ↦ subst P (sym (take_while-cons p x xs ∙ cond-true (p x) (x ∷ take_while p xs) [] pass)) (All-cons (λ x. p x ≡ true) x (take_while p xs) pass (front-passes p xs))
-  | inr stop ↦ subst P (sym (take_while-cons p x xs ∙ cond-false (p x) (x ∷ take_while p xs) [] stop)) (All-nil (λ x. p x ≡ true))
+  | inl pass ↦ subst P (sym (take_while-cons p x xs ∙ cond-true (p x) (x ∷ take_while p xs) [] pass))
+      (All-cons (λ x. p x ≡ true) x (take_while p xs) pass (front-passes p xs))
+  | inr stop ↦ subst P (sym (take_while-cons p x xs ∙ cond-false (p x) (x ∷ take_while p xs) [] stop))
+      (All-nil (λ x. p x ≡ true))
 ]
 
 pub front-and-rest : (p : ℕ → Bool) (xs : List ℕ) → xs ≡ take_while p xs ++ after_while p xs
 front-and-rest p xs = sym (take-append-drop (prefix_len p xs) xs)
 
-prefix_len-stop : (p : ℕ → Bool) (xs : List ℕ) (y : ℕ) (ys : List ℕ) → AllPass p xs → p y ≡ false → prefix_len p (xs ++ (y ∷ ys)) ≡ length xs
+prefix_len-stop : (p : ℕ → Bool) (xs : List ℕ) (y : ℕ) (ys : List ℕ) → AllPass p xs → p y ≡ false
+    → prefix_len p (xs ++ (y ∷ ys)) ≡ length xs
 prefix_len-stop p [] y ys all stop = cond-false (p y) (1 + prefix_len p ys) 0 stop
 prefix_len-stop p (x ∷ xs) y ys all stop =
     let head : p x ≡ true = All-head (λ x. p x ≡ true) x xs all in
@@ -39,11 +43,15 @@ prefix_len-all p (x ∷ xs) all =
     let more = prefix_len-all p xs (All-tail (λ x. p x ≡ true) x xs all) in
     cond-true (p x) (1 + prefix_len p xs) 0 head ∙ omega arith
 
-pub front-at : (p : ℕ → Bool) (xs : List ℕ) (y : ℕ) (ys : List ℕ) → AllPass p xs → p y ≡ false → take_while p (xs ++ (y ∷ ys)) ≡ xs
-front-at p xs y ys all stop = take_at xs (y ∷ ys) (prefix_len p (xs ++ (y ∷ ys))) (sym (prefix_len-stop p xs y ys all stop))
+pub front-at : (p : ℕ → Bool) (xs : List ℕ) (y : ℕ) (ys : List ℕ) → AllPass p xs → p y ≡ false
+    → take_while p (xs ++ (y ∷ ys)) ≡ xs
+front-at p xs y ys all stop =
+    take_at xs (y ∷ ys) (prefix_len p (xs ++ (y ∷ ys))) (sym (prefix_len-stop p xs y ys all stop))
 
-pub rest-at : (p : ℕ → Bool) (xs : List ℕ) (y : ℕ) (ys : List ℕ) → AllPass p xs → p y ≡ false → after_while p (xs ++ (y ∷ ys)) ≡ y ∷ ys
-rest-at p xs y ys all stop = drop_at xs (y ∷ ys) (prefix_len p (xs ++ (y ∷ ys))) (sym (prefix_len-stop p xs y ys all stop))
+pub rest-at : (p : ℕ → Bool) (xs : List ℕ) (y : ℕ) (ys : List ℕ) → AllPass p xs → p y ≡ false
+    → after_while p (xs ++ (y ∷ ys)) ≡ y ∷ ys
+rest-at p xs y ys all stop =
+    drop_at xs (y ∷ ys) (prefix_len p (xs ++ (y ∷ ys))) (sym (prefix_len-stop p xs y ys all stop))
 
 -- ---- a byte or a text in front
 
@@ -80,7 +88,9 @@ past-front (x ∷ xs) ys = cond-true (x == x) (past xs (xs ++ ys)) None (eq-eqb 
 same_pair : (a b : List ℕ × List ℕ) → Some a ≡ Some b → a ≡ b
 same_pair a b h = cc
 
-onto-some : (c x : ℕ) (xs : List ℕ) (p : List ℕ × List ℕ) (o : Option (List ℕ × List ℕ)) → ((q : List ℕ × List ℕ) → o ≡ Some q → xs ≡ q.0 ++ (c ∷ q.1)) → onto x (x == c) xs o ≡ Some p → x ∷ xs ≡ p.0 ++ (c ∷ p.1)
+onto-some : (c x : ℕ) (xs : List ℕ) (p : List ℕ × List ℕ) (o : Option (List ℕ × List ℕ))
+    → ((q : List ℕ × List ℕ) → o ≡ Some q → xs ≡ q.0 ++ (c ∷ q.1)) → onto x (x == c) xs o ≡ Some p
+    → x ∷ xs ≡ p.0 ++ (c ∷ p.1)
 onto-some c x xs p (Some q) f h =
     let e : (x ∷ q.0, q.1) ≡ p = same_pair _ _ h in
     ap (λ l. x ∷ l) (f q refl) ∙ ap (λ (r : List ℕ × List ℕ). r.0 ++ (c ∷ r.1)) e

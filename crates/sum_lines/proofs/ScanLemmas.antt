@@ -1,11 +1,11 @@
 -- What the scanning functions answer, step by step.
-use Rattle.std.proofs.Common.{ℕ, zero, suc, ◌≡◌, ◌≢◌, ◌+◌, ◌-◌, ◌*◌, ◌/◌, ◌<◌, ◌≤◌, not, Bool, true, false, cond, eqb, eq-eqb, ◌==◌, nat_le, List, [], ◌∷◌, ◌++◌, length, take, drop, get_or, slice_range, Option, None, Some, MatchOption, IsSome, IfSome, Result, Ok, Err, Bor, ◌↔◌, refl, ap, sym, ◌∙◌, arith, ◌⊎◌, inl, inr, subst, append_assoc, length-append, length-drop}
+use Rattle.std.proofs.Common.{ℕ, ◌≡◌, ◌+◌, ◌-◌, ◌*◌, ◌<◌, ◌≤◌, Bool, true, false, cond, eqb, ◌==◌, nat_le, List, [], ◌∷◌, ◌++◌, length, take, drop, get_or, slice_range, Option, None, Some, MatchOption, IfSome, Result, Ok, Err, Bor, refl, ap, sym, ◌∙◌, arith, inl, inr, subst, append_assoc, length-append, length-drop}
 use lib.Pointwise.{pointwise}
-use Rattle.std.specs.List.{AllPass, prefix_len, take_while}
-use Rattle.std.specs.Option.{option_copied, is_some}
+use Rattle.std.specs.List.{AllPass, take_while}
+use Rattle.std.specs.Option.{option_copied}
 use Rattle.std.proofs.lemmas.Bool.{cases_Bool, cond-true, cond-false, eqb-true, and_parts, leb-true}
 use Rattle.std.proofs.lemmas.Bool.Decides.{eqb_tells}
-use Rattle.std.proofs.lemmas.List.{length-take-le, drop_at, get_or-drop, take-append-drop, drop_more, take_at, take_all}
+use Rattle.std.proofs.lemmas.List.{drop_at, get_or-drop, take-append-drop, drop_more, take_at, take_all}
 use Rattle.std.proofs.lemmas.List.Elements.{All-from_get_or}
 use Rattle.memchr.specs.Find.{Nowhere, Passes, IsLastByte, is_byte}
 use Rattle.hex.specs.Hex.{decode_of, is_hex_digit}
@@ -18,14 +18,16 @@ use Rattle.digest_kinds.specs.declared.algo.Algo.{Algo}
 use Rattle.digest_kinds.specs.declared.algo.Algo.TheVariants.{Md5, Sha1, Sha224, Sha256, Sha384, Sha512, Blake2b}
 use Rattle.digest_kinds.specs.declared.algo.Algos.{Algos}
 use Rattle.sum_lines.specs.Shapes.{is_blank, mark, optional}
-use Rattle.sum_lines.specs.Scanned.{Parts, after_while, unmarked, unspaced, past, split_last, is_past, begins, algo_of, algo_at, digest_at, Opened, opened_of, name_behind, tagged_of, sized, tail_of, plain_behind, plain_as}
-use Rattle.sum_lines.proofs.FrontLemmas.{isn't, split_last-none, split_last-at, front-and-rest, unmarked-is, past-some, past-front, unspaced-is, split_last-some}
-use Rattle.sum_lines.proofs.TaggedLemmas.{opened_of-some, algo_of-tag}
+use Rattle.sum_lines.specs.Scanned.{after_while, unmarked, past, split_last, is_past, begins, algo_of, digest_at, Opened, opened_of, name_behind, tagged_of, sized, tail_of, plain_behind, plain_as}
+use Rattle.sum_lines.proofs.FrontLemmas.{isn't, split_last-none, split_last-at, front-and-rest, unmarked-is, past-some, split_last-some}
+use Rattle.sum_lines.proofs.TaggedParts.{opened_of-some}
+use Rattle.sum_lines.proofs.TaggedLemmas.{algo_of-tag}
 use Rattle.sum_lines.proofs.PlainLemmas.{tail_of-some, has_len-some}
 
 -- ---- a text in front
 
-past-pointwise : (xs ys : List ℕ) → past xs ys ≡ cond (pointwise eqb (take (length xs) ys) xs) (Some (drop (length xs) ys)) None
+past-pointwise : (xs ys : List ℕ)
+    → past xs ys ≡ cond (pointwise eqb (take (length xs) ys) xs) (Some (drop (length xs) ys)) None
 past-pointwise [] ys = refl
 past-pointwise (x ∷ xs) [] = refl
 past-pointwise (x ∷ xs) (y ∷ ys) = elim (eqb_tells y x) [
@@ -34,9 +36,12 @@ past-pointwise (x ∷ xs) (y ∷ ys) = elim (eqb_tells y x) [
 ]
 
 pub past_is : (xs ys : List ℕ) (r : Option (Bor (List ℕ)))
-    → MatchOption r (pointwise eqb (take (length xs) ys) xs ≡ false) (λ x. (pointwise eqb (take (length xs) ys) xs ≡ true) × (x.now ≡ drop (length xs) ys) × (length x.now + length xs ≡ length ys)) → option_copied r ≡ past xs ys
+    → MatchOption r (pointwise eqb (take (length xs) ys) xs ≡ false)
+    (λ x. (pointwise eqb (take (length xs) ys) xs ≡ true) × (x.now ≡ drop (length xs) ys)
+    × (length x.now + length xs ≡ length ys)) → option_copied r ≡ past xs ys
 past_is xs ys None h = sym (past-pointwise xs ys ∙ cond-false (pointwise eqb (take (length xs) ys) xs) _ None h)
-past_is xs ys (Some x) h = ap Some h.1 ∙ sym (past-pointwise xs ys ∙ cond-true (pointwise eqb (take (length xs) ys) xs) _ None h.0)
+past_is xs ys (Some x) h = ap Some h.1
+    ∙ sym (past-pointwise xs ys ∙ cond-true (pointwise eqb (take (length xs) ys) xs) _ None h.0)
 
 -- ---- the last such byte
 
@@ -47,15 +52,20 @@ other_byte c x h = elim (eqb_tells x c) [
 ]
 
 pub last_none : (c : ℕ) (s : List ℕ) → Nowhere (Passes (is_byte c) s) 0 (length s) → split_last c s ≡ None
-last_none c s h = split_last-none c s (All-from_get_or (λ x. isn't c x ≡ true) s 0 (λ k lt. other_byte c (get_or s k 0) (h k (omega arith) lt)))
+last_none c s h = split_last-none c s
+    (All-from_get_or (λ x. isn't c x ≡ true) s 0 (λ k lt. other_byte c (get_or s k 0) (h k (omega arith) lt)))
 
-pub last_some : (c k : ℕ) (s : List ℕ) → IsLastByte (is_byte c) s (Some k) → split_last c s ≡ Some (take k s, drop (k + 1) s)
+pub last_some : (c k : ℕ) (s : List ℕ) → IsLastByte (is_byte c) s (Some k)
+    → split_last c s ≡ Some (take k s, drop (k + 1) s)
 last_some c k s h =
     let at : get_or s k 0 ≡ c = eqb-true (get_or s k 0) c h.1 in
     let high : k < length s = h.0.high in
-    let cut : s ≡ take k s ++ (c ∷ drop (k + 1) s) = sym (take-append-drop k s) ∙ ap (λ l. take k s ++ l) (drop_more s k 0 high ∙ ap (λ x. x ∷ drop (k + 1) s) at) in
+    let cut : s ≡ take k s ++ (c ∷ drop (k + 1) s) = sym (take-append-drop k s)
+    ∙ ap (λ l. take k s ++ l) (drop_more s k 0 high ∙ ap (λ x. x ∷ drop (k + 1) s) at) in
     let free : AllPass (isn't c) (drop (k + 1) s) = All-from_get_or (λ x. isn't c x ≡ true) (drop (k + 1) s) 0
-        (λ j lt. rw (get_or-drop (k + 1) s j 0) (other_byte c (get_or s (k + 1 + j) 0) (h.0.after (k + 1 + j) (omega arith) (let l = length-drop (k + 1) s in omega arith)))) in
+    (λ j lt. rw (get_or-drop (k + 1) s j 0)
+    (other_byte c (get_or s (k + 1 + j) 0) (h.0.after (k + 1 + j) (omega arith) (let l = length-drop (k + 1) s in
+    omega arith)))) in
     ap (split_last c) cut ∙ split_last-at c (take k s) (drop (k + 1) s) free
 
 -- ---- the algorithm whose tag stands in front
@@ -65,7 +75,8 @@ begins-tag a s None e h = cc
 begins-tag a s (Some rest) e h = (rest, past-some (tag a) s rest (sym e))
 
 -- an algorithm that is found has its tag there
-one-tag : (a b : Algo) (s : List ℕ) (later : Option Algo) → (later ≡ Some a → BeginsWithTag s a) → cond (begins b s) (Some b) later ≡ Some a → BeginsWithTag s a
+one-tag : (a b : Algo) (s : List ℕ) (later : Option Algo) → (later ≡ Some a → BeginsWithTag s a)
+    → cond (begins b s) (Some b) later ≡ Some a → BeginsWithTag s a
 one-tag a b s later more h = elim (cases_Bool (begins b s)) [
   | inl here ↦
       let same : b ≡ a = (let e = sym (cond-true (begins b s) (Some b) later here) ∙ h in cc) in
@@ -75,9 +86,12 @@ one-tag a b s later more h = elim (cases_Bool (begins b s)) [
 ]
 
 algo_of-some : (s : List ℕ) (a : Algo) → algo_of s ≡ Some a → BeginsWithTag s a
-algo_of-some s a h = one-tag a Md5 s _ (one-tag a Sha1 s _ (one-tag a Sha224 s _ (one-tag a Sha256 s _ (one-tag a Sha384 s _ (one-tag a Sha512 s _ (one-tag a Blake2b s _ (λ e. cc))))))) h
+algo_of-some s a h = one-tag a Md5 s _
+    (one-tag a Sha1 s _ (one-tag a Sha224 s _
+    (one-tag a Sha256 s _ (one-tag a Sha384 s _ (one-tag a Sha512 s _ (one-tag a Blake2b s _ (λ e. cc))))))) h
 
-pub algo_is : (s : List ℕ) (r : Option Algo) → IfSome r (λ a. BeginsWithTag s a) → ((a : Algo) → BeginsWithTag s a → r ≡ Some a) → r ≡ algo_of s
+pub algo_is : (s : List ℕ) (r : Option Algo) → IfSome r (λ a. BeginsWithTag s a)
+    → ((a : Algo) → BeginsWithTag s a → r ≡ Some a) → r ≡ algo_of s
 algo_is s (Some a) t f = sym (ap algo_of t.1 ∙ algo_of-tag a t.0)
 algo_is s None t f = go (algo_of s) refl
   where
@@ -102,7 +116,8 @@ decoded-digits s d h some few =
     let size : length s ≡ 2 * length d = k.2 in
     record { some = omega arith; few = omega arith; even = omega arith; digits = k.1 }
 
-digest_refused : (s : List ℕ) (n : ℕ) (r : Result (List ℕ) FromHexError) → decode_of s ≡ r → 1 ≤ n → n ≤ 64 → (IsDigits s → ⊥) → digest_at n r ≡ None
+digest_refused : (s : List ℕ) (n : ℕ) (r : Result (List ℕ) FromHexError) → decode_of s ≡ r → 1 ≤ n → n ≤ 64
+    → (IsDigits s → ⊥) → digest_at n r ≡ None
 digest_refused s n (Err e) h some few none = refl
 digest_refused s n (Ok d) h some few none = elim (eqb_tells (length d) n) [
   | inr other ↦ cond-false (length d == n) (Some d) None other.0
@@ -112,7 +127,8 @@ digest_refused s n (Ok d) h some few none = elim (eqb_tells (length d) n) [
 pub digest_none : (s : List ℕ) (n : ℕ) → 1 ≤ n → n ≤ 64 → (IsDigits s → ⊥) → digest_at n (decode_of s) ≡ None
 digest_none s n some few none = digest_refused s n (decode_of s) refl some few none
 
-sized_refused : (a : Algo) (s : List ℕ) (r : Result (List ℕ) FromHexError) → decode_of s ≡ r → (IsDigits s → ⊥) → sized a r ≡ None
+sized_refused : (a : Algo) (s : List ℕ) (r : Result (List ℕ) FromHexError) → decode_of s ≡ r → (IsDigits s → ⊥)
+    → sized a r ≡ None
 sized_refused a s (Err e) h none = refl
 sized_refused a s (Ok d) h none = elim (cases_Bool (has_len a (length d))) [
   | inl has ↦ absurd (none (decoded-digits s d h (has_len-some a (length d) has) (has_len-most a (length d) has)))
@@ -124,37 +140,50 @@ sized_none a s none = sized_refused a s (decode_of s) refl none
 
 -- ---- a tagged line
 
-regroup : (a b c d e f i : List ℕ) → a ++ (b ++ (c ++ (d ++ (e ++ (f ++ i))))) ≡ (a ++ (b ++ (c ++ (d ++ (e ++ f))))) ++ i
+regroup : (a b c d e f i : List ℕ)
+    → a ++ (b ++ (c ++ (d ++ (e ++ (f ++ i))))) ≡ (a ++ (b ++ (c ++ (d ++ (e ++ f))))) ++ i
 regroup a b c d e f i = simp append_assoc
 
 -- what stands behind the opening parenthesis is the line's end
-pub opened-ends : (algos : Algos) (line : List ℕ) (o : Opened) → Some o ≡ opened_of algos line → (front : List ℕ) × (line ≡ front ++ o.inner)
+pub opened-ends : (algos : Algos) (line : List ℕ) (o : Opened) → Some o ≡ opened_of algos line → (front : List ℕ)
+    × (line ≡ front ++ o.inner)
 opened-ends algos line o h =
     let u : Bool × List ℕ = unmarked (after_while is_blank line) in
     let f = opened_of-some algos line o (sym h) in
-    let space : List ℕ = optional f.gap (32 ∷ []) in
-    (take_while is_blank line ++ (mark u.0 ++ (tag o.kind.algo ++ (f.width ++ (space ++ (40 ∷ []))))),
-      front-and-rest is_blank line ∙ ap (λ l. take_while is_blank line ++ l) (unmarked-is (after_while is_blank line) ∙ ap (λ l. mark u.0 ++ l) f.whole)
-      ∙ regroup (take_while is_blank line) (mark u.0) (tag o.kind.algo) f.width space (40 ∷ []) o.inner)
+    let space : List ℕ = optional f.gap (32 ∷ []) in (
+      take_while is_blank line ++ (mark u.0 ++ (tag o.kind.algo ++ (f.width ++ (space ++ (40 ∷ []))))),
+      front-and-rest is_blank line
+          ∙ ap (λ l. take_while is_blank line ++ l) (unmarked-is (after_while is_blank line)
+          ∙ ap (λ l. mark u.0 ++ l) f.whole)
+          ∙ regroup (take_while is_blank line) (mark u.0) (tag o.kind.algo) f.width space (40 ∷ []) o.inner,
+    )
 
 -- the places of the name
-pub name-range : (line front inner raw behind : List ℕ) → line ≡ front ++ inner → Some (raw, behind) ≡ split_last 41 inner
-    → (length inner ≤ length line) × (length line - length inner + length raw ≤ length line) × (slice_range line (length line - length inner) (length line - length inner + length raw) ≡ raw)
+pub name-range : (line front inner raw behind : List ℕ) → line ≡ front ++ inner
+    → Some (raw, behind) ≡ split_last 41 inner
+    → (length inner ≤ length line) × (length line - length inner + length raw ≤ length line)
+    × (slice_range line (length line - length inner) (length line - length inner + length raw) ≡ raw)
 name-range line front inner raw behind ends split =
     let cut : inner ≡ raw ++ (41 ∷ behind) = split_last-some 41 inner (raw, behind) (sym split) in
     let sum : length line ≡ length front + length inner = ap length ends ∙ length-append front inner in
-    let part : length inner ≡ length raw + (1 + length behind) = ap length cut ∙ length-append raw (41 ∷ behind) ∙ omega arith in
+    let part : length inner ≡ length raw + (1 + length behind) = ap length cut ∙ length-append raw (41 ∷ behind)
+    ∙ omega arith in
     let start : length line - length inner ≡ length front = omega arith in
-    let rest : drop (length front) line ≡ raw ++ (41 ∷ behind) = ap (drop (length front)) ends ∙ drop_at front inner (length front) refl ∙ cut in
+    let rest : drop (length front) line ≡ raw ++ (41 ∷ behind) = ap (drop (length front)) ends
+    ∙ drop_at front inner (length front) refl ∙ cut in
     let len : (length front + length raw) - length front ≡ length raw = omega arith in
     (omega arith, omega arith, rw (start, len, rest) (take_at raw (41 ∷ behind) (length raw) refl))
 
 -- all of it
 pub tagged-read : (algos : Algos) (line : List ℕ) (o : Opened) → Some o ≡ opened_of algos line
-    → (raw after name after_blank digits digits_blank d : List ℕ) → Some (raw, after) ≡ split_last 41 o.inner → 0 < length raw → after_blank ≡ after_while is_blank after → Some digits ≡ past (61 ∷ []) after_blank → digits_blank ≡ after_while is_blank digits
-    → Some d ≡ digest_at o.kind.len (decode_of digits_blank) → name ≡ raw → Some (record { escaped = o.escaped; kind = o.kind; digest = d; text = name }) ≡ tagged_of algos line
+    → (raw after name after_blank digits digits_blank d : List ℕ) → Some (raw, after) ≡ split_last 41 o.inner
+    → 0 < length raw → after_blank ≡ after_while is_blank after → Some digits ≡ past (61 ∷ []) after_blank
+    → digits_blank ≡ after_while is_blank digits
+    → Some d ≡ digest_at o.kind.len (decode_of digits_blank) → name ≡ raw
+    → Some (record { escaped = o.escaped; kind = o.kind; digest = d; text = name }) ≡ tagged_of algos line
 unfolding name_behind
-tagged-read algos line o h [] after name after_blank digits digits_blank d hs some hb hd hdb hh is = absurd (omega arith)
+tagged-read algos line o h [] after name after_blank digits digits_blank d hs some hb hd hdb hh is =
+    absurd (omega arith)
 tagged-read algos line o h (r ∷ rs) after name after_blank digits digits_blank d hs some hb hd hdb hh is =
     let front : opened_of algos line ≡ Some o = sym h in
     let q : split_last 41 o.inner ≡ Some (r ∷ rs, after) = sym hs in
@@ -171,20 +200,31 @@ rest_any : (xs : List ℕ) (i : ℕ) → slice_range xs i (length xs) ≡ drop i
 rest_any xs i = take_all (length xs - i) (drop i xs) (omega (arith, length-drop i xs))
 
 -- the place of the tail
-pub tail-place : (line blank text digits rest tail : List ℕ) (e : Bool) → blank ≡ after_while is_blank line → (e, text) ≡ unmarked blank → digits ≡ take_while is_hex_digit text → rest ≡ after_while is_hex_digit text → Some tail ≡ tail_of rest
+pub tail-place : (line blank text digits rest tail : List ℕ) (e : Bool) → blank ≡ after_while is_blank line
+    → (e, text) ≡ unmarked blank → digits ≡ take_while is_hex_digit text → rest ≡ after_while is_hex_digit text
+    → Some tail ≡ tail_of rest
     → (length tail ≤ length line) × (slice_range line (length line - length tail) (length line) ≡ tail)
 tail-place line blank text digits rest tail e hb hm hd hr ht =
     let t = tail_of-some rest tail (sym ht) in
     let marked : blank ≡ mark e ++ text = unmarked-is blank ∙ ap (λ (x : Bool × List ℕ). mark x.0 ++ x.1) (sym hm) in
-    let cut : text ≡ digits ++ (t.0 ∷ tail) = front-and-rest is_hex_digit text ∙ ap (λ l. l ++ after_while is_hex_digit text) (sym hd) ∙ ap (λ l. digits ++ l) (sym hr ∙ t.2) in
+    let cut : text ≡ digits ++ (t.0 ∷ tail) = front-and-rest is_hex_digit text
+    ∙ ap (λ l. l ++ after_while is_hex_digit text) (sym hd) ∙ ap (λ l. digits ++ l) (sym hr ∙ t.2) in
     let front : List ℕ = take_while is_blank line ++ (mark e ++ (digits ++ (t.0 ∷ []))) in
-    let whole : line ≡ front ++ tail = front-and-rest is_blank line ∙ ap (λ l. take_while is_blank line ++ l) (sym hb ∙ marked ∙ ap (λ l. mark e ++ l) cut) ∙ regroup4 (take_while is_blank line) (mark e) digits (t.0 ∷ []) tail in
+    let whole : line ≡ front ++ tail = front-and-rest is_blank line
+    ∙ ap (λ l. take_while is_blank line ++ l) (sym hb ∙ marked ∙ ap (λ l. mark e ++ l) cut)
+    ∙ regroup4 (take_while is_blank line) (mark e) digits (t.0 ∷ []) tail in
     let sum : length line ≡ length front + length tail = ap length whole ∙ length-append front tail in
-    let at : length line - length tail ≡ length front = omega arith in
-    (omega arith, rest_any line (length line - length tail) ∙ ap (λ k. drop k line) at ∙ ap (drop (length front)) whole ∙ drop_at front tail (length front) refl)
+    let at : length line - length tail ≡ length front = omega arith in (
+      omega arith,
+      rest_any line (length line - length tail) ∙ ap (λ k. drop k line) at
+          ∙ ap (drop (length front)) whole ∙ drop_at front tail (length front) refl,
+    )
 
-pub plain-read : (a : Algo) (line blank text digits rest tail name : List ℕ) (e : Bool) (k : KindValue × List ℕ) → blank ≡ after_while is_blank line → (e, text) ≡ unmarked blank → digits ≡ take_while is_hex_digit text → rest ≡ after_while is_hex_digit text → Some tail ≡ tail_of rest
-    → Some k ≡ sized a (decode_of digits) → name ≡ tail → Some (record { escaped = e; kind = k.0; digest = k.1; text = name }) ≡ plain_as a line
+pub plain-read : (a : Algo) (line blank text digits rest tail name : List ℕ) (e : Bool) (k : KindValue × List ℕ)
+    → blank ≡ after_while is_blank line → (e, text) ≡ unmarked blank → digits ≡ take_while is_hex_digit text
+    → rest ≡ after_while is_hex_digit text → Some tail ≡ tail_of rest
+    → Some k ≡ sized a (decode_of digits) → name ≡ tail
+    → Some (record { escaped = e; kind = k.0; digest = k.1; text = name }) ≡ plain_as a line
 unfolding plain_behind
 plain-read a line blank text digits rest tail name e k hb hm hd hr ht hs is =
     let u : unmarked (after_while is_blank line) ≡ (e, text) = ap unmarked (sym hb) ∙ sym hm in

@@ -42,10 +42,6 @@ Left-stop a b c i j k text rest piece more h e w =
       w.1 ∙ ap after_failure h.3,
     )
 
--- a list at a place
-pub cut_at : (rest : List ℕ) (n : ℕ) → rest ≡ take n rest ++ take (length rest - n) (drop n rest)
-cut_at rest n = sym (take-append-drop n rest) ∙ ap (λ l. take n rest ++ l) (sym (take_rest rest n))
-
 -- what a call that writes all of a text answers, over plain values
 abbrev pub Ends : {E : Type 0} → Option (List ℕ) → Option (List ℕ) → ℕ → ℕ → List ℕ → Result (Unit {0}) E → Type 0
 Ends a b i j text r =
@@ -80,3 +76,7 @@ pub Ends-at_second : (a b c : Option (List ℕ)) (i j k : ℕ) (text x y z : Lis
     → AppendsFront a c text × (k ≡ after_failure i)
 Ends-at_second a b c i j k text x y z h w e =
     Left-stop a b c i j k text (y ++ z) y z (x, e ∙ append_assoc x y z, h.0, h.1) refl w
+
+-- a list at a place
+pub cut_at : (rest : List ℕ) (n : ℕ) → rest ≡ take n rest ++ take (length rest - n) (drop n rest)
+cut_at rest n = sym (take-append-drop n rest) ∙ ap (λ l. take n rest ++ l) (sym (take_rest rest n))

@@ -1,207 +1,22 @@
--- A line that joins from the parts of a tagged line is read as these parts, and no other line is read.
-use Rattle.std.proofs.Common.{ℕ, zero, suc, ◌≡◌, ◌+◌, ◌*◌, ◌/◌, ◌<◌, ◌≤◌, not, Bool, true, false, cond, ◌&&◌, ◌||◌, ◌==◌, nat_le, eq-eqb, List, [], ◌∷◌, ◌++◌, length, Option, None, Some, Result, Ok, Err, refl, ap, sym, ◌∙◌, arith, ◌⊎◌, inl, inr, subst}
+-- A line that joins from the parts of a tagged line is read as these parts.
+use Rattle.std.proofs.Common.{ℕ, ◌≡◌, ◌*◌, ◌<◌, ◌≤◌, Bool, true, false, ◌==◌, nat_le, eq-eqb, List, [], ◌∷◌, ◌++◌, length, None, Some, Ok, refl, ap, sym, ◌∙◌, arith, inl, inr}
 use Rattle.std.proofs.lemmas.List.{append-nil, drop_all}
 use Rattle.std.specs.List.{AllPass, take_while, prefix_len}
 use Rattle.std.specs.Fmt.{decimal}
-use Rattle.std.proofs.lemmas.Bool.{cond-true, cond-false, eqb-true, and_parts, and_from, le-leb, leb-true}
+use Rattle.std.proofs.lemmas.Bool.{cond-true, cond-false, and_parts, leb-true}
 use Rattle.std.proofs.lemmas.Bool.Decides.{eqb_tells}
-use Rattle.std.proofs.lemmas.Option.{cond_some}
-use Rattle.std.proofs.lemmas.List.Elements.{All-cons, All-head, All-nil, All-append, All-weaker}
+use Rattle.std.proofs.lemmas.List.Elements.{All-cons, All-head, All-append, All-weaker}
 use Rattle.hex.specs.Hex.{decode_of, is_hex_digit}
-use Rattle.hex.specs.declared.error.FromHexError.{FromHexError}
 use Rattle.hex.proofs.HexLemmas.{decode_of-ok}
-use Rattle.digest_kinds.specs.Kinds.{KindValue, full, full_kind, has_len, tag}
+use Rattle.digest_kinds.specs.Kinds.{KindValue, full, full_kind, tag}
 use Rattle.digest_kinds.specs.declared.algo.Algo.{Algo}
 use Rattle.digest_kinds.specs.declared.algo.Algo.TheVariants.{Md5, Sha1, Sha224, Sha256, Sha384, Sha512, Blake2b}
 use Rattle.digest_kinds.specs.declared.algo.Algos.{Algos}
 use Rattle.digest_kinds.specs.declared.algo.Algos.TheVariants.{One, Any}
 use Rattle.sum_lines.specs.Shapes.{is_blank, mark, optional, Width, Allows, Tagged}
-use Rattle.sum_lines.specs.Scanned.{◌>>=◌, Parts, after_while, unmarked, past, unspaced, algo_of, algo_at, digest_at, is_digit, kind_at, bits_at, blake2b_at, width_at, split_last, some_of, digest_behind, Opened, opened_text, opened_of, name_behind, tagged_of}
-use Rattle.sum_lines.proofs.FrontLemmas.{bind_some, front-passes, front-and-rest, front-at, rest-at, prefix_len-all, unmarked-is, unspaced-is, past-some, past-front, split_last-some, split_last-at, isn't, some_of-is, some_of-some}
-use Rattle.sum_lines.proofs.BitsLemmas.{kind_at-some, decimal-kind_at, decimal-digits}
-
--- ---- what is read joins to the line
-
-digest_at-some : (n : ℕ) (r : Result (List ℕ) FromHexError) (d : List ℕ) → digest_at n r ≡ Some d → (r ≡ Ok d) × (length d ≡ n)
-digest_at-some n (Ok x) d h = let e = cond_some (length x == n) x d h in (ap Ok e.1, ap length (sym e.1) ∙ eqb-true (length x) n e.0)
-digest_at-some n (Err e) d h = cc
-
--- what stands behind the closing parenthesis
-record Behind (n : ℕ) (s d : List ℕ) : Type 0 where
-  before : List ℕ
-  after : List ℕ
-  digits : List ℕ
-  before_blanks : AllPass is_blank before
-  after_blanks : AllPass is_blank after
-  spelled : decode_of digits ≡ Ok d
-  size : length d ≡ n
-  whole : s ≡ before ++ (61 ∷ (after ++ digits))
-
-digest_behind-some : (n : ℕ) (s d : List ℕ) → digest_behind n s ≡ Some d → Behind n s d
-digest_behind-some n s d h =
-    let t = bind_some (past (61 ∷ []) (after_while is_blank s)) (λ t. digest_at n (decode_of (after_while is_blank t))) d h in
-    let e = digest_at-some n (decode_of (after_while is_blank t.0)) d t.2 in
-    let eq : after_while is_blank s ≡ 61 ∷ t.0 = past-some (61 ∷ []) (after_while is_blank s) t.0 t.1 in
-    record {
-      before = take_while is_blank s;
-      after = take_while is_blank t.0;
-      digits = after_while is_blank t.0;
-      before_blanks = front-passes is_blank s;
-      after_blanks = front-passes is_blank t.0;
-      spelled = e.0;
-      size = e.1;
-      whole = front-and-rest is_blank s ∙ ap (λ l. take_while is_blank s ++ l) (eq ∙ ap (λ l. 61 ∷ l) (front-and-rest is_blank t.0));
-    }
-
--- what stood between the tag and the name
-pub record Wide (a : Algo) (s : List ℕ) (w : KindValue × List ℕ) : Type 0 where
-  pub is_algo : w.0.algo ≡ a
-  pub width : List ℕ
-  pub is_width : Width w.0 width
-  pub whole : s ≡ width ++ w.1
-
-same_width : (a b : KindValue × List ℕ) → Some a ≡ Some b → a ≡ b
-same_width a b h = cc
-
-wide-none : (a : Algo) (s : List ℕ) (w : KindValue × List ℕ) → Some (full_kind a, s) ≡ Some w → Wide a s w
-wide-none a s w h =
-    let P : KindValue × List ℕ → Type 0 = Wide a s in
-    subst P (same_width _ _ h) (record { is_algo = refl; width = []; is_width = inl (refl, refl); whole = refl })
-
-wide-bits : (s : List ℕ) (w : KindValue × List ℕ) → bits_at s ≡ Some w → Wide Blake2b (45 ∷ s) w
-wide-bits s w h =
-    let k = bind_some (kind_at (take_while is_digit s)) (λ kind. Some (kind, after_while is_digit s)) w h in
-    let b = kind_at-some (take_while is_digit s) k.0 (front-passes is_digit s) k.1 in
-    let P : KindValue × List ℕ → Type 0 = Wide Blake2b (45 ∷ s) in
-    let has : has_len Blake2b k.0.len ≡ true = and_from _ _ (le-leb 1 k.0.len b.2) (le-leb k.0.len 64 b.3) in
-    subst P (same_width _ _ k.2) (record {
-      is_algo = b.0;
-      width = 45 ∷ take_while is_digit s;
-      is_width = inr (ap (λ l. 45 ∷ l) b.1, b.0, has);
-      whole = ap (λ l. 45 ∷ l) (front-and-rest is_digit s);
-    })
-
-wide-blake2b : (s : List ℕ) (w : KindValue × List ℕ) → blake2b_at s ≡ Some w → Wide Blake2b s w
-wide-blake2b [] w h = wide-none Blake2b [] w h
-wide-blake2b (b ∷ bs) w h = elim (eqb_tells b 45) [
-  | inl same ↦ let P : List ℕ → Type 0 = λ s. Wide Blake2b s w in subst P (ap (λ x. x ∷ bs) (sym same.1)) (wide-bits bs w (rw same.0 at h))
-  | inr other ↦ wide-none Blake2b (b ∷ bs) w (rw other.0 at h)
-]
-
-pub width_at-some : (a : Algo) (s : List ℕ) (w : KindValue × List ℕ) → width_at a s ≡ Some w → Wide a s w
-width_at-some Md5 s w h = wide-none Md5 s w h
-width_at-some Sha1 s w h = wide-none Sha1 s w h
-width_at-some Sha224 s w h = wide-none Sha224 s w h
-width_at-some Sha256 s w h = wide-none Sha256 s w h
-width_at-some Sha384 s w h = wide-none Sha384 s w h
-width_at-some Sha512 s w h = wide-none Sha512 s w h
-width_at-some Blake2b s w h = wide-blake2b s w h
-
--- a line up to its opening parenthesis
-pub record Front (algos : Algos) (e : Bool) (s : List ℕ) (o : Opened) : Type 0 where
-  pub escaped : o.escaped ≡ e
-  pub allowed : Allows algos o.kind.algo
-  pub width : List ℕ
-  pub gap : Bool
-  pub is_width : Width o.kind width
-  pub whole : s ≡ tag o.kind.algo ++ (width ++ (optional gap (32 ∷ []) ++ (40 ∷ o.inner)))
-
-same_opened : (a b : Opened) → Some a ≡ Some b → a ≡ b
-same_opened a b h = cc
-
--- the algorithm that is looked for is allowed
-algo_at-allowed : (algos : Algos) (s : List ℕ) (a : Algo) → algo_at algos s ≡ Some a → Allows algos a
-algo_at-allowed (One b) s a h = cc
-algo_at-allowed Any s a h = tt
-
-opened_text-some : (algos : Algos) (e : Bool) (s : List ℕ) (o : Opened) → opened_text algos e s ≡ Some o → Front algos e s o
-unfolding opened_text
-opened_text-some algos e s o h =
-    let a = bind_some _ _ _ h in
-    let t = bind_some _ _ _ a.2 in
-    let w = bind_some _ _ _ t.2 in
-    let i = bind_some _ _ _ w.2 in
-    let is : record { escaped = e; kind = w.0.0; inner = i.0 } ≡ o = same_opened _ _ i.2 in
-    let wide = width_at-some a.0 t.0 w.0 w.1 in
-    let g = unspaced-is w.0.1 in
-    let A : Algo → Type 0 = Allows algos in
-    let P : Opened → Type 0 = Front algos e s in
-    subst P is (record {
-      escaped = refl;
-      allowed = subst A (sym wide.is_algo) (algo_at-allowed algos s a.0 a.1);
-      width = wide.width;
-      gap = g.0;
-      is_width = wide.is_width;
-      whole = past-some (tag a.0) s t.0 t.1 ∙ ap (λ x. tag x ++ t.0) (sym wide.is_algo)
-          ∙ ap (λ l. tag w.0.0.algo ++ l) (wide.whole ∙ ap (λ l. wide.width ++ l) (g.1 ∙ ap (λ l. optional g.0 (32 ∷ []) ++ l) (past-some (40 ∷ []) (unspaced w.0.1) i.0 i.1)));
-    })
-
-pub opened_of-some : (algos : Algos) (line : List ℕ) (o : Opened) → opened_of algos line ≡ Some o → Front algos (unmarked (after_while is_blank line)).0 (unmarked (after_while is_blank line)).1 o
-opened_of-some algos line o h = opened_text-some algos (unmarked (after_while is_blank line)).0 (unmarked (after_while is_blank line)).1 o h
-
--- what stands behind the opening parenthesis
-record Named (o : Opened) (p : Parts) : Type 0 where
-  escaped : p.escaped ≡ o.escaped
-  is_kind : p.kind ≡ o.kind
-  some : 0 < length p.text
-  rest : List ℕ
-  behind : Behind o.kind.len rest p.digest
-  whole : o.inner ≡ p.text ++ (41 ∷ rest)
-
-pub same_parts : (a b : Parts) → Some a ≡ Some b → a ≡ b
-same_parts a b h = cc
-
-name_behind-some : (o : Opened) (p : Parts) → name_behind o ≡ Some p → Named o p
-unfolding name_behind
-name_behind-some o p h =
-    let q = bind_some _ _ _ h in
-    let r = bind_some _ _ _ q.2 in
-    let d = bind_some _ _ _ r.2 in
-    let is : record { escaped = o.escaped; kind = o.kind; digest = d.0; text = r.0 } ≡ p = same_parts _ _ d.2 in
-    let raw = some_of-is q.0.0 r.0 r.1 in
-    let P : Parts → Type 0 = Named o in
-    subst P is (record {
-      escaped = refl;
-      is_kind = refl;
-      some = raw.0;
-      rest = q.0.1;
-      behind = digest_behind-some o.kind.len q.0.1 d.0 d.1;
-      whole = split_last-some 41 o.inner q.0 q.1 ∙ ap (λ l. l ++ (41 ∷ q.0.1)) raw.1;
-    })
-
-pub read_is_tagged : (algos : Algos) (line : List ℕ) (p : Parts) → tagged_of algos line ≡ Some p → Tagged algos line p.escaped p.kind p.digest p.text
-read_is_tagged algos line p h =
-    let u : Bool × List ℕ = unmarked (after_while is_blank line) in
-    let found = bind_some (opened_of algos line) name_behind p h in
-    let o : Opened = found.0 in
-    let front = opened_of-some algos line o found.1 in
-    let named = name_behind-some o p found.2 in
-    let behind = named.behind in
-    let A : KindValue → Type 0 = λ k. Allows algos k.algo in
-    let W : KindValue → Type 0 = λ k. Width k front.width in
-    let inner : o.inner ≡ p.text ++ (41 ∷ (behind.before ++ (61 ∷ (behind.after ++ behind.digits)))) = named.whole ∙ ap (λ l. p.text ++ (41 ∷ l)) behind.whole in
-    record {
-      blanks = take_while is_blank line;
-      width = front.width;
-      gap = front.gap;
-      before = behind.before;
-      after = behind.after;
-      digits = behind.digits;
-      allowed = subst A (sym named.is_kind) front.allowed;
-      are_blanks = front-passes is_blank line;
-      is_width = subst W (sym named.is_kind) front.is_width;
-      some = named.some;
-      before_blanks = behind.before_blanks;
-      after_blanks = behind.after_blanks;
-      spelled = behind.spelled;
-      size = behind.size ∙ ap (λ (k : KindValue). k.len) (sym named.is_kind);
-      whole = front-and-rest is_blank line ∙ ap (λ l. take_while is_blank line ++ l) (unmarked-is (after_while is_blank line) ∙ ap (λ l. mark u.0 ++ l) front.whole)
-        ∙ ap (λ m. take_while is_blank line ++ (mark m ++ (tag o.kind.algo ++ (front.width ++ (optional front.gap (32 ∷ []) ++ (40 ∷ o.inner)))))) (sym (named.escaped ∙ front.escaped))
-        ∙ ap (λ (k : KindValue). take_while is_blank line ++ (mark p.escaped ++ (tag k.algo ++ (front.width ++ (optional front.gap (32 ∷ []) ++ (40 ∷ o.inner)))))) (sym named.is_kind)
-        ∙ ap (λ l. take_while is_blank line ++ (mark p.escaped ++ (tag p.kind.algo ++ (front.width ++ (optional front.gap (32 ∷ []) ++ (40 ∷ l)))))) inner;
-    }
-
--- ---- what joins to the line is read
+use Rattle.sum_lines.specs.Scanned.{◌>>=◌, Parts, after_while, unmarked, unspaced, algo_of, algo_at, digest_at, is_digit, bits_at, width_at, digest_behind, opened_text, opened_of, name_behind, tagged_of}
+use Rattle.sum_lines.proofs.FrontLemmas.{front-at, rest-at, prefix_len-all, past-front, split_last-at, isn't, some_of-some}
+use Rattle.sum_lines.proofs.BitsLemmas.{decimal-kind_at, decimal-digits}
 
 -- bytes whose first is no blank and no backslash
 pub record Begins (xs : List ℕ) : Type 0 where
@@ -214,18 +29,66 @@ pub record Begins (xs : List ℕ) : Type 0 where
 
 pub tag-begins : (a : Algo) → Begins (tag a)
 tag-begins Md5 = record { first = 77; more = 68 ∷ 53 ∷ []; are = refl; no_blank = refl; no_mark = refl; no_hash = refl }
-tag-begins Blake2b = record { first = 66; more = 76 ∷ 65 ∷ 75 ∷ 69 ∷ 50 ∷ 98 ∷ []; are = refl; no_blank = refl; no_mark = refl; no_hash = refl }
-tag-begins Sha1 = record { first = 83; more = 72 ∷ 65 ∷ 49 ∷ []; are = refl; no_blank = refl; no_mark = refl; no_hash = refl }
-tag-begins Sha224 = record { first = 83; more = 72 ∷ 65 ∷ 50 ∷ 50 ∷ 52 ∷ []; are = refl; no_blank = refl; no_mark = refl; no_hash = refl }
-tag-begins Sha256 = record { first = 83; more = 72 ∷ 65 ∷ 50 ∷ 53 ∷ 54 ∷ []; are = refl; no_blank = refl; no_mark = refl; no_hash = refl }
-tag-begins Sha384 = record { first = 83; more = 72 ∷ 65 ∷ 51 ∷ 56 ∷ 52 ∷ []; are = refl; no_blank = refl; no_mark = refl; no_hash = refl }
-tag-begins Sha512 = record { first = 83; more = 72 ∷ 65 ∷ 53 ∷ 49 ∷ 50 ∷ []; are = refl; no_blank = refl; no_mark = refl; no_hash = refl }
+tag-begins Blake2b = record {
+  first = 66;
+  more = 76 ∷ 65 ∷ 75 ∷ 69 ∷ 50 ∷ 98 ∷ [];
+  are = refl;
+  no_blank = refl;
+  no_mark = refl;
+  no_hash = refl;
+}
+tag-begins Sha1 = record {
+  first = 83;
+  more = 72 ∷ 65 ∷ 49 ∷ [];
+  are = refl;
+  no_blank = refl;
+  no_mark = refl;
+  no_hash = refl;
+}
+tag-begins Sha224 = record {
+  first = 83;
+  more = 72 ∷ 65 ∷ 50 ∷ 50 ∷ 52 ∷ [];
+  are = refl;
+  no_blank = refl;
+  no_mark =
+      refl;
+  no_hash = refl;
+}
+tag-begins Sha256 = record {
+  first = 83;
+  more = 72 ∷ 65 ∷ 50 ∷ 53 ∷ 54 ∷ [];
+  are = refl;
+  no_blank = refl;
+  no_mark =
+      refl;
+  no_hash = refl;
+}
+tag-begins Sha384 = record {
+  first = 83;
+  more = 72 ∷ 65 ∷ 51 ∷ 56 ∷ 52 ∷ [];
+  are = refl;
+  no_blank = refl;
+  no_mark =
+      refl;
+  no_hash = refl;
+}
+tag-begins Sha512 = record {
+  first = 83;
+  more = 72 ∷ 65 ∷ 53 ∷ 49 ∷ 50 ∷ [];
+  are = refl;
+  no_blank = refl;
+  no_mark =
+      refl;
+  no_hash = refl;
+}
 
-pub unmarked-front : (blanks : List ℕ) (e : Bool) (xs rest : List ℕ) → AllPass is_blank blanks → Begins xs → unmarked (after_while is_blank (blanks ++ (mark e ++ (xs ++ rest)))) ≡ (e, xs ++ rest)
+pub unmarked-front : (blanks : List ℕ) (e : Bool) (xs rest : List ℕ) → AllPass is_blank blanks → Begins xs
+    → unmarked (after_while is_blank (blanks ++ (mark e ++ (xs ++ rest)))) ≡ (e, xs ++ rest)
 unmarked-front blanks true xs rest are b = ap unmarked (rest-at is_blank blanks 92 (xs ++ rest) are refl)
 unmarked-front blanks false xs rest are b =
     let front : xs ++ rest ≡ b.first ∷ (b.more ++ rest) = ap (λ l. l ++ rest) b.are in
-    rw front (ap unmarked (rest-at is_blank blanks b.first (b.more ++ rest) are b.no_blank) ∙ cond-false (b.first == 92) _ _ b.no_mark)
+    rw front (ap unmarked (rest-at is_blank blanks b.first (b.more ++ rest) are b.no_blank)
+    ∙ cond-false (b.first == 92) _ _ b.no_mark)
 
 -- what may follow the width: a space or a parenthesis
 abbrev pub opening : Bool → List ℕ → List ℕ
@@ -235,11 +98,13 @@ unspaced-opening : (g : Bool) (s : List ℕ) → unspaced (opening g s) ≡ 40 �
 unspaced-opening true s = refl
 unspaced-opening false s = refl
 
-front-digits : (ds : List ℕ) (g : Bool) (s : List ℕ) → AllPass is_digit ds → take_while is_digit (ds ++ opening g s) ≡ ds
+front-digits : (ds : List ℕ) (g : Bool) (s : List ℕ) → AllPass is_digit ds
+    → take_while is_digit (ds ++ opening g s) ≡ ds
 front-digits ds true s all = front-at is_digit ds 32 (40 ∷ s) all refl
 front-digits ds false s all = front-at is_digit ds 40 s all refl
 
-rest-digits : (ds : List ℕ) (g : Bool) (s : List ℕ) → AllPass is_digit ds → after_while is_digit (ds ++ opening g s) ≡ opening g s
+rest-digits : (ds : List ℕ) (g : Bool) (s : List ℕ) → AllPass is_digit ds
+    → after_while is_digit (ds ++ opening g s) ≡ opening g s
 rest-digits ds true s all = rest-at is_digit ds 32 (40 ∷ s) all refl
 rest-digits ds false s all = rest-at is_digit ds 40 s all refl
 
@@ -258,20 +123,29 @@ same_kind kind a n algo len =
     let make : Algo → ℕ → KindValue = λ x y. record { algo = x; len = y } in
     ap (λ x. make x kind.len) algo ∙ ap (λ y. make a y) len
 
-bits_at-of : (len : ℕ) (g : Bool) (s : List ℕ) → 0 < len → len ≤ 64 → bits_at (decimal (8 * len) ++ opening g s) ≡ Some (record { algo = Blake2b; len = len }, opening g s)
+bits_at-of : (len : ℕ) (g : Bool) (s : List ℕ) → 0 < len → len ≤ 64
+    → bits_at (decimal (8 * len) ++ opening g s) ≡ Some (record { algo = Blake2b; len = len }, opening g s)
 bits_at-of len g s some most =
     let all = decimal-digits len some most in
-    rw (front-digits (decimal (8 * len)) g s all, rest-digits (decimal (8 * len)) g s all, decimal-kind_at len some most) refl
+    rw (
+      front-digits (decimal (8 * len)) g s all,
+      rest-digits (decimal (8 * len)) g s all,
+      decimal-kind_at len some
+          most,
+    ) refl
 
-pub width_at-of : (kind : KindValue) (w : List ℕ) (g : Bool) (s : List ℕ) → Width kind w → width_at kind.algo (w ++ opening g s) ≡ Some (kind, opening g s)
+pub width_at-of : (kind : KindValue) (w : List ℕ) (g : Bool) (s : List ℕ) → Width kind w
+    → width_at kind.algo (w ++ opening g s) ≡ Some (kind, opening g s)
 width_at-of kind w g s (inl h) =
     let is : kind ≡ full_kind kind.algo = same_kind kind kind.algo (full kind.algo) refl h.1 in
-    ap (λ l. width_at kind.algo (l ++ opening g s)) h.0 ∙ width_at-none kind.algo g s ∙ ap (λ k. Some (k, opening g s)) (sym is)
+    ap (λ l. width_at kind.algo (l ++ opening g s)) h.0 ∙ width_at-none kind.algo g s
+    ∙ ap (λ k. Some (k, opening g s)) (sym is)
 width_at-of kind w g s (inr h) =
     let is : kind ≡ record { algo = Blake2b; len = kind.len } = same_kind kind Blake2b kind.len h.1 refl in
     let range = and_parts (nat_le 1 kind.len) (nat_le kind.len 64) h.2 in
     let some : 0 < kind.len = leb-true 1 kind.len range.0 in
-    ap (λ l. width_at kind.algo (l ++ opening g s)) h.0 ∙ ap (λ x. width_at x ((45 ∷ decimal (8 * kind.len)) ++ opening g s)) h.1
+    ap (λ l. width_at kind.algo (l ++ opening g s)) h.0
+    ∙ ap (λ x. width_at x ((45 ∷ decimal (8 * kind.len)) ++ opening g s)) h.1
     ∙ bits_at-of kind.len g s some (leb-true kind.len 64 range.1) ∙ ap (λ k. Some (k, opening g s)) (sym is)
 
 -- what follows the closing parenthesis holds none
@@ -291,46 +165,69 @@ pub hex-no_blank : (x : ℕ) → is_hex_digit x ≡ true → is_blank x ≡ fals
 hex-no_blank x h = elim (eqb_tells x 32) [
   | inl same ↦ let bad = rw same.1 at h in cc
   | inr other ↦ elim (eqb_tells x 9) [
-      | inl same ↦ let bad = rw same.1 at h in cc
-      | inr another ↦ rw (other.0, another.0) refl
-    ]
+    | inl same ↦ let bad = rw same.1 at h in cc
+    | inr another ↦ rw (other.0, another.0) refl
+  ]
 ]
 
 -- digits behind blanks, up to the end
-rest-hex : (blanks ds : List ℕ) → AllPass is_blank blanks → AllPass is_hex_digit ds → after_while is_blank (blanks ++ ds) ≡ ds
+rest-hex : (blanks ds : List ℕ) → AllPass is_blank blanks → AllPass is_hex_digit ds
+    → after_while is_blank (blanks ++ ds) ≡ ds
 rest-hex blanks [] h k =
     let whole = prefix_len-all is_blank blanks h in
     ap (after_while is_blank) (append-nil blanks) ∙ drop_all (prefix_len is_blank blanks) blanks (omega arith)
-rest-hex blanks (d ∷ ds) h k = rest-at is_blank blanks d ds h (hex-no_blank d (All-head (λ x. is_hex_digit x ≡ true) d ds k))
+rest-hex blanks (d ∷ ds) h k =
+    rest-at is_blank blanks d ds h (hex-no_blank d (All-head (λ x. is_hex_digit x ≡ true) d ds k))
 
 digest_at-ok : (ds d : List ℕ) (n : ℕ) → decode_of ds ≡ Ok d → length d ≡ n → digest_at n (decode_of ds) ≡ Some d
 digest_at-ok ds d n h size = rw h (cond-true (length d == n) (Some d) None (eq-eqb (length d) n size))
 
-digest_behind-of : (before after ds d : List ℕ) (n : ℕ) → AllPass is_blank before → AllPass is_blank after → decode_of ds ≡ Ok d → length d ≡ n → digest_behind n (before ++ (61 ∷ (after ++ ds))) ≡ Some d
+digest_behind-of : (before after ds d : List ℕ) (n : ℕ) → AllPass is_blank before → AllPass is_blank after
+    → decode_of ds ≡ Ok d → length d ≡ n → digest_behind n (before ++ (61 ∷ (after ++ ds))) ≡ Some d
 digest_behind-of before after ds d n hb ha h size =
     let all : AllPass is_hex_digit ds = (decode_of-ok ds d h).1 in
-    let first : after_while is_blank (before ++ (61 ∷ (after ++ ds))) ≡ 61 ∷ (after ++ ds) = rest-at is_blank before 61 (after ++ ds) hb refl in
+    let first : after_while is_blank (before ++ (61 ∷ (after ++ ds))) ≡ 61 ∷ (after ++ ds) =
+    rest-at is_blank before 61 (after ++ ds) hb refl in
     let second : after_while is_blank (after ++ ds) ≡ ds = rest-hex after ds ha all in
     rw (first, second) (digest_at-ok ds d n h size)
 
 abbrev Not41 : ℕ → Type 0
 Not41 x = isn't 41 x ≡ true
 
-name_behind-of : (e : Bool) (kind : KindValue) (raw before after ds d : List ℕ) → 0 < length raw → AllPass is_blank before → AllPass is_blank after → decode_of ds ≡ Ok d → length d ≡ kind.len
-    → name_behind (record { escaped = e; kind = kind; inner = raw ++ (41 ∷ (before ++ (61 ∷ (after ++ ds)))) }) ≡ Some (record { escaped = e; kind = kind; digest = d; text = raw })
+name_behind-of : (e : Bool) (kind : KindValue) (raw before after ds d : List ℕ) → 0 < length raw
+    → AllPass is_blank before → AllPass is_blank after → decode_of ds ≡ Ok d → length d ≡ kind.len
+    → name_behind (record {
+      escaped = e;
+      kind = kind;
+      inner =
+          raw ++ (41 ∷ (before ++ (61 ∷ (after ++ ds))));
+    }) ≡ Some
+    (record { escaped = e; kind = kind; digest = d; text = raw })
 unfolding name_behind
 name_behind-of e kind raw before after ds d some hb ha h size =
     let all : AllPass is_hex_digit ds = (decode_of-ok ds d h).1 in
-    let end : AllPass (isn't 41) (after ++ ds) = All-append Not41 after ds (All-weaker _ Not41 blank-not41 after ha) (All-weaker _ Not41 hex-not41 ds all) in
+    let end : AllPass (isn't 41) (after ++ ds) =
+    All-append Not41 after ds (All-weaker _ Not41 blank-not41 after ha) (All-weaker _ Not41 hex-not41 ds all) in
     let free : AllPass (isn't 41) (before ++ (61 ∷ (after ++ ds))) =
-        All-append Not41 before (61 ∷ (after ++ ds)) (All-weaker _ Not41 blank-not41 before hb) (All-cons Not41 61 (after ++ ds) refl end) in
-    rw (split_last-at 41 raw (before ++ (61 ∷ (after ++ ds))) free, some_of-some raw some, digest_behind-of before after ds d kind.len hb ha h size) refl
+    All-append Not41 before (61 ∷ (after ++ ds)) (All-weaker _ Not41 blank-not41 before hb)
+    (All-cons Not41 61 (after ++ ds) refl end) in
+    rw (
+      split_last-at 41 raw (before ++ (61 ∷ (after ++ ds))) free,
+      some_of-some raw some,
+      digest_behind-of before
+          after ds d kind.len hb ha h size,
+    ) refl
 
 -- a tagged line's front
-pub tagged-front : (algos : Algos) (line : List ℕ) (e : Bool) (kind : KindValue) (d raw : List ℕ) → Tagged algos line e kind d raw → (rest : List ℕ) × (unmarked (after_while is_blank line) ≡ (e, tag kind.algo ++ rest))
+pub tagged-front : (algos : Algos) (line : List ℕ) (e : Bool) (kind : KindValue) (d raw : List ℕ)
+    → Tagged algos line e kind d raw → (rest : List ℕ)
+    × (unmarked (after_while is_blank line) ≡ (e, tag kind.algo ++ rest))
 tagged-front algos line e kind d raw t =
-    let rest : List ℕ = t.width ++ opening t.gap (raw ++ (41 ∷ (t.before ++ (61 ∷ (t.after ++ t.digits))))) in
-    (rest, ap (λ l. unmarked (after_while is_blank l)) t.whole ∙ unmarked-front t.blanks e (tag kind.algo) rest t.are_blanks (tag-begins kind.algo))
+    let rest : List ℕ = t.width ++ opening t.gap (raw ++ (41 ∷ (t.before ++ (61 ∷ (t.after ++ t.digits))))) in (
+      rest,
+      ap (λ l. unmarked (after_while is_blank l)) t.whole
+          ∙ unmarked-front t.blanks e (tag kind.algo) rest t.are_blanks (tag-begins kind.algo),
+    )
 
 -- the tag that stands there is found
 pub algo_of-tag : (a : Algo) (s : List ℕ) → algo_of (tag a ++ s) ≡ Some a
@@ -346,18 +243,30 @@ algo_at-tag : (algos : Algos) (a : Algo) (s : List ℕ) → Allows algos a → a
 algo_at-tag (One b) a s fine = ap Some (sym fine)
 algo_at-tag Any a s fine = algo_of-tag a s
 
-opened_text-of : (algos : Algos) (e : Bool) (kind : KindValue) (w : List ℕ) (g : Bool) (inner : List ℕ) → Allows algos kind.algo → Width kind w
-    → opened_text algos e (tag kind.algo ++ (w ++ opening g inner)) ≡ Some (record { escaped = e; kind = kind; inner = inner })
+opened_text-of : (algos : Algos) (e : Bool) (kind : KindValue) (w : List ℕ) (g : Bool) (inner : List ℕ)
+    → Allows algos kind.algo → Width kind w
+    → opened_text algos e (tag kind.algo ++ (w ++ opening g inner)) ≡ Some
+    (record { escaped = e; kind = kind; inner = inner })
 unfolding opened_text
 opened_text-of algos e kind w g inner fine h =
-    rw (algo_at-tag algos kind.algo (w ++ opening g inner) fine, past-front (tag kind.algo) (w ++ opening g inner), width_at-of kind w g inner h, unspaced-opening g inner) refl
+    rw (
+      algo_at-tag algos kind.algo (w ++ opening g inner) fine,
+      past-front (tag kind.algo) (w ++ opening g inner),
+      width_at-of kind w g inner h,
+      unspaced-opening g inner,
+    ) refl
 
-pub tagged_is_read : (algos : Algos) (line : List ℕ) (p : Parts) → Tagged algos line p.escaped p.kind p.digest p.text → tagged_of algos line ≡ Some p
+pub tagged_is_read : (algos : Algos) (line : List ℕ) (p : Parts) → Tagged algos line p.escaped p.kind p.digest p.text
+    → tagged_of algos line ≡ Some p
 tagged_is_read algos line p t =
     let inner : List ℕ = p.text ++ (41 ∷ (t.before ++ (61 ∷ (t.after ++ t.digits)))) in
     let text : List ℕ = t.width ++ opening t.gap inner in
     let u : unmarked (after_while is_blank line) ≡ (p.escaped, tag p.kind.algo ++ text) =
-        ap (λ l. unmarked (after_while is_blank l)) t.whole ∙ unmarked-front t.blanks p.escaped (tag p.kind.algo) text t.are_blanks (tag-begins p.kind.algo) in
+    ap (λ l. unmarked (after_while is_blank l)) t.whole
+    ∙ unmarked-front t.blanks p.escaped (tag p.kind.algo) text t.are_blanks (tag-begins p.kind.algo) in
     let o : opened_of algos line ≡ Some (record { escaped = p.escaped; kind = p.kind; inner = inner }) =
-        ap (λ (x : Bool × List ℕ). opened_text algos x.0 x.1) u ∙ opened_text-of algos p.escaped p.kind t.width t.gap inner t.allowed t.is_width in
-    ap (λ x. x >>= name_behind) o ∙ name_behind-of p.escaped p.kind p.text t.before t.after t.digits p.digest t.some t.before_blanks t.after_blanks t.spelled t.size
+    ap (λ (x : Bool × List ℕ). opened_text algos x.0 x.1) u
+    ∙ opened_text-of algos p.escaped p.kind t.width t.gap inner t.allowed t.is_width in
+    ap (λ x. x >>= name_behind) o
+    ∙ name_behind-of p.escaped p.kind p.text t.before t.after t.digits p.digest t.some t.before_blanks
+    t.after_blanks t.spelled t.size

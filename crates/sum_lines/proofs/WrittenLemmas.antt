@@ -1,16 +1,15 @@
 -- A line that is written is read back.
-use Rattle.std.proofs.Common.{ℕ, ◌≡◌, ◌≢◌, ◌+◌, ◌*◌, ◌<◌, ◌≤◌, ◌↔◌, not, Bool, true, false, cond, ◌==◌, ◌||◌, ◌&&◌, nat_le, List, [], ◌∷◌, ◌++◌, length, refl, ap, sym, ◌∙◌, arith, ◌⊎◌, inl, inr, subst, append_assoc}
-use Rattle.std.specs.List.{All, AllPass, list_all}
-use Rattle.std.proofs.lemmas.List.Sums.{AllPass-from_list_all}
+use Rattle.std.proofs.Common.{ℕ, ◌≡◌, ◌*◌, ◌<◌, not, Bool, true, false, cond, ◌==◌, ◌||◌, List, [], ◌∷◌, ◌++◌, length, refl, ap, sym, ◌∙◌, arith, ◌⊎◌, inl, inr, subst, append_assoc}
+use Rattle.std.specs.List.{All, AllPass}
 use Rattle.std.specs.Str.{bytes_eq}
 use Rattle.std.specs.Fmt.{decimal}
-use Rattle.std.proofs.lemmas.Bool.{cond-true, cond-false, eqb-true, and_parts, leb-true}
+use Rattle.std.proofs.lemmas.Bool.{cond-true, cond-false, eqb-true}
 use Rattle.std.proofs.lemmas.Bool.Decides.{eqb_tells}
 use Rattle.std.proofs.lemmas.List.{append-nil}
 use Rattle.std.proofs.lemmas.List.Elements.{All-cons, All-nil, All-append, All-weaker}
 use Rattle.std.proofs.lemmas.Slice.Eq.{bytes_eq-Decides}
-use Rattle.hex.specs.Hex.{decode_of, encode_lower, is_hex_digit}
-use Rattle.hex.proofs.HexLemmas.{decode_of-encode_lower, decode_of-ok}
+use Rattle.hex.specs.Hex.{encode_lower, is_hex_digit}
+use Rattle.hex.proofs.HexLemmas.{decode_of-encode_lower}
 use Rattle.digest_kinds.specs.Kinds.{KindValue, full, has_len, tag}
 use Rattle.digest_kinds.specs.declared.algo.Algo.{Algo}
 use Rattle.digest_kinds.specs.declared.algo.Algo.TheVariants.{Md5, Sha1, Sha224, Sha256, Sha384, Sha512, Blake2b}
@@ -18,18 +17,16 @@ use Rattle.digest_kinds.specs.declared.algo.Algos.{Algos}
 use Rattle.digest_kinds.specs.declared.algo.Algos.TheVariants.{One, Any}
 use Rattle.sum_lines.specs.declared.line_reading.Form.{Form}
 use Rattle.sum_lines.specs.declared.line_reading.Form.TheVariants.{Undecided, Standard, Reversed}
-use Rattle.sum_lines.specs.declared.written.Mode.{Mode}
 use Rattle.sum_lines.specs.declared.written.Mode.TheVariants as modes
-use Rattle.sum_lines.specs.Escape.{escape, escape_of, escape_differs}
+use Rattle.sum_lines.specs.Escape.{escape, escape_differs}
 use Rattle.sum_lines.specs.Lines as written
-use Rattle.sum_lines.specs.Shapes.{is_blank, mark, optional, Width, Allows, Plain, Tagged}
-use Rattle.sum_lines.specs.Scanned.{is_digit}
-use Rattle.sum_lines.specs.Entries.{ignored, begins_standard, Decides, Spells, Spelled, kind_of, ByTag, ByTail, Entry, form_then, line_form, form}
+use Rattle.sum_lines.specs.Shapes.{is_blank, mark, Width, Allows, Plain, Tagged}
+use Rattle.sum_lines.specs.Entries.{ignored, begins_standard, Decides, Spells, Spelled, kind_of, ByTail, Entry, form_then, line_form, form}
 use Rattle.sum_lines.specs.Laws.{ReadBy, Writable, SpellsBack, ReadBack}
-use Rattle.sum_lines.proofs.BitsLemmas.{decimal-digits}
 use Rattle.sum_lines.proofs.TaggedLemmas.{Begins, tag-begins}
 use Rattle.sum_lines.proofs.PlainLemmas.{Digits, digits-of, has_len-some}
 use Rattle.sum_lines.proofs.EntryLemmas.{one_entry, decides-form, form-append}
+use Rattle.sum_lines.proofs.InlineLemmas.{Inline, inline, Inline-by_test, Inline-escape, Inline-hex, Inline-mark, Inline-tag, Inline-test, Inline-width, escape-some}
 
 -- ---- the parts of a written line
 
@@ -44,13 +41,20 @@ record LineTag (kind : KindValue) : Type 0 where
   is : written.line_tag kind ≡ tag kind.algo ++ width
 
 full-tag : (kind : KindValue) → (kind.len == full kind.algo) ≡ true → LineTag kind
-full-tag kind h = record { width = []; is_width = inl (refl, eqb-true kind.len (full kind.algo) h); is = cond-true (kind.len == full kind.algo) (tag kind.algo) _ h ∙ sym (append-nil (tag kind.algo)) }
+full-tag kind h = record {
+  width = [];
+  is_width = inl (refl, eqb-true kind.len (full kind.algo) h);
+  is =
+      cond-true (kind.len == full kind.algo) (tag kind.algo) _ h ∙ sym (append-nil (tag kind.algo));
+}
 
-bits-tag : (kind : KindValue) → (kind.len == full kind.algo) ≡ false → kind.algo ≡ Blake2b → has_len Blake2b kind.len ≡ true → LineTag kind
+bits-tag : (kind : KindValue) → (kind.len == full kind.algo) ≡ false → kind.algo ≡ Blake2b
+    → has_len Blake2b kind.len ≡ true → LineTag kind
 bits-tag kind h a has = record {
   width = 45 ∷ decimal (8 * kind.len);
   is_width = inr (refl, a, has);
-  is = cond-false (kind.len == full kind.algo) (tag kind.algo) _ h ∙ ap (λ l. tag kind.algo ++ (45 ∷ l)) (append-nil (decimal (8 * kind.len)));
+  is = cond-false (kind.len == full kind.algo) (tag kind.algo) _ h
+      ∙ ap (λ l. tag kind.algo ++ (45 ∷ l)) (append-nil (decimal (8 * kind.len)));
 }
 
 line-tag : (a : Algo) (n : ℕ) → has_len a n ≡ true → LineTag (record { algo = a; len = n })
@@ -65,90 +69,14 @@ line-tag Blake2b n h = elim (eqb_tells n 64) [
   | inr other ↦ bits-tag _ other.0 refl h
 ]
 
--- ---- no newline and no carriage return
-
-abbrev Inline : ℕ → Type 0
-Inline b = (b ≢ 10) × (b ≢ 13)
-
-abbrev inline : ℕ → Bool
-inline b = not (b == 10 || b == 13)
-
-Inline-test : (b : ℕ) → inline b ≡ true → Inline b
-Inline-test b h = (λ e. let bad = rw e at h in cc, λ e. let bad = rw e at h in cc)
-
-Inline-by_test : (xs : List ℕ) → list_all inline xs ≡ true → All Inline xs
-Inline-by_test xs h = All-weaker (λ b. inline b ≡ true) Inline Inline-test xs (AllPass-from_list_all inline xs h)
-
-Inline-hex : (b : ℕ) → is_hex_digit b ≡ true → Inline b
-Inline-hex b h = (λ e. let bad = rw e at h in cc, λ e. let bad = rw e at h in cc)
-
-Inline-digit : (b : ℕ) → is_digit b ≡ true → Inline b
-Inline-digit b h = (λ e. let bad = rw e at h in cc, λ e. let bad = rw e at h in cc)
-
-Inline-tag : (a : Algo) → All Inline (tag a)
-Inline-tag Md5 = Inline-by_test (tag Md5) refl
-Inline-tag Sha1 = Inline-by_test (tag Sha1) refl
-Inline-tag Sha224 = Inline-by_test (tag Sha224) refl
-Inline-tag Sha256 = Inline-by_test (tag Sha256) refl
-Inline-tag Sha384 = Inline-by_test (tag Sha384) refl
-Inline-tag Sha512 = Inline-by_test (tag Sha512) refl
-Inline-tag Blake2b = Inline-by_test (tag Blake2b) refl
-
-Inline-mark : (b : Bool) → All Inline (mark b)
-Inline-mark true = Inline-by_test (mark true) refl
-Inline-mark false = Inline-by_test (mark false) refl
-
-Inline-width : (kind : KindValue) (w : List ℕ) → Width kind w → All Inline w
-Inline-width kind w (inl h) = let P : List ℕ → Type 0 = All Inline in subst P (sym h.0) (All-nil Inline)
-Inline-width kind w (inr h) =
-    let P : List ℕ → Type 0 = All Inline in
-    let range = and_parts (nat_le 1 kind.len) (nat_le kind.len 64) h.2 in
-    let digits = decimal-digits kind.len (leb-true 1 kind.len range.0) (leb-true kind.len 64 range.1) in
-    subst P (sym h.0) (All-cons Inline 45 (decimal (8 * kind.len)) (Inline-test 45 refl) (All-weaker (λ b. is_digit b ≡ true) Inline Inline-digit (decimal (8 * kind.len)) digits))
-
--- bytes of which there is one
-record NonEmpty (xs : List ℕ) : Type 0 where
-  first : ℕ
-  more : List ℕ
-  are : xs ≡ first ∷ more
-
--- an escaped byte is at least one
-record Escaped (xs : List ℕ) : Type 0 where
-  first : ℕ
-  more : List ℕ
-  are : xs ≡ first ∷ more
-  one_line : All Inline xs
-
-escaped-by : (xs : List ℕ) (first : ℕ) (more : List ℕ) → xs ≡ first ∷ more → list_all inline (first ∷ more) ≡ true → Escaped xs
-escaped-by xs first more e h = let P : List ℕ → Type 0 = All Inline in record { first = first; more = more; are = e; one_line = subst P (sym e) (Inline-by_test (first ∷ more) h) }
-
-escape_of-some : (x : ℕ) → Escaped (escape_of x)
-escape_of-some x = elim (eqb_tells x 92) [
-  | inl same ↦ escaped-by (escape_of x) 92 (92 ∷ []) (rw same.0 refl) refl
-  | inr back ↦ elim (eqb_tells x 10) [
-    | inl same ↦ escaped-by (escape_of x) 92 (110 ∷ []) (rw (back.0, same.0) refl) refl
-    | inr new ↦ elim (eqb_tells x 13) [
-      | inl same ↦ escaped-by (escape_of x) 92 (114 ∷ []) (rw (back.0, new.0, same.0) refl) refl
-      | inr other ↦ escaped-by (escape_of x) x [] (rw (back.0, new.0, other.0) refl) (rw (new.0, other.0) refl)
-    ]
-  ]
-]
-
-Inline-escape : (name : List ℕ) → All Inline (escape name)
-Inline-escape [] = All-nil Inline
-Inline-escape (x ∷ xs) = All-append Inline (escape_of x) (escape xs) (let e = escape_of-some x in e.one_line) (Inline-escape xs)
-
-escape-some : (name : List ℕ) → 0 < length name → NonEmpty (escape name)
-escape-some [] h = absurd (omega arith)
-escape-some (x ∷ xs) h = let e = escape_of-some x in record { first = e.first; more = e.more ++ escape xs; are = ap (λ l. l ++ escape xs) e.are }
-
 -- ---- what is written spells its name
 
 spells-escape : (n : List ℕ) (b : Bool) → bytes_eq (escape n) n ≡ b → escape n ≡ cond (not b) (escape n) n
 spells-escape n true h = (bytes_eq-Decides (escape n) n).0 h
 spells-escape n false h = refl
 
-spells : (kind : KindValue) (name digest : List ℕ) → Writable kind name digest → Spells escape (escape_differs name) (escape name) name
+spells : (kind : KindValue) (name digest : List ℕ) → Writable kind name digest
+    → Spells escape (escape_differs name) (escape name) name
 spells kind name digest w = record { no_nul = w.no_nul; is = spells-escape name (bytes_eq (escape name) name) refl }
 
 not_ignored : (e : Bool) (xs rest : List ℕ) → Begins xs → ignored (mark e ++ (xs ++ rest)) ≡ false
@@ -167,7 +95,8 @@ written-digits kind name digest w =
 abbrev plain_line : ℕ → List ℕ → List ℕ → List ℕ
 plain_line x name digest = mark (escape_differs name) ++ (encode_lower digest ++ (32 ∷ x ∷ escape name))
 
-plain-written : (x : ℕ) (kind : KindValue) (name digest : List ℕ) → Writable kind name digest → Plain (One kind.algo) (plain_line x name digest) (escape_differs name) kind digest (x ∷ escape name)
+plain-written : (x : ℕ) (kind : KindValue) (name digest : List ℕ) → Writable kind name digest
+    → Plain (One kind.algo) (plain_line x name digest) (escape_differs name) kind digest (x ∷ escape name)
 plain-written x kind name digest w = record {
   blanks = [];
   digits = encode_lower digest;
@@ -182,11 +111,13 @@ plain-written x kind name digest w = record {
   whole = refl;
 }
 
-standard : (x : ℕ) (name : List ℕ) → 0 < length name → (x == 32 || x == 42) ≡ true → begins_standard (x ∷ escape name) ≡ true
+standard : (x : ℕ) (name : List ℕ) → 0 < length name → (x == 32 || x == 42) ≡ true
+    → begins_standard (x ∷ escape name) ≡ true
 standard x name lt h = let s = escape-some name lt in rw s.are h
 
 -- a star or a second space makes the list Standard
-plain-decides : (x : ℕ) (kind : KindValue) (name digest : List ℕ) → Writable kind name digest → (x == 32 || x == 42) ≡ true → Decides (One kind.algo) (plain_line x name digest) Standard
+plain-decides : (x : ℕ) (kind : KindValue) (name digest : List ℕ) → Writable kind name digest
+    → (x == 32 || x == 42) ≡ true → Decides (One kind.algo) (plain_line x name digest) Standard
 plain-decides x kind name digest w h =
     let ds = written-digits kind name digest w in
     record {
@@ -199,89 +130,132 @@ plain-decides x kind name digest w h =
       is = sym (cond-true (begins_standard (x ∷ escape name)) Standard Reversed (standard x name w.some h));
     }
 
-form-after : (algos : Algos) (before later : List (List ℕ)) (line : List ℕ) → line_form algos line ≡ Standard → (form algos before ≡ Undecided) ⊎ (form algos before ≡ Standard) → form algos (before ++ (line ∷ later)) ≡ Standard
-form-after algos before later line h (inl u) = form-append algos before (line ∷ later) ∙ ap (λ f. form_then f (form algos (line ∷ later))) u ∙ ap (λ f. form_then f (form algos later)) h
-form-after algos before later line h (inr u) = form-append algos before (line ∷ later) ∙ ap (λ f. form_then f (form algos (line ∷ later))) u
+form-after : (algos : Algos) (before later : List (List ℕ)) (line : List ℕ) → line_form algos line ≡ Standard
+    → (form algos before ≡ Undecided) ⊎ (form algos before ≡ Standard)
+    → form algos (before ++ (line ∷ later)) ≡ Standard
+form-after algos before later line h (inl u) = form-append algos before (line ∷ later)
+    ∙ ap (λ f. form_then f (form algos (line ∷ later))) u ∙ ap (λ f. form_then f (form algos later)) h
+form-after algos before later line h (inr u) = form-append algos before (line ∷ later)
+    ∙ ap (λ f. form_then f (form algos (line ∷ later))) u
 
 abbrev spelled : KindValue → List ℕ → List ℕ → Spelled
 spelled kind name digest = record { algo = kind.algo; digest = digest; name = name }
 
 -- a kind of which that is a digest
-kind-is : (kind : KindValue) (name digest : List ℕ) → Writable kind name digest → kind ≡ kind_of (spelled kind name digest)
-kind-is kind name digest w = let make : ℕ → KindValue = λ n. record { algo = kind.algo; len = n } in ap make (sym w.size)
+kind-is : (kind : KindValue) (name digest : List ℕ) → Writable kind name digest
+    → kind ≡ kind_of (spelled kind name digest)
+kind-is kind name digest w = let make : ℕ → KindValue = λ n. record { algo = kind.algo; len = n } in
+    ap make (sym w.size)
 
-plain-entry : (x : ℕ) (kind : KindValue) (name digest : List ℕ) (f : Form) → Writable kind name digest → (x == 32 || x == 42) ≡ true → f ≡ Standard → Entry escape (One kind.algo) f (plain_line x name digest) (spelled kind name digest)
+plain-entry : (x : ℕ) (kind : KindValue) (name digest : List ℕ) (f : Form) → Writable kind name digest
+    → (x == 32 || x == 42) ≡ true → f ≡ Standard
+    → Entry escape (One kind.algo) f (plain_line x name digest) (spelled kind name digest)
 plain-entry x kind name digest f w h is =
     let d = plain-decides x kind name digest w h in
-    let K : KindValue → Type 0 = λ k. Plain (One kind.algo) (plain_line x name digest) (escape_differs name) k digest (x ∷ escape name) in
-    let F : Form → Type 0 = λ g. ByTail escape (One kind.algo) g (plain_line x name digest) (spelled kind name digest) in
+    let K : KindValue → Type 0 =
+    λ k. Plain (One kind.algo) (plain_line x name digest) (escape_differs name) k digest (x ∷ escape name) in
+    let F : Form → Type 0 = λ g.
+    ByTail escape (One kind.algo) g (plain_line x name digest) (spelled kind name digest) in
     let by : ByTail escape (One kind.algo) Standard (plain_line x name digest) (spelled kind name digest) = record {
-          escaped = escape_differs name;
-          tail = x ∷ escape name;
-          raw = escape name;
-          plain = subst K (kind-is kind name digest w) (plain-written x kind name digest w);
-          is_raw = (standard x name w.some h, x, refl);
-          spells = spells kind name digest w;
-        } in
+      escaped = escape_differs name;
+      tail = x ∷ escape name;
+      raw = escape name;
+      plain = subst K (kind-is kind name digest w) (plain-written x kind name digest w);
+      is_raw = (standard x name w.some h, x, refl);
+      spells = spells kind name digest w;
+    } in
     (d.speaks, inr (subst F (sym is) by))
 
 -- ---- a tagged line
 
 abbrev tagged_line : KindValue → List ℕ → List ℕ → List ℕ → List ℕ
 tagged_line kind width name digest =
-    mark (escape_differs name) ++ (tag kind.algo ++ (width ++ (32 ∷ 40 ∷ (escape name ++ (41 ∷ 32 ∷ 61 ∷ 32 ∷ encode_lower digest)))))
+    mark (escape_differs name)
+    ++ (tag kind.algo ++ (width ++ (32 ∷ 40 ∷ (escape name ++ (41 ∷ 32 ∷ 61 ∷ 32 ∷ encode_lower digest)))))
 
-tagged-entry : (algos : Algos) (kind : KindValue) (width name digest : List ℕ) (f : Form) → Allows algos kind.algo → Width kind width → Writable kind name digest → Entry escape algos f (tagged_line kind width name digest) (spelled kind name digest)
+tagged-entry : (algos : Algos) (kind : KindValue) (width name digest : List ℕ) (f : Form) → Allows algos kind.algo
+    → Width kind width → Writable kind name digest
+    → Entry escape algos f (tagged_line kind width name digest) (spelled kind name digest)
 tagged-entry algos kind width name digest f fine is w =
     let s = escape-some name w.some in
-    let space : AllPass is_blank (32 ∷ []) = All-cons (λ b. is_blank b ≡ true) 32 [] refl (All-nil (λ b. is_blank b ≡ true)) in
-    let K : KindValue → Type 0 = λ k. Tagged algos (tagged_line kind width name digest) (escape_differs name) k digest (escape name) in
-    let by : Tagged algos (tagged_line kind width name digest) (escape_differs name) kind digest (escape name) = record {
-          blanks = [];
-          width = width;
-          gap = true;
-          before = 32 ∷ [];
-          after = 32 ∷ [];
-          digits = encode_lower digest;
-          allowed = fine;
-          are_blanks = All-nil (λ b. is_blank b ≡ true);
-          is_width = is;
-          some = (rw s.are (omega arith));
-          before_blanks = space;
-          after_blanks = space;
-          spelled = decode_of-encode_lower digest w.bytes;
-          size = w.size;
-          whole = refl;
-        } in
-    (not_ignored (escape_differs name) (tag kind.algo) _ (tag-begins kind.algo),
-      inl (record { escaped = escape_differs name; raw = escape name; tagged = subst K (kind-is kind name digest w) by; spells = spells kind name digest w }))
+    let space : AllPass is_blank (32 ∷ []) =
+    All-cons (λ b. is_blank b ≡ true) 32 [] refl (All-nil (λ b. is_blank b ≡ true)) in
+    let K : KindValue → Type 0 =
+    λ k. Tagged algos (tagged_line kind width name digest) (escape_differs name) k digest (escape name) in
+    let by : Tagged algos (tagged_line kind width name digest) (escape_differs name) kind digest (escape name) =
+    record {
+      blanks = [];
+      width = width;
+      gap = true;
+      before = 32 ∷ [];
+      after = 32 ∷ [];
+      digits = encode_lower digest;
+      allowed = fine;
+      are_blanks = All-nil (λ b. is_blank b ≡ true);
+      is_width = is;
+      some = (rw s.are (omega arith));
+      before_blanks = space;
+      after_blanks = space;
+      spelled = decode_of-encode_lower digest w.bytes;
+      size = w.size;
+      whole = refl;
+    } in (
+      not_ignored (escape_differs name) (tag kind.algo) _ (tag-begins kind.algo),
+      inl (record {
+        escaped = escape_differs name;
+        raw = escape name;
+        tagged =
+            subst K (kind-is kind name digest w) by;
+        spells = spells kind name digest w;
+      }),
+    )
 
 -- ---- the law
 
-back : (algos : Algos) (before later : List (List ℕ)) (kind : KindValue) (name digest front : List ℕ) → All Inline front → Entry escape algos (form algos (before ++ (front ∷ later))) front (spelled kind name digest)
+back : (algos : Algos) (before later : List (List ℕ)) (kind : KindValue) (name digest front : List ℕ)
+    → All Inline front → Entry escape algos (form algos (before ++ (front ∷ later))) front (spelled kind name digest)
     → SpellsBack algos before later (front ++ (10 ∷ [])) kind name digest
 back algos before later kind name digest front one entry =
     let f : Form = form algos (before ++ (front ∷ later)) in
     let P : Spelled → Type 0 = Entry escape algos f front in
-    record { front = front; whole = refl; one_line = one; spells = λ s. (λ e. one_entry algos f front s (spelled kind name digest) e entry, λ e. subst P (sym e) entry) }
+    record {
+      front = front;
+      whole = refl;
+      one_line = one;
+      spells =
+          λ s. (λ e. one_entry algos f front s (spelled kind name digest) e entry, λ e. subst P (sym e) entry);
+    }
 
 Inline-digits : (kind : KindValue) (name digest : List ℕ) → Writable kind name digest → All Inline (encode_lower digest)
-Inline-digits kind name digest w = let ds = written-digits kind name digest w in All-weaker (λ b. is_hex_digit b ≡ true) Inline Inline-hex (encode_lower digest) ds.are
+Inline-digits kind name digest w = let ds = written-digits kind name digest w in
+    All-weaker (λ b. is_hex_digit b ≡ true) Inline Inline-hex (encode_lower digest) ds.are
 
-Inline-plain : (x : ℕ) (kind : KindValue) (name digest : List ℕ) → Writable kind name digest → inline x ≡ true → All Inline (plain_line x name digest)
+Inline-plain : (x : ℕ) (kind : KindValue) (name digest : List ℕ) → Writable kind name digest → inline x ≡ true
+    → All Inline (plain_line x name digest)
 Inline-plain x kind name digest w h =
-    All-append Inline (mark (escape_differs name)) _ (Inline-mark (escape_differs name)) (All-append Inline (encode_lower digest) (32 ∷ x ∷ escape name) (Inline-digits kind name digest w)
-      (All-cons Inline 32 (x ∷ escape name) (Inline-test 32 refl) (All-cons Inline x (escape name) (Inline-test x h) (Inline-escape name))))
+    All-append Inline (mark (escape_differs name)) _ (Inline-mark (escape_differs name))
+    (All-append Inline (encode_lower digest) (32 ∷ x ∷ escape name) (Inline-digits kind name digest w)
+    (All-cons Inline 32 (x ∷ escape name) (Inline-test 32 refl)
+    (All-cons Inline x (escape name) (Inline-test x h) (Inline-escape name))))
 
-Inline-tagged : (kind : KindValue) (width name digest : List ℕ) → Width kind width → Writable kind name digest → All Inline (tagged_line kind width name digest)
+Inline-tagged : (kind : KindValue) (width name digest : List ℕ) → Width kind width → Writable kind name digest
+    → All Inline (tagged_line kind width name digest)
 Inline-tagged kind width name digest is w =
-    let middle : All Inline (41 ∷ 32 ∷ 61 ∷ 32 ∷ encode_lower digest) = All-append Inline (41 ∷ 32 ∷ 61 ∷ 32 ∷ []) (encode_lower digest) (Inline-by_test (41 ∷ 32 ∷ 61 ∷ 32 ∷ []) refl) (Inline-digits kind name digest w) in
-    let named : All Inline (escape name ++ (41 ∷ 32 ∷ 61 ∷ 32 ∷ encode_lower digest)) = All-append Inline (escape name) _ (Inline-escape name) middle in
-    let opened : All Inline (32 ∷ 40 ∷ (escape name ++ (41 ∷ 32 ∷ 61 ∷ 32 ∷ encode_lower digest))) = All-append Inline (32 ∷ 40 ∷ []) _ (Inline-by_test (32 ∷ 40 ∷ []) refl) named in
-    All-append Inline (mark (escape_differs name)) _ (Inline-mark (escape_differs name)) (All-append Inline (tag kind.algo) _ (Inline-tag kind.algo) (All-append Inline width _ (Inline-width kind width is) opened))
+    let middle : All Inline (41 ∷ 32 ∷ 61 ∷ 32 ∷ encode_lower digest) =
+    All-append Inline (41 ∷ 32 ∷ 61 ∷ 32 ∷ []) (encode_lower digest)
+    (Inline-by_test (41 ∷ 32 ∷ 61 ∷ 32 ∷ []) refl) (Inline-digits kind name digest w) in
+    let named : All Inline (escape name ++ (41 ∷ 32 ∷ 61 ∷ 32 ∷ encode_lower digest)) =
+    All-append Inline (escape name) _ (Inline-escape name) middle in
+    let opened : All Inline (32 ∷ 40 ∷ (escape name ++ (41 ∷ 32 ∷ 61 ∷ 32 ∷ encode_lower digest))) =
+    All-append Inline (32 ∷ 40 ∷ []) _ (Inline-by_test (32 ∷ 40 ∷ []) refl) named in
+    All-append Inline (mark (escape_differs name)) _ (Inline-mark (escape_differs name))
+    (All-append Inline (tag kind.algo) _ (Inline-tag kind.algo)
+    (All-append Inline width _ (Inline-width kind width is) opened))
 
-plain-back : (x : ℕ) (kind : KindValue) (name digest : List ℕ) (before later : List (List ℕ)) → Writable kind name digest → (x == 32 || x == 42) ≡ true → inline x ≡ true
-    → (form (One kind.algo) before ≡ Undecided) ⊎ (form (One kind.algo) before ≡ Standard) → SpellsBack (One kind.algo) before later (plain_line x name digest ++ (10 ∷ [])) kind name digest
+plain-back : (x : ℕ) (kind : KindValue) (name digest : List ℕ) (before later : List (List ℕ))
+    → Writable kind name digest → (x == 32 || x == 42) ≡ true → inline x ≡ true
+    → (form (One kind.algo) before ≡ Undecided) ⊎ (form (One kind.algo) before ≡ Standard)
+    → SpellsBack (One kind.algo) before later (plain_line x name digest ++ (10 ∷ [])) kind name digest
 plain-back x kind name digest before later w h in-line u =
     let algos : Algos = One kind.algo in
     let l : List ℕ = plain_line x name digest in
@@ -290,34 +264,55 @@ plain-back x kind name digest before later w h in-line u =
     (plain-entry x kind name digest (form algos (before ++ (l ∷ later))) w h (form-after algos before later l d.0 u))
 
 -- a plain line as it is written
-plain-text : (x : ℕ) (name digest : List ℕ) → (written.mark name ++ (encode_lower digest ++ (32 ∷ x ∷ (escape name ++ [])))) ++ (10 ∷ []) ≡ plain_line x name digest ++ (10 ∷ [])
-plain-text x name digest = ap (λ m. (m ++ (encode_lower digest ++ (32 ∷ x ∷ (escape name ++ [])))) ++ (10 ∷ [])) (mark-is (escape_differs name))
-    ∙ ap (λ n. (mark (escape_differs name) ++ (encode_lower digest ++ (32 ∷ x ∷ n))) ++ (10 ∷ [])) (append-nil (escape name))
+plain-text : (x : ℕ) (name digest : List ℕ)
+    → (written.mark name ++ (encode_lower digest ++ (32 ∷ x ∷ (escape name ++ []))))
+    ++ (10 ∷ []) ≡ plain_line x name digest ++ (10 ∷ [])
+plain-text x name digest =
+    ap (λ m. (m ++ (encode_lower digest ++ (32 ∷ x ∷ (escape name ++ [])))) ++ (10 ∷ []))
+    (mark-is (escape_differs name))
+    ∙ ap (λ n. (mark (escape_differs name) ++ (encode_lower digest ++ (32 ∷ x ∷ n))) ++ (10 ∷ []))
+    (append-nil (escape name))
 
-plain-back-any : (algos : Algos) (x : ℕ) (kind : KindValue) (name digest : List ℕ) (before later : List (List ℕ)) → algos ≡ One kind.algo → Writable kind name digest → (x == 32 || x == 42) ≡ true → inline x ≡ true
-    → (form algos before ≡ Undecided) ⊎ (form algos before ≡ Standard) → SpellsBack algos before later ((written.mark name ++ (encode_lower digest ++ (32 ∷ x ∷ (escape name ++ [])))) ++ (10 ∷ [])) kind name digest
+plain-back-any : (algos : Algos) (x : ℕ) (kind : KindValue) (name digest : List ℕ) (before later : List (List ℕ))
+    → algos ≡ One kind.algo → Writable kind name digest → (x == 32 || x == 42) ≡ true → inline x ≡ true
+    → (form algos before ≡ Undecided) ⊎ (form algos before ≡ Standard)
+    → SpellsBack algos before later
+    ((written.mark name ++ (encode_lower digest ++ (32 ∷ x ∷ (escape name ++ [])))) ++ (10 ∷ [])) kind name digest
 plain-back-any algos x kind name digest before later is w h in-line =
     let T : List ℕ → Type 0 = λ t. SpellsBack (One kind.algo) before later t kind name digest in
-    let A : Algos → Type 0 = λ a. (form a before ≡ Undecided) ⊎ (form a before ≡ Standard) → SpellsBack a before later ((written.mark name ++ (encode_lower digest ++ (32 ∷ x ∷ (escape name ++ [])))) ++ (10 ∷ [])) kind name digest in
-    subst A (sym is) (λ u. subst T (sym (plain-text x name digest)) (plain-back x kind name digest before later w h in-line u))
+    let A : Algos → Type 0 = λ a. (form a before ≡ Undecided) ⊎ (form a before ≡ Standard)
+    → SpellsBack a before later ((written.mark name ++ (encode_lower digest ++ (32 ∷ x ∷ (escape name ++ []))))
+    ++ (10 ∷ [])) kind name digest in
+    subst A (sym is) (λ u. subst T (sym (plain-text x name digest))
+    (plain-back x kind name digest before later w h in-line u))
 
 tagged-text : (kind : KindValue) (t : LineTag kind) (name digest : List ℕ)
-    → (written.mark name ++ (written.line_tag kind ++ (32 ∷ 40 ∷ (escape name ++ (41 ∷ 32 ∷ 61 ∷ 32 ∷ (encode_lower digest ++ [])))))) ++ (10 ∷ []) ≡ tagged_line kind t.width name digest ++ (10 ∷ [])
+    → (written.mark name ++ (written.line_tag kind
+    ++ (32 ∷ 40 ∷ (escape name ++ (41 ∷ 32 ∷ 61 ∷ 32 ∷ (encode_lower digest ++ []))))))
+    ++ (10 ∷ []) ≡ tagged_line kind t.width name digest ++ (10 ∷ [])
 tagged-text kind t name digest =
     let rest : List ℕ → List ℕ = λ ds. 32 ∷ 40 ∷ (escape name ++ (41 ∷ 32 ∷ 61 ∷ 32 ∷ ds)) in
-    ap (λ m. (m ++ (written.line_tag kind ++ rest (encode_lower digest ++ []))) ++ (10 ∷ [])) (mark-is (escape_differs name))
+    ap (λ m. (m ++ (written.line_tag kind ++ rest (encode_lower digest ++ []))) ++ (10 ∷ []))
+    (mark-is (escape_differs name))
     ∙ ap (λ l. (mark (escape_differs name) ++ (l ++ rest (encode_lower digest ++ []))) ++ (10 ∷ [])) t.is
-    ∙ ap (λ ds. (mark (escape_differs name) ++ ((tag kind.algo ++ t.width) ++ rest ds)) ++ (10 ∷ [])) (append-nil (encode_lower digest))
-    ∙ ap (λ l. (mark (escape_differs name) ++ l) ++ (10 ∷ [])) (append_assoc (tag kind.algo) t.width (rest (encode_lower digest)))
+    ∙ ap (λ ds. (mark (escape_differs name) ++ ((tag kind.algo ++ t.width) ++ rest ds)) ++ (10 ∷ []))
+    (append-nil (encode_lower digest))
+    ∙ ap (λ l. (mark (escape_differs name) ++ l) ++ (10 ∷ []))
+    (append_assoc (tag kind.algo) t.width (rest (encode_lower digest)))
 
-tagged-back : (algos : Algos) (kind : KindValue) (name digest : List ℕ) (before later : List (List ℕ)) → Allows algos kind.algo → Writable kind name digest
-    → SpellsBack algos before later ((written.mark name ++ (written.line_tag kind ++ (32 ∷ 40 ∷ (escape name ++ (41 ∷ 32 ∷ 61 ∷ 32 ∷ (encode_lower digest ++ [])))))) ++ (10 ∷ [])) kind name digest
+tagged-back : (algos : Algos) (kind : KindValue) (name digest : List ℕ) (before later : List (List ℕ))
+    → Allows algos kind.algo → Writable kind name digest
+    → SpellsBack algos before later
+    ((written.mark name ++ (written.line_tag kind
+    ++ (32 ∷ 40 ∷ (escape name ++ (41 ∷ 32 ∷ 61 ∷ 32 ∷ (encode_lower digest ++ [])))))) ++ (10 ∷ [])) kind name
+    digest
 tagged-back algos kind name digest before later fine w =
     let t : LineTag kind = line-tag kind.algo kind.len w.has in
     let l : List ℕ = tagged_line kind t.width name digest in
     let T : List ℕ → Type 0 = λ x. SpellsBack algos before later x kind name digest in
-    subst T (sym (tagged-text kind t name digest)) (back algos before later kind name digest l (Inline-tagged kind t.width name digest t.is_width w)
-      (tagged-entry algos kind t.width name digest (form algos (before ++ (l ∷ later))) fine t.is_width w))
+    subst T (sym (tagged-text kind t name digest))
+    (back algos before later kind name digest l (Inline-tagged kind t.width name digest t.is_width w)
+    (tagged-entry algos kind t.width name digest (form algos (before ++ (l ∷ later))) fine t.is_width w))
 
 text-reads : (algos : Algos) (algo : Algo) → ReadBy algos modes.Text algo → algos ≡ One algo
 text-reads (One a) algo h = ap One h
@@ -332,6 +327,9 @@ tag-reads (One a) algo h = sym h
 tag-reads Any algo h = tt
 
 pub read_back : ReadBack
-read_back algos modes.Text kind name digest before later by w u = plain-back-any algos 32 kind name digest before later (text-reads algos kind.algo by) w refl refl u
-read_back algos modes.Binary kind name digest before later by w u = plain-back-any algos 42 kind name digest before later (binary-reads algos kind.algo by) w refl refl u
-read_back algos modes.Tag kind name digest before later by w u = tagged-back algos kind name digest before later (tag-reads algos kind.algo by) w
+read_back algos modes.Text kind name digest before later by w u =
+    plain-back-any algos 32 kind name digest before later (text-reads algos kind.algo by) w refl refl u
+read_back algos modes.Binary kind name digest before later by w u =
+    plain-back-any algos 42 kind name digest before later (binary-reads algos kind.algo by) w refl refl u
+read_back algos modes.Tag kind name digest before later by w u =
+    tagged-back algos kind name digest before later (tag-reads algos kind.algo by) w

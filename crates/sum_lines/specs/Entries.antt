@@ -35,7 +35,8 @@ pub record Decides (algos : Algos) (line : List ℕ) (form : Form) : Type 0 wher
 
 abbrev pub IsForm : Algos → List (List ℕ) → Form → Type 0
 IsForm algos [] form = form ≡ Undecided
-IsForm algos (line ∷ later) form = Decides algos line form ⊎ (((f : Form) → ¬ Decides algos line f) × IsForm algos later form)
+IsForm algos (line ∷ later) form = Decides algos line form
+    ⊎ (((f : Form) → ¬ Decides algos line f) × IsForm algos later form)
 
 -- The raw name, as it stands in the line, spells a name: the name holds no NUL, and the raw name is its escape
 -- behind a leading backslash, and the name itself otherwise.

@@ -1,46 +1,49 @@
 -- This joins what the scanning functions answer to what they were found to hold.
 use Rattle.std.specs.Prelude.{ℕ, ◌≡◌, ◌≤◌, Bool, true, false, List, length, slice_range, Some, None}
-use Rattle.digest_kinds.specs.Kinds.{KindValue}
 use Rattle.digest_kinds.specs.declared.algo.Algos.{Algos}
 use Rattle.sum_lines.specs.declared.line_reading.Form.{Form}
 use Rattle.sum_lines.specs.declared.line_reading.Reading.{Reading}
 use Rattle.sum_lines.specs.declared.line_reading.Reading.TheVariants as readings
 use Rattle.sum_lines.specs.declared.line_reading.Shape.{Shape}
 use Rattle.sum_lines.specs.declared.line_reading.Shape.TheVariants as shapes
-use Rattle.sum_lines.specs.declared.plain.PlainLine.{PlainLine}
-use Rattle.sum_lines.specs.declared.tagged.TaggedLine.{TaggedLine}
+use Rattle.sum_lines.specs.declared.scanning.LineParts.{LineParts}
 use Rattle.sum_lines.specs.Escape.{escape}
 use Rattle.sum_lines.specs.Entries.{RawOf, Spells, ignored}
 use Rattle.sum_lines.specs.Scanned.{Parts, plain_of, tagged_of}
 
 -- the parts of a line that these places stand for
-abbrev pub tagged_parts : List ℕ → TaggedLine → Parts
-tagged_parts line t = record { escaped = t.escaped; kind = t.kind; digest = t.digest; text = slice_range line t.start t.stop }
+abbrev pub text_of : List ℕ → LineParts → List ℕ
+text_of line p = slice_range line p.start p.stop
 
-abbrev pub plain_parts : List ℕ → PlainLine → Parts
-plain_parts line p = record { escaped = p.escaped; kind = p.kind; digest = p.digest; text = slice_range line p.start (length line) }
+abbrev pub line_parts : List ℕ → LineParts → Parts
+line_parts line p = record { escaped = p.escaped; kind = p.kind; digest = p.digest; text = text_of line p }
 
 -- what a whole line is
 abbrev pub ShapeIs : Algos → List ℕ → Shape → Type 0
 ShapeIs algos line shapes.Ignored = ignored line ≡ true
-ShapeIs algos line (shapes.Tagged t) = (ignored line ≡ false) × (Some (tagged_parts line t) ≡ tagged_of algos line) × (t.start ≤ t.stop) × (t.stop ≤ length line)
-ShapeIs algos line (shapes.Plain p) = (ignored line ≡ false) × (None ≡ tagged_of algos line) × (Some (plain_parts line p) ≡ plain_of algos line) × (p.start ≤ length line)
-ShapeIs algos line shapes.Neither = (ignored line ≡ false) × (None ≡ tagged_of algos line) × (None ≡ plain_of algos line)
+ShapeIs algos line (shapes.Tagged p) = (ignored line ≡ false) × (Some (line_parts line p) ≡ tagged_of algos line)
+    × (p.start ≤ p.stop) × (p.stop ≤ length line)
+ShapeIs algos line (shapes.Plain p) = (ignored line ≡ false) × (Some (line_parts line p) ≡ plain_of algos line)
+    × (p.start ≤ p.stop) × (p.stop ≤ length line) × (None ≡ tagged_of algos line)
+ShapeIs algos line shapes.Neither = (ignored line ≡ false) × (None ≡ tagged_of algos line)
+    × (None ≡ plain_of algos line)
 
 -- whether the raw name spells a name, which then stands in new from start on
 abbrev pub Names : Bool → List ℕ → ℕ → List ℕ → Bool → Type 0
 Names escaped raw start new true = (start ≤ length new) × Spells escape escaped raw (slice_range new start (length new))
 Names escaped raw start new false = (name : List ℕ) → ¬ Spells escape escaped raw name
 
--- the reading of a raw name with its kind and digest
-abbrev pub NamesEntry : KindValue → List ℕ → Bool → List ℕ → List ℕ → Reading → Type 0
-NamesEntry kind digest escaped raw new readings.Ignored = ⊥
-NamesEntry kind digest escaped raw new readings.Bad = (name : List ℕ) → ¬ Spells escape escaped raw name
-NamesEntry kind digest escaped raw new (readings.Entry k d start stop) = (k ≡ kind) × (d ≡ digest) × (start ≤ stop) × (stop ≤ length new) × Spells escape escaped raw (slice_range new start stop)
+-- the reading of a raw name, with the kind and the digest of its line
+abbrev pub NamesEntry : LineParts → List ℕ → List ℕ → Reading → Type 0
+NamesEntry p raw new readings.Ignored = ⊥
+NamesEntry p raw new readings.Bad = (name : List ℕ) → ¬ Spells escape p.escaped raw name
+NamesEntry p raw new (readings.Entry kind digest start stop) = (kind ≡ p.kind) × (digest ≡ p.digest)
+    × (start ≤ stop) × (stop ≤ length new) × Spells escape p.escaped raw (slice_range new start stop)
 
 -- the reading of a plain line's tail, in a list of that form
-abbrev pub NamesTail : PlainLine → Form → List ℕ → List ℕ → Reading → Type 0
+abbrev pub NamesTail : LineParts → Form → List ℕ → List ℕ → Reading → Type 0
 NamesTail p form tail new readings.Ignored = ⊥
 NamesTail p form tail new readings.Bad = (raw name : List ℕ) → RawOf form tail raw → ¬ Spells escape p.escaped raw name
-NamesTail p form tail new (readings.Entry k d start stop) = (k ≡ p.kind) × (d ≡ p.digest) × (start ≤ stop) × (stop ≤ length new)
-    × (raw : List ℕ) × RawOf form tail raw × Spells escape p.escaped raw (slice_range new start stop)
+NamesTail p form tail new (readings.Entry kind digest start stop) = (kind ≡ p.kind) × (digest ≡ p.digest)
+    × (start ≤ stop) × (stop ≤ length new) × (raw : List ℕ) × RawOf form tail raw
+    × Spells escape p.escaped raw (slice_range new start stop)

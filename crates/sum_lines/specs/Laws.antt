@@ -17,7 +17,8 @@ use Rattle.sum_lines.specs.Entries.{Spelled, Entry, IsForm, form}
 
 -- a line spells at most one entry
 abbrev pub OneEntry : Type 0
-OneEntry = (algos : Algos) (f : Form) (line : List ℕ) (s t : Spelled) → Entry escape algos f line s → Entry escape algos f line t → s ≡ t
+OneEntry = (algos : Algos) (f : Form) (line : List ℕ) (s t : Spelled) → Entry escape algos f line s
+    → Entry escape algos f line t → s ≡ t
 
 -- no line has both shapes, whichever algorithms they name
 abbrev pub Apart : Type 0
@@ -42,7 +43,8 @@ pub record Writable (kind : KindValue) (name digest : List ℕ) : Type 0 where
   pub has : IsTrue (has_len kind.algo kind.len)
 
 -- what stands before the newline spells that entry, and no other
-pub record SpellsBack (algos : Algos) (before later : List (List ℕ)) (text : List ℕ) (kind : KindValue) (name digest : List ℕ) : Type 0 where
+pub record SpellsBack (algos : Algos) (before later : List (List ℕ)) (text : List ℕ) (kind : KindValue)
+    (name digest : List ℕ) : Type 0 where
   pub front : List ℕ
   pub whole : text ≡ front ++ codes "\n"
   pub one_line : All (λ b. (b ≢ 10) × (b ≢ 13)) front

@@ -1,4 +1,4 @@
--- The text of a list of parts: one after another.
+-- Joins `put_parts` to its callers: the text of a list of parts, one after another.
 use Rattle.std.specs.Prelude.{ℕ, List, flat_map, decimal}
 use Rattle.sum_lines.specs.declared.parts.Part.{Part}
 use Rattle.sum_lines.specs.declared.parts.Part.TheVariants.{Bytes, Escaped, Number}

@@ -1,6 +1,6 @@
 -- This joins the functions that scan a line to the relations of Shapes: it reads a line from the front, as they do.
--- That both agree is proved (plain_is_read, read_is_plain, tagged_is_read and read_is_tagged of ShapeLemmas).
-use Rattle.std.specs.Prelude.{ℕ, ◌≡◌, ◌+◌, ◌-◌, ◌*◌, ◌/◌, ◌%◌, ◌==◌, nat_le, nat_lt, ◌||◌, ◌&&◌, not, Bool, true, false, List, [], ◌∷◌, ◌++◌, length, drop, codes, Option, None, Some, Result, Ok, Err, if◌then◌else◌}
+-- That both agree is proved (by plain_is_read, read_is_plain, tagged_is_read and read_is_tagged in proofs/).
+use Rattle.std.specs.Prelude.{ℕ, ◌+◌, ◌-◌, ◌*◌, ◌/◌, ◌%◌, ◌==◌, nat_le, nat_lt, ◌&&◌, not, Bool, true, false, List, [], ◌∷◌, length, drop, codes, Option, None, Some, Result, Ok, Err, if◌then◌else◌}
 use Rattle.std.specs.List.{prefix_len, take_while}
 use Rattle.hex.specs.Hex.{decode_of, is_hex_digit}
 use Rattle.hex.specs.declared.error.FromHexError.{FromHexError}
@@ -76,7 +76,8 @@ number_after n (d ∷ ds) = number_after (n * 10 + (d - 48)) ds
 
 abbrev pub bits_fit : List ℕ → Bool
 bits_fit [] = false
-bits_fit (d ∷ ds) = not (d == 48) && nat_lt (length ds) 3 && (number_after 0 (d ∷ ds) % 8 == 0) && nat_le (number_after 0 (d ∷ ds)) 512
+bits_fit (d ∷ ds) = not (d == 48) && nat_lt (length ds) 3 && (number_after 0 (d ∷ ds) % 8 == 0) && nat_le
+    (number_after 0 (d ∷ ds)) 512
 
 abbrev pub kind_at : List ℕ → Option KindValue
 kind_at ds = if bits_fit ds then Some (record { algo = Blake2b; len = number_after 0 ds / 8 }) else None

@@ -1,5 +1,6 @@
--- The two shapes of a manifest's line: how the whole line is put together from its parts.
--- These are relations, and no reading from the front: a line has a shape where some parts join to it.
+-- The two shapes of a manifest's line: how the whole line is put together from its parts. These are relations, and no
+-- reading from the front: a line has a shape where some parts join to it. In front of either may stand blanks and then
+-- one backslash, which says that the name is escaped.
 use Rattle.std.specs.Prelude.{ℕ, ◌≡◌, ◌*◌, ◌<◌, ◌⊎◌, ◌==◌, ◌||◌, ⊤, Bool, true, false, List, [], ◌∷◌, ◌++◌, length, codes, IsTrue, Ok}
 use Rattle.std.specs.List.{AllPass}
 use Rattle.std.specs.Fmt.{decimal}
@@ -19,13 +20,13 @@ abbrev pub optional : Bool → List ℕ → List ℕ
 optional true bytes = bytes
 optional false bytes = []
 
--- what stands in front of the rest of a line, where its name is escaped: a backslash
+-- the backslash, where the name is escaped
 abbrev pub mark : Bool → List ℕ
-mark escaped = optional escaped (codes "\\")
+mark e = optional e (codes "\\")
 
 -- A plain line: digits, one blank, and a tail that isn't empty. The digits are hexadecimal, in any case, and spell
 -- a digest of a length that the one algorithm has. Where any algorithm may do, no line is plain.
-pub record Plain (algos : Algos) (line : List ℕ) (escaped : Bool) (kind : KindValue) (digest tail : List ℕ) : Type 0 where
+pub record Plain (algos : Algos) (line : List ℕ) (e : Bool) (kind : KindValue) (digest tail : List ℕ) : Type 0 where
   pub blanks : List ℕ
   pub digits : List ℕ
   pub blank : ℕ
@@ -36,7 +37,7 @@ pub record Plain (algos : Algos) (line : List ℕ) (escaped : Bool) (kind : Kind
   pub size : length digest ≡ kind.len
   pub is_one_blank : is_blank blank ≡ true
   pub some : 0 < length tail
-  pub whole : line ≡ blanks ++ (mark escaped ++ (digits ++ (blank ∷ tail)))
+  pub whole : line ≡ blanks ++ (mark e ++ (digits ++ (blank ∷ tail)))
 
 -- What may stand between the tag and the name: nothing for the full length; for BLAKE2b a `-` and the number
 -- of bits, which are 8 to 512, in decimal
@@ -51,7 +52,7 @@ Allows Any algo = ⊤
 
 -- A tagged line: the tag with its width, a name in parentheses that isn't empty, `=` between blanks or none,
 -- and the digits, up to the line's end
-pub record Tagged (algos : Algos) (line : List ℕ) (escaped : Bool) (kind : KindValue) (digest raw : List ℕ) : Type 0 where
+pub record Tagged (algos : Algos) (line : List ℕ) (e : Bool) (kind : KindValue) (digest raw : List ℕ) : Type 0 where
   pub blanks : List ℕ
   pub width : List ℕ
   pub gap : Bool
@@ -66,5 +67,5 @@ pub record Tagged (algos : Algos) (line : List ℕ) (escaped : Bool) (kind : Kin
   pub after_blanks : AllPass is_blank after
   pub spelled : decode_of digits ≡ Ok digest
   pub size : length digest ≡ kind.len
-  pub whole : line ≡ blanks ++ (mark escaped ++ (tag kind.algo ++ (width ++ (optional gap (codes " ") ++ (codes "(" ++ (raw
-      ++ (codes ")" ++ (before ++ (codes "=" ++ (after ++ digits))))))))))
+  pub whole : line ≡ blanks ++ (mark e ++ (tag kind.algo ++ (width ++ (optional gap (codes " ")
+      ++ (codes "(" ++ (raw ++ (codes ")" ++ (before ++ (codes "=" ++ (after ++ digits))))))))))

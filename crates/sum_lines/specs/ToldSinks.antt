@@ -1,4 +1,4 @@
--- What is seen of a ToldSink.
+-- Joins the calls of a ToldSink: what is seen of it.
 use Rattle.std.specs.Prelude.{ℕ, ◌-◌, List, take}
 use Rattle.sum_lines.specs.declared.told_sink.ToldSink.{ToldSink}
 

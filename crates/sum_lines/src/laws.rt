@@ -6,17 +6,14 @@ ghost use Rattle.sum_lines.specs.Laws.{Apart, OneEntry, OneForm, ReadBack};
 pub fn one_entry()
     ensures once { OneEntry }
     ensures apart { Apart }
-{
-}
+{}
 
 /// A list of lines has one form.
 pub fn one_form()
     ensures { OneForm }
-{
-}
+{}
 
 /// A line that was written, unless in zero style, spells the kind, the digest and the name that it was written for.
 pub fn read_back()
     ensures { ReadBack }
-{
-}
+{}

@@ -1,13 +1,14 @@
 //! One line of a manifest.
 
-ghost use Rattle.std.specs.Prelude.{◌≡◌, ◌≤◌, if◌then◌else◌, length, slice_range, vec_len};
+ghost use Rattle.std.specs.Prelude.{◌≡◌, ◌≤◌, if◌then◌else◌, length, vec_len};
 ghost use Rattle.sum_lines.specs.Entries.{begins_standard, form_of_tail, form_then, ignored};
-ghost use Rattle.sum_lines.specs.Found.{NamesEntry, NamesTail, ShapeIs};
+ghost use Rattle.sum_lines.specs.Found.{NamesEntry, NamesTail, ShapeIs, text_of};
 ghost use Rattle.sum_lines.specs.Readings.{Reads, form_after};
 
 use crate::names::name_in;
-use crate::plain::{PlainLine, plain};
-use crate::tagged::{TaggedLine, tagged};
+use crate::plain::plain;
+use crate::scanning::LineParts;
+use crate::tagged::tagged;
 use digest_kinds::{Algos, Digest, Kind};
 
 /// Where the plain lines of a manifest have their names. The first of them decides.
@@ -48,10 +49,7 @@ pub fn read_line(algos: Algos, form: Form, line: &mut Vec<u8>) -> (Reading, Form
 {
     match shape_of(algos, line) {
         Shape::Ignored => (Reading::Ignored, form),
-        Shape::Tagged(found) => (
-            read_name(line, found.kind, found.digest, found.escaped, found.start, found.stop),
-            form,
-        ),
+        Shape::Tagged(found) => (read_name(line, found), form),
         Shape::Plain(found) => read_tail(form, line, found),
         Shape::Neither => (Reading::Bad, form),
     }
@@ -61,8 +59,8 @@ pub fn read_line(algos: Algos, form: Form, line: &mut Vec<u8>) -> (Reading, Form
 #[derive(Debug, Drop)]
 enum Shape {
     Ignored,
-    Tagged(TaggedLine),
-    Plain(PlainLine),
+    Tagged(LineParts),
+    Plain(LineParts),
     Neither,
 }
 
@@ -90,25 +88,22 @@ fn is_ignored(line: &[u8]) -> bool
 }
 
 // Reads a plain line's tail. The first plain line of a manifest decides the form, whether it is bad or not.
-fn read_tail(form: Form, line: &mut Vec<u8>, found: PlainLine) -> (Reading, Form)
-    requires { found.start ≤ length line.old.items }
-    ensures form { result.1 ≡ form_then form (form_of_tail (slice_range line.old.items found.start (length line.old.items))) }
-    ensures names { NamesTail found result.1 (slice_range line.old.items found.start (length line.old.items)) line.new.items result.0 }
+fn read_tail(form: Form, line: &mut Vec<u8>, found: LineParts) -> (Reading, Form)
+    requires ordered { found.start ≤ found.stop }
+    requires within { found.stop ≤ length line.old.items }
+    ensures form { result.1 ≡ form_then form (form_of_tail (text_of line.old.items found)) }
+    ensures names { NamesTail found result.1 (text_of line.old.items found) line.new.items result.0 }
     ensures len { vec_len line.new ≤ vec_len line.old }
 {
-    let stop = line.len();
-    let standard = begins_standard(&line[found.start..]);
+    let standard = begins_standard(&line[found.start..found.stop]);
     let form = decided(form, standard);
     match form {
         Form::Standard if standard => {
             let start = found.start + 1;
-            (read_name(line, found.kind, found.digest, found.escaped, start, stop), form)
+            (read_name(line, LineParts { start, ..found }), form)
         }
         Form::Standard => (Reading::Bad, form),
-        _ => {
-            let start = found.start;
-            (read_name(line, found.kind, found.digest, found.escaped, start, stop), form)
-        }
+        _ => (read_name(line, found), form),
     }
 }
 
@@ -129,25 +124,18 @@ fn begins_standard(tail: &[u8]) -> bool
     matches!(tail, [b' ' | b'*', _, ..])
 }
 
-// The entry of the raw name from `start` up to `stop`, where it spells a name.
-fn read_name(
-    line: &mut Vec<u8>,
-    kind: Kind,
-    digest: Digest,
-    escaped: bool,
-    start: usize,
-    stop: usize,
-) -> Reading
-    requires ordered { start ≤ stop }
-    requires within { stop ≤ length line.old.items }
-    ensures names { NamesEntry kind digest escaped (slice_range line.old.items start stop) line.new.items result }
+// The entry of the parts, where their text is a raw name that spells a name.
+fn read_name(line: &mut Vec<u8>, found: LineParts) -> Reading
+    requires ordered { found.start ≤ found.stop }
+    requires within { found.stop ≤ length line.old.items }
+    ensures names { NamesEntry found (text_of line.old.items found) line.new.items result }
     ensures len { vec_len line.new ≤ vec_len line.old }
 {
-    if name_in(line, escaped, start, stop) {
+    if name_in(line, found.escaped, found.start, found.stop) {
         Reading::Entry {
-            kind,
-            digest,
-            start,
+            kind: found.kind,
+            digest: found.digest,
+            start: found.start,
             stop: line.len(),
         }
     } else {

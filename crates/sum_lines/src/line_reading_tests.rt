@@ -34,7 +34,14 @@ use Want::{Bad, Entry, Ignored};
 type Row<'a> = (&'a [u8], &'a [u8], &'a [u8], Want<'a>, Form);
 
 // Reads the row's line in a manifest of that form, and answers the form with it.
-fn check_line(rt: &impl Abort, algos: Algos, kind: Kind, form: Form, line: &mut Vec<u8>, row: Row) -> Form {
+fn check_line(
+    rt: &impl Abort,
+    algos: Algos,
+    kind: Kind,
+    form: Form,
+    line: &mut Vec<u8>,
+    row: Row,
+) -> Form {
     let (_, digits, _, want, after) = row;
     let before = line.len();
     let (reading, form) = read_line(algos, form, line);
@@ -63,7 +70,13 @@ fn check_line(rt: &impl Abort, algos: Algos, kind: Kind, form: Form, line: &mut 
 }
 
 // Reads the rows' lines as those of one manifest.
-fn check_manifest(rt: &impl Abort, alloc: Global, algos: Algos, kind: Kind, rows: &[Row]) -> Result<(), Fail> {
+fn check_manifest(
+    rt: &impl Abort,
+    alloc: Global,
+    algos: Algos,
+    kind: Kind,
+    rows: &[Row],
+) -> Result<(), Fail> {
     let mut form = Form::Undecided;
     for row in rows {
         let mut line = row.0.to_vec(alloc)?;
@@ -75,7 +88,13 @@ fn check_manifest(rt: &impl Abort, alloc: Global, algos: Algos, kind: Kind, rows
 }
 
 // Reads the line of each row as that of a manifest of its own.
-fn check_each(rt: &impl Abort, alloc: Global, algos: Algos, kind: Kind, rows: &[Row]) -> Result<(), Fail> {
+fn check_each(
+    rt: &impl Abort,
+    alloc: Global,
+    algos: Algos,
+    kind: Kind,
+    rows: &[Row],
+) -> Result<(), Fail> {
     for row in rows {
         check_manifest(rt, alloc, algos, kind, &[*row])?;
     }
@@ -106,7 +125,13 @@ fn tagged_lines(rt: HostRuntime) -> Result<(), Fail> {
     let rows: [Row; 8] = [
         (b"MD5 (a) = ", M, b"", Entry(b"a", 5, 6), Form::Undecided),
         (b"MD5 (a)) = ", M, b"", Entry(b"a)", 5, 7), Form::Undecided),
-        (b"\\MD5 (a\\nb) = ", M, b"", Entry(b"a\nb", 6, 9), Form::Undecided),
+        (
+            b"\\MD5 (a\\nb) = ",
+            M,
+            b"",
+            Entry(b"a\nb", 6, 9),
+            Form::Undecided,
+        ),
         (b"MD5(a)= ", M, b"", Entry(b"a", 4, 5), Form::Undecided),
         (b"MD5 () = ", M, b"", Bad, Form::Undecided),
         (b"MD5  (a) = ", M, b"", Bad, Form::Undecided),
@@ -123,7 +148,13 @@ fn lengths_of_blake2b(rt: HostRuntime) -> Result<(), Fail> {
         (b"BLAKE2b-520 (e) = ", B, b"", Bad, Form::Undecided),
         (b"BLAKE2b-256 (e) = ", M, b"", Bad, Form::Undecided),
         (b"", b"00", b" e", Entry(b"e", 3, 4), Form::Reversed),
-        (b"BLAKE2b-8 (e) = ", b"00", b"", Entry(b"e", 11, 12), Form::Undecided),
+        (
+            b"BLAKE2b-8 (e) = ",
+            b"00",
+            b"",
+            Entry(b"e", 11, 12),
+            Form::Undecided,
+        ),
     ];
     check_each(&rt, rt.alloc(), BLAKE2B, Kind::blake2b_bits(8)?, &rows)
 }
@@ -135,7 +166,13 @@ fn other_tags_and_ignored_lines(rt: HostRuntime) -> Result<(), Fail> {
         (b"#", b"", b"", Ignored, Form::Undecided),
         (b"", b"", b"", Ignored, Form::Undecided),
     ];
-    check_each(&rt, rt.alloc(), Algos::One(Algo::Sha256), Kind::of(Algo::Sha256), &rows)
+    check_each(
+        &rt,
+        rt.alloc(),
+        Algos::One(Algo::Sha256),
+        Kind::of(Algo::Sha256),
+        &rows,
+    )
 }
 
 #[test]
@@ -171,7 +208,13 @@ fn the_first_plain_line_decides(rt: HostRuntime) -> Result<(), Fail> {
 #[test]
 fn escaped_names(rt: HostRuntime) -> Result<(), Fail> {
     let rows: [Row; 5] = [
-        (b"\\", M, b"  q\\\\\\nz", Entry(b"q\\\nz", 35, 39), Form::Standard),
+        (
+            b"\\",
+            M,
+            b"  q\\\\\\nz",
+            Entry(b"q\\\nz", 35, 39),
+            Form::Standard,
+        ),
         (b"\\", M, b"  q\\x", Bad, Form::Standard),
         (b"\\", M, b"  q\\", Bad, Form::Standard),
         (b"\\", M, b"  a\\r", Entry(b"a\r", 35, 37), Form::Standard),
@@ -184,7 +227,13 @@ fn escaped_names(rt: HostRuntime) -> Result<(), Fail> {
 fn a_blake2b_manifest(rt: HostRuntime) -> Result<(), Fail> {
     let rows: [Row; 4] = [
         (b"", B, b"  e", Entry(b"e", 66, 67), Form::Standard),
-        (b"BLAKE2b-256 (e) = ", B, b"", Entry(b"e", 13, 14), Form::Standard),
+        (
+            b"BLAKE2b-256 (e) = ",
+            B,
+            b"",
+            Entry(b"e", 13, 14),
+            Form::Standard,
+        ),
         (b"", b"0e5", b" e", Bad, Form::Standard),
         (b"BLAKE2b-256 (e) = ", &B[..62], b"", Bad, Form::Standard),
     ];
@@ -202,8 +251,20 @@ fn any_algorithm(rt: HostRuntime) -> Result<(), Fail> {
     check_manifest(&rt, rt.alloc(), Algos::Any, Kind::of(Algo::Md5), &md5)?;
     let sha256: [Row; 1] = [(b"SHA256 (a) = ", S, b"", Entry(b"a", 8, 9), Form::Undecided)];
     check_manifest(&rt, rt.alloc(), Algos::Any, Kind::of(Algo::Sha256), &sha256)?;
-    let blake2b: [Row; 1] = [(b"BLAKE2b-256 (e) = ", B, b"", Entry(b"e", 13, 14), Form::Undecided)];
-    check_manifest(&rt, rt.alloc(), Algos::Any, Kind::blake2b_bits(256)?, &blake2b)
+    let blake2b: [Row; 1] = [(
+        b"BLAKE2b-256 (e) = ",
+        B,
+        b"",
+        Entry(b"e", 13, 14),
+        Form::Undecided,
+    )];
+    check_manifest(
+        &rt,
+        rt.alloc(),
+        Algos::Any,
+        Kind::blake2b_bits(256)?,
+        &blake2b,
+    )
 }
 
 #[test]

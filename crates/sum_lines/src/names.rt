@@ -8,8 +8,8 @@ ghost use Rattle.sum_lines.specs.Found.{Names};
 use crate::escape::unescape_in;
 use memchr::memchr;
 
-/// Leaves the name that the raw name from `start` up to `stop` spells, from `start` up to the line's end. False where it
-/// spells none: it isn't the escape of a name, though a backslash stood in front, or the name holds a NUL.
+/// Leaves the name that the raw name from `start` up to `stop` spells, from `start` up to the line's end. False where
+/// it spells none: it isn't the escape of a name, though a backslash stood in front, or the name holds a NUL.
 pub(crate) fn name_in(line: &mut Vec<u8>, escaped: bool, start: usize, stop: usize) -> bool
     requires ordered { start ≤ stop }
     requires within { stop ≤ length line.old.items }

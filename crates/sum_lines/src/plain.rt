@@ -5,24 +5,15 @@ ghost use Rattle.std.specs.Option.{option_copied, option_map};
 ghost use Rattle.hex.specs.Hex.{decode_of};
 ghost use Rattle.digest_kinds.specs.Kinds.{has_len};
 ghost use Rattle.sum_lines.specs.Scanned.{plain_of, plain_as, sized, tail_of};
-ghost use Rattle.sum_lines.specs.Found.{plain_parts};
+ghost use Rattle.sum_lines.specs.Found.{line_parts};
 
-use crate::scanning::{skip_blanks, split_hex_digits, unmark};
+use crate::scanning::{LineParts, skip_blanks, split_hex_digits, unmark};
 use digest_kinds::{Algo, Algos, Digest, Kind};
 
-/// What a plain line holds. Its tail stands from `start` on.
-#[derive(Debug, Drop)]
-pub(crate) struct PlainLine {
-    pub(crate) escaped: bool,
-    pub(crate) kind: Kind,
-    pub(crate) digest: Digest,
-    pub(crate) start: usize,
-}
-
 /// Reads a plain line of the one algorithm. None where the line isn't plain.
-pub(crate) fn plain(algos: Algos, line: &[u8]) -> Option<PlainLine>
-    ensures parts { option_map (plain_parts line.now) result ≡ plain_of algos line.now }
-    ensures range { IfSome result (λ p. p.start ≤ length line.now) }
+pub(crate) fn plain(algos: Algos, line: &[u8]) -> Option<LineParts>
+    ensures parts { option_map (line_parts line.now) result ≡ plain_of algos line.now }
+    ensures range { IfSome result (λ p. (p.start ≤ p.stop) × (p.stop ≤ length line.now)) }
 {
     match algos {
         Algos::One(algo) => plain_as(algo, line),
@@ -31,19 +22,20 @@ pub(crate) fn plain(algos: Algos, line: &[u8]) -> Option<PlainLine>
 }
 
 #[tactic(auto, unfolding(crate::specs::Scanned::plain_behind))]
-fn plain_as(algo: Algo, line: &[u8]) -> Option<PlainLine>
-    ensures parts { option_map (plain_parts line.now) result ≡ plain_as algo line.now }
-    ensures range { IfSome result (λ p. p.start ≤ length line.now) }
+fn plain_as(algo: Algo, line: &[u8]) -> Option<LineParts>
+    ensures parts { option_map (line_parts line.now) result ≡ plain_as algo line.now }
+    ensures range { IfSome result (λ p. (p.start ≤ p.stop) × (p.stop ≤ length line.now)) }
 {
     let (escaped, text) = unmark(skip_blanks(line));
     let (digits, rest) = split_hex_digits(text);
     let (kind, digest) = kind_and_digest(algo, digits)?;
     let tail = tail(rest)?;
-    Some(PlainLine {
+    Some(LineParts {
         escaped,
         kind,
         digest,
         start: line.len() - tail.len(),
+        stop: line.len(),
     })
 }
 

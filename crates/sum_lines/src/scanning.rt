@@ -7,7 +7,19 @@ ghost use Rattle.sum_lines.specs.Scanned.{after_while, past, split_last, unmarke
 ghost use Rattle.sum_lines.specs.Shapes.{is_blank};
 ghost use Rattle.hex.specs.Hex.{is_hex_digit};
 
+use digest_kinds::{Digest, Kind};
 use memchr::memrchr;
+
+/// What a line of either shape holds. Its text, the raw name of a tagged line and the tail of a plain one, stands from
+/// `start` up to `stop`.
+#[derive(Debug, Drop)]
+pub(crate) struct LineParts {
+    pub(crate) escaped: bool,
+    pub(crate) kind: Kind,
+    pub(crate) digest: Digest,
+    pub(crate) start: usize,
+    pub(crate) stop: usize,
+}
 
 /// Whether the byte is a space or a tab.
 fn is_blank(byte: u8) -> bool

@@ -6,25 +6,15 @@ ghost use Rattle.std.specs.Option.{option_copied, option_map};
 ghost use Rattle.hex.specs.Hex.{decode_of};
 ghost use Rattle.digest_kinds.specs.Kinds.{tag};
 ghost use Rattle.sum_lines.specs.Scanned.{after_while, algo_at, bits_at, blake2b_at, digest_at, is_digit, kind_at, opened_of, past, tagged_of, width_at};
-ghost use Rattle.sum_lines.specs.Found.{tagged_parts};
+ghost use Rattle.sum_lines.specs.Found.{line_parts};
 
-use crate::scanning::{past_text, skip_blanks, split_at_last, unmark, unspace};
+use crate::scanning::{LineParts, past_text, skip_blanks, split_at_last, unmark, unspace};
 use digest_kinds::{Algo, Algos, Digest, Kind};
-
-/// What a tagged line holds. Its raw name stands from `start` up to `stop`.
-#[derive(Debug, Drop)]
-pub(crate) struct TaggedLine {
-    pub(crate) escaped: bool,
-    pub(crate) kind: Kind,
-    pub(crate) digest: Digest,
-    pub(crate) start: usize,
-    pub(crate) stop: usize,
-}
 
 /// Reads a tagged line of these algorithms. None where the line isn't tagged.
 #[tactic(auto, unfolding(crate::specs::Scanned::name_behind))]
-pub(crate) fn tagged(algos: Algos, line: &[u8]) -> Option<TaggedLine>
-    ensures parts { option_map (tagged_parts line.now) result ≡ tagged_of algos line.now }
+pub(crate) fn tagged(algos: Algos, line: &[u8]) -> Option<LineParts>
+    ensures parts { option_map (line_parts line.now) result ≡ tagged_of algos line.now }
     ensures range { IfSome result (λ t. (t.start ≤ t.stop) × (t.stop ≤ length line.now)) }
 {
     let Some(opened) = open_line(algos, line) else {
@@ -38,7 +28,7 @@ pub(crate) fn tagged(algos: Algos, line: &[u8]) -> Option<TaggedLine>
     let digits = past_text(b"=", skip_blanks(behind_name))?;
     let digest = digest_of(opened.kind.len(), skip_blanks(digits))?;
     let start = line.len() - opened.inner.len();
-    Some(TaggedLine {
+    Some(LineParts {
         escaped: opened.escaped,
         kind: opened.kind,
         digest,
@@ -57,7 +47,8 @@ struct OpenedLine<'a> {
 
 #[tactic(auto, unfolding(crate::specs::Scanned::opened_text))]
 fn open_line(algos: Algos, line: &[u8]) -> Option<OpenedLine<'_>>
-    ensures { option_map (λ o. record { escaped = o.escaped; kind = o.kind; inner = o.inner.now }) result ≡ opened_of algos line.now }
+    ensures { option_map (λ o. record { escaped = o.escaped; kind = o.kind; inner = o.inner.now }) result
+        ≡ opened_of algos line.now }
 {
     let (escaped, text) = unmark(skip_blanks(line));
     let algo = algo_at(algos, text)?;
@@ -161,5 +152,9 @@ fn digest_of(len: usize, digits: &[u8]) -> Option<Digest>
     ensures { result ≡ digest_at len (decode_of digits.now) }
 {
     let digest = Digest::from_hex(digits)?;
-    if digest.as_slice().len() == len { Some(digest) } else { None }
+    if digest.as_slice().len() == len {
+        Some(digest)
+    } else {
+        None
+    }
 }

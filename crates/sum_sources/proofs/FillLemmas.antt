@@ -1,5 +1,5 @@
 -- What a read into the empty buffer makes of the content that is still to come.
-use Rattle.std.proofs.Common.{◌≡◌, ◌≢◌, ℕ, ◌+◌, ◌-◌, ◌^◌, ◌<◌, ◌≤◌, Bool, true, false, not, List, [], ◌++◌, length, take, drop, Option, None, Some, Result, Ok, Err, refl, ap, sym, ◌∙◌, arith, length-append, nat_lt, nat_eq, inl, inr}
+use Rattle.std.proofs.Common.{◌≡◌, ◌≢◌, ℕ, ◌+◌, ◌-◌, ◌^◌, ◌<◌, ◌≤◌, false, not, List, [], ◌++◌, length, take, drop, Option, None, Some, Ok, Err, refl, ap, sym, ◌∙◌, arith, length-append, nat_lt, nat_eq, inl, inr}
 use Rattle.std.specs.Option.{option_map}
 use Rattle.std.proofs.lemmas.Bool.{cond-true, cond-false, lt-ltb, le-ltb, cases_lt}
 use Rattle.std.proofs.lemmas.Bool.Decides.{eqb_tells}
@@ -8,7 +8,7 @@ use Rattle.std.proofs.Math.Seq.{take-append-add}
 use Rattle.sum_sources.specs.declared.fault.Fault.{Fault}
 use Rattle.sum_sources.specs.declared.fault.Fault.TheVariants.{Other}
 use Rattle.sum_sources.specs.declared.fault.Ending.{Ending}
-use Rattle.sum_sources.specs.declared.fault.Ending.TheVariants.{Whole, Broken}
+use Rattle.sum_sources.specs.declared.fault.Ending.TheVariants.{Broken}
 use Rattle.sum_sources.specs.Contents.{Content, limit, WhereTold, ReadsFrom, ReadGives}
 use Rattle.sum_sources.specs.Standard.{nothing}
 use Rattle.sum_sources.specs.LineReading.{clip_to, behind, FillOf}

@@ -1,10 +1,8 @@
 -- What the steps of the line reader make of pieces and lines.
-use Rattle.std.proofs.Common.{◌≡◌, ◌≢◌, ℕ, zero, suc, ◌+◌, ◌-◌, ◌<◌, ◌≤◌, Bool, true, false, not, cond, List, [], ◌∷◌, ◌++◌, length, take, drop, get_or, map, Option, None, Some, Result, Ok, Err, refl, ap, sym, ◌∙◌, subst, append_assoc, arith, length-append, length-drop, ◌==◌, inl, inr, ◌⊎◌}
-use Rattle.std.specs.List.{All, slice_split, after_first, position_or_len}
+use Rattle.std.proofs.Common.{◌≡◌, ℕ, ◌+◌, ◌<◌, Bool, List, [], ◌∷◌, ◌++◌, length, drop, map, Option, None, Some, Result, Ok, Err, refl, ap, sym, ◌∙◌, append_assoc, arith, length-append, length-drop, ◌==◌, inl, inr}
+use Rattle.std.specs.List.{slice_split, after_first, position_or_len}
 use Rattle.std.specs.Str.Lines.{strip_carriage_return}
-use Rattle.std.proofs.lemmas.Bool.{eqb-true}
-use Rattle.std.proofs.lemmas.List.{drop-take, drop-drop, take-append-drop, drop_more, append-nil, length-take-le, get_or_append_left, drop_at, nil_from_length}
-use Rattle.std.proofs.lemmas.List.Elements.{All-append}
+use Rattle.std.proofs.lemmas.List.{get_or_append_left, drop_at, nil_from_length}
 use Rattle.std.proofs.lemmas.List.Splits.{slice_split_at, slice_split_none, length-slice_split}
 use Rattle.std.proofs.lemmas.List.Sums.{position_or_len_is}
 use Rattle.std.proofs.Math.Seq.{get_or-append_seam}
@@ -19,8 +17,8 @@ use Rattle.sum_sources.specs.declared.lines.State.{State}
 use Rattle.sum_sources.specs.declared.lines.State.TheVariants as states
 use Rattle.sum_sources.specs.Contents.{Content, WhereTold}
 use Rattle.sum_sources.specs.Standard.{nothing}
-use Rattle.sum_sources.specs.ManifestLines.{last_line, line_pieces, pieces, lines, past_line, NoNewline}
-use Rattle.sum_sources.specs.LineReading.{at_state, EndsPiece, IsLastPiece, PieceOf, LineOf}
+use Rattle.sum_sources.specs.ManifestLines.{last_line, line_pieces, pieces, lines, past_line, NoNewline, LineOf}
+use Rattle.sum_sources.specs.LineReading.{at_state, EndsPiece, IsLastPiece, PieceOf}
 use Rattle.sum_sources.proofs.FillLemmas.{content-same}
 use Rattle.sum_sources.proofs.ToldLemmas.{WhereTold-map}
 

@@ -1,5 +1,5 @@
 -- What holds between told contents, carried along functions and steps.
-use Rattle.std.proofs.Common.{◌≡◌, Option, None, Some}
+use Rattle.std.proofs.Common.{Option, None, Some}
 use Rattle.std.specs.Option.{option_map}
 use Rattle.sum_sources.specs.Contents.{Content, WhereTold}
 

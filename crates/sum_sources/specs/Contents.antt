@@ -1,5 +1,5 @@
 -- What inputs hold: bytes and an ending, and what counts of them.
-use Rattle.std.specs.Prelude.{ℕ, ◌≡◌, ◌<◌, ◌-◌, ◌^◌, List, [], ◌++◌, take, length, Option, None, Some, Result, Ok, Err, ⊤, nat_lt, if◌then◌else◌, MatchResult}
+use Rattle.std.specs.Prelude.{ℕ, ◌≡◌, ◌<◌, ◌-◌, ◌^◌, List, [], ◌++◌, take, length, Option, None, Some, Result, Ok, Err, ⊤, nat_lt, if◌then◌else◌}
 use Rattle.digest_kinds.specs.Digests.{digest}
 use Rattle.digest_kinds.specs.Kinds.{KindValue}
 use Rattle.sum_sources.specs.declared.fault.Fault.{Fault}
@@ -34,7 +34,8 @@ WhereTold (Some c) (Some d) P = P c d
 -- a read takes the first bytes; it finds the end only where no byte is left and the ending is whole, and a fault only
 -- where no byte is left and the ending is that fault
 abbrev pub ReadsFrom : Content → Content → Result ℕ Fault → List ℕ → Type 0
-ReadsFrom c d (Ok n) buf = (c.bytes ≡ take n buf ++ d.bytes) × (d.ending ≡ c.ending) × (n ≡ 0 → 0 < length buf → (c.bytes ≡ []) × (c.ending ≡ Whole))
+ReadsFrom c d (Ok n) buf = (c.bytes ≡ take n buf ++ d.bytes) × (d.ending ≡ c.ending)
+    × (n ≡ 0 → 0 < length buf → (c.bytes ≡ []) × (c.ending ≡ Whole))
 ReadsFrom c d (Err f) buf = (c.bytes ≡ []) × (c.ending ≡ Broken f) × (d ≡ c)
 
 -- what a read does, where an input tells its content
@@ -43,4 +44,5 @@ ReadGives old new r buf = WhereTold old new (λ c d. ReadsFrom c d r buf)
 
 -- the digest of a content that ends whole, or the fault by which it ends
 abbrev pub Hashes : KindValue → Content → Result (List ℕ) Fault → Type 0
-Hashes kind c r = MatchResult r (λ d. (c.ending ≡ Whole) × (d ≡ digest kind c.bytes)) (λ f. c.ending ≡ Broken f)
+Hashes kind c (Ok d) = (c.ending ≡ Whole) × (d ≡ digest kind c.bytes)
+Hashes kind c (Err f) = c.ending ≡ Broken f

@@ -1,5 +1,6 @@
--- What a line reader has still to give, what it counts, and what each of its steps does with that.
-use Rattle.std.specs.Prelude.{Bool, true, false, ℕ, ◌≡◌, ◌<◌, ◌+◌, ◌-◌, List, [], ◌∷◌, ◌++◌, take, drop, length, Option, None, Some, Result, Ok, Err, ⊤, ◌⊎◌, nat_lt, if◌then◌else◌}
+-- Joins the line reader's fields to what contracts see of it (what is still to come, what it counts, what it answers
+-- again), and its steps to one another.
+use Rattle.std.specs.Prelude.{Bool, true, false, ℕ, ◌≡◌, ◌<◌, ◌-◌, List, [], ◌∷◌, ◌++◌, take, drop, length, Option, None, Some, Result, Ok, Err, ⊤, ◌⊎◌, nat_lt, if◌then◌else◌}
 use Rattle.std.specs.Option.{option_map}
 use Rattle.sum_sources.specs.declared.fault.Fault.{Fault}
 use Rattle.sum_sources.specs.declared.fault.Fault.TheVariants.{Other}
@@ -12,21 +13,8 @@ use Rattle.sum_sources.specs.declared.lines.Next.TheVariants.{Line, NoMore}
 use Rattle.sum_sources.specs.declared.lines.LineStop.{LineStop}
 use Rattle.sum_sources.specs.declared.lines.LineStop.TheVariants as stops
 use Rattle.sum_sources.specs.Contents.{Content, limit}
-use Rattle.sum_sources.specs.ManifestLines.{lines, past_line, NoNewline}
+use Rattle.sum_sources.specs.ManifestLines.{NoNewline}
 use Rattle.sum_sources.specs.Standard.{nothing}
-
--- what next_line answers: the first line, with what stands past it still to come; or that none is left, by the ending
-abbrev pub LineOf : Content → Content → Result Next LineStop → List ℕ → Type 0
-LineOf c d (Ok Line) line = (lines c ≡ line ∷ lines d) × (d ≡ past_line c)
-LineOf c d (Ok NoMore) line = (lines c ≡ []) × (c.ending ≡ Whole)
-LineOf c d (Err (stops.Fault f)) line = (lines c ≡ []) × (c.ending ≡ Broken f)
-LineOf c d (Err stops.Memory) line = ⊤
-
--- how many lines were answered
-abbrev pub lines_after : ℕ → Result Next LineStop → ℕ
-lines_after n (Ok Line) = n + 1
-lines_after n (Ok NoMore) = n
-lines_after n (Err e) = n
 
 -- bytes that were read but not yet handed out
 abbrev pub buffered : {I : Type 0} → LineReader I → List ℕ
@@ -94,7 +82,8 @@ FillOf c d (Err f) = c ≡ record { bytes = []; ending = Broken f }
 
 -- a piece went from the front of the buffer to the line's end: up to a newline, which went too, or the whole buffer
 abbrev pub TakesPiece : Bool → List ℕ → List ℕ → List ℕ → List ℕ → Type 0
-TakesPiece true old new line line' = (piece : List ℕ) × NoNewline piece × (old ≡ piece ++ (10 ∷ new)) × (line' ≡ line ++ piece)
+TakesPiece true old new line line' = (piece : List ℕ) × NoNewline piece × (old ≡ piece ++ (10 ∷ new))
+    × (line' ≡ line ++ piece)
 TakesPiece false old new line line' = NoNewline old × (new ≡ []) × (line' ≡ line ++ old)
 
 -- a newline ended the piece, and the rest is still to come

@@ -1,9 +1,13 @@
 -- The lines of a manifest.
-use Rattle.std.specs.Prelude.{ℕ, ◌≡◌, ◌==◌, false, List, [], ◌∷◌, ◌++◌, map, All}
+use Rattle.std.specs.Prelude.{ℕ, ◌≡◌, ◌+◌, ◌==◌, false, List, [], ◌∷◌, ◌++◌, map, All, Result, Ok, Err, ⊤}
 use Rattle.std.specs.List.{slice_split, after_first, flat_map}
 use Rattle.std.specs.Str.Lines.{strip_carriage_return}
 use Rattle.sum_sources.specs.declared.fault.Ending.{Ending}
 use Rattle.sum_sources.specs.declared.fault.Ending.TheVariants.{Whole, Broken}
+use Rattle.sum_sources.specs.declared.lines.Next.{Next}
+use Rattle.sum_sources.specs.declared.lines.Next.TheVariants.{Line, NoMore}
+use Rattle.sum_sources.specs.declared.lines.LineStop.{LineStop}
+use Rattle.sum_sources.specs.declared.lines.LineStop.TheVariants as stops
 use Rattle.sum_sources.specs.Contents.{Content}
 
 -- the last piece, which no newline ended, is a line where it isn't empty and the content ends whole
@@ -43,3 +47,16 @@ pub record CutsInto (bytes : List ℕ) (ended : List (List ℕ)) (tail : List �
   pub bytes_are : bytes ≡ joined ended tail
   pub pieces_plain : All NoNewline ended
   pub tail_plain : NoNewline tail
+
+-- what next_line answers: the first line, with what stands past it still to come; or that none is left, by the ending
+abbrev pub LineOf : Content → Content → Result Next LineStop → List ℕ → Type 0
+LineOf c d (Ok Line) line = (lines c ≡ line ∷ lines d) × (d ≡ past_line c)
+LineOf c d (Ok NoMore) line = (lines c ≡ []) × (c.ending ≡ Whole)
+LineOf c d (Err (stops.Fault f)) line = (lines c ≡ []) × (c.ending ≡ Broken f)
+LineOf c d (Err stops.Memory) line = ⊤
+
+-- how many lines were answered
+abbrev pub lines_after : ℕ → Result Next LineStop → ℕ
+lines_after n (Ok Line) = n + 1
+lines_after n (Ok NoMore) = n
+lines_after n (Err e) = n

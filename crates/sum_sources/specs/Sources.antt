@@ -40,10 +40,12 @@ Opens content reply (Err (faults.Fault f)) = reply ≡ Refused f
 Opens content reply (Err faults.Memory) = ⊤
 
 -- what opening a name does, where a source tells: its replies stay the same
-abbrev pub OpenGives : {F : Type 0} → (F → Option Content) → Option Telling → Option Telling → List ℕ → Result F OpenFault → Type 0
+abbrev pub OpenGives :
+    {F : Type 0} → (F → Option Content) → Option Telling → Option Telling → List ℕ → Result F OpenFault → Type 0
 OpenGives content None new name r = ⊤
 OpenGives content (Some s) None name r = ⊥
-OpenGives content (Some s) (Some t) name r = (t.answer ≡ s.answer) × (t.asked ≡ asked_after s.asked name r) × Opens content (s.answer name) r
+OpenGives content (Some s) (Some t) name r = (t.answer ≡ s.answer) × (t.asked ≡ asked_after s.asked name r)
+    × Opens content (s.answer name) r
 
 -- a name with the reply to it
 pub record Pair : Type 0 where

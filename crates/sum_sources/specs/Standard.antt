@@ -1,5 +1,5 @@
 -- What standard input has to give.
-use Rattle.std.specs.Prelude.{List, [], Option, None, Some}
+use Rattle.std.specs.Prelude.{[], Option, None, Some}
 use Rattle.sum_sources.specs.declared.fault.Ending.TheVariants.{Whole}
 use Rattle.sum_sources.specs.Contents.{Content}
 

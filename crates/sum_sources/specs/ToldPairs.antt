@@ -1,4 +1,4 @@
--- Joins the pairs that a told source stores to the pairs that contracts see.
+-- What the answers of a told source say, and the pairs that it stores.
 use Rattle.sum_sources.specs.declared.told_source.Answer.{Answer}
 use Rattle.sum_sources.specs.declared.told_source.Answer.TheVariants as answers
 use Rattle.sum_sources.specs.declared.told_source.StoredPair.{StoredPair}

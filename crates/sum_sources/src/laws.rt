@@ -8,6 +8,7 @@ ghost use Rattle.sum_sources.specs.ManifestLines.{CutsInto, NoNewline, joined, l
 /// are just these pieces and then the tail where it counts as the last line.
 pub fn pieces_of_bytes()
     ensures exist { (bytes : List ℕ) → (ended : List (List ℕ)) × (tail : List ℕ) × CutsInto bytes ended tail }
-    ensures are { (ending : EndingValue) (ended : List (List ℕ)) (tail : List ℕ) → All NoNewline ended → NoNewline tail
+    ensures are { (ending : EndingValue) (ended : List (List ℕ)) (tail : List ℕ)
+        → All NoNewline ended → NoNewline tail
         → pieces (record { bytes = joined ended tail; ending = ending }) ≡ ended ++ last_line ending tail }
 {}

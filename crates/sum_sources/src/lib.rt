@@ -24,3 +24,6 @@ pub use source::{OpenFault, Source};
 pub use standard::{Given, Stdin};
 pub use told::Told;
 pub use told_source::{Answer, NoRoom, ToldSource};
+
+#[cfg(test)]
+mod tests;

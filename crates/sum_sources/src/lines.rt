@@ -1,5 +1,6 @@
 //! The lines of a manifest, one at a time.
-ghost use Rattle.std.specs.Prelude.{◌≡◌, ◌≤◌, ◌<◌, ◌^◌, ◌+◌, ◌-◌, [], true, false, take, length, IfOk, IfSome, IsErr, OnOk, if◌then◌else◌};
+ghost use Rattle.std.specs.Prelude.{◌≡◌, ◌≤◌, ◌<◌, ◌^◌, ◌+◌, ◌-◌, [], true, false, take, length};
+ghost use Rattle.std.specs.Prelude.{IfOk, IfSome, IsErr, OnOk, if◌then◌else◌};
 ghost use Rattle.std.specs.Str.Lines.{strip_carriage_return};
 ghost use Rattle.sum_sources.specs.Contents.{ReadGives};
 ghost use Rattle.sum_sources.specs.LineStates.{IsReading};
@@ -38,6 +39,7 @@ enum State {
 #[derive(Drop)]
 pub struct LineReader<I> {
     input: I,
+    // What was read and isn't used yet is `buf[start..end]`.
     buf: [u8; 8192],
     start: usize,
     end: usize,
@@ -72,7 +74,9 @@ fn drop_return(line: &mut Vec<u8>)
 impl<I: Input> LineReader<I> {
     ghost use Rattle.std.specs.Option.{option_map};
     ghost use Rattle.sum_sources.specs.Contents.{WhereTold, clip};
-    ghost use Rattle.sum_sources.specs.LineReading.{LineOf, PieceOf, FillOf, TakesPiece, lines_after, buffered, taken_of, used_of, count_of, left, ahead, coming, answer_of, has_stopped};
+    ghost use Rattle.sum_sources.specs.ManifestLines.{LineOf, lines_after};
+    ghost use Rattle.sum_sources.specs.LineReading.{buffered, ahead, FillOf, TakesPiece, PieceOf};
+    ghost use Rattle.sum_sources.specs.LineReading.{coming, left, taken_of, used_of, count_of, answer_of, has_stopped};
 
     /// A reader of the lines of `input`. An input of `LIMIT` bytes or more counts as its first
     /// `LIMIT - 1` bytes and then `Fault::Other`.
@@ -148,7 +152,8 @@ impl<I: Input> LineReader<I> {
     // Moves the buffer's bytes up to its first newline to the line's end, and drops that newline.
     // False means that there was none, and all bytes were moved.
     fn take_piece(&mut self, line: &mut Vec<u8>) -> Result<bool, AllocError>
-        ensures piece { IfOk result (λ ended. TakesPiece ended (buffered self.old) (buffered self.new) line.old.items line.new.items) }
+        ensures piece { IfOk result (λ ended.
+            TakesPiece ended (buffered self.old) (buffered self.new) line.old.items line.new.items) }
         ensures memory { IsErr result → 0 < length (buffered self.old) }
         ensures empty { result ≡ Ok false → self.new.start ≡ self.new.end }
         ensures used { IfOk result (λ ended. used_of self.new + length line.old.items
@@ -180,23 +185,23 @@ impl<I: Input> LineReader<I> {
     fn read_on(&mut self, line: &mut Vec<u8>) -> Result<Next, LineStop>
         requires empty { line.old.items ≡ [] }
         requires reading { self.old.state ≡ State.Reading }
-        ensures piece { WhereTold (ahead I.content self.old) (coming I.content self.new) (λ c d. PieceOf c d result line.new.items) }
-        ensures memory { result ≡ Err LineStop.Memory → IfSome (ahead I.content self.old) (λ c. 0 < length c.bytes) }
+        ensures piece { WhereTold (ahead I.content self.old) (coming I.content self.new)
+            (λ c d. PieceOf c d result line.new.items) }
+        ensures memory { result ≡ Err LineStop.Memory
+            → IfSome (ahead I.content self.old) (λ c. 0 < length c.bytes) }
         ensures few { IfOk result (λ _. self.new.taken < 2 ^ 61) }
         ensures used { OnOk result (WhereTold (ahead I.content self.old) (coming I.content self.new)
             (λ c d. used_of self.new + length d.bytes ≡ used_of self.old + length c.bytes)) }
         ensures input { WhereTold (left I.content self.old) (left I.content self.new)
             (λ c d. self.new.taken + length d.bytes ≡ self.old.taken + length c.bytes) }
-        ensures lines { self.new.lines ≡ lines_after self.old.lines result }
+        ensures some { result ≡ Ok Next.Line → used_of self.old < used_of self.new }
+        ensures lines { self.new.lines ≡ self.old.lines }
         ensures ended { result ≡ Ok Next.NoMore → self.new.state ≡ State.Ended }
         ensures going { OnOk result (has_stopped self.new ≡ false) }
     {
         loop {
             match self.take_piece(line) {
-                Ok(true) => {
-                    self.lines += 1;
-                    return Ok(Next::Line);
-                }
+                Ok(true) => return Ok(Next::Line),
                 Ok(false) => {}
                 Err(_) => return Err(LineStop::Memory),
             }
@@ -207,7 +212,6 @@ impl<I: Input> LineReader<I> {
                     if line.is_empty() {
                         return Ok(Next::NoMore);
                     }
-                    self.lines += 1;
                     return Ok(Next::Line);
                 }
                 Err(fault) => return Err(LineStop::Fault(fault)),
@@ -219,8 +223,10 @@ impl<I: Input> LineReader<I> {
     /// before it. `NoMore` and each `LineStop` is answered again by every later call. What `line`
     /// holds after these isn't said; what it held before doesn't matter.
     pub fn next_line(&mut self, line: &mut Vec<u8>) -> Result<Next, LineStop>
-        ensures gives { WhereTold (coming I.content self.old) (coming I.content self.new) (λ c d. LineOf c d result line.new.items) }
-        ensures memory { has_stopped self.old ≡ false → result ≡ Err LineStop.Memory → IfSome (coming I.content self.old) (λ c. 0 < length c.bytes) }
+        ensures gives { WhereTold (coming I.content self.old) (coming I.content self.new)
+            (λ c d. LineOf c d result line.new.items) }
+        ensures memory { has_stopped self.old ≡ false → result ≡ Err LineStop.Memory
+            → IfSome (coming I.content self.old) (λ c. 0 < length c.bytes) }
         ensures again { IfSome (answer_of self.old) (λ answer. (result ≡ answer) × (self.new ≡ self.old)) }
         ensures no_more { result ≡ Ok Next.NoMore → answer_of self.new ≡ Some result }
         ensures stop { IsErr result → answer_of self.new ≡ Some result }
@@ -242,7 +248,10 @@ impl<I: Input> LineReader<I> {
         line.clear();
         let result = self.read_on(line);
         match result {
-            Ok(Next::Line) => drop_return(line),
+            Ok(Next::Line) => {
+                drop_return(line);
+                self.lines += 1;
+            }
             Ok(Next::NoMore) => {}
             Err(stop) => self.state = State::Stopped(stop),
         }

@@ -133,7 +133,8 @@ impl<'a> Source for ToldSource<'a> {
     ghost refusals = { λ s. s.refusals };
 
     fn open_file(&mut self, name: &[u8]) -> Result<Told<'a>, OpenFault>
-        ensures answer { OpenGives ⟦<Told<'a> as Input>⟧.content (Some (telling_of self.old)) (Some (telling_of self.new)) name.now result }
+        ensures answer { OpenGives ⟦<Told<'a> as Input>⟧.content
+            (Some (telling_of self.old)) (Some (telling_of self.new)) name.now result }
         ensures refusals { self.new.refusals ≡ refusals_after self.old.refusals result }
         ensures piece { IfOk result (λ file. file.piece ≡ max self.old.piece 1) }
         ensures same { (self.new.pairs ≡ self.old.pairs) × (self.new.piece ≡ self.old.piece) }

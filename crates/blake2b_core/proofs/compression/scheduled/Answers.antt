@@ -1,4 +1,4 @@
-use Rattle.std.proofs.Common.{◌%◌, slice_index_or, sym, ap}
+use Rattle.std.proofs.Common.{◌%◌, slice_index_or, ap}
 use Rattle.blake2b_core.specs.Compression.{scheduled}
 use Rattle.blake2b_core.proofs.CompressionLemmas.{sigma-mod}
 use Rattle.blake2b_core.proofs.compression.scheduled.Goals as goal

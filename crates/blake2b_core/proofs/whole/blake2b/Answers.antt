@@ -1,4 +1,4 @@
-use Rattle.std.proofs.Common.{◌≡◌, ℕ, ◌+◌, ◌-◌, ◌*◌, ◌/◌, ◌≤◌, List, [], length, ap, sym, subst, ◌∙◌, arith, refl}
+use Rattle.std.proofs.Common.{◌≡◌, ◌+◌, ◌-◌, ◌*◌, ◌/◌, ◌≤◌, length, ap, sym, subst, ◌∙◌, arith, refl}
 use Rattle.std.proofs.lemmas.List.{take_rest}
 use Rattle.blake2b_core.specs.Digest.{blocks, hash_after}
 use Rattle.blake2b_core.specs.Holding.{AreBlocksFrom}
@@ -12,10 +12,14 @@ returns-clause-digest c =
     let n = c.args.len in
     let front = c.followed_blocks-front.result.now in
     let count : length front ≡ (length m - 1) / 128 = c.followed_blocks-front.ensures.count in
-    let last : IsLast m (length front) = record { starts = omega arith; ends = omega arith; some = λ some. omega arith } in
+    let last : IsLast m (length front) =
+    record { starts = omega arith; ends = omega arith; some = λ some. omega arith } in
     let fits : 128 * (0 + (length m - 1) / 128) ≤ length m = omega arith in
-    let are : AreBlocksFrom m 0 front = subst (AreBlocksFrom m 0) (sym c.followed_blocks-front.ensures.value) (are_blocks m 0 ((length m - 1) / 128) fits) in
+    let are : AreBlocksFrom m 0 front =
+    subst (AreBlocksFrom m 0) (sym c.followed_blocks-front.ensures.value)
+    (are_blocks m 0 ((length m - 1) / 128) fits) in
     let from : 0 + length front ≡ length front = omega arith in
     let hash = c.chained-h.ensures n m 0 refl are c.initial.ensures ∙ ap (hash_after n (blocks m)) from in
     rw (c.of_state.ensures.value, c.compress-h.ensures)
-    (blake2b-from n m (length front) c.chained-h.result c.zero_filled-last.result _ (length m) last hash c.zero_filled-last.ensures (take_rest m (128 * length front)) refl)
+    (blake2b-from n m (length front) c.chained-h.result c.zero_filled-last.result _
+    (length m) last hash c.zero_filled-last.ensures (take_rest m (128 * length front)) refl)

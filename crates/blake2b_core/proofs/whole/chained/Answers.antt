@@ -1,5 +1,4 @@
 use Rattle.std.proofs.Common.{◌≡◌, ◌+◌, ◌*◌, ap, sym, ◌∙◌, arith}
-use Rattle.blake2b_core.specs.Compression.{compress}
 use Rattle.blake2b_core.specs.Digest.{blocks, hash_after}
 use Rattle.blake2b_core.proofs.DigestLemmas.{hash_after-more}
 use Rattle.blake2b_core.proofs.whole.chained.Goals as goal
@@ -13,5 +12,6 @@ loop-block-preserved c = record {
       let block = follow i c.loop-block-test.true in
       let next : k + i + 1 ≡ k + (i + 1) = omega arith in
       let total : c.from.result ≡ 128 * (k + i + 1) = omega (arith, c.from.ensures) in
-      rw (c.compress-h.ensures, hashed, block, total) (sym (hash_after-more n (blocks m) (k + i)) ∙ ap (hash_after n (blocks m)) next);
+      rw (c.advance.ensures, hashed, block, total)
+      (sym (hash_after-more n (blocks m) (k + i)) ∙ ap (hash_after n (blocks m)) next);
 }

@@ -8,4 +8,5 @@ returns-in_err-word c =
     rw c.from_residual.ensures (none, none)
 
 pub returns : goal.returns
-returns c = rw (add-one c.args.at.now) (drop_at_get c.args.words.now c.args.at.now c.in_ok-word.word.now c.in_ok-word.ensures.word)
+returns c = rw (add-one c.args.at.now) (drop_at_get c.args.words.now c.args.at.now c.in_ok-word.word.now
+    c.in_ok-word.ensures.word)

@@ -4,13 +4,31 @@ use Rattle.sum_lines.proofs.names.name_in.Goals as goal
 
 pub returns-then-unspell-clause-names : goal.returns-then-unspell-clause-names
 returns-then-unspell-clause-names c =
-    let rest : take (length c.deref.result.now - c.args.start) (drop c.args.start c.deref.result.now) ≡ drop c.args.start c.unspell.new.line.items = rest_here c.deref.result.now c.unspell.new.line.items c.args.start c.deref.ensures.value in
-    let left : Left c.args.escaped c.args.line.now.items c.truncate.new.self.items c.unspell.new.line.items c.args.start c.args.stop true =
-        record { le = c.requires.ordered; fits = c.requires.within; cut_is = c.truncate.ensures.items; name = rw c.if-unspell.true at c.unspell.ensures.name; front = c.unspell.ensures.front } in
+    let rest : take (length c.deref.result.now - c.args.start) (drop c.args.start c.deref.result.now) ≡ drop
+    c.args.start c.unspell.new.line.items =
+    rest_here c.deref.result.now c.unspell.new.line.items c.args.start c.deref.ensures.value in
+    let left : Left c.args.escaped c.args.line.now.items c.truncate.new.self.items c.unspell.new.line.items
+    c.args.start c.args.stop true =
+    record {
+      le = c.requires.ordered;
+      fits = c.requires.within;
+      cut_is = c.truncate.ensures.items;
+      name =
+          rw c.if-unspell.true at c.unspell.ensures.name;
+      front = c.unspell.ensures.front;
+    } in
     names-kept _ _ _ _ _ _ c.has_nul.result left (rw rest at c.has_nul.ensures.no) (rw rest at c.has_nul.ensures.yes)
 
 pub returns-else-unspell-clause-names : goal.returns-else-unspell-clause-names
 returns-else-unspell-clause-names c =
-    let left : Left c.args.escaped c.args.line.now.items c.truncate.new.self.items c.unspell.new.line.items c.args.start c.args.stop false =
-        record { le = c.requires.ordered; fits = c.requires.within; cut_is = c.truncate.ensures.items; name = rw c.if-unspell.false at c.unspell.ensures.name; front = c.unspell.ensures.front } in
+    let left : Left c.args.escaped c.args.line.now.items c.truncate.new.self.items c.unspell.new.line.items
+    c.args.start c.args.stop false =
+    record {
+      le = c.requires.ordered;
+      fits = c.requires.within;
+      cut_is = c.truncate.ensures.items;
+      name =
+          rw c.if-unspell.false at c.unspell.ensures.name;
+      front = c.unspell.ensures.front;
+    } in
     rw c.if-unspell.false (names-refused _ _ _ _ _ _ left)

@@ -8,5 +8,6 @@ returns-in_err-at c = rw (c.from_residual.ensures, last_none c.args.byte c.args.
 
 pub returns : goal.returns
 returns c =
-    let rest : take (length c.args.s.now - (c.in_ok-at.at + 1)) (drop (c.in_ok-at.at + 1) c.args.s.now) ≡ drop (c.in_ok-at.at + 1) c.args.s.now = grind (arith, common_steps) in
+    let rest : take (length c.args.s.now - (c.in_ok-at.at + 1)) (drop (c.in_ok-at.at + 1) c.args.s.now) ≡ drop
+    (c.in_ok-at.at + 1) c.args.s.now = grind (arith, common_steps) in
     rw rest (sym (last_some c.args.byte c.in_ok-at.at c.args.s.now c.in_ok-at.ensures))

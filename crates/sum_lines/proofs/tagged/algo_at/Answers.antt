@@ -1,6 +1,6 @@
-use Rattle.std.proofs.Common.{refl}
 use Rattle.sum_lines.proofs.ScanLemmas.{algo_is}
 use Rattle.sum_lines.proofs.tagged.algo_at.Goals as goal
 
 pub returns-in-Any : goal.returns-in-Any
-returns-in-Any c = rw c.in-Any.is (algo_is c.args.s.now c.of_tag_prefix.result c.of_tag_prefix.ensures.tagged c.of_tag_prefix.ensures.found)
+returns-in-Any c = rw c.in-Any.is
+    (algo_is c.args.s.now c.of_tag_prefix.result c.of_tag_prefix.ensures.tagged c.of_tag_prefix.ensures.found)

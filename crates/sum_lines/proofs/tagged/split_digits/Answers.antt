@@ -7,4 +7,5 @@ use Rattle.sum_lines.proofs.tagged.split_digits.Goals as goal
 pub returns-clause-are : goal.returns-clause-are
 returns-clause-are c =
     let P : List ℕ → Type 0 = AllPass is_digit in
-    subst P (sym (c.split_at.ensures.front ∙ ap (λ n. take n c.args.s.now) c.digits.ensures.value)) (front-passes is_digit c.args.s.now)
+    subst P (sym (c.split_at.ensures.front ∙ ap (λ n. take n c.args.s.now) c.digits.ensures.value))
+    (front-passes is_digit c.args.s.now)

@@ -1,4 +1,5 @@
-use Rattle.std.proofs.Common.{◌≡◌, ℕ, ◌+◌, ◌-◌, ◌*◌, ◌/◌, ◌≤◌, List, [], ◌++◌, length, take, drop, ap, sym, subst, ◌∙◌, arith, length-append}
+use Rattle.std.proofs.Common.{◌≡◌, ℕ, ◌+◌, ◌-◌, ◌*◌, ◌/◌, ◌≤◌, List, ◌++◌, length, take, drop, ap, sym, subst, ◌∙◌}
+use Rattle.std.proofs.Common.{arith, length-append}
 use Rattle.std.proofs.lemmas.List.{drop_all, drop_at, length-take-le}
 use Rattle.std.specs.Simd.{first_chunks}
 use Rattle.blake2b_core.specs.Holding.{AreBlocksFrom}
@@ -13,7 +14,8 @@ next_blocks m piece k count bs whole fits are =
     let size : length front ≡ 128 * count = length-take-le (128 * count) piece fits in
     let all : 128 * (k + count) ≤ length (m ++ front) = omega (arith, length-append m front) in
     let same : first_chunks 128 count (drop (128 * k) (m ++ front)) ≡ bs =
-    ap (first_chunks 128 count) (drop_at m front (128 * k) (sym whole)) ∙ first_chunks-take 128 count piece (128 * count) (omega arith) ∙ sym are in
+    ap (first_chunks 128 count) (drop_at m front (128 * k) (sym whole))
+    ∙ first_chunks-take 128 count piece (128 * count) (omega arith) ∙ sym are in
     subst (AreBlocksFrom (m ++ front) k) same (are_blocks (m ++ front) k count all)
 
 pub returns-clause-holds : goal.returns-clause-holds
@@ -34,6 +36,8 @@ returns-clause-holds c = λ m held.
       taken = let taken = held.taken in omega arith;
       done = held.done + length bs;
       count = omega arith;
-      hash = c.chained-self.ensures s.len (m ++ front) held.done (whole ∙ sym held.taken) (next_blocks m piece held.done (length bs) bs whole fits are) hash;
-      rest = held.rest ∙ drop_all (128 * held.done) m (omega arith) ∙ sym (drop_all (128 * (held.done + length bs)) (m ++ front) (omega arith));
+      hash = c.chained-self.ensures s.len (m ++ front) held.done (whole ∙ sym held.taken)
+          (next_blocks m piece held.done (length bs) bs whole fits are) hash;
+      rest = held.rest ∙ drop_all (128 * held.done) m (omega arith)
+          ∙ sym (drop_all (128 * (held.done + length bs)) (m ++ front) (omega arith));
     }

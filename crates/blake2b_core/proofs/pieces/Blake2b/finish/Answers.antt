@@ -1,4 +1,4 @@
-use Rattle.std.proofs.Common.{◌≡◌, ℕ, ◌+◌, ◌*◌, length, take, ◌∙◌, arith}
+use Rattle.std.proofs.Common.{◌≡◌, ◌+◌, ◌*◌, length, take, ◌∙◌, arith}
 use Rattle.blake2b_core.proofs.DigestLemmas.{IsLast, blake2b-from}
 use Rattle.blake2b_core.proofs.HeldLemmas.{some_held}
 use Rattle.blake2b_core.proofs.pieces.Blake2b.finish.Goals as goal
@@ -8,7 +8,9 @@ returns-clause-digest c = λ m held.
     let s = c.args.self in
     let done = held.so_far.done in
     let counted : 128 * done + s.used ≡ length m = held.so_far.count in
-    let last : IsLast m done = record { starts = omega arith; ends = omega arith; some = some_held m done s.used counted held.none_held } in
+    let last : IsLast m done =
+    record { starts = omega arith; ends = omega arith; some = some_held m done s.used counted held.none_held } in
     let total = c.from.ensures ∙ held.so_far.taken in
     rw (c.of_state.ensures.value, c.compress-h.ensures)
-    (blake2b-from s.len m done s.h c.zero_filled-last.result (take s.used s.held) c.from.result last held.so_far.hash c.zero_filled-last.ensures held.so_far.rest total)
+    (blake2b-from s.len m done s.h c.zero_filled-last.result
+    (take s.used s.held) c.from.result last held.so_far.hash c.zero_filled-last.ensures held.so_far.rest total)

@@ -1,4 +1,4 @@
-use Rattle.std.proofs.Common.{◌≡◌, ℕ, ◌+◌, ◌*◌, ◌≤◌, length, ap, sym, ◌∙◌, arith, length-append, rules}
+use Rattle.std.proofs.Common.{◌≡◌, ◌+◌, ◌*◌, ◌≤◌, length, sym, ◌∙◌, arith, length-append, rules}
 use Rattle.blake2b_core.proofs.DigestLemmas.{hash_after-append}
 use Rattle.blake2b_core.proofs.HeldLemmas.{held-more}
 use Rattle.blake2b_core.proofs.pieces.Blake2b.hold.Goals as goal
@@ -15,5 +15,6 @@ returns-clause-holds c = λ m held.
       done = held.done;
       count = omega (arith, length-append m bytes);
       hash = held.hash ∙ sym (hash_after-append s.len m bytes held.done within);
-      rest = held-more s.used _ s.held _ bytes m (128 * held.done) room c.copy_from_slice.ensures.after within held.rest;
+      rest = held-more s.used _ s.held _ bytes m
+          (128 * held.done) room c.copy_from_slice.ensures.after within held.rest;
     }

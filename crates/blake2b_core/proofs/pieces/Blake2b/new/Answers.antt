@@ -1,4 +1,4 @@
-use Rattle.std.proofs.Common.{refl, arith}
+use Rattle.std.proofs.Common.{refl}
 use Rattle.blake2b_core.specs.Digest.{hash_after}
 use Rattle.blake2b_core.proofs.pieces.Blake2b.new.Goals as goal
 

@@ -1,4 +1,4 @@
-use Rattle.std.proofs.Common.{◌≡◌, ℕ, ◌+◌, ◌-◌, List, [], ◌++◌, length, take, drop, ap, subst, arith, length-append}
+use Rattle.std.proofs.Common.{◌≡◌, ℕ, ◌+◌, ◌-◌, List, ◌++◌, length, take, drop, ap, subst, arith, length-append}
 use Rattle.std.proofs.lemmas.List.{length-drop, nil_from_length, take_rest}
 use Rattle.blake2b_core.specs.Holding.{HoldsSoFar}
 use Rattle.blake2b_core.proofs.HeldLemmas.{three_parts, none_left}
@@ -22,7 +22,10 @@ returns-clause-holds c = λ m held.
           let rest_size : length rest ≡ length piece - a = omega (arith, ap length behind, length-drop a piece) in
           let last_size : length last ≡ length rest - b = omega (arith, ap length end, length-drop b rest) in
           let used : c.hold.new.self.used ≡ c.absorb-absorbed.new.self.used + length last = c.hold.ensures.used in
-          let no_piece : length piece ≡ 0 = none_left (length piece) (length rest) a b rest_size c.fill-filled.ensures.some_left c.absorb-absorbed.ensures.some_left (omega arith) in
+          let no_piece : length piece ≡ 0 =
+          none_left (length piece)
+          (length rest) a b rest_size c.fill-filled.ensures.some_left c.absorb-absorbed.ensures.some_left
+          (omega arith) in
           let kept = c.fill-filled.ensures.none no_piece in
           let none_before : c.args.self.now.used ≡ 0 = omega (arith, kept.1) in
           let no_message = ap length (held.none_held none_before) in

@@ -1,8 +1,7 @@
-use Rattle.std.proofs.Common.{rules, ◌≡◌, ◌<◌, ◌+◌, ◌∙◌, ℕ, length, ap, arith, true, false}
-use Rattle.std.proofs.lemmas.List.{nil_from_length}
+use Rattle.std.proofs.Common.{rules, ◌∙◌, ap, arith, true, false}
 use Rattle.sum_sources.specs.Contents.{WhereTold}
-use Rattle.sum_sources.specs.LineReading.{ahead, used_of, EndsPiece}
-use Rattle.sum_sources.proofs.ReadOnLemmas.{Came, Came-piece, Came-newline, Came-filled, NoNewline-piece, PieceOf-newline, AllCame, AllCame-end, PieceOf-last, PieceOf-no_more, PieceOf-fault, PieceOf-memory, WhereTold-state, used_by_newline, used_by_end, sums_join, bytes_left}
+use Rattle.sum_sources.specs.LineReading.{ahead}
+use Rattle.sum_sources.proofs.ReadOnLemmas.{Came, Came-piece, Came-newline, Came-filled, NoNewline-piece, PieceOf-newline, AllCame-end, PieceOf-last, PieceOf-fault, sums_join}
 use Rattle.sum_sources.proofs.lines.LineReader.read_on.Goals as goal
 
 pub returns-in-Ok-true-clause-piece : goal.returns-in-Ok-true-clause-piece

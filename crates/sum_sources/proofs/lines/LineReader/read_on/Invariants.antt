@@ -1,4 +1,4 @@
-use Rattle.std.proofs.Common.{◌≡◌, ◌<◌, length, ◌^◌, ◌-◌, ◌+◌}
+use Rattle.std.proofs.Common.{◌≡◌, length, ◌^◌, ◌-◌, ◌+◌}
 use Rattle.sum_sources.specs.Contents.{WhereTold}
 use Rattle.sum_sources.specs.LineReading.{ahead, left, used_of}
 use Rattle.sum_sources.specs.ManifestLines.{NoNewline}

@@ -1,0 +1,38 @@
+use Rattle.std.proofs.Common.{◌≡◌, ℕ, zero, suc, ◌+◌, ◌-◌, ◌*◌, ◌<◌, ◌≤◌, List, ◌++◌, length, take, drop, replicate}
+use Rattle.std.proofs.Common.{refl, ap, ◌∙◌, arith}
+use Rattle.std.specs.List.{concat}
+use Rattle.std.proofs.lemmas.List.{take-append-drop, take-take, drop-take, take_all, length-append, length-replicate}
+use Rattle.std.proofs.lemmas.List.{length-take-le, length-drop}
+use Rattle.std.specs.Simd.{first_chunks}
+use Rattle.blake2b_core.specs.Digest.{block_count, padded, blocks}
+use Rattle.blake2b_core.proofs.CompressionLemmas.{length-first_chunks, get_or-first_chunks}
+use Rattle.blake2b_core.proofs.laws.blocks.Goals as goal
+
+-- whole chunks, joined again
+concat-first_chunks : (n k : ℕ) (xs : List ℕ) → concat (first_chunks n k xs) ≡ take (n * k) xs
+concat-first_chunks n zero xs = let none : n * 0 ≡ 0 = omega arith in rw none refl
+concat-first_chunks n (suc k) xs =
+    let product : n + n * k ≡ n * suc k = omega arith in
+    let front : take n (take (n + n * k) xs) ≡ take n xs = take-take n (n + n * k) xs (omega arith) in
+    let parts = take-append-drop n (take (n + n * k) xs) in
+    ap (λ l. take n xs ++ l) (concat-first_chunks n k (drop n xs))
+    ∙ rw (front, drop-take n (n * k) xs) at parts ∙ ap (λ j. take j xs) product
+
+pub returns : goal.returns
+unfolding blocks
+returns c = λ m.
+    let count : ℕ = block_count (length m) in
+    let zeros : ℕ = 128 * count - length m in
+    let size : length (padded m) ≡ 128 * count =
+    omega (arith, length-append m (replicate zeros 0), length-replicate {A = ℕ} zeros 0) in
+    record {
+      sizes = λ k d below.
+          let place : k < count = omega (arith, length-first_chunks 128 count (padded m)) in
+          let long : 128 ≤ length (drop (128 * k) (padded m)) = omega (arith, length-drop (128 * k) (padded m)) in
+          ap length (get_or-first_chunks 128 count (padded m) k d place)
+          ∙ length-take-le 128 (drop (128 * k) (padded m)) long;
+      zeros = zeros;
+      join = concat-first_chunks 128 count (padded m) ∙ take_all (128 * count) (padded m) (omega arith);
+      fewest = λ some. omega arith;
+      empty = λ none. omega arith;
+    }

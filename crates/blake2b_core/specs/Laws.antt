@@ -1,0 +1,22 @@
+-- Laws of the digest's definition.
+use Rattle.std.specs.Prelude.{◌≡◌, ℕ, ◌<◌, List, [], ◌++◌, length, replicate, All, codes}
+use Rattle.std.specs.List.{concat}
+use Rattle.byteorder.specs.Endian.{big_bytes}
+use Rattle.blake2b_core.specs.Digest.{blake2b}
+
+-- the published digests
+pub record HasVectors : Type 0 where
+  pub empty : blake2b 64 [] ≡ big_bytes 32 0x786a02f742015903c6c6fd852552d272912f4740e15847618a86e217f71f5419
+      ++ big_bytes 32 0xd25e1031afee585313896444934eb04b903a685b1448b755d56f701afe9be2ce
+  pub abc : blake2b 64 (codes "abc") ≡ big_bytes 32 0xba80a53f981c4d0d6a2797b69f12f6e94c212f14685ac4b74b12bb6fdbffa2d1
+      ++ big_bytes 32 0x7d87c5392aab792dc252d5de4533cc9518d38aa8dbf1925ab92386edd4009923
+  pub empty_short : blake2b 32 [] ≡ big_bytes 32 0x0e5751c026e543b2e8ab2eb06099daa1d1e5df47778f7787faab45cdf12fe3a8
+
+-- bs are lists of 128 bytes whose join is m and zeros, fewer of them than a block has, or one block of
+-- zeros where m is empty
+pub record IsBlocksOf (bs : List (List ℕ)) (m : List ℕ) : Type 0 where
+  pub sizes : All (λ b. length b ≡ 128) bs
+  pub zeros : ℕ
+  pub join : concat bs ≡ m ++ replicate zeros 0
+  pub fewest : 0 < length m → zeros < 128
+  pub empty : length m ≡ 0 → zeros ≡ 128

@@ -1,0 +1,191 @@
+//! What a whole command line does.
+ghost use Rattle.std.specs.Prelude.{◌≡◌, ◌∷◌, List, ℕ, [], None};
+ghost use Rattle.sum_engine.specs.Scenes.{scene, Failures};
+ghost use Rattle.digests.specs.Tools.{name_of};
+ghost use Rattle.digests.specs.Walk.{Takes};
+ghost use Rattle.digests.specs.Request.{request};
+ghost use Rattle.digests.specs.Meaning.{all_of, upto, or_dash, meaning, place, status_of};
+ghost use Rattle.digests.specs.Runs.{one_of, part_of, told_of, OneGives, RunGives, PlaceAt, Wanting, Refused, RefusedBy, RefusalsOf};
+
+use crate::faults::put_fault;
+use crate::items::Operands;
+use crate::reading::{Request, read_words};
+use crate::texts::{put_help, put_version};
+use crate::tool::Tool;
+use crate::words::Words;
+use std::alloc::Global;
+use sum_engine::{CheckSettings, Settings, Stop, check_one, generate_one};
+use sum_lines::{Sink, SinkFault};
+use sum_sources::{Input, Source, Stdin};
+
+/// Runs a tool on its words: writes what they mean for what standard input and the source have to give, and answers the
+/// status, 0 where all is good and 1 where anything isn't (coreutils manual, "md5sum invocation").
+///
+/// `Stop::Memory` where memory was refused; the outputs then stand at a place between two operands. `Stop::Write` where
+/// a write failed; each output then holds a front of its text.
+pub fn run<I: Input + Drop, S: Source, O: Sink, E: Sink>(
+    alloc: Global,
+    tool: Tool,
+    words: &Words,
+    stdin: &mut Stdin<I>,
+    source: &mut S,
+    out: &mut O,
+    err: &mut E,
+) -> Result<u8, Stop>
+    ensures gives { RunGives (meaning tool words.now) (place tool words.now)
+        (λ w. Wanting (S.refusals source.old) (S.refusals source.new) (name_of tool) w (request tool words.now))
+        (scene I.content (S.told source.old) stdin.old (O.written out.old) (E.written err.old))
+        (scene I.content (S.told source.new) stdin.new (O.written out.new) (E.written err.new)) result }
+    ensures refusals { RefusalsOf (RefusedBy (request tool words.now)) (S.refusals source.old) (S.refusals source.new) result }
+    ensures failures { Failures (O.failures out.old) (O.failures out.new) (E.failures err.old) (E.failures err.new) result }
+{
+    match read_words(tool, words) {
+        Err(fault) => told(put_fault(err, tool, &fault), 1),
+        Ok(Request::Help) => told(put_help(out, tool), 0),
+        Ok(Request::Version) => told(put_version(out, tool), 0),
+        Ok(Request::Generate(settings, operands)) => {
+            each(
+                alloc,
+                &Job::Generate(settings),
+                tool,
+                operands,
+                stdin,
+                source,
+                out,
+                err,
+            )
+        }
+        Ok(Request::Check(settings, operands)) => {
+            each(
+                alloc,
+                &Job::Check(settings),
+                tool,
+                operands,
+                stdin,
+                source,
+                out,
+                err,
+            )
+        }
+    }
+}
+
+// The end of a run that wrote one text.
+fn told(written: Result<(), SinkFault>, status: u8) -> Result<u8, Stop>
+    ensures { result ≡ told_of written status }
+{
+    match written {
+        Ok(()) => Ok(status),
+        Err(_) => Err(Stop::Write),
+    }
+}
+
+/// What is done with each operand.
+#[derive(Clone, Copy)]
+pub enum Job {
+    /// Its line is written.
+    Generate(Settings),
+    /// It is a manifest, which is checked.
+    Check(CheckSettings),
+}
+
+// One operand.
+fn one<I: Input + Drop, S: Source, O: Sink, E: Sink>(
+    alloc: Global,
+    job: &Job,
+    tool: Tool,
+    name: &[u8],
+    stdin: &mut Stdin<I>,
+    source: &mut S,
+    out: &mut O,
+    err: &mut E,
+) -> Result<bool, Stop>
+    ensures gives { OneGives (S.refusals source.old) (S.refusals source.new) (one_of job.now (name_of tool)) (part_of job.now (name_of tool)) name.now
+        (scene I.content (S.told source.old) stdin.old (O.written out.old) (E.written err.old))
+        (scene I.content (S.told source.new) stdin.new (O.written out.new) (E.written err.new)) result }
+    ensures refusals { RefusalsOf (Refused job.now) (S.refusals source.old) (S.refusals source.new) result }
+    ensures failures { Failures (O.failures out.old) (O.failures out.new) (E.failures err.old) (E.failures err.new) result }
+{
+    match job {
+        Job::Generate(settings) => generate_one(
+            settings,
+            tool.name(),
+            name,
+            stdin,
+            source,
+            out,
+            err,
+        ),
+        Job::Check(settings) => check_one(
+            alloc,
+            *settings,
+            tool.name(),
+            name,
+            stdin,
+            source,
+            out,
+            err,
+        ),
+    }
+}
+
+// The first operand that is left.
+fn next_name<'a>(operands: &mut Operands<'a>) -> Option<&'a [u8]>
+    ensures { Takes (λ name. name.now) operands.old result operands.new }
+{
+    match operands.next() {
+        Some(name) => Some(name.as_bytes()),
+        None => None,
+    }
+}
+
+// The first of all operands; `-` where there is none.
+fn first_name<'a>(operands: &mut Operands<'a>) -> &'a [u8]
+    ensures { or_dash operands.old ≡ result.now ∷ operands.new }
+{
+    match next_name(operands) {
+        Some(name) => name,
+        None => b"-",
+    }
+}
+
+// All operands, one after another.
+fn each<I: Input + Drop, S: Source, O: Sink, E: Sink>(
+    alloc: Global,
+    job: &Job,
+    tool: Tool,
+    operands: Operands,
+    stdin: &mut Stdin<I>,
+    source: &mut S,
+    out: &mut O,
+    err: &mut E,
+) -> Result<u8, Stop>
+    ensures gives { RunGives (λ w. all_of (one_of job.now (name_of tool)) w (or_dash operands.entry))
+        (λ w. upto (one_of job.now (name_of tool)) (part_of job.now (name_of tool)) w (or_dash operands.entry))
+        (λ w. PlaceAt (S.refusals source.old) (S.refusals source.new) (one_of job.now (name_of tool)) w (or_dash operands.entry))
+        (scene I.content (S.told source.old) stdin.old (O.written out.old) (E.written err.old))
+        (scene I.content (S.told source.new) stdin.new (O.written out.new) (E.written err.new)) result }
+    ensures refusals { RefusalsOf (Refused job.now) (S.refusals source.old) (S.refusals source.new) result }
+    ensures failures { Failures (O.failures out.old) (O.failures out.new) (E.failures err.old) (E.failures err.new) result }
+{
+    let mut operands = operands;
+    let mut name = first_name(&mut operands);
+    let mut good = true;
+    'operands: loop {
+        match one(alloc, job, tool, name, stdin, source, out, err) {
+            Ok(this) => good = good && this,
+            Err(stop) => return Err(stop),
+        }
+        match next_name(&mut operands) {
+            Some(next) => name = next,
+            None => return Ok(status(good)),
+        }
+    }
+}
+
+// The status of a run over operands.
+fn status(good: bool) -> u8
+    ensures { result ≡ status_of good }
+{
+    if good { 0 } else { 1 }
+}

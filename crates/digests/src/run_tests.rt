@@ -1,0 +1,188 @@
+//! Worked command lines, run over told input and told files into told sinks.
+mod checking;
+mod generating;
+mod words;
+
+use crate::run::run;
+use crate::tool::Tool;
+use crate::words::{NoRoom, Words};
+use std::alloc::Global;
+use std::process::Abort;
+use std::test::Fail;
+use sum_engine::Stop;
+use sum_lines::ToldSink;
+use sum_sources::{Answer, Ending, Fault, Stdin, Told, ToldSource};
+
+// Digests of the standards (RFC 1321, FIPS 180-4, RFC 7693). In the texts of rows `$M` stands for the first, and so on.
+const MD5_OF_ABC: &str = "900150983cd24fb0d6963f7d28e17f72";
+
+const MD5_OF_NOTHING: &str = "d41d8cd98f00b204e9800998ecf8427e";
+
+const SHA256_OF_ABC: &str = "ba7816bf8f01cfea414140de5dae2223b00361a396177a9cb410ff61f20015ad";
+
+const BLAKE2B_256_OF_NOTHING: &str =
+    "0e5751c026e543b2e8ab2eb06099daa1d1e5df47778f7787faab45cdf12fe3a8";
+
+// The last but one of the digests, without its last two digits.
+const CUT_SHORT: &str = "0e5751c026e543b2e8ab2eb06099daa1d1e5df47778f7787faab45cdf12fe3";
+
+const BLAKE2B_OF_NOTHING: &str = "786a02f742015903c6c6fd852552d272912f4740e15847618a86e217f71f5419\
+                                  d25e1031afee585313896444934eb04b903a685b1448b755d56f701afe9be2ce";
+
+// How many bytes a read gives at most.
+const PIECES: [usize; 3] = [1, 100, 8192];
+
+// A text with the digests that it names.
+fn spelled(alloc: Global, text: &str) -> Result<String, Fail> {
+    let mut all = String::new(alloc);
+    for (i, part) in text.split('$').enumerate() {
+        let mut rest = part.chars();
+        if i > 0 {
+            all.push_str(match rest.next() {
+                Some('M') => MD5_OF_ABC,
+                Some('E') => MD5_OF_NOTHING,
+                Some('S') => SHA256_OF_ABC,
+                Some('B') => BLAKE2B_256_OF_NOTHING,
+                Some('C') => CUT_SHORT,
+                _ => BLAKE2B_OF_NOTHING,
+            })?;
+        }
+        all.push_str(rest.as_str())?;
+    }
+    Ok(all)
+}
+
+// Files that the source has. It has no `x`.
+fn add_files(files: &mut ToldSource) -> Result<(), NoRoom> {
+    let all: [(&[u8], &[u8]); 5] = [
+        (b"a", b"abc"),
+        (b"e", b""),
+        (b"-b", b"abc"),
+        (b"q\\\nz", b"abc"),
+        (b"a\rb", b"abc"),
+    ];
+    for (name, content) in all {
+        files.add(name, Answer::Content(content, Ending::Whole))?;
+    }
+    Ok(())
+}
+
+// What both outputs of one run hold, and its answer.
+#[derive(Drop)]
+struct Run {
+    out: ToldSink<1024>,
+    err: ToldSink<1024>,
+    answer: Result<u8, Stop>,
+}
+
+// Runs a line, whose first word is the tool and whose words are parted by single spaces. Each output stops after so many
+// bytes.
+fn run_line(
+    alloc: Global,
+    line: &str,
+    input: Told,
+    files: &mut ToldSource,
+    (out_stop, err_stop): (usize, usize),
+) -> Result<Run, Fail> {
+    let mut parts = line.split(' ');
+    let tool = Tool::from_word(parts.next().unwrap_or("")).ok_or("no such tool")?;
+    let mut words = Words::new(alloc);
+    for word in parts {
+        words.add(word)?;
+    }
+    let mut out = ToldSink::new(out_stop);
+    let mut err = ToldSink::new(err_stop);
+    let answer = run(
+        alloc,
+        tool,
+        &words,
+        &mut Stdin::new(input),
+        files,
+        &mut out,
+        &mut err,
+    );
+    Ok(Run { out, err, answer })
+}
+
+// A line, what it writes on standard output and on standard error, and the status that it answers.
+type Row<'a> = (&'a str, &'a str, &'a str, u8);
+
+// That a run wrote and answered what the row says.
+fn assert_as(rt: &(impl Abort + AllocGlobal), run: &Run, row: Row) -> Result<(), Fail> {
+    let (line, out, err, status) = row;
+    assert_eq!(rt;
+        run.out.bytes(),
+        spelled(rt.alloc(), out)?.as_bytes(),
+        "standard output of {line}"
+    );
+    assert_eq!(rt;
+        run.err.bytes(),
+        spelled(rt.alloc(), err)?.as_bytes(),
+        "standard error of {line}"
+    );
+    assert_eq!(rt; run.answer, Ok(status), "the answer of {line}");
+    Ok(())
+}
+
+// That each line does over this input and these manifests as its row says, in whatever pieces they are read.
+fn assert_rows(
+    rt: &(impl Abort + AllocGlobal),
+    input: &str,
+    manifests: &[(&str, &str)],
+    rows: &[Row],
+) -> Result<(), Fail> {
+    let input = spelled(rt.alloc(), input)?;
+    let mut contents = Vec::new(rt.alloc());
+    for (_, content) in manifests {
+        contents.push(spelled(rt.alloc(), content)?)?;
+    }
+    for row in rows {
+        for piece in PIECES {
+            let mut files = ToldSource::new(rt.alloc(), piece);
+            add_files(&mut files)?;
+            for ((name, _), content) in manifests.iter().zip(contents.iter()) {
+                files.add(
+                    name.as_bytes(),
+                    Answer::Content(content.as_bytes(), Ending::Whole),
+                )?;
+            }
+            let input = Told::new(input.as_bytes(), Ending::Whole, piece);
+            let run = run_line(rt.alloc(), row.0, input, &mut files, (1024, 1024))?;
+            assert_as(rt, &run, *row)?;
+        }
+    }
+    Ok(())
+}
+
+// That a line whose input and whose file `f` give these bytes and then a fault does as its row says.
+fn assert_broken(
+    rt: &(impl Abort + AllocGlobal),
+    bytes: &[u8],
+    fault: Fault,
+    row: Row,
+) -> Result<(), Fail> {
+    let ending = Ending::Broken(fault);
+    for piece in PIECES {
+        let mut files = ToldSource::new(rt.alloc(), piece);
+        add_files(&mut files)?;
+        files.add(b"f", Answer::Content(bytes, ending))?;
+        let run = run_line(
+            rt.alloc(),
+            row.0,
+            Told::new(bytes, ending, piece),
+            &mut files,
+            (1024, 1024),
+        )?;
+        assert_as(rt, &run, row)?;
+    }
+    Ok(())
+}
+
+// That these names and no others were asked.
+fn assert_asked(rt: &impl Abort, files: &ToldSource, names: &[&[u8]]) -> Result<(), Fail> {
+    for (i, name) in names.iter().enumerate() {
+        assert_eq!(rt; files.asked_name(i).ok_or("asked")?, *name);
+    }
+    assert!(rt; files.asked_name(names.len()).is_none());
+    Ok(())
+}

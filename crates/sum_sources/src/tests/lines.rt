@@ -1,0 +1,102 @@
+//! `LineReader` over told manifests.
+use crate::{Ending, Fault, Input, LineReader, LineStop, Next, Told};
+use std::process::Abort;
+use std::test::Fail;
+
+// The reader gives this line.
+fn gives(rt: &impl Abort, reader: &mut LineReader<impl Input>, line: &mut Vec<u8>, want: &[u8]) {
+    assert!(rt; reader.next_line(line) == Ok(Next::Line));
+    assert_eq!(rt; line.as_slice(), want);
+}
+
+// The reader gives just these lines, and then answers `end` twice.
+fn reads(
+    rt: &(impl Abort + AllocGlobal),
+    content: &[u8],
+    ending: Ending,
+    lines: &[&[u8]],
+    end: Result<Next, LineStop>,
+) {
+    for piece in [1, 3, 8192] {
+        let mut line = Vec::new(rt.alloc());
+        let mut reader = LineReader::new(Told::new(content, ending, piece));
+        for want in lines {
+            gives(rt, &mut reader, &mut line, want);
+        }
+        assert!(rt; reader.lines() == lines.len() as u64);
+        for _ in 0..2 {
+            assert!(rt; reader.next_line(&mut line) == end);
+        }
+        assert!(rt; reader.lines() == lines.len() as u64);
+        assert!(rt; reader.taken() == content.len() as u64);
+    }
+}
+
+const ABC: &[u8] = b"900150983cd24fb0d6963f7d28e17f72  a";
+
+#[test]
+fn ends(rt: HostRuntime) {
+    let fault = Err(LineStop::Fault(Fault::Other));
+    let other = Ending::Broken(Fault::Other);
+    reads(&rt, ABC, Ending::Whole, &[ABC], Ok(Next::NoMore));
+    let five: [&[u8]; 5] = [b"M  a", b"#c", b"junk", b"M *x", b"M  e"];
+    reads(
+        &rt,
+        b"M  a\n#c\njunk\nM *x\nM  e\n",
+        Ending::Whole,
+        &five,
+        Ok(Next::NoMore),
+    );
+    reads(&rt, b"one\ntwo", other, &[b"one"], fault);
+    reads(&rt, b"", Ending::Whole, &[], Ok(Next::NoMore));
+    reads(&rt, b"", other, &[], fault);
+    reads(&rt, b"\n", Ending::Whole, &[b""], Ok(Next::NoMore));
+    reads(&rt, b"one\n", other, &[b"one"], fault);
+}
+
+#[test]
+fn carriage_returns(rt: HostRuntime) {
+    let lines: [&[u8]; 4] = [b"M  a", b"", b"", b"junk"];
+    reads(
+        &rt,
+        b"M  a\r\n\n\r\njunk\r\n",
+        Ending::Whole,
+        &lines,
+        Ok(Next::NoMore),
+    );
+    reads(
+        &rt,
+        b"M  a\r\r\n\ra",
+        Ending::Whole,
+        &[b"M  a\r", b"\ra"],
+        Ok(Next::NoMore),
+    );
+    reads(&rt, b"a\n\r", Ending::Whole, &[b"a", b""], Ok(Next::NoMore));
+    reads(
+        &rt,
+        b"a\n\r",
+        Ending::Broken(Fault::Denied),
+        &[b"a"],
+        Err(LineStop::Fault(Fault::Denied)),
+    );
+}
+
+// Lines longer than the buffer, and no more read ahead than that.
+#[test]
+fn long_lines(rt: HostRuntime) -> Result<(), Fail> {
+    let mut content = Vec::new(rt.alloc());
+    let long = vec![in rt.alloc(); b'x'; 6000]?;
+    for _ in 0..3 {
+        content.extend_from_slice(&long)?;
+        content.push(b'\n')?;
+    }
+    let mut line = Vec::new(rt.alloc());
+    let mut reader = LineReader::new(Told::new(&content, Ending::Whole, 8192));
+    gives(&rt, &mut reader, &mut line, &long);
+    assert!(rt; reader.taken() >= 6001 && reader.taken() <= 14_193);
+    gives(&rt, &mut reader, &mut line, &long);
+    gives(&rt, &mut reader, &mut line, &long);
+    assert!(rt; reader.next_line(&mut line) == Ok(Next::NoMore));
+    assert!(rt; reader.taken() == 18_003);
+    Ok(())
+}

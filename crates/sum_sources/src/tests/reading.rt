@@ -1,0 +1,94 @@
+//! Inputs over readers, and the answers of told inputs.
+use crate::{Ending, Fault, FromRead, Given, Input, Stdin, Told};
+use std::io::{self, ErrorKind, Read};
+use std::test::Fail;
+
+// A reader that is interrupted so often before each read, and then gives one byte or fails.
+#[derive(Drop)]
+struct Interrupted {
+    times: u32,
+    left: u32,
+    then: io::Result<u8>,
+}
+
+impl Read for Interrupted {
+    fn read(&mut self, buf: &mut [u8]) -> io::Result<usize> {
+        if self.left > 0 {
+            self.left -= 1;
+            return Err(io::Error::from(ErrorKind::Interrupted));
+        }
+        self.left = self.times;
+        match (self.then, buf.first_mut()) {
+            (Ok(byte), Some(first)) => {
+                *first = byte;
+                Ok(1)
+            }
+            (Err(error), _) => Err(error),
+            (_, None) => Ok(0),
+        }
+    }
+}
+
+fn reader_of(times: u32, then: io::Result<u8>) -> FromRead<Interrupted> {
+    FromRead::new(Interrupted {
+        times,
+        left: times,
+        then,
+    })
+}
+
+#[test]
+fn interruptions(rt: HostRuntime) {
+    let mut buf = [0; 4];
+    let mut often = reader_of(999, Ok(7));
+    for _ in 0..3 {
+        assert!(rt; often.read(&mut buf) == Ok(1));
+        assert_eq!(rt; buf, [7, 0, 0, 0]);
+    }
+    assert!(rt; reader_of(1000, Ok(7)).read(&mut buf) == Err(Fault::Other));
+}
+
+#[test]
+fn kinds_of_faults(rt: HostRuntime) {
+    for (kind, fault) in [
+        (ErrorKind::NotFound, Fault::NotFound),
+        (ErrorKind::PermissionDenied, Fault::Denied),
+        (ErrorKind::InvalidInput, Fault::Other),
+        (ErrorKind::OutOfMemory, Fault::Other),
+    ] {
+        let mut input = reader_of(2, Err(io::Error::from(kind)));
+        assert!(rt; input.read(&mut [0; 4]) == Err(fault));
+    }
+}
+
+#[test]
+fn texts_of_faults(rt: HostRuntime) {
+    assert_eq!(rt; Fault::NotFound.text(), "No such file or directory");
+    assert_eq!(rt; Fault::Denied.text(), "Permission denied");
+    assert_eq!(rt; Fault::Other.text(), "Input/output error");
+}
+
+// Two bytes a read, a piece of 0 counting as 1.
+#[test]
+fn told_pieces(rt: HostRuntime) {
+    let mut buf = [0; 4];
+    let mut input = Told::new(b"abc", Ending::Broken(Fault::Denied), 2);
+    assert!(rt; input.read(&mut []) == Ok(0));
+    assert!(rt; input.read(&mut buf) == Ok(2));
+    assert_eq!(rt; buf, *b"ab\0\0");
+    assert!(rt; input.read(&mut buf) == Ok(1));
+    assert_eq!(rt; buf, *b"cb\0\0");
+    assert!(rt; input.read(&mut buf) == Err(Fault::Denied));
+    assert!(rt; Told::new(b"abc", Ending::Whole, 0).read(&mut buf) == Ok(1));
+}
+
+#[test]
+fn standard_input_once(rt: HostRuntime) {
+    let mut buf = [0; 4];
+    let mut stdin = Stdin::new(Told::new(b"abc", Ending::Whole, 8));
+    let mut first: Given<Told> = stdin.take();
+    let mut second = stdin.take();
+    assert!(rt; second.read(&mut buf) == Ok(0));
+    assert!(rt; first.read(&mut buf) == Ok(3));
+    assert!(rt; first.read(&mut buf) == Ok(0));
+}

@@ -1,0 +1,46 @@
+//! Told and real sources.
+use crate::{Answer, Ending, Fault, Files, Input, OpenFault, Source, ToldSource};
+use std::fs;
+use std::test::Fail;
+
+#[test]
+fn told_source(rt: HostRuntime) -> Result<(), Fail> {
+    let mut source = ToldSource::new(rt.alloc(), 2);
+    source.add(b"a", Answer::Content(b"abc", Ending::Whole))?;
+    source.add(b"a", Answer::Fault(Fault::Other))?;
+    source.add(b"d", Answer::Fault(Fault::Denied))?;
+    let mut buf = [0; 4];
+    let mut file = source.open_file(b"a").ok().ok_or("a")?;
+    assert!(rt; file.read(&mut buf) == Ok(2));
+    assert_eq!(rt; buf, *b"ab\0\0");
+    assert!(rt; source.open_file(b"d").err() == Some(OpenFault::Fault(Fault::Denied)));
+    assert!(rt; source.open_file(b"").err() == Some(OpenFault::Fault(Fault::NotFound)));
+    let mut again = source.open_file(b"a").ok().ok_or("a again")?;
+    assert!(rt; again.read(&mut buf) == Ok(2));
+    for (i, name) in [b"a".as_slice(), b"d", b"", b"a"].into_iter().enumerate() {
+        assert_eq!(rt; source.asked_name(i).ok_or("asked")?, name);
+    }
+    assert!(rt; source.asked_name(4).is_none());
+    Ok(())
+}
+
+#[test]
+fn real_files(rt: HostRuntime) -> Result<(), Fail> {
+    fs::write(&rt, "sum_sources_real", b"abc".as_slice())?;
+    let mut files = Files::new(rt.clone()?);
+    let mut buf = [0; 8];
+    let mut file = files
+        .open_file(b"sum_sources_real")
+        .ok()
+        .ok_or("not opened")?;
+    assert!(rt; file.read(&mut buf) == Ok(3));
+    assert!(rt; buf.starts_with(b"abc"));
+    assert!(rt; file.read(&mut buf) == Ok(0));
+    fs::remove_file(&rt, "sum_sources_real")?;
+    assert!(rt;
+        files.open_file(b"sum_sources_real").err() == Some(OpenFault::Fault(Fault::NotFound))
+    );
+    assert!(rt; files.open_file(b"\xff").err() == Some(OpenFault::Fault(Fault::Other)));
+    assert!(rt; files.open_file(b"").err() == Some(OpenFault::Fault(Fault::NotFound)));
+    Ok(())
+}

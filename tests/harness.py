@@ -1,0 +1,246 @@
+"""What the end-to-end tests share: a folder for each test, a run of the program with a time limit, and the values that
+the tests expect. The values are those of the standards, and were not taken from any output of the program."""
+
+import functools
+import os
+import pty
+import resource
+import select
+import shutil
+import signal
+import subprocess
+import sys
+import tempfile
+import time
+import tty
+import unittest
+from typing import NamedTuple
+
+# Set by run.py: the program's absolute path, and whether checking is left out.
+PROGRAM = ""
+WITHOUT_CHECK = False
+
+TOP = os.path.dirname(os.path.dirname(os.path.abspath(__file__)))
+RUN_SECONDS = 100
+TEST_SECONDS = 120
+
+M = "900150983cd24fb0d6963f7d28e17f72"  # MD5 of "abc"
+E = "d41d8cd98f00b204e9800998ecf8427e"  # MD5 of nothing
+B = "0e5751c026e543b2e8ab2eb06099daa1d1e5df47778f7787faab45cdf12fe3a8"  # BLAKE2b-256 of nothing
+S = "ba7816bf8f01cfea414140de5dae2223b00361a396177a9cb410ff61f20015ad"  # SHA-256 of "abc"
+
+# Tool: tag, digest of nothing, digest of "abc" (RFC 1321, FIPS 180-4, RFC 7693).
+TOOLS = {
+    "md5sum": ("MD5", E, M),
+    "sha1sum": ("SHA1", "da39a3ee5e6b4b0d3255bfef95601890afd80709", "a9993e364706816aba3e25717850c26c9cd0d89d"),
+    "sha224sum": (
+        "SHA224",
+        "d14a028c2a3a2bc9476102bb288234c415a2b01f828ea62ac5b3e42f",
+        "23097d223405d8228642a477bda255b32aadbce4bda0b3f7e36c9da7",
+    ),
+    "sha256sum": ("SHA256", "e3b0c44298fc1c149afbf4c8996fb92427ae41e4649b934ca495991b7852b855", S),
+    "sha384sum": (
+        "SHA384",
+        "38b060a751ac96384cd9327eb1b1e36a21fdb71114be07434c0cc7bf63f6e1da274edebfe76f65fbd51ad2f14898b95b",
+        "cb00753f45a35e8bb5a03d699ac65007272c32ab0eded1631a8b605a43ff5bed8086072ba1e7cc2358baeca134c825a7",
+    ),
+    "sha512sum": (
+        "SHA512",
+        "cf83e1357eefb8bdf1542850d66d8007d620e4050b5715dc83f4a921d36ce9ce"
+        "47d0d13c5d85f2b0ff8318d2877eec2f63b931bd47417a81a538327af927da3e",
+        "ddaf35a193617abacc417349ae20413112e6fa4e89a97ea20a9eeee64b55d39a"
+        "2192992a274fc1a836ba3c23a3feebbd454d4423643ce80e2a9ac94fa54ca49f",
+    ),
+    "b2sum": (
+        "BLAKE2b",
+        "786a02f742015903c6c6fd852552d272912f4740e15847618a86e217f71f5419"
+        "d25e1031afee585313896444934eb04b903a685b1448b755d56f701afe9be2ce",
+        "ba80a53f981c4d0d6a2797b69f12f6e94c212f14685ac4b74b12bb6fdbffa2d1"
+        "7d87c5392aab792dc252d5de4533cc9518d38aa8dbf1925ab92386edd4009923",
+    ),
+}
+
+
+class Ran(NamedTuple):
+    """What a run left: its status (negative: the signal that ended it) and its two outputs."""
+
+    status: int
+    out: bytes
+    err: bytes
+
+
+def as_bytes(text):
+    """The bytes of a text, of bytes, or of a list of lines, each of which gets a newline."""
+    if isinstance(text, bytes):
+        return text
+    if isinstance(text, str):
+        return text.encode()
+    return b"".join(as_bytes(line) + b"\n" for line in text)
+
+
+def as_words(words):
+    """The words of one string cut at its spaces, or a list of words as it is."""
+    return words.split(" ") if isinstance(words, str) else list(words)
+
+
+@functools.lru_cache
+def gnu(tool):
+    """The path of GNU coreutils' tool of that name, or None where it is not installed."""
+    path = shutil.which(tool)
+    if path is None or os.path.realpath(path) == os.path.realpath(PROGRAM):
+        return None
+    said = subprocess.run([path, "--version"], stdout=subprocess.PIPE, stderr=subprocess.DEVNULL, timeout=RUN_SECONDS)
+    return path if b"GNU coreutils" in said.stdout else None
+
+
+# "All verdicts": a manifest that comes to every verdict, what it writes to both outputs, and its words.
+VERDICTS = [f"{M}  a", "#c", "junk", f"{M} *x", f"{M}  e"]
+VERDICTS_OUT = as_bytes(["a: OK", "x: FAILED open or read", "e: FAILED"])
+X_MISSING = "md5sum: x: No such file or directory"
+VERDICTS_ERR = as_bytes([
+    X_MISSING,
+    "md5sum: WARNING: 1 line is improperly formatted",
+    "md5sum: WARNING: 1 listed file could not be read",
+    "md5sum: WARNING: 1 computed checksum did NOT match",
+])
+
+
+def needs_check(test):
+    """Marks a test, or a class of tests, that calls the checker."""
+    return unittest.skipIf(WITHOUT_CHECK, "checking is left out")(test)
+
+
+def limits(file_size=None, memory=None):
+    """What a child does before it becomes the program: takes limits on the files that it writes and on its memory."""
+
+    def take():
+        if file_size is not None:
+            resource.setrlimit(resource.RLIMIT_FSIZE, (file_size, file_size))
+        if memory is not None:
+            resource.setrlimit(resource.RLIMIT_AS, (memory, memory))
+
+    return take
+
+
+def too_long(number, frame):
+    raise TimeoutError(f"a test took longer than {TEST_SECONDS} seconds")
+
+
+class Case(unittest.TestCase):
+    """A test in a folder of its own, which holds `a` (three bytes, "abc") and `e` (empty), and no `x`."""
+
+    def setUp(self):
+        self.folder = tempfile.mkdtemp(prefix="digests-test-")
+        self.addCleanup(shutil.rmtree, self.folder, ignore_errors=True)
+        os.chmod(self.folder, 0o755)
+        self.write("a", "abc")
+        self.write("e", "")
+        signal.signal(signal.SIGALRM, too_long)
+        signal.alarm(TEST_SECONDS)
+        self.addCleanup(signal.alarm, 0)
+
+    def path(self, name):
+        """The path of a name in the test's folder, as bytes."""
+        return os.path.join(os.fsencode(self.folder), as_bytes(name))
+
+    def write(self, name, content):
+        """Makes a file in the test's folder."""
+        with open(self.path(name), "wb") as file:
+            file.write(as_bytes(content))
+
+    def read(self, name):
+        """The content of a file in the test's folder."""
+        with open(self.path(name), "rb") as file:
+            return file.read()
+
+    def run_command(self, command, stdin=b"", **how):
+        """Runs a command in the test's folder. `stdin` is what standard input holds, or a file."""
+        how.setdefault("cwd", self.folder)
+        how.setdefault("stdout", subprocess.PIPE)
+        how.setdefault("stderr", subprocess.PIPE)
+        if isinstance(stdin, (bytes, str, list)):
+            how["input"] = as_bytes(stdin)
+        else:
+            how["stdin"] = stdin
+        ran = subprocess.run(command, timeout=RUN_SECONDS, **how)
+        return Ran(ran.returncode, ran.stdout or b"", ran.stderr or b"")
+
+    def run_words(self, words, stdin=b"", **how):
+        """Runs `digests` with these words in the test's folder."""
+        return self.run_command([PROGRAM, *as_words(words)], stdin, **how)
+
+    def expect(self, words, out=b"", err=b"", status=0, stdin=b"", **how):
+        """Runs `digests` with these words, and compares both outputs and the status."""
+        ran = self.run_words(words, stdin, **how)
+        self.assertEqual(ran, Ran(status, as_bytes(out), as_bytes(err)), as_words(words)[:9])
+
+    def expect_fault(self, words, text):
+        """Expects that the words are refused with this text."""
+        tool = as_words(words)[0]
+        self.expect(words, err=[f"{tool}: {text}", f"Try '{tool} --help' for more information."], status=1)
+
+    def start(self, words, **how):
+        """Starts `digests` with these words in the test's folder; it is ended with the test."""
+        started = subprocess.Popen([PROGRAM, *as_words(words)], cwd=self.folder, **how)
+        self.addCleanup(end, started)
+        return started
+
+    def full(self):
+        """The device that has no room for a single byte, opened for writing."""
+        if not os.path.exists("/dev/full"):
+            self.skipTest("there is no /dev/full")
+        return open("/dev/full", "wb")
+
+    def terminal(self):
+        """A new terminal that changes no byte: the side that shows, and the side that the program writes to."""
+        shows, writes = pty.openpty()
+        tty.setraw(writes)
+        self.addCleanup(os.close, shows)
+        return shows, writes
+
+    def broken_input(self, content):
+        """An input that gives this content and then a fault: the master of a terminal whose other side is closed."""
+        reads, writes = pty.openpty()
+        tty.setraw(writes)
+        self.addCleanup(os.close, reads)
+        content = as_bytes(content)
+        while content:
+            content = content[os.write(writes, content):]
+        os.close(writes)
+        return reads
+
+    def shown(self, descriptor, text, seconds=10):
+        """Waits until a terminal or pipe has given so many bytes as the text has, and compares them."""
+        wanted, got = as_bytes(text), b""
+        stop = time.monotonic() + seconds
+        while len(got) < len(wanted):
+            ready, _, _ = select.select([descriptor], [], [], max(0, stop - time.monotonic()))
+            if not ready:
+                break
+            try:
+                piece = os.read(descriptor, len(wanted) - len(got))
+            except OSError:  # a terminal whose other side is closed
+                break
+            if not piece:
+                break
+            got += piece
+        self.assertEqual(got, wanted)
+
+    def peak_of(self, words, out="out", **how):
+        """Runs `digests` with standard output into the file `out`: its status, its standard error and its peak memory
+        in bytes. A process of its own starts it, since a child counts the memory of the one that it was forked from."""
+        peak_file = self.path("peak")
+        watcher = [sys.executable, "-IS", os.path.join(TOP, "tests", "peak.py"), peak_file, PROGRAM, *as_words(words)]
+        with open(self.path(out), "wb") as sink:
+            ran = self.run_command(watcher, stdout=sink, **how)
+        return ran.status, ran.err, int(self.read("peak"))
+
+
+def end(started):
+    """Ends a process that a test started."""
+    if started.poll() is None:
+        started.kill()
+    started.wait()
+    for stream in (started.stdin, started.stdout, started.stderr):
+        if stream is not None:
+            stream.close()

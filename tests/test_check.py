@@ -1,0 +1,290 @@
+"""Checking: the verdicts, reports, summaries and statuses, the forms of manifests, and hostile ones."""
+
+import os
+
+import harness
+from harness import B, E, M, S, TOOLS, VERDICTS, VERDICTS_ERR, VERDICTS_OUT, X_MISSING, Case, Ran, as_bytes, needs_check
+
+NONE_FOUND = "no properly formatted checksum lines found"
+SPECIAL = "q\\\nz"
+NO_OK = ["x: FAILED open or read", "e: FAILED"]  # what is left of the verdicts' reports without the OK lines
+
+
+def bad(count, tool="md5sum"):
+    """The warning for improperly formatted lines."""
+    return f"{tool}: WARNING: " + ("1 line is" if count == 1 else f"{count} lines are") + " improperly formatted"
+
+
+def unread(count, tool="md5sum"):
+    """The warning for listed files that could not be read."""
+    return f"{tool}: WARNING: " + ("1 listed file" if count == 1 else f"{count} listed files") + " could not be read"
+
+
+def wrong(count, tool="md5sum"):
+    """The warning for digests that differ."""
+    return f"{tool}: WARNING: {count} computed checksum" + ("" if count == 1 else "s") + " did NOT match"
+
+
+@needs_check
+class Verdicts(Case):
+    """What each line of a manifest comes to, and the settings that change what is written."""
+
+    def test_all_verdicts(self):
+        self.write("l", VERDICTS)
+        self.expect("md5sum -c l", out=VERDICTS_OUT, err=VERDICTS_ERR, status=1)
+        self.expect("md5sum -c", stdin=VERDICTS, out=VERDICTS_OUT, err=VERDICTS_ERR, status=1)
+        self.expect("md5sum -c --quiet l", out=NO_OK, err=VERDICTS_ERR, status=1)
+        self.expect("md5sum -c --status l", err=[X_MISSING], status=1)
+        first, *warnings = VERDICTS_ERR.decode().splitlines()
+        named = "md5sum: l: 3: improperly formatted MD5 checksum line"
+        self.expect("md5sum -c -w l", out=VERDICTS_OUT, err=[named, first, *warnings], status=1)
+
+    def test_the_last_report_setting_counts(self):
+        self.write("l", VERDICTS)
+        self.expect("md5sum -c --quiet --status l", err=[X_MISSING], status=1)
+        self.expect("md5sum -c --status -w --quiet l", out=NO_OK, err=VERDICTS_ERR, status=1)
+        self.expect("md5sum -cw --status --quiet --status l", err=[X_MISSING], status=1)
+
+    def test_ignore_missing(self):
+        self.write("l", VERDICTS)
+        self.expect("md5sum -c --ignore-missing -w --strict l", out=["a: OK", "e: FAILED"],
+                    err=["md5sum: l: 3: improperly formatted MD5 checksum line", bad(1), wrong(1)], status=1)
+        self.write("l2", [f"{M}  x"])
+        self.expect("md5sum -c --ignore-missing l2", err=["md5sum: l2: no file was verified"], status=1)
+        self.expect("md5sum -c --ignore-missing --status l2", status=1)
+        self.write("l3", [f"{M}  x", f"{M}  a"])
+        self.expect("md5sum -c --ignore-missing l3", out=["a: OK"])
+        self.write("l4", [f"{M}  x", f"{M}  e"])
+        self.expect("md5sum -c --ignore-missing l4", out=["e: FAILED"],
+                    err=[wrong(1), "md5sum: l4: no file was verified"], status=1)
+        err = ["md5sum: l2: no file was verified"]
+        self.expect("md5sum -c --ignore-missing l3 l2", out=["a: OK"], err=err, status=1)
+
+    def test_ignore_missing_holds_for_missing_files_alone(self):
+        os.mkdir(self.path("d"))
+        self.write("l", [f"{M}  d", f"{M}  a/x", f"{M}  a"])
+        err = ["md5sum: d: Input/output error", "md5sum: a/x: Input/output error", unread(2)]
+        out = ["d: FAILED open or read", "a/x: FAILED open or read", "a: OK"]
+        self.expect("md5sum -c --ignore-missing l", out=out, err=err, status=1)
+
+    def test_strict(self):
+        self.write("l", [f"{M}  a", "junk"])
+        self.expect("md5sum -c l", out=["a: OK"], err=[bad(1)])
+        self.expect("md5sum -c --strict l", out=["a: OK"], err=[bad(1)], status=1)
+        self.expect("md5sum -c --strict --status l", status=1)
+        self.expect("md5sum -c --status l")
+        self.expect("md5sum -c --quiet l", err=[bad(1)])
+
+    def test_nothing_to_check(self):
+        self.expect("md5sum -c", stdin=[f"{M}  -"], err=[f"md5sum: standard input: {NONE_FOUND}"], status=1)
+        for words in ("md5sum -c e", "md5sum -c --status e", "md5sum -c -w e", "md5sum -c --ignore-missing e"):
+            with self.subTest(words=words):
+                self.expect(words, err=[f"md5sum: e: {NONE_FOUND}"], status=1)
+        self.write("l", ["junk", "", "#"])
+        self.expect("md5sum -c -w l", err=["md5sum: l: 1: improperly formatted MD5 checksum line",
+                                           f"md5sum: l: {NONE_FOUND}"], status=1)
+
+    def test_every_tool_checks_its_own(self):
+        for tool, (tag, of_nothing, of_abc) in TOOLS.items():
+            with self.subTest(tool=tool):
+                self.write("l", [f"{of_abc}  a", f"{tag} (e) = {of_nothing}", f"{of_nothing} *a", f"{of_nothing}0  e"])
+                named = f"{tool}: l: 4: improperly formatted {tag} checksum line"
+                self.expect([tool, "-cw", "l"], out=["a: OK", "e: OK", "a: FAILED"],
+                            err=[named, bad(1, tool), wrong(1, tool)], status=1)
+
+    def test_plurals(self):
+        self.write("l10", [f"{M}  x"] * 2 + [f"{E}  a"] * 2 + ["junk"] * 2)
+        out = ["x: FAILED open or read"] * 2 + ["a: FAILED"] * 2
+        self.expect("md5sum -c l10", out=out, err=[X_MISSING, X_MISSING, bad(2), unread(2), wrong(2)], status=1)
+
+
+@needs_check
+class Manifests(Case):
+    """Operands of checking."""
+
+    def test_a_manifest_that_is_missing(self):
+        self.write("l8", f"{M}  a")
+        self.expect("md5sum -c l8 x", out=["a: OK"], err=[X_MISSING], status=1)
+        self.expect("md5sum -c --status x", err=[X_MISSING], status=1)
+        self.expect("md5sum -c --ignore-missing x", err=[X_MISSING], status=1)
+        self.expect(["md5sum", "-c", SPECIAL], err=["md5sum: q\\\\\\nz: No such file or directory"], status=1)
+
+    def test_a_manifest_that_is_a_directory(self):
+        os.mkdir(self.path("d"))
+        self.expect("md5sum -c d", err=["md5sum: d: Input/output error"], status=1)
+        self.expect("md5sum -c --status d", err=["md5sum: d: Input/output error"], status=1)
+
+    def test_counts_of_their_own(self):
+        self.write("l9", ["junk", f"{M}  a"])
+        self.expect("md5sum -c l9 l9", out=["a: OK"] * 2, err=[bad(1)] * 2)
+        self.expect("md5sum -cw l9 l9", out=["a: OK"] * 2,
+                    err=["md5sum: l9: 1: improperly formatted MD5 checksum line", bad(1)] * 2)
+
+    def test_a_form_of_their_own(self):
+        self.write("standard", [f"{M}  a"])
+        self.write("reversed", [f"{M} a"])
+        self.expect("md5sum -c standard reversed standard", out=["a: OK"] * 3)
+
+    def test_open_files_are_closed_again(self):
+        """With few descriptors allowed, many manifests and many listed files are read one after the other."""
+        self.write("l", [f"{M}  a"] * 100)
+        script = 'ulimit -n 16; exec "$0" md5sum -c --quiet --strict "$@"'
+        self.assertEqual(self.run_command(["sh", "-c", script, harness.PROGRAM, *["l"] * 50]), Ran(0, b"", b""))
+
+    def test_standard_input_listed(self):
+        self.write("l5", [f"{M}  -"])
+        self.expect("md5sum -c l5", stdin="abc", out=["-: OK"])
+        self.expect("md5sum -c l5 l5", stdin="abc", out=["-: OK", "-: FAILED"], err=[wrong(1)], status=1)
+
+    def test_standard_input_twice(self):
+        self.expect("md5sum -c - -", stdin=[f"{M}  a"], out=["a: OK"],
+                    err=[f"md5sum: standard input: {NONE_FOUND}"], status=1)
+        self.expect("md5sum -cw - a", stdin=["junk", f"{M}  a"], out=["a: OK"], status=1,
+                    err=["md5sum: standard input: 1: improperly formatted MD5 checksum line", bad(1),
+                         "md5sum: a: 1: improperly formatted MD5 checksum line", f"md5sum: a: {NONE_FOUND}"])
+
+    def test_lists_are_named_escaped(self):
+        self.write(SPECIAL, ["junk"])
+        shown = "md5sum: q\\\\\\nz:"
+        self.expect(["md5sum", "-cw", SPECIAL], status=1,
+                    err=[f"{shown} 1: improperly formatted MD5 checksum line", f"{shown} {NONE_FOUND}"])
+
+    def test_a_manifest_that_lists_itself(self):
+        self.write("l", [f"{E}  l", f"{M}  a"])
+        self.expect("md5sum -c l", out=["l: FAILED", "a: OK"], err=[wrong(1)], status=1)
+
+    def test_mixed_tags(self):
+        good = [f"MD5 (a) = {M}", f"SHA256 (a) = {S}", f"BLAKE2b-256 (e) = {B}"]
+        self.write("m", [*good, f"{M}  a", f"SHA256 (e) = {E}"])
+        out, warnings = ["a: OK", "a: OK", "e: OK"], [bad(2, "anysum")]
+        self.expect("anysum -c m", out=out, err=warnings)
+        self.expect("anysum -c --strict m", out=out, err=warnings, status=1)
+        named = [f"anysum: m: {n}: improperly formatted tagged checksum line" for n in (4, 5)]
+        self.expect("anysum -c -w m", out=out, err=named + warnings)
+        self.expect("anysum -c", stdin=[f"{M}  a"], err=[f"anysum: standard input: {NONE_FOUND}"], status=1)
+
+    def test_every_tag_under_anysum(self):
+        self.write("m", [f"{tag} (a) = {of_abc}" for tag, _, of_abc in TOOLS.values()])
+        self.expect("anysum -c m", out=["a: OK"] * len(TOOLS))
+
+
+@needs_check
+class Lines(Case):
+    """How one line is read."""
+
+    def test_forms_of_manifests(self):
+        self.expect("md5sum -c", stdin=["900150983CD24FB0D6963F7D28E17F72  a"], out=["a: OK"])
+        self.expect("md5sum -c", stdin=[f"MD5(a)= {M}"], out=["a: OK"])
+        self.expect("md5sum -c", stdin=[f"{M} a", f"{M}  a"], out=["a: OK", " a: FAILED open or read"],
+                    err=["md5sum:  a: No such file or directory", unread(1)], status=1)
+        self.expect("md5sum -c", stdin=[f"{M}  a", f"{M} a"], out=["a: OK"], err=[bad(1)])
+        self.expect("md5sum -c --strict", stdin=[f"{M}  a", f"{M} a"], out=["a: OK"], err=[bad(1)], status=1)
+
+    def test_escaped_names(self):
+        self.write(SPECIAL, "abc")
+        self.write("l6", [f"\\{M}  q\\\\\\nz", f"\\{M}  q\\x", f"\\{M}  q\\", f"\\{M}  a\\r", f"{M}  q\\x"])
+        out = ["\\q\\\\\\nz: OK", "\\a\\r: FAILED open or read", "\\q\\\\x: FAILED open or read"]
+        missing = ["md5sum: a\\r: No such file or directory", "md5sum: q\\\\x: No such file or directory"]
+        self.expect("md5sum -c l6", out=out, err=[*missing, bad(2), unread(2)], status=1)
+
+    def test_written_lines_are_read_back(self):
+        names = ["a", SPECIAL, "a\rb", "\\", " ", "*", "a)", "x = y", "#", "\r", "end\r", "tab\t", "é"]
+        for name in names:
+            self.write(name, "abc")
+        shown = ["a: OK", "\\q\\\\\\nz: OK", "\\a\\rb: OK", "\\\\\\: OK", " : OK", "*: OK", "a): OK", "x = y: OK",
+                 "#: OK", "\\\\r: OK", "\\end\\r: OK", "tab\t: OK", "é: OK"]
+        for tool in TOOLS:
+            for style in ("-t", "-b", "--tag"):
+                with self.subTest(tool=tool, style=style):
+                    ran = self.run_words([tool, style, *names])
+                    self.assertEqual((ran.status, ran.err), (0, b""))
+                    self.expect([tool, "-c", "--strict"], stdin=ran.out, out=shown)
+                    if style == "--tag":
+                        self.expect("anysum -c --strict", stdin=ran.out, out=shown)
+
+    def test_blake2b(self):
+        self.write("l7", [f"{B}  e", f"BLAKE2b-256 (e) = {B}", "0e5 e", f"BLAKE2b-256 (e) = {B[:62]}"])
+        self.expect("b2sum -c l7", out=["e: OK"] * 2, err=[bad(2, "b2sum")])
+        for line in ("BLAKE2b-08 (e) = 00", f"BLAKE2b-520 (e) = {B}", f"BLAKE2b-256 (e) = {M}"):
+            self.expect("b2sum -c", stdin=[line], err=[f"b2sum: standard input: {NONE_FOUND}"], status=1)
+        for line in ("00 e", "BLAKE2b-8 (e) = 00"):
+            self.expect("b2sum -c", stdin=[line], out=["e: FAILED"], err=[wrong(1, "b2sum")], status=1)
+
+    def test_entries(self):
+        for line in (f"  {M}  a", f"{M}\t a", f"\\{M}  a", f" \t\\{M} *a",
+                     f"MD5 (a) = {M}", f"MD5(a)\t=\t{M}", f" MD5 (a)={M}"):
+            with self.subTest(line=line):
+                self.expect("md5sum -c --strict", stdin=[line], out=["a: OK"])
+        self.write("a)", "abc")
+        self.expect("md5sum -c", stdin=[f"MD5 (a)) = {M}"], out=["a): OK"])
+        self.write("a\nb", "abc")
+        self.expect("md5sum -c", stdin=[f"\\MD5 (a\\nb) = {M}"], out=["\\a\\nb: OK"])
+        self.write(" ", "abc")
+        self.expect("md5sum -c", stdin=[f"{M}  "], out=[" : OK"])
+        self.write("*", "abc")
+        self.expect("md5sum -c", stdin=[f"{M} *"], out=["*: OK"])
+
+    def test_no_entries(self):
+        for line in (f"{M} ", f"{M}", f"\\{M}  q\\x", f"{M}  a\0", f"\\{M}  a\rb", f"\\\\{M}  a",
+                     f"MD5 () = {M}", f"MD5  (a) = {M}", f"md5 (a) = {M}", f"MD5 (a) = {M} ", f"MD5 (a) {M}",
+                     f"SHA1 (a) = {M}", f"{M[:-1]}  a", f"{M}0  a", f"{M[:-1]}g  a"):
+            with self.subTest(line=line):
+                self.expect("md5sum -c", stdin=[line], err=[f"md5sum: standard input: {NONE_FOUND}"], status=1)
+
+    def test_another_tools_lines(self):
+        manifest = [f"SHA512 (a) = {S}", f"SHA256 (a) = {S}"]
+        self.expect("sha256sum -c", stdin=manifest, out=["a: OK"], err=[bad(1, "sha256sum")])
+
+    def test_returns_and_empty_lines(self):
+        self.write("l11", f"{M}  a\r\n\n\r\njunk\r\n")
+        named = "md5sum: l11: 4: improperly formatted MD5 checksum line"
+        self.expect("md5sum -c -w l11", out=["a: OK"], err=[named, bad(1)])
+        self.write("l12", f"{M}  a\r\r\n")
+        self.expect("md5sum -c l12", out=["\\a\\r: FAILED open or read"],
+                    err=["md5sum: a\\r: No such file or directory", unread(1)], status=1)
+
+    def test_no_last_newline(self):
+        self.expect("md5sum -c", stdin=f"{M}  a", out=["a: OK"])
+        self.expect("md5sum -c", stdin=f"{M}  a\r", out=["a: OK"])
+        self.expect("md5sum -c --strict", stdin=f"{M}  a\n\r", out=["a: OK"])
+
+
+@needs_check
+class Hostile(Case):
+    """Manifests that mean harm."""
+
+    def test_nothing_in_them(self):
+        for content in ("x" * 1000000, "\0" * 1000 + "\n", "   \t\n", "\n" * 100000):
+            self.write("h", content)
+            with self.subTest(content=content[:9]):
+                self.expect("md5sum -c h", err=[f"md5sum: h: {NONE_FOUND}"], status=1)
+
+    def test_a_very_long_name(self):
+        name = "y" * 99966
+        self.write("h", f"{M}  {name}")
+        self.expect("md5sum -c h", out=[f"{name}: FAILED open or read"],
+                    err=[f"md5sum: {name}: Input/output error", unread(1)], status=1)
+
+    def test_backslashes(self):
+        self.write("h", ["\\", f"\\\\{M}  a", f"\\{M}  a\\", f"{M} a", f"{M}  a"])
+        self.expect("md5sum -c h", out=["a: OK"], err=[bad(4)])
+
+    def test_tagged_lines_decide_no_form(self):
+        self.write("h", [f"MD5 (a) = {M}", f"{M} a", f"MD5 (e) = {E}", f"{M}  a"])
+        self.expect("md5sum -c h", out=["a: OK", "a: OK", "e: OK", " a: FAILED open or read"],
+                    err=["md5sum:  a: No such file or directory", unread(1)], status=1)
+
+    def test_comments_around_the_buffer(self):
+        self.write("h", ["#" * 8191, "#" * 8192, "#" * 8193, f"{M}  a"])
+        self.expect("md5sum -c --strict h", out=["a: OK"])
+
+    def test_lines_around_the_buffer(self):
+        for size in range(8185, 8200):
+            with self.subTest(size=size):
+                self.expect("md5sum -c --strict", stdin=["#" * size, f"{M}  a", "", f"{M}  a"], out=["a: OK"] * 2)
+
+    def test_names_that_are_no_texts(self):
+        self.write(b"\xff", "abc")
+        self.write("h", M.encode() + b"  \xff\n" + f"{M}  a\n".encode())
+        self.expect("md5sum -c h", out=b"\xff: FAILED open or read\na: OK\n",
+                    err=b"md5sum: \xff: Input/output error\n" + as_bytes([unread(1)]), status=1)

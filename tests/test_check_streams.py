@@ -1,0 +1,176 @@
+"""Checking in time and size: reports that appear while the manifest still comes, and manifests of many or very long
+lines, with a bound on the memory that they take."""
+
+import os
+import subprocess
+
+import harness
+from harness import E, M, VERDICTS, X_MISSING, Case, Ran, as_bytes, limits, needs_check
+
+MEGA = 1000 * 1000
+
+
+@needs_check
+class WhileItComes(Case):
+    """Each line is handled before the next one is read."""
+
+    def test_reports_appear_before_the_manifest_ends(self):
+        shows, writes = self.terminal()
+        started = self.start("md5sum -c", stdin=subprocess.PIPE, stdout=writes, stderr=subprocess.PIPE)
+        os.close(writes)
+        for line, report in ((f"{M}  a", "a: OK"), (f"{M}  e", "e: FAILED"), (f"{E}  e", "e: OK")):
+            started.stdin.write(as_bytes([line]))
+            started.stdin.flush()
+            self.shown(shows, [report])
+        started.stdin.write(as_bytes([f"{M}  x"]))
+        started.stdin.flush()
+        self.shown(shows, ["x: FAILED open or read"])
+        self.shown(started.stderr.fileno(), [X_MISSING])
+        self.assertIsNone(started.poll())
+        started.stdin.close()
+        self.assertEqual(started.wait(timeout=harness.RUN_SECONDS), 1)
+        self.assertEqual(started.stderr.read(), as_bytes([
+            "md5sum: WARNING: 1 listed file could not be read", "md5sum: WARNING: 1 computed checksum did NOT match"]))
+
+    def test_bad_lines_are_named_before_the_manifest_ends(self):
+        started = self.start("md5sum -cw", stdin=subprocess.PIPE, stdout=subprocess.DEVNULL, stderr=subprocess.PIPE)
+        for number in (1, 2, 3):
+            started.stdin.write(b"junk\n")
+            started.stdin.flush()
+            named = f"md5sum: standard input: {number}: improperly formatted MD5 checksum line"
+            self.shown(started.stderr.fileno(), [named])
+        self.assertIsNone(started.poll())
+
+    def test_a_listed_file_that_comes_late(self):
+        os.mkfifo(self.path("p"))
+        shows, writes = self.terminal()
+        self.write("l", [f"{M}  a", f"{M}  p", f"{M}  a"])
+        started = self.start("md5sum -c l", stdout=writes)
+        os.close(writes)
+        self.shown(shows, ["a: OK"])
+        with open(self.path("p"), "wb") as pipe:
+            pipe.write(b"abc")
+        self.shown(shows, ["p: OK", "a: OK"])
+        self.assertEqual(started.wait(timeout=harness.RUN_SECONDS), 0)
+
+    def test_a_manifest_that_is_a_pipe_with_a_name(self):
+        os.mkfifo(self.path("p"))
+        shows, writes = self.terminal()
+        started = self.start("md5sum -c p", stdout=writes)
+        os.close(writes)
+        with open(self.path("p"), "wb", buffering=0) as pipe:
+            for _ in range(3):
+                pipe.write(as_bytes([f"{M}  a"]))
+                self.shown(shows, ["a: OK"])
+        self.assertEqual(started.wait(timeout=harness.RUN_SECONDS), 0)
+
+    def test_lines_longer_than_a_pipe_holds(self):
+        long = "#" * 300000
+        manifest = [long, f"{M}  a", long, f"{E}  a", long + "\n" + long]
+        self.expect("md5sum -c", stdin=manifest, out=["a: OK", "a: FAILED"],
+                    err=["md5sum: WARNING: 1 computed checksum did NOT match"], status=1)
+
+
+@needs_check
+class Outputs(Case):
+    """Reports into outputs that fail."""
+
+    def test_full(self):
+        self.write("l", VERDICTS)
+        with self.full() as full:
+            ran = self.run_words("md5sum -c l", stdout=full)
+            self.assertEqual(ran.status, 1)
+            self.assertTrue(ran.err.endswith(b"md5sum: write error\n"), ran.err)
+            self.expect("md5sum -c --status e", status=1, stderr=full)
+            self.expect("md5sum -c l", status=1, stdout=full, stderr=full)
+            self.write("good", [f"{M}  a"])
+            self.expect("md5sum -c --status good", stdout=full, stderr=full)
+            self.expect("md5sum -c --quiet good", stdout=full, stderr=full)
+            self.expect("md5sum -c good", err=["md5sum: write error"], status=1, stdout=full)
+
+    def test_full_half_way_through(self):
+        """The file that takes the reports is full after 100,000 bytes: exactly these are in it."""
+        reports = as_bytes(["a: OK"] * 50000)
+        self.write("l", [f"{M}  a"] * 50000)
+        with open(self.path("limited"), "wb") as file:
+            how = {"preexec_fn": limits(file_size=100001), "restore_signals": False}
+            self.expect("md5sum -c l", err=["md5sum: write error"], status=1, stdout=file, **how)
+        self.assertEqual(self.read("limited"), reports[:100001])
+
+    def test_a_reader_that_goes_away(self):
+        self.write("l", [f"{M}  a"] * 50000)
+        started = self.start("md5sum -c l", stdout=subprocess.PIPE, stderr=subprocess.PIPE, restore_signals=False)
+        self.assertEqual(started.stdout.read(10), b"a: OK\na: O")
+        started.stdout.close()
+        self.assertEqual(started.stderr.read(), b"md5sum: write error\n")
+        self.assertEqual(started.wait(timeout=harness.RUN_SECONDS), 1)
+
+
+@needs_check
+class Sizes(Case):
+    """Manifests of many lines and of very long ones. The bounds on memory are wide: they tell a program that holds one
+    line from one that holds the manifest."""
+
+    def test_many_lines(self):
+        lines = [f"{M}  a", f"{E} *e"] * 100000
+        lines[77777], lines[177777], lines[199999] = "junk", f"{E}  a", f"{M}  x"
+        self.write("l", lines)
+        status, err, peak = self.peak_of("md5sum -cw l")
+        self.assertEqual((status, err), (1, as_bytes([
+            "md5sum: l: 77778: improperly formatted MD5 checksum line",
+            X_MISSING,
+            "md5sum: WARNING: 1 line is improperly formatted",
+            "md5sum: WARNING: 1 listed file could not be read",
+            "md5sum: WARNING: 1 computed checksum did NOT match",
+        ])))
+        reports = ["a: OK", "e: OK"] * 100000
+        reports[177777], reports[199999] = "a: FAILED", "x: FAILED open or read"
+        del reports[77777]
+        self.assertEqual(self.read("out"), as_bytes(reports))
+        self.assertLess(peak, 25 * MEGA)
+
+    def test_many_lines_from_a_pipe(self):
+        self.expect("md5sum -c --quiet --strict", stdin=[f"{M}  a"] * 200000)
+
+    def test_one_line_of_100_megabytes_of_nothing(self):
+        """A line of NULs (a hole in the file) between two good ones."""
+        with open(self.path("l"), "wb") as file:
+            file.write(as_bytes([f"{M}  a"]))
+            file.seek(100 * MEGA, os.SEEK_CUR)
+            file.write(as_bytes(["", f"{M}  a"]))
+        status, err, peak = self.peak_of("md5sum -c l")
+        self.assertEqual((status, err), (0, b"md5sum: WARNING: 1 line is improperly formatted\n"))
+        self.assertEqual(self.read("out"), b"a: OK\na: OK\n")
+        self.assertLess(peak, 320 * MEGA)
+
+    def test_one_name_of_100_megabytes(self):
+        name = b"y" * (100 * MEGA)
+        with open(self.path("l"), "wb") as file:
+            file.write(f"{M}  a\n{M}  ".encode())
+            file.write(name)
+        with open(self.path("err"), "wb") as faults:
+            status, _, peak = self.peak_of("md5sum -c l", stderr=faults)
+        self.assertEqual(status, 1)
+        self.assertTrue(self.read("out") == b"a: OK\n" + name + b": FAILED open or read\n")
+        warning = b"md5sum: WARNING: 1 listed file could not be read\n"
+        self.assertTrue(self.read("err") == b"md5sum: " + name + b": Input/output error\n" + warning)
+        self.assertLess(peak, 620 * MEGA)
+
+    def test_long_lines_are_not_kept(self):
+        """Twenty lines of five megabytes take the memory of one."""
+        with open(self.path("l"), "wb") as file:
+            for _ in range(20):
+                file.seek(5 * MEGA, os.SEEK_CUR)
+                file.write(as_bytes(["", f"{M}  a"]))
+        status, err, peak = self.peak_of("md5sum -c --quiet l")
+        self.assertEqual((status, err), (0, b"md5sum: WARNING: 20 lines are improperly formatted\n"))
+        self.assertLess(peak, 50 * MEGA)
+
+    def test_want_of_memory(self):
+        """A line that is longer than the memory that may be had: what came before it is reported."""
+        with open(self.path("l"), "wb") as file:
+            file.write(as_bytes([f"{M}  a"]))
+            file.seek(2000 * MEGA, os.SEEK_CUR)
+            file.write(as_bytes(["", f"{M}  a"]))
+        ran = self.run_words("md5sum -c l x", preexec_fn=limits(memory=400 * MEGA))
+        self.assertEqual(ran, Ran(1, b"a: OK\n", b"md5sum: memory exhausted\n"))

@@ -1,0 +1,252 @@
+"""The words: the tool's name, options in every spelling, the faults and their order, and the help and version texts."""
+
+import os
+
+import harness
+from harness import B, E, M, S, TOOLS, Case, needs_check
+
+HELP = """\
+Usage: TOOL [OPTION]... [FILE]...
+Print or check TAG checksums. With no FILE, or when FILE is -, read standard input.
+  -b, --binary          mark each line as binary
+  -c, --check           read checksums from the FILEs and check them
+  -l, --length=BITS     digest length in bits, a multiple of 8, at most 512
+      --tag             write lines of the tagged form
+  -t, --text            mark each line as text (default)
+  -z, --zero            end each line with NUL and escape no name
+      --ignore-missing  with -c: neither fail nor report for missing files
+      --quiet           with -c: print no OK lines
+      --status          with -c: print no report
+      --strict          with -c: fail for improperly formatted lines
+  -w, --warn            with -c: name each improperly formatted line
+      --help            print this text
+      --version         print the version
+"""
+LENGTH_LINE = "  -l, --length=BITS     digest length in bits, a multiple of 8, at most 512\n"
+WITH_CHECK = "meaningless when verifying checksums"
+WITHOUT_CHECK = "meaningful only when verifying checksums"
+
+
+def help_of(tool):
+    """The help text of a tool."""
+    text = HELP.replace("TOOL", tool)
+    if tool == "anysum":
+        first = "Print or check TAG checksums."
+        return text.replace(first, "Check checksums of tagged lines.").replace(LENGTH_LINE, "")
+    text = text.replace("TAG", TOOLS[tool][0])
+    return text if tool == "b2sum" else text.replace(LENGTH_LINE, "")
+
+
+class ToolNames(Case):
+    """The first word names the tool, or the name by which the program is called does."""
+
+    def test_unknown_tool(self):
+        for words in ([], ["shasum"], [""], ["md5"], ["MD5SUM"], ["md5sum "], ["--help"], ["md5sums", "a"]):
+            with self.subTest(words=words):
+                self.expect(words, err=["digests: unknown tool"], status=1)
+
+    def test_called_by_a_link(self):
+        for tool, (_, of_nothing, of_abc) in TOOLS.items():
+            os.symlink(harness.PROGRAM, self.path(tool))
+            for called in (f"./{tool}", os.fsdecode(self.path(tool))):
+                with self.subTest(called=called):
+                    ran = self.run_command([called, "a", "e"])
+                    self.assertEqual(ran, (0, f"{of_abc}  a\n{of_nothing}  e\n".encode(), b""))
+
+    def test_called_by_a_link_faults_name_the_tool(self):
+        os.symlink(harness.PROGRAM, self.path("b2sum"))
+        os.symlink(harness.PROGRAM, self.path("anysum"))
+        ran = self.run_command(["./b2sum", "x"])
+        self.assertEqual(ran, (1, b"", b"b2sum: x: No such file or directory\n"))
+        ran = self.run_command(["./b2sum", "md5sum"])
+        self.assertEqual(ran, (1, b"", b"b2sum: md5sum: No such file or directory\n"))
+        ran = self.run_command(["./anysum", "--version"])
+        self.assertEqual(ran, (0, b"anysum (digests), profile 2\n", b""))
+
+    def test_called_by_a_link_from_the_search_path(self):
+        folder = os.fsdecode(self.path("bin folder"))
+        os.mkdir(folder)
+        os.symlink(harness.PROGRAM, os.path.join(folder, "sha256sum"))
+        path = folder + os.pathsep + os.environ["PATH"]
+        ran = self.run_command(["sh", "-c", 'sha256sum "$1"', "sh", "a"], env={**os.environ, "PATH": path})
+        self.assertEqual(ran, (0, f"{S}  a\n".encode(), b""))
+
+    def test_called_by_another_link(self):
+        os.symlink(harness.PROGRAM, self.path("other"))
+        self.assertEqual(self.run_command(["./other", "md5sum", "a"]), (0, f"{M}  a\n".encode(), b""))
+        self.assertEqual(self.run_command(["./other", "a"]), (1, b"", b"digests: unknown tool\n"))
+
+    def test_words_that_are_no_texts(self):
+        for words in ([b"\xff"], ["md5sum", b"\xff"], ["md5sum", "a", b"b\xc3"], ["md5sum", "--help", b"\x80"],
+                      ["md5sum", b"\xed\xa0\x80"], ["md5sum", b"\xc0\xaf"], ["shasum", b"\xff"]):
+            with self.subTest(words=words):
+                self.write(b"\xff", "abc")
+                self.expect(words, err=["digests: words not read"], status=1)
+
+    def test_called_by_a_link_with_words_that_are_no_texts(self):
+        os.symlink(harness.PROGRAM, self.path("md5sum"))
+        self.assertEqual(self.run_command(["./md5sum", "a", b"\xff"]), (1, b"", b"digests: words not read\n"))
+
+
+class Texts(Case):
+    """Help and version."""
+
+    def test_help(self):
+        for tool in [*TOOLS, "anysum"]:
+            with self.subTest(tool=tool):
+                self.expect([tool, "--help"], out=help_of(tool))
+
+    def test_version(self):
+        for tool in [*TOOLS, "anysum"]:
+            with self.subTest(tool=tool):
+                self.expect([tool, "--version"], out=[f"{tool} (digests), profile 2"])
+
+    def test_the_first_of_fault_help_and_version_decides(self):
+        self.expect("md5sum --help --version", out=help_of("md5sum"))
+        self.expect("md5sum --version --help", out=["md5sum (digests), profile 2"])
+        self.expect("md5sum --help --foo", out=help_of("md5sum"))
+        self.expect_fault("md5sum --foo --help", "unrecognized option '--foo'")
+        self.expect("md5sum a -zc --tag -t --help x", out=help_of("md5sum"))
+        self.expect("b2sum --help -l", out=help_of("b2sum"))
+        self.expect("b2sum -l 12 --version", out=["b2sum (digests), profile 2"])
+        self.expect_fault("b2sum -l --help", "invalid length: '--help'")
+        self.expect_fault("b2sum -l --help x -l", "option requires an argument -- 'l'")
+
+    def test_a_name_may_be_cut_short(self):
+        self.expect("md5sum --h", out=help_of("md5sum"))
+        self.expect("md5sum --v", out=["md5sum (digests), profile 2"])
+
+
+class LongOptions(Case):
+    """Faults 1 to 4, and names that are cut short."""
+
+    def test_unrecognized(self):
+        for word, name in (("--foo", "foo"), ("--foo=1", "foo"), ("--taga", "taga"), ("--Tag", "Tag"), ("---", "-"),
+                           ("--length", "length"), ("--length=8", "length"), ("--é", "é"),
+                           ("--a\\\n\r=x", "a\\\\\\n\\r")):
+            with self.subTest(word=word):
+                self.expect_fault(["md5sum", word, "a"], f"unrecognized option '--{name}'")
+
+    def test_ambiguous(self):
+        self.expect_fault("sha256sum --st l", "option '--st' is ambiguous")
+        self.expect_fault("md5sum --s a", "option '--s' is ambiguous")
+        self.expect_fault("md5sum --t a", "option '--t' is ambiguous")
+        self.expect_fault("md5sum --t=1 a", "option '--t' is ambiguous")
+        self.expect_fault("md5sum --=x a", "option '--' is ambiguous")
+
+    def test_abbreviations(self):
+        self.expect("md5sum --ta a", out=[f"MD5 (a) = {M}"])
+        self.expect("md5sum --te a", out=[f"{M}  a"])
+        self.expect("md5sum --b a", out=[f"{M} *a"])
+        self.expect("md5sum --z a", out=f"{M}  a\0")
+        self.expect("b2sum --len 256 e", out=[f"{B}  e"])
+        self.expect("b2sum --l=256 e", out=[f"{B}  e"])
+
+    def test_value_not_allowed(self):
+        for word, full in (("--tag=1", "tag"), ("--tag=", "tag"), ("--ta=1", "tag"), ("--help=1", "help"),
+                           ("--version=", "version"), ("--i=x", "ignore-missing"), ("--zero=a=b", "zero")):
+            with self.subTest(word=word):
+                self.expect_fault(["md5sum", word, "a"], f"option '--{full}' doesn't allow an argument")
+
+    def test_value_missing(self):
+        self.expect_fault("b2sum e --length", "option '--length' requires an argument")
+        self.expect_fault("b2sum e --len", "option '--length' requires an argument")
+        self.expect_fault("b2sum e -l", "option requires an argument -- 'l'")
+        self.expect_fault("b2sum e -bl", "option requires an argument -- 'l'")
+
+
+class ShortOptions(Case):
+    """Fault 5, clusters, and where options end."""
+
+    def test_unknown(self):
+        self.expect_fault("sha256sum -cq l", "invalid option -- 'q'")
+        self.expect_fault("md5sum -l 8 a", "invalid option -- 'l'")
+        self.expect_fault("md5sum -b- a", "invalid option -- '-'")
+        self.expect_fault(["md5sum", "-é"], "invalid option -- 'é'")
+        self.expect_fault(["md5sum", "-\n"], "invalid option -- '\\n'")
+        self.expect_fault(["md5sum", "-\\"], "invalid option -- '\\\\'")
+        self.expect_fault(["md5sum", "- a"], "invalid option -- ' '")
+
+    def test_clusters(self):
+        self.expect("md5sum -bz a", out=f"{M} *a\0")
+        self.expect("b2sum -bl256 e", out=[f"{B} *e"])
+        self.expect("b2sum -bl 256 e", out=[f"{B} *e"])
+        self.expect_fault("b2sum -l256b e", "invalid length: '256b'")
+
+    def test_options_and_operands_mix(self):
+        self.expect("md5sum a -b e", out=[f"{M} *a", f"{E} *e"])
+        self.expect("md5sum a --tag e", out=[f"MD5 (a) = {M}", f"MD5 (e) = {E}"])
+        self.expect("md5sum a - e", stdin="abc", out=[f"{M}  a", f"{M}  -", f"{E}  e"])
+        self.write("-b", "abc")
+        self.expect("md5sum -b -- -b", out=[f"{M} *-b"])
+        self.expect_fault("md5sum a --foo x", "unrecognized option '--foo'")
+
+    def test_two_dashes_alone_name_no_operand(self):
+        self.expect("md5sum --", stdin="abc", out=[f"{M}  -"])
+        self.expect_fault("b2sum -l -- e", "invalid length: '--'")
+
+
+class Lengths(Case):
+    """Faults 6 and 7."""
+
+    def test_invalid(self):
+        for value in ("520", "513", "+8", "", " 8", "8 ", "-8", "0x8", "8.0", "٨", "9" * 50, "a\n"):
+            with self.subTest(value=value):
+                shown = value.replace("\n", "\\n")
+                self.expect_fault(["b2sum", "-l", value, "e"], f"invalid length: '{shown}'")
+                self.expect_fault(["b2sum", f"--length={value}", "e"], f"invalid length: '{shown}'")
+
+    def test_not_bytes(self):
+        for value in ("12", "1", "511", "0012"):
+            with self.subTest(value=value):
+                self.expect_fault(["b2sum", "-l", value, "e"], f"length is not a multiple of 8: '{value}'")
+
+    def test_the_last_counts(self):
+        self.expect("b2sum -l 12 -l 256 e", out=[f"{B}  e"])
+        self.expect("b2sum -l x --length=256 e", out=[f"{B}  e"])
+        self.expect_fault("b2sum -l 256 -l 12 e", "length is not a multiple of 8: '12'")
+
+    def test_leading_zeros(self):
+        self.expect("b2sum -l 0256 e", out=[f"{B}  e"])
+        self.expect(["b2sum", "-l", "0" * 60 + "256", "e"], out=[f"{B}  e"])
+        self.expect(["b2sum", "-l", "0" * 60, "e"], out=[f"{TOOLS['b2sum'][1]}  e"])
+
+
+class Combinations(Case):
+    """Faults 8 to 17, in the order of their numbers."""
+
+    def test_tag_and_text(self):
+        self.expect_fault("md5sum --tag -t a", "--tag does not support --text mode")
+        self.expect_fault("md5sum --tag -b -t a", "--tag does not support --text mode")
+        self.expect_fault("md5sum -c -t --tag -t l", "--tag does not support --text mode")
+        self.expect("md5sum -t --tag a", out=[f"MD5 (a) = {M}"])
+        self.expect("md5sum --tag -b a", out=[f"MD5 (a) = {M}"])
+        self.expect("md5sum --tag -t -b a", out=[f"MD5 (a) = {M}"])
+
+    def test_with_check(self):
+        self.expect_fault("md5sum -c --tag -z l", "the --zero option is not supported when verifying checksums")
+        self.expect_fault("md5sum -c --tag l", f"the --tag option is {WITH_CHECK}")
+        self.expect_fault("md5sum -c -b l", f"the --binary and --text options are {WITH_CHECK}")
+        self.expect_fault("md5sum -t -c l", f"the --binary and --text options are {WITH_CHECK}")
+        self.expect_fault("b2sum -c -l 12 -z l", "length is not a multiple of 8: '12'")
+
+    def test_without_check(self):
+        self.expect_fault("md5sum --strict --ignore-missing a", f"the --ignore-missing option is {WITHOUT_CHECK}")
+        self.expect_fault("md5sum --quiet -w --status a", f"the --status option is {WITHOUT_CHECK}")
+        self.expect_fault("md5sum --status -w a", f"the --warn option is {WITHOUT_CHECK}")
+        self.expect_fault("md5sum --status --quiet a", f"the --quiet option is {WITHOUT_CHECK}")
+        self.expect_fault("sha256sum --str l", f"the --strict option is {WITHOUT_CHECK}")
+
+    def test_anysum_needs_check(self):
+        for words in ("anysum", "anysum m", "anysum -b m", "anysum --tag m"):
+            with self.subTest(words=words):
+                self.expect_fault(words, "--check is required")
+        self.expect_fault("anysum --quiet m", f"the --quiet option is {WITHOUT_CHECK}")
+        self.expect_fault("anysum -z -c m", "the --zero option is not supported when verifying checksums")
+        self.expect_fault("anysum -c -l 8 m", "invalid option -- 'l'")
+        self.expect_fault("anysum -c --length=8 m", "unrecognized option '--length'")
+
+    @needs_check
+    def test_check_takes_a_length_and_does_nothing_with_it(self):
+        self.write("l", [f"{B}  e"])
+        self.expect("b2sum -c -l 8 l", out=["e: OK"])
