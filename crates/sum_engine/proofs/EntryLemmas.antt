@@ -1,5 +1,5 @@
 -- The entry of a line as a value is the one that the line grammar allows.
-use Rattle.std.proofs.Common.{◌≡◌, ◌≤◌, ℕ, Bool, true, false, cond, List, [], ◌∷◌, length, drop, Option, None, Some, refl, ap, sym, ◌∙◌, inl, inr, ◌⊎◌, ◌↔◌, subst, slice_range}
+use Rattle.std.proofs.Common.{◌≡◌, ℕ, Bool, true, false, cond, List, [], ◌∷◌, length, drop, Option, None, Some, refl, ap, sym, ◌∙◌, inl, inr, ◌⊎◌, subst}
 use Rattle.digest_kinds.specs.Kinds.{KindValue}
 use Rattle.digest_kinds.specs.declared.algo.Algos.{Algos}
 use Rattle.sum_lines.specs.declared.line_reading.Form.{Form}
@@ -8,13 +8,13 @@ use Rattle.sum_lines.specs.declared.line_reading.Reading.{Reading}
 use Rattle.sum_lines.specs.declared.line_reading.Reading.TheVariants as readings
 use Rattle.sum_lines.specs.Escape.{escape}
 use Rattle.sum_lines.specs.Shapes.{Plain, Tagged}
-use Rattle.sum_lines.specs.Entries.{Spelled, kind_of, Entry, ByTag, ByTail, RawOf, Spells as SpellsName, begins_standard, ignored}
+use Rattle.sum_lines.specs.Entries.{Spelled, kind_of, Entry, ByTag, ByTail, RawOf, begins_standard, ignored}
 use Rattle.sum_lines.specs.Scanned.{Parts, tagged_of, plain_of}
 use Rattle.sum_lines.specs.Readings.{Reads}
 use Rattle.sum_lines.proofs.PlainLemmas.{plain_is_read, read_is_plain, apart}
 use Rattle.sum_lines.proofs.TaggedLemmas.{tagged_is_read}
 use Rattle.sum_lines.proofs.TaggedParts.{read_is_tagged}
-use Rattle.sum_engine.specs.Grammar.{named, spelled, raw_of, name_of, entry_by, entry_of, said_of, says, Nothing, Improper}
+use Rattle.sum_engine.specs.Grammar.{named, spelled, raw_of, name_of, entry_by, entry_of, said_of, says, Improper}
 use Rattle.sum_engine.specs.Judging.{said_by, Within}
 use Rattle.sum_engine.specs.Laws.{EntryIs}
 use Rattle.sum_engine.proofs.UnescapeOf.{name_is, is_name}

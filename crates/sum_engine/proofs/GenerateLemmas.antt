@@ -1,21 +1,16 @@
 -- Hashing one name, where its line was cut off.
-use Rattle.std.proofs.Common.{◌≡◌, ℕ, ◌||◌, Bool, true, false, List, [], ◌∷◌, Option, None, Some, Result, Ok, Err, refl, ap, sym, ◌∙◌}
-use Rattle.std.specs.Io.KnownBytes.{Appends}
-use Rattle.std.proofs.KnownBytes.{Appends-nil}
-use Rattle.std.proofs.Math.Bool.{or-false}
+use Rattle.std.proofs.Common.{◌≡◌, ℕ, Bool, List, [], Option, None, Some, Ok, Err, ap, ◌∙◌}
 use Rattle.digest_kinds.specs.Kinds.{KindValue}
 use Rattle.sum_sources.specs.declared.fault.Fault.{Fault}
-use Rattle.sum_sources.specs.Sources.{Reply}
 use Rattle.sum_lines.specs.Sinks.{AppendsFront}
 use Rattle.sum_lines.specs.Lines.{line}
 use Rattle.sum_engine.specs.declared.asking.Asked.{Asked}
 use Rattle.sum_engine.specs.declared.asking.Asked.TheVariants as asked
 use Rattle.sum_engine.specs.declared.settings.Settings.{Settings}
-use Rattle.sum_engine.specs.declared.stop.Stop.TheVariants.{Memory, Write}
-use Rattle.sum_engine.specs.Worlds.{World, is_dash, reply, read, after}
-use Rattle.sum_engine.specs.Outcomes.{Outcome}
-use Rattle.sum_engine.specs.Generation.{generated, generated_by, fault_line}
-use Rattle.sum_engine.specs.Scenes.{Scene, scene_by, Does, Cut, Generates, OutcomeOf}
+use Rattle.sum_engine.specs.declared.stop.Stop.TheVariants.{Write}
+use Rattle.sum_engine.specs.Worlds.{World, reply, read}
+use Rattle.sum_engine.specs.Generation.{generated, fault_line}
+use Rattle.sum_engine.specs.Scenes.{scene_by, Generates}
 use Rattle.sum_engine.specs.Asking.{AskGives, Comes}
 use Rattle.sum_engine.proofs.SceneLemmas.{none_yet, front_of}
 

@@ -1,8 +1,6 @@
 -- A new checker that runs to its end, and one manifest that is asked and checked.
-use Rattle.std.proofs.Common.{◌≡◌, ℕ, zero, suc, ◌+◌, ◌<◌, ◌≤◌, ◌||◌, Bool, true, false, cond, List, [], ◌∷◌, ◌++◌, length, take, Option, None, Some, Result, Ok, Err, IfSome, refl, ap, sym, ◌∙◌, inl, inr, ◌⊎◌, subst, codes}
-use Rattle.std.specs.List.{flat_map, list_any}
+use Rattle.std.proofs.Common.{◌≡◌, ℕ, suc, ◌<◌, ◌||◌, Bool, true, false, cond, List, [], ◌∷◌, ◌++◌, length, Option, None, Some, Result, Ok, Err, refl, ap, sym, ◌∙◌, inl, inr, ◌⊎◌, subst, codes}
 use Rattle.std.specs.Option.{option_map}
-use Rattle.std.specs.Io.KnownBytes.{Appends}
 use Rattle.std.proofs.KnownBytes.{Appends-nil}
 use Rattle.std.proofs.Math.Bool.{or-false}
 use Rattle.sum_sources.specs.declared.fault.Fault.{Fault}
@@ -19,16 +17,15 @@ use Rattle.sum_engine.specs.declared.stop.Stop.{Stop}
 use Rattle.sum_engine.specs.declared.stop.Stop.TheVariants.{Memory, Write}
 use Rattle.sum_engine.specs.declared.summary.Counts.{Counts}
 use Rattle.sum_engine.specs.Worlds.{World, is_dash, reply, after}
-use Rattle.sum_engine.specs.Outcomes.{Outcome}
 use Rattle.sum_engine.specs.Generation.{fault_line}
-use Rattle.sum_engine.specs.Verdicts.{Rules, Judged, asks_of, all_verdicts}
-use Rattle.sum_engine.specs.Reports.{out_of, err_of, counts, end_text, no_counts}
-use Rattle.sum_engine.specs.Checking.{rules_of, checked, checked_by, checked_upto, begun_by}
+use Rattle.sum_engine.specs.Verdicts.{Rules, Judged, all_verdicts}
+use Rattle.sum_engine.specs.Reports.{no_counts}
+use Rattle.sum_engine.specs.Checking.{rules_of, checked_by}
 use Rattle.sum_engine.specs.Scenes.{Scene, scene_by, world_by, Does, Cut, AppendsUpTo}
-use Rattle.sum_engine.specs.Steps.{Now, now_by, StepGives, Wants, start, next_judged, past_lines}
-use Rattle.sum_engine.specs.Runs.{CutOff, BytesPast, WantsAt, RunOf, RunGives, RepliesPast, PlaceOf, CheckOf, CheckGives}
-use Rattle.sum_engine.proofs.WorldLemmas.{after-none, after-append, dash_asked, name_asked}
-use Rattle.sum_engine.proofs.SceneLemmas.{none_yet, front_of, does_both, does_nothing}
+use Rattle.sum_engine.specs.Steps.{Now, now_by, StepGives, Wants, next_judged, past_lines}
+use Rattle.sum_engine.specs.Runs.{CutOff, WantsAt, RunOf, RunGives, CheckOf, CheckGives}
+use Rattle.sum_engine.proofs.WorldLemmas.{after-append, dash_asked, name_asked}
+use Rattle.sum_engine.proofs.SceneLemmas.{none_yet, front_of, does_both}
 use Rattle.sum_engine.proofs.RunLemmas.{outs, errs, asks, Did, did_none, did_more, did_end, did_cut, did_some}
 
 -- a new checker came so far, where its manifest and the scene tell

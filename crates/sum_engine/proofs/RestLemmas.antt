@@ -1,14 +1,14 @@
 -- The verdicts that are left, after one line and the next.
-use Rattle.std.proofs.Common.{◌≡◌, ℕ, zero, suc, ◌+◌, Bool, true, false, cond, List, [], ◌∷◌, ◌++◌, Option, None, Some, refl, ap, sym, ◌∙◌}
+use Rattle.std.proofs.Common.{◌≡◌, ℕ, zero, suc, ◌+◌, Bool, true, false, cond, List, [], ◌∷◌, Option, None, Some, refl, ap, sym, ◌∙◌}
 use Rattle.digest_kinds.specs.declared.algo.Algos.{Algos}
 use Rattle.sum_sources.specs.Contents.{Content}
 use Rattle.sum_sources.specs.ManifestLines.{lines, past_line}
 use Rattle.sum_lines.specs.declared.line_reading.Form.{Form}
 use Rattle.sum_lines.specs.declared.line_reading.Form.TheVariants.{Undecided, Standard, Reversed}
-use Rattle.sum_lines.specs.Entries.{form, form_then, line_form, form_of_parts, form_of_tail, ignored, begins_standard}
+use Rattle.sum_lines.specs.Entries.{form, form_then, line_form, form_of_parts, ignored, begins_standard}
 use Rattle.sum_lines.specs.Scanned.{Parts, tagged_of, plain_of}
-use Rattle.sum_engine.specs.Worlds.{World, after}
-use Rattle.sum_engine.specs.Grammar.{Said, Nothing, said_of, entry_by, entry_of, spelled, raw_of, says}
+use Rattle.sum_engine.specs.Worlds.{after}
+use Rattle.sum_engine.specs.Grammar.{Nothing, said_of, entry_by, entry_of, spelled, raw_of, says}
 use Rattle.sum_engine.specs.Verdicts.{Rules, Judged, judge, asks_of, verdicts}
 use Rattle.sum_engine.specs.Steps.{Now, Handles, next_judged, rest_verdicts, past_lines}
 

@@ -1,5 +1,5 @@
 -- Steps of a new checker, one after another.
-use Rattle.std.proofs.Common.{◌≡◌, ℕ, zero, suc, ◌+◌, ◌<◌, ◌≤◌, Bool, true, false, List, [], ◌∷◌, ◌++◌, length, take, drop, Option, None, Some, refl, ap, sym, ◌∙◌, append_assoc, arith, length-append, zero-add, subst}
+use Rattle.std.proofs.Common.{◌≡◌, ℕ, zero, suc, ◌+◌, Bool, List, [], ◌∷◌, ◌++◌, length, take, drop, refl, ap, sym, ◌∙◌, append_assoc, arith, length-append, zero-add, subst}
 use Rattle.std.specs.List.{flat_map}
 use Rattle.std.proofs.lemmas.List.{append-nil, take_at}
 use Rattle.std.proofs.lemmas.Grind.{flat_map-append}
@@ -14,7 +14,7 @@ use Rattle.sum_engine.specs.Worlds.{after}
 use Rattle.sum_engine.specs.Reports.{out_of, err_of, counts, counted, end_text, good}
 use Rattle.sum_engine.specs.Scenes.{Scene, Does, Cut}
 use Rattle.sum_engine.specs.Steps.{Now, Handles, Ends, next_judged, next_out, next_err, next_asks, rest_verdicts, start, past_lines}
-use Rattle.sum_engine.specs.Runs.{CutOff, HandledTimes, Joined, StepsJoin, StepsEnd, StepsCut}
+use Rattle.sum_engine.specs.Runs.{CutOff, HandledTimes, StepsJoin, StepsEnd, StepsCut}
 use Rattle.sum_engine.proofs.SceneLemmas.{does_nothing, does_both, cut_after}
 use Rattle.sum_engine.proofs.RestLemmas.{rest_head, rest_none, rest_on, past_next, past_ending}
 use Rattle.sum_engine.proofs.CountLemmas.{counts_more}

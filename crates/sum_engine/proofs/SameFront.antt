@@ -1,10 +1,8 @@
 -- What comes behind a line has no part in what the line says.
-use Rattle.std.proofs.Common.{◌≡◌, ℕ, suc, ◌+◌, Bool, true, false, cond, List, [], ◌∷◌, ◌++◌, length, take, Option, None, Some, refl, ap, sym, ◌∙◌}
-use Rattle.digest_kinds.specs.Kinds.{KindValue}
+use Rattle.std.proofs.Common.{◌≡◌, ℕ, suc, ◌+◌, false, List, [], ◌∷◌, ◌++◌, length, take, Option, None, Some, refl, ap, sym, ◌∙◌}
 use Rattle.digest_kinds.specs.declared.algo.Algos.{Algos}
 use Rattle.sum_lines.specs.declared.line_reading.Form.{Form}
-use Rattle.sum_lines.specs.declared.line_reading.Form.TheVariants.{Undecided, Standard, Reversed}
-use Rattle.sum_lines.specs.Shapes.{Plain}
+use Rattle.sum_lines.specs.declared.line_reading.Form.TheVariants.{Undecided}
 use Rattle.sum_lines.specs.Entries.{form, form_then, line_form, form_of_parts, form_of_tail, ignored, begins_standard}
 use Rattle.sum_lines.specs.Scanned.{Parts, tagged_of, plain_of}
 use Rattle.sum_lines.proofs.EntryLemmas.{form-append}

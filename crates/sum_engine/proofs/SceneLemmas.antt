@@ -1,13 +1,12 @@
 -- What was done at a scene, one thing after another.
-use Rattle.std.proofs.Common.{◌≡◌, ℕ, ◌||◌, Bool, true, false, List, [], ◌∷◌, ◌++◌, Option, None, Some, refl, ap, sym, ◌∙◌, append_assoc}
+use Rattle.std.proofs.Common.{◌≡◌, ℕ, ◌||◌, Bool, true, false, List, [], ◌++◌, Option, refl, ap, sym, ◌∙◌, append_assoc}
 use Rattle.std.specs.List.{list_any}
 use Rattle.std.specs.Io.KnownBytes.{Appends}
 use Rattle.std.proofs.KnownBytes.{Appends-nil, Appends-trans}
 use Rattle.std.proofs.Math.Bool.{or-false}
-use Rattle.std.proofs.lemmas.List.{append-nil}
 use Rattle.std.proofs.lemmas.List.Folds.{list_any-append}
 use Rattle.sum_lines.specs.Sinks.{AppendsFront}
-use Rattle.sum_engine.specs.Worlds.{World, is_dash, after}
+use Rattle.sum_engine.specs.Worlds.{is_dash, after}
 use Rattle.sum_engine.specs.Scenes.{Scene, Does, Cut, AppendsUpTo}
 use Rattle.sum_engine.proofs.WorldLemmas.{after-none, after-append}
 

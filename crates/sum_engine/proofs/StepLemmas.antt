@@ -1,11 +1,8 @@
 -- One step of a checker, by what its parts did.
-use Rattle.std.proofs.Common.{◌≡◌, ℕ, ◌+◌, ◌≤◌, ◌<◌, ◌||◌, Bool, true, false, List, [], ◌∷◌, ◌++◌, length, Option, None, Some, Result, Ok, Err, refl, ap, sym, ◌∙◌}
+use Rattle.std.proofs.Common.{◌≡◌, ℕ, ◌+◌, ◌≤◌, ◌||◌, Bool, List, [], length, Option, None, Some, Ok, Err, refl, ap, sym, ◌∙◌}
 use Rattle.std.specs.List.{list_any}
 use Rattle.std.specs.Io.KnownBytes.{Appends}
-use Rattle.std.proofs.KnownBytes.{Appends-nil}
-use Rattle.std.proofs.Math.Bool.{or-false}
 use Rattle.sum_sources.specs.declared.fault.Fault.{Fault}
-use Rattle.sum_sources.specs.declared.fault.Ending.TheVariants.{Whole, Broken}
 use Rattle.sum_sources.specs.declared.lines.Next.TheVariants.{Line, NoMore}
 use Rattle.sum_sources.specs.declared.lines.LineStop.TheVariants as line_stops
 use Rattle.sum_sources.specs.Contents.{Content, WhereTold}
@@ -13,17 +10,17 @@ use Rattle.sum_sources.specs.ManifestLines.{LineOf}
 use Rattle.sum_lines.specs.declared.line_reading.Form.{Form}
 use Rattle.sum_lines.specs.Entries.{form_then, line_form}
 use Rattle.sum_lines.specs.Sinks.{AppendsFront}
-use Rattle.sum_engine.specs.declared.progress.Progress.TheVariants.{Going, Ended}
+use Rattle.sum_engine.specs.declared.progress.Progress.TheVariants.{Going}
 use Rattle.sum_engine.specs.declared.stop.Stop.{Stop}
 use Rattle.sum_engine.specs.declared.stop.Stop.TheVariants.{Memory, Write}
 use Rattle.sum_engine.specs.declared.summary.Counts.{Counts}
 use Rattle.sum_engine.specs.declared.verdict.Judgement.{Judgement}
-use Rattle.sum_engine.specs.Worlds.{World, is_dash, after}
+use Rattle.sum_engine.specs.Worlds.{World, is_dash}
 use Rattle.sum_engine.specs.Generation.{fault_line}
 use Rattle.sum_engine.specs.Grammar.{Said, says}
-use Rattle.sum_engine.specs.Verdicts.{Rules, Judged, judge}
-use Rattle.sum_engine.specs.Reports.{out_by, err_by, counted, summary, good}
-use Rattle.sum_engine.specs.Scenes.{Scene, scene_by, Does, Cut, AppendsUpTo}
+use Rattle.sum_engine.specs.Verdicts.{Rules, judge}
+use Rattle.sum_engine.specs.Reports.{out_by, err_by, counted, summary}
+use Rattle.sum_engine.specs.Scenes.{Scene, scene_by, AppendsUpTo}
 use Rattle.sum_engine.specs.Judging.{JudgeGives, judgement_asks}
 use Rattle.sum_engine.specs.Steps.{now_by, StepGives, HandleGives}
 use Rattle.sum_engine.proofs.WorldLemmas.{after-none}

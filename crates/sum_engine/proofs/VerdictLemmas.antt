@@ -13,8 +13,8 @@ use Rattle.sum_engine.specs.declared.verdict.Judgement.{Judgement}
 use Rattle.sum_engine.specs.declared.verdict.Verdict.{Verdict}
 use Rattle.sum_engine.specs.declared.verdict.Verdict.TheVariants.{Bad, Right, Wrong, Missing, Unread}
 use Rattle.sum_engine.specs.Worlds.{World, is_dash, reply, read, after}
-use Rattle.sum_engine.specs.Grammar.{Said, Spells}
-use Rattle.sum_engine.specs.Verdicts.{Rules, Judged, judge, verdict_of, not_found, against, asks_by}
+use Rattle.sum_engine.specs.Grammar.{Spells}
+use Rattle.sum_engine.specs.Verdicts.{Rules, Judged, verdict_of, not_found, against, asks_by}
 use Rattle.sum_engine.specs.Asking.{AskGives, Comes}
 use Rattle.sum_engine.specs.Judging.{JudgeGives, compared}
 

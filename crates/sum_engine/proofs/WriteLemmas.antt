@@ -1,5 +1,5 @@
 -- One text and then another.
-use Rattle.std.proofs.Common.{◌≡◌, ℕ, ◌<◌, List, ◌++◌, length, Option, Result, Ok, Err, ap, sym, ◌∙◌, append_assoc, arith, length-append}
+use Rattle.std.proofs.Common.{◌≡◌, ℕ, List, ◌++◌, Option, Result, Ok, Err, ap, sym, ◌∙◌, append_assoc, arith, length-append}
 use Rattle.std.specs.Io.KnownBytes.{Appends}
 use Rattle.std.proofs.KnownBytes.{Appends-trans}
 use Rattle.sum_lines.specs.Sinks.{AppendsFront, Writes, after_failure}

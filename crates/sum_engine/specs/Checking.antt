@@ -51,4 +51,5 @@ begun_by r name w k (Given c) = begun_content r name (take k (all_verdicts r w (
 -- were handled
 abbrev pub checked_upto : CheckSettings → List ℕ → World → List ℕ → ℕ → Outcome
 checked_upto settings tool w name zero = record { out = []; err = []; asks = []; good = false }
-checked_upto settings tool w name (suc k) = begun_by (rules_of settings tool name) name (after w (name ∷ [])) k (reply w name)
+checked_upto settings tool w name (suc k) =
+    begun_by (rules_of settings tool name) name (after w (name ∷ [])) k (reply w name)

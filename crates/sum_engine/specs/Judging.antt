@@ -1,7 +1,6 @@
 -- Joins what the code finds of a line to what the line says, and to its verdict.
-use Rattle.std.specs.Prelude.{ℕ, ◌≡◌, ◌≤◌, ◌-◌, Bool, List, [], ◌∷◌, length, take, drop, slice_range, Option, None, Some, ⊤, if◌then◌else◌}
+use Rattle.std.specs.Prelude.{ℕ, ◌≡◌, ◌≤◌, Bool, List, length, slice_range, Option, None, Some, ⊤, if◌then◌else◌}
 use Rattle.std.specs.Str.{bytes_eq}
-use Rattle.sum_sources.specs.declared.fault.Fault.{Fault}
 use Rattle.sum_sources.specs.declared.fault.Fault.TheVariants.{NotFound, Denied, Other}
 use Rattle.sum_lines.specs.declared.line_reading.Reading.{Reading}
 use Rattle.sum_lines.specs.declared.line_reading.Reading.TheVariants as readings
@@ -18,7 +17,8 @@ use Rattle.sum_engine.specs.Verdicts.{Rules, judge, asks_by}
 abbrev pub said_by : List ℕ → Reading → Said
 said_by line readings.Ignored = Nothing
 said_by line readings.Bad = Improper
-said_by line (readings.Entry kind digest start stop) = Spells (record { algo = kind.algo; digest = digest; name = slice_range line start stop })
+said_by line (readings.Entry kind digest start stop) =
+    Spells (record { algo = kind.algo; digest = digest; name = slice_range line start stop })
 
 -- the name stands in the line, and the digest is as long as the kind's
 abbrev pub Within : List ℕ → Reading → Type 0
@@ -43,4 +43,5 @@ JudgeGives r None v x j = ⊤
 JudgeGives r (Some w) None x j = ⊥
 JudgeGives r (Some w) (Some v) x None = v ≡ w
 JudgeGives r (Some w) (Some v) x (Some j) =
-    ((n : ℕ) → judge r w n x ≡ record { number = n; verdict = j.verdict; name = j.name.now }) × (v ≡ after w (judgement_asks j))
+    ((n : ℕ) → judge r w n x ≡ record { number = n; verdict = j.verdict; name = j.name.now })
+    × (v ≡ after w (judgement_asks j))

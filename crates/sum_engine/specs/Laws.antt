@@ -1,5 +1,5 @@
 -- What the laws of checking say.
-use Rattle.std.specs.Prelude.{ℕ, ◌≡◌, ◌↔◌, ◌+◌, Bool, false, List, [], ◌∷◌, ◌++◌, length, take, Some}
+use Rattle.std.specs.Prelude.{ℕ, ◌≡◌, ◌↔◌, Bool, false, List, ◌∷◌, ◌++◌, length, take, Some}
 use Rattle.digest_kinds.specs.Kinds.{KindValue}
 use Rattle.digest_kinds.specs.declared.algo.Algos.{Algos}
 use Rattle.sum_lines.specs.declared.line_reading.Form.{Form}
@@ -18,12 +18,13 @@ EntryIs = (algos : Algos) (f : Form) (line : List ℕ) (s : Spelled) → ignored
 -- what comes behind a line has no part in its entry
 abbrev pub SameEntry : Type 0
 SameEntry = (algos : Algos) (before later others : List (List ℕ)) (line : List ℕ) → ignored line ≡ false
-    → entry_of algos (form algos (before ++ (line ∷ later))) line ≡ entry_of algos (form algos (before ++ (line ∷ others))) line
+    → entry_of algos (form algos (before ++ (line ∷ later))) line
+    ≡ entry_of algos (form algos (before ++ (line ∷ others))) line
 
 -- nor in the form behind a plain line
 abbrev pub SameForm : Type 0
-SameForm = (algos : Algos) (before later others : List (List ℕ)) (line : List ℕ) (e : Bool) (kind : KindValue) (d tail : List ℕ)
-    → ignored line ≡ false → Plain algos line e kind d tail
+SameForm = (algos : Algos) (before later others : List (List ℕ)) (line : List ℕ)
+    → (e : Bool) (kind : KindValue) (d tail : List ℕ) → ignored line ≡ false → Plain algos line e kind d tail
     → form algos (before ++ (line ∷ later)) ≡ form algos (before ++ (line ∷ others))
 
 -- nor in the verdicts up to it, whatever was asked before, where both manifests or neither came from standard input

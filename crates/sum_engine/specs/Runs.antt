@@ -1,14 +1,13 @@
 -- Joins a checker's steps to a whole manifest.
-use Rattle.std.specs.Prelude.{ℕ, zero, suc, ◌≡◌, ◌+◌, ◌≤◌, ◌⊎◌, ◌<◌, Bool, List, [], ◌∷◌, ◌++◌, take, drop, length, flat_map, Option, None, Some, Result, Ok, Err, ⊤}
+use Rattle.std.specs.Prelude.{ℕ, zero, suc, ◌≡◌, ◌+◌, ◌⊎◌, ◌<◌, Bool, List, ◌++◌, take, drop, length, flat_map, Option, None, Some, Result, Ok, Err, ⊤}
 use Rattle.sum_sources.specs.Contents.{Content, clip}
-use Rattle.sum_sources.specs.ManifestLines.{lines, past_line}
+use Rattle.sum_sources.specs.ManifestLines.{lines}
 use Rattle.sum_sources.specs.Sources.{Reply, Refused, Given, after_refusal}
 use Rattle.sum_engine.specs.declared.settings.CheckSettings.{CheckSettings}
 use Rattle.sum_engine.specs.declared.stop.Stop.{Stop}
 use Rattle.sum_engine.specs.declared.stop.Stop.TheVariants.{Memory, Write}
-use Rattle.sum_engine.specs.Worlds.{World, reply}
-use Rattle.sum_engine.specs.Outcomes.{Outcome}
-use Rattle.sum_engine.specs.Verdicts.{Rules, Judged, asks_of, all_verdicts}
+use Rattle.sum_engine.specs.Worlds.{reply}
+use Rattle.sum_engine.specs.Verdicts.{Rules, asks_of, all_verdicts}
 use Rattle.sum_engine.specs.Reports.{out_of, err_of, counts, end_text, good}
 use Rattle.sum_engine.specs.Checking.{checked, checked_upto}
 use Rattle.sum_engine.specs.Scenes.{Scene, Does, Cut}
@@ -16,7 +15,8 @@ use Rattle.sum_engine.specs.Steps.{Now, Handles, Ends, start, past_lines, next_o
 
 -- these names were asked and a front of each text was written, and these are a front of what a whole run comes to
 abbrev pub CutOff : Scene → Scene → List ℕ → List ℕ → List (List ℕ) → Type 0
-CutOff a b out err asks = (asked : List (List ℕ)) × (rest : List (List ℕ)) × (asks ≡ asked ++ rest) × Cut a b out err asked
+CutOff a b out err asks =
+    (asked : List (List ℕ)) × (rest : List (List ℕ)) × (asks ≡ asked ++ rest) × Cut a b out err asked
 
 -- bytes stand past so many lines
 abbrev pub BytesPast : ℕ → Content → Type 0
@@ -56,13 +56,19 @@ abbrev pub PlaceOf : ℕ → ℕ → ℕ → Reply → Type 0
 PlaceOf n m zero r = m ≡ after_refusal n
 PlaceOf n m (suc k) r = (m ≡ after_refusal n) ⊎ ((m ≡ n) × RepliesPast k r)
 
--- what checking one manifest does: all of its outcome; on a write fault a front of it; on want of memory all up to a place
+-- what checking one manifest does: all of its outcome; on a write fault a front of it; on want of memory all of it up
+-- to a place
 abbrev pub CheckOf : CheckSettings → List ℕ → List ℕ → ℕ → ℕ → Scene → Scene → Result Bool Stop → Type 0
-CheckOf settings tool name n m a b (Ok x) = let o = checked settings tool a.world name in (x ≡ o.good) × Does a b o.out o.err o.asks
-CheckOf settings tool name n m a b (Err Write) = let o = checked settings tool a.world name in CutOff a b o.out o.err o.asks
-CheckOf settings tool name n m a b (Err Memory) = (k : ℕ) × (let o = checked_upto settings tool a.world name k in Does a b o.out o.err o.asks) × PlaceOf n m k (reply a.world name)
+CheckOf settings tool name n m a b (Ok x) =
+    let o = checked settings tool a.world name in (x ≡ o.good) × Does a b o.out o.err o.asks
+CheckOf settings tool name n m a b (Err Write) =
+    let o = checked settings tool a.world name in CutOff a b o.out o.err o.asks
+CheckOf settings tool name n m a b (Err Memory) = (k : ℕ)
+    × (let o = checked_upto settings tool a.world name k in Does a b o.out o.err o.asks)
+    × PlaceOf n m k (reply a.world name)
 
-abbrev pub CheckGives : CheckSettings → List ℕ → List ℕ → ℕ → ℕ → Option Scene → Option Scene → Result Bool Stop → Type 0
+abbrev pub CheckGives : CheckSettings → List ℕ → List ℕ → ℕ → ℕ → Option Scene → Option Scene → Result Bool Stop
+    → Type 0
 CheckGives settings tool name n m None b x = ⊤
 CheckGives settings tool name n m (Some a) None x = ⊥
 CheckGives settings tool name n m (Some a) (Some b) x = CheckOf settings tool name n m a b x
@@ -94,7 +100,8 @@ StepsJoin = (r : Rules) (c : Content) (s : Scene) (b : Now) (k : ℕ) → Handle
 
 -- the step that ends comes after all lines, and all texts are then written
 abbrev pub StepsEnd : Type 0
-StepsEnd = (r : Rules) (c : Content) (s : Scene) (b z : Now) (k : ℕ) (x : Bool) → HandledTimes r (start c s) b k → Ends r b z x
+StepsEnd = (r : Rules) (c : Content) (s : Scene) (b z : Now) (k : ℕ) (x : Bool)
+    → HandledTimes r (start c s) b k → Ends r b z x
     → (k ≡ length (lines c)) × (x ≡ good r c.ending (counts (all_verdicts r s.world c)))
     × Does s z.scene (flat_map (out_of r) (all_verdicts r s.world c))
     (flat_map (err_of r) (all_verdicts r s.world c) ++ end_text r c.ending (counts (all_verdicts r s.world c)))

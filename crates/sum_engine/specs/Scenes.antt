@@ -1,5 +1,5 @@
 -- Joins a call to the definitions: what it works on, and what it did there.
-use Rattle.std.specs.Prelude.{ℕ, ◌≡◌, ◌⊎◌, ◌||◌, Bool, List, [], ◌∷◌, ◌++◌, Option, None, Some, Result, Ok, Err, ⊤, is_none}
+use Rattle.std.specs.Prelude.{ℕ, ◌≡◌, ◌⊎◌, ◌||◌, Bool, List, ◌++◌, Option, None, Some, Result, Ok, Err, ⊤, is_none}
 use Rattle.std.specs.List.{list_any}
 use Rattle.std.specs.Io.KnownBytes.{Appends}
 use Rattle.sum_sources.specs.Contents.{Content}
@@ -31,7 +31,8 @@ abbrev pub scene_by : Option World → Bool → Option (List ℕ) → Option (Li
 scene_by None taken out err = None
 scene_by (Some w) taken out err = Some (record { world = w; taken = taken; out = out; err = err })
 
-abbrev pub scene : {I : Type 0} → (I → Option Content) → Option Telling → Option I → Option (List ℕ) → Option (List ℕ) → Option Scene
+abbrev pub scene : {I : Type 0} → (I → Option Content) → Option Telling → Option I → Option (List ℕ) → Option (List ℕ)
+    → Option Scene
 scene content told stdin out err = scene_by (world content told stdin) (is_none stdin) out err
 
 -- known bytes grow by a front of the text, which may be the whole

@@ -29,11 +29,13 @@ pub record Now : Type 0 where
 abbrev pub now_by : Option Content → ℕ → ℕ → Form → Counts → Option Scene → Option Now
 now_by None n u f c s = None
 now_by (Some rest) n u f c None = None
-now_by (Some rest) n u f c (Some s) = Some (record { rest = rest; number = n; used = u; form = f; counts = c; scene = s })
+now_by (Some rest) n u f c (Some s) =
+    Some (record { rest = rest; number = n; used = u; form = f; counts = c; scene = s })
 
 -- the next line's verdict
 abbrev pub next_judged : Rules → Now → List ℕ → Judged
-next_judged r a l = judge r a.scene.world (a.number + 1) (says r.settings.algo (form_then a.form (line_form r.settings.algo l)) l)
+next_judged r a l =
+    judge r a.scene.world (a.number + 1) (says r.settings.algo (form_then a.form (line_form r.settings.algo l)) l)
 
 -- one line was handled; the line's vector holds this then
 pub record Handles (r : Rules) (a b : Now) (vector : List ℕ) : Type 0 where
@@ -44,7 +46,8 @@ pub record Handles (r : Rules) (a b : Now) (vector : List ℕ) : Type 0 where
   pub number : b.number ≡ a.number + 1
   pub form : b.form ≡ form_then a.form (line_form r.settings.algo line)
   pub counts : b.counts ≡ counted a.counts (next_judged r a line).verdict
-  pub done : Does a.scene b.scene (out_of r (next_judged r a line)) (err_of r (next_judged r a line)) (asks_of (next_judged r a line))
+  pub done : Does a.scene b.scene (out_of r (next_judged r a line)) (err_of r (next_judged r a line))
+      (asks_of (next_judged r a line))
   pub held : length vector ≤ length line
 
 -- the end was handled
@@ -69,7 +72,8 @@ next_asks r a (l ∷ ls) = asks_of (next_judged r a l)
 abbrev pub StepOf : Rules → Now → Now → List ℕ → Result Progress Stop → Type 0
 StepOf r a b held (Ok Going) = Handles r a b held
 StepOf r a b held (Ok (Ended answer)) = Ends r a b answer
-StepOf r a b held (Err Write) = Cut a.scene b.scene (next_out r a (lines a.rest)) (next_err r a (lines a.rest)) (next_asks r a (lines a.rest))
+StepOf r a b held (Err Write) =
+    Cut a.scene b.scene (next_out r a (lines a.rest)) (next_err r a (lines a.rest)) (next_asks r a (lines a.rest))
 StepOf r a b held (Err Memory) = b.scene ≡ a.scene
 
 -- what a step does, where the manifest and the scene tell
@@ -80,7 +84,8 @@ StepGives r (Some a) (Some b) held x = StepOf r a b held x
 
 -- what is still to be found
 abbrev pub rest_verdicts : Rules → Now → List Judged
-rest_verdicts r a = verdicts r (form_then a.form (form r.settings.algo (lines a.rest))) a.scene.world a.number (lines a.rest)
+rest_verdicts r a =
+    verdicts r (form_then a.form (form r.settings.algo (lines a.rest))) a.scene.world a.number (lines a.rest)
 
 -- a new checker
 abbrev pub start : Content → Scene → Now
@@ -97,7 +102,8 @@ HandleOf r j c d a b (Ok u) = (d ≡ counted c j.verdict) × Does a b (out_of r 
 HandleOf r j c d a b (Err Write) = Cut a b (out_of r j) (err_of r j) (asks_of j)
 HandleOf r j c d a b (Err Memory) = b ≡ a
 
-abbrev pub HandleGives : {A : Type 0} → Rules → Form → List ℕ → ℕ → Counts → Counts → Option Scene → Option Scene → Result A Stop → Type 0
+abbrev pub HandleGives : {A : Type 0} → Rules → Form → List ℕ → ℕ → Counts → Counts → Option Scene → Option Scene
+    → Result A Stop → Type 0
 HandleGives r f line n c d None b x = ⊤
 HandleGives r f line n c d (Some a) None x = ⊥
 HandleGives r f line n c d (Some a) (Some b) x = HandleOf r (judge r a.world n (says r.settings.algo f line)) c d a b x

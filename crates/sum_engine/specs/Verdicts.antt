@@ -1,5 +1,5 @@
 -- The verdicts of a manifest's lines.
-use Rattle.std.specs.Prelude.{ℕ, ◌+◌, ◌&&◌, Bool, true, false, List, [], ◌∷◌, codes, Result, Ok, Err, if◌then◌else◌}
+use Rattle.std.specs.Prelude.{ℕ, ◌+◌, ◌&&◌, Bool, true, false, List, [], ◌∷◌, Result, Ok, Err, if◌then◌else◌}
 use Rattle.std.specs.Str.{bytes_eq}
 use Rattle.sum_sources.specs.declared.fault.Fault.{Fault}
 use Rattle.sum_sources.specs.declared.fault.Fault.TheVariants.{NotFound, Denied, Other}

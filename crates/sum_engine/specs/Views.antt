@@ -1,8 +1,7 @@
 -- Joins a checker's fields to where it stands.
-use Rattle.std.specs.Prelude.{ℕ, ◌≡◌, Option, None, Some, Result, Ok, Err}
+use Rattle.std.specs.Prelude.{ℕ, Option, None, Some, Result, Ok, Err}
 use Rattle.sum_sources.specs.Contents.{Content}
 use Rattle.sum_sources.specs.LineReading.{coming, taken_of, used_of, count_of}
-use Rattle.sum_lines.specs.declared.line_reading.Form.{Form}
 use Rattle.sum_engine.specs.declared.checker.Checker.{Checker}
 use Rattle.sum_engine.specs.declared.checker.State.{State}
 use Rattle.sum_engine.specs.declared.checker.State.TheVariants.{Running, Ended, Stopped}

@@ -41,8 +41,8 @@ impl<'a, I: Input> Checker<'a, I> {
     ghost use Rattle.sum_engine.specs.Steps.{now_by, StepGives, HandleGives, Wants};
     ghost use Rattle.sum_engine.specs.Views.{rules_of_checker, now_of, to_come, given_of, handled_of, number_of, answer_of};
 
-    /// A checker of the manifest that `input` gives. In diagnostics the manifest has the name `shown`; `from_stdin` says
-    /// whether it came from standard input, where a line that names `-` is improperly formatted.
+    /// A checker of the manifest that `input` gives. In diagnostics the manifest has the name `shown`; `from_stdin`
+    /// says whether it came from standard input, where a line that names `-` is improperly formatted.
     pub fn new(
         settings: CheckSettings,
         tool: &'a str,
@@ -52,7 +52,8 @@ impl<'a, I: Input> Checker<'a, I> {
     ) -> Self
         ensures rules { rules_of_checker result
             ≡ record { settings = settings; tool = tool.entry.now; shown = shown.entry.now; from_stdin = from_stdin } }
-        ensures now { (s : Option Scene) → now_of I.content result s ≡ now_by (option_map clip (I.content input)) 0 0 Form.Undecided no_counts s }
+        ensures now { (s : Option Scene) → now_of I.content result s
+            ≡ now_by (option_map clip (I.content input)) 0 0 Form.Undecided no_counts s }
         ensures going { answer_of result ≡ None }
         ensures given { given_of result ≡ 0 }
     {
@@ -83,8 +84,8 @@ impl<'a, I: Input> Checker<'a, I> {
     /// ended. `line` is grown for the line; what it held before doesn't matter, and what it holds after isn't said.
     ///
     /// `Stop::Memory` where there was no memory for the line or for opening the file that it names; nothing is then
-    /// written. `Stop::Write` where a write failed; fronts of the texts are then written. After `Ended` and after a stop
-    /// each step answers the same again and writes nothing.
+    /// written. `Stop::Write` where a write failed; fronts of the texts are then written. After `Ended` and after a
+    /// stop each step answers the same again and writes nothing.
     pub fn step<J: Input + Drop, S: Source, O: Sink, E: Sink>(
         &mut self,
         line: &mut Vec<u8>,
@@ -94,12 +95,15 @@ impl<'a, I: Input> Checker<'a, I> {
         err: &mut E,
     ) -> Result<Progress, Stop>
         ensures gives { answer_of self.old ≡ None → StepGives (rules_of_checker self.old)
-            (now_of I.content self.old (scene J.content (S.told source.old) stdin.old (O.written out.old) (E.written err.old)))
-            (now_of I.content self.new (scene J.content (S.told source.new) stdin.new (O.written out.new) (E.written err.new)))
+            (now_of I.content self.old
+            (scene J.content (S.told source.old) stdin.old (O.written out.old) (E.written err.old)))
+            (now_of I.content self.new
+            (scene J.content (S.told source.new) stdin.new (O.written out.new) (E.written err.new)))
             line.new.items result }
         ensures again { IfSome (answer_of self.old) (λ r. (result ≡ r) × (out.new ≡ out.old) × (err.new ≡ err.old)
             × (source.new ≡ source.old) × (stdin.new ≡ stdin.old) × (self.new ≡ self.old)) }
-        ensures wants { answer_of self.old ≡ None → Wants (S.refusals source.old) (S.refusals source.new) (to_come I.content self.old) result }
+        ensures wants { answer_of self.old ≡ None
+            → Wants (S.refusals source.old) (S.refusals source.new) (to_come I.content self.old) result }
         ensures failures { answer_of self.old ≡ None
             → Failures (O.failures out.old) (O.failures out.new) (E.failures err.old) (E.failures err.new) result }
         ensures untouched { result ≡ Err Stop.Memory → (out.new ≡ out.old) × (err.new ≡ err.old) }
@@ -138,11 +142,14 @@ impl<'a, I: Input> Checker<'a, I> {
         requires work { has_stopped self.old.reader ≡ false }
         requires idle { IsRunning self.old.state → ⊥ }
         ensures gives { StepGives (rules_of_checker self.old)
-            (now_of I.content self.old (scene J.content (S.told source.old) stdin.old (O.written out.old) (E.written err.old)))
-            (now_of I.content self.new (scene J.content (S.told source.new) stdin.new (O.written out.new) (E.written err.new)))
+            (now_of I.content self.old
+            (scene J.content (S.told source.old) stdin.old (O.written out.old) (E.written err.old)))
+            (now_of I.content self.new
+            (scene J.content (S.told source.new) stdin.new (O.written out.new) (E.written err.new)))
             line.new.items result }
         ensures wants { Wants (S.refusals source.old) (S.refusals source.new) (to_come I.content self.old) result }
-        ensures failures { Failures (O.failures out.old) (O.failures out.new) (E.failures err.old) (E.failures err.new) result }
+        ensures failures { Failures (O.failures out.old) (O.failures out.new)
+            (E.failures err.old) (E.failures err.new) result }
         ensures untouched { result ≡ Err Stop.Memory → (out.new ≡ out.old) × (err.new ≡ err.old) }
         ensures ahead { OnOk result (given_of self.new ≤ handled_of self.new + 8192) }
         ensures work { result ≡ Ok Progress.Going → has_stopped self.new.reader ≡ false }
@@ -186,10 +193,12 @@ impl<'a, I: Input> Checker<'a, I> {
             (count_of self.old.reader) self.old.counts self.new.counts
             (scene J.content (S.told source.old) stdin.old (O.written out.old) (E.written err.old))
             (scene J.content (S.told source.new) stdin.new (O.written out.new) (E.written err.new)) result }
-        ensures form { self.new.form ≡ form_then self.old.form (line_form self.old.listing.settings.algo line.old.items) }
+        ensures form { self.new.form
+            ≡ form_then self.old.form (line_form self.old.listing.settings.algo line.old.items) }
         ensures held { length line.new.items ≤ length line.old.items }
         ensures refusals { S.refusals source.new ≡ refusals_after (S.refusals source.old) result }
-        ensures failures { Failures (O.failures out.old) (O.failures out.new) (E.failures err.old) (E.failures err.new) result }
+        ensures failures { Failures (O.failures out.old) (O.failures out.new)
+            (E.failures err.old) (E.failures err.new) result }
         ensures untouched { result ≡ Err Stop.Memory → (out.new ≡ out.old) × (err.new ≡ err.old) }
         ensures reader { self.new.reader ≡ self.old.reader }
         ensures state { self.new.state ≡ self.old.state }

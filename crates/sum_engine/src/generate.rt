@@ -29,7 +29,8 @@ pub fn generate_one<I: Input + Drop, S: Source, O: Sink, E: Sink>(
         (scene I.content (S.told source.old) stdin.old (O.written out.old) (E.written err.old))
         (scene I.content (S.told source.new) stdin.new (O.written out.new) (E.written err.new)) result }
     ensures refusals { S.refusals source.new ≡ refusals_after (S.refusals source.old) result }
-    ensures failures { Failures (O.failures out.old) (O.failures out.new) (E.failures err.old) (E.failures err.new) result }
+    ensures failures { Failures (O.failures out.old) (O.failures out.new)
+        (E.failures err.old) (E.failures err.new) result }
     ensures taken { OnOk result (is_none stdin.new ≡ is_none stdin.old || is_dash name.now) }
     ensures untouched { result ≡ Err Stop.Memory → (out.new ≡ out.old) × (err.new ≡ err.old) }
 {

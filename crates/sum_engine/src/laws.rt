@@ -3,8 +3,8 @@ ghost use Rattle.sum_engine.specs.Laws.{EntryIs, SameEntry, SameForm, SameVerdic
 ghost use Rattle.sum_engine.specs.Runs.{StepsJoin, StepsEnd, StepsCut};
 
 /// Steps, one after another, write the reports of a manifest's first lines, ask the names of their entries and use the
-/// bytes up to their end; the step that ends comes after all lines, and all texts are then written; a write fault leaves
-/// fronts of them.
+/// bytes up to their end; the step that ends comes after all lines, and all texts are then written; a write fault
+/// leaves fronts of them.
 pub fn steps_join()
     ensures join { StepsJoin }
     ensures end { StepsEnd }
@@ -16,8 +16,8 @@ pub fn entry_is()
     ensures { EntryIs }
 {}
 
-/// What comes behind a line has no part in its entry, in its verdict after the same asks and, where the line is plain, in
-/// the form.
+/// What comes behind a line has no part in its entry, in its verdict after the same asks and, where the line is plain,
+/// in the form.
 pub fn same_front()
     ensures entry { SameEntry }
     ensures form { SameForm }

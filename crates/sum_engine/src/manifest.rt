@@ -16,11 +16,12 @@ use std::alloc::Global;
 use sum_lines::Sink;
 use sum_sources::{Input, OpenFault, Source, Stdin};
 
-/// Checks the manifest that stands under one name, where `-` is standard input, and answers whether it is good. The reports
-/// of its lines and its summary go to `out` and `err` (coreutils manual, "md5sum invocation", `--check`).
+/// Checks the manifest that stands under one name, where `-` is standard input, and answers whether it is good. The
+/// reports of its lines and its summary go to `out` and `err` (coreutils manual, "md5sum invocation", `--check`).
 ///
-/// `Stop::Memory` where there was no memory for a line, or where the source had none to open a file; what was written is
-/// then the reports of the lines handled so far. `Stop::Write` where a write failed; fronts of the texts are then written.
+/// `Stop::Memory` where there was no memory for a line, or where the source had none to open a file; what was written
+/// is then the reports of the lines handled so far. `Stop::Write` where a write failed; fronts of the texts are then
+/// written.
 pub fn check_one<J: Input + Drop, S: Source, O: Sink, E: Sink>(
     alloc: Global,
     settings: CheckSettings,
@@ -35,7 +36,8 @@ pub fn check_one<J: Input + Drop, S: Source, O: Sink, E: Sink>(
         (scene J.content (S.told source.old) stdin.old (O.written out.old) (E.written err.old))
         (scene J.content (S.told source.new) stdin.new (O.written out.new) (E.written err.new)) result }
     ensures refusals { RefusedOnMemory (S.refusals source.old) (S.refusals source.new) result }
-    ensures failures { Failures (O.failures out.old) (O.failures out.new) (E.failures err.old) (E.failures err.new) result }
+    ensures failures { Failures (O.failures out.old) (O.failures out.new)
+        (E.failures err.old) (E.failures err.new) result }
 {
     if name == DASH {
         let input = stdin.take();
@@ -77,12 +79,14 @@ fn check_input<'a, I: Input + Drop, J: Input + Drop, S: Source, O: Sink, E: Sink
     out: &mut O,
     err: &mut E,
 ) -> Result<bool, Stop>
-    ensures gives { RunGives (record { settings = settings; tool = tool.now; shown = shown.now; from_stdin = from_stdin })
+    ensures gives { RunGives
+        (record { settings = settings; tool = tool.now; shown = shown.now; from_stdin = from_stdin })
         (option_map clip (I.content input)) (S.refusals source.old) (S.refusals source.new)
         (scene J.content (S.told source.old) stdin.old (O.written out.old) (E.written err.old))
         (scene J.content (S.told source.new) stdin.new (O.written out.new) (E.written err.new)) result }
     ensures refusals { RefusedOnMemory (S.refusals source.old) (S.refusals source.new) result }
-    ensures failures { Failures (O.failures out.old) (O.failures out.new) (E.failures err.old) (E.failures err.new) result }
+    ensures failures { Failures (O.failures out.old) (O.failures out.new)
+        (E.failures err.old) (E.failures err.new) result }
 {
     let mut checker = Checker::new(settings, tool, shown, from_stdin, input);
     let mut line = Vec::new(alloc);

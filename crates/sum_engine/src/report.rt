@@ -48,10 +48,12 @@ pub(crate) fn put_report<O: Sink, E: Sink>(
 ) -> Result<(), SinkFault>
     ensures out { MatchResult result
         (λ _. Appends (O.written out.old) (O.written out.new) (out_by listing.now.settings.report verdict name.now))
-        (λ _. AppendsUpTo (O.written out.old) (O.written out.new) (out_by listing.now.settings.report verdict name.now)) }
+        (λ _. AppendsUpTo (O.written out.old) (O.written out.new)
+        (out_by listing.now.settings.report verdict name.now)) }
     ensures err { MatchResult result
         (λ _. Appends (E.written err.old) (E.written err.new) (err_by (rules_in listing.now) number verdict name.now))
-        (λ _. AppendsUpTo (E.written err.old) (E.written err.new) (err_by (rules_in listing.now) number verdict name.now)) }
+        (λ _. AppendsUpTo (E.written err.old) (E.written err.new)
+        (err_by (rules_in listing.now) number verdict name.now)) }
     ensures failures { MatchResult result
         (λ _. Kept (O.failures out.old) (O.failures out.new) (E.failures err.old) (E.failures err.new))
         (λ _. Rose (O.failures out.old) (O.failures out.new) (E.failures err.old) (E.failures err.new)) }
@@ -115,7 +117,8 @@ fn put_err<E: Sink>(
     verdict: Verdict,
     name: &[u8],
 ) -> Result<(), SinkFault>
-    ensures { Writes E.written E.failures err.old err.new (err_by (rules_in listing.now) number verdict name.now) result }
+    ensures { Writes E.written E.failures err.old err.new
+        (err_by (rules_in listing.now) number verdict name.now) result }
 {
     match verdict {
         Verdict::Ignored | Verdict::Right | Verdict::Wrong | Verdict::Missing => Ok(()),

@@ -1,5 +1,4 @@
-use Rattle.std.proofs.Common.{◌≡◌, ◌&&◌, Bool, true, false, slice_range, ap, sym, refl, rules}
-use Rattle.digest_kinds.specs.Kinds.{KindValue}
+use Rattle.std.proofs.Common.{◌≡◌, ◌&&◌, false, slice_range, ap, sym, refl, rules}
 use Rattle.sum_lines.specs.Entries.{Spelled}
 use Rattle.sum_engine.specs.Worlds.{is_dash}
 use Rattle.sum_engine.specs.Listings.{rules_in}
