@@ -6,12 +6,20 @@ use std::alloc::{AllocError, Global};
 use std::env::FillError;
 use std::rt::Env;
 
+/// How long arguments may be that are read at once. A page costs a short run the least.
+const USUAL: usize = 4096;
+
 /// No argument that the system passes on is longer.
 const LONGEST: usize = 128 * 1024;
 
-/// The words could not be read: one isn't UTF-8, or memory is short.
+/// Why the words could not be read.
 #[derive(Clone, Copy, Debug, PartialEq, Eq)]
-pub struct NotRead;
+pub enum NotRead {
+    /// An argument is longer than the buffer.
+    TooLong,
+    /// One isn't UTF-8, or memory is short.
+    Refused,
+}
 
 /// A command line: the tool, where there is one of that name, and the words that are its own.
 #[derive(Drop)]
@@ -23,8 +31,16 @@ pub struct CommandLine {
 /// Reads the command line. The name under which the program was called is the tool's, where it is one;
 /// else the first word is.
 pub fn read_command_line<R: Env + AllocGlobal>(rt: &R) -> Result<CommandLine, NotRead> {
-    let Ok(mut buffer) = zeros(rt.alloc(), LONGEST) else {
-        return Err(NotRead);
+    match read_through(rt, USUAL) {
+        Err(NotRead::TooLong) => read_through(rt, LONGEST),
+        read => read,
+    }
+}
+
+// The command line, read through a buffer of that many bytes.
+fn read_through<R: Env + AllocGlobal>(rt: &R, size: usize) -> Result<CommandLine, NotRead> {
+    let Ok(mut buffer) = zeros(rt.alloc(), size) else {
+        return Err(NotRead::Refused);
     };
     let mut tool = tool_called(rt, &mut buffer)?;
     let mut first = 1;
@@ -50,7 +66,7 @@ fn argument<'a, R: Env>(
     match rt.arg(place, buffer) {
         Ok(len) => Ok(Some(&buffer[..len])),
         Err(FillError::NotPresent) => Ok(None),
-        Err(FillError::TooLong) => Err(NotRead),
+        Err(FillError::TooLong) => Err(NotRead::TooLong),
     }
 }
 
@@ -79,7 +95,7 @@ fn tool_named<R: Env>(rt: &R, buffer: &mut [u8]) -> Result<Option<Tool>, NotRead
     };
     match str::from_utf8(word) {
         Ok(name) => Ok(Tool::from_word(name)),
-        Err(_) => Err(NotRead),
+        Err(_) => Err(NotRead::Refused),
     }
 }
 
@@ -95,11 +111,11 @@ fn words_from<R: Env + AllocGlobal>(
             break;
         };
         let Ok(text) = str::from_utf8(word) else {
-            return Err(NotRead);
+            return Err(NotRead::Refused);
         };
         match words.add(text) {
             Ok(()) => {}
-            Err(NoRoom) => return Err(NotRead),
+            Err(NoRoom) => return Err(NotRead::Refused),
         }
     }
     Ok(words)
