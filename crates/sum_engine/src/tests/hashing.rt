@@ -26,16 +26,17 @@ fn files(rt: HostRuntime) -> Result<(), Fail> {
     let kind = Kind::of(Algo::Md5);
     for (style, name) in [(TEXT, "a"), (TEXT, "e"), (BINARY, "a")] {
         let settings = Settings { kind, style };
-        let answer = generate_one(
-            &settings,
-            "md5sum",
-            name.as_bytes(),
-            &mut stdin,
-            &mut source,
-            &mut out,
-            &mut err,
+        assert!(rt;
+            generate_one(
+                &settings,
+                "md5sum",
+                name.as_bytes(),
+                &mut stdin,
+                &mut source,
+                &mut out,
+                &mut err
+            ) == Ok(true)
         );
-        assert!(rt; answer == Ok(true));
     }
     let lines = "900150983cd24fb0d6963f7d28e17f72  a\n\
         d41d8cd98f00b204e9800998ecf8427e  e\n\
@@ -61,16 +62,17 @@ fn faults(rt: HostRuntime) -> Result<(), Fail> {
         style: TEXT,
     };
     for name in ["f", "x", "", "-"] {
-        let answer = generate_one(
-            &settings,
-            "md5sum",
-            name.as_bytes(),
-            &mut stdin,
-            &mut source,
-            &mut out,
-            &mut err,
+        assert!(rt;
+            generate_one(
+                &settings,
+                "md5sum",
+                name.as_bytes(),
+                &mut stdin,
+                &mut source,
+                &mut out,
+                &mut err
+            ) == Ok(false)
         );
-        assert!(rt; answer == Ok(false));
     }
     let lines = "md5sum: f: Input/output error\n\
         md5sum: x: No such file or directory\n\
@@ -92,16 +94,17 @@ fn stdin_twice(rt: HostRuntime) -> Result<(), Fail> {
         style: TEXT,
     };
     for _ in 0..2 {
-        let answer = generate_one(
-            &settings,
-            "md5sum",
-            b"-",
-            &mut stdin,
-            &mut source,
-            &mut out,
-            &mut err,
+        assert!(rt;
+            generate_one(
+                &settings,
+                "md5sum",
+                b"-",
+                &mut stdin,
+                &mut source,
+                &mut out,
+                &mut err
+            ) == Ok(true)
         );
-        assert!(rt; answer == Ok(true));
     }
     let lines = "900150983cd24fb0d6963f7d28e17f72  -\nd41d8cd98f00b204e9800998ecf8427e  -\n";
     assert_eq!(rt; out.bytes(), lines.as_bytes());
@@ -120,16 +123,17 @@ fn output_stops(rt: HostRuntime) -> Result<(), Fail> {
         kind: Kind::of(Algo::Md5),
         style: TEXT,
     };
-    let answer = generate_one(
-        &settings,
-        "md5sum",
-        b"a",
-        &mut stdin,
-        &mut source,
-        &mut out,
-        &mut err,
+    assert!(rt;
+        generate_one(
+            &settings,
+            "md5sum",
+            b"a",
+            &mut stdin,
+            &mut source,
+            &mut out,
+            &mut err
+        ) == Err(Stop::Write)
     );
-    assert!(rt; answer == Err(Stop::Write));
     assert_eq!(rt; out.bytes(), "900150983c".as_bytes());
     Ok(())
 }
@@ -167,15 +171,16 @@ fn memory_refused(rt: HostRuntime) {
         kind: Kind::of(Algo::Md5),
         style: TEXT,
     };
-    let answer = generate_one(
-        &settings,
-        "md5sum",
-        b"a",
-        &mut stdin,
-        &mut source,
-        &mut out,
-        &mut err,
+    assert!(rt;
+        generate_one(
+            &settings,
+            "md5sum",
+            b"a",
+            &mut stdin,
+            &mut source,
+            &mut out,
+            &mut err
+        ) == Err(Stop::Memory)
     );
-    assert!(rt; answer == Err(Stop::Memory));
     assert!(rt; out.bytes().is_empty() && err.bytes().is_empty());
 }

@@ -23,8 +23,10 @@ fn step_by_step(rt: HostRuntime) -> Result<(), Fail> {
         "a: OK\nx: FAILED open or read\ne: FAILED\n",
     ];
     for text in after {
-        let answer = checker.step(&mut line, &mut stdin, &mut source, &mut out, &mut err);
-        assert!(rt; answer == Ok(Progress::Going));
+        assert!(rt;
+            checker.step(&mut line, &mut stdin, &mut source, &mut out, &mut err)
+                == Ok(Progress::Going)
+        );
         assert_eq!(rt; out.bytes(), text.as_bytes());
     }
     let texts = "md5sum: x: No such file or directory\n\
@@ -32,8 +34,10 @@ fn step_by_step(rt: HostRuntime) -> Result<(), Fail> {
         md5sum: WARNING: 1 listed file could not be read\n\
         md5sum: WARNING: 1 computed checksum did NOT match\n";
     for _ in 0..2 {
-        let answer = checker.step(&mut line, &mut stdin, &mut source, &mut out, &mut err);
-        assert!(rt; answer == Ok(Progress::Ended(false)));
+        assert!(rt;
+            checker.step(&mut line, &mut stdin, &mut source, &mut out, &mut err)
+                == Ok(Progress::Ended(false))
+        );
         assert_eq!(rt; err.bytes(), texts.as_bytes());
     }
     assert!(rt; checker.taken() == 116);
@@ -57,8 +61,10 @@ fn reads_no_further(rt: HostRuntime) -> Result<(), Fail> {
     let mut checker = Checker::new(CHECK, "md5sum", b"l", false, input);
     let mut line = Vec::new(rt.alloc());
     for number in 1..=3 {
-        let answer = checker.step(&mut line, &mut stdin, &mut source, &mut out, &mut err);
-        assert!(rt; answer == Ok(Progress::Going));
+        assert!(rt;
+            checker.step(&mut line, &mut stdin, &mut source, &mut out, &mut err)
+                == Ok(Progress::Going)
+        );
         assert!(rt; line.len() <= 6000, "line {number}");
         assert!(rt; number > 1 || checker.taken() <= 14193);
     }
@@ -80,14 +86,16 @@ fn stops_for_good(rt: HostRuntime) {
     );
     let mut line = Vec::new(rt.alloc());
     for _ in 0..3 {
-        let answer = checker.step(&mut line, &mut stdin, &mut source, &mut out, &mut err);
-        assert!(rt; answer == Err(Stop::Memory));
+        assert!(rt;
+            checker.step(&mut line, &mut stdin, &mut source, &mut out, &mut err)
+                == Err(Stop::Memory)
+        );
         assert!(rt; out.bytes().is_empty() && err.bytes().is_empty());
     }
 }
 
-// The second line is longer than what was grown for the first. Where the growth for it is refused, the report of the
-// first line stands, and each later step answers the same and writes nothing.
+// The second line is longer than what was grown for the first. Where the growth for it is refused, the report of the first
+// line stands, and each later step answers the same and writes nothing.
 #[test]
 fn memory_refused(rt: HostRuntime) -> Result<(), Fail> {
     let mut manifest = Vec::new(rt.alloc());
