@@ -14,7 +14,7 @@ use crate::reading::{Request, read_words};
 use crate::texts::{put_help, put_version};
 use crate::tool::Tool;
 use crate::words::Words;
-use std::alloc::Global;
+use std::alloc::Allocator;
 use sum_engine::{CheckSettings, Settings, Stop, check_one, generate_one};
 use sum_lines::{Sink, SinkFault};
 use sum_sources::{Input, Source, Stdin};
@@ -24,8 +24,8 @@ use sum_sources::{Input, Source, Stdin};
 ///
 /// `Stop::Memory` where memory was refused; the outputs then stand at a place between two operands. `Stop::Write` where
 /// a write failed; each output then holds a front of its text.
-pub fn run<I: Input + Drop, S: Source, O: Sink, E: Sink>(
-    alloc: Global,
+pub fn run<A: Allocator + Copy, I: Input + Drop, S: Source, O: Sink, E: Sink>(
+    alloc: A,
     tool: Tool,
     words: &Words,
     stdin: &mut Stdin<I>,
@@ -93,8 +93,8 @@ pub enum Job {
 }
 
 // One operand.
-fn one<I: Input + Drop, S: Source, O: Sink, E: Sink>(
-    alloc: Global,
+fn one<A: Allocator + Copy, I: Input + Drop, S: Source, O: Sink, E: Sink>(
+    alloc: A,
     job: &Job,
     tool: Tool,
     name: &[u8],
@@ -155,8 +155,8 @@ fn first_name<'a>(operands: &mut Operands<'a>) -> &'a [u8]
 }
 
 // All operands, one after another.
-fn each<I: Input + Drop, S: Source, O: Sink, E: Sink>(
-    alloc: Global,
+fn each<A: Allocator + Copy, I: Input + Drop, S: Source, O: Sink, E: Sink>(
+    alloc: A,
     job: &Job,
     tool: Tool,
     operands: Operands,

@@ -1,12 +1,13 @@
 //! Worked command lines, run over told input and told files into told sinks.
 mod checking;
 mod generating;
+mod hostile;
 mod words;
 
 use crate::run::run;
 use crate::tool::Tool;
 use crate::words::{NoRoom, Words};
-use std::alloc::Global;
+use std::alloc::{Allocator, Global};
 use std::process::Abort;
 use std::test::Fail;
 use sum_engine::Stop;
@@ -52,8 +53,19 @@ fn spelled(alloc: Global, text: &str) -> Result<String, Fail> {
     Ok(all)
 }
 
-// Files that the source has. It has no `x`.
-fn add_files(files: &mut ToldSource) -> Result<(), NoRoom> {
+// Adds files of these names and contents.
+fn add_all<'a, A: Allocator + Copy>(
+    files: &mut ToldSource<'a, A>,
+    all: &[(&[u8], &'a [u8])],
+) -> Result<(), NoRoom> {
+    for (name, content) in all {
+        files.add(name, Answer::Content(content, Ending::Whole))?;
+    }
+    Ok(())
+}
+
+// Adds the files of most rows. There is no `x`.
+fn add_files<A: Allocator + Copy>(files: &mut ToldSource<A>) -> Result<(), NoRoom> {
     let all: [(&[u8], &[u8]); 5] = [
         (b"a", b"abc"),
         (b"e", b""),
@@ -61,10 +73,7 @@ fn add_files(files: &mut ToldSource) -> Result<(), NoRoom> {
         (b"q\\\nz", b"abc"),
         (b"a\rb", b"abc"),
     ];
-    for (name, content) in all {
-        files.add(name, Answer::Content(content, Ending::Whole))?;
-    }
-    Ok(())
+    add_all(files, &all)
 }
 
 // What both outputs of one run hold, and its answer.
@@ -81,7 +90,19 @@ fn run_line(
     alloc: Global,
     line: &str,
     input: Told,
-    files: &mut ToldSource,
+    files: &mut ToldSource<Global>,
+    stops: (usize, usize),
+) -> Result<Run, Fail> {
+    run_line_on(alloc, alloc, line, input, files, stops)
+}
+
+// The same, with the words of the line in memory and all else on a heap.
+fn run_line_on<A: Allocator + Copy>(
+    alloc: Global,
+    heap: A,
+    line: &str,
+    input: Told,
+    files: &mut ToldSource<A>,
     (out_stop, err_stop): (usize, usize),
 ) -> Result<Run, Fail> {
     let mut parts = line.split(' ');
@@ -93,7 +114,7 @@ fn run_line(
     let mut out = ToldSink::new(out_stop);
     let mut err = ToldSink::new(err_stop);
     let answer = run(
-        alloc,
+        heap,
         tool,
         &words,
         &mut Stdin::new(input),
@@ -179,7 +200,7 @@ fn assert_broken(
 }
 
 // That these names and no others were asked.
-fn assert_asked(rt: &impl Abort, files: &ToldSource, names: &[&[u8]]) -> Result<(), Fail> {
+fn assert_asked(rt: &impl Abort, files: &ToldSource<Global>, names: &[&[u8]]) -> Result<(), Fail> {
     for (i, name) in names.iter().enumerate() {
         assert_eq!(rt; files.asked_name(i).ok_or("asked")?, *name);
     }

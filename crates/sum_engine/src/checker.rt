@@ -1,5 +1,6 @@
 //! Checking a manifest, a line at a time.
-ghost use Rattle.std.specs.Prelude.{◌≡◌, ◌≤◌, ◌<◌, ◌^◌, ◌+◌, ◌⊎◌, Ok, Err, Some, None, true, false, OnOk, IfOk, IfSome, IsErr, Option, length};
+ghost use Rattle.std.specs.Prelude.{◌≡◌, ◌≤◌, ◌<◌, ◌^◌, ◌+◌, ◌⊎◌, Ok, Err, Some, None, true, false, Option, length};
+ghost use Rattle.std.specs.Prelude.{OnOk, IfOk, IfSome, IsErr};
 ghost use Rattle.sum_sources.specs.LineReading.{count_of, has_stopped};
 ghost use Rattle.sum_engine.specs.Reports.{total, no_counts};
 ghost use Rattle.sum_engine.specs.States.{IsRunning};
@@ -11,6 +12,7 @@ use crate::settings::CheckSettings;
 use crate::stop::Stop;
 use crate::summary::{Counts, is_good, put_summary};
 use crate::verdict::{judge, read};
+use std::alloc::Allocator;
 use sum_lines::{Form, Sink};
 use sum_sources::{Input, LineReader, LineStop, Next, Source, Stdin};
 
@@ -39,7 +41,8 @@ impl<'a, I: Input> Checker<'a, I> {
     ghost use Rattle.sum_lines.specs.Entries.{form_then, line_form};
     ghost use Rattle.sum_engine.specs.Scenes.{Scene, scene, Failures, refusals_after};
     ghost use Rattle.sum_engine.specs.Steps.{now_by, StepGives, HandleGives, Wants};
-    ghost use Rattle.sum_engine.specs.Views.{rules_of_checker, now_of, to_come, given_of, handled_of, number_of, answer_of};
+    ghost use Rattle.sum_engine.specs.Views.{rules_of_checker, now_of, to_come, given_of, handled_of, number_of};
+    ghost use Rattle.sum_engine.specs.Views.{answer_of};
 
     /// A checker of the manifest that `input` gives. In diagnostics the manifest has the name `shown`; `from_stdin`
     /// says whether it came from standard input, where a line that names `-` is improperly formatted.
@@ -86,9 +89,9 @@ impl<'a, I: Input> Checker<'a, I> {
     /// `Stop::Memory` where there was no memory for the line or for opening the file that it names; nothing is then
     /// written. `Stop::Write` where a write failed; fronts of the texts are then written. After `Ended` and after a
     /// stop each step answers the same again and writes nothing.
-    pub fn step<J: Input + Drop, S: Source, O: Sink, E: Sink>(
+    pub fn step<A: Allocator, J: Input + Drop, S: Source, O: Sink, E: Sink>(
         &mut self,
-        line: &mut Vec<u8>,
+        line: &mut Vec<u8, A>,
         stdin: &mut Stdin<J>,
         source: &mut S,
         out: &mut O,
@@ -131,9 +134,9 @@ impl<'a, I: Input> Checker<'a, I> {
     }
 
     // A step of a checker that has not stopped. Meanwhile its state counts as stopped.
-    fn go<J: Input + Drop, S: Source, O: Sink, E: Sink>(
+    fn go<A: Allocator, J: Input + Drop, S: Source, O: Sink, E: Sink>(
         &mut self,
-        line: &mut Vec<u8>,
+        line: &mut Vec<u8, A>,
         stdin: &mut Stdin<J>,
         source: &mut S,
         out: &mut O,
@@ -178,9 +181,9 @@ impl<'a, I: Input> Checker<'a, I> {
     }
 
     // Handles a line that was read.
-    fn handle<J: Input + Drop, S: Source, O: Sink, E: Sink>(
+    fn handle<A: Allocator, J: Input + Drop, S: Source, O: Sink, E: Sink>(
         &mut self,
-        line: &mut Vec<u8>,
+        line: &mut Vec<u8, A>,
         stdin: &mut Stdin<J>,
         source: &mut S,
         out: &mut O,

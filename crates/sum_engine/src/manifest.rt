@@ -12,7 +12,7 @@ use crate::progress::Progress;
 use crate::report::put_fault_line;
 use crate::settings::CheckSettings;
 use crate::stop::Stop;
-use std::alloc::Global;
+use std::alloc::Allocator;
 use sum_lines::Sink;
 use sum_sources::{Input, OpenFault, Source, Stdin};
 
@@ -22,8 +22,8 @@ use sum_sources::{Input, OpenFault, Source, Stdin};
 /// `Stop::Memory` where there was no memory for a line, or where the source had none to open a file; what was written
 /// is then the reports of the lines handled so far. `Stop::Write` where a write failed; fronts of the texts are then
 /// written.
-pub fn check_one<J: Input + Drop, S: Source, O: Sink, E: Sink>(
-    alloc: Global,
+pub fn check_one<A: Allocator + Copy, J: Input + Drop, S: Source, O: Sink, E: Sink>(
+    alloc: A,
     settings: CheckSettings,
     tool: &str,
     name: &[u8],
@@ -67,8 +67,8 @@ pub fn check_one<J: Input + Drop, S: Source, O: Sink, E: Sink>(
 }
 
 // Checks a manifest that was opened.
-fn check_input<'a, I: Input + Drop, J: Input + Drop, S: Source, O: Sink, E: Sink>(
-    alloc: Global,
+fn check_input<'a, A: Allocator, I: Input + Drop, J: Input + Drop, S: Source, O: Sink, E: Sink>(
+    alloc: A,
     settings: CheckSettings,
     tool: &'a str,
     shown: &'a [u8],

@@ -17,7 +17,8 @@ pub(crate) struct Counts {
     pub bad: u64,
 }
 
-ghost use Rattle.sum_engine.specs.Reports.{list_line, warning, warnings, unverified, summary, good, entries, total, counted, no_counts};
+ghost use Rattle.sum_engine.specs.Reports.{list_line, warning, warnings, unverified, summary, good};
+ghost use Rattle.sum_engine.specs.Reports.{entries, total, counted, no_counts};
 ghost use Rattle.sum_engine.specs.Listings.{rules_in};
 ghost use Rattle.sum_sources.specs.declared.fault.Ending.TheVariants.{Whole};
 

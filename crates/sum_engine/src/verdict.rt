@@ -11,6 +11,7 @@ ghost use Rattle.sum_engine.specs.Scenes.{world};
 use crate::asking::{Asked, DASH, ask};
 use crate::listing::Listing;
 use digest_kinds::{Algos, Digest};
+use std::alloc::Allocator;
 use sum_lines::{Form, Reading, read_line};
 use sum_sources::{Fault, Input, Source, Stdin};
 
@@ -42,7 +43,7 @@ ghost use Rattle.sum_engine.specs.Listings.{rules_in};
 ghost use Rattle.sum_engine.specs.Judging.{said_by, Within, JudgeGives, compared, judgement_asks};
 
 /// Reads a line, in a list of the form that the lines before it have.
-pub(crate) fn read(algos: Algos, form: Form, line: &mut Vec<u8>) -> (Reading, Form)
+pub(crate) fn read<A: Allocator>(algos: Algos, form: Form, line: &mut Vec<u8, A>) -> (Reading, Form)
     ensures form { result.1 ≡ form_then form (line_form algos line.old.items) }
     ensures said { said_by line.new.items result.0 ≡ says algos result.1 line.old.items }
     ensures within { Within line.new.items result.0 }

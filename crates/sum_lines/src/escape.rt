@@ -6,6 +6,7 @@ ghost use Rattle.sum_lines.specs.Escape.{IsEscaped, escape, escape_of, escape_di
 
 use crate::sink::{Sink, SinkFault, put_all};
 use memchr::memchr3;
+use std::alloc::Allocator;
 
 /// Whether the escaped name differs from the name.
 pub fn needs_escape(name: &[u8]) -> bool
@@ -54,7 +55,7 @@ fn put_escape<S: Sink>(sink: &mut S, byte: u8) -> Result<(), SinkFault>
 /// Unescapes the bytes of the line from that place on. True: they were the escape of a name, and are now
 /// that name. False: they are the escape of no name; what stands before the place is as it was, what stands
 /// behind it is open, and the line isn't longer.
-pub fn unescape_in(line: &mut Vec<u8>, from: usize) -> bool
+pub fn unescape_in<A: Allocator>(line: &mut Vec<u8, A>, from: usize) -> bool
     requires { from ≤ vec_len line.old }
     ensures name { (n : List ℕ) → (drop from line.old.items ≡ escape n)
         ↔ ((result ≡ true) × (line.new.items ≡ take from line.old.items ++ n)) }

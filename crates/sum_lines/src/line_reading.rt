@@ -10,6 +10,7 @@ use crate::plain::plain;
 use crate::scanning::LineParts;
 use crate::tagged::tagged;
 use digest_kinds::{Algos, Digest, Kind};
+use std::alloc::Allocator;
 
 /// Where the plain lines of a manifest have their names. The first of them decides.
 #[derive(Clone, Copy, Debug, PartialEq, Eq)]
@@ -42,7 +43,7 @@ pub enum Reading {
 /// Reads a line, without its end, in a manifest whose lines before it have this form, and answers the form with it.
 /// An entry's name, without its escape, is left in the line's vector. An ignored line is left as it is; what a bad one
 /// leaves is open. The vector never gets longer.
-pub fn read_line(algos: Algos, form: Form, line: &mut Vec<u8>) -> (Reading, Form)
+pub fn read_line<A: Allocator>(algos: Algos, form: Form, line: &mut Vec<u8, A>) -> (Reading, Form)
     ensures form { result.1 ≡ form_after algos form line.old.items }
     ensures reads { Reads algos result.1 line.old.items line.new.items result.0 }
     ensures len { vec_len line.new ≤ vec_len line.old }
@@ -88,7 +89,7 @@ fn is_ignored(line: &[u8]) -> bool
 }
 
 // Reads a plain line's tail. The first plain line of a manifest decides the form, whether it is bad or not.
-fn read_tail(form: Form, line: &mut Vec<u8>, found: LineParts) -> (Reading, Form)
+fn read_tail<A: Allocator>(form: Form, line: &mut Vec<u8, A>, found: LineParts) -> (Reading, Form)
     requires ordered { found.start ≤ found.stop }
     requires within { found.stop ≤ length line.old.items }
     ensures form { result.1 ≡ form_then form (form_of_tail (text_of line.old.items found)) }
@@ -125,7 +126,7 @@ fn begins_standard(tail: &[u8]) -> bool
 }
 
 // The entry of the parts, where their text is a raw name that spells a name.
-fn read_name(line: &mut Vec<u8>, found: LineParts) -> Reading
+fn read_name<A: Allocator>(line: &mut Vec<u8, A>, found: LineParts) -> Reading
     requires ordered { found.start ≤ found.stop }
     requires within { found.stop ≤ length line.old.items }
     ensures names { NamesEntry found (text_of line.old.items found) line.new.items result }

@@ -8,10 +8,11 @@ ghost use Rattle.sum_lines.specs.Found.{Names};
 
 use crate::escape::unescape_in;
 use memchr::memchr;
+use std::alloc::Allocator;
 
 /// Leaves the name that the raw name from `start` up to `stop` spells, from `start` up to the line's end. False where
 /// it spells none: it isn't the escape of a name, though a backslash stood in front, or the name holds a NUL.
-pub(crate) fn name_in(line: &mut Vec<u8>, escaped: bool, start: usize, stop: usize) -> bool
+pub(crate) fn name_in<A: Allocator>(line: &mut Vec<u8, A>, escaped: bool, start: usize, stop: usize) -> bool
     requires ordered { start ≤ stop }
     requires within { stop ≤ length line.old.items }
     ensures names { Names escaped (slice_range line.old.items start stop) start line.new.items result }
@@ -21,7 +22,7 @@ pub(crate) fn name_in(line: &mut Vec<u8>, escaped: bool, start: usize, stop: usi
     unspell(line, escaped, start) && !has_nul(&line[start..])
 }
 
-fn unspell(line: &mut Vec<u8>, escaped: bool, start: usize) -> bool
+fn unspell<A: Allocator>(line: &mut Vec<u8, A>, escaped: bool, start: usize) -> bool
     requires { start ≤ length line.old.items }
     ensures name { (n : List ℕ) → (drop start line.old.items ≡ (if escaped then escape n else n))
         ↔ ((result ≡ true) × (line.new.items ≡ take start line.old.items ++ n)) }

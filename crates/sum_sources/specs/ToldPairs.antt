@@ -8,5 +8,5 @@ abbrev pub reply_of : Answer → Reply
 reply_of (answers.Fault f) = Refused f
 reply_of (answers.Content content ending) = Given (record { bytes = content.now; ending = ending })
 
-abbrev pub pair_of : StoredPair → Pair
+abbrev pub pair_of : {A : Type 0} → StoredPair A → Pair
 pair_of p = record { name = p.name.items; reply = reply_of p.answer }

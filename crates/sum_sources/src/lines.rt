@@ -8,7 +8,7 @@ ghost use Rattle.sum_sources.specs.LineStates.{IsReading};
 use crate::{Fault, Input};
 use digest_kinds::LIMIT;
 use memchr::memchr;
-use std::alloc::AllocError;
+use std::alloc::{AllocError, Allocator};
 
 /// What there was to read.
 #[derive(Clone, Copy, Debug, PartialEq, Eq)]
@@ -63,7 +63,7 @@ fn read_front<I: Input>(input: &mut I, buf: &mut [u8], size: usize) -> Result<us
 }
 
 // Drops the one carriage return at the end of the line, where there is one.
-fn drop_return(line: &mut Vec<u8>)
+fn drop_return<A: Allocator>(line: &mut Vec<u8, A>)
     ensures { line.new.items ≡ strip_carriage_return line.old.items }
 {
     if line.last() == Some(&b'\r') {
@@ -151,7 +151,7 @@ impl<I: Input> LineReader<I> {
 
     // Moves the buffer's bytes up to its first newline to the line's end, and drops that newline.
     // False means that there was none, and all bytes were moved.
-    fn take_piece(&mut self, line: &mut Vec<u8>) -> Result<bool, AllocError>
+    fn take_piece<A: Allocator>(&mut self, line: &mut Vec<u8, A>) -> Result<bool, AllocError>
         ensures piece { IfOk result (λ ended.
             TakesPiece ended (buffered self.old) (buffered self.new) line.old.items line.new.items) }
         ensures memory { IsErr result → 0 < length (buffered self.old) }
@@ -182,7 +182,7 @@ impl<I: Input> LineReader<I> {
     }
 
     // Reads the next piece behind an empty line, with its carriage return.
-    fn read_on(&mut self, line: &mut Vec<u8>) -> Result<Next, LineStop>
+    fn read_on<A: Allocator>(&mut self, line: &mut Vec<u8, A>) -> Result<Next, LineStop>
         requires empty { line.old.items ≡ [] }
         requires reading { self.old.state ≡ State.Reading }
         ensures piece { WhereTold (ahead I.content self.old) (coming I.content self.new)
@@ -222,7 +222,7 @@ impl<I: Input> LineReader<I> {
     /// Puts the next line into `line`, without its newline and without the one carriage return
     /// before it. `NoMore` and each `LineStop` is answered again by every later call. What `line`
     /// holds after these isn't said; what it held before doesn't matter.
-    pub fn next_line(&mut self, line: &mut Vec<u8>) -> Result<Next, LineStop>
+    pub fn next_line<A: Allocator>(&mut self, line: &mut Vec<u8, A>) -> Result<Next, LineStop>
         ensures gives { WhereTold (coming I.content self.old) (coming I.content self.new)
             (λ c d. LineOf c d result line.new.items) }
         ensures memory { has_stopped self.old ≡ false → result ≡ Err LineStop.Memory

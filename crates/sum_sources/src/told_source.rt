@@ -5,7 +5,7 @@ ghost use Rattle.sum_sources.specs.Sources.{first_reply, telling_of, OpenGives, 
 ghost use Rattle.sum_sources.specs.ToldPairs.{pair_of, reply_of};
 
 use crate::{Ending, Fault, Input, OpenFault, Source, Told};
-use std::alloc::Global;
+use std::alloc::Allocator;
 use std::marker::Model;
 
 /// What a told source answers for a name.
@@ -22,22 +22,22 @@ pub enum Answer<'a> {
 pub struct NoRoom;
 
 #[derive(Drop)]
-struct StoredPair<'a> {
-    name: Vec<u8>,
+struct StoredPair<'a, A: Allocator> {
+    name: Vec<u8, A>,
     answer: Answer<'a>,
 }
 
 /// A source that answers from pairs of names and answers, and tells them.
 #[derive(Drop)]
-pub struct ToldSource<'a> {
-    pairs: Vec<StoredPair<'a>>,
-    asked: Vec<Vec<u8>>,
-    alloc: Global,
+pub struct ToldSource<'a, A: Allocator + Copy> {
+    pairs: Vec<StoredPair<'a, A>, A>,
+    asked: Vec<Vec<u8, A>, A>,
+    alloc: A,
     piece: usize,
     refusals: u64,
 }
 
-impl<'a> Model for ToldSource<'a> {
+impl<'a, A: Allocator + Copy> Model for ToldSource<'a, A> {
     ghost use Rattle.std.specs.Prelude.{map};
     ghost use Rattle.sum_sources.specs.Sources.{ToldFiles};
     ghost use Rattle.sum_sources.specs.ToldPairs.{pair_of};
@@ -53,7 +53,7 @@ impl<'a> Model for ToldSource<'a> {
 }
 
 /// The answer of the first pair that has the name.
-fn answer_to<'a>(pairs: &[StoredPair<'a>], name: &[u8]) -> Answer<'a>
+fn answer_to<'a, A: Allocator>(pairs: &[StoredPair<'a, A>], name: &[u8]) -> Answer<'a>
     ensures { reply_of result ≡ first_reply (map pair_of pairs.now) name.now }
 {
     for pair in pairs {
@@ -64,9 +64,9 @@ fn answer_to<'a>(pairs: &[StoredPair<'a>], name: &[u8]) -> Answer<'a>
     Answer::Fault(Fault::NotFound)
 }
 
-impl<'a> ToldSource<'a> {
+impl<'a, A: Allocator + Copy> ToldSource<'a, A> {
     /// A source without names, whose files give at most `piece` bytes a read (0 counts as 1).
-    pub fn new(alloc: Global, piece: usize) -> ToldSource<'a>
+    pub fn new(alloc: A, piece: usize) -> ToldSource<'a, A>
         ensures { result ≡ record { pairs = []; asked = []; piece = max piece 1; refusals = 0 } }
     {
         ToldSource {
@@ -122,7 +122,7 @@ impl<'a> ToldSource<'a> {
     }
 }
 
-impl<'a> Source for ToldSource<'a> {
+impl<'a, A: Allocator + Copy> Source for ToldSource<'a, A> {
     type File = Told<'a>;
 
     ghost use Rattle.std.specs.Prelude.{Some};

@@ -4,7 +4,7 @@ use std::test::Fail;
 use sum_sources::{Answer, Ending, Fault, Told, ToldSource};
 
 // A line of each verdict: right, a comment, bad, missing, wrong.
-const VERDICTS: &str = "$M  a\n#c\njunk\n$M *x\n$M  e\n";
+pub(super) const VERDICTS: &str = "$M  a\n#c\njunk\n$M *x\n$M  e\n";
 
 #[test]
 fn verdicts(rt: HostRuntime) -> Result<(), Fail> {

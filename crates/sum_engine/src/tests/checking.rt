@@ -1,7 +1,7 @@
 //! `check_one`.
 use crate::{CheckSettings, Report, check_one};
 use digest_kinds::{Algo, Algos};
-use std::alloc::Global;
+use std::alloc::{Allocator, Global};
 use std::process::Abort;
 use std::test::Fail;
 use sum_lines::ToldSink;
@@ -29,11 +29,11 @@ pub(crate) const ALL: &[u8] = b"900150983cd24fb0d6963f7d28e17f72  a\n\
     900150983cd24fb0d6963f7d28e17f72  e\n";
 
 /// The files `a`, which holds `abc`, and the empty `e`; and a manifest `l`.
-pub(crate) fn files<'a>(
-    alloc: Global,
+pub(crate) fn files<'a, A: Allocator + Copy>(
+    alloc: A,
     manifest: &'a [u8],
     ending: Ending,
-) -> Result<ToldSource<'a>, NoRoom> {
+) -> Result<ToldSource<'a, A>, NoRoom> {
     let mut source = ToldSource::new(alloc, 8192);
     source.add(b"a", Answer::Content(b"abc", Ending::Whole))?;
     source.add(b"e", Answer::Content(b"", Ending::Whole))?;
@@ -47,7 +47,7 @@ fn checks(
     settings: CheckSettings,
     name: &[u8],
     input: &[u8],
-    source: &mut ToldSource,
+    source: &mut ToldSource<Global>,
     want: (bool, &str, &str),
 ) {
     let mut stdin = Stdin::new(Told::new(input, Ending::Whole, 1));

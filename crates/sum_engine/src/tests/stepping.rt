@@ -2,6 +2,8 @@
 use super::checking::{ALL, CHECK, files};
 use super::hashing::Refusing;
 use crate::{Checker, Progress, Stop, check_one};
+use linked_list_allocator::LocalHeap;
+use std::process::Abort;
 use std::test::Fail;
 use sum_lines::ToldSink;
 use sum_sources::{Ending, Stdin, Told};
@@ -94,45 +96,118 @@ fn stops_for_good(rt: HostRuntime) {
     }
 }
 
-// The second line is longer than what was grown for the first. Where the growth for it is refused, the report of the first
-// line stands, and each later step answers the same and writes nothing.
+// The heap has room for the first line and none for the second.
 #[test]
 fn memory_refused(rt: HostRuntime) -> Result<(), Fail> {
-    let mut manifest = Vec::new(rt.alloc());
-    manifest.extend_from_slice(
+    let mut manifest = Vec::from_slice(
+        rt.alloc(),
         b"900150983cd24fb0d6963f7d28e17f72  a\n900150983cd24fb0d6963f7d28e17f72  ",
     )?;
-    for _ in 0..5000 {
-        manifest.push(b'x')?;
-    }
+    let name = vec![in rt.alloc(); b'x'; 5000]?;
+    manifest.extend_from_slice(&name)?;
     let mut source = files(rt.alloc(), b"", Ending::Whole)?;
     let mut stdin = Stdin::new(Told::new(b"", Ending::Whole, 1));
-    let mut out = ToldSink::<6000>::new(6000);
-    let mut err = ToldSink::<6000>::new(6000);
-    let mut checker = Checker::new(
-        CHECK,
-        "md5sum",
-        b"l",
-        false,
-        Told::new(&manifest, Ending::Whole, 8192),
+    let mut out = ToldSink::<100>::new(100);
+    let mut err = ToldSink::<100>::new(100);
+    let input = Told::new(&manifest, Ending::Whole, 8192);
+    let mut checker = Checker::new(CHECK, "md5sum", b"l3", false, input);
+    let heap = LocalHeap::new(rt.alloc(), 256)?;
+    let mut line = Vec::new(&heap);
+    assert!(rt;
+        checker.step(&mut line, &mut stdin, &mut source, &mut out, &mut err) == Ok(Progress::Going)
     );
-    let mut line = Vec::new(rt.alloc());
-    let mut lines: u64 = 0;
-    for _ in 0..4 {
-        match checker.step(&mut line, &mut stdin, &mut source, &mut out, &mut err) {
-            Ok(Progress::Going) => lines = lines.saturating_add(1),
-            Ok(Progress::Ended(good)) => assert!(rt; lines == 2 && !good),
-            Err(stop) => {
+    for _ in 0..3 {
+        assert!(rt;
+            checker.step(&mut line, &mut stdin, &mut source, &mut out, &mut err)
+                == Err(Stop::Memory)
+        );
+        assert_eq!(rt; out.bytes(), b"a: OK\n".as_slice());
+        assert!(rt; err.bytes().is_empty());
+    }
+    Ok(())
+}
+
+// What stands on both outputs after so many lines, and after the end.
+const OUT_AFTER: [&str; 7] = [
+    "",
+    "a: OK\n",
+    "a: OK\n",
+    "a: OK\n",
+    "a: OK\nx: FAILED open or read\n",
+    "a: OK\nx: FAILED open or read\ne: FAILED\n",
+    "a: OK\nx: FAILED open or read\ne: FAILED\n",
+];
+
+const ERR_AFTER: [&str; 7] = [
+    "",
+    "",
+    "",
+    "",
+    "md5sum: x: No such file or directory\n",
+    "md5sum: x: No such file or directory\n",
+    "md5sum: x: No such file or directory\n\
+     md5sum: WARNING: 1 line is improperly formatted\n\
+     md5sum: WARNING: 1 listed file could not be read\n\
+     md5sum: WARNING: 1 computed checksum did NOT match\n",
+];
+
+// Steps over the manifest until well past its end, with the source and the line on a heap of this size, and
+// answers what the last step did. None where the heap has no room for the source.
+fn steps_on(
+    rt: &(impl Abort + AllocGlobal),
+    size: usize,
+) -> Result<Option<Result<Progress, Stop>>, Fail> {
+    let heap = LocalHeap::new(rt.alloc(), size)?;
+    let Ok(mut source) = files(&heap, ALL, Ending::Whole) else {
+        return Ok(None);
+    };
+    let mut stdin = Stdin::new(Told::new(b"", Ending::Whole, 1));
+    let mut out = ToldSink::<1000>::new(1000);
+    let mut err = ToldSink::<1000>::new(1000);
+    let input = Told::new(ALL, Ending::Whole, 8192);
+    let mut checker = Checker::new(CHECK, "md5sum", b"l", false, input);
+    let mut line = Vec::new(&heap);
+    let mut lines: usize = 0;
+    let mut answer = Ok(Progress::Going);
+    for _ in 0..9 {
+        answer = checker.step(&mut line, &mut stdin, &mut source, &mut out, &mut err);
+        let after = match answer {
+            Ok(Progress::Going) => lines.saturating_add(1),
+            Ok(Progress::Ended(_)) => 6,
+            Err(_) => lines,
+        };
+        lines = after;
+        assert_eq!(rt;
+            out.bytes(),
+            OUT_AFTER.get(after).ok_or("lines")?.as_bytes()
+        );
+        assert_eq!(rt;
+            err.bytes(),
+            ERR_AFTER.get(after).ok_or("lines")?.as_bytes()
+        );
+    }
+    Ok(Some(answer))
+}
+
+// On a heap of each size up to one with room for all: a growth that is refused stops the checker between two
+// lines, and it stays stopped.
+#[test]
+fn each_growth_refused(rt: HostRuntime) -> Result<(), Fail> {
+    let mut stops: u64 = 0;
+    for units in 0..256 {
+        match steps_on(&rt, units * 16)? {
+            None => {}
+            Some(Err(stop)) => {
                 assert!(rt; stop == Stop::Memory);
-                let first: &[u8] = b"a: OK\n";
-                let held: &[u8] = if lines == 0 { b"" } else { first };
-                assert!(rt; lines < 2);
-                assert_eq!(rt; out.bytes(), held);
-                assert!(rt; err.bytes().is_empty());
+                stops = stops.saturating_add(1);
+            }
+            Some(Ok(progress)) => {
+                assert!(rt; progress == Progress::Ended(false) && stops > 0);
+                return Ok(());
             }
         }
     }
-    Ok(())
+    Err(Fail::from("no heap had room enough"))
 }
 
 #[test]

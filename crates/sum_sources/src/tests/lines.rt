@@ -1,5 +1,6 @@
 //! `LineReader` over told manifests.
 use crate::{Ending, Fault, Input, LineReader, LineStop, Next, Told};
+use linked_list_allocator::LocalHeap;
 use std::process::Abort;
 use std::test::Fail;
 
@@ -98,5 +99,23 @@ fn long_lines(rt: HostRuntime) -> Result<(), Fail> {
     gives(&rt, &mut reader, &mut line, &long);
     assert!(rt; reader.next_line(&mut line) == Ok(Next::NoMore));
     assert!(rt; reader.taken() == 18_003);
+    Ok(())
+}
+
+// The heap has room for the first line and none for the second.
+#[test]
+fn memory_refused(rt: HostRuntime) -> Result<(), Fail> {
+    let mut content = Vec::from_slice(rt.alloc(), b"one\n")?;
+    let long = vec![in rt.alloc(); b'x'; 5000]?;
+    content.extend_from_slice(&long)?;
+    let heap = LocalHeap::new(rt.alloc(), 256)?;
+    let mut line = Vec::new(&heap);
+    let mut reader = LineReader::new(Told::new(&content, Ending::Whole, 8192));
+    assert!(rt; reader.next_line(&mut line) == Ok(Next::Line));
+    assert_eq!(rt; line.as_slice(), b"one".as_slice());
+    for _ in 0..3 {
+        assert!(rt; reader.next_line(&mut line) == Err(LineStop::Memory));
+    }
+    assert!(rt; reader.lines() == 1);
     Ok(())
 }

@@ -1,5 +1,6 @@
 //! Told and real sources.
-use crate::{Answer, Ending, Fault, Files, Input, OpenFault, Source, ToldSource};
+use crate::{Answer, Ending, Fault, Files, Input, NoRoom, OpenFault, Source, ToldSource};
+use linked_list_allocator::LocalHeap;
 use std::fs;
 use std::test::Fail;
 
@@ -21,6 +22,23 @@ fn told_source(rt: HostRuntime) -> Result<(), Fail> {
         assert_eq!(rt; source.asked_name(i).ok_or("asked")?, name);
     }
     assert!(rt; source.asked_name(4).is_none());
+    Ok(())
+}
+
+// What finds no room on the heap changes nothing.
+#[test]
+fn told_source_without_room(rt: HostRuntime) -> Result<(), Fail> {
+    let heap = LocalHeap::new(rt.alloc(), 1024)?;
+    let long = vec![in rt.alloc(); b'n'; 1024]?;
+    let mut source = ToldSource::new(&heap, 8192);
+    source.add(b"a", Answer::Content(b"abc", Ending::Whole))?;
+    assert!(rt; source.add(&long, Answer::Fault(Fault::Denied)) == Err(NoRoom));
+    assert!(rt; source.open_file(&long).err() == Some(OpenFault::Memory));
+    assert!(rt; source.asked_name(0).is_none());
+    let mut buf = [0; 4];
+    let mut file = source.open_file(b"a").ok().ok_or("a")?;
+    assert!(rt; file.read(&mut buf) == Ok(3));
+    assert_eq!(rt; source.asked_name(0).ok_or("asked")?, b"a".as_slice());
     Ok(())
 }
 

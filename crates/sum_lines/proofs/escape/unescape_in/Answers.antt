@@ -3,7 +3,7 @@ use Rattle.sum_lines.proofs.UnescapeLemmas.{in_place, cut_behind, whole_behind}
 use Rattle.sum_lines.proofs.escape.unescape_in.Goals as goal
 
 pub returns-in-Some-clause-name : goal.returns-in-Some-clause-name
-returns-in-Some-clause-name c =
+returns-in-Some-clause-name g c =
     let same = c.deref_mut.ensures.value in
     let part = whole_behind c.args.line.now.items c.deref_mut.result.now c.args.from same in
     let small : c.in-Some.len ≤ length c.unescape.new.bytes = rw c.unescape.auto.bytes c.in-Some.ensures.len in

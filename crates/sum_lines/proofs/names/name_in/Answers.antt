@@ -3,7 +3,7 @@ use Rattle.sum_lines.proofs.NameLemmas.{Left, names-kept, names-refused, rest_he
 use Rattle.sum_lines.proofs.names.name_in.Goals as goal
 
 pub returns-then-unspell-clause-names : goal.returns-then-unspell-clause-names
-returns-then-unspell-clause-names c =
+returns-then-unspell-clause-names g c =
     let rest : take (length c.deref.result.now - c.args.start) (drop c.args.start c.deref.result.now) ≡ drop
     c.args.start c.unspell.new.line.items =
     rest_here c.deref.result.now c.unspell.new.line.items c.args.start c.deref.ensures.value in
@@ -20,7 +20,7 @@ returns-then-unspell-clause-names c =
     names-kept _ _ _ _ _ _ c.has_nul.result left (rw rest at c.has_nul.ensures.no) (rw rest at c.has_nul.ensures.yes)
 
 pub returns-else-unspell-clause-names : goal.returns-else-unspell-clause-names
-returns-else-unspell-clause-names c =
+returns-else-unspell-clause-names g c =
     let left : Left c.args.escaped c.args.line.now.items c.truncate.new.self.items c.unspell.new.line.items
     c.args.start c.args.stop false =
     record {
