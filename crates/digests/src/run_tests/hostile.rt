@@ -4,12 +4,16 @@ use super::{
     Row, Run, add_all, add_files, assert_as, assert_broken, assert_rows, run_line, run_line_on,
     spelled,
 };
+use crate::run::run;
+use crate::tool::Tool;
+use crate::words::Words;
 use linked_list_allocator::LocalHeap;
 use std::alloc::{Allocator, Global};
 use std::process::Abort;
 use std::test::Fail;
 use sum_engine::Stop;
-use sum_sources::{Answer, Ending, Fault, Told, ToldSource};
+use sum_lines::ToldSink;
+use sum_sources::{Answer, Ending, Fault, Stdin, Told, ToldSource};
 
 // A place between two operands or two lines of a manifest: the texts up to there, and how many names were asked.
 type Place<'a> = (&'a str, &'a str, usize);
@@ -241,6 +245,43 @@ fn nothing_readable(rt: HostRuntime) -> Result<(), Fail> {
         newlines.as_str(),
     ] {
         assert_rows(&rt, "", &[("h", text)], &[row])?;
+    }
+    Ok(())
+}
+
+// The one line, which no newline ends, names a file of nearly 100,000 letters.
+#[test]
+fn long_name(rt: HostRuntime) -> Result<(), Fail> {
+    let name = repeated(rt.alloc(), 'y', 99_966)?;
+    let mut manifest = spelled(rt.alloc(), "$M  ")?;
+    manifest.push_str(name.as_str())?;
+    let mut report = name.clone()?;
+    report.push_str(": FAILED open or read\n")?;
+    let mut warning = String::from_str(rt.alloc(), "md5sum: ")?;
+    warning.push_str(name.as_str())?;
+    warning.push_str(
+        ": No such file or directory\nmd5sum: WARNING: 1 listed file could not be read\n",
+    )?;
+    let mut words = Words::new(rt.alloc());
+    words.add("-c")?;
+    words.add("h")?;
+    for piece in [1, 8192] {
+        let mut files = ToldSource::new(rt.alloc(), piece);
+        files.add(b"h", Answer::Content(manifest.as_bytes(), Ending::Whole))?;
+        let mut stdin = Stdin::new(Told::new(b"", Ending::Whole, piece));
+        let mut out = ToldSink::<100_100>::new(100_100);
+        let mut err = ToldSink::<100_100>::new(100_100);
+        let answer = run(
+            rt.alloc(),
+            Tool::Md5sum,
+            &words,
+            &mut stdin,
+            &mut files,
+            &mut out,
+            &mut err,
+        );
+        assert_eq!(rt; answer, Ok(1));
+        assert!(rt; out.bytes() == report.as_bytes() && err.bytes() == warning.as_bytes());
     }
     Ok(())
 }
