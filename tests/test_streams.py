@@ -1,6 +1,7 @@
 """Standard streams and devices: pipes, terminals, full and closed outputs, closed input, readers that go away, limits
 on files, and very many operands."""
 
+import hashlib
 import os
 import pty
 import subprocess
@@ -46,6 +47,19 @@ class StandardInput(Case):
     def test_closed_and_not_asked_for(self):
         ran = self.run_command(["sh", "-c", 'exec "$0" md5sum a e <&-', harness.PROGRAM])
         self.assertEqual(ran, Ran(0, as_bytes([f"{M}  a", f"{E}  e"]), b""))
+
+    @needs_check
+    def test_closed_and_listed(self):
+        """The manifest's own bytes never stand for those of closed standard input, whatever digest it lists."""
+        behind = b"#" + b"t" * 99 + b"\n"
+        listed = as_bytes([f"{hashlib.md5(behind).hexdigest()}  -"])
+        beyond_the_buffer = listed + b"#" * (8191 - len(listed)) + b"\n" + behind
+        for manifest in (as_bytes([f"{E}  -"]), beyond_the_buffer):
+            with self.subTest(length=len(manifest)):
+                self.write("l", manifest)
+                ran = self.run_command(["sh", "-c", 'exec "$0" md5sum -c l <&-', harness.PROGRAM])
+                err = ["md5sum: -: Input/output error", "md5sum: WARNING: 1 listed file could not be read"]
+                self.assertEqual(ran, Ran(1, b"-: FAILED open or read\n", as_bytes(err)))
 
     def test_only_writable(self):
         with open(self.path("w"), "wb") as file:

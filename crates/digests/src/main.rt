@@ -19,6 +19,7 @@ pub mod words;
 use arguments::{CommandLine, read_command_line};
 use faults::{put_stop, put_unknown};
 use run::run;
+use std::fs;
 use std::io::{BufWriter, IsTerminal, LineWriter, Write};
 use std::process::ExitCode;
 use sum_engine::Stop;
@@ -80,6 +81,9 @@ fn perform_into<W: Write + Drop, E: Write>(
     writer: W,
     err: &mut FromWrite<E>,
 ) -> Result<u8, Stop> {
+    // Where standard input is closed, the first file that is opened gets its number: a folder, which can't be read,
+    // rather than a manifest, whose bytes would stand for those of `-`.
+    let _folder = fs::open(rt, "/");
     let mut out = FromWrite::new(writer);
     let mut stdin = Stdin::new(FromRead::new(rt.stdin()));
     let mut files = Files::new(*rt);
