@@ -12,7 +12,12 @@ use std::alloc::Allocator;
 
 /// Leaves the name that the raw name from `start` up to `stop` spells, from `start` up to the line's end. False where
 /// it spells none: it isn't the escape of a name, though a backslash stood in front, or the name holds a NUL.
-pub(crate) fn name_in<A: Allocator>(line: &mut Vec<u8, A>, escaped: bool, start: usize, stop: usize) -> bool
+pub(crate) fn name_in<A: Allocator>(
+    line: &mut Vec<u8, A>,
+    escaped: bool,
+    start: usize,
+    stop: usize,
+) -> bool
     requires ordered { start ≤ stop }
     requires within { stop ≤ length line.old.items }
     ensures names { Names escaped (slice_range line.old.items start stop) start line.new.items result }

@@ -1,4 +1,3 @@
-use Rattle.sum_engine.specs.Scenes.{scene}
 use Rattle.digests.specs.Tools.{name_of}
 use Rattle.digests.proofs.RunLemmas.{job-generates, job-checks, job-generates-refused, job-checks-refused}
 use Rattle.digests.proofs.run.one.Goals as goal
