@@ -47,9 +47,9 @@ fn stands_at<A: Allocator + Copy>(
     Ok(false)
 }
 
-// Runs the row's line with the file `a`, the empty file `e`, the manifest `l` and its lines on a heap of each size, up to
-// one with room for all. A growth that is refused once the files are there stops the run at a place; the last run
-// does as the row says.
+// Runs the row's line with the file `a`, the empty file `e`, the manifest `l` and its lines on a heap of each size,
+// up to one with room for all. A growth that is refused once the files are there stops the run at a place; the last
+// run does as the row says.
 fn assert_each_growth(
     rt: &(impl Abort + AllocGlobal),
     manifest: &str,
