@@ -1,0 +1,425 @@
+"""The rules of the tools, read once more: what a command line writes and answers, by Python's own means.
+
+It follows the manual and the decisions in `docs/DECISIONS.md` and knows nothing of the crates: where both read a rule
+alike, neither misread it. Files are those of the current folder."""
+
+import errno
+import hashlib
+import os
+import re
+from dataclasses import dataclass
+
+from harness import Ran
+
+# Tool: the tag of its algorithm and the length of its full digest. `anysum` has none of its own.
+ALGORITHMS = {
+    "md5sum": ("MD5", 16),
+    "sha1sum": ("SHA1", 20),
+    "sha224sum": ("SHA224", 28),
+    "sha256sum": ("SHA256", 32),
+    "sha384sum": ("SHA384", 48),
+    "sha512sum": ("SHA512", 64),
+    "b2sum": ("BLAKE2b", 64),
+    "anysum": (None, 0),
+}
+SIZES = {tag: size for tag, size in ALGORITHMS.values() if tag}
+
+NOT_FOUND = b"No such file or directory"
+DENIED = b"Permission denied"
+OTHER = b"Input/output error"
+
+
+# Digests, names and lines
+
+
+def digest(tag, size, content):
+    """The digest of so many bytes, by hashlib."""
+    if tag == "BLAKE2b":
+        return hashlib.blake2b(content, digest_size=size).digest()
+    return hashlib.new(tag.lower(), content).digest()
+
+
+def escape(name):
+    return name.replace(b"\\", b"\\\\").replace(b"\n", b"\\n").replace(b"\r", b"\\r")
+
+
+def unescape(raw):
+    """The name whose escape this is, or None."""
+    if re.fullmatch(rb"(?:[^\\\n\r]|\\[\\nr])*", raw, re.DOTALL) is None:
+        return None
+    return re.sub(rb"\\([\\nr])", lambda found: {b"\\": b"\\", b"n": b"\n", b"r": b"\r"}[found[1]], raw)
+
+
+def mark(name):
+    """The backslash before a name that its escape changes."""
+    return b"" if escape(name) == name else b"\\"
+
+
+def line(mode, zero, tag, name, found):
+    """The line of a name and its digest."""
+    shown, front, end = (name, b"", b"\0") if zero else (escape(name), mark(name), b"\n")
+    digits = found.hex().encode()
+    if mode == "tag":
+        bits = b"" if len(found) == SIZES[tag] else b"-%d" % (8 * len(found))
+        return front + tag.encode() + bits + b" (" + shown + b") = " + digits + end
+    return front + digits + (b" *" if mode == "binary" else b"  ") + shown + end
+
+
+# The lines of a manifest
+
+
+def lines(content):
+    pieces = content.split(b"\n")
+    if not pieces[-1]:
+        pieces.pop()
+    return [piece.removesuffix(b"\r") for piece in pieces]
+
+
+def is_ignored(text):
+    return not text or text.startswith(b"#")
+
+
+def plain(tag, text):
+    """Whether a backslash stood in front, the digest and the tail of a plain line, or None."""
+    found = re.fullmatch(rb"[ \t]*(\\?)([0-9A-Fa-f]+)[ \t](.+)", text, re.DOTALL)
+    if tag is None or found is None:
+        return None
+    count = len(found[2])
+    if count % 2 or not (1 <= count // 2 <= 64 if tag == "BLAKE2b" else count // 2 == SIZES[tag]):
+        return None
+    return bool(found[1]), bytes.fromhex(found[2].decode()), found[3]
+
+
+def tagged(tag, text):
+    """Whether a backslash stood in front, the tag, the digest and the raw name of a tagged line, or None."""
+    for own, size in SIZES.items() if tag is None else [(tag, SIZES[tag])]:
+        bits = rb"(?:-([1-9][0-9]{0,2}))?" if own == "BLAKE2b" else rb"()"
+        shape = rb"[ \t]*(\\?)" + own.encode() + bits + rb" ?\((.+)\)[ \t]*=[ \t]*([0-9A-Fa-f]+)"
+        found = re.fullmatch(shape, text, re.DOTALL)
+        if found is None or found[2] and (int(found[2]) % 8 or int(found[2]) > 512):
+            continue
+        if len(found[4]) == 2 * (int(found[2]) // 8 if found[2] else size):
+            return bool(found[1]), own, bytes.fromhex(found[4].decode()), found[3]
+    return None
+
+
+def is_standard(tail):
+    return len(tail) >= 2 and tail[:1] in (b" ", b"*")
+
+
+def is_reversed(tag, texts):
+    """Whether the first plain line of a manifest has its name right behind the blank."""
+    tails = [plain(tag, text)[2] for text in texts if not is_ignored(text) and plain(tag, text)]
+    return bool(tails) and not is_standard(tails[0])
+
+
+def entry(tag, in_reversed, text):
+    """The tag, the digest and the name of a line, or None where it is improperly formatted."""
+    if tagged(tag, text):
+        escaped, own, found, raw = tagged(tag, text)
+    elif plain(tag, text):
+        own = tag
+        escaped, found, tail = plain(tag, text)
+        if not in_reversed and not is_standard(tail):
+            return None
+        raw = tail if in_reversed else tail[1:]
+    else:
+        return None
+    name = unescape(raw) if escaped else raw
+    return None if name is None or b"\0" in name else (own, found, name)
+
+
+# What can be read
+
+
+@dataclass
+class Fault:
+    """Why a name could not be read, and whether it could not even be opened."""
+
+    text: bytes
+    in_opening: bool
+
+    @staticmethod
+    def of(error, in_opening):
+        texts = {errno.ENOENT: NOT_FOUND, errno.EACCES: DENIED, errno.EPERM: DENIED}
+        return Fault(texts.get(error.errno, OTHER), in_opening)
+
+
+class World:
+    """Standard input, which is given once, and the files of the folder."""
+
+    def __init__(self, stdin):
+        self.stdin = stdin
+
+    def reply(self, name):
+        """The content under a name, or the fault."""
+        if name == b"-":
+            given, self.stdin = self.stdin, b""
+            return given
+        try:
+            file = os.open(name.decode(), os.O_RDONLY)
+        except UnicodeDecodeError:
+            return Fault(OTHER, True)
+        except OSError as error:
+            return Fault.of(error, True)
+        try:
+            return b"".join(iter(lambda: os.read(file, 65536), b""))
+        except OSError as error:
+            return Fault.of(error, False)
+        finally:
+            os.close(file)
+
+
+# What the tools write
+
+
+def generated(tool, options, names, world):
+    """What hashing these names writes and answers."""
+    tag, size = ALGORITHMS[tool]
+    out, err = [], []
+    for name in names:
+        reply = world.reply(name)
+        if isinstance(reply, Fault):
+            err.append(b"%s: %s: %s\n" % (tool.encode(), escape(name), reply.text))
+        else:
+            out.append(line(options.mode, options.zero, tag, name, digest(tag, options.size or size, reply)))
+    return Ran(1 if err else 0, b"".join(out), b"".join(err))
+
+
+class Manifest:
+    """The check of one manifest: what it writes, and whether it is good."""
+
+    def __init__(self, tool, options, name, world):
+        self.options, self.world, self.name = options, world, name
+        self.tag = ALGORITHMS[tool][0]
+        self.shown = tool.encode() + b": " + (b"standard input" if name == b"-" else escape(name)) + b": "
+        self.tool = tool.encode() + b": "
+        self.out, self.err, self.verdicts = [], [], []
+        reply = world.reply(name)
+        if isinstance(reply, Fault):
+            self.err.append(self.shown + reply.text + b"\n")
+            return
+        texts = lines(reply)
+        in_reversed = is_reversed(self.tag, texts)
+        for number, text in enumerate(texts, 1):
+            if not is_ignored(text):
+                self.verdicts.append(self.verdict(number, entry(self.tag, in_reversed, text)))
+        self.summarise()
+
+    def verdict(self, number, found):
+        """The verdict of a line, which is reported."""
+        if found is None or self.name == found[2] == b"-":
+            if self.options.report == "warn":
+                tag = (self.tag or "tagged").encode()
+                self.err.append(self.shown + b"%d: improperly formatted %s checksum line\n" % (number, tag))
+            return "bad"
+        tag, wanted, name = found
+        reply = self.world.reply(name)
+        if isinstance(reply, Fault):
+            if self.options.ignore_missing and reply.in_opening and reply.text == NOT_FOUND:
+                return "missing"
+            self.err.append(self.tool + escape(name) + b": " + reply.text + b"\n")
+            verdict, text = "unread", b"FAILED open or read"
+        elif digest(tag, len(wanted), reply) == wanted:
+            verdict, text = "right", b"OK"
+        else:
+            verdict, text = "wrong", b"FAILED"
+        if self.options.report != "status" and (verdict, self.options.report) != ("right", "quiet"):
+            self.out.append(mark(name) + escape(name) + b": " + text + b"\n")
+        return verdict
+
+    def summarise(self):
+        """The lines at the manifest's end."""
+        if all(verdict == "bad" for verdict in self.verdicts):
+            self.err.append(self.shown + b"no properly formatted checksum lines found\n")
+        elif self.options.report != "status":
+            for verdict, one, many in (
+                ("bad", b"line is improperly formatted", b"lines are improperly formatted"),
+                ("unread", b"listed file could not be read", b"listed files could not be read"),
+                ("wrong", b"computed checksum did NOT match", b"computed checksums did NOT match"),
+            ):
+                count = self.verdicts.count(verdict)
+                if count:
+                    self.err.append(self.tool + b"WARNING: %d %s\n" % (count, one if count == 1 else many))
+            if self.options.ignore_missing and "right" not in self.verdicts:
+                self.err.append(self.shown + b"no file was verified\n")
+
+    def is_good(self):
+        harmful = {"wrong", "unread"} | ({"bad"} if self.options.strict else set())
+        return "right" in self.verdicts and not harmful & set(self.verdicts)
+
+
+def checked(tool, options, names, world):
+    """What checking these manifests writes and answers."""
+    manifests = [Manifest(tool, options, name, world) for name in names]
+    out = b"".join(text for manifest in manifests for text in manifest.out)
+    err = b"".join(text for manifest in manifests for text in manifest.err)
+    return Ran(0 if all(manifest.is_good() for manifest in manifests) else 1, out, err)
+
+
+# The words
+
+NAMES = ["binary", "check", "tag", "text", "zero", "ignore-missing", "quiet", "status", "strict", "warn", "help",
+         "version"]
+LETTERS = {"b": "binary", "c": "check", "t": "text", "z": "zero", "w": "warn"}
+
+
+class WordFault(Exception):
+    """What is wrong with the words."""
+
+
+def shown(text):
+    """What was typed, as a fault shows it."""
+    return escape(text.encode()).decode()
+
+
+class Words:
+    """The options, length values and operands of a command line, in their order, up to the first fault, `--help` or
+    `--version`, which decides."""
+
+    def __init__(self, tool, words):
+        self.tool, self.rest = tool, list(words)
+        self.options, self.lengths, self.operands = [], [], []
+        self.decided = None
+        try:
+            while self.rest and self.decided is None:
+                self.take(self.rest.pop(0))
+        except WordFault as fault:
+            self.decided = fault
+
+    def take(self, word):
+        if word == "--":
+            self.operands += self.rest
+            self.rest = []
+        elif word.startswith("--"):
+            self.take_long(word[2:])
+        elif word.startswith("-") and word != "-":
+            self.take_letters(word[1:])
+        else:
+            self.operands.append(word)
+
+    def take_long(self, text):
+        typed, equals, value = text.partition("=")
+        names = NAMES + ["length"] if self.tool == "b2sum" else NAMES
+        meant = [typed] if typed in names else [name for name in names if name.startswith(typed)]
+        if not meant:
+            raise WordFault(f"unrecognized option '--{shown(typed)}'")
+        if len(meant) > 1:
+            raise WordFault(f"option '--{shown(typed)}' is ambiguous")
+        if meant == ["length"]:
+            self.lengths.append(value if equals else self.next_word("option '--length' requires an argument"))
+        elif equals:
+            raise WordFault(f"option '--{meant[0]}' doesn't allow an argument")
+        else:
+            self.take_option(meant[0])
+
+    def take_letters(self, letters):
+        for place, letter in enumerate(letters, 1):
+            if self.tool == "b2sum" and letter == "l":
+                self.lengths.append(letters[place:] or self.next_word("option requires an argument -- 'l'"))
+                return
+            if letter not in LETTERS:
+                raise WordFault(f"invalid option -- '{shown(letter)}'")
+            self.take_option(LETTERS[letter])
+
+    def take_option(self, name):
+        self.options.append(name)
+        if name in ("help", "version"):
+            self.decided = name
+
+    def next_word(self, fault):
+        if not self.rest:
+            raise WordFault(fault)
+        return self.rest.pop(0)
+
+    def last_of(self, *names):
+        """The last of these options that stands among the words, if there is one."""
+        return ([None] + [option for option in self.options if option in names])[-1]
+
+
+@dataclass
+class Options:
+    """What the options come to. A size of 0 is the algorithm's own."""
+
+    mode: str
+    zero: bool
+    size: int
+    report: str
+    strict: bool
+    ignore_missing: bool
+
+
+def size_asked(lengths):
+    """The digest's length in bytes by the last length value."""
+    if not lengths:
+        return 0
+    value = lengths[-1]
+    if re.fullmatch("[0-9]+", value) is None or int(value) > 512:
+        raise WordFault(f"invalid length: '{shown(value)}'")
+    if int(value) % 8:
+        raise WordFault(f"length is not a multiple of 8: '{shown(value)}'")
+    return int(value) // 8
+
+
+def options_of(words):
+    """What the options come to, or the first of their faults."""
+    has = words.options.__contains__
+    size = size_asked(words.lengths)
+    mode, report, check = words.last_of("binary", "text", "tag"), words.last_of("status", "warn", "quiet"), has("check")
+    meaningful = "option is meaningful only when verifying checksums"
+    for holds, text in (
+        (has("tag") and mode == "text", "--tag does not support --text mode"),
+        (has("zero") and check, "the --zero option is not supported when verifying checksums"),
+        (has("tag") and check, "the --tag option is meaningless when verifying checksums"),
+        ((has("binary") or has("text")) and check,
+         "the --binary and --text options are meaningless when verifying checksums"),
+        (has("ignore-missing") and not check, f"the --ignore-missing {meaningful}"),
+        (report is not None and not check, f"the --{report} {meaningful}"),
+        (has("strict") and not check, f"the --strict {meaningful}"),
+        (words.tool == "anysum" and not check, "--check is required"),
+    ):
+        if holds:
+            raise WordFault(text)
+    return Options("tag" if has("tag") else mode, has("zero"), size, report, has("strict"), has("ignore-missing"))
+
+
+HELP = """\
+  -b, --binary          mark each line as binary
+  -c, --check           read checksums from the FILEs and check them
+{}      --tag             write lines of the tagged form
+  -t, --text            mark each line as text (default)
+  -z, --zero            end each line with NUL and escape no name
+      --ignore-missing  with -c: neither fail nor report for missing files
+      --quiet           with -c: print no OK lines
+      --status          with -c: print no report
+      --strict          with -c: fail for improperly formatted lines
+  -w, --warn            with -c: name each improperly formatted line
+      --help            print this text
+      --version         print the version
+"""
+
+
+def help_text(tool):
+    tag = ALGORITHMS[tool][0]
+    what = f"Print or check {tag} checksums." if tag else "Check checksums of tagged lines."
+    length = "  -l, --length=BITS     digest length in bits, a multiple of 8, at most 512\n" if tool == "b2sum" else ""
+    usage = f"Usage: {tool} [OPTION]... [FILE]...\n{what} With no FILE, or when FILE is -, read standard input.\n"
+    return usage + HELP.format(length)
+
+
+def meaning(tool, words, stdin):
+    """What a command line writes and answers, with this on standard input."""
+    read = Words(tool, words)
+    try:
+        if isinstance(read.decided, WordFault):
+            raise read.decided
+        if read.decided == "help":
+            return Ran(0, help_text(tool).encode(), b"")
+        if read.decided == "version":
+            return Ran(0, f"{tool} (digests), profile 2\n".encode(), b"")
+        options = options_of(read)
+    except WordFault as fault:
+        return Ran(1, b"", f"{tool}: {fault}\nTry '{tool} --help' for more information.\n".encode())
+    names = [operand.encode() for operand in read.operands] or [b"-"]
+    does = checked if "check" in read.options else generated
+    return does(tool, options, names, World(stdin))

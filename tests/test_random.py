@@ -1,0 +1,100 @@
+"""Command lines and manifests at random, against the reference: the same ones in every run."""
+
+import os
+import random
+
+import harness
+import reference
+from harness import Case, needs_check
+
+CASES = 1500
+
+# What names are made of: whatever lines, escapes and words treat in a way of their own.
+CHARACTERS = ["a", "b", "n", "r", "0", "f", "é", " ", "\t", "*", "\\", "\n", "\r", "(", ")", "=", "#", "-"]
+
+# What is put into lines in place of a few of their bytes.
+DAMAGE = [b"", b" ", b"  ", b"\t", b"\\", b"*", b"(", b")", b"=", b"#", b"\r", b"\r\r", b"\0", b"\xff", b"n", b"0", b"8",
+          b"F", b"-", b"BLAKE2b-", b"MD5", b"SHA1"]
+
+WORDS = """-b -c -t -z -w -bz -cw -cq -zl -bl256 -l -l8 -l256 -é --tag --check --binary --text --zero --ignore-missing
+    --quiet --status --strict --warn --help --version --length --length=8 --len --le --l --s --st --sta --str --t --te
+    --ta --c --z --w --q --i --b --bin --v --ver --h --he --=x --foo --foo=1 --tag= --tag=1 --help=1 --\\ -- - 256 0
+    512 520 12 0256 +8 ٣ a e x folder manifest""".split() + ["", "9" * 50, "0" * 30 + "8", "-b\n", "--a\nb", "q\\\nz"]
+
+
+class AtRandom(Case):
+    """Each case is run by the program and by the reference, in a folder of names that are hard to write."""
+
+    def setUp(self):
+        super().setUp()
+        self.random = random.Random(20061)
+        os.chdir(self.folder)
+        self.addCleanup(os.chdir, harness.TOP)
+        os.mkdir("folder")
+        self.files = {}
+        for name in ["a", "e", "-b", " a", "*a", "a)", "q\\\nz", "a\rb", *(self.a_text() for _ in range(40))]:
+            if name != "-":
+                self.files[name] = self.random.choice([b"", b"abc", b"q" * self.random.randrange(300)])
+                self.write(name, self.files[name])
+
+    def a_text(self):
+        return "".join(self.random.choices(CHARACTERS, k=self.random.randint(1, 5)))
+
+    def a_name(self):
+        """The name of a file; now and then standard input, a folder, or a name that may not be there."""
+        if self.random.random() < 0.75:
+            return self.random.choice(list(self.files))
+        return self.random.choice(["-", "folder", "x", self.a_text()])
+
+    def a_line(self, tool):
+        """A line of a manifest, mostly right, in some style, and sometimes damaged."""
+        if tool == "anysum" or self.random.random() < 0.1:
+            tool = self.random.choice([tool for tool in reference.ALGORITHMS if tool != "anysum"])
+        tag, size = reference.ALGORITHMS[tool]
+        if tag == "BLAKE2b" and self.random.random() < 0.5:
+            size = self.random.randint(1, 64)
+        name = self.a_name()
+        content = self.files.get(name, b"") + self.random.choice([b""] * 9 + [b"!"])
+        mode = self.random.choice(["text", "binary", "tag", "tag", "reversed"])
+        found = reference.digest(tag, size, content)
+        line = reference.line(mode, False, tag, name.encode(), found).removesuffix(b"\n")
+        if mode == "reversed":
+            line = line.replace(b"  ", b" ", 1)
+        if self.random.random() < 0.2:
+            line = line.replace(found.hex().encode(), found.hex().upper().encode())
+        for _ in range(self.random.choice([0, 0, 0, 1, 1, 2, 3])):
+            start = self.random.randint(0, len(line))
+            line = line[:start] + self.random.choice(DAMAGE) + line[start + self.random.choice([0, 0, 1, 1, 2]):]
+        return line
+
+    def a_manifest(self, tool):
+        text = b""
+        for _ in range(self.random.randrange(7)):
+            other = self.random.choice([b"", b"#c", b"junk", b"\r", b" ", b"\\"])
+            text += self.a_line(tool) if self.random.random() < 0.85 else other
+            text += self.random.choice([b"\n", b"\n", b"\n", b"\r\n"])
+        return text[:-1] if self.random.random() < 0.3 else text
+
+    def compare(self, tool, words):
+        """Runs the words over a new manifest and some standard input."""
+        manifest = self.a_manifest(tool)
+        self.write("manifest", manifest)
+        stdin = self.random.choice([b"", b"abc", b"x" * 9000, self.a_manifest(tool)])
+        expected = reference.meaning(tool, words, stdin)
+        self.assertEqual(self.run_words([tool, *words], stdin), expected, (tool, words, manifest, stdin))
+
+    @needs_check
+    def test_manifests(self):
+        for _ in range(CASES):
+            words = ["-c"]
+            words += self.random.sample(["--ignore-missing", "--strict", "-w", "--quiet", "--status"],
+                                        self.random.choice([0, 0, 1, 1, 2]))
+            words += self.random.choice([["manifest"], ["manifest"], ["manifest"] * 2, [], ["-"], ["folder", "manifest"],
+                                         ["manifest", "x", "-"]])
+            self.compare(self.random.choice(list(reference.ALGORITHMS)), words)
+
+    @needs_check
+    def test_words(self):
+        for _ in range(CASES):
+            words = self.random.choices(WORDS, k=self.random.randrange(6))
+            self.compare(self.random.choice(list(reference.ALGORITHMS)), words)
