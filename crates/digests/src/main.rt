@@ -19,8 +19,9 @@ pub mod words;
 use arguments::{CommandLine, read_command_line};
 use faults::{put_stop, put_unknown};
 use run::run;
-use std::fs;
+use std::fs::{self, File};
 use std::io::{BufWriter, IsTerminal, LineWriter, Write};
+use std::os::fd::AsRawFd;
 use std::process::ExitCode;
 use sum_engine::Stop;
 use sum_lines::{FromWrite, put_all};
@@ -81,9 +82,7 @@ fn perform_into<W: Write + Drop, E: Write>(
     writer: W,
     err: &mut FromWrite<E>,
 ) -> Result<u8, Stop> {
-    // Where standard input is closed, the first file that is opened gets its number: a folder, which can't be read,
-    // rather than a manifest, whose bytes would stand for those of `-`.
-    let _folder = fs::open(rt, "/");
+    let _stand_in = stand_in(rt);
     let mut out = FromWrite::new(writer);
     let mut stdin = Stdin::new(FromRead::new(rt.stdin()));
     let mut files = Files::new(*rt);
@@ -101,5 +100,14 @@ fn perform_into<W: Write + Drop, E: Write>(
         status
     } else {
         status.and(Err(Stop::Write))
+    }
+}
+
+// What stands in for standard input where that is closed. The next file that is opened gets its number: a folder, which
+// can't be read, rather than a manifest, whose bytes would stand for those of `-`.
+fn stand_in(rt: &HostRuntime) -> Option<File> {
+    match fs::open(rt, "/") {
+        Ok(folder) if folder.as_raw_fd() == 0 => Some(folder),
+        _ => None,
     }
 }
