@@ -7,3 +7,4 @@ mod RunLemmas
 mod TextLemmas
 mod Rows
 mod PlainLemmas
+mod WrittenLemmas

@@ -10,3 +10,4 @@ pub mod Runs
 pub mod Texts
 pub mod Shown
 pub mod PlainWords
+pub mod Written

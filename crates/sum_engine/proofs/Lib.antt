@@ -11,3 +11,4 @@ pub mod ManifestLemmas
 pub mod UnescapeOf
 pub mod EntryLemmas
 pub mod SameFront
+pub mod GoodLemmas

@@ -43,6 +43,10 @@ out_by report v name = if hides report v then [] else said_of v name
 abbrev pub out_of : Rules → Judged → List ℕ
 out_of r j = out_by r.settings.report j.verdict j.name
 
+-- of a name whose file has the digest that its line gives
+abbrev pub right_line : Report → List ℕ → List ℕ
+right_line report name = out_by report Right name
+
 abbrev pub tag_word : Algos → List ℕ
 tag_word (One a) = tag a
 tag_word Any = codes "tagged"

@@ -17,15 +17,16 @@ use Rattle.digest_kinds.specs.declared.algo.Algos.{Algos}
 use Rattle.digest_kinds.specs.declared.algo.Algos.TheVariants.{One, Any}
 use Rattle.sum_lines.specs.declared.line_reading.Form.{Form}
 use Rattle.sum_lines.specs.declared.line_reading.Form.TheVariants.{Undecided, Standard, Reversed}
+use Rattle.sum_lines.specs.declared.written.Mode.{Mode}
 use Rattle.sum_lines.specs.declared.written.Mode.TheVariants as modes
 use Rattle.sum_lines.specs.Escape.{escape, escape_differs}
 use Rattle.sum_lines.specs.Lines as written
 use Rattle.sum_lines.specs.Shapes.{is_blank, mark, Width, Allows, Plain, Tagged}
-use Rattle.sum_lines.specs.Entries.{ignored, begins_standard, Decides, Spells, Spelled, kind_of, ByTail, Entry, form_then, line_form, form}
+use Rattle.sum_lines.specs.Entries.{ignored, begins_standard, Decides, Spells, Spelled, kind_of, ByTag, ByTail, Entry, form_then, line_form, form}
 use Rattle.sum_lines.specs.Laws.{ReadBy, Writable, SpellsBack, ReadBack}
 use Rattle.sum_lines.proofs.TaggedLemmas.{Begins, tag-begins}
-use Rattle.sum_lines.proofs.PlainLemmas.{Digits, digits-of, has_len-some}
-use Rattle.sum_lines.proofs.EntryLemmas.{one_entry, decides-form, form-append}
+use Rattle.sum_lines.proofs.PlainLemmas.{Digits, digits-of, has_len-some, apart}
+use Rattle.sum_lines.proofs.EntryLemmas.{one_entry, decides-form, decides-or, form-alone, form-append}
 use Rattle.sum_lines.proofs.InlineLemmas.{Inline, inline, Inline-by_test, Inline-escape, Inline-hex, Inline-mark, Inline-tag, Inline-test, Inline-width, escape-some}
 
 -- ---- the parts of a written line
@@ -68,6 +69,10 @@ line-tag Blake2b n h = elim (eqb_tells n 64) [
   | inl same ↦ full-tag _ same.0
   | inr other ↦ bits-tag _ other.0 refl h
 ]
+
+-- a line that ends with a newline, without it
+abbrev pub front_of : Mode → KindValue → List ℕ → List ℕ → List ℕ
+front_of mode kind name digest = written.mark name ++ written.form_of mode kind (escape name) (encode_lower digest)
 
 -- ---- what is written spells its name
 
@@ -138,6 +143,15 @@ form-after algos before later line h (inl u) = form-append algos before (line �
 form-after algos before later line h (inr u) = form-append algos before (line ∷ later)
     ∙ ap (λ f. form_then f (form algos (line ∷ later))) u
 
+-- a line that decides nothing leaves the form as it is
+form-kept : (algos : Algos) (before : List (List ℕ)) (line : List ℕ) → line_form algos line ≡ Undecided
+    → (form algos before ≡ Undecided) ⊎ (form algos before ≡ Standard)
+    → (form algos (before ++ (line ∷ [])) ≡ Undecided) ⊎ (form algos (before ++ (line ∷ [])) ≡ Standard)
+form-kept algos before line h (inl u) = inl (form-append algos before (line ∷ [])
+    ∙ ap (λ f. form_then f (form algos (line ∷ []))) u ∙ form-alone algos line ∙ h)
+form-kept algos before line h (inr u) =
+    inr (form-append algos before (line ∷ []) ∙ ap (λ f. form_then f (form algos (line ∷ []))) u)
+
 abbrev spelled : KindValue → List ℕ → List ℕ → Spelled
 spelled kind name digest = record { algo = kind.algo; digest = digest; name = name }
 
@@ -173,10 +187,10 @@ tagged_line kind width name digest =
     mark (escape_differs name)
     ++ (tag kind.algo ++ (width ++ (32 ∷ 40 ∷ (escape name ++ (41 ∷ 32 ∷ 61 ∷ 32 ∷ encode_lower digest)))))
 
-tagged-entry : (algos : Algos) (kind : KindValue) (width name digest : List ℕ) (f : Form) → Allows algos kind.algo
+tagged-by : (algos : Algos) (kind : KindValue) (width name digest : List ℕ) → Allows algos kind.algo
     → Width kind width → Writable kind name digest
-    → Entry escape algos f (tagged_line kind width name digest) (spelled kind name digest)
-tagged-entry algos kind width name digest f fine is w =
+    → ByTag escape algos (tagged_line kind width name digest) (spelled kind name digest)
+tagged-by algos kind width name digest fine is w =
     let s = escape-some name w.some in
     let space : AllPass is_blank (32 ∷ []) =
     All-cons (λ b. is_blank b ≡ true) 32 [] refl (All-nil (λ b. is_blank b ≡ true)) in
@@ -199,23 +213,37 @@ tagged-entry algos kind width name digest f fine is w =
       spelled = decode_of-encode_lower digest w.bytes;
       size = w.size;
       whole = refl;
-    } in (
-      not_ignored (escape_differs name) (tag kind.algo) _ (tag-begins kind.algo),
-      inl (record {
-        escaped = escape_differs name;
-        raw = escape name;
-        tagged =
-            subst K (kind-is kind name digest w) by;
-        spells = spells kind name digest w;
-      }),
-    )
+    } in
+    record {
+      escaped = escape_differs name;
+      raw = escape name;
+      tagged =
+          subst K (kind-is kind name digest w) by;
+      spells = spells kind name digest w;
+    }
+
+tagged-entry : (algos : Algos) (kind : KindValue) (width name digest : List ℕ) (f : Form) → Allows algos kind.algo
+    → Width kind width → Writable kind name digest
+    → Entry escape algos f (tagged_line kind width name digest) (spelled kind name digest)
+tagged-entry algos kind width name digest f fine is w = (
+  not_ignored (escape_differs name) (tag kind.algo) _ (tag-begins kind.algo),
+  inl (tagged-by algos kind width name digest fine is w),
+)
+
+-- a tagged line is no plain one, and decides nothing
+tagged-mute : (algos : Algos) (line : List ℕ) (s : Spelled) → ByTag escape algos line s → line_form algos line ≡ Undecided
+tagged-mute algos line s by = elim (decides-or algos line) [
+  | inl d ↦ absurd (apart algos algos line d.escaped by.escaped d.kind (kind_of s) d.digest s.digest d.tail by.raw d.plain by.tagged)
+  | inr mute ↦ mute.0
+]
 
 -- ---- the law
 
 back : (algos : Algos) (before later : List (List ℕ)) (kind : KindValue) (name digest front : List ℕ)
     → All Inline front → Entry escape algos (form algos (before ++ (front ∷ later))) front (spelled kind name digest)
+    → (form algos (before ++ (front ∷ [])) ≡ Undecided) ⊎ (form algos (before ++ (front ∷ [])) ≡ Standard)
     → SpellsBack algos before later (front ++ (10 ∷ [])) kind name digest
-back algos before later kind name digest front one entry =
+back algos before later kind name digest front one entry keeps =
     let f : Form = form algos (before ++ (front ∷ later)) in
     let P : Spelled → Type 0 = Entry escape algos f front in
     record {
@@ -224,6 +252,7 @@ back algos before later kind name digest front one entry =
       one_line = one;
       spells =
           λ s. (λ e. one_entry algos f front s (spelled kind name digest) e entry, λ e. subst P (sym e) entry);
+      keeps = keeps;
     }
 
 Inline-digits : (kind : KindValue) (name digest : List ℕ) → Writable kind name digest → All Inline (encode_lower digest)
@@ -262,6 +291,7 @@ plain-back x kind name digest before later w h in-line u =
     let d = decides-form algos l Standard (plain-decides x kind name digest w h) in
     back algos before later kind name digest l (Inline-plain x kind name digest w in-line)
     (plain-entry x kind name digest (form algos (before ++ (l ∷ later))) w h (form-after algos before later l d.0 u))
+    (inr (form-after algos before [] l d.0 u))
 
 -- a plain line as it is written
 plain-text : (x : ℕ) (name digest : List ℕ)
@@ -302,17 +332,20 @@ tagged-text kind t name digest =
 
 tagged-back : (algos : Algos) (kind : KindValue) (name digest : List ℕ) (before later : List (List ℕ))
     → Allows algos kind.algo → Writable kind name digest
+    → (form algos before ≡ Undecided) ⊎ (form algos before ≡ Standard)
     → SpellsBack algos before later
     ((written.mark name ++ (written.line_tag kind
     ++ (32 ∷ 40 ∷ (escape name ++ (41 ∷ 32 ∷ 61 ∷ 32 ∷ (encode_lower digest ++ [])))))) ++ (10 ∷ [])) kind name
     digest
-tagged-back algos kind name digest before later fine w =
+tagged-back algos kind name digest before later fine w u =
     let t : LineTag kind = line-tag kind.algo kind.len w.has in
     let l : List ℕ = tagged_line kind t.width name digest in
     let T : List ℕ → Type 0 = λ x. SpellsBack algos before later x kind name digest in
     subst T (sym (tagged-text kind t name digest))
     (back algos before later kind name digest l (Inline-tagged kind t.width name digest t.is_width w)
-    (tagged-entry algos kind t.width name digest (form algos (before ++ (l ∷ later))) fine t.is_width w))
+    (tagged-entry algos kind t.width name digest (form algos (before ++ (l ∷ later))) fine t.is_width w)
+    (form-kept algos before l
+    (tagged-mute algos l (spelled kind name digest) (tagged-by algos kind t.width name digest fine t.is_width w)) u))
 
 text-reads : (algos : Algos) (algo : Algo) → ReadBy algos modes.Text algo → algos ≡ One algo
 text-reads (One a) algo h = ap One h
@@ -332,4 +365,4 @@ read_back algos modes.Text kind name digest before later by w u =
 read_back algos modes.Binary kind name digest before later by w u =
     plain-back-any algos 42 kind name digest before later (binary-reads algos kind.algo by) w refl refl u
 read_back algos modes.Tag kind name digest before later by w u =
-    tagged-back algos kind name digest before later (tag-reads algos kind.algo by) w
+    tagged-back algos kind name digest before later (tag-reads algos kind.algo by) w u

@@ -1,5 +1,5 @@
 -- What the laws of the line grammar say.
-use Rattle.std.specs.Prelude.{ℕ, ◌≡◌, ◌≢◌, ◌<◌, ◌↔◌, ◌⊎◌, Bool, false, List, ◌∷◌, ◌++◌, length, codes, IsTrue}
+use Rattle.std.specs.Prelude.{ℕ, ◌≡◌, ◌≢◌, ◌<◌, ◌↔◌, ◌⊎◌, Bool, false, List, [], ◌∷◌, ◌++◌, length, codes, IsTrue}
 use Rattle.std.specs.List.{All}
 use Rattle.hex.specs.Hex.{IsBytes}
 use Rattle.digest_kinds.specs.Kinds.{KindValue, has_len}
@@ -42,7 +42,7 @@ pub record Writable (kind : KindValue) (name digest : List ℕ) : Type 0 where
   pub size : length digest ≡ kind.len
   pub has : IsTrue (has_len kind.algo kind.len)
 
--- what stands before the newline spells that entry, and no other
+-- what stands before the newline spells that entry, and no other; behind it the form is Undecided or Standard still
 pub record SpellsBack (algos : Algos) (before later : List (List ℕ)) (text : List ℕ) (kind : KindValue)
     (name digest : List ℕ) : Type 0 where
   pub front : List ℕ
@@ -50,6 +50,7 @@ pub record SpellsBack (algos : Algos) (before later : List (List ℕ)) (text : L
   pub one_line : All (λ b. (b ≢ 10) × (b ≢ 13)) front
   pub spells : (s : Spelled) → Entry escape algos (form algos (before ++ (front ∷ later))) front s
       ↔ (s ≡ record { algo = kind.algo; digest = digest; name = name })
+  pub keeps : (form algos (before ++ (front ∷ [])) ≡ Undecided) ⊎ (form algos (before ++ (front ∷ [])) ≡ Standard)
 
 -- a line that is written without zero is read back, in a list whose form is Undecided or Standard before it
 abbrev pub ReadBack : Type 0

@@ -1,0 +1,5 @@
+use Rattle.digests.proofs.WrittenLemmas.{joined_is_good}
+use Rattle.digests.proofs.laws.joined_is_good.Goals as goal
+
+pub returns : goal.returns
+returns c = joined_is_good

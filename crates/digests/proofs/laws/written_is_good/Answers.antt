@@ -1,0 +1,5 @@
+use Rattle.digests.proofs.WrittenLemmas.{written_is_good}
+use Rattle.digests.proofs.laws.written_is_good.Goals as goal
+
+pub returns : goal.returns
+returns c = written_is_good
