@@ -1,5 +1,5 @@
 -- What generation writes is good under checking.
-use Rattle.std.proofs.Common.{◌≡◌, ℕ, ◌<◌, ◌^◌, false, cond, List, [], ◌∷◌, ◌++◌, length, map, refl, ap, sym, ◌∙◌, subst, length-append, arith, Ok}
+use Rattle.std.proofs.Common.{◌≡◌, ℕ, ◌<◌, false, List, [], ◌∷◌, ◌++◌, length, map, refl, ap, sym, ◌∙◌, subst, length-append, arith, Ok}
 use Rattle.std.specs.Prelude.{flat_map}
 use Rattle.std.specs.List.{All}
 use Rattle.std.proofs.lemmas.Bool.{cond-false}
@@ -9,7 +9,7 @@ use Rattle.std.proofs.lemmas.List.Elements.{All-nil, All-cons, All-head, All-tai
 use Rattle.digest_kinds.specs.Digests.{digest}
 use Rattle.digest_kinds.specs.declared.algo.Algos.{Algos}
 use Rattle.sum_sources.specs.declared.fault.Ending.TheVariants.{Whole}
-use Rattle.sum_sources.specs.Contents.{Content, clip, limit}
+use Rattle.sum_sources.specs.Contents.{Content, limit}
 use Rattle.sum_sources.specs.Sources.{Reply, Refused, Given}
 use Rattle.sum_sources.proofs.ContentLemmas.{limit-value, clip-short}
 use Rattle.sum_lines.specs.Lines.{line}
@@ -17,7 +17,6 @@ use Rattle.sum_engine.specs.declared.settings.Settings.{Settings}
 use Rattle.sum_engine.specs.declared.settings.CheckSettings.{CheckSettings}
 use Rattle.sum_engine.specs.declared.settings.Report.{Report}
 use Rattle.sum_engine.specs.Worlds.{World, is_dash, reply, after, ended, read}
-use Rattle.sum_engine.specs.Outcomes.{Outcome}
 use Rattle.sum_engine.specs.Generation.{generated, generated_by}
 use Rattle.sum_engine.specs.Reports.{right_line}
 use Rattle.sum_engine.proofs.GoodLemmas.{Item, text_of, Listed, manifest_good}
@@ -63,8 +62,8 @@ lines-are s tool answer (name ∷ names) w e newlines all =
     let h : Listable answer name = All-head (Listable answer) name names all in
     let next : World = after w (generated s tool w name).asks in
     let first : (generated s tool w name).out ≡ text_of (item answer s name) =
-        line-is w s tool name newlines (subst (λ a. Listable a name) (sym e) h)
-        ∙ ap (λ a. text_of (item a s name)) e in
+    line-is w s tool name newlines (subst (λ a. Listable a name) (sym e) h)
+    ∙ ap (λ a. text_of (item a s name)) e in
     ap (λ t. t ++ (all_of (generated s tool) next names).out) first
     ∙ ap (λ t. text_of (item answer s name) ++ t)
     (lines-are s tool answer names next e newlines (All-tail (Listable answer) name names all))
@@ -116,8 +115,8 @@ found : (check : CheckSettings) (tool manifest : Text) (v : World) (is : List It
     → IsGood check tool v manifest names
 found check tool manifest v is names text all s same some fits given =
     let f = manifest_good check tool manifest v is all (rw (sym s.count) at some)
-        (subst (λ t. length t < limit) (sym same) fits)
-        (given ∙ ap (λ t. Given (record { bytes = t; ending = Whole })) (sym same)) in
+    (subst (λ t. length t < limit) (sym same) fits)
+    (given ∙ ap (λ t. Given (record { bytes = t; ending = Whole })) (sym same)) in
     record { good = f.good; out = f.out ∙ s.lines; err = f.err }
 
 one-run : (algos : Algos) (w v : World) (g : Written) → Checkable algos w v g

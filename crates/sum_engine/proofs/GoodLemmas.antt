@@ -1,5 +1,5 @@
 -- A manifest of lines that were written for whole files is good.
-use Rattle.std.proofs.Common.{◌≡◌, ◌≢◌, ◌==◌, ℕ, suc, ◌+◌, ◌-◌, ◌<◌, ◌^◌, Bool, true, false, not, cond, List, [], ◌∷◌, ◌++◌, length, map, refl, ap, sym, ◌∙◌, subst, append_assoc, arith, ◌⊎◌, inl, inr, IsTrue, Ok}
+use Rattle.std.proofs.Common.{◌≡◌, ◌≢◌, ◌==◌, ℕ, suc, ◌+◌, ◌-◌, ◌<◌, Bool, true, false, not, cond, List, [], ◌∷◌, ◌++◌, length, map, refl, ap, sym, ◌∙◌, subst, append_assoc, arith, ◌⊎◌, inl, inr, IsTrue, Ok}
 use Rattle.std.specs.Prelude.{◌&&◌, ◌||◌, flat_map, slice_index}
 use Rattle.std.specs.List.{All, sum_by}
 use Rattle.std.specs.Str.Lines.{strip_carriage_return}
@@ -23,7 +23,7 @@ use Rattle.sum_lines.specs.Entries.{Spelled, kind_of, Entry, ignored, form}
 use Rattle.sum_lines.specs.Laws.{ReadBy, Writable}
 use Rattle.sum_lines.proofs.WrittenLemmas.{front_of, read_back}
 use Rattle.sum_sources.specs.declared.fault.Ending.TheVariants.{Whole}
-use Rattle.sum_sources.specs.Contents.{Content, clip, limit}
+use Rattle.sum_sources.specs.Contents.{Content, limit}
 use Rattle.sum_sources.specs.Sources.{Reply, Given}
 use Rattle.sum_sources.specs.ManifestLines.{NoNewline, joined, lines, pieces}
 use Rattle.sum_sources.proofs.ContentLemmas.{limit-value, clip-short}
@@ -36,7 +36,7 @@ use Rattle.sum_engine.specs.declared.verdict.Verdict.{Verdict}
 use Rattle.sum_engine.specs.declared.verdict.Verdict.TheVariants.{Right, Bad, Missing}
 use Rattle.sum_engine.specs.Worlds.{World, is_dash, reply, after, ended, read}
 use Rattle.sum_engine.specs.Outcomes.{Outcome}
-use Rattle.sum_engine.specs.Grammar.{Said, Nothing, Spells, said_of, entry_of, says}
+use Rattle.sum_engine.specs.Grammar.{Nothing, Spells, said_of, entry_of, says}
 use Rattle.sum_engine.specs.Verdicts.{Rules, Judged, not_found, against, verdict_of, judge, asks_of, verdicts, all_verdicts}
 use Rattle.sum_engine.specs.Reports.{out_of, err_of, right_line, is_right, is_wrong, is_missing, is_unread, is_bad, counts, entries, list_line, unless_status, summary, good}
 use Rattle.sum_engine.specs.Checking.{rules_of, checked_content, checked_by, checked}
@@ -101,9 +101,9 @@ back : (algos : Algos) (answer : List ℕ → Reply) (before later : List (List 
     → Steady algos before → Back algos before later (spelled i) (front i)
 back algos answer before later i h u =
     let s = read_back algos i.mode i.kind i.name (digest i.kind i.bytes) before later h.read_by
-        (writable algos answer i h) u in
+    (writable algos answer i h) u in
     let same : s.front ≡ front i =
-        append_cancel_right s.front (front i) (10 ∷ []) (sym s.whole ∙ text-front i) in
+    append_cancel_right s.front (front i) (10 ∷ []) (sym s.whole ∙ text-front i) in
     subst (Back algos before later (spelled i)) same (s.one_line, (s.spells (spelled i)).1 refl, s.keeps)
 
 -- ---- the lines of the whole text
@@ -166,7 +166,7 @@ lines-are algos answer is all =
     let make : List ℕ → Content = λ bytes. record { bytes = bytes; ending = Whole } in
     let bytes : flat_map text_of is ≡ joined (map front is) [] = texts is ∙ sym (append-nil _) in
     let cut : pieces (make (joined (map front is) [])) ≡ map front is ++ [] =
-        pieces-joined Whole (map front is) [] (no-newlines algos answer is all) (All-nil (λ b. (b == 10) ≡ false)) in
+    pieces-joined Whole (map front is) [] (no-newlines algos answer is all) (All-nil (λ b. (b == 10) ≡ false)) in
     ap (map strip_carriage_return) (ap (λ b. pieces (make b)) bytes ∙ cut ∙ append-nil (map front is))
     ∙ strips algos answer is all
 
@@ -226,8 +226,8 @@ judged : (r : Rules) (w : World) (n : ℕ) (f : Form) (i : Item) → Listed r.se
 judged r w n f i h e =
     let algos : Algos = r.settings.algo in
     let spells : says algos f (front i) ≡ Spells (spelled i) =
-        cond-false (ignored (front i)) Nothing (said_of (entry_of algos f (front i))) e.0
-        ∙ ap said_of (entry_value algos f (front i) (spelled i) e) in
+    cond-false (ignored (front i)) Nothing (said_of (entry_of algos f (front i))) e.0
+    ∙ ap said_of (entry_value algos f (front i) (spelled i) e) in
     let make : Verdict → Judged = λ v. record { number = n; verdict = v; name = i.name } in
     ap (judge r w n) spells ∙ ap make (verdict-right r w i h)
 
@@ -242,13 +242,13 @@ right-verdicts r answer before (i ∷ is) w n e u all =
     let b = back algos answer before later i h u in
     let f : Form = form algos (before ++ (front i ∷ later)) in
     let first : judge r w (n + 1) (says algos f (front i)) ≡ right (n + 1) i =
-        judged r w (n + 1) f i (subst (λ a. Listed algos a i) (sym e) h) b.1 in
+    judged r w (n + 1) f i (subst (λ a. Listed algos a i) (sym e) h) b.1 in
     let next : World = after w (i.name ∷ []) in
     let rest : verdicts r f next (n + 1) later ≡ rights (n + 1) is =
-        subst (λ g. verdicts r (form algos g) next (n + 1) later ≡ rights (n + 1) is)
-        (append_assoc before (front i ∷ []) later)
-        (right-verdicts r answer (before ++ (front i ∷ [])) is next (n + 1) e b.2
-        (All-tail (Listed algos answer) i is all)) in
+    subst (λ g. verdicts r (form algos g) next (n + 1) later ≡ rights (n + 1) is)
+    (append_assoc before (front i ∷ []) later)
+    (right-verdicts r answer (before ++ (front i ∷ [])) is next (n + 1) e b.2
+    (All-tail (Listed algos answer) i is all)) in
     ap (λ j. j ∷ verdicts r f (after w (asks_of j)) (n + 1) later) first ∙ ap (λ js. right (n + 1) i ∷ js) rest
 
 -- ---- what is reported, and the end
@@ -285,8 +285,13 @@ abbrev right_counts : ℕ → Counts
 right_counts k = record { right = k; wrong = 0; missing = 0; unread = 0; bad = 0 }
 
 counts-are : (n : ℕ) (is : List Item) → counts (rights n is) ≡ right_counts (length is)
-counts-are n is = rw (count-all is_right n is refl, count-none is_wrong n is refl, count-none is_missing n is refl,
-    count-none is_unread n is refl, count-none is_bad n is refl) refl
+counts-are n is = rw (
+  count-all is_right n is refl,
+  count-none is_wrong n is refl,
+  count-none is_missing n is refl,
+  count-none is_unread n is refl,
+  count-none is_bad n is refl,
+) refl
 
 not-zero : (k : ℕ) → (suc k == 0) ≡ false
 not-zero k = ne_eqb (suc k) 0 (λ e. omega (arith, e))
@@ -304,7 +309,7 @@ silent reports.Status = refl
 no-summary : (r : Rules) (k : ℕ) → summary r (right_counts (suc k)) ≡ []
 no-summary r k =
     let some : (entries (right_counts (suc k)) == 0) ≡ false =
-        ne_eqb (entries (right_counts (suc k))) 0 (λ e. omega (arith, e)) in
+    ne_eqb (entries (right_counts (suc k))) 0 (λ e. omega (arith, e)) in
     let text : List ℕ = list_line r (codes "no file was verified") in
     cond-false (entries (right_counts (suc k)) == 0) _ _ some
     ∙ ap (λ b. unless_status r.settings.report (cond (r.settings.ignore_missing && b) text [])) (not-zero k)
