@@ -5,6 +5,7 @@ import random
 
 import harness
 import reference
+import reference_words
 from harness import Case, needs_check
 
 CASES = 1500
@@ -80,7 +81,7 @@ class AtRandom(Case):
         manifest = self.a_manifest(tool)
         self.write("manifest", manifest)
         stdin = self.random.choice([b"", b"abc", b"x" * 9000, self.a_manifest(tool)])
-        expected = reference.meaning(tool, words, stdin)
+        expected = reference_words.meaning(tool, words, stdin)
         self.assertEqual(self.run_words([tool, *words], stdin), expected, (tool, words, manifest, stdin))
 
     @needs_check

@@ -1,0 +1,172 @@
+"""The rules of the words, read once more: what a command line asks for, and what it writes and answers for that."""
+
+import re
+from dataclasses import dataclass
+
+from harness import Ran
+from reference import ALGORITHMS, World, checked, escape, generated
+
+NAMES = ["binary", "check", "tag", "text", "zero", "ignore-missing", "quiet", "status", "strict", "warn", "help",
+         "version"]
+LETTERS = {"b": "binary", "c": "check", "t": "text", "z": "zero", "w": "warn"}
+
+
+class WordFault(Exception):
+    """What is wrong with the words."""
+
+
+def shown(text):
+    """What was typed, as a fault shows it."""
+    return escape(text.encode()).decode()
+
+
+class Words:
+    """The options, length values and operands of a command line, in their order, up to the first fault, `--help` or
+    `--version`, which decides."""
+
+    def __init__(self, tool, words):
+        self.tool, self.rest = tool, list(words)
+        self.options, self.lengths, self.operands = [], [], []
+        self.decided = None
+        try:
+            while self.rest and self.decided is None:
+                self.take(self.rest.pop(0))
+        except WordFault as fault:
+            self.decided = fault
+
+    def take(self, word):
+        if word == "--":
+            self.operands += self.rest
+            self.rest = []
+        elif word.startswith("--"):
+            self.take_long(word[2:])
+        elif word.startswith("-") and word != "-":
+            self.take_letters(word[1:])
+        else:
+            self.operands.append(word)
+
+    def take_long(self, text):
+        typed, equals, value = text.partition("=")
+        names = NAMES + ["length"] if self.tool == "b2sum" else NAMES
+        meant = [typed] if typed in names else [name for name in names if name.startswith(typed)]
+        if not meant:
+            raise WordFault(f"unrecognized option '--{shown(typed)}'")
+        if len(meant) > 1:
+            raise WordFault(f"option '--{shown(typed)}' is ambiguous")
+        if meant == ["length"]:
+            self.lengths.append(value if equals else self.next_word("option '--length' requires an argument"))
+        elif equals:
+            raise WordFault(f"option '--{meant[0]}' doesn't allow an argument")
+        else:
+            self.take_option(meant[0])
+
+    def take_letters(self, letters):
+        for place, letter in enumerate(letters, 1):
+            if self.tool == "b2sum" and letter == "l":
+                self.lengths.append(letters[place:] or self.next_word("option requires an argument -- 'l'"))
+                return
+            if letter not in LETTERS:
+                raise WordFault(f"invalid option -- '{shown(letter)}'")
+            self.take_option(LETTERS[letter])
+
+    def take_option(self, name):
+        self.options.append(name)
+        if name in ("help", "version"):
+            self.decided = name
+
+    def next_word(self, fault):
+        if not self.rest:
+            raise WordFault(fault)
+        return self.rest.pop(0)
+
+    def last_of(self, *names):
+        """The last of these options that stands among the words, if there is one."""
+        return ([None] + [option for option in self.options if option in names])[-1]
+
+
+@dataclass
+class Options:
+    """What the options come to. A size of 0 is the algorithm's own."""
+
+    mode: str
+    zero: bool
+    size: int
+    report: str
+    strict: bool
+    ignore_missing: bool
+
+
+def size_asked(lengths):
+    """The digest's length in bytes by the last length value."""
+    if not lengths:
+        return 0
+    value = lengths[-1]
+    if re.fullmatch("[0-9]+", value) is None or int(value) > 512:
+        raise WordFault(f"invalid length: '{shown(value)}'")
+    if int(value) % 8:
+        raise WordFault(f"length is not a multiple of 8: '{shown(value)}'")
+    return int(value) // 8
+
+
+def options_of(words):
+    """What the options come to, or the first of their faults."""
+    has = words.options.__contains__
+    size = size_asked(words.lengths)
+    mode, report, check = words.last_of("binary", "text", "tag"), words.last_of("status", "warn", "quiet"), has("check")
+    meaningful = "option is meaningful only when verifying checksums"
+    for holds, text in (
+        (has("tag") and mode == "text", "--tag does not support --text mode"),
+        (has("zero") and check, "the --zero option is not supported when verifying checksums"),
+        (has("tag") and check, "the --tag option is meaningless when verifying checksums"),
+        ((has("binary") or has("text")) and check,
+         "the --binary and --text options are meaningless when verifying checksums"),
+        (has("ignore-missing") and not check, f"the --ignore-missing {meaningful}"),
+        (report is not None and not check, f"the --{report} {meaningful}"),
+        (has("strict") and not check, f"the --strict {meaningful}"),
+        (words.tool == "anysum" and not check, "--check is required"),
+    ):
+        if holds:
+            raise WordFault(text)
+    return Options("tag" if has("tag") else mode, has("zero"), size, report, has("strict"), has("ignore-missing"))
+
+
+HELP = """\
+  -b, --binary          mark each line as binary
+  -c, --check           read checksums from the FILEs and check them
+{}      --tag             write lines of the tagged form
+  -t, --text            mark each line as text (default)
+  -z, --zero            end each line with NUL and escape no name
+      --ignore-missing  with -c: neither fail nor report for missing files
+      --quiet           with -c: print no OK lines
+      --status          with -c: print no report
+      --strict          with -c: fail for improperly formatted lines
+  -w, --warn            with -c: name each improperly formatted line
+      --help            print this text
+      --version         print the version
+"""
+
+
+def help_text(tool):
+    tag = ALGORITHMS[tool][0]
+    what = f"Print or check {tag} checksums." if tag else "Check checksums of tagged lines."
+    length = "  -l, --length=BITS     digest length in bits, a multiple of 8, at most 512\n" if tool == "b2sum" else ""
+    usage = f"Usage: {tool} [OPTION]... [FILE]...\n{what} With no FILE, or when FILE is -, read standard input.\n"
+    return usage + HELP.format(length)
+
+
+def meaning(tool, words, stdin):
+    """What a command line writes and answers, with this on standard input."""
+    read = Words(tool, words)
+    try:
+        if isinstance(read.decided, WordFault):
+            raise read.decided
+        if read.decided == "help":
+            return Ran(0, help_text(tool).encode(), b"")
+        if read.decided == "version":
+            return Ran(0, f"{tool} (digests), profile 2\n".encode(), b"")
+        options = options_of(read)
+    except WordFault as fault:
+        return Ran(1, b"", f"{tool}: {fault}\nTry '{tool} --help' for more information.\n".encode())
+    names = [operand.encode() for operand in read.operands] or [b"-"]
+    does = checked if "check" in read.options else generated
+    return does(tool, options, names, World(stdin))
