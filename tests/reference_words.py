@@ -131,9 +131,12 @@ def options_of(words):
 
 
 HELP = """\
+Usage: TOOL [OPTION]... [FILE]...
+Print or check TAG checksums. With no FILE, or when FILE is -, read standard input.
   -b, --binary          mark each line as binary
   -c, --check           read checksums from the FILEs and check them
-{}      --tag             write lines of the tagged form
+  -l, --length=BITS     digest length in bits, a multiple of 8, at most 512
+      --tag             write lines of the tagged form
   -t, --text            mark each line as text (default)
   -z, --zero            end each line with NUL and escape no name
       --ignore-missing  with -c: neither fail nor report for missing files
@@ -144,14 +147,15 @@ HELP = """\
       --help            print this text
       --version         print the version
 """
+LENGTH_LINE = "  -l, --length=BITS     digest length in bits, a multiple of 8, at most 512\n"
 
 
 def help_text(tool):
+    """The help text of a tool; the line of --length is b2sum's alone."""
     tag = ALGORITHMS[tool][0]
-    what = f"Print or check {tag} checksums." if tag else "Check checksums of tagged lines."
-    length = "  -l, --length=BITS     digest length in bits, a multiple of 8, at most 512\n" if tool == "b2sum" else ""
-    usage = f"Usage: {tool} [OPTION]... [FILE]...\n{what} With no FILE, or when FILE is -, read standard input.\n"
-    return usage + HELP.format(length)
+    text = HELP if tag else HELP.replace("Print or check TAG checksums.", "Check checksums of tagged lines.")
+    text = text if tool == "b2sum" else text.replace(LENGTH_LINE, "")
+    return text.replace("TOOL", tool).replace("TAG", tag or "")
 
 
 def meaning(tool, words, stdin):

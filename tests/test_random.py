@@ -14,8 +14,8 @@ CASES = 1500
 CHARACTERS = ["a", "b", "n", "r", "0", "f", "é", " ", "\t", "*", "\\", "\n", "\r", "(", ")", "=", "#", "-"]
 
 # What is put into lines in place of a few of their bytes.
-DAMAGE = [b"", b" ", b"  ", b"\t", b"\\", b"*", b"(", b")", b"=", b"#", b"\r", b"\r\r", b"\0", b"\xff", b"n", b"0", b"8",
-          b"F", b"-", b"BLAKE2b-", b"MD5", b"SHA1"]
+DAMAGE = [b"", b" ", b"  ", b"\t", b"\\", b"*", b"(", b")", b"=", b"#", b"\r", b"\r\r", b"\0", b"\xff", b"n", b"0",
+          b"8", b"F", b"-", b"BLAKE2b-", b"MD5", b"SHA1"]
 
 WORDS = """-b -c -t -z -w -bz -cw -cq -zl -bl256 -l -l8 -l256 -é --tag --check --binary --text --zero --ignore-missing
     --quiet --status --strict --warn --help --version --length --length=8 --len --le --l --s --st --sta --str --t --te
@@ -90,8 +90,8 @@ class AtRandom(Case):
             words = ["-c"]
             words += self.random.sample(["--ignore-missing", "--strict", "-w", "--quiet", "--status"],
                                         self.random.choice([0, 0, 1, 1, 2]))
-            words += self.random.choice([["manifest"], ["manifest"], ["manifest"] * 2, [], ["-"], ["folder", "manifest"],
-                                         ["manifest", "x", "-"]])
+            words += self.random.choice([["manifest"], ["manifest"], ["manifest"] * 2, [], ["-"],
+                                         ["folder", "manifest"], ["manifest", "x", "-"]])
             self.compare(self.random.choice(list(reference.ALGORITHMS)), words)
 
     @needs_check

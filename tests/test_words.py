@@ -4,37 +4,10 @@ import os
 
 import harness
 from harness import B, E, M, S, TOOLS, Case, needs_check
+from reference_words import help_text
 
-HELP = """\
-Usage: TOOL [OPTION]... [FILE]...
-Print or check TAG checksums. With no FILE, or when FILE is -, read standard input.
-  -b, --binary          mark each line as binary
-  -c, --check           read checksums from the FILEs and check them
-  -l, --length=BITS     digest length in bits, a multiple of 8, at most 512
-      --tag             write lines of the tagged form
-  -t, --text            mark each line as text (default)
-  -z, --zero            end each line with NUL and escape no name
-      --ignore-missing  with -c: neither fail nor report for missing files
-      --quiet           with -c: print no OK lines
-      --status          with -c: print no report
-      --strict          with -c: fail for improperly formatted lines
-  -w, --warn            with -c: name each improperly formatted line
-      --help            print this text
-      --version         print the version
-"""
-LENGTH_LINE = "  -l, --length=BITS     digest length in bits, a multiple of 8, at most 512\n"
 WITH_CHECK = "meaningless when verifying checksums"
 WITHOUT_CHECK = "meaningful only when verifying checksums"
-
-
-def help_of(tool):
-    """The help text of a tool."""
-    text = HELP.replace("TOOL", tool)
-    if tool == "anysum":
-        first = "Print or check TAG checksums."
-        return text.replace(first, "Check checksums of tagged lines.").replace(LENGTH_LINE, "")
-    text = text.replace("TAG", TOOLS[tool][0])
-    return text if tool == "b2sum" else text.replace(LENGTH_LINE, "")
 
 
 class ToolNames(Case):
@@ -94,7 +67,7 @@ class Texts(Case):
     def test_help(self):
         for tool in [*TOOLS, "anysum"]:
             with self.subTest(tool=tool):
-                self.expect([tool, "--help"], out=help_of(tool))
+                self.expect([tool, "--help"], out=help_text(tool))
 
     def test_version(self):
         for tool in [*TOOLS, "anysum"]:
@@ -102,18 +75,18 @@ class Texts(Case):
                 self.expect([tool, "--version"], out=[f"{tool} (digests), profile 2"])
 
     def test_the_first_of_fault_help_and_version_decides(self):
-        self.expect("md5sum --help --version", out=help_of("md5sum"))
+        self.expect("md5sum --help --version", out=help_text("md5sum"))
         self.expect("md5sum --version --help", out=["md5sum (digests), profile 2"])
-        self.expect("md5sum --help --foo", out=help_of("md5sum"))
+        self.expect("md5sum --help --foo", out=help_text("md5sum"))
         self.expect_fault("md5sum --foo --help", "unrecognized option '--foo'")
-        self.expect("md5sum a -zc --tag -t --help x", out=help_of("md5sum"))
-        self.expect("b2sum --help -l", out=help_of("b2sum"))
+        self.expect("md5sum a -zc --tag -t --help x", out=help_text("md5sum"))
+        self.expect("b2sum --help -l", out=help_text("b2sum"))
         self.expect("b2sum -l 12 --version", out=["b2sum (digests), profile 2"])
         self.expect_fault("b2sum -l --help", "invalid length: '--help'")
         self.expect_fault("b2sum -l --help x -l", "option requires an argument -- 'l'")
 
     def test_a_name_may_be_cut_short(self):
-        self.expect("md5sum --h", out=help_of("md5sum"))
+        self.expect("md5sum --h", out=help_text("md5sum"))
         self.expect("md5sum --v", out=["md5sum (digests), profile 2"])
 
 
