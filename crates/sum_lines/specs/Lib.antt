@@ -5,6 +5,7 @@ pub mod Scanned
 pub mod Laws
 pub mod Sinks
 pub mod ToldSinks
+pub mod WholeLines
 pub mod Parts
 pub mod Lines
 pub mod Found

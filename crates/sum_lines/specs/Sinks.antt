@@ -1,6 +1,6 @@
 -- What writing does to a sink. `written` and `failures` are what a sink tells: its bytes, where it tells
 -- them, and how many of its writes have failed.
-use Rattle.std.specs.Prelude.{ℕ, ◌≡◌, ◌+◌, ◌-◌, ◌^◌, ◌<◌, ◌≤◌, min, List, ◌++◌, length, Option, Result, MatchResult}
+use Rattle.std.specs.Prelude.{ℕ, ◌≡◌, ◌+◌, ◌-◌, ◌^◌, ◌<◌, ◌≤◌, min, List, ◌++◌, length, Option, None, Some, Result, MatchResult, ⊤}
 pub use Rattle.std.specs.Io.KnownBytes.{Appends}
 
 -- a count of failures after one more: it rises by one, and stays at the last value of a u64
@@ -10,6 +10,12 @@ after_failure n = min (n + 1) (2 ^ 64 - 1)
 -- how many bytes of a piece one write takes: at least one, where there is one
 abbrev pub Takes : ℕ → List ℕ → Type 0
 Takes n piece = (n ≤ length piece) × (0 < length piece → 0 < n)
+
+-- the known pieces that a sink was offered grow by these
+abbrev pub Offers : Option (List (List ℕ)) → Option (List (List ℕ)) → List (List ℕ) → Type 0
+Offers None new pieces = ⊤
+Offers (Some old) None pieces = ⊥
+Offers (Some old) (Some new) pieces = new ≡ old ++ pieces
 
 -- known bytes grow by a front of the text, and a rest of it that isn't empty stays unwritten
 abbrev pub AppendsFront : Option (List ℕ) → Option (List ℕ) → List ℕ → Type 0

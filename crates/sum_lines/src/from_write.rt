@@ -3,6 +3,7 @@ ghost use Rattle.std.specs.Prelude.{◌≡◌, OnOk, OnErr};
 ghost use Rattle.std.specs.Io.KnownBytes.{Keeps};
 ghost use Rattle.sum_lines.specs.Sinks.{after_failure};
 
+use crate::finish::Finish;
 use crate::sink::{Sink, SinkFault};
 use std::io::{ErrorKind, Write};
 
@@ -75,5 +76,12 @@ impl<W: Write> Sink for FromWrite<W> {
             }
         }
         Err(self.fault())
+    }
+}
+
+impl<W: Write> Finish for FromWrite<W> {
+    /// Flushes the writer once.
+    fn finish(&mut self) -> Result<(), SinkFault> {
+        self.flush()
     }
 }

@@ -2,6 +2,7 @@
 #![tactic(auto)]
 
 mod escape;
+mod finish;
 mod from_write;
 pub mod laws;
 mod line_reading;
@@ -16,14 +17,17 @@ mod sink;
 mod sink_tests;
 mod tagged;
 mod told_sink;
+mod whole_lines;
 mod written;
 #[cfg(test)]
 mod written_tests;
 
 pub use escape::{needs_escape, put_escaped, unescape_in};
+pub use finish::Finish;
 pub use from_write::FromWrite;
 pub use line_reading::{Form, Reading, read_line};
 pub use parts::{Part, put_number, put_parts};
 pub use sink::{Sink, SinkFault, put_all};
 pub use told_sink::ToldSink;
+pub use whole_lines::WholeLines;
 pub use written::{Mode, Style, put_line};

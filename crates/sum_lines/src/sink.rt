@@ -1,7 +1,7 @@
 //! Where bytes are written: the trait of a sink, and the call that writes all of a piece.
-ghost use Rattle.std.specs.Prelude.{◌≡◌, ℕ, List, Option, None, IfOk, OnOk, OnErr};
+ghost use Rattle.std.specs.Prelude.{◌≡◌, ℕ, List, [], ◌∷◌, Option, None, IfOk, OnOk, OnErr};
 ghost use Rattle.std.specs.Io.KnownBytes.{WriteAppends};
-ghost use Rattle.sum_lines.specs.Sinks.{Takes, after_failure, Writes};
+ghost use Rattle.sum_lines.specs.Sinks.{Takes, Offers, after_failure, Writes};
 
 use thiserror::Error;
 
@@ -15,6 +15,9 @@ pub trait Sink {
     /// The bytes that it holds, where it tells them.
     ghost written: { Self → Option (List ℕ) } = { λ _. None };
 
+    /// The pieces that it was offered, one a write, where it tells them.
+    ghost offered: { Self → Option (List (List ℕ)) } = { λ _. None };
+
     /// How many of its writes have failed, held at 2^64 - 1.
     ghost failures: { Self → ℕ };
 
@@ -24,7 +27,8 @@ pub trait Sink {
         ensures count { IfOk result (λ n. Takes n piece.now) }
         ensures bytes { WriteAppends (written self.old) (written self.new) result piece.now }
         ensures kept { OnOk result (failures self.new ≡ failures self.old) }
-        ensures failed { OnErr result (failures self.new ≡ after_failure (failures self.old)) };
+        ensures failed { OnErr result (failures self.new ≡ after_failure (failures self.old)) }
+        ensures offers { Offers (offered self.old) (offered self.new) (piece.now ∷ []) };
 }
 
 /// Writes all of the bytes. A fault where a write failed; a shorter front of them is then written.

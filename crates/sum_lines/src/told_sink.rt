@@ -2,6 +2,7 @@
 ghost use Rattle.std.specs.Prelude.{◌≡◌, ◌≤◌, ◌+◌, ◌<◌, ℕ, List, [], length, take, min, Some, IfOk, OnOk, OnErr, IsErr};
 ghost use Rattle.std.specs.Prelude.{◌↔◌};
 
+use crate::finish::Finish;
 use crate::sink::{Sink, SinkFault};
 
 /// A sink that keeps up to N bytes, tells them, and fails once it is full.
@@ -70,5 +71,15 @@ impl<const N: usize> Sink for ToldSink<N> {
         bytes[self.len..self.len + count].copy_from_slice(&piece[..count]);
         self.len += count;
         Ok(count)
+    }
+}
+
+impl<const N: usize> Finish for ToldSink<N> {
+    /// Always kept.
+    fn finish(&mut self) -> Result<(), SinkFault>
+        ensures kept { result ≡ Ok tt }
+        ensures same { self.new ≡ self.old }
+    {
+        Ok(())
     }
 }
