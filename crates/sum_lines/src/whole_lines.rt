@@ -136,10 +136,10 @@ impl<S: Sink> Sink for WholeLines<S> {
         ensures room { length self.new.held < LINE_ROOM }
         ensures end { self.new.end ≡ self.old.end }
     {
+        let held = self.len;
         if piece.is_empty() {
             return Ok(0);
         }
-        let held = self.len;
         let count = put_in(&mut self.buffer, held, piece);
         let whole = held + count;
         if !is_whole(&self.buffer[..whole], self.end) {

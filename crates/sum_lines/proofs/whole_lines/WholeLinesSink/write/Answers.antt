@@ -1,0 +1,33 @@
+use Rattle.std.proofs.Common.{arith, length, take, drop, ◌≡◌, ◌≤◌, ◌-◌, ◌+◌, ◌++◌, [], inl, inr, length-take, sym, ◌∙◌, ap, refl, take-append-drop}
+use Rattle.std.proofs.lemmas.Bool.{false≢true}
+use Rattle.sum_lines.proofs.WholeLineLemmas.{EndsWith-append, Appends-handed, held_back}
+use Rattle.sum_lines.proofs.whole_lines.WholeLinesSink.write.Goals as goal
+
+pub returns-then-not-is_whole-clause-ended : goal.returns-then-not-is_whole-clause-ended
+returns-then-not-is_whole-clause-ended g c =
+    let no = rw c.put_in-count.ensures.bytes at c.if-not-is_whole.ensures.1 in
+    rw (← c.self.view_is) (λ e. absurd (false≢true (no (inl (EndsWith-append _ _ _ e)))))
+
+pub returns-in-Ok-clause-bytes : goal.returns-in-Ok-clause-bytes
+returns-in-Ok-clause-bytes g c =
+    let size : length (take c.self.inside.len c.self.inside.buffer) ≡ c.self.inside.len = omega (arith, length-take c.self.inside.len c.self.inside.buffer) in
+    let enough = rw c.put_in-count.ensures.bytes at c.in-Ok.ensures.enough in
+    let bytes = rw c.put_in-count.ensures.bytes at c.in-Ok.ensures.bytes in
+    rw (← c.self.view_is) (rw size at (Appends-handed _ _ _ _ _ _ bytes (omega (arith, enough)) enough.1))
+
+pub returns-in-Ok-clause-lines : goal.returns-in-Ok-clause-lines
+returns-in-Ok-clause-lines g c =
+    let whole = rw c.put_in-count.ensures.bytes at c.if-not-is_whole.ensures.0 in
+    let offers = rw c.put_in-count.ensures.bytes at c.in-Ok.ensures.offers in
+    let count = c.put_in-count.result in
+    let cut = sym (take-append-drop count c.args.piece.now) in
+    rw (← c.self.view_is) (inr (take count c.args.piece.now, drop count c.args.piece.now, cut, whole refl, offers, refl))
+
+pub returns-in-Err-clause-lines : goal.returns-in-Err-clause-lines
+returns-in-Err-clause-lines g c =
+    let whole = rw c.put_in-count.ensures.bytes at c.if-not-is_whole.ensures.0 in
+    let offers = rw c.put_in-count.ensures.bytes at c.in-Err.ensures.offers in
+    let count = c.put_in-count.result in
+    let cut = sym (take-append-drop count c.args.piece.now) in
+    let held = rw c.put_in-count.ensures.front at c.drop_front.ensures in
+    rw (← c.self.view_is) (inr (take count c.args.piece.now, drop count c.args.piece.now, cut, whole refl, offers, held_back _ _ c.in-Err.taken held))
