@@ -36,14 +36,14 @@ Holds old new piece (Ok n) = (new.sink ≡ old.sink) × (new.held ≡ old.held +
     × (n ≡ min (length piece) (LINE_ROOM - length old.held))
 Holds old new piece (Err e) = ⊥
 
--- nothing is held any more; at a fault, what was held but for a front of it
-abbrev pub Lets : {E : Type 0} → List ℕ → List ℕ → Result ℕ E → Type 0
-Lets old new (Ok n) = new ≡ []
-Lets old new (Err e) = (front : List ℕ) × (old ≡ front ++ new)
+-- what is held once a text was handed on: nothing; after a fault, what was held but for a front of it
+abbrev pub HeldAfter : {E : Type 0} → List ℕ → List ℕ → Result ℕ E → Type 0
+HeldAfter old new (Ok n) = new ≡ []
+HeldAfter old new (Err e) = (front : List ℕ) × (old ≡ front ++ new)
 
 -- what was held is handed on as one whole, with a front of the piece
 abbrev pub HandsOnWith :
     {S E : Type 0} → (S → Option (List (List ℕ))) → Lines S → Lines S → List ℕ → Result ℕ E → Type 0
 HandsOnWith offered old new piece r = (front : List ℕ) × (back : List ℕ) × (piece ≡ front ++ back)
     × IsWhole old.end (old.held ++ front) × HandsOn (offered old.sink) (offered new.sink) (old.held ++ front)
-    × Lets old.held new.held r
+    × HeldAfter old.held new.held r

@@ -75,9 +75,13 @@ impl<const N: usize> Sink for ToldSink<N> {
 }
 
 impl<const N: usize> Finish for ToldSink<N> {
-    /// Always kept.
+    ghost use Rattle.sum_lines.specs.Sinks.{after_failure};
+
+    /// All is kept, always.
     fn finish(&mut self) -> Result<(), SinkFault>
-        ensures kept { result ≡ Ok tt }
+        ensures kept { OnOk result (self.new.failures ≡ self.old.failures) }
+        ensures failed { OnErr result (self.new.failures ≡ after_failure self.old.failures) }
+        ensures all { result ≡ Ok tt }
         ensures same { self.new ≡ self.old }
     {
         Ok(())

@@ -68,7 +68,7 @@ impl<S> WholeLines<S> {
     }
 
     /// The sink below, without what is held.
-    pub fn into_sink(self) -> S
+    pub fn into_inner(self) -> S
         ensures { result ≡ self.sink }
     {
         self.sink
