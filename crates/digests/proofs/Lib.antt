@@ -1,4 +1,7 @@
 mod ToolLemmas
+mod CommandLineLemmas
+mod EndingLemmas
+mod ProgramLemmas
 mod PieceLemmas
 mod OptionLemmas
 mod WordLemmas

@@ -23,11 +23,10 @@ use Rattle.sum_lines.specs.Sinks.{AppendsFront}
 use Rattle.sum_engine.proofs.WorldLemmas.{after-none, after-append}
 use Rattle.sum_engine.proofs.SceneLemmas.{does_nothing, does_both, cut_after, none_yet, front_of}
 use Rattle.digests.specs.Items.{Text}
-use Rattle.digests.specs.Meaning.{nothing, joined, all_of, upto, no_part, status_of, on_out, on_err, answered, meaning, place_of, place}
+use Rattle.digests.specs.Meaning.{nothing, joined, all_of, upto, no_part, status_of, on_out, on_err, answered, place_of}
 use Rattle.digests.specs.declared.tool.Tool.{Tool}
 use Rattle.digests.specs.declared.reading.Request.{Request}
 use Rattle.digests.specs.Faults.{Fault}
-use Rattle.digests.specs.Request.{request}
 use Rattle.digests.specs.Runs.{one_of, part_of, told_of, Stands, Reached, Comes, CutShort, OneGives, RunGives, PlaceAt, Wanting, Refused, RefusedBy, RefusalsOf}
 
 abbrev outcome : List ℕ → List ℕ → List Text → Bool → Outcome
@@ -147,13 +146,13 @@ said_on_err text None taken place wanting o e e' A B r h = tt
 said_on_err text (Some w) taken place wanting o e e' A B (Ok u) h = (refl, record { world = after-none w; taken = sym (or-false taken); out = Appends-nil o; err = h.0 })
 said_on_err text (Some w) taken place wanting o e e' A B (Err f) h = ([], [], refl, record { world = after-none w; out = none_yet o []; err = front_of e e' text h.0 })
 
--- the meaning of words, by what they ask for
-pub meant : (t : Tool) (words : List Text) (n m : ℕ) (asked : Result Request Fault) (s u : Option Scene) (r r' : Result ℕ Stop)
-    → asked ≡ request t words → r' ≡ r → RunGives (answered t asked) (place_of t asked) (λ w. Wanting n m (name_of t) w asked) s u r
-    → RunGives (meaning t words) (place t words) (λ w. Wanting n m (name_of t) w (request t words)) s u r'
-meant t words n m asked s u r r' is told h =
+-- what was asked for, by another name of it
+pub asked-is : (t : Tool) (n m : ℕ) (asked same : Result Request Fault) (s u : Option Scene) (r r' : Result ℕ Stop)
+    → asked ≡ same → r' ≡ r → RunGives (answered t asked) (place_of t asked) (λ w. Wanting n m (name_of t) w asked) s u r
+    → RunGives (answered t same) (place_of t same) (λ w. Wanting n m (name_of t) w same) s u r'
+asked-is t n m asked same s u r r' is told h =
     let P : Result Request Fault → Type 0 = λ a. RunGives (answered t a) (place_of t a) (λ w. Wanting n m (name_of t) w a) s u r in
-    let Q : Result ℕ Stop → Type 0 = λ x. RunGives (meaning t words) (place t words) (λ w. Wanting n m (name_of t) w (request t words)) s u x in
+    let Q : Result ℕ Stop → Type 0 = λ x. RunGives (answered t same) (place_of t same) (λ w. Wanting n m (name_of t) w same) s u x in
     subst Q (sym told) (subst P is h)
 
 -- a name that is hashed is done as a whole or not at all
@@ -196,10 +195,10 @@ pub told-refused : {E : Type 0} (P : ℕ → ℕ → Type 0) (n : ℕ) (r : Resu
 told-refused P n (Ok u) status x is = rw is refl
 told-refused P n (Err e) status x is = rw is refl
 
--- the refusals by what the words ask for
-pub refused-meant : (t : Tool) (words : List Text) (asked : Result Request Fault) (n m : ℕ) (r : Result ℕ Stop)
-    → asked ≡ request t words → RefusalsOf (RefusedBy asked) n m r → RefusalsOf (RefusedBy (request t words)) n m r
-refused-meant t words asked n m r is h = let P : Result Request Fault → Type 0 = λ a. RefusalsOf (RefusedBy a) n m r in subst P is h
+-- the refusals likewise
+pub refused-is : (asked same : Result Request Fault) (n m : ℕ) (r : Result ℕ Stop)
+    → asked ≡ same → RefusalsOf (RefusedBy asked) n m r → RefusalsOf (RefusedBy same) n m r
+refused-is asked same n m r is h = let P : Result Request Fault → Type 0 = λ a. RefusalsOf (RefusedBy a) n m r in subst P is h
 
 pub reached-with : (one : World → Text → Outcome) (part : World → Text → ℕ → Outcome) (names : List Text) (s t : Option Scene) (good this : Bool) (old new : List Text)
     → good ≡ this → old ≡ new → Reached one part names s t this old → Reached one part names s t good new

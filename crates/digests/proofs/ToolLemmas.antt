@@ -4,11 +4,7 @@ use Rattle.std.specs.List.{find}
 use Rattle.std.proofs.lemmas.Slice.Eq.{bytes_eq-Decides}
 use Rattle.digests.specs.declared.tool.Tool.{Tool}
 use Rattle.digests.specs.declared.tool.Tool.TheVariants as tools
-use Rattle.digests.specs.Tools.{name_of, is_called}
-
-abbrev pub all_tools : List Tool
-all_tools = tools.Md5sum ∷ tools.Sha1sum ∷ tools.Sha224sum ∷ tools.Sha256sum ∷ tools.Sha384sum ∷ tools.Sha512sum ∷
-    tools.B2sum ∷ tools.Anysum ∷ []
+use Rattle.digests.specs.Tools.{name_of, is_called, all_tools, tool_called}
 
 -- each tool is found by its own name
 found_by_name : (tool : Tool) → find (is_called (name_of tool)) all_tools ≡ Some tool
@@ -30,9 +26,14 @@ found_passes test (y ∷ ys) x h =
       | false ↦ λ _ later. found_passes test ys x later
     ] refl h
 
-pub named_by : (word : List ℕ) (r : Option Tool) → find (is_called word) all_tools ≡ r → (tool : Tool) →
+named_by : (word : List ℕ) (r : Option Tool) → find (is_called word) all_tools ≡ r → (tool : Tool) →
     (r ≡ Some tool) ↔ (name_of tool ≡ word)
 named_by word r e tool = (
   λ h. (bytes_eq-Decides (name_of tool) word).0 (found_passes (is_called word) all_tools tool (e ∙ h)),
   λ h. sym e ∙ (rw (← h) (found_by_name tool)),
 )
+
+-- the tool that is called so, and no other, has this name
+pub named : (word : List ℕ) (r : Option Tool) → r ≡ tool_called word → (tool : Tool) → (r ≡ Some tool) ↔ (name_of tool ≡ word)
+unfolding tool_called
+named word r e tool = named_by word r (sym e) tool

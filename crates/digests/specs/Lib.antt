@@ -8,6 +8,9 @@ pub mod Reading
 pub mod Meaning
 pub mod Runs
 pub mod Texts
+pub mod Program
+pub mod Arguments
+pub mod Endings
 pub mod Shown
 pub mod PlainWords
 pub mod Written

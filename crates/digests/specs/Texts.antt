@@ -80,6 +80,9 @@ abbrev pub version : Tool → Text
 version t = name_of t ++ codes " (digests), profile 2\n"
 
 -- the program's own lines
+abbrev pub not_read : Text
+not_read = codes "digests: words not read\n"
+
 abbrev pub unknown_tool : Text
 unknown_tool = codes "digests: unknown tool\n"
 

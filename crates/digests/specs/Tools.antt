@@ -1,5 +1,6 @@
 -- The tools: the name of each, and the algorithms of its digests.
-use Rattle.std.specs.Prelude.{List, ℕ, Bool, codes}
+use Rattle.std.specs.Prelude.{List, [], ◌∷◌, ℕ, Bool, Option, codes}
+use Rattle.std.specs.List.{find}
 use Rattle.std.specs.Str.{bytes_eq}
 use Rattle.digest_kinds.specs.declared.algo.Algo.TheVariants.{Md5, Sha1, Sha224, Sha256, Sha384, Sha512, Blake2b}
 use Rattle.digest_kinds.specs.declared.algo.Algos.{Algos}
@@ -32,3 +33,11 @@ algos_of tools.Anysum = Any
 -- the test by which a tool is looked for
 abbrev pub is_called : List ℕ → Tool → Bool
 is_called word tool = bytes_eq (name_of tool) word
+
+-- the tools, and the one that is called so
+abbrev pub all_tools : List Tool
+all_tools = tools.Md5sum ∷ tools.Sha1sum ∷ tools.Sha224sum ∷ tools.Sha256sum ∷ tools.Sha384sum ∷ tools.Sha512sum ∷
+    tools.B2sum ∷ tools.Anysum ∷ []
+
+unfoldable pub tool_called : List ℕ → Option Tool
+tool_called word = find (is_called word) all_tools

@@ -1,122 +1,79 @@
-//! The program's own arguments, as the system hands them over.
-use crate::tool::Tool;
-use crate::words::{NoRoom, Words};
-use memchr::memrchr;
-use std::alloc::{AllocError, Global};
+//! The list of arguments that the program is called with.
+ghost use Rattle.std.specs.Prelude.{◌≡◌, ◌≤◌, ℕ, List, Option, None, IfOk, length, map};
+ghost use Rattle.digests.specs.Arguments.{Fills};
+
 use std::env::FillError;
+use std::marker::Model;
 use std::rt::Env;
 
-/// How long arguments may be that are read at once. A page costs a short run the least.
-const USUAL: usize = 4096;
+/// A list of arguments, the name by which the program was called first.
+pub trait Arguments {
+    /// The arguments, where they are told.
+    ghost told: { Self → Option (List (List ℕ)) } = { λ _. None };
 
-/// No argument that the system passes on is longer.
-const LONGEST: usize = 128 * 1024;
-
-/// Why the words could not be read.
-#[derive(Clone, Copy, Debug, PartialEq, Eq)]
-pub enum NotRead {
-    /// An argument is longer than the buffer.
-    TooLong,
-    /// One isn't UTF-8, or memory is short.
-    Refused,
+    /// Copies the argument at this place, counted from 0, to the front of the buffer, and answers its length.
+    /// `FillError::NotPresent` past the last argument, `FillError::TooLong` where the buffer can't hold it.
+    fn fill(&self, place: usize, buffer: &mut [u8]) -> Result<usize, FillError>
+        ensures count { IfOk result (λ n. n ≤ length buffer.new) }
+        ensures bytes { Fills (told self.now) place buffer.new result };
 }
 
-/// A command line: the tool, where there is one of that name, and the words that are its own.
+/// The arguments that the system hands over. Nothing of them is told.
 #[derive(Drop)]
-pub struct CommandLine {
-    pub tool: Option<Tool>,
-    pub words: Words,
+pub struct SystemArguments<R> {
+    rt: R,
 }
 
-/// Reads the command line. The name under which the program was called is the tool's, where it is one;
-/// else the first word is.
-pub fn read_command_line<R: Env + AllocGlobal>(rt: &R) -> Result<CommandLine, NotRead> {
-    match read_through(rt, USUAL) {
-        Err(NotRead::TooLong) => read_through(rt, LONGEST),
-        read => read,
+impl<R: Env> SystemArguments<R> {
+    /// The arguments that this runtime has.
+    pub fn new(rt: R) -> Self {
+        SystemArguments { rt }
     }
 }
 
-// The command line, read through a buffer of that many bytes.
-fn read_through<R: Env + AllocGlobal>(rt: &R, size: usize) -> Result<CommandLine, NotRead> {
-    let Ok(mut buffer) = zeros(rt.alloc(), size) else {
-        return Err(NotRead::Refused);
-    };
-    let mut tool = tool_called(rt, &mut buffer)?;
-    let mut first = 1;
-    if tool.is_none() {
-        tool = tool_named(rt, &mut buffer)?;
-        first = 2;
-    }
-    let words = words_from(rt, first, &mut buffer)?;
-    Ok(CommandLine { tool, words })
-}
-
-// A buffer of that many bytes.
-fn zeros(alloc: Global, size: usize) -> Result<Vec<u8>, AllocError> {
-    vec![in alloc; 0; size]
-}
-
-// The bytes of an argument; `None` behind the last.
-fn argument<'a, R: Env>(
-    rt: &R,
-    place: usize,
-    buffer: &'a mut [u8],
-) -> Result<Option<&'a [u8]>, NotRead> {
-    match rt.arg(place, buffer) {
-        Ok(len) => Ok(Some(&buffer[..len])),
-        Err(FillError::NotPresent) => Ok(None),
-        Err(FillError::TooLong) => Err(NotRead::TooLong),
+impl<R: Env> Arguments for SystemArguments<R> {
+    fn fill(&self, place: usize, buffer: &mut [u8]) -> Result<usize, FillError> {
+        self.rt.arg(place, buffer)
     }
 }
 
-// The tool whose name the last part of the program's own path is.
-fn tool_called<R: Env>(rt: &R, buffer: &mut [u8]) -> Result<Option<Tool>, NotRead> {
-    let Some(path) = argument(rt, 0, buffer)? else {
-        return Ok(None);
-    };
-    let Ok(name) = str::from_utf8(last_part(path)) else {
-        return Ok(None);
-    };
-    Ok(Tool::from_word(name))
+/// A list of arguments in memory, which it tells.
+#[derive(Drop)]
+pub struct ToldArguments<'a> {
+    arguments: &'a [&'a [u8]],
 }
 
-fn last_part(path: &[u8]) -> &[u8] {
-    match memrchr(b'/', path) {
-        Some(slash) => &path[slash..][1..],
-        None => path,
+impl<'a> Model for ToldArguments<'a> {
+    ghost use Rattle.std.specs.Prelude.{List, ℕ, map};
+
+    ghost Value = { List (List ℕ) };
+
+    ghost view = { λ s. map (λ a. a.now) s.arguments.now };
+}
+
+impl<'a> ToldArguments<'a> {
+    /// These arguments, the name by which the program was called first.
+    pub fn new(arguments: &'a [&'a [u8]]) -> Self
+        ensures { result ≡ map (λ a. a.now) arguments.entry.now }
+    {
+        ToldArguments { arguments }
     }
 }
 
-// The tool that the first word names.
-fn tool_named<R: Env>(rt: &R, buffer: &mut [u8]) -> Result<Option<Tool>, NotRead> {
-    let Some(word) = argument(rt, 1, buffer)? else {
-        return Ok(None);
-    };
-    match str::from_utf8(word) {
-        Ok(name) => Ok(Tool::from_word(name)),
-        Err(_) => Err(NotRead::Refused),
-    }
-}
+impl<'a> Arguments for ToldArguments<'a> {
+    ghost use Rattle.std.specs.Prelude.{Some};
 
-// The arguments from this place on.
-fn words_from<R: Env + AllocGlobal>(
-    rt: &R,
-    first: usize,
-    buffer: &mut [u8],
-) -> Result<Words, NotRead> {
-    let mut words = Words::new(rt.alloc());
-    for place in first..usize::MAX {
-        let Some(word) = argument(rt, place, buffer)? else {
-            break;
+    ghost told = { λ s. Some s };
+
+    fn fill(&self, place: usize, buffer: &mut [u8]) -> Result<usize, FillError> {
+        let Some(argument) = self.arguments.get(place) else {
+            return Err(FillError::NotPresent);
         };
-        let Ok(text) = str::from_utf8(word) else {
-            return Err(NotRead::Refused);
-        };
-        match words.add(text) {
-            Ok(()) => {}
-            Err(NoRoom) => return Err(NotRead::Refused),
+        let len = argument.len();
+        if buffer.len() < len {
+            return Err(FillError::TooLong);
         }
+        buffer[..len].copy_from_slice(argument);
+        Ok(len)
     }
-    Ok(words)
 }

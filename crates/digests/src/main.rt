@@ -2,6 +2,9 @@
 #![tactic(auto)]
 
 pub mod arguments;
+pub mod command;
+pub mod command_line;
+mod ending;
 pub mod faults;
 pub mod items;
 pub mod laws;
@@ -16,7 +19,8 @@ pub mod texts;
 pub mod tool;
 pub mod words;
 
-use arguments::{CommandLine, read_command_line};
+use arguments::SystemArguments;
+use command_line::{CommandLine, read_command_line};
 use faults::{put_stop, put_unknown};
 use run::run;
 use std::fs::{self, File};
@@ -34,11 +38,12 @@ const BUFFERED: usize = 65_536;
 
 fn main(rt: HostRuntime) -> ExitCode {
     let mut err = FromWrite::new(rt.stderr());
-    let Ok(CommandLine { tool, words }) = read_command_line(&rt) else {
+    let arguments = SystemArguments::new(rt);
+    let Ok(line) = read_command_line(rt.alloc(), &arguments) else {
         let _ = put_all(&mut err, b"digests: words not read\n");
         return ExitCode::FAILURE;
     };
-    let Some(tool) = tool else {
+    let CommandLine::Asks(tool, words) = line else {
         let _ = put_unknown(&mut err);
         return ExitCode::FAILURE;
     };

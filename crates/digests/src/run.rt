@@ -4,11 +4,12 @@ ghost use Rattle.sum_engine.specs.Scenes.{scene, Failures};
 ghost use Rattle.digests.specs.Tools.{name_of};
 ghost use Rattle.digests.specs.Walk.{Takes};
 ghost use Rattle.digests.specs.Request.{request};
-ghost use Rattle.digests.specs.Meaning.{all_of, upto, or_dash, meaning, place, status_of};
+ghost use Rattle.digests.specs.Reading.{answer_of};
+ghost use Rattle.digests.specs.Meaning.{all_of, answered, upto, or_dash, meaning, place, place_of, status_of};
 ghost use Rattle.digests.specs.Runs.{one_of, part_of, told_of, OneGives, RunGives, PlaceAt, Wanting, Refused};
 ghost use Rattle.digests.specs.Runs.{RefusedBy, RefusalsOf};
 
-use crate::faults::put_fault;
+use crate::faults::{WordFault, put_fault};
 use crate::items::Operands;
 use crate::reading::{Request, read_words};
 use crate::texts::{put_help, put_version};
@@ -42,7 +43,37 @@ pub fn run<A: Allocator + Copy, I: Input + Drop, S: Source, O: Sink, E: Sink>(
     ensures failures { Failures (O.failures out.old) (O.failures out.new) (E.failures err.old)
         (E.failures err.new) result }
 {
-    match read_words(tool, words) {
+    answer(
+        alloc,
+        tool,
+        read_words(tool, words),
+        stdin,
+        source,
+        out,
+        err,
+    )
+}
+
+// Does what was asked for.
+pub(crate) fn answer<A: Allocator + Copy, I: Input + Drop, S: Source, O: Sink, E: Sink>(
+    alloc: A,
+    tool: Tool,
+    asked: Result<Request, WordFault>,
+    stdin: &mut Stdin<I>,
+    source: &mut S,
+    out: &mut O,
+    err: &mut E,
+) -> Result<u8, Stop>
+    ensures gives { RunGives (answered tool (answer_of asked.entry)) (place_of tool (answer_of asked.entry))
+        (λ w. Wanting (S.refusals source.old) (S.refusals source.new) (name_of tool) w (answer_of asked.entry))
+        (scene I.content (S.told source.old) stdin.old (O.written out.old) (E.written err.old))
+        (scene I.content (S.told source.new) stdin.new (O.written out.new) (E.written err.new)) result }
+    ensures refusals { RefusalsOf (RefusedBy (answer_of asked.entry)) (S.refusals source.old)
+        (S.refusals source.new) result }
+    ensures failures { Failures (O.failures out.old) (O.failures out.new) (E.failures err.old)
+        (E.failures err.new) result }
+{
+    match asked {
         Err(fault) => told(put_fault(err, tool, &fault), 1),
         Ok(Request::Help) => told(put_help(out, tool), 0),
         Ok(Request::Version) => told(put_version(out, tool), 0),
@@ -74,7 +105,7 @@ pub fn run<A: Allocator + Copy, I: Input + Drop, S: Source, O: Sink, E: Sink>(
 }
 
 // The end of a run that wrote one text.
-fn told(written: Result<(), SinkFault>, status: u8) -> Result<u8, Stop>
+pub(crate) fn told(written: Result<(), SinkFault>, status: u8) -> Result<u8, Stop>
     ensures { result ≡ told_of written status }
 {
     match written {

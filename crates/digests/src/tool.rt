@@ -1,7 +1,7 @@
 //! The tools, and what each is called.
 ghost use Rattle.std.specs.Prelude.{◌≡◌, ◌↔◌, Some};
 ghost use Rattle.digests.specs.declared.tool.Tool.{Tool};
-ghost use Rattle.digests.specs.Tools.{name_of, algos_of, is_called};
+ghost use Rattle.digests.specs.Tools.{name_of, algos_of, is_called, tool_called};
 ghost use Rattle.std.specs.List.{find};
 
 use digest_kinds::{Algo, Algos};
@@ -36,7 +36,14 @@ impl Tool {
     pub fn from_word(word: &str) -> Option<Tool>
         ensures { (tool : Tool) → (result ≡ Some tool) ↔ (name_of tool ≡ word.now) }
     {
-        first_called(&TOOLS, word)
+        Tool::of_name(word.as_bytes())
+    }
+
+    /// The tool whose name these bytes are; `None` where they are none's.
+    pub fn of_name(name: &[u8]) -> Option<Tool>
+        ensures { result ≡ tool_called name.now }
+    {
+        first_called(&TOOLS, name)
     }
 
     /// The tool's name, as it is typed and as it begins each of its messages.
@@ -73,11 +80,11 @@ impl Tool {
 }
 
 // The first of these tools that has this name.
-fn first_called(tools: &[Tool], word: &str) -> Option<Tool>
-    ensures { result ≡ find (is_called word.now) tools.now }
+fn first_called(tools: &[Tool], name: &[u8]) -> Option<Tool>
+    ensures { result ≡ find (is_called name.now) tools.now }
 {
     for tool in tools {
-        if tool.name() == word {
+        if tool.name().as_bytes() == name {
             return Some(*tool);
         }
     }

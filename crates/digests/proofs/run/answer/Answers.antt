@@ -1,0 +1,48 @@
+use Rattle.std.proofs.Common.{refl, sym, ap, ◌∙◌}
+use Rattle.std.specs.Prelude.{Ok}
+use Rattle.digests.specs.Reading.{answer_of}
+use Rattle.digests.specs.Meaning.{nothing}
+use Rattle.digests.specs.Runs.{RefusedBy}
+use Rattle.digests.proofs.RunLemmas.{asked-is, said_on_out, said_on_err, told-refused, refused-is}
+use Rattle.digests.proofs.run.answer.Goals as goal
+
+pub returns-in-Err-clause-gives : goal.returns-in-Err-clause-gives
+returns-in-Err-clause-gives g c =
+    asked-is c.args.tool _ _ _ _ _ _ _ _ (sym (ap answer_of c.in-Err.is)) c.told.ensures
+    (said_on_err _ _ _ (λ w j k. nothing) (λ w j k. ⊥) _ _ _ _ _ _ c.put_fault.ensures)
+
+pub returns-in-Err-clause-refusals : goal.returns-in-Err-clause-refusals
+returns-in-Err-clause-refusals g c =
+    told-refused (RefusedBy (answer_of c.args.asked)) _ _ _ _ c.told.ensures
+
+pub returns-in-Ok-Help-clause-gives : goal.returns-in-Ok-Help-clause-gives
+returns-in-Ok-Help-clause-gives g c =
+    asked-is c.args.tool _ _ _ _ _ _ _ _ (sym (ap answer_of (c.in-Ok-Help.is ∙ ap Ok c.in-Ok-Help.field-0-is))) c.told-in-Ok-Help.ensures
+    (said_on_out _ _ _ (λ w j k. nothing) (λ w j k. ⊥) _ _ _ _ _ _ c.put_help.ensures)
+
+pub returns-in-Ok-Help-clause-refusals : goal.returns-in-Ok-Help-clause-refusals
+returns-in-Ok-Help-clause-refusals g c =
+    told-refused (RefusedBy (answer_of c.args.asked)) _ _ _ _ c.told-in-Ok-Help.ensures
+
+pub returns-in-Ok-Version-clause-gives : goal.returns-in-Ok-Version-clause-gives
+returns-in-Ok-Version-clause-gives g c =
+    asked-is c.args.tool _ _ _ _ _ _ _ _ (sym (ap answer_of (c.in-Ok-Version.is ∙ ap Ok c.in-Ok-Version.field-0-is))) c.told-in-Ok-Version.ensures
+    (said_on_out _ _ _ (λ w j k. nothing) (λ w j k. ⊥) _ _ _ _ _ _ c.put_version.ensures)
+
+pub returns-in-Ok-Version-clause-refusals : goal.returns-in-Ok-Version-clause-refusals
+returns-in-Ok-Version-clause-refusals g c =
+    told-refused (RefusedBy (answer_of c.args.asked)) _ _ _ _ c.told-in-Ok-Version.ensures
+
+pub returns-in-Ok-Generate-clause-gives : goal.returns-in-Ok-Generate-clause-gives
+returns-in-Ok-Generate-clause-gives g c =
+    asked-is c.args.tool _ _ _ _ _ _ _ _ (sym (ap answer_of (c.in-Ok-Generate.is ∙ ap Ok c.in-Ok-Generate.field-0-is))) refl c.each.ensures.gives
+
+pub returns-in-Ok-Generate-clause-refusals : goal.returns-in-Ok-Generate-clause-refusals
+returns-in-Ok-Generate-clause-refusals g c = refused-is _ _ _ _ _ (sym (ap answer_of (c.in-Ok-Generate.is ∙ ap Ok c.in-Ok-Generate.field-0-is))) c.each.ensures.refusals
+
+pub returns-in-Ok-Check-clause-gives : goal.returns-in-Ok-Check-clause-gives
+returns-in-Ok-Check-clause-gives g c =
+    asked-is c.args.tool _ _ _ _ _ _ _ _ (sym (ap answer_of (c.in-Ok-Check.is ∙ ap Ok c.in-Ok-Check.field-0-is))) refl c.each-in-Ok-Check.ensures.gives
+
+pub returns-in-Ok-Check-clause-refusals : goal.returns-in-Ok-Check-clause-refusals
+returns-in-Ok-Check-clause-refusals g c = refused-is _ _ _ _ _ (sym (ap answer_of (c.in-Ok-Check.is ∙ ap Ok c.in-Ok-Check.field-0-is))) c.each-in-Ok-Check.ensures.refusals

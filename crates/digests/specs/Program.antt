@@ -1,0 +1,113 @@
+-- What the program does, from the list of its arguments (the name that it was called by, and the words) to its status.
+use Rattle.std.specs.Prelude.{ℕ, zero, suc, ◌≡◌, ◌==◌, ◌+◌, ◌<◌, ◌⊎◌, List, [], ◌∷◌, ◌++◌, Option, None, Some, ⊤, codes, if◌then◌else◌}
+use Rattle.std.specs.List.{after_last, list_all}
+use Rattle.std.specs.Str.{is_utf8}
+use Rattle.sum_lines.specs.Sinks.{after_failure}
+use Rattle.sum_engine.specs.declared.stop.Stop.{Stop}
+use Rattle.sum_engine.specs.declared.stop.Stop.TheVariants.{Memory, Write}
+use Rattle.sum_engine.specs.Worlds.{World, after}
+use Rattle.sum_engine.specs.Outcomes.{Outcome}
+use Rattle.sum_engine.specs.Scenes.{Scene, Does, Kept}
+use Rattle.digests.specs.declared.tool.Tool.{Tool}
+use Rattle.digests.specs.declared.command_line.CommandLine.{CommandLine}
+use Rattle.digests.specs.declared.command_line.CommandLine.TheVariants.{UnknownTool, Asks}
+use Rattle.digests.specs.Items.{Text}
+use Rattle.digests.specs.Request.{request}
+use Rattle.digests.specs.Tools.{name_of, tool_called}
+use Rattle.digests.specs.Texts.{not_read, unknown_tool, stop_line}
+use Rattle.digests.specs.Meaning.{nothing, meaning, place, on_err, status_of}
+use Rattle.digests.specs.Runs.{Wanting}
+
+-- the last part of a path: what stands behind its last slash (47)
+abbrev pub last_part : Text → Text
+last_part path = after_last (λ b. b == 47) path
+
+-- the first word names the tool, and the others are its words
+abbrev pub on_words : Option Tool → List Text → CommandLine
+on_words None words = UnknownTool
+on_words (Some tool) words = Asks tool words
+
+abbrev pub by_word : List Text → CommandLine
+by_word [] = UnknownTool
+by_word (word ∷ words) = on_words (tool_called word) words
+
+-- but where the program was called by a tool's name, all words are that tool's
+abbrev pub by_name : Option Tool → List Text → CommandLine
+by_name None words = by_word words
+by_name (Some tool) words = Asks tool words
+
+-- nothing, where a word is not a text
+abbrev pub command_line : List Text → Option CommandLine
+command_line [] = Some UnknownTool
+command_line (name ∷ words) =
+    if list_all is_utf8 words then Some (by_name (tool_called (last_part name)) words) else None
+
+-- what that comes to, what of it stands at a place, which places want memory, and the line that tells of a stop
+abbrev pub outcome_of : Option CommandLine → World → Outcome
+outcome_of None w = on_err not_read
+outcome_of (Some UnknownTool) w = on_err unknown_tool
+outcome_of (Some (Asks tool words)) w = meaning tool words w
+
+abbrev pub place_in : Option CommandLine → World → ℕ → ℕ → Outcome
+place_in (Some (Asks tool words)) w j k = place tool words w j k
+place_in line w j k = nothing
+
+abbrev pub WantsMemory : Option CommandLine → ℕ → ℕ → World → ℕ → ℕ → Type 0
+WantsMemory (Some (Asks tool words)) n m w j k = Wanting n m (name_of tool) w (request tool words) j k
+WantsMemory line n m w j k = ⊥
+
+abbrev pub stop_told : Option Tool → Stop → Text
+stop_told None stop = []
+stop_told (Some tool) stop = stop_line tool stop
+
+abbrev pub tool_of : Option CommandLine → Option Tool
+tool_of (Some (Asks tool words)) = Some tool
+tool_of line = None
+
+-- what an output holds is a front of what it held and then the text
+abbrev pub HoldsFront : Option Text → Option Text → Text → Type 0
+HoldsFront None new text = ⊤
+HoldsFront (Some old) None text = ⊥
+HoldsFront (Some old) (Some new) text = (rest : Text) × (old ++ text ≡ new ++ rest)
+
+-- or a front of that and then this line
+abbrev pub HoldsFrontThen : Option Text → Option Text → Text → Text → Type 0
+HoldsFrontThen old new text line = (kept : Option Text) × HoldsFront old kept text × HoldsFront kept new line
+
+-- an output's failures rose, by so many
+abbrev pub fails : ℕ → ℕ → ℕ
+fails zero n = n
+fails (suc k) n = after_failure (fails k n)
+
+abbrev pub Failed : ℕ → ℕ → ℕ → ℕ → Type 0
+Failed o o' e e' = (i : ℕ) × (j : ℕ) × (0 < i + j) × (o' ≡ fails i o) × (e' ≡ fails j e)
+
+-- the whole of an outcome, and then a line on standard error
+abbrev pub Whole : Outcome → Text → ℕ → Scene → Scene → ℕ → Type 0
+Whole o line status a b answer = (answer ≡ status) × Does a b o.out (o.err ++ line) o.asks
+
+-- fronts of an outcome, and then a front of the line on standard error
+abbrev pub Fronts : Outcome → Text → Scene → Scene → ℕ → Type 0
+Fronts o line a b answer = (answer ≡ 1) × ((asked : List Text) × (rest : List Text) × (o.asks ≡ asked ++ rest)
+    × (b.world ≡ after a.world asked)) × HoldsFront a.out b.out o.out × HoldsFrontThen a.err b.err o.err line
+
+-- how a program ends: with all that its command line comes to; or fronts of it, where an output failed; or at a place
+-- where memory was wanted, with all that stands there, or fronts of that where an output failed too
+abbrev pub EndsAs : Option CommandLine → ℕ → ℕ → Type 0 → Type 0 → Scene → Scene → ℕ → Type 0
+EndsAs line n m kept failed a b answer =
+    (let o = outcome_of line a.world in (Whole o [] (status_of o.good) a b answer × kept)
+    ⊎ (Fronts o (stop_told (tool_of line) Write) a b answer × failed))
+    ⊎ ((j : ℕ) × (k : ℕ) × WantsMemory line n m a.world j k × (let o = place_in line a.world j k in
+    (Whole o (stop_told (tool_of line) Memory) 1 a b answer × kept) ⊎ (Fronts o (stop_told (tool_of line) Memory) a b answer × failed)))
+
+abbrev pub EndsGives : Option CommandLine → ℕ → ℕ → Type 0 → Type 0 → Option Scene → Option Scene → ℕ → Type 0
+EndsGives line n m kept failed None b answer = ⊤
+EndsGives line n m kept failed (Some a) None answer = ⊥
+EndsGives line n m kept failed (Some a) (Some b) answer = EndsAs line n m kept failed a b answer
+
+-- the command line is that of the arguments, or couldn't be read for want of memory
+abbrev pub ProgramGives :
+    Option (List Text) → ℕ → ℕ → Type 0 → Type 0 → Option Scene → Option Scene → ℕ → Type 0
+ProgramGives None n m kept failed a b answer = ⊤
+ProgramGives (Some arguments) n m kept failed a b answer =
+    EndsGives (command_line arguments) n m kept failed a b answer ⊎ EndsGives None n m kept failed a b answer

@@ -1,0 +1,90 @@
+//! The end of a run: what its outputs hold is handed on, and a stop is told.
+ghost use Rattle.std.specs.Prelude.{◌≡◌, []};
+ghost use Rattle.std.specs.Io.KnownBytes.{append_known};
+ghost use Rattle.digests.specs.Endings.{Settles, SettlesBoth, Says, Closes};
+ghost use Rattle.digests.specs.Program.{stop_told};
+
+use crate::faults::put_stop;
+use crate::tool::Tool;
+use sum_engine::Stop;
+use sum_lines::{Finish, Sink, SinkFault, WholeLines};
+
+/// Ends a run that answered so: hands on what the outputs hold, sees to it that standard output is kept, and tells of a
+/// stop where that can be written. After a write fault nothing of what was cut off is written any more. Answers the exit
+/// status: that of the run, or 1 after a stop.
+pub(crate) fn close<O: Finish, E: Sink>(
+    tool: Option<Tool>,
+    answer: Result<u8, Stop>,
+    out: &mut WholeLines<O>,
+    err: &mut WholeLines<E>,
+) -> u8
+    ensures { Closes (stop_told tool) answer
+        (append_known (O.written out.old.sink) out.old.held) (O.written out.new.sink)
+        (append_known (E.written err.old.sink) err.old.held) (E.written err.new.sink)
+        (O.failures out.old.sink) (O.failures out.new.sink) (E.failures err.old.sink) (E.failures err.new.sink) result }
+{
+    match answer {
+        Ok(status) => match hand_on(out, err) {
+            Ok(()) => status,
+            Err(SinkFault) => {
+                tell(tool, Stop::Write, err);
+                1
+            }
+        },
+        Err(stop) => match stop {
+            Stop::Memory => {
+                let _ = hand_on(out, err);
+                tell(tool, stop, err);
+                1
+            }
+            Stop::Write => {
+                out.give_up();
+                err.give_up();
+                tell(tool, stop, err);
+                1
+            }
+        },
+    }
+}
+
+// Hands on what both outputs hold.
+fn hand_on<O: Finish, E: Sink>(
+    out: &mut WholeLines<O>,
+    err: &mut WholeLines<E>,
+) -> Result<(), SinkFault>
+    ensures both { SettlesBoth
+        (append_known (O.written out.old.sink) out.old.held) (O.written out.new.sink)
+        (append_known (E.written err.old.sink) err.old.held) (E.written err.new.sink)
+        (O.failures out.old.sink) (O.failures out.new.sink) (E.failures err.old.sink) (E.failures err.new.sink) result }
+    ensures none { err.new.held ≡ [] }
+{
+    let kept = hand_over(out);
+    let told = err.flush();
+    kept.and(told)
+}
+
+// Hands on what the output holds, and sees to it that all of it is kept.
+fn hand_over<O: Finish>(out: &mut WholeLines<O>) -> Result<(), SinkFault>
+    ensures { Settles (append_known (O.written out.old.sink) out.old.held) (O.written out.new.sink)
+        (O.failures out.old.sink) (O.failures out.new.sink) result }
+{
+    out.flush()?;
+    out.finish()
+}
+
+// Writes the line for a stop, where there is a tool to tell of it.
+fn tell<E: Sink>(tool: Option<Tool>, stop: Stop, err: &mut WholeLines<E>)
+    requires { err.old.held ≡ [] }
+    ensures { Says (stop_told tool stop) (E.written err.old.sink) (E.written err.new.sink)
+        (E.failures err.old.sink) (E.failures err.new.sink) }
+{
+    let Some(tool) = tool else {
+        return;
+    };
+    match put_stop(err, tool, stop) {
+        Ok(()) => {
+            let _ = err.flush();
+        }
+        Err(SinkFault) => {}
+    }
+}
