@@ -1,6 +1,9 @@
 -- What standard input has to give.
 use Rattle.std.specs.Prelude.{[], Option, None, Some}
-use Rattle.sum_sources.specs.declared.fault.Ending.TheVariants.{Whole}
+use Rattle.sum_sources.specs.declared.closable.Closable.{Closable}
+use Rattle.sum_sources.specs.declared.closable.Closable.TheVariants.{Open, Closed}
+use Rattle.sum_sources.specs.declared.fault.Fault.TheVariants.{Other}
+use Rattle.sum_sources.specs.declared.fault.Ending.TheVariants.{Whole, Broken}
 use Rattle.sum_sources.specs.Contents.{Content}
 
 -- the empty content
@@ -11,3 +14,8 @@ nothing = record { bytes = []; ending = Whole }
 abbrev pub left_in : {I : Type 0} → (I → Option Content) → Option I → Option Content
 left_in content None = Some nothing
 left_in content (Some i) = content i
+
+-- an input that is closed has nothing but a fault
+abbrev pub unless_closed : {I : Type 0} → (I → Option Content) → Closable I → Option Content
+unless_closed content (Open i) = content i
+unless_closed content Closed = Some (record { bytes = []; ending = Broken Other })

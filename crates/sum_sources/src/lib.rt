@@ -2,6 +2,7 @@
 //! input, and the lines of a manifest.
 #![tactic(auto)]
 
+mod closable;
 mod fault;
 mod files;
 mod from_read;
@@ -14,6 +15,7 @@ mod standard;
 mod told;
 mod told_source;
 
+pub use closable::Closable;
 pub use fault::{Ending, Fault};
 pub use files::Files;
 pub use from_read::FromRead;

@@ -1,5 +1,7 @@
 //! Told and real sources.
-use crate::{Answer, Ending, Fault, Files, Input, NoRoom, OpenFault, Source, ToldSource};
+use crate::{
+    Answer, Closable, Ending, Fault, Files, Input, NoRoom, OpenFault, Source, Told, ToldSource,
+};
 use linked_list_allocator::LocalHeap;
 use std::fs;
 use std::test::Fail;
@@ -60,5 +62,19 @@ fn real_files(rt: HostRuntime) -> Result<(), Fail> {
     );
     assert!(rt; files.open_file(b"\xff").err() == Some(OpenFault::Fault(Fault::Other)));
     assert!(rt; files.open_file(b"").err() == Some(OpenFault::Fault(Fault::NotFound)));
+    Ok(())
+}
+
+// What is open gives what its input gives; what is closed faults at each read.
+#[test]
+fn closable(rt: HostRuntime) -> Result<(), Fail> {
+    let mut buf = [0; 4];
+    let mut open = Closable::Open(Told::new(b"abc", Ending::Broken(Fault::Denied), 2));
+    assert!(rt; open.read(&mut buf) == Ok(2));
+    assert!(rt; open.read(&mut buf) == Ok(1));
+    assert!(rt; open.read(&mut buf) == Err(Fault::Denied));
+    let mut closed: Closable<Told> = Closable::Closed;
+    assert!(rt; closed.read(&mut buf) == Err(Fault::Other));
+    assert!(rt; closed.read(&mut buf) == Err(Fault::Other));
     Ok(())
 }
