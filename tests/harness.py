@@ -1,6 +1,7 @@
 """What the end-to-end tests share: a folder for each test, a run of the program with a time limit, and the values that
 the tests expect. The values are those of the standards, and were not taken from any output of the program."""
 
+import errno
 import functools
 import os
 import pty
@@ -225,6 +226,44 @@ class Case(unittest.TestCase):
                 break
             got += piece
         self.assertEqual(got, wanted)
+
+    def until(self, condition, what, seconds=20):
+        """Waits until the condition holds; the test fails, saying what was awaited, where it doesn't in that time."""
+        stop = time.monotonic() + seconds
+        while not condition():
+            self.assertLess(time.monotonic(), stop, f"in {seconds} seconds: {what}")
+            time.sleep(0.001)
+
+    def fed(self, name):
+        """A pipe with a name, opened for writing once the program has it open for reading. What the program does
+        before it comes to that name is then over, and nothing comes until the caller writes or closes."""
+        opened = []
+
+        def is_read():
+            try:
+                opened.append(os.open(self.path(name), os.O_WRONLY | os.O_NONBLOCK))
+            except OSError as error:
+                if error.errno != errno.ENXIO:
+                    raise
+            return opened
+
+        self.until(is_read, "the program reads the pipe with a name")
+        return os.fdopen(opened[0], "wb", buffering=0)
+
+    def writes_of(self, words, out="out", err="err", **how):
+        """Runs `digests` with its outputs into two files: its status, and how often it called the system to write, as
+        the system counts for each process until that is waited for."""
+        with open(self.path(out), "wb") as out_file, open(self.path(err), "wb") as err_file:
+            how.setdefault("stdout", out_file)
+            how.setdefault("stderr", err_file)
+            started = self.start(words, **how)
+            os.waitid(os.P_PID, started.pid, os.WEXITED | os.WNOWAIT)
+        try:
+            with open(f"/proc/{started.pid}/io", "rb") as counts:
+                found = [line for line in counts if line.startswith(b"syscw:")]
+        except OSError:
+            self.skipTest("this system counts no calls of a process")
+        return started.wait(), int(found[0].split()[1])
 
     def peak_of(self, words, out="out", **how):
         """Runs `digests` with standard output into the file `out`: its status, its standard error and its peak memory
