@@ -180,9 +180,9 @@ class Case(unittest.TestCase):
         tool = as_words(words)[0]
         self.expect(words, err=[f"{tool}: {text}", f"Try '{tool} --help' for more information."], status=1)
 
-    def start(self, words, **how):
-        """Starts `digests` with these words in the test's folder; it is ended with the test."""
-        started = subprocess.Popen([PROGRAM, *as_words(words)], cwd=self.folder, **how)
+    def start(self, words, folder=None, **how):
+        """Starts `digests` with these words in the test's folder or another one; it is ended with the test."""
+        started = subprocess.Popen([PROGRAM, *as_words(words)], cwd=folder or self.folder, **how)
         self.addCleanup(end, started)
         return started
 

@@ -82,14 +82,15 @@ class SideBySide(Case):
         self.assertEqual(len(said), FILES)
 
     @needs_check
-    def test_reports_into_one_file(self):
-        """Eight checks at a time write whole reports into one file."""
+    def test_reports_into_one_pipe(self):
+        """Eight checks at a time write whole reports into one pipe, from which a slow reader takes a page at a time."""
         self.write("l", b"\n".join(self.lines) + b"\n")
-        with open(self.path("reports"), "wb") as reports:
-            started = [subprocess.Popen([harness.PROGRAM, "sha256sum", "-c", self.path("l")], cwd=self.tree,
-                                        stdout=reports) for _ in range(8)]
-            for one in started:
-                self.addCleanup(harness.end, one)
-            self.assertEqual([one.wait(timeout=harness.RUN_SECONDS) for one in started], [0] * 8)
+        reads, writes = os.pipe()
+        self.addCleanup(os.close, reads)
+        words = ["sha256sum", "-c", self.path("l")]
+        started = [self.start(words, folder=self.tree, stdout=writes) for _ in range(8)]
+        os.close(writes)
+        got = b"".join(iter(lambda: os.read(reads, 4096), b""))
+        self.assertEqual([one.wait(timeout=harness.RUN_SECONDS) for one in started], [0] * 8)
         wanted = sorted(8 * [line.partition(b"  ")[2] + b": OK" for line in self.lines])
-        self.assertTrue(sorted(self.read("reports").splitlines()) == wanted, "reports are torn")
+        self.assertTrue(sorted(got.splitlines()) == wanted, "reports are torn")
