@@ -227,6 +227,14 @@ class Case(unittest.TestCase):
             got += piece
         self.assertEqual(got, wanted)
 
+    def same(self, got, wanted):
+        """Compares two long texts, and shows only where they part: a whole comparison could take minutes."""
+        got, wanted = as_bytes(got), as_bytes(wanted)
+        if got != wanted:
+            place = len(os.path.commonprefix([got, wanted]))
+            near = slice(max(0, place - 40), place + 80)
+            self.fail(f"at byte {place} of {len(got)}, {len(wanted)} wanted: {got[near]!r} != {wanted[near]!r}")
+
     def until(self, condition, what, seconds=20):
         """Waits until the condition holds; the test fails, saying what was awaited, where it doesn't in that time."""
         stop = time.monotonic() + seconds
@@ -251,19 +259,22 @@ class Case(unittest.TestCase):
         return os.fdopen(opened[0], "wb", buffering=0)
 
     def writes_of(self, words, out="out", err="err", **how):
-        """Runs `digests` with its outputs into two files: its status, and how often it called the system to write, as
-        the system counts for each process until that is waited for."""
+        """Runs `digests` with its outputs into two files: its status, and how often it called the system to write. The
+        system adds what a child did to the counts of its parent, when that has waited for it."""
         with open(self.path(out), "wb") as out_file, open(self.path(err), "wb") as err_file:
             how.setdefault("stdout", out_file)
             how.setdefault("stderr", err_file)
-            started = self.start(words, **how)
-            os.waitid(os.P_PID, started.pid, os.WEXITED | os.WNOWAIT)
+            before = self.writes_so_far()
+            status = self.start(words, **how).wait(timeout=RUN_SECONDS)
+            return status, self.writes_so_far() - before
+
+    def writes_so_far(self):
+        """How often this process and the children that it waited for called the system to write."""
         try:
-            with open(f"/proc/{started.pid}/io", "rb") as counts:
-                found = [line for line in counts if line.startswith(b"syscw:")]
-        except OSError:
+            with open("/proc/self/io", "rb") as counts:
+                return next(int(line.split()[1]) for line in counts if line.startswith(b"syscw:"))
+        except (OSError, StopIteration):
             self.skipTest("this system counts no calls of a process")
-        return started.wait(), int(found[0].split()[1])
 
     def peak_of(self, words, out="out", **how):
         """Runs `digests` with standard output into the file `out`: its status, its standard error and its peak memory

@@ -90,7 +90,7 @@ class Ended(Case):
         for number in (signal.SIGTERM, signal.SIGKILL, signal.SIGINT):
             with self.subTest(signal=number):
                 out = self.ended_at_the_pipe(["md5sum", *["a"] * 500, "p", "e"], number)
-                self.assertEqual(out, as_bytes([f"{M}  a"] * 500))
+                self.same(out, [f"{M}  a"] * 500)
 
     @needs_check
     def test_after_500_reports(self):
@@ -99,7 +99,7 @@ class Ended(Case):
         self.write("l", [*[f"{M}  a"] * 500, f"{M}  p", f"{M}  a"])
         for number in (signal.SIGTERM, signal.SIGKILL):
             with self.subTest(signal=number):
-                self.assertEqual(self.ended_at_the_pipe("md5sum -c l", number), b"a: OK\n" * 500)
+                self.same(self.ended_at_the_pipe("md5sum -c l", number), ["a: OK"] * 500)
 
     def test_at_any_moment(self):
         """A run that is ended while it writes leaves whole lines alone."""
@@ -112,7 +112,7 @@ class Ended(Case):
                 started.send_signal(number)
                 started.wait(timeout=harness.RUN_SECONDS)
                 out = self.read("out")
-                self.assertEqual(out, line * (len(out) // len(line)))
+                self.same(out, line * (len(out) // len(line)))
 
 
 class OneFile(Case):
@@ -122,9 +122,11 @@ class OneFile(Case):
         """Expects these lines from both outputs together, in a file and through a pipe."""
         with open(self.path("both"), "wb") as both:
             ran = self.run_words(words, stdout=both, stderr=subprocess.STDOUT)
-        self.assertEqual((ran.status, self.read("both")), (status, as_bytes(lines)))
+        self.same(self.read("both"), lines)
+        self.assertEqual(ran.status, status)
         ran = self.run_words(words, stderr=subprocess.STDOUT)
-        self.assertEqual((ran.status, ran.out), (status, as_bytes(lines)))
+        self.same(ran.out, lines)
+        self.assertEqual(ran.status, status)
 
     def test_good_and_bad_operands(self):
         """`md5sum a x e d x a 2>&1` tells of each file in its place."""

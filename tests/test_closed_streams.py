@@ -5,7 +5,6 @@ import hashlib
 import os
 import pwd
 import shutil
-import subprocess
 
 import harness
 from harness import E, M, S, TOOLS, VERDICTS, X_MISSING, Case, Ran, as_bytes, as_words, needs_check
@@ -145,7 +144,7 @@ class NoRootFolder(Traced):
             self.skipTest("only root can change the root folder")
         if shutil.which("ldd") is None:
             self.skipTest("there is no ldd here, which names the program's libraries")
-        told = subprocess.run(["ldd", harness.PROGRAM], stdout=subprocess.PIPE, timeout=harness.RUN_SECONDS).stdout
+        told = self.run_command(["ldd", harness.PROGRAM]).out
         os.mkdir(root)
         for word in told.split():
             if word.startswith(b"/"):

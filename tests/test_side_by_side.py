@@ -38,17 +38,20 @@ class SideBySide(Case):
 
     def setUp(self):
         super().setUp()
-        if shutil.which("xargs") is None:
-            self.skipTest("there is no xargs here")
         self.write("names", self.names)
 
+    def run_script(self, script, left, **how):
+        """Runs a script in the tree, which calls the program `$0` for the files named in `$1`, and leaves `$2`."""
+        if shutil.which("xargs") is None:
+            self.skipTest("there is no xargs here")
+        words = [harness.PROGRAM, self.path("names"), self.path(left)]
+        return self.run_command(["sh", "-c", script, *words], cwd=self.tree, **how)
+
     def expect_whole_lines(self, script):
-        """Runs a script several times, which hashes the files named in `$1` with the program `$0` and leaves their
-        lines in `$2`: they are the lines of these files, each of them once."""
-        words = [harness.PROGRAM, self.path("names"), self.path("sums")]
+        """Runs a script several times, which leaves the lines of the files: each of them once."""
         for turn in range(TIMES):
             with self.subTest(turn=turn):
-                ran = self.run_command(["sh", "-c", script, *words], cwd=self.tree)
+                ran = self.run_script(script, "sums")
                 self.assertEqual((ran.status, ran.err), (0, b""))
                 got = self.read("sums").splitlines()
                 known = set(self.lines)
@@ -73,8 +76,7 @@ class SideBySide(Case):
         missing = as_bytes([name_of(number) + "-missing" for number in range(FILES)])
         self.write("names", missing.replace(b"\n", b"\0"))
         script = 'xargs -0 -P 8 -n 1500 "$0" sha256sum <"$1" 2>"$2"'
-        words = [harness.PROGRAM, self.path("names"), self.path("said")]
-        self.run_command(["sh", "-c", script, *words], cwd=self.tree, stderr=subprocess.DEVNULL)
+        self.run_script(script, "said", stderr=subprocess.DEVNULL)
         wanted = {b"sha256sum: " + name + b": No such file or directory" for name in missing.splitlines()}
         said = self.read("said").splitlines()
         torn = [line for line in said if line not in wanted]
