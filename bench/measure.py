@@ -1,7 +1,9 @@
-"""Running commands for the benchmarks: the least time of several runs, side by side, and the peak of memory."""
+"""Running commands for the benchmarks: the least time of several runs, side by side, the number of their writes, and
+the peak of memory."""
 
 import os
 import subprocess
+import tempfile
 import time
 
 
@@ -32,6 +34,18 @@ def run_once(contender, stdin, stdout, folder):
     if status != contender.status:
         raise SystemExit(f"run.py: {contender.name}: {' '.join(contender.words[:6])} gave the status {status}")
     return seconds
+
+
+def count_writes(contender, strace, stdin=os.devnull, stdout=os.devnull, folder=None):
+    """How often it calls the system to write in one run, as `strace` at this path counts; None where that may not
+    trace."""
+    with tempfile.NamedTemporaryFile() as summary:
+        traced = [contender.program or contender.words[0], *contender.words[1:]]
+        words = [strace, "-f", "-c", "-o", summary.name, "-e", "trace=write,writev", *traced]
+        if Contender(contender.name, words).start(stdin, stdout, folder).wait() != contender.status:
+            return None
+        rows = [line.split() for line in summary.read().decode().splitlines()]
+    return sum(int(row[3]) for row in rows if row and row[-1] in ("write", "writev"))
 
 
 def least_times(contenders, rounds, stdin=os.devnull, stdout=os.devnull, folder=None):

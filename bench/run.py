@@ -1,6 +1,6 @@
 #!/usr/bin/env python3
 """Measures the built program beside GNU coreutils and beside bare loops over the kit's digests, in one run:
-`bench/run.py [--size MIB] [--rounds N] [--only WORD] [--program FILE]`.
+`bench/run.py [--size MIB] [--rounds N] [--only PART] [--program FILE] [--no-bare]`.
 
 Every number is the least of several rounds, in which the programs take turns. A speed is a ratio of times: 1.00 is as
 fast as the other, 2.00 twice as fast. What isn't installed is left out."""
@@ -19,7 +19,7 @@ TOP = os.path.dirname(HERE)
 sys.dont_write_bytecode = True
 sys.path.insert(0, HERE)
 
-from measure import Contender, least_times, peak_memory  # noqa: E402  (it stands beside this file)
+from measure import Contender, count_writes, least_times, peak_memory  # noqa: E402  (it stands beside this file)
 
 TOOLS = ("md5sum", "sha1sum", "sha224sum", "sha256sum", "sha384sum", "sha512sum", "b2sum")
 MIB = 1 << 20
@@ -79,6 +79,7 @@ class Bench:
         self.size = asked.size
         self.folder = folder
         self.out = os.path.join(folder, "out")
+        self.strace = shutil.which("strace")
 
     def contenders(self, tool, *words):
         """Ours, and GNU's where it is installed, with the same words."""
@@ -107,6 +108,13 @@ class Bench:
                 with open(os.path.join(self.folder, name), "wb") as file:
                     file.write(chance.randbytes(100))
         return names
+
+    def writes(self, contenders):
+        """How often each contender calls the system to write, by name; none where `strace` isn't there to count."""
+        if self.strace is None:
+            return {}
+        counts = {it.name: count_writes(it, self.strace, stdout=self.out, folder=self.folder) for it in contenders}
+        return {name: count for name, count in counts.items() if count is not None}
 
     def least(self, contenders, rounds=None, **how):
         """The least times of these contenders."""
@@ -166,17 +174,23 @@ def start(bench):
 
 
 def files(bench):
-    """Many small files as operands, and a manifest of many lines."""
-    heading("Files of 100 bytes", "work", "ours", "GNU", "against GNU")
+    """Many small files as operands, and a manifest of many lines: output into a file, and the writes that it takes."""
+    heading("Files of 100 bytes", "work", "ours", "GNU", "against GNU", "our writes", "GNU's writes")
     names = bench.small(20000)
     for tool in ("md5sum", "sha256sum", "b2sum"):
-        times = bench.least(bench.contenders(tool, *names), 2 * bench.rounds, stdout=bench.out)
-        row(f"{tool}, 20,000 operands", seconds(times, OURS), seconds(times, GNU), speed(times, GNU))
+        measure_files(bench, f"{tool}, 20,000 operands", bench.contenders(tool, *names), 2 * bench.rounds)
         manifest = os.path.join(bench.folder, "manifest")
         with open(bench.out, "rb") as lines, open(manifest, "wb") as file:
             file.write(lines.read() * 10)
-        times = bench.least(bench.contenders(tool, "-c", manifest), stdout=bench.out)
-        row(f"{tool} -c, 200,000 lines", seconds(times, OURS), seconds(times, GNU), speed(times, GNU))
+        measure_files(bench, f"{tool} -c, 200,000 lines", bench.contenders(tool, "-c", manifest), bench.rounds)
+
+
+def measure_files(bench, work, contenders, rounds):
+    """A row of the times and the writes of these contenders."""
+    times = bench.least(contenders, rounds, stdout=bench.out)
+    counts = bench.writes(contenders)
+    cells = [f"{counts[name]:,}" if name in counts else "-" for name in (OURS, GNU)]
+    row(work, seconds(times, OURS), seconds(times, GNU), speed(times, GNU), *cells)
 
 
 def memory(bench):
@@ -219,12 +233,34 @@ def lines(bench):
 PARTS = {"hashing": hashing, "blake": blake, "start": start, "files": files, "lines": lines, "memory": memory}
 
 
+class Reader(argparse.ArgumentParser):
+    """Reads the words; what is wrong with them is told in one line."""
+
+    def error(self, message):
+        sys.exit(f"run.py: {message}")
+
+
+def at_least_one(word):
+    """The number that a word is, where it is one and at least 1."""
+    if not (word.isascii() and word.isdecimal()) or int(word) < 1:
+        raise argparse.ArgumentTypeError(f"a whole number from 1 on is wanted, not '{word}'")
+    return int(word)
+
+
+def program(word):
+    """The path of a program, where there is one."""
+    if not os.path.isfile(word) or not os.access(word, os.X_OK):
+        raise argparse.ArgumentTypeError(f"there is no program '{word}'")
+    return word
+
+
 def main():
-    reader = argparse.ArgumentParser(description="Measures the program beside others.")
-    reader.add_argument("--size", type=int, default=512, metavar="MIB", help="size of the large input (512)")
-    reader.add_argument("--rounds", type=int, default=5, metavar="N", help="rounds of which the least counts (5)")
+    reader = Reader(description="Measures the program beside others.", allow_abbrev=False)
+    number = {"type": at_least_one, "metavar": "N"}
+    reader.add_argument("--size", default=512, help="size of the large input in MiB (512)", **number)
+    reader.add_argument("--rounds", default=5, help="rounds of which the least counts (5)", **number)
     reader.add_argument("--only", choices=PARTS, action="append", help="only this part; may be given again")
-    reader.add_argument("--program", metavar="FILE", help="the program, in place of this repository's own")
+    reader.add_argument("--program", type=program, metavar="FILE", help="the program, else this repository's own")
     reader.add_argument("--no-bare", action="store_true", help="leave out the bare loops")
     asked = reader.parse_args()
     os.environ["LC_ALL"] = "C"
@@ -233,6 +269,8 @@ def main():
         print(f"{platform.platform()}, {os.cpu_count()} processors, load {os.getloadavg()[0]:.1f}")
         print(f"least of {asked.rounds} rounds or more")
         print(f"GNU: {gnu_tool('md5sum')[1] or 'not installed, left out'}")
+        if bench.strace is None:
+            print("strace: not installed, writes aren't counted")
         if bench.bare is None and not asked.no_bare:
             print("bare loops: not built, left out")
         for name, measure in PARTS.items():

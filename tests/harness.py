@@ -1,6 +1,7 @@
 """What the end-to-end tests share: a folder for each test, a run of the program with a time limit, and the values that
 the tests expect. The values are those of the standards, and were not taken from any output of the program."""
 
+import errno
 import functools
 import os
 import pty
@@ -179,9 +180,9 @@ class Case(unittest.TestCase):
         tool = as_words(words)[0]
         self.expect(words, err=[f"{tool}: {text}", f"Try '{tool} --help' for more information."], status=1)
 
-    def start(self, words, **how):
-        """Starts `digests` with these words in the test's folder; it is ended with the test."""
-        started = subprocess.Popen([PROGRAM, *as_words(words)], cwd=self.folder, **how)
+    def start(self, words, folder=None, **how):
+        """Starts `digests` with these words in the test's folder or another one; it is ended with the test."""
+        started = subprocess.Popen([PROGRAM, *as_words(words)], cwd=folder or self.folder, **how)
         self.addCleanup(end, started)
         return started
 
@@ -225,6 +226,55 @@ class Case(unittest.TestCase):
                 break
             got += piece
         self.assertEqual(got, wanted)
+
+    def same(self, got, wanted):
+        """Compares two long texts, and shows only where they part: a whole comparison could take minutes."""
+        got, wanted = as_bytes(got), as_bytes(wanted)
+        if got != wanted:
+            place = len(os.path.commonprefix([got, wanted]))
+            near = slice(max(0, place - 40), place + 80)
+            self.fail(f"at byte {place} of {len(got)}, {len(wanted)} wanted: {got[near]!r} != {wanted[near]!r}")
+
+    def until(self, condition, what, seconds=20):
+        """Waits until the condition holds; the test fails, saying what was awaited, where it doesn't in that time."""
+        stop = time.monotonic() + seconds
+        while not condition():
+            self.assertLess(time.monotonic(), stop, f"in {seconds} seconds: {what}")
+            time.sleep(0.001)
+
+    def fed(self, name):
+        """A pipe with a name, opened for writing once the program has it open for reading. What the program does
+        before it comes to that name is then over, and nothing comes until the caller writes or closes."""
+        opened = []
+
+        def is_read():
+            try:
+                opened.append(os.open(self.path(name), os.O_WRONLY | os.O_NONBLOCK))
+            except OSError as error:
+                if error.errno != errno.ENXIO:
+                    raise
+            return opened
+
+        self.until(is_read, "the program reads the pipe with a name")
+        return os.fdopen(opened[0], "wb", buffering=0)
+
+    def writes_of(self, words, out="out", err="err", **how):
+        """Runs `digests` with its outputs into two files: its status, and how often it called the system to write. The
+        system adds what a child did to the counts of its parent, when that has waited for it."""
+        with open(self.path(out), "wb") as out_file, open(self.path(err), "wb") as err_file:
+            how.setdefault("stdout", out_file)
+            how.setdefault("stderr", err_file)
+            before = self.writes_so_far()
+            status = self.start(words, **how).wait(timeout=RUN_SECONDS)
+            return status, self.writes_so_far() - before
+
+    def writes_so_far(self):
+        """How often this process and the children that it waited for called the system to write."""
+        try:
+            with open("/proc/self/io", "rb") as counts:
+                return next(int(line.split()[1]) for line in counts if line.startswith(b"syscw:"))
+        except (OSError, StopIteration):
+            self.skipTest("this system counts no calls of a process")
 
     def peak_of(self, words, out="out", **how):
         """Runs `digests` with standard output into the file `out`: its status, its standard error and its peak memory

@@ -27,6 +27,11 @@ def tests_below(suite, word):
             yield test
 
 
+def names_of(entries):
+    """The names of the tests that these entries of a result are of."""
+    return {getattr(test, "test_case", test).id() for test, _ in entries}
+
+
 def main():
     reader = argparse.ArgumentParser(description="Tests the built program from the outside.")
     reader.add_argument("program", help="the program digests")
@@ -43,14 +48,14 @@ def main():
     found = unittest.defaultTestLoader.discover(HERE, pattern="test_*.py")
     chosen = unittest.TestSuite(tests_below(found, asked.only))
     result = unittest.TextTestRunner(sys.stdout, verbosity=2 if asked.verbose else 1).run(chosen)
-    # Parts of one test that fail each have an entry; the test counts once.
-    failed = len({getattr(test, "test_case", test).id() for test, _ in result.failures + result.errors})
-    skipped = len(result.skipped)
+    # Parts of one test that fail, or are skipped, each have an entry; the test counts once.
+    failed = names_of(result.failures + result.errors)
+    skipped = names_of(result.skipped) - failed
     for why, count in collections.Counter(why for _, why in result.skipped).items():
         print(f"skipped {count}: {why}")
-    passed = result.testsRun - failed - skipped
+    passed = result.testsRun - len(failed) - len(skipped)
     seconds = time.monotonic() - started
-    print(f"{passed} end-to-end tests passed, {failed} failed, {skipped} skipped, in {seconds:.0f} s")
+    print(f"{passed} end-to-end tests passed, {len(failed)} failed, {len(skipped)} skipped, in {seconds:.0f} s")
     if failed or not passed:
         sys.exit(1)
 

@@ -158,7 +158,7 @@ class Operands(Case):
 
     def test_other_failures_are_input_output_errors(self):
         os.symlink("loop", self.path("loop"))
-        for name in ("a/x", "loop", "n" * 300, "d/" * 3000):
+        for name in ("a/", "a/x", "a/.", "loop", "n" * 300, "d/" * 3000):
             with self.subTest(name=name[:9]):
                 self.expect(["md5sum", name], err=[f"md5sum: {name}: Input/output error"], status=1)
 

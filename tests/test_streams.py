@@ -1,7 +1,6 @@
-"""Standard streams and devices: pipes, terminals, full and closed outputs, closed input, readers that go away, limits
-on files, and very many operands."""
+"""Standard streams and devices: pipes, terminals, full outputs, readers that go away, limits on files, and very many
+operands."""
 
-import hashlib
 import os
 import pty
 import subprocess
@@ -40,30 +39,20 @@ class StandardInput(Case):
         self.expect("md5sum", stdin=folder, err=["md5sum: -: Input/output error"], status=1)
         self.expect("md5sum - a", stdin=folder, out=[f"{M}  a"], err=["md5sum: -: Input/output error"], status=1)
 
-    def test_closed(self):
-        ran = self.run_command(["sh", "-c", 'exec "$0" md5sum <&-', harness.PROGRAM])
-        self.assertEqual(ran, Ran(1, b"", b"md5sum: -: Input/output error\n"))
-
-    def test_closed_and_not_asked_for(self):
-        ran = self.run_command(["sh", "-c", 'exec "$0" md5sum a e <&-', harness.PROGRAM])
-        self.assertEqual(ran, Ran(0, as_bytes([f"{M}  a", f"{E}  e"]), b""))
-
-    @needs_check
-    def test_closed_and_listed(self):
-        """The manifest's own bytes never stand for those of closed standard input, whatever digest it lists."""
-        behind = b"#" + b"t" * 99 + b"\n"
-        listed = as_bytes([f"{hashlib.md5(behind).hexdigest()}  -"])
-        beyond_the_buffer = listed + b"#" * (8191 - len(listed)) + b"\n" + behind
-        for manifest in (as_bytes([f"{E}  -"]), beyond_the_buffer):
-            with self.subTest(length=len(manifest)):
-                self.write("l", manifest)
-                ran = self.run_command(["sh", "-c", 'exec "$0" md5sum -c l <&-', harness.PROGRAM])
-                err = ["md5sum: -: Input/output error", "md5sum: WARNING: 1 listed file could not be read"]
-                self.assertEqual(ran, Ran(1, b"-: FAILED open or read\n", as_bytes(err)))
-
     def test_only_writable(self):
         with open(self.path("w"), "wb") as file:
             self.expect("md5sum", stdin=file, err=["md5sum: -: Input/output error"], status=1)
+
+    def test_that_does_not_wait(self):
+        """An empty pipe that answers at once that it has nothing yet is a fault, and no endless loop."""
+        reads, writes = os.pipe()
+        self.addCleanup(os.close, reads)
+        self.addCleanup(os.close, writes)
+        os.set_blocking(reads, False)
+        err = ["md5sum: -: Input/output error"]
+        self.expect("md5sum - a", stdin=reads, out=[f"{M}  a"], err=err, status=1)
+        os.write(writes, b"abc")
+        self.expect("md5sum", stdin=reads, err=err, status=1)
 
     def test_a_terminal(self):
         """The end that is typed at a terminal is the end: nothing is read behind it."""
@@ -125,34 +114,16 @@ class Outputs(Case):
         with self.full() as full:
             self.expect("md5sum x", err=[X_MISSING], status=1, stdout=full)
 
-    def test_standard_output_closed(self):
-        ran = self.run_command(["sh", "-c", 'exec "$0" md5sum a >&-', harness.PROGRAM])
-        self.assertEqual(ran, Ran(1, b"", WRITE_ERROR))
-
     def test_standard_error_full(self):
         with self.full() as full:
-            ran = self.run_words("md5sum a x e", stderr=full)
-            self.assertEqual(ran.status, 1)
-            self.assertTrue(as_bytes([f"{M}  a", f"{E}  e"]).startswith(ran.out), ran.out)
+            self.expect("md5sum a x e", out=[f"{M}  a"], status=1, stderr=full)
             for words in ("md5sum --foo", "shasum", ["md5sum", b"\xff"]):
                 self.expect(words, status=1, stderr=full)
             self.expect("md5sum a", out=[f"{M}  a"], stderr=full)
 
-    def test_standard_error_closed(self):
-        ran = self.run_command(["sh", "-c", 'exec "$0" md5sum a 2>&-', harness.PROGRAM])
-        self.assertEqual(ran, Ran(0, f"{M}  a\n".encode(), b""))
-        ran = self.run_command(["sh", "-c", 'exec "$0" md5sum x 2>&-', harness.PROGRAM])
-        self.assertEqual(ran, Ran(1, b"", b""))
-
     def test_both_outputs_full(self):
         with self.full() as full:
             self.expect("md5sum a x", status=1, stdout=full, stderr=full)
-
-    def test_both_outputs_in_one_file(self):
-        with open(self.path("both"), "wb") as both:
-            self.assertEqual(self.run_words("md5sum a x e", stdout=both, stderr=subprocess.STDOUT).status, 1)
-        lines = [f"{M}  a", X_MISSING, f"{E}  e"]
-        self.assertEqual(sorted(self.read("both").splitlines()), sorted(map(str.encode, lines)))
 
     def test_a_reader_that_goes_away(self):
         """It is a write error, whether or not the caller ignores the signal for it."""
@@ -265,6 +236,18 @@ class Many(Case):
         self.expect(["md5sum", name], err=[f"md5sum: {name}: Input/output error"], status=1)
         self.expect_fault(["md5sum", f"--{name}"], f"unrecognized option '--{name}'")
         self.expect_fault(["b2sum", "-l", name], f"invalid length: '{name}'")
+
+    def test_the_longest_word(self):
+        """The system passes on no word that is longer than 131,071 bytes; that one is read, whatever it is."""
+        name = "y" * 131071
+        try:
+            self.expect(["md5sum", name, "a"], out=[f"{M}  a"], err=[f"md5sum: {name}: Input/output error"], status=1)
+        except OSError:
+            self.skipTest("this system passes on no word of 131,071 bytes")
+        option = "--" + "y" * 131069
+        self.expect_fault(["md5sum", option], f"unrecognized option '{option}'")
+        zeros = "0" * 131068 + "256"
+        self.expect(["b2sum", "-l", zeros, "e"], out=[f"{harness.B}  e"])
 
     def test_open_files_are_closed_again(self):
         """With few descriptors allowed, many operands are still read one after the other."""

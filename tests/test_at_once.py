@@ -1,0 +1,166 @@
+"""Each line is there as soon as it is complete: a reader sees it while the next file is still awaited, a run that is
+ended leaves every line that it had completed, and both outputs in one file have the order of the run."""
+
+import os
+import signal
+import subprocess
+
+import harness
+from harness import E, M, VERDICTS, X_MISSING, Case, as_bytes, needs_check
+
+SOON = 5  # seconds in which a line has to be there
+
+
+class FirstLines(Case):
+    """A pipe with a name, which nobody feeds yet, holds the program at the next name."""
+
+    def setUp(self):
+        super().setUp()
+        os.mkfifo(self.path("p"))
+
+    def finish(self, started, status):
+        """Feeds the pipe with a name, and waits for the end."""
+        with self.fed("p") as pipe:
+            pipe.write(b"abc")
+        self.assertEqual(started.wait(timeout=harness.RUN_SECONDS), status)
+
+    def test_a_line_before_the_next_file_is_there(self):
+        """`md5sum a fifo | while read line` shows the first line at once."""
+        started = self.start("md5sum a p e", stdout=subprocess.PIPE)
+        self.shown(started.stdout.fileno(), [f"{M}  a"], SOON)
+        self.assertIsNone(started.poll())
+        self.finish(started, 0)
+        self.shown(started.stdout.fileno(), [f"{M}  p", f"{E}  e"])
+
+    def test_a_line_with_a_nul_at_its_end(self):
+        """The same under -z."""
+        started = self.start("md5sum -z a p", stdout=subprocess.PIPE)
+        self.shown(started.stdout.fileno(), f"{M}  a\0", SOON)
+        self.finish(started, 0)
+        self.shown(started.stdout.fileno(), f"{M}  p\0")
+
+    def test_a_line_stands_in_a_file_at_once(self):
+        """The same where the output is a file."""
+        with open(self.path("out"), "wb") as out:
+            started = self.start("md5sum a e p", stdout=out)
+        with self.fed("p"):
+            self.assertEqual(self.read("out"), as_bytes([f"{M}  a", f"{E}  e"]))
+        self.assertEqual(started.wait(timeout=harness.RUN_SECONDS), 0)
+        self.assertEqual(self.read("out"), as_bytes([f"{M}  a", f"{E}  e", f"{E}  p"]))
+
+    @needs_check
+    def test_a_report_before_the_next_file_is_there(self):
+        """`md5sum -c | while read line` shows the first report at once."""
+        self.write("l", [f"{M}  a", f"{M}  p", f"{E}  e"])
+        started = self.start("md5sum -c l", stdout=subprocess.PIPE)
+        self.shown(started.stdout.fileno(), ["a: OK"], SOON)
+        self.finish(started, 0)
+        self.shown(started.stdout.fileno(), ["p: OK", "e: OK"])
+
+    @needs_check
+    def test_reports_before_the_manifest_ends(self):
+        """From a pipe into a pipe: each report is there before the next line of the manifest comes."""
+        started = self.start("md5sum -c", stdin=subprocess.PIPE, stdout=subprocess.PIPE, stderr=subprocess.PIPE)
+        for line, report in ((f"{M}  a", "a: OK"), (f"{M}  e", "e: FAILED"), (f"{M}  x", "x: FAILED open or read")):
+            started.stdin.write(as_bytes([line]))
+            started.stdin.flush()
+            self.shown(started.stdout.fileno(), [report], SOON)
+        self.shown(started.stderr.fileno(), [X_MISSING], SOON)
+        self.assertIsNone(started.poll())
+        started.stdin.close()
+        self.assertEqual(started.wait(timeout=harness.RUN_SECONDS), 1)
+
+
+class Ended(Case):
+    """Runs that are ended from outside."""
+
+    def ended_at_the_pipe(self, words, number):
+        """Runs `digests` with standard output into the file `out`, and ends it by this signal once it waits for the
+        pipe with a name: what the file holds then."""
+        with open(self.path("out"), "wb") as out:
+            started = self.start(words, stdout=out)
+        with self.fed("p"):
+            started.send_signal(number)
+            self.assertEqual(started.wait(timeout=harness.RUN_SECONDS), -number)
+        return self.read("out")
+
+    def test_after_500_lines(self):
+        """A run that is ended after 500 files leaves their 500 lines."""
+        os.mkfifo(self.path("p"))
+        for number in (signal.SIGTERM, signal.SIGKILL, signal.SIGINT):
+            with self.subTest(signal=number):
+                out = self.ended_at_the_pipe(["md5sum", *["a"] * 500, "p", "e"], number)
+                self.same(out, [f"{M}  a"] * 500)
+
+    @needs_check
+    def test_after_500_reports(self):
+        """A check that is ended after 500 files leaves their 500 reports."""
+        os.mkfifo(self.path("p"))
+        self.write("l", [*[f"{M}  a"] * 500, f"{M}  p", f"{M}  a"])
+        for number in (signal.SIGTERM, signal.SIGKILL):
+            with self.subTest(signal=number):
+                self.same(self.ended_at_the_pipe("md5sum -c l", number), ["a: OK"] * 500)
+
+    def test_at_any_moment(self):
+        """A run that is ended while it writes leaves whole lines alone."""
+        line = as_bytes([f"{M}  a"])
+        for number in (signal.SIGTERM, signal.SIGKILL):
+            with self.subTest(signal=number):
+                with open(self.path("out"), "wb") as out:
+                    started = self.start(["md5sum", *["a"] * 50000], stdout=out)
+                self.until(lambda: os.path.getsize(self.path("out")) >= 100 * len(line), "100 lines are in the file")
+                started.send_signal(number)
+                started.wait(timeout=harness.RUN_SECONDS)
+                out = self.read("out")
+                self.same(out, line * (len(out) // len(line)))
+
+
+class OneFile(Case):
+    """Both outputs in one file or pipe: the lines stand in the order in which they came."""
+
+    def expect_together(self, words, lines, status):
+        """Expects these lines from both outputs together, in a file and through a pipe."""
+        with open(self.path("both"), "wb") as both:
+            ran = self.run_words(words, stdout=both, stderr=subprocess.STDOUT)
+        self.same(self.read("both"), lines)
+        self.assertEqual(ran.status, status)
+        ran = self.run_words(words, stderr=subprocess.STDOUT)
+        self.same(ran.out, lines)
+        self.assertEqual(ran.status, status)
+
+    def test_good_and_bad_operands(self):
+        """`md5sum a x e d x a 2>&1` tells of each file in its place."""
+        os.mkdir(self.path("d"))
+        lines = [f"{M}  a", X_MISSING, f"{E}  e", "md5sum: d: Input/output error", X_MISSING, f"{M}  a"]
+        self.expect_together("md5sum a x e d x a", lines, 1)
+
+    def test_many_operands(self):
+        """The same with 2,000 files, of which every other one is missing."""
+        self.expect_together(["md5sum", *["a", "x"] * 1000], [f"{M}  a", X_MISSING] * 1000, 1)
+
+    @needs_check
+    def test_checking(self):
+        """What a line comes to stands in its place: for a file that can't be read the diagnostic, then the report."""
+        os.mkdir(self.path("d"))
+        self.write("l", [f"{M}  a", f"{M}  x", "junk", f"{M}  e", f"{M}  d", f"{E}  e"])
+        self.expect_together("md5sum -cw l x l", [
+            *self.reports("l"), X_MISSING, *self.reports("l")], 1)
+
+    def reports(self, name):
+        """What the manifest of `test_checking` comes to."""
+        return ["a: OK", X_MISSING, "x: FAILED open or read",
+                f"md5sum: {name}: 3: improperly formatted MD5 checksum line", "e: FAILED",
+                "md5sum: d: Input/output error", "d: FAILED open or read", "e: OK",
+                "md5sum: WARNING: 1 line is improperly formatted",
+                "md5sum: WARNING: 2 listed files could not be read",
+                "md5sum: WARNING: 1 computed checksum did NOT match"]
+
+    @needs_check
+    def test_all_verdicts(self):
+        """The manifest that comes to every verdict."""
+        self.write("l", VERDICTS)
+        lines = ["a: OK", X_MISSING, "x: FAILED open or read", "e: FAILED",
+                 "md5sum: WARNING: 1 line is improperly formatted",
+                 "md5sum: WARNING: 1 listed file could not be read",
+                 "md5sum: WARNING: 1 computed checksum did NOT match"]
+        self.expect_together("md5sum -c l", lines, 1)

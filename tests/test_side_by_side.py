@@ -1,0 +1,98 @@
+"""Runs side by side into one file or one pipe, as people hash a tree with all processors: no line is torn."""
+
+import hashlib
+import os
+import shutil
+import subprocess
+import tempfile
+
+import harness
+from harness import Case, as_bytes, needs_check
+
+FILES = 12000
+TIMES = 5
+
+
+def name_of(number):
+    """The names are of many lengths, so that the lines end at every place of any buffer."""
+    return "./" * (number % 7) + "d/../" * (number % 3) + f"file-number-{number:05}" + "-" * (number % 41)
+
+
+class SideBySide(Case):
+    """Eight runs at a time over 12,000 files."""
+
+    @classmethod
+    def setUpClass(cls):
+        cls.tree = tempfile.mkdtemp(prefix="digests-tree-")
+        cls.addClassCleanup(shutil.rmtree, cls.tree, ignore_errors=True)
+        os.mkdir(os.path.join(cls.tree, "d"))
+        names, lines = [], []
+        for number in range(FILES):
+            name, content = name_of(number), str(number).encode()
+            with open(os.path.join(cls.tree, name), "wb") as file:
+                file.write(content)
+            names.append(name)
+            lines.append(f"{hashlib.sha256(content).hexdigest()}  {name}")
+        cls.names = b"\0".join(map(str.encode, names))
+        cls.lines = sorted(map(str.encode, lines))
+
+    def setUp(self):
+        super().setUp()
+        self.write("names", self.names)
+
+    def run_script(self, script, left, **how):
+        """Runs a script in the tree, which calls the program `$0` for the files named in `$1`, and leaves `$2`."""
+        if shutil.which("xargs") is None:
+            self.skipTest("there is no xargs here")
+        words = [harness.PROGRAM, self.path("names"), self.path(left)]
+        return self.run_command(["sh", "-c", script, *words], cwd=self.tree, **how)
+
+    def expect_whole_lines(self, script):
+        """Runs a script several times, which leaves the lines of the files: each of them once."""
+        for turn in range(TIMES):
+            with self.subTest(turn=turn):
+                ran = self.run_script(script, "sums")
+                self.assertEqual((ran.status, ran.err), (0, b""))
+                got = self.read("sums").splitlines()
+                known = set(self.lines)
+                torn = [line for line in got if line not in known]
+                self.assertEqual((len(torn), torn[:3]), (0, []))
+                self.assertTrue(sorted(got) == self.lines, "a line is missing, or stands there twice")
+                if not harness.WITHOUT_CHECK:
+                    with open(self.path("sums"), "rb") as sums:
+                        checked = self.run_words("sha256sum -c --quiet --strict", stdin=sums, cwd=self.tree)
+                    self.assertEqual(checked, (0, b"", b""))
+
+    def test_into_a_file(self):
+        """`xargs -P 8 digests sha256sum < names > SUMS` gives every line whole."""
+        self.expect_whole_lines('xargs -0 -P 8 -n 1500 "$0" sha256sum <"$1" >"$2"')
+
+    def test_into_a_pipe(self):
+        """The same through a pipe."""
+        self.expect_whole_lines('xargs -0 -P 8 -n 1500 "$0" sha256sum <"$1" | cat >"$2"')
+
+    def test_diagnostics_into_one_file(self):
+        """What eight runs say of missing files stands there in whole lines, too."""
+        missing = as_bytes([name_of(number) + "-missing" for number in range(FILES)])
+        self.write("names", missing.replace(b"\n", b"\0"))
+        script = 'xargs -0 -P 8 -n 1500 "$0" sha256sum <"$1" 2>"$2"'
+        self.run_script(script, "said", stderr=subprocess.DEVNULL)
+        wanted = {b"sha256sum: " + name + b": No such file or directory" for name in missing.splitlines()}
+        said = self.read("said").splitlines()
+        torn = [line for line in said if line not in wanted]
+        self.assertEqual((len(torn), torn[:3]), (0, []))
+        self.assertEqual(len(said), FILES)
+
+    @needs_check
+    def test_reports_into_one_pipe(self):
+        """Eight checks at a time write whole reports into one pipe, from which a slow reader takes a page at a time."""
+        self.write("l", b"\n".join(self.lines) + b"\n")
+        reads, writes = os.pipe()
+        self.addCleanup(os.close, reads)
+        words = ["sha256sum", "-c", self.path("l")]
+        started = [self.start(words, folder=self.tree, stdout=writes) for _ in range(8)]
+        os.close(writes)
+        got = b"".join(iter(lambda: os.read(reads, 4096), b""))
+        self.assertEqual([one.wait(timeout=harness.RUN_SECONDS) for one in started], [0] * 8)
+        wanted = sorted(8 * [line.partition(b"  ")[2] + b": OK" for line in self.lines])
+        self.assertTrue(sorted(got.splitlines()) == wanted, "reports are torn")

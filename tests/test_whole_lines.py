@@ -1,0 +1,293 @@
+"""Each line is handed to the system whole: through a pipe that keeps every write apart, each packet is one line. And
+nothing is lost where the system takes only a part of a write, or nothing."""
+
+import fcntl
+import os
+import select
+import signal
+import subprocess
+import unittest
+
+import harness
+from harness import E, M, S, TOOLS, VERDICTS, VERDICTS_ERR, VERDICTS_OUT, X_MISSING
+from harness import Case, Ran, as_bytes, as_words, needs_check
+from reference_words import help_text
+
+SPECIAL = "q\\\nz\r"
+SPECIAL_SHOWN = "q\\\\\\nz\\r"
+WRITE_ERROR = b"md5sum: write error\n"
+SET_PIPE_SIZE, GET_PIPE_SIZE = 1031, 1032  # Python names them from 3.10 on
+
+
+def lines_of(text, end=b"\n"):
+    """The lines of a text, each with its end."""
+    return [line + end for line in as_bytes(text).split(end)[:-1]]
+
+
+def state_of(pid):
+    """The state of a process as the system tells it: `S` where it waits, `Z` where it has ended."""
+    try:
+        with open(f"/proc/{pid}/stat", "rb") as file:
+            return file.read().rpartition(b")")[2].split()[0].decode()
+    except OSError:
+        raise unittest.SkipTest("this system tells no state of a process") from None
+
+
+class Packets(Case):
+    """A run whose outputs are pipes that keep each write apart: packet by packet."""
+
+    def packet_pipe(self):
+        """A pipe in which each write of up to 4,096 bytes is a packet, which one read takes."""
+        try:
+            return os.pipe2(os.O_DIRECT)
+        except (AttributeError, OSError):
+            self.skipTest("there are no packet pipes here")
+
+    def packets(self, words, **how):
+        """Runs `digests` with these words: its status, and the packets of both outputs that aren't given."""
+        ends, got = {}, {"stdout": [], "stderr": []}
+        for name in got:
+            if name not in how:
+                reads, how[name] = self.packet_pipe()
+                self.addCleanup(os.close, reads)
+                ends[reads] = name
+        how.setdefault("stdin", subprocess.DEVNULL)
+        started = self.start(words, **how)
+        for name in ends.values():
+            os.close(how[name])
+        while ends:
+            ready, _, _ = select.select(list(ends), [], [], harness.RUN_SECONDS)
+            self.assertTrue(ready, "the run takes too long")
+            for reads in ready:
+                packet = os.read(reads, 1 << 16)
+                if packet:
+                    got[ends[reads]].append(packet)
+                else:
+                    del ends[reads]
+        return started.wait(timeout=harness.RUN_SECONDS), got["stdout"], got["stderr"]
+
+    def expect_packets(self, words, out=(), err=(), status=0, **how):
+        """Runs `digests`, and expects that each packet is one of these lines."""
+        out, err = ([as_bytes(line) for line in lines] for lines in (out, err))
+        self.assertEqual(self.packets(words, **how), (status, out, err), as_words(words)[:9])
+
+    def expect_whole_lines(self, packets, text):
+        """Expects that the packets are this text, cut at no place but the end of a line."""
+        self.assertEqual(b"".join(packets), as_bytes(text))
+        for packet in packets:
+            self.assertTrue(packet.endswith(b"\n"), packet)
+
+
+class OneWriteALine(Packets):
+    """Generating, and what is said of the words."""
+
+    def test_every_style(self):
+        """Every line comes whole in each style, with a newline at its end or, under -z, with a NUL."""
+        self.write(SPECIAL, "abc")
+        for tool, (tag, of_nothing, of_abc) in TOOLS.items():
+            forms = {
+                "-t": [f"{of_abc}  a\n", f"{of_nothing}  e\n", f"\\{of_abc}  {SPECIAL_SHOWN}\n"],
+                "-b": [f"{of_abc} *a\n", f"{of_nothing} *e\n", f"\\{of_abc} *{SPECIAL_SHOWN}\n"],
+                "--tag": [f"{tag} (a) = {of_abc}\n", f"{tag} (e) = {of_nothing}\n",
+                          f"\\{tag} ({SPECIAL_SHOWN}) = {of_abc}\n"],
+                "-z": [f"{of_abc}  a\0", f"{of_nothing}  e\0", f"{of_abc}  {SPECIAL}\0"],
+                "-zb": [f"{of_abc} *a\0", f"{of_nothing} *e\0", f"{of_abc} *{SPECIAL}\0"],
+            }
+            for style, lines in forms.items():
+                with self.subTest(tool=tool, style=style):
+                    self.expect_packets([tool, style, "a", "e", SPECIAL], out=lines)
+            with self.subTest(tool=tool, style="-z --tag"):
+                self.expect_packets([tool, "-z", "--tag", "a", SPECIAL], out=[
+                    f"{tag} (a) = {of_abc}\0", f"{tag} ({SPECIAL}) = {of_abc}\0"])
+
+    def test_standard_input(self):
+        """The digest of standard input is one write, too."""
+        with open(self.path("a"), "rb") as file:
+            self.expect_packets("sha256sum", out=[f"{S}  -\n"], stdin=file)
+
+    def test_diagnostics(self):
+        """Every line about a file that can't be read comes whole on standard error."""
+        os.mkdir(self.path("d"))
+        missing = f"md5sum: {SPECIAL_SHOWN}: No such file or directory\n"
+        directory = "md5sum: d: Input/output error\n"
+        for style in ("-t", "-z"):
+            end = "\0" if style == "-z" else "\n"
+            with self.subTest(style=style):
+                words = ["md5sum", style, "a", "x", SPECIAL, "d", "e"]
+                self.expect_packets(words, out=[f"{M}  a{end}", f"{E}  e{end}"],
+                                    err=[X_MISSING + "\n", missing, directory], status=1)
+
+    def test_help_and_version(self):
+        """The help and version texts hold no cut line."""
+        for tool in [*TOOLS, "anysum"]:
+            with self.subTest(tool=tool):
+                status, out, err = self.packets([tool, "--help"])
+                self.assertEqual((status, err), (0, []))
+                self.expect_whole_lines(out, help_text(tool))
+                self.expect_packets([tool, "--version"], out=[f"{tool} (digests), profile 2\n"])
+
+    def test_faults_of_the_words(self):
+        """What is wrong with the words is told in whole lines."""
+        faults = [(["--foo"], "unrecognized option '--foo'"), (["-\n"], "invalid option -- '\\n'"),
+                  (["--s"], "option '--s' is ambiguous"), (["--tag=\\"], "option '--tag' doesn't allow an argument"),
+                  (["-z", "-c"], "the --zero option is not supported when verifying checksums")]
+        for words, text in faults:
+            with self.subTest(words=words):
+                status, out, err = self.packets(["md5sum", *words])
+                self.assertEqual((status, out), (1, []))
+                lines = [f"md5sum: {text}", "Try 'md5sum --help' for more information."]
+                self.expect_whole_lines(err, lines)
+                self.assertLessEqual(len(err), 2)
+
+    def test_the_programs_own_lines(self):
+        """An unknown tool, words that are no texts, and a write error are one write each."""
+        self.expect_packets("shasum", err=["digests: unknown tool\n"], status=1)
+        self.expect_packets([], err=["digests: unknown tool\n"], status=1)
+        self.expect_packets(["md5sum", b"\xff"], err=["digests: words not read\n"], status=1)
+        with self.full() as full:
+            self.expect_packets("md5sum a", err=[WRITE_ERROR], status=1, stdout=full)
+
+    def test_lines_of_every_length_up_to_a_packet(self):
+        """A line about a long name is one write as long as a packet holds it."""
+        rest = len("md5sum: : Input/output error\n")
+        for length in (300, 1000, 2047, 2048, 4094, 4095, 4096):
+            with self.subTest(length=length):
+                name = "y" * (length - rest)
+                err = [f"md5sum: {name}: Input/output error\n"]
+                self.expect_packets(["md5sum", name, "a"], out=[f"{M}  a\n"], err=err, status=1)
+
+    def test_a_line_of_20000_bytes(self):
+        """Only a line that is longer than any buffer takes several writes, and the next line begins with a new one."""
+        name = "y" * 20000
+        status, out, err = self.packets(["md5sum", "x", name, "x", "a"])
+        self.assertEqual((status, out), (1, [as_bytes([f"{M}  a"])]))
+        missing = as_bytes([X_MISSING])
+        self.assertEqual((err[0], err[-1]), (missing, missing))
+        self.same(b"".join(err[1:-1]), [f"md5sum: {name}: Input/output error"])
+        self.assertLessEqual(len(err[1:-1]), 6)
+
+
+@needs_check
+class OneWriteAReport(Packets):
+    """Checking."""
+
+    def test_all_verdicts(self):
+        """Every report and every warning comes whole, under each setting."""
+        self.write("l", VERDICTS)
+        named = b"md5sum: l: 3: improperly formatted MD5 checksum line\n"
+        missing, *warnings = lines_of(VERDICTS_ERR)
+        out = lines_of(VERDICTS_OUT)
+        self.expect_packets("md5sum -c l", out=out, err=[missing, *warnings], status=1)
+        self.expect_packets("md5sum -cw l", out=out, err=[named, missing, *warnings], status=1)
+        self.expect_packets("md5sum -c --quiet l", out=out[1:], err=[missing, *warnings], status=1)
+        self.expect_packets("md5sum -c --status l", err=[missing], status=1)
+        err = [warnings[0], warnings[2]]
+        self.expect_packets("md5sum -c --ignore-missing l", out=[out[0], out[2]], err=err, status=1)
+        with open(self.path("l"), "rb") as manifest:
+            self.expect_packets("md5sum -c", out=out, err=[missing, *warnings], status=1, stdin=manifest)
+
+    def test_escaped_names(self):
+        """A report with an escaped name is one write, on either output."""
+        self.write(SPECIAL, "abc")
+        self.write("l", [f"\\{M}  {SPECIAL_SHOWN}", f"\\{M}  x{SPECIAL_SHOWN}"])
+        self.expect_packets("md5sum -c l", status=1,
+                            out=[f"\\{SPECIAL_SHOWN}: OK\n", f"\\x{SPECIAL_SHOWN}: FAILED open or read\n"],
+                            err=[f"md5sum: x{SPECIAL_SHOWN}: No such file or directory\n",
+                                 "md5sum: WARNING: 1 listed file could not be read\n"])
+
+    def test_manifests_that_are_no_good(self):
+        """What is said of a whole manifest is one write."""
+        os.mkdir(self.path("d"))
+        self.write(SPECIAL, "junk\n")
+        self.write("missing", [f"{M}  x"])
+        self.expect_packets(["md5sum", "-c", "x", "d", SPECIAL, "e"], status=1, err=[
+            X_MISSING + "\n", "md5sum: d: Input/output error\n",
+            f"md5sum: {SPECIAL_SHOWN}: no properly formatted checksum lines found\n",
+            "md5sum: e: no properly formatted checksum lines found\n"])
+        self.expect_packets("md5sum -c --ignore-missing missing", status=1,
+                            err=["md5sum: missing: no file was verified\n"])
+
+    def test_tags_of_every_algorithm(self):
+        """anysum's reports come whole like those of the other tools."""
+        self.write("l", [f"{tag} (a) = {of_abc}" for tag, _, of_abc in TOOLS.values()] + ["junk"])
+        self.expect_packets("anysum -cw l", out=["a: OK\n"] * len(TOOLS), err=[
+            "anysum: l: 8: improperly formatted tagged checksum line\n",
+            "anysum: WARNING: 1 line is improperly formatted\n"])
+
+    def test_a_report_of_20000_bytes(self):
+        """A report that is longer than any buffer takes several writes, and the next one begins with a new one."""
+        name = "y" * 20000
+        self.write("l", [f"{M}  a", f"{M}  {name}", f"{M}  a"])
+        status, out, err = self.packets("md5sum -c l")
+        self.assertEqual((status, out[0], out[-1]), (1, b"a: OK\n", b"a: OK\n"))
+        self.same(b"".join(out[1:-1]), [f"{name}: FAILED open or read"])
+        self.assertLessEqual(len(out[1:-1]), 6)
+        self.assertEqual(err[-1], b"md5sum: WARNING: 1 listed file could not be read\n")
+        self.same(b"".join(err[:-1]), [f"md5sum: {name}: Input/output error"])
+
+
+class ShortWrites(Case):
+    """A pipe that holds one page: the system takes a part of a write, or nothing of it."""
+
+    def small_pipe(self):
+        """A pipe that holds a page, and how many bytes that are."""
+        reads, writes = os.pipe()
+        self.addCleanup(os.close, reads)
+        try:
+            fcntl.fcntl(writes, SET_PIPE_SIZE, 1)
+            return reads, writes, fcntl.fcntl(writes, GET_PIPE_SIZE)
+        except OSError:
+            self.skipTest("the size of a pipe can't be set here")
+
+    def taken_in_parts(self, words, output):
+        """Runs `digests` with this output into a small pipe. Whenever it waits inside a write it is halted and goes
+        on: the system then answers with what it took so far. The status, and all that came through."""
+        reads, writes, size = self.small_pipe()
+        started = self.start(words, **{"stdout": subprocess.DEVNULL, "stderr": subprocess.DEVNULL, output: writes})
+        os.close(writes)
+        got = []
+        while not got or got[-1]:
+            self.until(lambda: state_of(started.pid) in "SZ", "the program waits, or has ended")
+            if state_of(started.pid) == "S":
+                started.send_signal(signal.SIGSTOP)
+                os.waitid(os.P_PID, started.pid, os.WSTOPPED | os.WEXITED | os.WNOWAIT)
+                started.send_signal(signal.SIGCONT)
+            got.append(os.read(reads, size))
+        return started.wait(timeout=harness.RUN_SECONDS), b"".join(got)
+
+    def test_a_part_of_a_long_line(self):
+        """A line of 30,000 bytes comes through a pipe that holds a page, though each write is cut short."""
+        name = "y" * 30000
+        lines = [f"md5sum: {name}: Input/output error", X_MISSING] * 3
+        status, err = self.taken_in_parts(["md5sum", *[name, "x"] * 3], "stderr")
+        self.same(err, lines)
+        self.assertEqual(status, 1)
+
+    @needs_check
+    def test_a_part_of_a_long_report(self):
+        """The same for reports on standard output."""
+        name = "y" * 30000
+        self.write("l", [f"{M}  {name}", f"{M}  a"] * 3)
+        status, out = self.taken_in_parts("md5sum -c l", "stdout")
+        self.same(out, [f"{name}: FAILED open or read", "a: OK"] * 3)
+        self.assertEqual(status, 1)
+
+    def test_many_lines_through_a_small_pipe(self):
+        """A thousand lines come through a pipe that holds a page, though each write is interrupted."""
+        status, out = self.taken_in_parts(["md5sum", *["a"] * 1000], "stdout")
+        self.same(out, [f"{M}  a"] * 1000)
+        self.assertEqual(status, 0)
+
+    def test_a_pipe_that_does_not_wait(self):
+        """Where the output has room for one more line and then answers that it has none, that line stands there whole,
+        nothing of the next one does, and it is a write error."""
+        reads, writes, size = self.small_pipe()
+        os.set_blocking(writes, False)
+        line = as_bytes([f"{M}  a"])
+        filler = b"#" * (size - len(line) - 4)
+        self.assertEqual(os.write(writes, filler), len(filler))
+        ran = self.run_words("md5sum a a a", stdout=writes)
+        os.close(writes)
+        self.assertEqual(os.read(reads, size), filler + line)
+        self.assertEqual(os.read(reads, size), b"")
+        self.assertEqual(ran, Ran(1, b"", WRITE_ERROR))

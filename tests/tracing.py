@@ -1,0 +1,62 @@
+"""Runs under `strace`, which shows a program's calls to the system and can make them fail."""
+
+import functools
+import os
+import re
+import shutil
+import subprocess
+import unittest
+
+import harness
+from harness import Case, Ran, as_words
+
+
+@functools.lru_cache
+def strace():
+    """The path of `strace`, where it is installed and may trace."""
+    path = shutil.which("strace")
+    if path is None:
+        return None
+    trial = [path, "-qq", "-o", os.devnull, "-e", "trace=close", "-e", "inject=close:error=EIO:when=900..999", "true"]
+    tried = subprocess.run(trial, stderr=subprocess.DEVNULL, timeout=harness.RUN_SECONDS)
+    return path if tried.returncode == 0 else None
+
+
+def needs_strace(test):
+    """Marks a test, or a class of tests, that runs the program under `strace`."""
+    return unittest.skipUnless(strace(), "there is no strace that may trace here")(test)
+
+
+class Traced(Case):
+    """A test that runs the program under `strace`. Its files `out` and `err` take the outputs."""
+
+    def traced(self, options, words, stdin=None, **how):
+        """Runs `digests` with these words under `strace` with these options: what it left, its outputs being files,
+        and the calls that the options select, a line each."""
+        trace = self.path("trace")
+        command = [strace(), "-qq", "-o", trace, *as_words(options), harness.PROGRAM, *as_words(words)]
+        how.setdefault("timeout", harness.RUN_SECONDS)
+        with open(self.path("out"), "wb") as out, open(self.path("err"), "wb") as err:
+            how.setdefault("stdout", out)
+            how.setdefault("stderr", err)
+            source = subprocess.DEVNULL if stdin is None else stdin
+            try:
+                ran = subprocess.run(command, cwd=self.folder, stdin=source, **how)
+            except subprocess.TimeoutExpired:
+                self.fail(f"the run does not end within {how['timeout']} seconds")
+        calls = self.read("trace").decode(errors="replace").splitlines()
+        return Ran(ran.returncode, self.read("out"), self.read("err")), calls
+
+    def failing(self, call, error, words, only=None, when="", **how):
+        """Runs `digests` under `strace`, which lets this call fail with this error: each time or only the times in
+        `when`, for any file or for that of the path `only`."""
+        options = ["-e", f"trace={call}", "-e", f"inject={call}:error={error}" + (when and f":when={when}")]
+        if only is not None:
+            options += ["-P", os.fsdecode(only)]
+        return self.traced(options, words, **how)
+
+
+def sizes(calls, descriptor):
+    """The bytes that each call to write to this descriptor took."""
+    found = (re.match(rf"writev?\({descriptor},.*= (\d+)$", call) for call in calls)
+    return [int(match[1]) for match in found if match]
