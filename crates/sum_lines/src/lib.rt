@@ -18,6 +18,8 @@ mod sink_tests;
 mod tagged;
 mod told_sink;
 mod whole_lines;
+#[cfg(test)]
+mod whole_lines_tests;
 mod written;
 #[cfg(test)]
 mod written_tests;
