@@ -147,11 +147,8 @@ fn check_long(
 ) {
     let long = [b'x'; 20000];
     let mut lines = WholeLines::new(Recorder::new(32768, 0), b'\n');
-    let mut rest = &long[..len.min(20000)];
-    while !rest.is_empty() {
-        let (piece, behind) = rest.split_at(step.clamp(1, rest.len()));
+    for piece in long[..len.min(20000)].chunks(step.max(1)) {
         assert_eq!(rt; put_all(&mut lines, piece), Ok(()));
-        rest = behind;
     }
     assert_eq!(rt; put_all(&mut lines, text), Ok(()));
     check_lens(rt, &lines, lens, &[]);
