@@ -1,6 +1,7 @@
 -- What is handed on, and what is held, where a piece is written to a sink of whole lines.
 use Rattle.std.proofs.Common.{ℕ, ◌≡◌, ◌+◌, ◌-◌, ◌<◌, ◌≤◌, List, [], ◌∷◌, ◌++◌, length, take, drop, Option, None, Some, refl, ap, sym, ◌∙◌, append_assoc, append-nil, take-append-drop, length-take, length-drop, length-append, arith, subst}
 use Rattle.std.proofs.lemmas.List.{take_all, take-take, take-append-le}
+use Rattle.std.proofs.Math.Nat.{sub_self}
 use Rattle.std.proofs.Math.Seq.{take-append-add}
 use Rattle.std.specs.Io.KnownBytes.{Appends, append_known}
 use Rattle.sum_lines.specs.Sinks.{AppendsFront}
@@ -25,16 +26,20 @@ Appends-passed None b held front h = tt
 Appends-passed (Some x) None held front h = absurd h
 Appends-passed (Some x) (Some y) held front h = append-nil y ∙ h ∙ sym (append_assoc x held front)
 
-pub Appends-handed : (a b : Option (List ℕ)) (held piece : List ℕ) (count n : ℕ)
-    → Appends a b (take n (held ++ take count piece)) → length held ≤ n → n ≤ length (held ++ take count piece)
-    → Appends (append_known a held) (append_known b []) (take (n - length held) piece)
-Appends-handed a b held piece count n h low high =
+pub Appends-handed : (a b : Option (List ℕ)) (held now piece : List ℕ) (count n : ℕ)
+    → Appends a b (take n (held ++ take count piece)) → length held ≤ n → n ≤ length (held ++ take count piece) → now ≡ []
+    → Appends (append_known a held) (append_known b now) (take (n - length held) piece)
+Appends-handed a b held now piece count n h low high none =
     let more = n - length held in
     let within : more ≤ count = omega (arith, length-append held (take count piece), length-take count piece) in
     let split : take n (held ++ take count piece) ≡ held ++ take more piece =
     ap (λ k. take k (held ++ take count piece)) (omega arith) ∙ take-append-add held (take count piece) more
     ∙ ap (λ l. held ++ l) (take-take more count piece within) in
-    Appends-passed a b held (take more piece) (rw split at h)
+    rw none (Appends-passed a b held (take more piece) (rw split at h))
+
+-- of what was held nothing is left
+pub none_held : (n : ℕ) (buffer : List ℕ) → take (n - n) buffer ≡ []
+none_held n buffer = ap (λ k. take k buffer) (sub_self n)
 
 -- what is held still is a back of what was held
 pub held_back : (old new : List ℕ) (n : ℕ) → new ≡ drop n old → (front : List ℕ) × (old ≡ front ++ new)

@@ -18,6 +18,8 @@ mod sink_tests;
 mod tagged;
 mod told_sink;
 mod whole_lines;
+#[cfg(test)]
+mod whole_lines_tests;
 mod written;
 #[cfg(test)]
 mod written_tests;
@@ -29,5 +31,5 @@ pub use line_reading::{Form, Reading, read_line};
 pub use parts::{Part, put_number, put_parts};
 pub use sink::{Sink, SinkFault, put_all};
 pub use told_sink::ToldSink;
-pub use whole_lines::WholeLines;
+pub use whole_lines::{LINE_ROOM, WholeLines};
 pub use written::{Mode, Style, put_line};

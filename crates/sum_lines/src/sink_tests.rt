@@ -7,18 +7,19 @@ use std::io;
 use std::io::{ErrorKind, Write};
 use std::test::Fail;
 
-// A writer that is interrupted so often before it takes anything.
+// A writer that fails so often, with an error of this kind, before it takes anything.
 #[derive(Drop)]
-struct Interrupted {
+struct FailsFirst {
+    kind: ErrorKind,
     left: u32,
     bytes: Vec<u8>,
 }
 
-impl Write for Interrupted {
+impl Write for FailsFirst {
     fn write(&mut self, buf: &[u8]) -> io::Result<usize> {
         if self.left > 0 {
             self.left -= 1;
-            return Err(ErrorKind::Interrupted.into());
+            return Err(self.kind.into());
         }
         self.bytes.write(buf)
     }
@@ -58,13 +59,15 @@ impl Write for Refuses {
 
 #[test]
 fn interruptions_end_a_write_after_a_thousand(rt: HostRuntime) -> Result<(), Fail> {
-    let mut some = Interrupted {
+    let mut some = FailsFirst {
+        kind: ErrorKind::Interrupted,
         left: 999,
         bytes: Vec::new(rt.alloc()),
     };
     assert_eq!(rt; FromWrite::new(&mut some).write(b"abc"), Ok(3));
     assert_eq!(rt; some.bytes.as_slice(), b"abc".as_slice());
-    let mut many = Interrupted {
+    let mut many = FailsFirst {
+        kind: ErrorKind::Interrupted,
         left: 1000,
         bytes: Vec::new(rt.alloc()),
     };
@@ -72,6 +75,27 @@ fn interruptions_end_a_write_after_a_thousand(rt: HostRuntime) -> Result<(), Fai
     assert_eq!(rt; sink.write(b"abc"), Err(SinkFault));
     assert_eq!(rt; sink.write(b"abc"), Ok(3), "the next call tries again");
     assert_eq!(rt; many.bytes.as_slice(), b"abc".as_slice());
+    Ok(())
+}
+
+#[test]
+fn only_interruptions_are_tried_again(rt: HostRuntime) -> Result<(), Fail> {
+    for kind in [
+        ErrorKind::PermissionDenied,
+        ErrorKind::WouldBlock,
+        ErrorKind::BrokenPipe,
+        ErrorKind::Other,
+    ] {
+        let mut writer = FailsFirst {
+            kind,
+            left: 1,
+            bytes: Vec::new(rt.alloc()),
+        };
+        let mut sink = FromWrite::new(&mut writer);
+        assert_eq!(rt; sink.write(b"abc"), Err(SinkFault));
+        assert_eq!(rt; sink.write(b"de"), Ok(2));
+        assert_eq!(rt; writer.bytes.as_slice(), b"de".as_slice());
+    }
     Ok(())
 }
 

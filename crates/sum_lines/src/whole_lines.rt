@@ -92,7 +92,7 @@ impl<S: Sink> WholeLines<S> {
             return Ok(());
         }
         let result = hand_on(&mut self.sink, &self.buffer[..self.len], self.len);
-        self.len = 0;
+        self.give_up();
         match result {
             Ok(_) => Ok(()),
             Err(_) => Err(SinkFault),
@@ -103,6 +103,7 @@ impl<S: Sink> WholeLines<S> {
 impl<S: Finish> WholeLines<S> {
     /// Tells whether the sink below keeps what it took. What is held isn't handed on.
     pub fn finish(&mut self) -> Result<(), SinkFault>
+        ensures gives { S.finish_gives self.old.sink result self.new.sink }
         ensures bytes { Keeps (S.written self.old.sink) (S.written self.new.sink) }
         ensures offers { S.offered self.new.sink ≡ S.offered self.old.sink }
         ensures kept { OnOk result (S.failures self.new.sink ≡ S.failures self.old.sink) }
@@ -148,12 +149,12 @@ impl<S: Sink> Sink for WholeLines<S> {
         }
         match hand_on(&mut self.sink, &self.buffer[..whole], held + 1) {
             Ok(taken) => {
-                self.len = 0;
+                self.len -= held;
                 Ok(taken - held)
             }
             Err(taken) => {
                 drop_front(&mut self.buffer, taken, held);
-                self.len = held - taken;
+                self.len -= taken;
                 Err(SinkFault)
             }
         }

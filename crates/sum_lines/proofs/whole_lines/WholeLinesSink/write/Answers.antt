@@ -1,6 +1,6 @@
 use Rattle.std.proofs.Common.{arith, length, take, drop, ◌≡◌, ◌≤◌, ◌-◌, ◌+◌, ◌++◌, [], inl, inr, length-take, sym, ◌∙◌, ap, refl, take-append-drop}
 use Rattle.std.proofs.lemmas.Bool.{false≢true}
-use Rattle.sum_lines.proofs.WholeLineLemmas.{EndsWith-append, Appends-handed, held_back}
+use Rattle.sum_lines.proofs.WholeLineLemmas.{EndsWith-append, Appends-handed, held_back, none_held}
 use Rattle.sum_lines.proofs.whole_lines.WholeLinesSink.write.Goals as goal
 
 pub returns-then-not-is_whole-clause-ended : goal.returns-then-not-is_whole-clause-ended
@@ -13,7 +13,7 @@ returns-in-Ok-clause-bytes g c =
     let size : length (take c.self.inside.len c.self.inside.buffer) ≡ c.self.inside.len = omega (arith, length-take c.self.inside.len c.self.inside.buffer) in
     let enough = rw c.put_in-count.ensures.bytes at c.in-Ok.ensures.enough in
     let bytes = rw c.put_in-count.ensures.bytes at c.in-Ok.ensures.bytes in
-    rw (← c.self.view_is) (rw size at (Appends-handed _ _ _ _ _ _ bytes (omega (arith, enough)) enough.1))
+    rw (← c.self.view_is) (rw size at (Appends-handed _ _ _ _ _ _ _ bytes (omega (arith, enough)) enough.1 (none_held c.self.inside.len c.put_in-count.new.buffer)))
 
 pub returns-in-Ok-clause-lines : goal.returns-in-Ok-clause-lines
 returns-in-Ok-clause-lines g c =
@@ -21,7 +21,7 @@ returns-in-Ok-clause-lines g c =
     let offers = rw c.put_in-count.ensures.bytes at c.in-Ok.ensures.offers in
     let count = c.put_in-count.result in
     let cut = sym (take-append-drop count c.args.piece.now) in
-    rw (← c.self.view_is) (inr (take count c.args.piece.now, drop count c.args.piece.now, cut, whole refl, offers, refl))
+    rw (← c.self.view_is) (inr (take count c.args.piece.now, drop count c.args.piece.now, cut, whole refl, offers, none_held c.self.inside.len c.put_in-count.new.buffer))
 
 pub returns-in-Err-clause-lines : goal.returns-in-Err-clause-lines
 returns-in-Err-clause-lines g c =
