@@ -1,5 +1,6 @@
 pub mod Worlds
 pub mod Outcomes
+pub mod Profiles
 pub mod Generation
 pub mod Grammar
 pub mod Verdicts
