@@ -36,7 +36,7 @@ stays p false f g None None = refl
 stays p false f g None (Some q) = ap (λ x. said_of (spelled p q (raw_of x q.text))) (decided f (begins_standard q.text) g)
 
 -- an empty line isn't plain
-not_plain : (algos : Algos) (o : Option Parts) → plain_of algos [] ≡ o → o ≡ None
+pub not_plain : (algos : Algos) (o : Option Parts) → plain_of algos [] ≡ o → o ≡ None
 not_plain algos None h = refl
 not_plain algos (Some q) h =
     let t = read_is_plain algos [] q h in

@@ -15,3 +15,4 @@ pub mod States
 pub mod Views
 pub mod Runs
 pub mod Laws
+pub mod OldVerdicts
