@@ -1,8 +1,8 @@
 -- A line without a carriage return, neither as a byte nor escaped in its name, says the same under both profiles.
-use Rattle.std.proofs.Common.{◌≡◌, ◌≢◌, ℕ, ◌<◌, ◌==◌, ◌&&◌, ◌||◌, Bool, true, false, cond, List, [], ◌∷◌, ◌++◌, length, drop, Option, None, Some, refl, ap, sym, ◌∙◌, inl, inr, arith, subst, codes}
+use Rattle.std.proofs.Common.{◌≡◌, ◌≢◌, ℕ, ◌<◌, ◌==◌, ◌||◌, Bool, true, false, cond, List, [], ◌∷◌, ◌++◌, length, Option, None, Some, refl, ap, sym, ◌∙◌, inl, inr, arith, subst, codes}
 use Rattle.std.specs.List.{All, list_all}
 use Rattle.std.specs.Prelude.{nat_lt}
-use Rattle.std.proofs.lemmas.Bool.{cond-false, cases_Bool}
+use Rattle.std.proofs.lemmas.Bool.{cond-false}
 use Rattle.std.proofs.lemmas.Bool.Decides.{eqb_tells}
 use Rattle.std.proofs.lemmas.List.Elements.{All-nil, All-cons, All-head, All-tail}
 use Rattle.digest_kinds.specs.Kinds.{KindValue, tag}
@@ -11,12 +11,12 @@ use Rattle.sum_lines.specs.declared.line_reading.Form.{Form}
 use Rattle.sum_lines.specs.declared.line_reading.Form.TheVariants.{Undecided, Standard, Reversed}
 use Rattle.sum_lines.specs.Escape.{escape, escape_of}
 use Rattle.sum_lines.specs.Shapes.{Plain, Tagged, mark, optional}
-use Rattle.sum_lines.specs.Entries.{Spelled, begins_standard, ignored}
+use Rattle.sum_lines.specs.Entries.{Spelled, ignored}
 use Rattle.sum_lines.specs.Scanned.{Parts, tagged_of, plain_of}
 use Rattle.sum_lines.proofs.PlainLemmas.{read_is_plain}
 use Rattle.sum_lines.proofs.TaggedParts.{read_is_tagged}
 use Rattle.sum_engine.specs.Profiles.{Present, Older, escape_by}
-use Rattle.sum_engine.specs.Grammar.{is_present, letter, onto, itself, unescape, without_nul, name_of, raw_of, named, spelled, entry_by, entry_of, Said, Nothing, Improper, Spells, said_of, says}
+use Rattle.sum_engine.specs.Grammar.{letter, onto, itself, unescape, without_nul, name_of, raw_of, named, spelled, entry_by, entry_of, Said, Nothing, Improper, Spells, said_of, says}
 use Rattle.sum_engine.specs.OldVerdicts.{NoReturn, HasEscapedReturn, NoEscapedReturn}
 use Rattle.sum_engine.proofs.UnescapeOf.{byte_by}
 
@@ -244,14 +244,17 @@ parts_same : (algos : Algos) (f : Form) (line : List ℕ) (t q : Option Parts) �
     → (entry_by Older f t q ≡ entry_by Present f t q) × CleanEntry (entry_by Present f t q)
 parts_same algos f line (Some u) q i j free none =
     let t = read_is_tagged algos line u i in
-    spelled_same u (Some u.text) (tagged_text algos line u.escaped u.kind u.digest u.text t free,
-    λ e. none u.kind u.digest u.text (inl (subst (λ x. Tagged algos line x u.kind u.digest u.text) e t)))
+    spelled_same u (Some u.text) (
+      tagged_text algos line u.escaped u.kind u.digest u.text t free,
+      λ e. none u.kind u.digest u.text (inl (subst (λ x. Tagged algos line x u.kind u.digest u.text) e t)),
+    )
 parts_same algos f line None None i j free none = (refl, tt)
 parts_same algos f line None (Some u) i j free none =
     let t = read_is_plain algos line u j in
-    spelled_same u (raw_of f u.text) (raw_clean f u.escaped u.text
-    (plain_text algos line u.escaped u.kind u.digest u.text t free,
-    λ e. none u.kind u.digest u.text (inr (subst (λ x. Plain algos line x u.kind u.digest u.text) e t))))
+    spelled_same u (raw_of f u.text) (raw_clean f u.escaped u.text (
+      plain_text algos line u.escaped u.kind u.digest u.text t free,
+      λ e. none u.kind u.digest u.text (inr (subst (λ x. Plain algos line x u.kind u.digest u.text) e t)),
+    ))
 
 entry_same : (algos : Algos) (f : Form) (line : List ℕ) → NoReturn line → NoEscapedReturn algos line
     → SameEntry algos f line

@@ -1,5 +1,5 @@
 -- A manifest of the time of older versions is checked alike under both profiles.
-use Rattle.std.proofs.Common.{◌≡◌, ◌≢◌, ℕ, ◌+◌, ◌-◌, ◌<◌, ◌==◌, Bool, true, false, not, cond, List, [], ◌∷◌, ◌++◌, length, map, Option, None, Some, refl, ap, sym, ◌∙◌, inl, inr, subst, codes, arith}
+use Rattle.std.proofs.Common.{◌≡◌, ◌≢◌, ℕ, ◌+◌, ◌-◌, ◌<◌, ◌==◌, Bool, true, false, not, cond, List, [], ◌∷◌, ◌++◌, length, map, Option, None, Some, refl, ap, sym, ◌∙◌, inl, inr, subst, codes}
 use Rattle.std.specs.Prelude.{bytes_eq, slice_index, flat_map}
 use Rattle.std.specs.List.{All, concat, slice_split, onto_first}
 use Rattle.std.specs.Str.Lines.{strip_carriage_return}
@@ -13,28 +13,27 @@ use Rattle.sum_sources.specs.declared.fault.Ending.{Ending}
 use Rattle.sum_sources.specs.declared.fault.Ending.TheVariants.{Whole, Broken}
 use Rattle.sum_sources.specs.declared.fault.Fault.{Fault}
 use Rattle.sum_sources.specs.Contents.{Content, clip}
-use Rattle.sum_sources.specs.Sources.{Reply, Refused, Given}
+use Rattle.sum_sources.specs.Sources.{Refused, Given}
 use Rattle.sum_sources.specs.ManifestLines.{pieces, line_pieces, last_line}
 use Rattle.sum_lines.specs.declared.line_reading.Form.{Form}
 use Rattle.sum_lines.specs.Shapes.{mark, optional}
 use Rattle.sum_lines.specs.Entries.{form}
 use Rattle.sum_lines.specs.Scanned.{Parts, tagged_of, plain_of}
 use Rattle.sum_lines.proofs.TaggedParts.{read_is_tagged}
-use Rattle.sum_engine.specs.declared.settings.Report.{Report}
 use Rattle.sum_engine.specs.declared.summary.Counts.{Counts}
 use Rattle.sum_engine.specs.declared.verdict.Verdict.{Verdict}
 use Rattle.sum_engine.specs.declared.verdict.Verdict.TheVariants.{Ignored, Bad, Right, Wrong, Missing, Unread}
-use Rattle.sum_engine.specs.Profiles.{Present, Older, escape_by, lines_by}
+use Rattle.sum_engine.specs.Profiles.{Present, Older, lines_by}
 use Rattle.sum_engine.specs.Worlds.{World, after}
 use Rattle.sum_engine.specs.Outcomes.{Outcome}
 use Rattle.sum_engine.specs.Grammar.{Said, Nothing, Improper, Spells, entry_by, entry_of, said_of as said_by_entry, says}
 use Rattle.sum_engine.specs.Verdicts.{Rules, Judged, judge, asks_of, verdicts, all_verdicts}
 use Rattle.sum_engine.specs.Generation.{fault_line}
-use Rattle.sum_engine.specs.Reports.{name_line, said_of, hides, out_by, out_of, bad_line, if_warned, err_by, err_of, counts, list_line, end_text, good}
-use Rattle.sum_engine.specs.Checking.{checked_by, checked_content}
+use Rattle.sum_engine.specs.Reports.{name_line, said_of, hides, out_of, err_by, err_of, counts, end_text, good}
+use Rattle.sum_engine.specs.Checking.{checked_content}
 use Rattle.sum_engine.specs.OldVerdicts.{under, NoReturn, NoEscapedReturn, Old, SameChecks, OldVerdicts, OldOutcomes, OlderDiffers}
 use Rattle.sum_engine.proofs.RestLemmas.{not_plain}
-use Rattle.sum_engine.proofs.OldNames.{NotReturn, all_right, same_escape, CleanSaid, says_same}
+use Rattle.sum_engine.proofs.OldNames.{NotReturn, same_escape, CleanSaid, says_same}
 
 -- ---- the lines
 
@@ -135,14 +134,14 @@ verdicts_same r f w n (l ∷ ls) all =
     let more = verdicts_same r f (after w (asks_of j)) (n + 1) ls (All-tail (Alike algos) l ls all) in (
       ap (λ x. x ∷ verdicts old f (after w (asks_of x)) (n + 1) ls) one ∙ ap (λ xs. j ∷ xs) more.0,
       All-cons CleanName j (verdicts new f (after w (asks_of j)) (n + 1) ls)
-      (judged_clean new w (n + 1) (says Present algos f l) s.1) more.1,
+          (judged_clean new w (n + 1) (says Present algos f l) s.1) more.1,
     )
 
 -- ---- what is written
 
 name_line_same : (name text : List ℕ) → NoReturn name → name_line Older name text ≡ name_line Present name text
 name_line_same name text free =
-    ap (λ e. concat ((cond (not (bytes_eq e name)) (codes "\\") []) ∷ e ∷ codes ": " ∷ text ∷ codes "\n" ∷ []))
+    ap (λ e. concat (mark (not (bytes_eq e name)) ∷ e ∷ codes ": " ∷ text ∷ codes "\n" ∷ []))
     (same_escape name free)
 
 said_same : (v : Verdict) (name : List ℕ) → NoReturn name → said_of Older v name ≡ said_of Present v name

@@ -7,6 +7,7 @@ use Rattle.digest_kinds.specs.declared.algo.Algos.TheVariants.{One, Any}
 use Rattle.digest_kinds.specs.Kinds.{tag}
 use Rattle.sum_sources.specs.declared.fault.Ending.{Ending}
 use Rattle.sum_sources.specs.declared.fault.Ending.TheVariants.{Whole, Broken}
+use Rattle.sum_lines.specs.Shapes.{mark}
 use Rattle.sum_engine.specs.declared.settings.Report.{Report}
 use Rattle.sum_engine.specs.declared.settings.Report.TheVariants.{All, Quiet, Warn, Status}
 use Rattle.sum_engine.specs.declared.summary.Counts.{Counts}
@@ -17,11 +18,10 @@ use Rattle.sum_engine.specs.Generation.{fault_line}
 use Rattle.sum_engine.specs.Verdicts.{Rules, Judged}
 
 -- NAME: TEXT, where a backslash stands before a name that its escape changes
-abbrev pub mark : Profile → List ℕ → List ℕ
-mark p name = if not (bytes_eq (escape_by p name) name) then codes "\\" else []
-
 abbrev pub name_line : Profile → List ℕ → List ℕ → List ℕ
-name_line p name text = concat (mark p name ∷ escape_by p name ∷ codes ": " ∷ text ∷ codes "\n" ∷ [])
+name_line p name text =
+    let escaped = escape_by p name in
+    concat (mark (not (bytes_eq escaped name)) ∷ escaped ∷ codes ": " ∷ text ∷ codes "\n" ∷ [])
 
 abbrev pub said_of : Profile → Verdict → List ℕ → List ℕ
 said_of p Ignored name = []
