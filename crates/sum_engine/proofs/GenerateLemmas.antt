@@ -9,6 +9,7 @@ use Rattle.sum_engine.specs.declared.asking.Asked.TheVariants as asked
 use Rattle.sum_engine.specs.declared.settings.Settings.{Settings}
 use Rattle.sum_engine.specs.declared.stop.Stop.TheVariants.{Write}
 use Rattle.sum_engine.specs.Worlds.{World, reply, read}
+use Rattle.sum_engine.specs.Profiles.{Present}
 use Rattle.sum_engine.specs.Generation.{generated, fault_line}
 use Rattle.sum_engine.specs.Scenes.{scene_by, Generates}
 use Rattle.sum_engine.specs.Asking.{AskGives, Comes}
@@ -38,7 +39,7 @@ fails_is kind w name (asked.Refused g) f h k = ap (read kind) h ∙ ap Err k
 fails_is kind w name (asked.Broken g) f h k = ap (read kind) h.1 ∙ h.2 ∙ ap Err k
 
 pub fault_cut : (settings : Settings) (tool name : List ℕ) (a : Asked) (f : Fault) (w v : Option World) (t t' : Bool) (o e e' : Option (List ℕ)) →
-    AskGives settings.kind w v name (Some a) → Fails a f → AppendsFront e e' (fault_line tool name f)
+    AskGives settings.kind w v name (Some a) → Fails a f → AppendsFront e e' (fault_line Present tool name f)
     → Generates (λ w. generated settings tool w name) (scene_by w t o e) (scene_by v t' o e') (Err Write)
 fault_cut settings tool name a f None v t t' o e e' h k p = tt
 fault_cut settings tool name a f (Some w) None t t' o e e' h k p = absurd h

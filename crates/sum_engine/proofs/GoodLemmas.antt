@@ -36,11 +36,13 @@ use Rattle.sum_engine.specs.declared.verdict.Verdict.{Verdict}
 use Rattle.sum_engine.specs.declared.verdict.Verdict.TheVariants.{Right, Bad, Missing}
 use Rattle.sum_engine.specs.Worlds.{World, is_dash, reply, after, ended, read}
 use Rattle.sum_engine.specs.Outcomes.{Outcome}
+use Rattle.sum_engine.specs.Profiles.{Present}
 use Rattle.sum_engine.specs.Grammar.{Nothing, Spells, said_of, entry_of, says}
 use Rattle.sum_engine.specs.Verdicts.{Rules, Judged, not_found, against, verdict_of, judge, asks_of, verdicts, all_verdicts}
 use Rattle.sum_engine.specs.Reports.{out_of, err_of, right_line, is_right, is_wrong, is_missing, is_unread, is_bad, counts, entries, list_line, unless_status, summary, good}
 use Rattle.sum_engine.specs.Checking.{rules_of, checked_content, checked_by, checked}
 use Rattle.sum_engine.proofs.EntryLemmas.{entry_value}
+use Rattle.sum_engine.proofs.StepLemmas.{now}
 
 -- ---- what is written
 
@@ -222,18 +224,18 @@ rights n (i ∷ is) = right (n + 1) i ∷ rights (n + 1) is
 
 judged : (r : Rules) (w : World) (n : ℕ) (f : Form) (i : Item) → Listed r.settings.algo w.answer i
     → Entry escape r.settings.algo f (front i) (spelled i)
-    → judge r w n (says r.settings.algo f (front i)) ≡ right n i
+    → judge r w n (says Present r.settings.algo f (front i)) ≡ right n i
 judged r w n f i h e =
     let algos : Algos = r.settings.algo in
-    let spells : says algos f (front i) ≡ Spells (spelled i) =
-    cond-false (ignored (front i)) Nothing (said_of (entry_of algos f (front i))) e.0
-    ∙ ap said_of (entry_value algos f (front i) (spelled i) e) in
+    let spells : says Present algos f (front i) ≡ Spells (spelled i) =
+    cond-false (ignored (front i)) Nothing (said_of (entry_of Present algos f (front i))) e.0
+    ∙ ap said_of (entry_value Present algos f (front i) (spelled i) e) in
     let make : Verdict → Judged = λ v. record { number = n; verdict = v; name = i.name } in
     ap (judge r w n) spells ∙ ap make (verdict-right r w i h)
 
 right-verdicts : (r : Rules) (answer : List ℕ → Reply) (before : List (List ℕ)) (is : List Item) (w : World) (n : ℕ)
     → w.answer ≡ answer → Steady r.settings.algo before → All (Listed r.settings.algo answer) is
-    → verdicts r (form r.settings.algo (before ++ map front is)) w n (map front is) ≡ rights n is
+    → verdicts (now r) (form r.settings.algo (before ++ map front is)) w n (map front is) ≡ rights n is
 right-verdicts r answer before [] w n e u all = refl
 right-verdicts r answer before (i ∷ is) w n e u all =
     let algos : Algos = r.settings.algo in
@@ -241,20 +243,20 @@ right-verdicts r answer before (i ∷ is) w n e u all =
     let h : Listed algos answer i = All-head (Listed algos answer) i is all in
     let b = back algos answer before later i h u in
     let f : Form = form algos (before ++ (front i ∷ later)) in
-    let first : judge r w (n + 1) (says algos f (front i)) ≡ right (n + 1) i =
+    let first : judge r w (n + 1) (says Present algos f (front i)) ≡ right (n + 1) i =
     judged r w (n + 1) f i (subst (λ a. Listed algos a i) (sym e) h) b.1 in
     let next : World = after w (i.name ∷ []) in
-    let rest : verdicts r f next (n + 1) later ≡ rights (n + 1) is =
-    subst (λ g. verdicts r (form algos g) next (n + 1) later ≡ rights (n + 1) is)
+    let rest : verdicts (now r) f next (n + 1) later ≡ rights (n + 1) is =
+    subst (λ g. verdicts (now r) (form algos g) next (n + 1) later ≡ rights (n + 1) is)
     (append_assoc before (front i ∷ []) later)
     (right-verdicts r answer (before ++ (front i ∷ [])) is next (n + 1) e b.2
     (All-tail (Listed algos answer) i is all)) in
-    ap (λ j. j ∷ verdicts r f (after w (asks_of j)) (n + 1) later) first ∙ ap (λ js. right (n + 1) i ∷ js) rest
+    ap (λ j. j ∷ verdicts (now r) f (after w (asks_of j)) (n + 1) later) first ∙ ap (λ js. right (n + 1) i ∷ js) rest
 
 -- ---- what is reported, and the end
 
 outs : (r : Rules) (n : ℕ) (is : List Item)
-    → flat_map (out_of r) (rights n is) ≡ flat_map (λ (i : Item). right_line r.settings.report i.name) is
+    → flat_map (out_of (now r)) (rights n is) ≡ flat_map (λ (i : Item). right_line r.settings.report i.name) is
 outs r n [] = refl
 outs r n (i ∷ is) = ap (λ t. right_line r.settings.report i.name ++ t) (outs r (n + 1) is)
 
@@ -331,9 +333,9 @@ pub record Found (check : CheckSettings) (tool : List ℕ) (w : World) (manifest
   pub err : (checked check tool w manifest).err ≡ []
 
 all-right : (r : Rules) (w : World) (is : List Item) → All (Listed r.settings.algo w.answer) is
-    → all_verdicts r w (whole is) ≡ rights 0 is
+    → all_verdicts (now r) w (whole is) ≡ rights 0 is
 all-right r w is all =
-    ap (λ ls. verdicts r (form r.settings.algo ls) w 0 ls) (lines-are r.settings.algo w.answer is all)
+    ap (λ ls. verdicts (now r) (form r.settings.algo ls) w 0 ls) (lines-are r.settings.algo w.answer is all)
     ∙ right-verdicts r w.answer [] is w 0 refl (inl refl) all
 
 checked-is : (check : CheckSettings) (tool manifest : List ℕ) (w : World) (is : List Item)

@@ -12,3 +12,5 @@ pub mod UnescapeOf
 pub mod EntryLemmas
 pub mod SameFront
 pub mod GoodLemmas
+pub mod OldNames
+pub mod OldVerdicts

@@ -17,6 +17,7 @@ use Rattle.sum_engine.specs.declared.stop.Stop.{Stop}
 use Rattle.sum_engine.specs.declared.stop.Stop.TheVariants.{Memory, Write}
 use Rattle.sum_engine.specs.declared.summary.Counts.{Counts}
 use Rattle.sum_engine.specs.Worlds.{World, is_dash, reply, after}
+use Rattle.sum_engine.specs.Profiles.{Present}
 use Rattle.sum_engine.specs.Generation.{fault_line}
 use Rattle.sum_engine.specs.Verdicts.{Rules, Judged, all_verdicts}
 use Rattle.sum_engine.specs.Reports.{no_counts}
@@ -123,7 +124,7 @@ or_true false = refl
 
 -- the manifest is standard input
 pub one_dash : (settings : CheckSettings) (tool name : List ℕ) (told : Option Telling) (c : Option Content) (t : Bool) (o e : Option (List ℕ)) (b : Option Scene) (m l : ℕ) (x : Result Bool Stop) → is_dash name ≡ true
-    → RunGives (record { settings = settings; tool = tool; shown = codes "standard input"; from_stdin = true }) (option_map clip c) m l (scene_by (world_by told (Some nothing)) true o e) b x
+    → RunGives (record { profile = Present; settings = settings; tool = tool; shown = codes "standard input"; from_stdin = true }) (option_map clip c) m l (scene_by (world_by told (Some nothing)) true o e) b x
     → CheckGives settings tool name m l (scene_by (world_by told c) t o e) b x
 one_dash settings tool name None c t o e b m l x d h = tt
 one_dash settings tool name (Some s) None t o e b m l x d h = tt
@@ -131,13 +132,13 @@ one_dash settings tool name (Some s) (Some c) t o e None m l x d h = absurd h
 one_dash settings tool name (Some s) (Some c) t o e (Some b) m l x d h =
     let a : Scene = record { world = record { answer = s.answer; asked = s.asked; input = c }; taken = t; out = o; err = e } in
     let w : World = record { answer = s.answer; asked = s.asked; input = nothing } in
-    let run = subst (λ (y : Bool). RunOf (record { settings = settings; tool = tool; shown = cond y (codes "standard input") name; from_stdin = y }) (clip c) m l (asked_at a w true) b x) (sym d) h in
+    let run = subst (λ (y : Bool). RunOf (record { profile = Present; settings = settings; tool = tool; shown = cond y (codes "standard input") name; from_stdin = y }) (clip c) m l (asked_at a w true) b x) (sym d) h in
     opened settings tool name c m l a b w true x (rw d refl) (dash_asked s.answer s.asked c name d) (rw d (or_true t)) run
 
 -- the manifest is a file
 pub one_file : {F : Type 0} (content : F → Option Content) (settings : CheckSettings) (tool name : List ℕ) (s t : Option Telling) (i : Option Content) (k : Bool) (file : F) (o e : Option (List ℕ)) (b : Option Scene) (m n l : ℕ) (x : Result Bool Stop) → is_dash name ≡ false
     → OpenGives content s t name (Ok file) → n ≡ m
-    → RunGives (record { settings = settings; tool = tool; shown = name; from_stdin = false }) (option_map clip (content file)) n l (scene_by (world_by t i) k o e) b x
+    → RunGives (record { profile = Present; settings = settings; tool = tool; shown = name; from_stdin = false }) (option_map clip (content file)) n l (scene_by (world_by t i) k o e) b x
     → CheckGives settings tool name m l (scene_by (world_by s i) k o e) b x
 one_file content settings tool name None t i k file o e b m n l x d g is h = tt
 one_file content settings tool name (Some s) t None k file o e b m n l x d g is h = tt
@@ -148,13 +149,13 @@ one_file content settings tool name (Some s) (Some t) (Some i) k file o e (Some 
     let told = rw g.2.2 at h in
     let a : Scene = record { world = record { answer = s.answer; asked = s.asked; input = i }; taken = k; out = o; err = e } in
     let w : World = record { answer = t.answer; asked = t.asked; input = i } in
-    let run = subst (λ (y : Bool). RunOf (record { settings = settings; tool = tool; shown = cond y (codes "standard input") name; from_stdin = y }) (clip c) n l (asked_at a w k) b x) (sym d) told in
+    let run = subst (λ (y : Bool). RunOf (record { profile = Present; settings = settings; tool = tool; shown = cond y (codes "standard input") name; from_stdin = y }) (clip c) n l (asked_at a w k) b x) (sym d) told in
     let here = subst (λ (y : ℕ). RunOf (rules_of settings tool name) (clip c) y l (asked_at a w k) b x) is run in
     opened settings tool name c m l a b w k x (rw d g.2.1) (name_asked s.answer t.answer s.asked t.asked i name d g.0 g.1) (rw d (sym (or-false k))) here
 
 -- the line of the fault by which it could not be opened was cut off
 pub one_fault_cut : {F : Type 0} (content : F → Option Content) (settings : CheckSettings) (tool name : List ℕ) (s t : Option Telling) (i : Option Content) (k : Bool) (f : Fault) (o e e' : Option (List ℕ)) (m l : ℕ) → is_dash name ≡ false
-    → OpenGives content s t name (Err (open_faults.Fault f)) → AppendsFront e e' (fault_line tool name f)
+    → OpenGives content s t name (Err (open_faults.Fault f)) → AppendsFront e e' (fault_line Present tool name f)
     → CheckGives settings tool name m l (scene_by (world_by s i) k o e) (scene_by (world_by t i) k o e') (Err Write)
 one_fault_cut content settings tool name None t i k f o e e' m l d g h = tt
 one_fault_cut content settings tool name (Some s) t None k f o e e' m l d g h = tt
@@ -167,9 +168,9 @@ one_fault_cut content settings tool name (Some s) (Some t) (Some i) k f o e e' m
     let v = after w (name ∷ []) in
     let is : reply w name ≡ Refused f = rw d g.2 in
     let shown : r.shown ≡ name = rw d refl in
-    let cut : Cut a b [] (fault_line tool r.shown f) (name ∷ []) = record {
+    let cut : Cut a b [] (fault_line Present tool r.shown f) (name ∷ []) = record {
       world = name_asked s.answer t.answer s.asked t.asked i name d g.0 g.1;
       out = none_yet o [];
-      err = subst (λ (n : List ℕ). AppendsUpTo e e' (fault_line tool n f)) (sym shown) (front_of e e' _ h);
+      err = subst (λ (n : List ℕ). AppendsUpTo e e' (fault_line Present tool n f)) (sym shown) (front_of e e' _ h);
     } in
     subst (λ (y : Reply). CutOff a b (checked_by r name v y).out (checked_by r name v y).err (checked_by r name v y).asks) (sym is) (name ∷ [], [], refl, cut)

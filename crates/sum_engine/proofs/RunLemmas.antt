@@ -4,11 +4,12 @@ use Rattle.std.specs.List.{flat_map}
 use Rattle.std.proofs.lemmas.List.{append-nil, take_at}
 use Rattle.std.proofs.lemmas.Grind.{flat_map-append}
 use Rattle.sum_sources.specs.Contents.{Content}
-use Rattle.sum_sources.specs.ManifestLines.{lines, past_line}
+use Rattle.sum_sources.specs.ManifestLines.{past_line}
 use Rattle.sum_lines.specs.declared.line_reading.Form.{Form}
 use Rattle.sum_lines.specs.Entries.{form, form_then}
 use Rattle.sum_engine.specs.Worlds.{World}
 use Rattle.sum_engine.specs.Verdicts.{Rules, Judged, asks_of, verdicts, all_verdicts, judge}
+use Rattle.sum_engine.specs.Profiles.{lines_by}
 use Rattle.sum_engine.specs.Grammar.{says}
 use Rattle.sum_engine.specs.Worlds.{after}
 use Rattle.sum_engine.specs.Reports.{out_of, err_of, counts, counted, end_text, good}
@@ -33,7 +34,7 @@ asks js = flat_map asks_of js
 pub record Did (r : Rules) (c : Content) (s : Scene) (b : Now) (js : List Judged) : Type 0 where
   pub verdicts : all_verdicts r s.world c ≡ js ++ rest_verdicts r b
   pub rest : b.rest ≡ past_lines (length js) c
-  pub lines : lines b.rest ≡ drop (length js) (lines c)
+  pub lines : lines_by r.profile b.rest ≡ drop (length js) (lines_by r.profile c)
   pub number : b.number ≡ length js
   pub used : b.used + length b.rest.bytes ≡ length c.bytes
   pub counts : b.counts ≡ counts js
@@ -69,7 +70,7 @@ did_more r c s b d v js p h =
     record {
       verdicts = p.verdicts ∙ ap (λ l. js ++ l) (rest_on r b d v h) ∙ sym (append_assoc js (j ∷ []) (rest_verdicts r d));
       rest = h.rest ∙ ap past_line p.rest ∙ past_next (length js) c ∙ ap (λ n. past_lines n c) (sym more);
-      lines = sym (drop_next (length js) (lines c) (lines d.rest) h.line (sym p.lines ∙ h.lines)) ∙ ap (λ n. drop n (lines c)) (sym more);
+      lines = sym (drop_next (length js) (lines_by r.profile c) (lines_by r.profile d.rest) h.line (sym p.lines ∙ h.lines)) ∙ ap (λ n. drop n (lines_by r.profile c)) (sym more);
       number = omega (arith, h.number, p.number, more);
       used = h.used ∙ p.used;
       counts = h.counts ∙ ap (λ x. counted x j.verdict) p.counts ∙ sym (counts_more js j);
@@ -77,7 +78,7 @@ did_more r c s b d v js p h =
     }
 
 -- no line is left
-pub all_done : (r : Rules) (c : Content) (s : Scene) (b : Now) (js : List Judged) → Did r c s b js → lines b.rest ≡ [] → all_verdicts r s.world c ≡ js
+pub all_done : (r : Rules) (c : Content) (s : Scene) (b : Now) (js : List Judged) → Did r c s b js → lines_by r.profile b.rest ≡ [] → all_verdicts r s.world c ≡ js
 all_done r c s b js p none = p.verdicts ∙ ap (λ l. js ++ l) (rest_none r b none) ∙ append-nil js
 
 ending_is : (r : Rules) (c : Content) (s : Scene) (b : Now) (js : List Judged) → Did r c s b js → b.rest.ending ≡ c.ending
@@ -102,7 +103,7 @@ abbrev NextIn : Rules → Now → List ℕ → List (List ℕ) → Type 0
 NextIn r b end ls = (o : List ℕ) × (e : List ℕ) × (q : List (List ℕ))
     × (outs r (rest_verdicts r b) ≡ next_out r b ls ++ o) × (errs r (rest_verdicts r b) ++ end ≡ next_err r b ls ++ e) × (asks (rest_verdicts r b) ≡ next_asks r b ls ++ q)
 
-next_in : (r : Rules) (b : Now) (end : List ℕ) (ls : List (List ℕ)) → lines b.rest ≡ ls → (lines b.rest ≡ [] → end ≡ end_text r b.rest.ending b.counts) → NextIn r b end ls
+next_in : (r : Rules) (b : Now) (end : List ℕ) (ls : List (List ℕ)) → lines_by r.profile b.rest ≡ ls → (lines_by r.profile b.rest ≡ [] → end ≡ end_text r b.rest.ending b.counts) → NextIn r b end ls
 next_in r b end [] h is =
     let none = rest_none r b h in
     ([], [], [], ap (outs r) none, ap (λ l. errs r l ++ end) none ∙ is h ∙ sym (append-nil (end_text r b.rest.ending b.counts)), ap asks none)
@@ -113,14 +114,14 @@ next_in r b end (l ∷ ls) h is =
     (outs r more, errs r more ++ end, asks more, ap (outs r) head, ap (λ x. errs r x ++ end) head ∙ append_assoc (err_of r j) (errs r more) end, ap asks head)
 
 pub did_cut : (r : Rules) (c : Content) (s : Scene) (b : Now) (z : Scene) (js : List Judged) → Did r c s b js
-    → Cut b.scene z (next_out r b (lines b.rest)) (next_err r b (lines b.rest)) (next_asks r b (lines b.rest)) →
+    → Cut b.scene z (next_out r b (lines_by r.profile b.rest)) (next_err r b (lines_by r.profile b.rest)) (next_asks r b (lines_by r.profile b.rest)) →
     let vs = all_verdicts r s.world c in CutOff s z (outs r vs) (errs r vs ++ end_text r c.ending (counts vs)) (asks vs)
 did_cut r c s b z js p h =
     let vs = all_verdicts r s.world c in
     let end = end_text r c.ending (counts vs) in
-    let last : lines b.rest ≡ [] → end ≡ end_text r b.rest.ending b.counts = λ none.
+    let last : lines_by r.profile b.rest ≡ [] → end ≡ end_text r b.rest.ending b.counts = λ none.
     ap (λ l. end_text r c.ending (counts l)) (all_done r c s b js p none) ∙ ap (end_text r c.ending) (sym p.counts) ∙ ap (λ e. end_text r e b.counts) (sym (ending_is r c s b js p)) in
-    let ls = lines b.rest in
+    let ls = lines_by r.profile b.rest in
     let n = next_in r b end ls refl last in
     let left = rest_verdicts r b in
     let out : outs r vs ≡ outs r js ++ (next_out r b ls ++ n.0) = ap (outs r) p.verdicts ∙ flat_map-append (out_of r) js left ∙ ap (λ l. outs r js ++ l) n.3 in
@@ -152,7 +153,7 @@ steps_join r c s b k h =
     let rest : b.rest ≡ past_lines k c = p.rest ∙ ap (λ n. past_lines n c) len in
     record {
       rest = rest;
-      lines = p.lines ∙ ap (λ n. drop n (lines c)) len;
+      lines = p.lines ∙ ap (λ n. drop n (lines_by r.profile c)) len;
       number = p.number ∙ len;
       used = ap (λ (x : Content). b.used + length x.bytes) (sym rest) ∙ p.used;
       done = rw cut p.done;
@@ -160,14 +161,14 @@ steps_join r c s b k h =
 
 length_verdicts : (r : Rules) (f : Form) (w : World) (n : ℕ) (ls : List (List ℕ)) → length (verdicts r f w n ls) ≡ length ls
 length_verdicts r f w n [] = refl
-length_verdicts r f w n (l ∷ ls) = ap suc (length_verdicts r f (after w (asks_of (judge r w (n + 1) (says r.settings.algo f l)))) (n + 1) ls)
+length_verdicts r f w n (l ∷ ls) = ap suc (length_verdicts r f (after w (asks_of (judge r w (n + 1) (says r.profile r.settings.algo f l)))) (n + 1) ls)
 
 pub steps_end : StepsEnd
 steps_end r c s b z k x h e =
     let d = did_times r c s (start c s) b [] k (did_none r c s) h in
     let all = all_done r c s b d.0 d.1 e.lines in
     let end = did_end r c s b z d.0 x d.1 e in
-    let len : length (all_verdicts r s.world c) ≡ length (lines c) = length_verdicts r (form r.settings.algo (lines c)) s.world 0 (lines c) in
+    let len : length (all_verdicts r s.world c) ≡ length (lines_by r.profile c) = length_verdicts r (form r.settings.algo (lines_by r.profile c)) s.world 0 (lines_by r.profile c) in
     (omega (arith, d.2, ap length all, len), end.0, end.1)
 
 pub steps_cut : StepsCut

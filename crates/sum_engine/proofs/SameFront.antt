@@ -8,30 +8,32 @@ use Rattle.sum_lines.specs.Scanned.{Parts, tagged_of, plain_of}
 use Rattle.sum_lines.proofs.EntryLemmas.{form-append}
 use Rattle.sum_lines.proofs.PlainLemmas.{plain_is_read}
 use Rattle.sum_engine.specs.Worlds.{World, after}
+use Rattle.sum_engine.specs.Profiles.{Profile}
 use Rattle.sum_engine.specs.Grammar.{entry_by, entry_of, spelled, raw_of, says}
 use Rattle.sum_engine.specs.Verdicts.{Rules, Judged, judge, asks_of, verdicts}
 use Rattle.sum_engine.specs.Laws.{SameEntry, SameForm, SameVerdicts}
 use Rattle.sum_engine.proofs.RestLemmas.{form_on, decided, said_stays}
 
-entry_stays : (f g : Form) (t q : Option Parts) → entry_by (form_then (form_then f (form_of_parts q)) g) t q ≡ entry_by (form_then f (form_of_parts q)) t q
-entry_stays f g (Some p) q = refl
-entry_stays f g None None = refl
-entry_stays f g None (Some q) = ap (λ x. spelled q (raw_of x q.text)) (decided f (begins_standard q.text) g)
+entry_stays : (p : Profile) (f g : Form) (t q : Option Parts)
+    → entry_by p (form_then (form_then f (form_of_parts q)) g) t q ≡ entry_by p (form_then f (form_of_parts q)) t q
+entry_stays p f g (Some t) q = refl
+entry_stays p f g None None = refl
+entry_stays p f g None (Some q) = ap (λ x. spelled p q (raw_of x q.text)) (decided f (begins_standard q.text) g)
 
 -- the form of all lines, at a line
 form_at : (algos : Algos) (before later : List (List ℕ)) (line : List ℕ) → form algos (before ++ (line ∷ later)) ≡ form_then (form_then (form algos before) (line_form algos line)) (form algos later)
 form_at algos before later line = form-append algos before (line ∷ later) ∙ form_on (form algos before) (line_form algos line) (form algos later)
 
-entry_alone : (algos : Algos) (before later : List (List ℕ)) (line : List ℕ) → ignored line ≡ false
-    → entry_of algos (form algos (before ++ (line ∷ later))) line ≡ entry_of algos (form_then (form algos before) (form_of_parts (plain_of algos line))) line
+entry_alone : (p : Profile) (algos : Algos) (before later : List (List ℕ)) (line : List ℕ) → ignored line ≡ false
+    → entry_of p algos (form algos (before ++ (line ∷ later))) line ≡ entry_of p algos (form_then (form algos before) (form_of_parts (plain_of algos line))) line
 unfolding entry_of
-entry_alone algos before later line i =
+entry_alone p algos before later line i =
     let own : line_form algos line ≡ form_of_parts (plain_of algos line) = rw i refl in
-    ap (λ f. entry_by f (tagged_of algos line) (plain_of algos line)) (form_at algos before later line ∙ ap (λ x. form_then (form_then (form algos before) x) (form algos later)) own)
-    ∙ entry_stays (form algos before) (form algos later) (tagged_of algos line) (plain_of algos line)
+    ap (λ f. entry_by p f (tagged_of algos line) (plain_of algos line)) (form_at algos before later line ∙ ap (λ x. form_then (form_then (form algos before) x) (form algos later)) own)
+    ∙ entry_stays p (form algos before) (form algos later) (tagged_of algos line) (plain_of algos line)
 
 pub same_entry : SameEntry
-same_entry algos before later others line i = entry_alone algos before later line i ∙ sym (entry_alone algos before others line i)
+same_entry p algos before later others line i = entry_alone p algos before later line i ∙ sym (entry_alone p algos before others line i)
 
 form_alone : (algos : Algos) (before later : List (List ℕ)) (line tail : List ℕ) → line_form algos line ≡ form_of_tail tail
     → form algos (before ++ (line ∷ later)) ≡ form_then (form algos before) (form_of_tail tail)
@@ -49,8 +51,8 @@ same_form algos before later others line e kind d tail i plain =
 abbrev running : Rules → World → ℕ → Form → List (List ℕ) → List Judged
 running r w n f [] = []
 running r w n f (l ∷ ls) =
-    judge r w (n + 1) (says r.settings.algo (form_then f (line_form r.settings.algo l)) l)
-    ∷ running r (after w (asks_of (judge r w (n + 1) (says r.settings.algo (form_then f (line_form r.settings.algo l)) l)))) (n + 1) (form_then f (line_form r.settings.algo l)) ls
+    judge r w (n + 1) (says r.profile r.settings.algo (form_then f (line_form r.settings.algo l)) l)
+    ∷ running r (after w (asks_of (judge r w (n + 1) (says r.profile r.settings.algo (form_then f (line_form r.settings.algo l)) l)))) (n + 1) (form_then f (line_form r.settings.algo l)) ls
 
 fronts : (r : Rules) (w : World) (n : ℕ) (f : Form) (front later : List (List ℕ)) →
     take (length front) (verdicts r (form_then f (form r.settings.algo (front ++ later))) w n (front ++ later)) ≡ running r w n f front
@@ -60,9 +62,9 @@ fronts r w n f (l ∷ ls) later =
     let here = form_then f (line_form algo l) in
     let rest = form algo (ls ++ later) in
     let all : form_then f (form algo (l ∷ (ls ++ later))) ≡ form_then here rest = form_on f (line_form algo l) rest in
-    let j = judge r w (n + 1) (says algo here l) in
+    let j = judge r w (n + 1) (says r.profile algo here l) in
     ap (λ g. take (suc (length ls)) (verdicts r g w n (l ∷ (ls ++ later)))) all
-    ∙ ap (λ x. judge r w (n + 1) x ∷ take (length ls) (verdicts r (form_then here rest) (after w (asks_of (judge r w (n + 1) x))) (n + 1) (ls ++ later))) (said_stays algo f rest l)
+    ∙ ap (λ x. judge r w (n + 1) x ∷ take (length ls) (verdicts r (form_then here rest) (after w (asks_of (judge r w (n + 1) x))) (n + 1) (ls ++ later))) (said_stays r.profile algo f rest l)
     ∙ ap (λ x. j ∷ x) (fronts r (after w (asks_of j)) (n + 1) here ls later)
 
 pub same_verdicts : SameVerdicts

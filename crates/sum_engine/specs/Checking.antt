@@ -5,12 +5,14 @@ use Rattle.sum_sources.specs.Sources.{Reply, Refused, Given}
 use Rattle.sum_engine.specs.declared.settings.CheckSettings.{CheckSettings}
 use Rattle.sum_engine.specs.Worlds.{World, is_dash, reply, after}
 use Rattle.sum_engine.specs.Outcomes.{Outcome}
+use Rattle.sum_engine.specs.Profiles.{Present}
 use Rattle.sum_engine.specs.Generation.{fault_line}
 use Rattle.sum_engine.specs.Verdicts.{Rules, Judged, asks_of, all_verdicts}
 use Rattle.sum_engine.specs.Reports.{out_of, err_of, counts, end_text, good}
 
 abbrev pub rules_of : CheckSettings → List ℕ → List ℕ → Rules
 rules_of settings tool name = record {
+  profile = Present;
   settings = settings;
   tool = tool;
   shown = if is_dash name then codes "standard input" else name;
@@ -27,7 +29,8 @@ checked_content r name c js = record {
 }
 
 abbrev pub checked_by : Rules → List ℕ → World → Reply → Outcome
-checked_by r name w (Refused f) = record { out = []; err = fault_line r.tool r.shown f; asks = name ∷ []; good = false }
+checked_by r name w (Refused f) =
+    record { out = []; err = fault_line r.profile r.tool r.shown f; asks = name ∷ []; good = false }
 checked_by r name w (Given c) = checked_content r name (clip c) (all_verdicts r w (clip c))
 
 -- the manifest of that name

@@ -3,21 +3,22 @@ use Rattle.std.specs.Prelude.{ℕ, true, false, List, [], ◌∷◌, codes, Resu
 use Rattle.std.specs.List.{concat}
 use Rattle.sum_sources.specs.declared.fault.Fault.{Fault}
 use Rattle.sum_sources.specs.Faults.{fault_text}
-use Rattle.sum_lines.specs.Escape.{escape}
 use Rattle.sum_lines.specs.Lines.{line}
 use Rattle.sum_engine.specs.declared.settings.Settings.{Settings}
 use Rattle.sum_engine.specs.Worlds.{World, reply, read}
 use Rattle.sum_engine.specs.Outcomes.{Outcome}
+use Rattle.sum_engine.specs.Profiles.{Profile, Present, escape_by}
 
 -- TOOL: NAME: TEXT
-abbrev pub fault_line : List ℕ → List ℕ → Fault → List ℕ
-fault_line tool name fault = concat (tool ∷ codes ": " ∷ escape name ∷ codes ": " ∷ fault_text fault ∷ codes "\n" ∷ [])
+abbrev pub fault_line : Profile → List ℕ → List ℕ → Fault → List ℕ
+fault_line p tool name fault =
+    concat (tool ∷ codes ": " ∷ escape_by p name ∷ codes ": " ∷ fault_text fault ∷ codes "\n" ∷ [])
 
 abbrev pub generated_by : Settings → List ℕ → List ℕ → Result (List ℕ) Fault → Outcome
 generated_by settings tool name (Ok d) =
     record { out = line settings.style settings.kind name d; err = []; asks = name ∷ []; good = true }
 generated_by settings tool name (Err f) =
-    record { out = []; err = fault_line tool name f; asks = name ∷ []; good = false }
+    record { out = []; err = fault_line Present tool name f; asks = name ∷ []; good = false }
 
 -- a name that is read gives its line, any other the line of its fault
 abbrev pub generated : Settings → List ℕ → World → List ℕ → Outcome

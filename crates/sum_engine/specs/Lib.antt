@@ -1,5 +1,6 @@
 pub mod Worlds
 pub mod Outcomes
+pub mod Profiles
 pub mod Generation
 pub mod Grammar
 pub mod Verdicts
@@ -14,3 +15,4 @@ pub mod States
 pub mod Views
 pub mod Runs
 pub mod Laws
+pub mod OldVerdicts

@@ -1,32 +1,35 @@
 -- What checking writes: the reports of the lines, and the end of a manifest.
 use Rattle.std.specs.Prelude.{ℕ, ◌+◌, ◌==◌, ◌&&◌, ◌||◌, Bool, true, false, not, List, [], ◌∷◌, ◌++◌, count_by, decimal, codes, if◌then◌else◌}
 use Rattle.std.specs.List.{concat}
+use Rattle.std.specs.Str.{bytes_eq}
 use Rattle.digest_kinds.specs.declared.algo.Algos.{Algos}
 use Rattle.digest_kinds.specs.declared.algo.Algos.TheVariants.{One, Any}
 use Rattle.digest_kinds.specs.Kinds.{tag}
 use Rattle.sum_sources.specs.declared.fault.Ending.{Ending}
 use Rattle.sum_sources.specs.declared.fault.Ending.TheVariants.{Whole, Broken}
-use Rattle.sum_lines.specs.Escape.{escape}
-use Rattle.sum_lines.specs.Lines.{mark}
+use Rattle.sum_lines.specs.Shapes.{mark}
 use Rattle.sum_engine.specs.declared.settings.Report.{Report}
 use Rattle.sum_engine.specs.declared.settings.Report.TheVariants.{All, Quiet, Warn, Status}
 use Rattle.sum_engine.specs.declared.summary.Counts.{Counts}
 use Rattle.sum_engine.specs.declared.verdict.Verdict.{Verdict}
 use Rattle.sum_engine.specs.declared.verdict.Verdict.TheVariants.{Ignored, Bad, Right, Wrong, Missing, Unread}
+use Rattle.sum_engine.specs.Profiles.{Profile, Present, escape_by}
 use Rattle.sum_engine.specs.Generation.{fault_line}
 use Rattle.sum_engine.specs.Verdicts.{Rules, Judged}
 
 -- NAME: TEXT, where a backslash stands before a name that its escape changes
-abbrev pub name_line : List ℕ → List ℕ → List ℕ
-name_line name text = concat (mark name ∷ escape name ∷ codes ": " ∷ text ∷ codes "\n" ∷ [])
+abbrev pub name_line : Profile → List ℕ → List ℕ → List ℕ
+name_line p name text =
+    let escaped = escape_by p name in
+    concat (mark (not (bytes_eq escaped name)) ∷ escaped ∷ codes ": " ∷ text ∷ codes "\n" ∷ [])
 
-abbrev pub said_of : Verdict → List ℕ → List ℕ
-said_of Ignored name = []
-said_of Bad name = []
-said_of Right name = name_line name (codes "OK")
-said_of Wrong name = name_line name (codes "FAILED")
-said_of Missing name = []
-said_of (Unread f) name = name_line name (codes "FAILED open or read")
+abbrev pub said_of : Profile → Verdict → List ℕ → List ℕ
+said_of p Ignored name = []
+said_of p Bad name = []
+said_of p Right name = name_line p name (codes "OK")
+said_of p Wrong name = name_line p name (codes "FAILED")
+said_of p Missing name = []
+said_of p (Unread f) name = name_line p name (codes "FAILED open or read")
 
 -- what a report setting leaves out of standard output
 abbrev pub hides : Report → Verdict → Bool
@@ -37,15 +40,15 @@ hides Quiet v = false
 hides Status v = true
 
 -- a line's report on standard output
-abbrev pub out_by : Report → Verdict → List ℕ → List ℕ
-out_by report v name = if hides report v then [] else said_of v name
+abbrev pub out_by : Profile → Report → Verdict → List ℕ → List ℕ
+out_by p report v name = if hides report v then [] else said_of p v name
 
 abbrev pub out_of : Rules → Judged → List ℕ
-out_of r j = out_by r.settings.report j.verdict j.name
+out_of r j = out_by r.profile r.settings.report j.verdict j.name
 
 -- of a name whose file has the digest that its line gives
 abbrev pub right_line : Report → List ℕ → List ℕ
-right_line report name = out_by report Right name
+right_line report name = out_by Present report Right name
 
 abbrev pub tag_word : Algos → List ℕ
 tag_word (One a) = tag a
@@ -53,8 +56,8 @@ tag_word Any = codes "tagged"
 
 -- TOOL: LIST: N: improperly formatted TAG checksum line
 abbrev pub bad_line : Rules → ℕ → List ℕ
-bad_line r n = concat (r.tool ∷ codes ": " ∷ escape r.shown ∷ codes ": " ∷ decimal n ∷ codes ": improperly formatted "
-    ∷ tag_word r.settings.algo ∷ codes " checksum line\n" ∷ [])
+bad_line r n = concat (r.tool ∷ codes ": " ∷ escape_by r.profile r.shown ∷ codes ": " ∷ decimal n
+    ∷ codes ": improperly formatted " ∷ tag_word r.settings.algo ∷ codes " checksum line\n" ∷ [])
 
 abbrev pub if_warned : Report → List ℕ → List ℕ
 if_warned All text = []
@@ -69,7 +72,7 @@ err_by r n Bad name = if_warned r.settings.report (bad_line r n)
 err_by r n Right name = []
 err_by r n Wrong name = []
 err_by r n Missing name = []
-err_by r n (Unread f) name = fault_line r.tool name f
+err_by r n (Unread f) name = fault_line r.profile r.tool name f
 
 abbrev pub err_of : Rules → Judged → List ℕ
 err_of r j = err_by r j.number j.verdict j.name
@@ -130,7 +133,7 @@ warning tool n one many = if n == 0 then []
 
 -- TOOL: LIST: TEXT
 abbrev pub list_line : Rules → List ℕ → List ℕ
-list_line r text = concat (r.tool ∷ codes ": " ∷ escape r.shown ∷ codes ": " ∷ text ∷ codes "\n" ∷ [])
+list_line r text = concat (r.tool ∷ codes ": " ∷ escape_by r.profile r.shown ∷ codes ": " ∷ text ∷ codes "\n" ∷ [])
 
 abbrev pub unverified : Rules → Counts → List ℕ
 unverified r c = if r.settings.ignore_missing && (c.right == 0) then list_line r (codes "no file was verified") else []
@@ -155,7 +158,7 @@ summary r c = if entries c == 0 then list_line r (codes "no properly formatted c
 -- the end of a manifest on standard error
 abbrev pub end_text : Rules → Ending → Counts → List ℕ
 end_text r Whole c = summary r c
-end_text r (Broken f) c = fault_line r.tool r.shown f
+end_text r (Broken f) c = fault_line r.profile r.tool r.shown f
 
 -- A manifest is good where it was read whole, some line is Right, which is an entry then, none is Wrong or Unread,
 -- and under the strict setting none is Bad.

@@ -1,12 +1,12 @@
 -- Joins a checker's steps to a whole manifest.
 use Rattle.std.specs.Prelude.{ℕ, zero, suc, ◌≡◌, ◌+◌, ◌⊎◌, ◌<◌, Bool, List, ◌++◌, take, drop, length, flat_map, Option, None, Some, Result, Ok, Err, ⊤}
 use Rattle.sum_sources.specs.Contents.{Content, clip}
-use Rattle.sum_sources.specs.ManifestLines.{lines}
 use Rattle.sum_sources.specs.Sources.{Reply, Refused, Given, after_refusal}
 use Rattle.sum_engine.specs.declared.settings.CheckSettings.{CheckSettings}
 use Rattle.sum_engine.specs.declared.stop.Stop.{Stop}
 use Rattle.sum_engine.specs.declared.stop.Stop.TheVariants.{Memory, Write}
 use Rattle.sum_engine.specs.Worlds.{reply}
+use Rattle.sum_engine.specs.Profiles.{lines_by}
 use Rattle.sum_engine.specs.Verdicts.{Rules, asks_of, all_verdicts}
 use Rattle.sum_engine.specs.Reports.{out_of, err_of, counts, end_text, good}
 use Rattle.sum_engine.specs.Checking.{checked, checked_upto}
@@ -88,7 +88,7 @@ HandledTimes r a b (suc k) = (m : Now) × (held : List ℕ) × Handles r a m hel
 -- the bytes used are those up to the k-th line's end
 pub record Joined (r : Rules) (c : Content) (s : Scene) (b : Now) (k : ℕ) : Type 0 where
   pub rest : b.rest ≡ past_lines k c
-  pub lines : lines b.rest ≡ drop k (lines c)
+  pub lines : lines_by r.profile b.rest ≡ drop k (lines_by r.profile c)
   pub number : b.number ≡ k
   pub used : b.used + length (past_lines k c).bytes ≡ length c.bytes
   pub done : Does s b.scene (flat_map (out_of r) (take k (all_verdicts r s.world c)))
@@ -102,7 +102,7 @@ StepsJoin = (r : Rules) (c : Content) (s : Scene) (b : Now) (k : ℕ) → Handle
 abbrev pub StepsEnd : Type 0
 StepsEnd = (r : Rules) (c : Content) (s : Scene) (b z : Now) (k : ℕ) (x : Bool)
     → HandledTimes r (start c s) b k → Ends r b z x
-    → (k ≡ length (lines c)) × (x ≡ good r c.ending (counts (all_verdicts r s.world c)))
+    → (k ≡ length (lines_by r.profile c)) × (x ≡ good r c.ending (counts (all_verdicts r s.world c)))
     × Does s z.scene (flat_map (out_of r) (all_verdicts r s.world c))
     (flat_map (err_of r) (all_verdicts r s.world c) ++ end_text r c.ending (counts (all_verdicts r s.world c)))
     (flat_map asks_of (all_verdicts r s.world c))
@@ -110,7 +110,7 @@ StepsEnd = (r : Rules) (c : Content) (s : Scene) (b z : Now) (k : ℕ) (x : Bool
 -- a step that a write fault cut off leaves fronts of all texts
 abbrev pub StepsCut : Type 0
 StepsCut = (r : Rules) (c : Content) (s : Scene) (b z : Now) (k : ℕ) → HandledTimes r (start c s) b k
-    → Cut b.scene z.scene (next_out r b (lines b.rest)) (next_err r b (lines b.rest)) (next_asks r b (lines b.rest))
+    → (let ls = lines_by r.profile b.rest in Cut b.scene z.scene (next_out r b ls) (next_err r b ls) (next_asks r b ls))
     → CutOff s z.scene (flat_map (out_of r) (all_verdicts r s.world c))
     (flat_map (err_of r) (all_verdicts r s.world c) ++ end_text r c.ending (counts (all_verdicts r s.world c)))
     (flat_map asks_of (all_verdicts r s.world c))

@@ -2,7 +2,7 @@
 use Rattle.std.specs.Prelude.{ℕ, zero, suc, ◌≡◌, ◌+◌, ◌≤◌, ◌⊎◌, ◌<◌, Bool, List, [], ◌∷◌, length, Option, None, Some, Result, Ok, Err, IfSome, ⊤}
 use Rattle.sum_sources.specs.Contents.{Content}
 use Rattle.sum_sources.specs.Sources.{after_refusal}
-use Rattle.sum_sources.specs.ManifestLines.{lines, past_line}
+use Rattle.sum_sources.specs.ManifestLines.{past_line}
 use Rattle.sum_lines.specs.declared.line_reading.Form.{Form}
 use Rattle.sum_lines.specs.declared.line_reading.Form.TheVariants.{Undecided}
 use Rattle.sum_lines.specs.Entries.{form_then, line_form, form}
@@ -11,6 +11,7 @@ use Rattle.sum_engine.specs.declared.progress.Progress.TheVariants.{Going, Ended
 use Rattle.sum_engine.specs.declared.stop.Stop.{Stop}
 use Rattle.sum_engine.specs.declared.stop.Stop.TheVariants.{Memory, Write}
 use Rattle.sum_engine.specs.declared.summary.Counts.{Counts}
+use Rattle.sum_engine.specs.Profiles.{lines_by}
 use Rattle.sum_engine.specs.Grammar.{says}
 use Rattle.sum_engine.specs.Verdicts.{Rules, Judged, judge, asks_of, verdicts}
 use Rattle.sum_engine.specs.Reports.{out_of, err_of, end_text, good, counted, no_counts}
@@ -35,12 +36,12 @@ now_by (Some rest) n u f c (Some s) =
 -- the next line's verdict
 abbrev pub next_judged : Rules → Now → List ℕ → Judged
 next_judged r a l =
-    judge r a.scene.world (a.number + 1) (says r.settings.algo (form_then a.form (line_form r.settings.algo l)) l)
+    judge r a.scene.world (a.number + 1) (says r.profile r.settings.algo (form_then a.form (line_form r.settings.algo l)) l)
 
 -- one line was handled; the line's vector holds this then
 pub record Handles (r : Rules) (a b : Now) (vector : List ℕ) : Type 0 where
   pub line : List ℕ
-  pub lines : lines a.rest ≡ line ∷ lines b.rest
+  pub lines : lines_by r.profile a.rest ≡ line ∷ lines_by r.profile b.rest
   pub rest : b.rest ≡ past_line a.rest
   pub used : b.used + length b.rest.bytes ≡ a.used + length a.rest.bytes
   pub number : b.number ≡ a.number + 1
@@ -52,7 +53,7 @@ pub record Handles (r : Rules) (a b : Now) (vector : List ℕ) : Type 0 where
 
 -- the end was handled
 pub record Ends (r : Rules) (a b : Now) (x : Bool) : Type 0 where
-  pub lines : lines a.rest ≡ []
+  pub lines : lines_by r.profile a.rest ≡ []
   pub answer : x ≡ good r a.rest.ending a.counts
   pub done : Does a.scene b.scene [] (end_text r a.rest.ending a.counts) []
 
@@ -73,7 +74,7 @@ abbrev pub StepOf : Rules → Now → Now → List ℕ → Result Progress Stop 
 StepOf r a b held (Ok Going) = Handles r a b held
 StepOf r a b held (Ok (Ended answer)) = Ends r a b answer
 StepOf r a b held (Err Write) =
-    Cut a.scene b.scene (next_out r a (lines a.rest)) (next_err r a (lines a.rest)) (next_asks r a (lines a.rest))
+    let ls = lines_by r.profile a.rest in Cut a.scene b.scene (next_out r a ls) (next_err r a ls) (next_asks r a ls)
 StepOf r a b held (Err Memory) = b.scene ≡ a.scene
 
 -- what a step does, where the manifest and the scene tell
@@ -85,7 +86,8 @@ StepGives r (Some a) (Some b) held x = StepOf r a b held x
 -- what is still to be found
 abbrev pub rest_verdicts : Rules → Now → List Judged
 rest_verdicts r a =
-    verdicts r (form_then a.form (form r.settings.algo (lines a.rest))) a.scene.world a.number (lines a.rest)
+    let ls = lines_by r.profile a.rest in
+    verdicts r (form_then a.form (form r.settings.algo ls)) a.scene.world a.number ls
 
 -- a new checker
 abbrev pub start : Content → Scene → Now
@@ -106,7 +108,7 @@ abbrev pub HandleGives : {A : Type 0} → Rules → Form → List ℕ → ℕ �
     → Result A Stop → Type 0
 HandleGives r f line n c d None b x = ⊤
 HandleGives r f line n c d (Some a) None x = ⊥
-HandleGives r f line n c d (Some a) (Some b) x = HandleOf r (judge r a.world n (says r.settings.algo f line)) c d a b x
+HandleGives r f line n c d (Some a) (Some b) x = HandleOf r (judge r a.world n (says r.profile r.settings.algo f line)) c d a b x
 
 -- a step's want of memory: the source was refused it, or bytes of the manifest were still to come
 abbrev pub Wants : ℕ → ℕ → Option Content → Result Progress Stop → Type 0

@@ -5,18 +5,19 @@ use Rattle.sum_sources.specs.declared.fault.Fault.{Fault}
 use Rattle.sum_sources.specs.declared.fault.Fault.TheVariants.{NotFound, Denied, Other}
 use Rattle.sum_sources.specs.Contents.{Content}
 use Rattle.sum_sources.specs.Sources.{Reply, Refused, Given}
-use Rattle.sum_sources.specs.ManifestLines.{lines}
 use Rattle.sum_lines.specs.declared.line_reading.Form.{Form}
 use Rattle.sum_lines.specs.Entries.{Spelled, kind_of, form}
 use Rattle.sum_engine.specs.declared.settings.CheckSettings.{CheckSettings}
 use Rattle.sum_engine.specs.declared.verdict.Verdict.{Verdict}
 use Rattle.sum_engine.specs.declared.verdict.Verdict.TheVariants.{Ignored, Bad, Right, Wrong, Missing, Unread}
+use Rattle.sum_engine.specs.Profiles.{Profile, lines_by}
 use Rattle.sum_engine.specs.Grammar.{Said, Nothing, Improper, Spells, says}
 use Rattle.sum_engine.specs.Worlds.{World, is_dash, reply, after, read}
 
--- what a manifest is checked by: the settings, the tool's name, the name under which the manifest is shown, and
--- whether it came from standard input
+-- what a manifest is checked by: the profile, the settings, the tool's name, the name under which the manifest is shown,
+-- and whether it came from standard input
 pub record Rules : Type 0 where
+  pub profile : Profile
   pub settings : CheckSettings
   pub tool : List ℕ
   pub shown : List ℕ
@@ -69,9 +70,9 @@ asks_of j = asks_by j.verdict j.name
 abbrev pub verdicts : Rules → Form → World → ℕ → List (List ℕ) → List Judged
 verdicts r f w n [] = []
 verdicts r f w n (l ∷ ls) =
-    judge r w (n + 1) (says r.settings.algo f l)
-    ∷ verdicts r f (after w (asks_of (judge r w (n + 1) (says r.settings.algo f l)))) (n + 1) ls
+    judge r w (n + 1) (says r.profile r.settings.algo f l)
+    ∷ verdicts r f (after w (asks_of (judge r w (n + 1) (says r.profile r.settings.algo f l)))) (n + 1) ls
 
 -- a whole manifest, whose form is that of all its lines
 abbrev pub all_verdicts : Rules → World → Content → List Judged
-all_verdicts r w c = verdicts r (form r.settings.algo (lines c)) w 0 (lines c)
+all_verdicts r w c = verdicts r (form r.settings.algo (lines_by r.profile c)) w 0 (lines_by r.profile c)

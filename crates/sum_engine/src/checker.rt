@@ -2,6 +2,7 @@
 ghost use Rattle.std.specs.Prelude.{◌≡◌, ◌≤◌, ◌<◌, ◌^◌, ◌+◌, ◌⊎◌, Ok, Err, Some, None, true, false, Option, length};
 ghost use Rattle.std.specs.Prelude.{OnOk, IfOk, IfSome, IsErr};
 ghost use Rattle.sum_sources.specs.LineReading.{count_of, has_stopped};
+ghost use Rattle.sum_engine.specs.Profiles.{Present};
 ghost use Rattle.sum_engine.specs.Reports.{total, no_counts};
 ghost use Rattle.sum_engine.specs.States.{IsRunning};
 
@@ -53,8 +54,13 @@ impl<'a, I: Input> Checker<'a, I> {
         from_stdin: bool,
         input: I,
     ) -> Self
-        ensures rules { rules_of_checker result
-            ≡ record { settings = settings; tool = tool.entry.now; shown = shown.entry.now; from_stdin = from_stdin } }
+        ensures rules { rules_of_checker result ≡ record {
+          profile = Present;
+          settings = settings;
+          tool = tool.entry.now;
+          shown = shown.entry.now;
+          from_stdin = from_stdin;
+        } }
         ensures now { (s : Option Scene) → now_of I.content result s
             ≡ now_by (option_map clip (I.content input)) 0 0 Form.Undecided no_counts s }
         ensures going { answer_of result ≡ None }

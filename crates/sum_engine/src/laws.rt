@@ -1,5 +1,6 @@
 //! Laws over whole checks: what the steps of a [`Checker`](crate::Checker) come to together.
 ghost use Rattle.sum_engine.specs.Laws.{EntryIs, SameEntry, SameForm, SameVerdicts};
+ghost use Rattle.sum_engine.specs.OldVerdicts.{OldVerdicts, OldOutcomes, OlderDiffers};
 ghost use Rattle.sum_engine.specs.Runs.{StepsJoin, StepsEnd, StepsCut};
 
 /// Steps, one after another, write the reports of a manifest's first lines, ask the names of their entries and use the
@@ -22,4 +23,15 @@ pub fn same_front()
     ensures entry { SameEntry }
     ensures form { SameForm }
     ensures verdicts { SameVerdicts }
+{}
+
+/// Manifests of the time when older versions of the tools wrote them keep their verdicts. These versions escaped no
+/// carriage return in names, dropped none before a line's end and held empty lines to be improperly formatted. A
+/// manifest whose own name holds no carriage return, without an empty line and without a carriage return, neither as a
+/// byte nor as the escape `\r` in a name behind a leading backslash, has under both profiles the same verdicts after
+/// the same asks, the same reports and the same summary, and is good under both or under neither.
+pub fn old_verdicts()
+    ensures verdicts { OldVerdicts }
+    ensures outcomes { OldOutcomes }
+    ensures differs { OlderDiffers }
 {}

@@ -2,6 +2,7 @@
 ghost use Rattle.std.specs.Prelude.{◌≡◌, ◌⊎◌, Some, Err, Ok};
 ghost use Rattle.std.specs.Option.{option_map};
 ghost use Rattle.sum_sources.specs.Contents.{clip};
+ghost use Rattle.sum_engine.specs.Profiles.{Present};
 ghost use Rattle.sum_engine.specs.Checking.{rules_of};
 ghost use Rattle.sum_engine.specs.Scenes.{scene, Failures};
 ghost use Rattle.sum_engine.specs.Runs.{RunGives, CheckGives, RefusedOnMemory};
@@ -80,7 +81,13 @@ fn check_input<'a, A: Allocator, I: Input + Drop, J: Input + Drop, S: Source, O:
     err: &mut E,
 ) -> Result<bool, Stop>
     ensures gives { RunGives
-        (record { settings = settings; tool = tool.now; shown = shown.now; from_stdin = from_stdin })
+        (record {
+          profile = Present;
+          settings = settings;
+          tool = tool.now;
+          shown = shown.now;
+          from_stdin = from_stdin;
+        })
         (option_map clip (I.content input)) (S.refusals source.old) (S.refusals source.new)
         (scene J.content (S.told source.old) stdin.old (O.written out.old) (E.written err.old))
         (scene J.content (S.told source.new) stdin.new (O.written out.new) (E.written err.new)) result }

@@ -2,6 +2,7 @@
 ghost use Rattle.std.specs.Prelude.{MatchResult};
 ghost use Rattle.std.specs.Io.KnownBytes.{Appends};
 ghost use Rattle.sum_lines.specs.Sinks.{Writes};
+ghost use Rattle.sum_engine.specs.Profiles.{Present};
 ghost use Rattle.sum_engine.specs.Generation.{fault_line};
 ghost use Rattle.sum_engine.specs.Reports.{name_line, said_of, out_by, bad_line, err_by};
 ghost use Rattle.sum_engine.specs.Listings.{rules_in};
@@ -21,7 +22,7 @@ pub(crate) fn put_fault_line<'a, E: Sink>(
     name: &'a [u8],
     fault: Fault,
 ) -> Result<(), SinkFault>
-    ensures { Writes E.written E.failures err.old err.new (fault_line tool.now name.now fault) result }
+    ensures { Writes E.written E.failures err.old err.new (fault_line Present tool.now name.now fault) result }
 {
     let text = fault.text();
     put_parts(
@@ -47,9 +48,10 @@ pub(crate) fn put_report<O: Sink, E: Sink>(
     name: &[u8],
 ) -> Result<(), SinkFault>
     ensures out { MatchResult result
-        (λ _. Appends (O.written out.old) (O.written out.new) (out_by listing.now.settings.report verdict name.now))
+        (λ _. Appends (O.written out.old) (O.written out.new)
+        (out_by Present listing.now.settings.report verdict name.now))
         (λ _. AppendsUpTo (O.written out.old) (O.written out.new)
-        (out_by listing.now.settings.report verdict name.now)) }
+        (out_by Present listing.now.settings.report verdict name.now)) }
     ensures err { MatchResult result
         (λ _. Appends (E.written err.old) (E.written err.new) (err_by (rules_in listing.now) number verdict name.now))
         (λ _. AppendsUpTo (E.written err.old) (E.written err.new)
@@ -70,7 +72,7 @@ fn put_out<O: Sink>(
     verdict: Verdict,
     name: &[u8],
 ) -> Result<(), SinkFault>
-    ensures { Writes O.written O.failures out.old out.new (out_by report verdict name.now) result }
+    ensures { Writes O.written O.failures out.old out.new (out_by Present report verdict name.now) result }
 {
     match report {
         Report::All => put_said(out, verdict, name),
@@ -84,7 +86,7 @@ fn put_out<O: Sink>(
 }
 
 fn put_said<O: Sink>(out: &mut O, verdict: Verdict, name: &[u8]) -> Result<(), SinkFault>
-    ensures { Writes O.written O.failures out.old out.new (said_of verdict name.now) result }
+    ensures { Writes O.written O.failures out.old out.new (said_of Present verdict name.now) result }
 {
     match verdict {
         Verdict::Ignored | Verdict::Bad | Verdict::Missing => Ok(()),
@@ -95,7 +97,7 @@ fn put_said<O: Sink>(out: &mut O, verdict: Verdict, name: &[u8]) -> Result<(), S
 }
 
 fn put_name_line<'a, O: Sink>(out: &mut O, name: &'a [u8], text: &'a [u8]) -> Result<(), SinkFault>
-    ensures { Writes O.written O.failures out.old out.new (name_line name.now text.now) result }
+    ensures { Writes O.written O.failures out.old out.new (name_line Present name.now text.now) result }
 {
     let mark: &[u8] = if needs_escape(name) { b"\\" } else { b"" };
     put_parts(

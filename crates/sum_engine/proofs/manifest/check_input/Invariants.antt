@@ -3,6 +3,7 @@ use Rattle.std.specs.Option.{option_map}
 use Rattle.sum_sources.specs.Contents.{clip}
 use Rattle.sum_engine.specs.Scenes.{scene}
 use Rattle.sum_engine.specs.Views.{rules_of_checker, now_of, answer_of, number_of}
+use Rattle.sum_engine.specs.Profiles.{Present}
 use Rattle.sum_engine.specs.Verdicts.{Rules}
 use Rattle.sum_engine.proofs.ManifestLemmas.{Along}
 use Rattle.sum_engine.proofs.manifest.check_input.Given as goal
@@ -11,7 +12,13 @@ abbrev pub invariant-lines : goal.invariant-lines
 invariant-lines g l =
     let first = scene g.J.Input.content (g.S.Source.told l.fn.source) l.fn.stdin (g.O.Sink.written l.fn.out) (g.E.Sink.written l.fn.err) in
     let here = scene g.J.Input.content (g.S.Source.told l.source) l.stdin (g.O.Sink.written l.out) (g.E.Sink.written l.err) in
-    let r : Rules = record { settings = l.fn.settings; tool = l.tool; shown = l.shown; from_stdin = l.from_stdin } in
+    let r : Rules = record {
+      profile = Present;
+      settings = l.fn.settings;
+      tool = l.tool;
+      shown = l.shown;
+      from_stdin = l.from_stdin;
+    } in
     record {
       along : Along r (option_map clip (g.I.Input.content l.fn.input)) first (now_of g.I.Input.content l.checker here);
       rules : rules_of_checker l.checker ≡ r;

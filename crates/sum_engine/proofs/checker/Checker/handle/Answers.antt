@@ -1,5 +1,6 @@
 use Rattle.std.proofs.Common.{ap, ◌∙◌}
 use Rattle.sum_lines.specs.Entries.{form_then, line_form}
+use Rattle.sum_engine.specs.Profiles.{Present}
 use Rattle.sum_engine.specs.Grammar.{says}
 use Rattle.sum_engine.specs.Judging.{said_by}
 use Rattle.sum_engine.specs.Views.{rules_of_checker}
@@ -11,7 +12,7 @@ returns-in-Err-clause-gives g c =
     let old = c.args.self.now in
     let text = c.args.line.now.items in
     let algo = old.listing.settings.algo in
-    let is = ap (λ l. said_by l c.read-reading.result.0) c.deref.ensures.value ∙ c.read-reading.ensures.said ∙ ap (λ f. says algo f text) c.read-reading.ensures.form in
+    let is = ap (λ l. said_by l c.read-reading.result.0) c.deref.ensures.value ∙ c.read-reading.ensures.said ∙ ap (λ f. says Present algo f text) c.read-reading.ensures.form in
     let err = rw c.lines-number.ensures.value at c.in-Err.ensures.err in
     handling_cut _ (rules_of_checker old) (form_then old.form (line_form algo text)) text _ old.counts old.counts _ _ _ _ _ _ _ _ _ c.in-Some.judgement c.in-Some.ensures.gives is c.in-Err.ensures.out err
 
@@ -20,6 +21,6 @@ returns-in-Ok-clause-gives g c =
     let old = c.args.self.now in
     let text = c.args.line.now.items in
     let algo = old.listing.settings.algo in
-    let is = ap (λ l. said_by l c.read-reading.result.0) c.deref.ensures.value ∙ c.read-reading.ensures.said ∙ ap (λ f. says algo f text) c.read-reading.ensures.form in
+    let is = ap (λ l. said_by l c.read-reading.result.0) c.deref.ensures.value ∙ c.read-reading.ensures.said ∙ ap (λ f. says Present algo f text) c.read-reading.ensures.form in
     let err = rw c.lines-number.ensures.value at c.in-Ok.ensures.err in
     handled (rules_of_checker old) (form_then old.form (line_form algo text)) text _ old.counts _ _ _ _ _ _ _ _ _ _ c.in-Some.judgement _ c.in-Some.ensures.gives is c.in-Some.ensures.taken c.counted-self.ensures c.in-Ok.ensures.out err

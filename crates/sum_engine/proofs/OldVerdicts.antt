@@ -1,0 +1,281 @@
+-- A manifest of the time of older versions is checked alike under both profiles.
+use Rattle.std.proofs.Common.{◌≡◌, ◌≢◌, ℕ, ◌+◌, ◌-◌, ◌<◌, ◌==◌, Bool, true, false, not, cond, List, [], ◌∷◌, ◌++◌, length, map, Option, None, Some, refl, ap, sym, ◌∙◌, inl, inr, subst, codes}
+use Rattle.std.specs.Prelude.{bytes_eq, slice_index, flat_map}
+use Rattle.std.specs.List.{All, concat, slice_split, onto_first}
+use Rattle.std.specs.Str.Lines.{strip_carriage_return}
+use Rattle.std.proofs.lemmas.Bool.{cond-false, cases_lt}
+use Rattle.std.proofs.lemmas.Bool.Decides.{eqb_tells}
+use Rattle.std.proofs.lemmas.List.{get_or_past}
+use Rattle.std.proofs.lemmas.List.Elements.{All-nil, All-cons, All-head, All-tail, All-get_or, All-weaker}
+use Rattle.digest_kinds.specs.Kinds.{tag}
+use Rattle.digest_kinds.specs.declared.algo.Algos.{Algos}
+use Rattle.sum_sources.specs.declared.fault.Ending.{Ending}
+use Rattle.sum_sources.specs.declared.fault.Ending.TheVariants.{Whole, Broken}
+use Rattle.sum_sources.specs.declared.fault.Fault.{Fault}
+use Rattle.sum_sources.specs.Contents.{Content, clip}
+use Rattle.sum_sources.specs.Sources.{Refused, Given}
+use Rattle.sum_sources.specs.ManifestLines.{pieces, line_pieces, last_line}
+use Rattle.sum_lines.specs.declared.line_reading.Form.{Form}
+use Rattle.sum_lines.specs.Shapes.{mark, optional}
+use Rattle.sum_lines.specs.Entries.{form}
+use Rattle.sum_lines.specs.Scanned.{Parts, tagged_of, plain_of}
+use Rattle.sum_lines.proofs.TaggedParts.{read_is_tagged}
+use Rattle.sum_engine.specs.declared.summary.Counts.{Counts}
+use Rattle.sum_engine.specs.declared.verdict.Verdict.{Verdict}
+use Rattle.sum_engine.specs.declared.verdict.Verdict.TheVariants.{Ignored, Bad, Right, Wrong, Missing, Unread}
+use Rattle.sum_engine.specs.Profiles.{Present, Older, lines_by}
+use Rattle.sum_engine.specs.Worlds.{World, after}
+use Rattle.sum_engine.specs.Outcomes.{Outcome}
+use Rattle.sum_engine.specs.Grammar.{Said, Nothing, Improper, Spells, entry_by, entry_of, said_of as said_by_entry, says}
+use Rattle.sum_engine.specs.Verdicts.{Rules, Judged, judge, asks_of, verdicts, all_verdicts}
+use Rattle.sum_engine.specs.Generation.{fault_line}
+use Rattle.sum_engine.specs.Reports.{name_line, said_of, hides, out_of, err_by, err_of, counts, end_text, good}
+use Rattle.sum_engine.specs.Checking.{checked_content}
+use Rattle.sum_engine.specs.OldVerdicts.{under, NoReturn, NoEscapedReturn, Old, SameChecks, OldVerdicts, OldOutcomes, OlderDiffers}
+use Rattle.sum_engine.proofs.RestLemmas.{not_plain}
+use Rattle.sum_engine.proofs.OldNames.{NotReturn, same_escape, CleanSaid, says_same}
+
+-- ---- the lines
+
+first_clean : (b : ℕ) (ls : List (List ℕ)) → b ≢ 13 → All NoReturn ls → All NoReturn (onto_first b ls)
+first_clean b [] free all = All-cons NoReturn (b ∷ []) [] (All-cons NotReturn b [] free (All-nil NotReturn)) (All-nil NoReturn)
+first_clean b (l ∷ ls) free all =
+    All-cons NoReturn (b ∷ l) ls (All-cons NotReturn b l free (All-head NoReturn l ls all)) (All-tail NoReturn l ls all)
+
+either_clean : (q : Bool) (b : ℕ) (ls : List (List ℕ)) → b ≢ 13 → All NoReturn ls
+    → All NoReturn (cond q ([] ∷ ls) (onto_first b ls))
+either_clean true b ls free all = All-cons NoReturn [] ls (All-nil NotReturn) all
+either_clean false b ls free all = first_clean b ls free all
+
+split_clean : (bytes : List ℕ) → NoReturn bytes → All NoReturn (slice_split (λ b. b == 10) bytes)
+split_clean [] free = All-cons NoReturn [] [] (All-nil NotReturn) (All-nil NoReturn)
+split_clean (b ∷ bs) free =
+    either_clean (b == 10) b (slice_split (λ b. b == 10) bs) (All-head NotReturn b bs free)
+    (split_clean bs (All-tail NotReturn b bs free))
+
+last_clean : (e : Ending) (piece : List ℕ) → NoReturn piece → All NoReturn (last_line e piece)
+last_clean Whole [] free = All-nil NoReturn
+last_clean Whole (b ∷ bs) free = All-cons NoReturn (b ∷ bs) [] free (All-nil NoReturn)
+last_clean (Broken f) piece free = All-nil NoReturn
+
+lines_clean : (e : Ending) (ls : List (List ℕ)) → All NoReturn ls → All NoReturn (line_pieces e ls)
+lines_clean e [] all = All-nil NoReturn
+lines_clean e (last ∷ []) all = last_clean e last (All-head NoReturn last [] all)
+lines_clean e (l ∷ next ∷ more) all =
+    All-cons NoReturn l (line_pieces e (next ∷ more)) (All-head NoReturn l (next ∷ more) all)
+    (lines_clean e (next ∷ more) (All-tail NoReturn l (next ∷ more) all))
+
+pieces_clean : (c : Content) → NoReturn c.bytes → All NoReturn (pieces c)
+unfolding pieces
+pieces_clean c free = lines_clean c.ending (slice_split (λ b. b == 10) c.bytes) (split_clean c.bytes free)
+
+abbrev Kept : ℕ → Type 0
+Kept b = (b == 13) ≡ false
+
+not_return : (b : ℕ) → b ≢ 13 → Kept b
+not_return b free = elim (eqb_tells b 13) [
+  | inl same ↦ absurd (free same.1)
+  | inr other ↦ other.0
+]
+
+last_kept : (l : List ℕ) → All Kept l → (slice_index l (length l - 1) == 13) ≡ false
+last_kept l all = elim (cases_lt (length l - 1) (length l)) [
+  | inl within ↦ All-get_or Kept l (length l - 1) 0 within all
+  | inr past ↦ rw (get_or_past l (length l - 1) 0 past) refl
+]
+
+strips : (ls : List (List ℕ)) → All NoReturn ls → ls ≡ map strip_carriage_return ls
+strips [] all = refl
+strips (l ∷ ls) all =
+    let kept : strip_carriage_return l ≡ l =
+    cond-false (slice_index l (length l - 1) == 13) _ l
+    (last_kept l (All-weaker NotReturn Kept not_return l (All-head NoReturn l ls all))) in
+    ap (λ x. x ∷ ls) (sym kept)
+    ∙ ap (λ xs. strip_carriage_return l ∷ xs) (strips ls (All-tail NoReturn l ls all))
+
+lines_same : (c : Content) → NoReturn c.bytes → lines_by Older c ≡ lines_by Present c
+lines_same c free = strips (pieces c) (pieces_clean c free)
+
+-- ---- the verdicts
+
+judge_same : (r : Rules) (w : World) (n : ℕ) (x : Said) → judge (under Older r) w n x ≡ judge (under Present r) w n x
+judge_same r w n Nothing = refl
+judge_same r w n Improper = refl
+judge_same r w n (Spells s) = refl
+
+-- a name that holds no carriage return
+abbrev CleanName : Judged → Type 0
+CleanName j = NoReturn j.name
+
+judged_clean : (r : Rules) (w : World) (n : ℕ) (x : Said) → CleanSaid x → CleanName (judge r w n x)
+judged_clean r w n Nothing h = All-nil NotReturn
+judged_clean r w n Improper h = All-nil NotReturn
+judged_clean r w n (Spells s) h = h
+
+-- a line that says the same under both profiles
+pub record Alike (algos : Algos) (line : List ℕ) : Type 0 where
+  pub no_byte : NoReturn line
+  pub no_escape : NoEscapedReturn algos line
+  pub some : 0 < length line
+
+verdicts_same : (r : Rules) (f : Form) (w : World) (n : ℕ) (ls : List (List ℕ)) → All (Alike r.settings.algo) ls
+    → (verdicts (under Older r) f w n ls ≡ verdicts (under Present r) f w n ls)
+    × All CleanName (verdicts (under Present r) f w n ls)
+verdicts_same r f w n [] all = (refl, All-nil CleanName)
+verdicts_same r f w n (l ∷ ls) all =
+    let algos = r.settings.algo in
+    let here = All-head (Alike algos) l ls all in
+    let s = says_same algos f l here.no_byte here.no_escape here.some in
+    let old = under Older r in
+    let new = under Present r in
+    let j = judge new w (n + 1) (says Present algos f l) in
+    let one : judge old w (n + 1) (says Older algos f l) ≡ j =
+    ap (judge old w (n + 1)) s.0 ∙ judge_same r w (n + 1) (says Present algos f l) in
+    let more = verdicts_same r f (after w (asks_of j)) (n + 1) ls (All-tail (Alike algos) l ls all) in (
+      ap (λ x. x ∷ verdicts old f (after w (asks_of x)) (n + 1) ls) one ∙ ap (λ xs. j ∷ xs) more.0,
+      All-cons CleanName j (verdicts new f (after w (asks_of j)) (n + 1) ls)
+          (judged_clean new w (n + 1) (says Present algos f l) s.1) more.1,
+    )
+
+-- ---- what is written
+
+name_line_same : (name text : List ℕ) → NoReturn name → name_line Older name text ≡ name_line Present name text
+name_line_same name text free =
+    ap (λ e. concat (mark (not (bytes_eq e name)) ∷ e ∷ codes ": " ∷ text ∷ codes "\n" ∷ []))
+    (same_escape name free)
+
+said_same : (v : Verdict) (name : List ℕ) → NoReturn name → said_of Older v name ≡ said_of Present v name
+said_same Ignored name free = refl
+said_same Bad name free = refl
+said_same Right name free = name_line_same name (codes "OK") free
+said_same Wrong name free = name_line_same name (codes "FAILED") free
+said_same Missing name free = refl
+said_same (Unread f) name free = name_line_same name (codes "FAILED open or read") free
+
+outs_same : (r : Rules) (js : List Judged) → All CleanName js
+    → map (out_of (under Older r)) js ≡ map (out_of (under Present r)) js
+outs_same r [] all = refl
+outs_same r (j ∷ js) all =
+    let one : out_of (under Older r) j ≡ out_of (under Present r) j =
+    ap (cond (hides r.settings.report j.verdict) []) (said_same j.verdict j.name (All-head CleanName j js all)) in
+    ap (λ t. t ∷ map (out_of (under Older r)) js) one
+    ∙ ap (λ ts. out_of (under Present r) j ∷ ts) (outs_same r js (All-tail CleanName j js all))
+
+fault_same : (tool name : List ℕ) (f : Fault) → NoReturn name → fault_line Older tool name f ≡ fault_line Present tool name f
+fault_same tool name f free = rw (same_escape name free) refl
+
+err_same : (r : Rules) (n : ℕ) (v : Verdict) (name : List ℕ) → NoReturn r.shown → NoReturn name
+    → err_by (under Older r) n v name ≡ err_by (under Present r) n v name
+err_same r n Ignored name own free = refl
+err_same r n Bad name own free = rw (same_escape r.shown own) refl
+err_same r n Right name own free = refl
+err_same r n Wrong name own free = refl
+err_same r n Missing name own free = refl
+err_same r n (Unread f) name own free = fault_same r.tool name f free
+
+errs_same : (r : Rules) (js : List Judged) → NoReturn r.shown → All CleanName js
+    → map (err_of (under Older r)) js ≡ map (err_of (under Present r)) js
+errs_same r [] own all = refl
+errs_same r (j ∷ js) own all =
+    ap (λ t. t ∷ map (err_of (under Older r)) js) (err_same r j.number j.verdict j.name own (All-head CleanName j js all))
+    ∙ ap (λ ts. err_of (under Present r) j ∷ ts) (errs_same r js own (All-tail CleanName j js all))
+
+end_same : (r : Rules) (e : Ending) (c : Counts) → NoReturn r.shown
+    → end_text (under Older r) e c ≡ end_text (under Present r) e c
+end_same r Whole c own = rw (same_escape r.shown own) refl
+end_same r (Broken f) c own = fault_same r.tool r.shown f own
+
+good_same : (r : Rules) (e : Ending) (c : Counts) → good (under Older r) e c ≡ good (under Present r) e c
+good_same r Whole c = refl
+good_same r (Broken f) c = refl
+
+-- ---- the law
+
+alike : (algos : Algos) (ls : List (List ℕ)) → All NoReturn ls → All (NoEscapedReturn algos) ls
+    → All (λ line. 0 < length line) ls → All (Alike algos) ls
+alike algos ls a b c = λ k d lt. record { no_byte = a k d lt; no_escape = b k d lt; some = c k d lt }
+
+pub old_verdicts : OldVerdicts
+old_verdicts r w c h =
+    let old = under Older r in
+    let new = under Present r in
+    let ls = lines_same c h.no_byte in
+    let all = alike r.settings.algo (pieces c) (pieces_clean c h.no_byte) h.no_escape h.no_empty in
+    let v = verdicts_same r (form r.settings.algo (pieces c)) w 0 (pieces c) all in
+    let js = verdicts new (form r.settings.algo (pieces c)) w 0 (pieces c) in
+    let as_new : js ≡ all_verdicts new w c = ap (λ x. verdicts new (form r.settings.algo x) w 0 x) ls in
+    let same : all_verdicts old w c ≡ all_verdicts new w c = v.0 ∙ as_new in
+    let clean : All CleanName (all_verdicts new w c) = subst (All CleanName) as_new v.1 in
+    record {
+      verdicts = same;
+      outs = ap (map (out_of old)) same ∙ outs_same r (all_verdicts new w c) clean;
+      errs = ap (map (err_of old)) same ∙ errs_same r (all_verdicts new w c) h.own_name clean;
+      end =
+          end_same r c.ending (counts (all_verdicts old w c)) h.own_name
+          ∙ ap (λ x. end_text new c.ending (counts x)) same;
+      good = good_same r c.ending (counts (all_verdicts old w c)) ∙ ap (λ x. good new c.ending (counts x)) same;
+    }
+
+-- ---- all that checking comes to
+
+joined : {X : Type 0} (f : X → List ℕ) (xs : List X) → flat_map f xs ≡ concat (map f xs)
+joined f [] = refl
+joined f (x ∷ xs) = ap (λ l. f x ++ l) (joined f xs)
+
+-- texts that are the same one by one are the same together
+together : (f g : Judged → List ℕ) (js ks : List Judged) → map f js ≡ map g ks → flat_map f js ≡ flat_map g ks
+together f g js ks h = joined f js ∙ ap concat h ∙ sym (joined g ks)
+
+outcome_same : (a b : Outcome) → a.out ≡ b.out → a.err ≡ b.err → a.asks ≡ b.asks → a.good ≡ b.good → a ≡ b
+outcome_same a b o e q g =
+    let make : List ℕ → List ℕ → List (List ℕ) → Bool → Outcome =
+    λ w x y z. record { out = w; err = x; asks = y; good = z } in
+    ap (λ w. make w a.err a.asks a.good) o ∙ ap (λ x. make b.out x a.asks a.good) e
+    ∙ ap (λ y. make b.out b.err y a.good) q ∙ ap (make b.out b.err b.asks) g
+
+content_same : (r : Rules) (name : List ℕ) (w : World) (c : Content) → Old r c
+    → checked_content (under Older r) name c (all_verdicts (under Older r) w c)
+    ≡ checked_content (under Present r) name c (all_verdicts (under Present r) w c)
+content_same r name w c h =
+    let old = under Older r in
+    let new = under Present r in
+    let js = all_verdicts old w c in
+    let ks = all_verdicts new w c in
+    let s : SameChecks old new w c = old_verdicts r w c h in
+    let errs : flat_map (err_of old) js ≡ flat_map (err_of new) ks = together (err_of old) (err_of new) js ks s.errs in
+    outcome_same (checked_content old name c js) (checked_content new name c ks)
+    (together (out_of old) (out_of new) js ks s.outs)
+    (ap (λ l. l ++ end_text old c.ending (counts js)) errs ∙ ap (λ l. flat_map (err_of new) ks ++ l) s.end)
+    (ap (λ x. name ∷ flat_map asks_of x) s.verdicts) s.good
+
+pub old_outcomes : OldOutcomes
+old_outcomes r name w (Refused f) own h =
+    ap (λ (l : List ℕ). record { out = []; err = l; asks = name ∷ []; good = false }) (fault_same r.tool r.shown f own)
+old_outcomes r name w (Given c) own h = content_same r name w (clip c) (h c refl)
+
+-- ---- where the profiles differ
+
+behind : (xs ys : List ℕ) → [] ≡ xs ++ ys → [] ≡ ys
+behind [] ys h = h
+behind (x ∷ xs) ys h = cc
+
+not_tagged : (algos : Algos) (t : Option Parts) → tagged_of algos [] ≡ t → t ≡ None
+not_tagged algos None h = refl
+not_tagged algos (Some p) h =
+    let t = read_is_tagged algos [] p h in
+    let bad = behind (optional t.gap (codes " ")) _ (behind t.width _ (behind (tag p.kind.algo) _
+    (behind (mark p.escaped) _ (behind t.blanks _ t.whole)))) in
+    cc
+
+no_entry : (f : Form) (t q : Option Parts) → t ≡ None → q ≡ None → entry_by Older f t q ≡ None
+no_entry f t q h k = rw (h, k) refl
+
+empty_line : (algos : Algos) (f : Form) → says Older algos f [] ≡ Improper
+unfolding entry_of
+empty_line algos f =
+    ap said_by_entry (no_entry f (tagged_of algos []) (plain_of algos []) (not_tagged algos (tagged_of algos []) refl)
+    (not_plain algos (plain_of algos []) refl))
+
+pub older_differs : OlderDiffers
+unfolding pieces
+older_differs = (refl, refl, empty_line)

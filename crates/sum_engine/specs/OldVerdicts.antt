@@ -1,0 +1,68 @@
+-- What the law of old verdicts says: a manifest of the time of older versions is checked alike under both profiles.
+use Rattle.std.specs.Prelude.{ℕ, ◌≡◌, ◌≢◌, ◌<◌, ◌⊎◌, true, List, [], ◌∷◌, ◌++◌, length, map, codes}
+use Rattle.std.specs.List.{All}
+use Rattle.digest_kinds.specs.Kinds.{KindValue}
+use Rattle.digest_kinds.specs.declared.algo.Algos.{Algos}
+use Rattle.sum_sources.specs.declared.fault.Ending.TheVariants.{Whole}
+use Rattle.sum_sources.specs.Contents.{Content, clip}
+use Rattle.sum_sources.specs.Sources.{Reply, Given}
+use Rattle.sum_sources.specs.ManifestLines.{pieces}
+use Rattle.sum_lines.specs.declared.line_reading.Form.{Form}
+use Rattle.sum_lines.specs.Escape.{escape}
+use Rattle.sum_lines.specs.Shapes.{Plain, Tagged}
+use Rattle.sum_engine.specs.Profiles.{Profile, Present, Older, escape_by, lines_by}
+use Rattle.sum_engine.specs.Worlds.{World}
+use Rattle.sum_engine.specs.Grammar.{Improper, says}
+use Rattle.sum_engine.specs.Verdicts.{Rules, all_verdicts}
+use Rattle.sum_engine.specs.Reports.{out_of, err_of, counts, end_text, good}
+use Rattle.sum_engine.specs.Checking.{checked_by}
+
+-- the same rules under a profile
+abbrev pub under : Profile → Rules → Rules
+under p r = record r { profile = p }
+
+-- no byte is a carriage return
+abbrev pub NoReturn : List ℕ → Type 0
+NoReturn bytes = All (λ b. b ≢ 13) bytes
+
+-- in the bytes stands the escape `\r`, behind the escape of what comes before it
+abbrev pub HasEscapedReturn : List ℕ → Type 0
+HasEscapedReturn bytes = (front : List ℕ) × (rest : List ℕ) × (bytes ≡ escape front ++ (codes "\\r" ++ rest))
+
+-- it doesn't stand in the name of a line with a leading backslash: that of a tagged line, or in the tail of a plain one
+abbrev pub NoEscapedReturn : Algos → List ℕ → Type 0
+NoEscapedReturn algos line = (kind : KindValue) (digest name : List ℕ)
+    → Tagged algos line true kind digest name ⊎ Plain algos line true kind digest name → ¬ HasEscapedReturn name
+
+-- a manifest that has no carriage return, neither in its own name nor as a byte nor as the escape `\r`, and no empty line
+pub record Old (r : Rules) (c : Content) : Type 0 where
+  pub own_name : NoReturn r.shown
+  pub no_byte : NoReturn c.bytes
+  pub no_escape : All (NoEscapedReturn r.settings.algo) (pieces c)
+  pub no_empty : All (λ line. 0 < length line) (pieces c)
+
+-- two kinds of rules find the same verdicts in a manifest, write the same of each of its lines and of its end, and
+-- hold it good or not alike
+pub record SameChecks (r s : Rules) (w : World) (c : Content) : Type 0 where
+  pub verdicts : all_verdicts r w c ≡ all_verdicts s w c
+  pub outs : map (out_of r) (all_verdicts r w c) ≡ map (out_of s) (all_verdicts s w c)
+  pub errs : map (err_of r) (all_verdicts r w c) ≡ map (err_of s) (all_verdicts s w c)
+  pub end : end_text r c.ending (counts (all_verdicts r w c)) ≡ end_text s c.ending (counts (all_verdicts s w c))
+  pub good : good r c.ending (counts (all_verdicts r w c)) ≡ good s c.ending (counts (all_verdicts s w c))
+
+-- such a manifest is checked alike under both profiles, whatever was asked before
+abbrev pub OldVerdicts : Type 0
+OldVerdicts = (r : Rules) (w : World) (c : Content) → Old r c → SameChecks (under Older r) (under Present r) w c
+
+-- so all that checking comes to is the same under both, also where the manifest can't be opened
+abbrev pub OldOutcomes : Type 0
+OldOutcomes = (r : Rules) (name : List ℕ) (w : World) (reply : Reply) → NoReturn r.shown
+    → ((c : Content) → reply ≡ Given c → Old r (clip c))
+    → checked_by (under Older r) name w reply ≡ checked_by (under Present r) name w reply
+
+-- where the older profile differs: a carriage return stands unescaped in a name, stays at a line's end, and an empty
+-- line is improper
+abbrev pub OlderDiffers : Type 0
+OlderDiffers = (escape_by Older (codes "\r") ≡ codes "\r")
+    × (lines_by Older (record { bytes = codes "a\r\n"; ending = Whole }) ≡ codes "a\r" ∷ [])
+    × ((algos : Algos) (f : Form) → says Older algos f [] ≡ Improper)
