@@ -1,5 +1,5 @@
 pub mod Compression
-pub mod Columns
+pub mod Rows
 pub mod Digest
 pub mod Holding
 pub mod Laws

@@ -1,0 +1,79 @@
+-- Lemmas on rows of four words, whose columns are mixed at once.
+use Rattle.std.proofs.Common.{◌≡◌, ℕ, zero, suc, ◌+◌, ◌-◌, ◌*◌, ◌/◌, ◌%◌, ◌^◌, ◌<◌, List, [], ◌∷◌, length, bit_or, bit_xor}
+use Rattle.std.proofs.Common.{refl, ap, arith}
+use Rattle.std.specs.Int.{rotate_right}
+use Rattle.std.specs.Simd.Lanes.{zip2}
+use Rattle.blake2b_core.specs.Compression.{◌!◌, ◌⊻◌, ◌⋙◌, mix}
+use Rattle.blake2b_core.specs.Rows.{column, columns, diagonals, row, turned, words}
+
+-- what holds of each of the four lanes
+pub below_four : (P : ℕ → Type 0) → P 0 → P 1 → P 2 → P 3 → (j : ℕ) → j < 4 → P j
+below_four P p0 p1 p2 p3 zero h = p0
+below_four P p0 p1 p2 p3 (suc zero) h = p1
+below_four P p0 p1 p2 p3 (suc (suc zero)) h = p2
+below_four P p0 p1 p2 p3 (suc (suc (suc zero))) h = p3
+below_four P p0 p1 p2 p3 (suc (suc (suc (suc n)))) h = absurd (omega arith)
+
+-- what holds of each list of four elements
+pub four_lanes : (P : List ℕ → Type 0) → ((a b c d : ℕ) → P (a ∷ b ∷ c ∷ d ∷ [])) → (xs : List ℕ) → length xs ≡ 4 → P xs
+four_lanes P p (a ∷ b ∷ c ∷ d ∷ []) h = p a b c d
+four_lanes P p _ h = absurd (omega arith)
+
+-- two shifts of each lane and an or are a rotation
+abbrev Rotates : ℕ → List ℕ → List ℕ → Type 0
+Rotates k a b = (j : ℕ) → j < 4
+    → zip2 bit_or
+    (zip2 (λ x n. x / 2 ^ n) (zip2 bit_xor a b) (k ∷ k ∷ k ∷ k ∷ []))
+    (zip2 (λ x n. x * 2 ^ n % 2 ^ 64) (zip2 bit_xor a b) ((64 - k) ∷ (64 - k) ∷ (64 - k) ∷ (64 - k) ∷ [])) ! j
+    ≡ (a ! j ⊻ b ! j) ⋙ k
+
+pub shifts_rotate : (k : ℕ) → 0 < k → k < 64 → (a : List ℕ) → length a ≡ 4 → (b : List ℕ) → length b ≡ 4 → Rotates k a b
+shifts_rotate k low high =
+    let right : k % 64 ≡ k = omega arith in
+    let left : (64 - k) % 64 ≡ 64 - k = omega arith in
+    four_lanes (λ a. (b : List ℕ) → length b ≡ 4 → Rotates k a b) (λ a0 a1 a2 a3.
+    four_lanes (Rotates k (a0 ∷ a1 ∷ a2 ∷ a3 ∷ [])) (λ b0 b1 b2 b3.
+    below_four _ (rw (rotate_right, right, left) refl) (rw (rotate_right, right, left) refl) (rw (rotate_right, right, left) refl) (rw (rotate_right, right, left) refl)))
+
+-- G on each lane of the rows v is what the rows r are
+abbrev pub Mixes : List (List ℕ) → List (List ℕ) → List ℕ → List ℕ → Type 0
+Mixes r v x y = (j : ℕ) → j < 4 → column r j ≡ mix (column v j) 0 1 2 3 (x ! j) (y ! j)
+
+-- the words of a row, where the columns are known
+row_word : (r : List (List ℕ)) (v : List ℕ) (j i : ℕ) → column r j ≡ v → column r j ! i ≡ v ! i
+row_word r v j i e = ap (λ c. c ! i) e
+
+pub columns-rows : (r v : List (List ℕ)) (x y : List ℕ) → Mixes r v x y → words r ≡ columns (words v) x y
+unfolding mix columns
+columns-rows r v x y mixes =
+    let c0 = mixes 0 (omega arith) in
+    let c1 = mixes 1 (omega arith) in
+    let c2 = mixes 2 (omega arith) in
+    let c3 = mixes 3 (omega arith) in
+    rw (
+      row_word r _ 0 0 c0, row_word r _ 0 1 c0, row_word r _ 0 2 c0, row_word r _ 0 3 c0,
+      row_word r _ 1 0 c1, row_word r _ 1 1 c1, row_word r _ 1 2 c1, row_word r _ 1 3 c1,
+      row_word r _ 2 0 c2, row_word r _ 2 1 c2, row_word r _ 2 2 c2, row_word r _ 2 3 c2,
+      row_word r _ 3 0 c3, row_word r _ 3 1 c3, row_word r _ 3 2 c3, row_word r _ 3 3 c3,
+    ) refl
+
+-- G on the columns of rows of which all but the second are turned against it, and turned back
+pub diagonals-rows : (v : List (List ℕ)) (x y : List ℕ) (a c d x' y' : List ℕ) (r : List (List ℕ)) (a' c' d' : List ℕ)
+    → a ≡ turned (row v 0) 3 → c ≡ turned (row v 2) 1 → d ≡ turned (row v 3) 2 → x' ≡ turned x 3 → y' ≡ turned y 3
+    → Mixes r (a ∷ row v 1 ∷ c ∷ d ∷ []) x' y'
+    → a' ≡ turned (row r 0) 1 → c' ≡ turned (row r 2) 3 → d' ≡ turned (row r 3) 2
+    → words (a' ∷ row r 1 ∷ c' ∷ d' ∷ []) ≡ diagonals (words v) x y
+unfolding mix diagonals
+diagonals-rows v x y a c d x' y' r a' c' d' ea ec ed ex ey mixes ea' ec' ed' =
+    let c0 = mixes 0 (omega arith) in
+    let c1 = mixes 1 (omega arith) in
+    let c2 = mixes 2 (omega arith) in
+    let c3 = mixes 3 (omega arith) in
+    rw (
+      ea', ec', ed',
+      row_word r _ 0 0 c0, row_word r _ 0 1 c0, row_word r _ 0 2 c0, row_word r _ 0 3 c0,
+      row_word r _ 1 0 c1, row_word r _ 1 1 c1, row_word r _ 1 2 c1, row_word r _ 1 3 c1,
+      row_word r _ 2 0 c2, row_word r _ 2 1 c2, row_word r _ 2 2 c2, row_word r _ 2 3 c2,
+      row_word r _ 3 0 c3, row_word r _ 3 1 c3, row_word r _ 3 2 c3, row_word r _ 3 3 c3,
+      ea, ec, ed, ex, ey,
+    ) refl

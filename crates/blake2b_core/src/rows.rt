@@ -1,0 +1,75 @@
+//! The mixing function G of RFC 7693, 3.1, on four columns or diagonals at once: they share no word, so
+//! that each is a lane of four vectors, the rows of the working vector.
+ghost use Rattle.std.specs.Prelude.{◌≡◌, ℕ, ◌<◌};
+ghost use Rattle.blake2b_core.specs.Compression.{◌!◌, ◌⊞◌, ◌⊻◌, ◌⋙◌, mix};
+ghost use Rattle.blake2b_core.specs.Rows.{column, columns, diagonals, turned, words};
+
+use std::simd::u64x4;
+
+// The exclusive ors, rotated to the right.
+#[inline(always)]
+fn rotated(x: u64x4, y: u64x4, bits: u64) -> u64x4
+    requires low { 0 < bits }
+    requires high { bits < 64 }
+    ensures { (j : ℕ) → j < 4 → result ! j ≡ (x ! j ⊻ y ! j) ⋙ bits }
+{
+    let x = x ^ y;
+    (x >> u64x4::splat(bits)) | (x << u64x4::splat(64 - bits))
+}
+
+#[inline(always)]
+fn sums(x: u64x4, y: u64x4) -> u64x4
+    ensures { (j : ℕ) → j < 4 → result ! j ≡ x ! j ⊞ y ! j }
+{
+    x + y
+}
+
+// G on each column of the rows `v`, with its words in `x` and `y`.
+#[inline(always)]
+fn mixed(v: [u64x4; 4], x: u64x4, y: u64x4) -> [u64x4; 4]
+    ensures { (j : ℕ) → j < 4 → column result j ≡ mix (column v j) 0 1 2 3 (x ! j) (y ! j) }
+{
+    let [a, b, c, d] = v;
+    let a = sums(sums(a, b), x);
+    let d = rotated(d, a, 32);
+    let c = sums(c, d);
+    let b = rotated(b, c, 24);
+    let a = sums(sums(a, b), y);
+    let d = rotated(d, a, 16);
+    let c = sums(c, d);
+    let b = rotated(b, c, 63);
+    [a, b, c, d]
+}
+
+// G on the columns of the working vector, with the words `x` and `y`.
+#[inline(always)]
+pub(crate) fn mixed_columns(v: [u64x4; 4], x: u64x4, y: u64x4) -> [u64x4; 4]
+    ensures { words result ≡ columns (words v) x y }
+{
+    mixed(v, x, y)
+}
+
+// The words of a row, turned to the left by so many places.
+#[inline(always)]
+fn turned(row: u64x4, places: usize) -> u64x4
+    requires some { 0 < places }
+    requires few { places < 4 }
+    ensures { result ≡ turned row places }
+{
+    match places {
+        1 => row.rotate_elements_left::<1>(),
+        2 => row.rotate_elements_left::<2>(),
+        _ => row.rotate_elements_left::<3>(),
+    }
+}
+
+// G on the diagonals: they stand in columns where the rows are turned against the second.
+#[inline(always)]
+pub(crate) fn mixed_diagonals(v: [u64x4; 4], x: u64x4, y: u64x4) -> [u64x4; 4]
+    ensures { words result ≡ diagonals (words v) x y }
+{
+    let [a, b, c, d] = v;
+    let v = [turned(a, 3), b, turned(c, 1), turned(d, 2)];
+    let [a, b, c, d] = mixed(v, turned(x, 3), turned(y, 3));
+    [turned(a, 1), b, turned(c, 3), turned(d, 2)]
+}
