@@ -1,4 +1,4 @@
 pub mod CompressionLemmas
 pub mod DigestLemmas
 pub mod HeldLemmas
-pub mod RowLemmas
+pub mod ColumnLemmas

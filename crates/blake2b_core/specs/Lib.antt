@@ -1,5 +1,5 @@
 pub mod Compression
-pub mod Rows
+pub mod Columns
 pub mod Digest
 pub mod Holding
 pub mod Laws

@@ -2,9 +2,9 @@
 ghost use Rattle.std.specs.Prelude.{◌≡◌, map};
 ghost use Rattle.std.specs.List.{range_with_len};
 ghost use Rattle.blake2b_core.specs.Compression.{block_words, compress, round, scheduled, start};
-ghost use Rattle.blake2b_core.specs.Rows.{fed_forward, words};
+ghost use Rattle.blake2b_core.specs.Columns.{fed_forward, words};
 
-use crate::rows::{mixed_columns, mixed_diagonals};
+use crate::columns::{mixed_columns, mixed_diagonals};
 use byteorder::{ByteOrder, LittleEndian};
 use std::simd::{Simd, u64x4};
 

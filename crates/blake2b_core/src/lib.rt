@@ -2,11 +2,11 @@
 //! digest of a message that comes in pieces. Nothing here takes memory.
 #![tactic(auto)]
 
+mod columns;
 mod compression;
 pub mod laws;
 mod output;
 mod pieces;
-mod rows;
 mod whole;
 
 pub use compression::compress;

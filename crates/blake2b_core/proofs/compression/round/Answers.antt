@@ -1,6 +1,6 @@
-use Rattle.std.proofs.Common.{◌∙◌, refl}
-use Rattle.blake2b_core.specs.Rows.{columns, diagonals}
-use Rattle.blake2b_core.specs.Compression.{round, mix}
+use Rattle.std.proofs.Common.{refl}
+use Rattle.blake2b_core.specs.Columns.{columns, diagonals}
+use Rattle.blake2b_core.specs.Compression.{round}
 use Rattle.blake2b_core.proofs.compression.round.Goals as goal
 
 pub returns : goal.returns

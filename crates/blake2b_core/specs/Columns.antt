@@ -11,10 +11,6 @@ row v i = slice_index_or v i []
 abbrev pub word : List (List ℕ) → ℕ → ℕ → ℕ
 word v i j = row v i ! j
 
--- word j of each row
-abbrev pub column : List (List ℕ) → ℕ → List ℕ
-column v j = word v 0 j ∷ word v 1 j ∷ word v 2 j ∷ word v 3 j ∷ []
-
 -- the rows, one behind the other
 abbrev pub words : List (List ℕ) → List ℕ
 words v =

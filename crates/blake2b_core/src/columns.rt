@@ -1,8 +1,8 @@
 //! The mixing function G of RFC 7693, 3.1, on four columns or diagonals at once: they share no word, so
 //! that each is a lane of four vectors, the rows of the working vector.
 ghost use Rattle.std.specs.Prelude.{◌≡◌, ℕ, ◌<◌};
-ghost use Rattle.blake2b_core.specs.Compression.{◌!◌, ◌⊞◌, ◌⊻◌, ◌⋙◌, mix};
-ghost use Rattle.blake2b_core.specs.Rows.{column, columns, diagonals, turned, words};
+ghost use Rattle.blake2b_core.specs.Compression.{◌!◌, ◌⊞◌, ◌⊻◌, ◌⋙◌};
+ghost use Rattle.blake2b_core.specs.Columns.{columns, diagonals, turned, words};
 
 use std::simd::u64x4;
 
@@ -24,10 +24,10 @@ fn sums(x: u64x4, y: u64x4) -> u64x4
     x + y
 }
 
-// G on each column of the rows `v`, with its words in `x` and `y`.
+// G on the columns of the working vector, with the words `x` and `y`.
 #[inline(always)]
-fn mixed(v: [u64x4; 4], x: u64x4, y: u64x4) -> [u64x4; 4]
-    ensures { (j : ℕ) → j < 4 → column result j ≡ mix (column v j) 0 1 2 3 (x ! j) (y ! j) }
+pub(crate) fn mixed_columns(v: [u64x4; 4], x: u64x4, y: u64x4) -> [u64x4; 4]
+    ensures { words result ≡ columns (words v) x y }
 {
     let [a, b, c, d] = v;
     let a = sums(sums(a, b), x);
@@ -39,14 +39,6 @@ fn mixed(v: [u64x4; 4], x: u64x4, y: u64x4) -> [u64x4; 4]
     let c = sums(c, d);
     let b = rotated(b, c, 63);
     [a, b, c, d]
-}
-
-// G on the columns of the working vector, with the words `x` and `y`.
-#[inline(always)]
-pub(crate) fn mixed_columns(v: [u64x4; 4], x: u64x4, y: u64x4) -> [u64x4; 4]
-    ensures { words result ≡ columns (words v) x y }
-{
-    mixed(v, x, y)
 }
 
 // The words of a row, turned to the left by so many places.
@@ -70,6 +62,6 @@ pub(crate) fn mixed_diagonals(v: [u64x4; 4], x: u64x4, y: u64x4) -> [u64x4; 4]
 {
     let [a, b, c, d] = v;
     let v = [turned(a, 3), b, turned(c, 1), turned(d, 2)];
-    let [a, b, c, d] = mixed(v, turned(x, 3), turned(y, 3));
+    let [a, b, c, d] = mixed_columns(v, turned(x, 3), turned(y, 3));
     [turned(a, 1), b, turned(c, 3), turned(d, 2)]
 }

@@ -1,10 +1,13 @@
-use Rattle.std.proofs.Common.{refl}
+use Rattle.std.proofs.Common.{[], ◌∷◌, refl}
 use Rattle.blake2b_core.specs.Compression.{mix}
-use Rattle.blake2b_core.proofs.rows.mixed.Goals as goal
+use Rattle.blake2b_core.proofs.ColumnLemmas.{columns-rows}
+use Rattle.blake2b_core.proofs.columns.mixed_columns.Goals as goal
 
 pub returns : goal.returns
 unfolding mix
-returns c j h =
+returns c =
+    let rows = c.sums-a-2.result ∷ c.rotated-b-2.result ∷ c.sums-c-2.result ∷ c.rotated-d-2.result ∷ [] in
+    columns-rows rows c.args.v c.args.x c.args.y (λ j h.
     rw (
       c.rotated-b-2.ensures j h,
       c.sums-c-2.ensures j h,
@@ -16,4 +19,4 @@ returns c j h =
       c.rotated-d.ensures j h,
       c.sums-a.ensures j h,
       c.sums.ensures j h,
-    ) refl
+    ) refl)

@@ -1,10 +1,10 @@
 -- Lemmas on rows of four words, whose columns are mixed at once.
-use Rattle.std.proofs.Common.{◌≡◌, ℕ, zero, suc, ◌+◌, ◌-◌, ◌*◌, ◌/◌, ◌%◌, ◌^◌, ◌<◌, List, [], ◌∷◌, length, bit_or, bit_xor}
+use Rattle.std.proofs.Common.{◌≡◌, ℕ, zero, suc, ◌-◌, ◌*◌, ◌/◌, ◌%◌, ◌^◌, ◌<◌, List, [], ◌∷◌, length, bit_or, bit_xor}
 use Rattle.std.proofs.Common.{refl, ap, arith}
 use Rattle.std.specs.Int.{rotate_right}
 use Rattle.std.specs.Simd.Lanes.{zip2}
 use Rattle.blake2b_core.specs.Compression.{◌!◌, ◌⊻◌, ◌⋙◌, mix}
-use Rattle.blake2b_core.specs.Rows.{column, columns, diagonals, row, turned, words}
+use Rattle.blake2b_core.specs.Columns.{columns, diagonals, row, turned, word, words}
 
 -- what holds of each of the four lanes
 pub below_four : (P : ℕ → Type 0) → P 0 → P 1 → P 2 → P 3 → (j : ℕ) → j < 4 → P j
@@ -35,45 +35,59 @@ shifts_rotate k low high =
     four_lanes (Rotates k (a0 ∷ a1 ∷ a2 ∷ a3 ∷ [])) (λ b0 b1 b2 b3.
     below_four _ (rw (rotate_right, right, left) refl) (rw (rotate_right, right, left) refl) (rw (rotate_right, right, left) refl) (rw (rotate_right, right, left) refl)))
 
--- G on each lane of the rows v is what the rows r are
+-- word j of each row
+abbrev column : List (List ℕ) → ℕ → List ℕ
+column v j = word v 0 j ∷ word v 1 j ∷ word v 2 j ∷ word v 3 j ∷ []
+
+-- the columns of r are those of v, each mixed by G
 abbrev pub Mixes : List (List ℕ) → List (List ℕ) → List ℕ → List ℕ → Type 0
 Mixes r v x y = (j : ℕ) → j < 4 → column r j ≡ mix (column v j) 0 1 2 3 (x ! j) (y ! j)
 
--- the words of a row, where the columns are known
-row_word : (r : List (List ℕ)) (v : List ℕ) (j i : ℕ) → column r j ≡ v → column r j ! i ≡ v ! i
-row_word r v j i e = ap (λ c. c ! i) e
+at : (xs ys : List ℕ) → xs ≡ ys → (i : ℕ) → xs ! i ≡ ys ! i
+at xs ys e i = ap (λ l. l ! i) e
 
+-- four columns, lane by lane
 pub columns-rows : (r v : List (List ℕ)) (x y : List ℕ) → Mixes r v x y → words r ≡ columns (words v) x y
 unfolding mix columns
 columns-rows r v x y mixes =
-    let c0 = mixes 0 (omega arith) in
-    let c1 = mixes 1 (omega arith) in
-    let c2 = mixes 2 (omega arith) in
-    let c3 = mixes 3 (omega arith) in
-    rw (
-      row_word r _ 0 0 c0, row_word r _ 0 1 c0, row_word r _ 0 2 c0, row_word r _ 0 3 c0,
-      row_word r _ 1 0 c1, row_word r _ 1 1 c1, row_word r _ 1 2 c1, row_word r _ 1 3 c1,
-      row_word r _ 2 0 c2, row_word r _ 2 1 c2, row_word r _ 2 2 c2, row_word r _ 2 3 c2,
-      row_word r _ 3 0 c3, row_word r _ 3 1 c3, row_word r _ 3 2 c3, row_word r _ 3 3 c3,
-    ) refl
+    let c0 = at (column r 0) _ (mixes 0 (omega arith)) in
+    let c1 = at (column r 1) _ (mixes 1 (omega arith)) in
+    let c2 = at (column r 2) _ (mixes 2 (omega arith)) in
+    let c3 = at (column r 3) _ (mixes 3 (omega arith)) in
+    rw (c0 0, c0 1, c0 2, c0 3, c1 0, c1 1, c1 2, c1 3, c2 0, c2 1, c2 2, c2 3, c3 0, c3 1, c3 2, c3 3) refl
 
--- G on the columns of rows of which all but the second are turned against it, and turned back
-pub diagonals-rows : (v : List (List ℕ)) (x y : List ℕ) (a c d x' y' : List ℕ) (r : List (List ℕ)) (a' c' d' : List ℕ)
+-- four diagonals, as the columns of rows of which all but the second are turned against it, and turned back
+pub diagonals-rows : (v : List (List ℕ)) (x y a c d x' y' : List ℕ) (r : List (List ℕ)) (a' c' d' : List ℕ)
     → a ≡ turned (row v 0) 3 → c ≡ turned (row v 2) 1 → d ≡ turned (row v 3) 2 → x' ≡ turned x 3 → y' ≡ turned y 3
-    → Mixes r (a ∷ row v 1 ∷ c ∷ d ∷ []) x' y'
+    → words r ≡ columns (words (a ∷ row v 1 ∷ c ∷ d ∷ [])) x' y'
     → a' ≡ turned (row r 0) 1 → c' ≡ turned (row r 2) 3 → d' ≡ turned (row r 3) 2
     → words (a' ∷ row r 1 ∷ c' ∷ d' ∷ []) ≡ diagonals (words v) x y
-unfolding mix diagonals
-diagonals-rows v x y a c d x' y' r a' c' d' ea ec ed ex ey mixes ea' ec' ed' =
-    let c0 = mixes 0 (omega arith) in
-    let c1 = mixes 1 (omega arith) in
-    let c2 = mixes 2 (omega arith) in
-    let c3 = mixes 3 (omega arith) in
+unfolding mix columns diagonals
+diagonals-rows v x y a c d x' y' r a' c' d' ea ec ed ex ey mixed ea' ec' ed' =
+    let w = at (words r) _ mixed in
     rw (
-      ea', ec', ed',
-      row_word r _ 0 0 c0, row_word r _ 0 1 c0, row_word r _ 0 2 c0, row_word r _ 0 3 c0,
-      row_word r _ 1 0 c1, row_word r _ 1 1 c1, row_word r _ 1 2 c1, row_word r _ 1 3 c1,
-      row_word r _ 2 0 c2, row_word r _ 2 1 c2, row_word r _ 2 2 c2, row_word r _ 2 3 c2,
-      row_word r _ 3 0 c3, row_word r _ 3 1 c3, row_word r _ 3 2 c3, row_word r _ 3 3 c3,
-      ea, ec, ed, ex, ey,
+      ea',
+      ec',
+      ed',
+      w 0,
+      w 1,
+      w 2,
+      w 3,
+      w 4,
+      w 5,
+      w 6,
+      w 7,
+      w 8,
+      w 9,
+      w 10,
+      w 11,
+      w 12,
+      w 13,
+      w 14,
+      w 15,
+      ea,
+      ec,
+      ed,
+      ex,
+      ey,
     ) refl
