@@ -7,7 +7,7 @@ use Rattle.blake2b_core.specs.Compression.{◌!◌, ◌⊻◌, ◌⋙◌, mix}
 use Rattle.blake2b_core.specs.Columns.{columns, diagonals, row, turned, word, words}
 
 -- what holds of each of the four lanes
-pub below_four : (P : ℕ → Type 0) → P 0 → P 1 → P 2 → P 3 → (j : ℕ) → j < 4 → P j
+below_four : (P : ℕ → Type 0) → P 0 → P 1 → P 2 → P 3 → (j : ℕ) → j < 4 → P j
 below_four P p0 p1 p2 p3 zero h = p0
 below_four P p0 p1 p2 p3 (suc zero) h = p1
 below_four P p0 p1 p2 p3 (suc (suc zero)) h = p2
@@ -15,7 +15,7 @@ below_four P p0 p1 p2 p3 (suc (suc (suc zero))) h = p3
 below_four P p0 p1 p2 p3 (suc (suc (suc (suc n)))) h = absurd (omega arith)
 
 -- what holds of each list of four elements
-pub four_lanes : (P : List ℕ → Type 0) → ((a b c d : ℕ) → P (a ∷ b ∷ c ∷ d ∷ [])) → (xs : List ℕ) → length xs ≡ 4 → P xs
+four_lanes : (P : List ℕ → Type 0) → ((a b c d : ℕ) → P (a ∷ b ∷ c ∷ d ∷ [])) → (xs : List ℕ) → length xs ≡ 4 → P xs
 four_lanes P p (a ∷ b ∷ c ∷ d ∷ []) h = p a b c d
 four_lanes P p _ h = absurd (omega arith)
 
@@ -31,16 +31,18 @@ pub shifts_rotate : (k : ℕ) → 0 < k → k < 64 → (a : List ℕ) → length
 shifts_rotate k low high =
     let right : k % 64 ≡ k = omega arith in
     let left : (64 - k) % 64 ≡ 64 - k = omega arith in
+    let lane : (x y : ℕ) → bit_or ((x ⊻ y) / 2 ^ k) ((x ⊻ y) * 2 ^ (64 - k) % 2 ^ 64) ≡ (x ⊻ y) ⋙ k =
+    λ x y. rw (rotate_right, right, left) refl in
     four_lanes (λ a. (b : List ℕ) → length b ≡ 4 → Rotates k a b) (λ a0 a1 a2 a3.
     four_lanes (Rotates k (a0 ∷ a1 ∷ a2 ∷ a3 ∷ [])) (λ b0 b1 b2 b3.
-    below_four _ (rw (rotate_right, right, left) refl) (rw (rotate_right, right, left) refl) (rw (rotate_right, right, left) refl) (rw (rotate_right, right, left) refl)))
+    below_four _ (lane a0 b0) (lane a1 b1) (lane a2 b2) (lane a3 b3)))
 
 -- word j of each row
 abbrev column : List (List ℕ) → ℕ → List ℕ
 column v j = word v 0 j ∷ word v 1 j ∷ word v 2 j ∷ word v 3 j ∷ []
 
 -- the columns of r are those of v, each mixed by G
-abbrev pub Mixes : List (List ℕ) → List (List ℕ) → List ℕ → List ℕ → Type 0
+abbrev Mixes : List (List ℕ) → List (List ℕ) → List ℕ → List ℕ → Type 0
 Mixes r v x y = (j : ℕ) → j < 4 → column r j ≡ mix (column v j) 0 1 2 3 (x ! j) (y ! j)
 
 at : (xs ys : List ℕ) → xs ≡ ys → (i : ℕ) → xs ! i ≡ ys ! i
@@ -65,29 +67,6 @@ pub diagonals-rows : (v : List (List ℕ)) (x y a c d x' y' : List ℕ) (r : Lis
 unfolding mix columns diagonals
 diagonals-rows v x y a c d x' y' r a' c' d' ea ec ed ex ey mixed ea' ec' ed' =
     let w = at (words r) _ mixed in
-    rw (
-      ea',
-      ec',
-      ed',
-      w 0,
-      w 1,
-      w 2,
-      w 3,
-      w 4,
-      w 5,
-      w 6,
-      w 7,
-      w 8,
-      w 9,
-      w 10,
-      w 11,
-      w 12,
-      w 13,
-      w 14,
-      w 15,
-      ea,
-      ec,
-      ed,
-      ex,
-      ey,
-    ) refl
+    rw (ea', ec', ed')
+    (rw (w 0, w 1, w 2, w 3, w 4, w 5, w 6, w 7, w 8, w 9, w 10, w 11, w 12, w 13, w 14, w 15)
+    (rw (ea, ec, ed, ex, ey) refl))

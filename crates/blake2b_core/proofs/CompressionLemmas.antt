@@ -1,14 +1,15 @@
 -- Lemmas on the compression function's definitions.
 use Rattle.std.proofs.Common.{◌≡◌, ℕ, zero, suc, ◌+◌, ◌*◌, ◌/◌, ◌%◌, ◌^◌, ◌<◌, ◌≤◌, Bool, true, false, List, []}
-use Rattle.std.proofs.Common.{◌++◌, slice_index_or, ◌∷◌, length, take, drop, map, get_or, if◌then◌else◌, refl, sym, ap, ◌∙◌, arith}
+use Rattle.std.proofs.Common.{◌∷◌, ◌++◌, length, take, drop, map, get_or, slice_index_or, if◌then◌else◌, refl, sym, ap}
+use Rattle.std.proofs.Common.{◌∙◌, arith}
 use Rattle.std.proofs.lemmas.List.{take-append-drop, length-take-le, length-drop, drop-drop, length-map, get_or-map}
 use Rattle.std.proofs.lemmas.List.{ext_get_or}
 use Rattle.std.proofs.lemmas.Simd.{pick_l_left}
 use Rattle.std.specs.Int.{w64, bit_not}
-use lib.Dec.{T}
 use Rattle.std.specs.List.{range_with_len}
 use Rattle.std.specs.Simd.{first_chunks}
 use Rattle.std.specs.Simd.Lanes.{all_below, pick_l}
+use lib.Dec.{T}
 use Rattle.byteorder.specs.Endian.{little_number}
 use Rattle.byteorder.specs.Numbers.{little_from-append}
 use Rattle.blake2b_core.specs.Compression.{◌!◌, ◌⊻◌, sigma, iv, scheduled, start, block_words}
@@ -17,7 +18,7 @@ use Rattle.blake2b_core.specs.Compression.{◌!◌, ◌⊻◌, sigma, iv, schedu
 abbrev pub sigma_row : ℕ → List ℕ
 sigma_row k = map (λ i. slice_index_or sigma k [] ! i) (range_with_len 0 16)
 
--- the words that are picked by a row of SIGMA, which counts on into a second copy of the vector
+-- what a swizzle picks by row k, out of the vector and a second copy of it
 pub picked-row : (m : List ℕ) (r k : ℕ) → length m ≡ 16 → T (all_below 16 (sigma_row k)) → r % 10 ≡ k
     → pick_l 0 (m ++ m) (sigma_row k) ≡ map (scheduled m r) (range_with_len 0 16)
 unfolding scheduled

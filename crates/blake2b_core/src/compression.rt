@@ -19,8 +19,8 @@ pub(crate) const IV: [u64; 8] = [
     0x5be0cd19137e2179,
 ];
 
-// The words of the block in the order in which round `r` takes them. Where `r` is a literal the compiler
-// picks the row.
+// The words of the block in the order in which round `r` takes them: row r mod 10 of SIGMA. Where `r` is
+// a literal the compiler picks the row.
 #[inline(always)]
 #[rattlefmt::skip]
 fn scheduled(m: Simd<u64, 16>, r: usize) -> Simd<u64, 16>
@@ -40,7 +40,7 @@ fn scheduled(m: Simd<u64, 16>, r: usize) -> Simd<u64, 16>
     }
 }
 
-// Round `r`: four columns, then four diagonals. Each takes two words, which stand side by side.
+// Round `r`: four columns, then four diagonals. Each takes two words, which are neighbours in its order.
 #[inline(always)]
 fn round(m: Simd<u64, 16>, v: [u64x4; 4], r: usize) -> [u64x4; 4]
     ensures { words result ≡ round m (words v) r }
@@ -95,7 +95,7 @@ pub(crate) fn advance(h: &mut [u64; 8], block: &[u8; 128], t: u128, last: bool)
 {
     let m = Simd::<u64, 16>::from_array(block_words(block));
     let v = start(h, t, last);
-    // The rounds are written out, so that each place in SIGMA is known to the compiler.
+    // The rounds are written out, so that the compiler picks each row of SIGMA.
     let v = round(m, v, 0);
     let v = round(m, v, 1);
     let v = round(m, v, 2);

@@ -10,9 +10,19 @@ returns c =
     let v : words c.round-v-12.result ≡ fold (round (block_words c.args.block.now))
     (start c.args.h.now c.args.t c.args.last) (range_with_len 0 12) =
     rw (
-      c.round-v-12.ensures, c.round-v-11.ensures, c.round-v-10.ensures, c.round-v-9.ensures,
-      c.round-v-8.ensures, c.round-v-7.ensures, c.round-v-6.ensures, c.round-v-5.ensures,
-      c.round-v-4.ensures, c.round-v-3.ensures, c.round-v-2.ensures, c.round-v.ensures,
-      c.start-v.ensures, c.block_words-m.ensures,
+      c.round-v-12.ensures,
+      c.round-v-11.ensures,
+      c.round-v-10.ensures,
+      c.round-v-9.ensures,
+      c.round-v-8.ensures,
+      c.round-v-7.ensures,
+      c.round-v-6.ensures,
+      c.round-v-5.ensures,
+      c.round-v-4.ensures,
+      c.round-v-3.ensures,
+      c.round-v-2.ensures,
+      c.round-v.ensures,
+      c.start-v.ensures,
+      c.block_words-m.ensures,
     ) refl in
     c.feed_forward.ensures ∙ ap (fed_forward c.args.h.now) v
