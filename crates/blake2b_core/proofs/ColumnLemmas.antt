@@ -1,62 +1,72 @@
--- Lemmas on four columns or diagonals that are mixed at once.
-use Rattle.std.proofs.Common.{◌≡◌, ℕ, List, [], ◌∷◌, length, refl, arith}
-use Rattle.blake2b_core.specs.Compression.{◌!◌, mix}
-use Rattle.blake2b_core.specs.Columns.{columns, diagonals, sums, turned}
+-- Lemmas on rows of four words, whose columns are mixed at once.
+use Rattle.std.proofs.Common.{◌≡◌, ℕ, zero, suc, ◌-◌, ◌*◌, ◌/◌, ◌%◌, ◌^◌, ◌<◌, List, [], ◌∷◌, length, bit_or, bit_xor}
+use Rattle.std.proofs.Common.{refl, ap, arith}
+use Rattle.std.specs.Int.{rotate_right}
+use Rattle.std.specs.Simd.Lanes.{zip2}
+use Rattle.blake2b_core.specs.Compression.{◌!◌, ◌⊻◌, ◌⋙◌, mix}
+use Rattle.blake2b_core.specs.Columns.{columns, diagonals, row, turned, word, words}
 
--- four words of v
-abbrev pub row : List ℕ → ℕ → ℕ → ℕ → ℕ → List ℕ
-row v i j k l = v ! i ∷ v ! j ∷ v ! k ∷ v ! l ∷ []
+-- what holds of each of the four lanes
+below_four : (P : ℕ → Type 0) → P 0 → P 1 → P 2 → P 3 → (j : ℕ) → j < 4 → P j
+below_four P p0 p1 p2 p3 zero h = p0
+below_four P p0 p1 p2 p3 (suc zero) h = p1
+below_four P p0 p1 p2 p3 (suc (suc zero)) h = p2
+below_four P p0 p1 p2 p3 (suc (suc (suc zero))) h = p3
+below_four P p0 p1 p2 p3 (suc (suc (suc (suc n)))) h = absurd (omega arith)
 
--- rows, one behind the other, and the same with the second, third and fourth turned back
-abbrev pub written : List ℕ → List ℕ → List ℕ → List ℕ → List ℕ
-written a b c d =
-    a ! 0 ∷ a ! 1 ∷ a ! 2 ∷ a ! 3 ∷ b ! 0 ∷ b ! 1 ∷ b ! 2 ∷ b ! 3 ∷ c ! 0 ∷ c ! 1 ∷ c ! 2 ∷ c ! 3 ∷ d ! 0 ∷ d ! 1 ∷ d
-    ! 2 ∷ d ! 3 ∷ []
+-- what holds of each list of four elements
+four_lanes : (P : List ℕ → Type 0) → ((a b c d : ℕ) → P (a ∷ b ∷ c ∷ d ∷ [])) → (xs : List ℕ) → length xs ≡ 4 → P xs
+four_lanes P p (a ∷ b ∷ c ∷ d ∷ []) h = p a b c d
+four_lanes P p _ h = absurd (omega arith)
 
-abbrev pub written_back : List ℕ → List ℕ → List ℕ → List ℕ → List ℕ
-written_back a b c d =
-    a ! 0 ∷ a ! 1 ∷ a ! 2 ∷ a ! 3 ∷ b ! 3 ∷ b ! 0 ∷ b ! 1 ∷ b ! 2 ∷ c ! 2 ∷ c ! 3 ∷ c ! 0 ∷ c ! 1 ∷ d ! 1 ∷ d ! 2 ∷ d
-    ! 3 ∷ d ! 0 ∷ []
+-- two shifts of each lane and an or are a rotation
+abbrev Rotates : ℕ → List ℕ → List ℕ → Type 0
+Rotates k a b = (j : ℕ) → j < 4
+    → zip2 bit_or
+    (zip2 (λ x n. x / 2 ^ n) (zip2 bit_xor a b) (k ∷ k ∷ k ∷ k ∷ []))
+    (zip2 (λ x n. x * 2 ^ n % 2 ^ 64) (zip2 bit_xor a b) ((64 - k) ∷ (64 - k) ∷ (64 - k) ∷ (64 - k) ∷ [])) ! j
+    ≡ (a ! j ⊻ b ! j) ⋙ k
 
--- the eight steps of G on rows of four words, and what then holds of them
-abbrev pub Mixes : (List ℕ → List ℕ → List ℕ → List ℕ → Type 0) → List ℕ → List ℕ → List ℕ → List ℕ → List ℕ
-    → List ℕ → Type 0
-Mixes P a b c d x y = (s a1 d1 c1 b1 s' a2 d2 c2 b2 : List ℕ)
-    → s ≡ sums a b → a1 ≡ sums s x → d1 ≡ turned d a1 32 → c1 ≡ sums c d1 → b1 ≡ turned b c1 24
-    → s' ≡ sums a1 b1 → a2 ≡ sums s' y → d2 ≡ turned d1 a2 16 → c2 ≡ sums c1 d2 → b2 ≡ turned b1 c2 63
-    → P a2 b2 c2 d2
+pub shifts_rotate : (k : ℕ) → 0 < k → k < 64 → (a : List ℕ) → length a ≡ 4 → (b : List ℕ) → length b ≡ 4 → Rotates k a b
+shifts_rotate k low high =
+    let right : k % 64 ≡ k = omega arith in
+    let left : (64 - k) % 64 ≡ 64 - k = omega arith in
+    let lane : (x y : ℕ) → bit_or ((x ⊻ y) / 2 ^ k) ((x ⊻ y) * 2 ^ (64 - k) % 2 ^ 64) ≡ (x ⊻ y) ⋙ k =
+    λ x y. rw (rotate_right, right, left) refl in
+    four_lanes (λ a. (b : List ℕ) → length b ≡ 4 → Rotates k a b) (λ a0 a1 a2 a3.
+    four_lanes (Rotates k (a0 ∷ a1 ∷ a2 ∷ a3 ∷ [])) (λ b0 b1 b2 b3.
+    below_four _ (lane a0 b0) (lane a1 b1) (lane a2 b2) (lane a3 b3)))
 
-mixes : (P : List ℕ → List ℕ → List ℕ → List ℕ → Type 0) (a b c d x y : List ℕ) →
-    (let a1 = sums (sums a b) x in
-    let d1 = turned d a1 32 in
-    let c1 = sums c d1 in
-    let b1 = turned b c1 24 in
-    let a2 = sums (sums a1 b1) y in
-    let d2 = turned d1 a2 16 in
-    let c2 = sums c1 d2 in
-    let b2 = turned b1 c2 63 in
-    P a2 b2 c2 d2) → Mixes P a b c d x y
-mixes P a b c d x y h s a1 d1 c1 b1 s' a2 d2 c2 b2 es ea1 ed1 ec1 eb1 es' ea2 ed2 ec2 eb2 =
-    rw (eb2, ec2, ed2, ea2, es', eb1, ec1, ed1, ea1, es) h
+-- word j of each row
+abbrev column : List (List ℕ) → ℕ → List ℕ
+column v j = word v 0 j ∷ word v 1 j ∷ word v 2 j ∷ word v 3 j ∷ []
 
--- four columns, row by row
-pub columns-rows : (v x y : List ℕ) → length v ≡ 16
-    → Mixes (λ a b c d. written a b c d ≡ columns v x y) (row v 0 1 2 3) (row v 4 5 6 7) (row v 8 9 10 11)
-    (row v 12 13 14 15) x y
-unfolding mix columns sums turned
-columns-rows (a0 ∷ a1 ∷ a2 ∷ a3 ∷ b0 ∷ b1 ∷ b2 ∷ b3 ∷ c0 ∷ c1 ∷ c2 ∷ c3 ∷ d0 ∷ d1 ∷ d2 ∷ d3 ∷ []) x y size =
-    mixes (λ a b c d. written a b c d ≡ columns
-    (a0 ∷ a1 ∷ a2 ∷ a3 ∷ b0 ∷ b1 ∷ b2 ∷ b3 ∷ c0 ∷ c1 ∷ c2 ∷ c3 ∷ d0 ∷ d1 ∷ d2 ∷ d3 ∷ []) x y)
-    (a0 ∷ a1 ∷ a2 ∷ a3 ∷ []) (b0 ∷ b1 ∷ b2 ∷ b3 ∷ []) (c0 ∷ c1 ∷ c2 ∷ c3 ∷ []) (d0 ∷ d1 ∷ d2 ∷ d3 ∷ []) x y refl
-columns-rows _ x y size = absurd (omega arith)
+-- the columns of r are those of v, each mixed by G
+abbrev Mixes : List (List ℕ) → List (List ℕ) → List ℕ → List ℕ → Type 0
+Mixes r v x y = (j : ℕ) → j < 4 → column r j ≡ mix (column v j) 0 1 2 3 (x ! j) (y ! j)
 
--- four diagonals, row by row
-pub diagonals-rows : (v x y : List ℕ) → length v ≡ 16
-    → Mixes (λ a b c d. written_back a b c d ≡ diagonals v x y) (row v 0 1 2 3) (row v 5 6 7 4) (row v 10 11 8 9)
-    (row v 15 12 13 14) x y
-unfolding mix diagonals sums turned
-diagonals-rows (a0 ∷ a1 ∷ a2 ∷ a3 ∷ b0 ∷ b1 ∷ b2 ∷ b3 ∷ c0 ∷ c1 ∷ c2 ∷ c3 ∷ d0 ∷ d1 ∷ d2 ∷ d3 ∷ []) x y size =
-    mixes (λ a b c d. written_back a b c d ≡ diagonals
-    (a0 ∷ a1 ∷ a2 ∷ a3 ∷ b0 ∷ b1 ∷ b2 ∷ b3 ∷ c0 ∷ c1 ∷ c2 ∷ c3 ∷ d0 ∷ d1 ∷ d2 ∷ d3 ∷ []) x y)
-    (a0 ∷ a1 ∷ a2 ∷ a3 ∷ []) (b1 ∷ b2 ∷ b3 ∷ b0 ∷ []) (c2 ∷ c3 ∷ c0 ∷ c1 ∷ []) (d3 ∷ d0 ∷ d1 ∷ d2 ∷ []) x y refl
-diagonals-rows _ x y size = absurd (omega arith)
+at : (xs ys : List ℕ) → xs ≡ ys → (i : ℕ) → xs ! i ≡ ys ! i
+at xs ys e i = ap (λ l. l ! i) e
+
+-- four columns, lane by lane
+pub columns-rows : (r v : List (List ℕ)) (x y : List ℕ) → Mixes r v x y → words r ≡ columns (words v) x y
+unfolding mix columns
+columns-rows r v x y mixes =
+    let c0 = at (column r 0) _ (mixes 0 (omega arith)) in
+    let c1 = at (column r 1) _ (mixes 1 (omega arith)) in
+    let c2 = at (column r 2) _ (mixes 2 (omega arith)) in
+    let c3 = at (column r 3) _ (mixes 3 (omega arith)) in
+    rw (c0 0, c0 1, c0 2, c0 3, c1 0, c1 1, c1 2, c1 3, c2 0, c2 1, c2 2, c2 3, c3 0, c3 1, c3 2, c3 3) refl
+
+-- four diagonals, as the columns of rows of which all but the second are turned against it, and turned back
+pub diagonals-rows : (v : List (List ℕ)) (x y a c d x' y' : List ℕ) (r : List (List ℕ)) (a' c' d' : List ℕ)
+    → a ≡ turned (row v 0) 3 → c ≡ turned (row v 2) 1 → d ≡ turned (row v 3) 2 → x' ≡ turned x 3 → y' ≡ turned y 3
+    → words r ≡ columns (words (a ∷ row v 1 ∷ c ∷ d ∷ [])) x' y'
+    → a' ≡ turned (row r 0) 1 → c' ≡ turned (row r 2) 3 → d' ≡ turned (row r 3) 2
+    → words (a' ∷ row r 1 ∷ c' ∷ d' ∷ []) ≡ diagonals (words v) x y
+unfolding mix columns diagonals
+diagonals-rows v x y a c d x' y' r a' c' d' ea ec ed ex ey mixed ea' ec' ed' =
+    let w = at (words r) _ mixed in
+    rw (ea', ec', ed')
+    (rw (w 0, w 1, w 2, w 3, w 4, w 5, w 6, w 7, w 8, w 9, w 10, w 11, w 12, w 13, w 14, w 15)
+    (rw (ea, ec, ed, ex, ey) refl))

@@ -1,40 +1,28 @@
 -- Lemmas on the compression function's definitions.
-use Rattle.std.proofs.Common.{◌≡◌, ℕ, zero, suc, ◌+◌, ◌*◌, ◌/◌, ◌%◌, ◌^◌, ◌<◌, ◌≤◌, Bool, true, false, ◌&&◌, List, []}
-use Rattle.std.proofs.Common.{◌∷◌, length, take, drop, map, get_or, nat_lt, if◌then◌else◌, refl, sym, ap, ◌∙◌, arith}
-use Rattle.std.proofs.Common.{lit<}
-use Rattle.std.proofs.Math.Nat.{mod-eq_of_lt}
-use Rattle.std.proofs.lemmas.Bool.{ltb-true}
+use Rattle.std.proofs.Common.{◌≡◌, ℕ, zero, suc, ◌+◌, ◌*◌, ◌/◌, ◌%◌, ◌^◌, ◌<◌, ◌≤◌, Bool, true, false, List, []}
+use Rattle.std.proofs.Common.{◌∷◌, ◌++◌, length, take, drop, map, get_or, slice_index_or, if◌then◌else◌, refl, sym, ap}
+use Rattle.std.proofs.Common.{◌∙◌, arith}
 use Rattle.std.proofs.lemmas.List.{take-append-drop, length-take-le, length-drop, drop-drop, length-map, get_or-map}
 use Rattle.std.proofs.lemmas.List.{ext_get_or}
+use Rattle.std.proofs.lemmas.Simd.{pick_l_left}
 use Rattle.std.specs.Int.{w64, bit_not}
-use Rattle.std.specs.List.{list_all}
+use Rattle.std.specs.List.{range_with_len}
 use Rattle.std.specs.Simd.{first_chunks}
+use Rattle.std.specs.Simd.Lanes.{all_below, pick_l}
+use lib.Dec.{T}
 use Rattle.byteorder.specs.Endian.{little_number}
 use Rattle.byteorder.specs.Numbers.{little_from-append}
-use Rattle.blake2b_core.specs.Compression.{◌!◌, ◌⊻◌, sigma, iv, start, block_words}
+use Rattle.blake2b_core.specs.Compression.{◌!◌, ◌⊻◌, sigma, iv, scheduled, start, block_words}
 
-and_left : (a b : Bool) → (a && b) ≡ true → a ≡ true
-and_left true b h = refl
-and_left false b h = cc
+-- row k of SIGMA
+abbrev pub sigma_row : ℕ → List ℕ
+sigma_row k = map (λ i. slice_index_or sigma k [] ! i) (range_with_len 0 16)
 
-and_right : (a b : Bool) → (a && b) ≡ true → b ≡ true
-and_right true b h = h
-and_right false b h = cc
-
-row_below : (row : List ℕ) → list_all (λ x. nat_lt x 16) row ≡ true → (k : ℕ) → get_or row k 0 < 16
-row_below [] h k = lit< tt
-row_below (x ∷ row) h zero = ltb-true x 16 (and_left (nat_lt x 16) _ h)
-row_below (x ∷ row) h (suc k) = row_below row (and_right (nat_lt x 16) _ h) k
-
-rows_below : (rows : List (List ℕ)) → list_all (list_all (λ x. nat_lt x 16)) rows ≡ true → (r k : ℕ)
-    → get_or (get_or rows r []) k 0 < 16
-rows_below [] h r k = lit< tt
-rows_below (row ∷ rows) h zero k = row_below row (and_left (list_all (λ x. nat_lt x 16) row) _ h) k
-rows_below (row ∷ rows) h (suc r) k = rows_below rows (and_right (list_all (λ x. nat_lt x 16) row) _ h) r k
-
--- each entry of SIGMA is a place in a block of sixteen words
-pub sigma-mod : (r k : ℕ) → get_or (get_or sigma r []) k 0 % 16 ≡ get_or (get_or sigma r []) k 0
-sigma-mod r k = mod-eq_of_lt (rows_below sigma refl r k)
+-- what a swizzle picks by row k, out of the vector and a second copy of it
+pub picked-row : (m : List ℕ) (r k : ℕ) → length m ≡ 16 → T (all_below 16 (sigma_row k)) → r % 10 ≡ k
+    → pick_l 0 (m ++ m) (sigma_row k) ≡ map (scheduled m r) (range_with_len 0 16)
+unfolding scheduled
+picked-row m r k size below row = pick_l_left 0 m m 16 (sigma_row k) size below ∙ rw row refl
 
 -- the working vector before the first round, written out
 pub start-is : (h : List ℕ) (t : ℕ) (last : Bool) → length h ≡ 8 →

@@ -1,13 +1,25 @@
--- Joins the round of the compression function, G by G, and the code that mixes four columns at once.
-use Rattle.std.specs.Prelude.{ℕ, List, [], ◌∷◌}
-use Rattle.blake2b_core.specs.Compression.{◌!◌, ◌⊞◌, ◌⊻◌, ◌⋙◌, mix}
+-- Joins the round of the compression function, G by G, and the code that mixes four columns at once: the
+-- working vector as four rows of four words.
+use Rattle.std.specs.Prelude.{ℕ, ◌+◌, ◌%◌, List, [], ◌∷◌, map, slice_index_or}
+use Rattle.std.specs.List.{range_with_len}
+use Rattle.blake2b_core.specs.Compression.{◌!◌, ◌⊻◌, mix}
 
--- word by word: the sums, and the exclusive ors rotated by k bits
-unfoldable pub sums : List ℕ → List ℕ → List ℕ
-sums x y = (x ! 0 ⊞ y ! 0) ∷ (x ! 1 ⊞ y ! 1) ∷ (x ! 2 ⊞ y ! 2) ∷ (x ! 3 ⊞ y ! 3) ∷ []
+-- row i of v, and its word j
+abbrev pub row : List (List ℕ) → ℕ → List ℕ
+row v i = slice_index_or v i []
 
-unfoldable pub turned : List ℕ → List ℕ → ℕ → List ℕ
-turned x y k = ((x ! 0 ⊻ y ! 0) ⋙ k) ∷ ((x ! 1 ⊻ y ! 1) ⋙ k) ∷ ((x ! 2 ⊻ y ! 2) ⋙ k) ∷ ((x ! 3 ⊻ y ! 3) ⋙ k) ∷ []
+abbrev pub word : List (List ℕ) → ℕ → ℕ → ℕ
+word v i j = row v i ! j
+
+-- the rows, one behind the other
+abbrev pub words : List (List ℕ) → List ℕ
+words v =
+    word v 0 0 ∷ word v 0 1 ∷ word v 0 2 ∷ word v 0 3 ∷ word v 1 0 ∷ word v 1 1 ∷ word v 1 2 ∷ word v 1 3 ∷
+    word v 2 0 ∷ word v 2 1 ∷ word v 2 2 ∷ word v 2 3 ∷ word v 3 0 ∷ word v 3 1 ∷ word v 3 2 ∷ word v 3 3 ∷ []
+
+-- the words of a row, turned to the left by k places
+abbrev pub turned : List ℕ → ℕ → List ℕ
+turned row k = map (λ j. row ! ((j + k) % 4)) (range_with_len 0 4)
 
 -- G on the four columns and on the four diagonals of v
 unfoldable pub columns : List ℕ → List ℕ → List ℕ → List ℕ
@@ -23,3 +35,7 @@ diagonals v x y =
     let v = mix v 1 6 11 12 (x ! 1) (y ! 1) in
     let v = mix v 2 7 8 13 (x ! 2) (y ! 2) in
     mix v 3 4 9 14 (x ! 3) (y ! 3)
+
+-- the new state, from the old one and the working vector after the last round
+abbrev pub fed_forward : List ℕ → List ℕ → List ℕ
+fed_forward h v = map (λ i. h ! i ⊻ v ! i ⊻ v ! (i + 8)) (range_with_len 0 8)

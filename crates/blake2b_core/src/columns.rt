@@ -1,69 +1,67 @@
 //! The mixing function G of RFC 7693, 3.1, on four columns or diagonals at once: they share no word, so
-//! that the processor works on them side by side.
-ghost use Rattle.std.specs.Prelude.{◌≡◌};
-ghost use Rattle.blake2b_core.specs.Columns.{columns, diagonals, sums, turned};
+//! that each is a lane of four vectors, the rows of the working vector.
+ghost use Rattle.std.specs.Prelude.{◌≡◌, ℕ, ◌<◌};
+ghost use Rattle.blake2b_core.specs.Compression.{◌!◌, ◌⊞◌, ◌⊻◌, ◌⋙◌};
+ghost use Rattle.blake2b_core.specs.Columns.{columns, diagonals, turned, words};
 
+use std::simd::u64x4;
+
+// The exclusive ors, rotated to the right.
 #[inline(always)]
-#[tactic(auto, unfolding(crate::specs::Columns::sums))]
-fn sums(x: [u64; 4], y: [u64; 4]) -> [u64; 4]
-    ensures { result ≡ sums x y }
+fn rotated(x: u64x4, y: u64x4, bits: u64) -> u64x4
+    requires low { 0 < bits }
+    requires high { bits < 64 }
+    ensures { (j : ℕ) → j < 4 → result ! j ≡ (x ! j ⊻ y ! j) ⋙ bits }
 {
-    [
-        x[0].wrapping_add(y[0]),
-        x[1].wrapping_add(y[1]),
-        x[2].wrapping_add(y[2]),
-        x[3].wrapping_add(y[3]),
-    ]
+    let x = x ^ y;
+    (x >> u64x4::splat(bits)) | (x << u64x4::splat(64 - bits))
 }
 
 #[inline(always)]
-#[tactic(auto, unfolding(crate::specs::Columns::turned))]
-fn turned(x: [u64; 4], y: [u64; 4], bits: u32) -> [u64; 4]
-    ensures { result ≡ turned x y bits }
+fn sums(x: u64x4, y: u64x4) -> u64x4
+    ensures { (j : ℕ) → j < 4 → result ! j ≡ x ! j ⊞ y ! j }
 {
-    [
-        (x[0] ^ y[0]).rotate_right(bits),
-        (x[1] ^ y[1]).rotate_right(bits),
-        (x[2] ^ y[2]).rotate_right(bits),
-        (x[3] ^ y[3]).rotate_right(bits),
-    ]
+    x + y
 }
 
 // G on the columns of the working vector, with the words `x` and `y`.
 #[inline(always)]
-pub(crate) fn mixed_columns(v: [u64; 16], x: [u64; 4], y: [u64; 4]) -> [u64; 16]
-    ensures { result ≡ columns v x y }
+pub(crate) fn mixed_columns(v: [u64x4; 4], x: u64x4, y: u64x4) -> [u64x4; 4]
+    ensures { words result ≡ columns (words v) x y }
 {
-    let a = sums(sums([v[0], v[1], v[2], v[3]], [v[4], v[5], v[6], v[7]]), x);
-    let d = turned([v[12], v[13], v[14], v[15]], a, 32);
-    let c = sums([v[8], v[9], v[10], v[11]], d);
-    let b = turned([v[4], v[5], v[6], v[7]], c, 24);
-    let a = sums(sums(a, b), y);
-    let d = turned(d, a, 16);
+    let [a, b, c, d] = v;
+    let a = sums(sums(a, b), x);
+    let d = rotated(d, a, 32);
     let c = sums(c, d);
-    let b = turned(b, c, 63);
-    [
-        a[0], a[1], a[2], a[3], b[0], b[1], b[2], b[3], c[0], c[1], c[2], c[3], d[0], d[1], d[2],
-        d[3],
-    ]
+    let b = rotated(b, c, 24);
+    let a = sums(sums(a, b), y);
+    let d = rotated(d, a, 16);
+    let c = sums(c, d);
+    let b = rotated(b, c, 63);
+    [a, b, c, d]
 }
 
-// G on the diagonals: they stand in columns where the second, third and fourth row are turned by one,
-// two and three places.
+// The words of a row, turned to the left by so many places.
 #[inline(always)]
-pub(crate) fn mixed_diagonals(v: [u64; 16], x: [u64; 4], y: [u64; 4]) -> [u64; 16]
-    ensures { result ≡ diagonals v x y }
+fn turned(row: u64x4, places: usize) -> u64x4
+    requires some { 0 < places }
+    requires few { places < 4 }
+    ensures { result ≡ turned row places }
 {
-    let a = sums(sums([v[0], v[1], v[2], v[3]], [v[5], v[6], v[7], v[4]]), x);
-    let d = turned([v[15], v[12], v[13], v[14]], a, 32);
-    let c = sums([v[10], v[11], v[8], v[9]], d);
-    let b = turned([v[5], v[6], v[7], v[4]], c, 24);
-    let a = sums(sums(a, b), y);
-    let d = turned(d, a, 16);
-    let c = sums(c, d);
-    let b = turned(b, c, 63);
-    [
-        a[0], a[1], a[2], a[3], b[3], b[0], b[1], b[2], c[2], c[3], c[0], c[1], d[1], d[2], d[3],
-        d[0],
-    ]
+    match places {
+        1 => row.rotate_elements_left::<1>(),
+        2 => row.rotate_elements_left::<2>(),
+        _ => row.rotate_elements_left::<3>(),
+    }
+}
+
+// G on the diagonals: they stand in columns where the rows are turned against the second.
+#[inline(always)]
+pub(crate) fn mixed_diagonals(v: [u64x4; 4], x: u64x4, y: u64x4) -> [u64x4; 4]
+    ensures { words result ≡ diagonals (words v) x y }
+{
+    let [a, b, c, d] = v;
+    let v = [turned(a, 3), b, turned(c, 1), turned(d, 2)];
+    let [a, b, c, d] = mixed_columns(v, turned(x, 3), turned(y, 3));
+    [turned(a, 1), b, turned(c, 3), turned(d, 2)]
 }

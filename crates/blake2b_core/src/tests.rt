@@ -1,4 +1,6 @@
-//! The vectors, and messages that come in pieces.
+//! The vectors, the compression function beside one in plain words, and messages that come in pieces.
+mod plain;
+
 use super::*;
 use std::alloc::Global;
 use std::fmt::Write;
@@ -74,6 +76,40 @@ fn one_block(rt: HostRuntime) -> Result<(), Fail> {
     }
     assert_eq!(rt; text.as_str(), ABC);
     Ok(())
+}
+
+// The word at `x`, which then goes one step on along a sequence that visits every word.
+fn next_word(x: &mut u64) -> u64 {
+    let word = *x;
+    *x = word
+        .wrapping_mul(6_364_136_223_846_793_005)
+        .wrapping_add(1_442_695_040_888_963_407);
+    word
+}
+
+#[test]
+fn lanes_and_plain_words(rt: HostRuntime) {
+    for seed in 0..1000 {
+        let mut x = seed;
+        let mut h = [0; 8];
+        for word in &mut h {
+            *word = next_word(&mut x);
+        }
+        let mut block = [0; 128];
+        for bytes in block.chunks_exact_mut(8) {
+            bytes.copy_from_slice(&next_word(&mut x).to_le_bytes());
+        }
+        let low = next_word(&mut x);
+        let high = next_word(&mut x);
+        let t = (u128::from(high) << 64) | u128::from(low);
+        for last in [false, true] {
+            assert_eq!(rt;
+                compress(&h, &block, t, last),
+                plain::compress(&h, &block, t, last),
+                "{seed}, {last}"
+            );
+        }
+    }
 }
 
 #[test]

@@ -1,9 +1,22 @@
-use Rattle.std.proofs.Common.{rules}
+use Rattle.std.proofs.Common.{[], ◌∷◌, refl}
+use Rattle.blake2b_core.specs.Compression.{mix}
 use Rattle.blake2b_core.proofs.ColumnLemmas.{columns-rows}
 use Rattle.blake2b_core.proofs.columns.mixed_columns.Goals as goal
 
 pub returns : goal.returns
+unfolding mix
 returns c =
-    columns-rows c.args.v c.args.x c.args.y (search rules) _ _ _ _ _ _ _ _ _ _
-    c.sums.ensures c.sums-a.ensures c.turned-d.ensures c.sums-c.ensures c.turned-b.ensures
-    c.sums-2.ensures c.sums-a-2.ensures c.turned-d-2.ensures c.sums-c-2.ensures c.turned-b-2.ensures
+    let rows = c.sums-a-2.result ∷ c.rotated-b-2.result ∷ c.sums-c-2.result ∷ c.rotated-d-2.result ∷ [] in
+    columns-rows rows c.args.v c.args.x c.args.y (λ j h.
+    rw (
+      c.rotated-b-2.ensures j h,
+      c.sums-c-2.ensures j h,
+      c.rotated-d-2.ensures j h,
+      c.sums-a-2.ensures j h,
+      c.sums-2.ensures j h,
+      c.rotated-b.ensures j h,
+      c.sums-c.ensures j h,
+      c.rotated-d.ensures j h,
+      c.sums-a.ensures j h,
+      c.sums.ensures j h,
+    ) refl)

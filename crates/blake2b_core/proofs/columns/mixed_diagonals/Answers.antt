@@ -1,9 +1,8 @@
-use Rattle.std.proofs.Common.{rules}
 use Rattle.blake2b_core.proofs.ColumnLemmas.{diagonals-rows}
 use Rattle.blake2b_core.proofs.columns.mixed_diagonals.Goals as goal
 
 pub returns : goal.returns
 returns c =
-    diagonals-rows c.args.v c.args.x c.args.y (search rules) _ _ _ _ _ _ _ _ _ _
-    c.sums.ensures c.sums-a.ensures c.turned-d.ensures c.sums-c.ensures c.turned-b.ensures
-    c.sums-2.ensures c.sums-a-2.ensures c.turned-d-2.ensures c.sums-c-2.ensures c.turned-b-2.ensures
+    diagonals-rows c.args.v c.args.x c.args.y _ _ _ _ _ c.mixed_columns.result _ _ _
+    c.turned.ensures c.turned-2.ensures c.turned-3.ensures c.turned-4.ensures c.turned-5.ensures
+    c.mixed_columns.ensures c.turned-6.ensures c.turned-7.ensures c.turned-8.ensures

@@ -1,11 +1,28 @@
-use Rattle.std.proofs.Common.{◌≡◌, fold, refl}
+use Rattle.std.proofs.Common.{◌≡◌, ap, fold, refl, ◌∙◌}
 use Rattle.std.specs.List.{range_with_len}
 use Rattle.blake2b_core.specs.Compression.{block_words, compress, round, start}
+use Rattle.blake2b_core.specs.Columns.{fed_forward, words}
 use Rattle.blake2b_core.proofs.compression.advance.Goals as goal
 
 pub returns : goal.returns
 unfolding compress
 returns c =
-    let v : c.round-v-12.result ≡ fold (round (block_words c.args.block.now))
-    (start c.args.h.now c.args.t c.args.last) (range_with_len 0 12) = cc in
-    rw v refl
+    let v : words c.round-v-12.result ≡ fold (round (block_words c.args.block.now))
+    (start c.args.h.now c.args.t c.args.last) (range_with_len 0 12) =
+    rw (
+      c.round-v-12.ensures,
+      c.round-v-11.ensures,
+      c.round-v-10.ensures,
+      c.round-v-9.ensures,
+      c.round-v-8.ensures,
+      c.round-v-7.ensures,
+      c.round-v-6.ensures,
+      c.round-v-5.ensures,
+      c.round-v-4.ensures,
+      c.round-v-3.ensures,
+      c.round-v-2.ensures,
+      c.round-v.ensures,
+      c.start-v.ensures,
+      c.block_words-m.ensures,
+    ) refl in
+    c.feed_forward.ensures ∙ ap (fed_forward c.args.h.now) v

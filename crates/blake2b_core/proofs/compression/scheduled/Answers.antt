@@ -1,8 +1,19 @@
-use Rattle.std.proofs.Common.{◌%◌, slice_index_or, ap}
-use Rattle.blake2b_core.specs.Compression.{scheduled}
-use Rattle.blake2b_core.proofs.CompressionLemmas.{sigma-mod}
+use Rattle.std.proofs.Common.{◌∙◌, arith}
+use Rattle.blake2b_core.proofs.CompressionLemmas.{picked-row}
+use Rattle.blake2b_core.proofs.compression.scheduled.Goals.{in-0, in-1, in-2, in-3, in-4, in-5, in-6, in-7, in-8, in_default}
 use Rattle.blake2b_core.proofs.compression.scheduled.Goals as goal
 
 pub returns : goal.returns
-unfolding scheduled
-returns c = ap (λ i. slice_index_or c.args.m.now i 0) (sigma-mod (c.args.r % 10) c.args.i)
+returns c =
+    elim c.match-r-rem10.branch [
+      | in-0 w ↦ w.result-is ∙ picked-row c.args.m c.args.r 0 c.fits-m.0 tt w.in-0.is
+      | in-1 w ↦ w.result-is ∙ picked-row c.args.m c.args.r 1 c.fits-m.0 tt w.in-1.is
+      | in-2 w ↦ w.result-is ∙ picked-row c.args.m c.args.r 2 c.fits-m.0 tt w.in-2.is
+      | in-3 w ↦ w.result-is ∙ picked-row c.args.m c.args.r 3 c.fits-m.0 tt w.in-3.is
+      | in-4 w ↦ w.result-is ∙ picked-row c.args.m c.args.r 4 c.fits-m.0 tt w.in-4.is
+      | in-5 w ↦ w.result-is ∙ picked-row c.args.m c.args.r 5 c.fits-m.0 tt w.in-5.is
+      | in-6 w ↦ w.result-is ∙ picked-row c.args.m c.args.r 6 c.fits-m.0 tt w.in-6.is
+      | in-7 w ↦ w.result-is ∙ picked-row c.args.m c.args.r 7 c.fits-m.0 tt w.in-7.is
+      | in-8 w ↦ w.result-is ∙ picked-row c.args.m c.args.r 8 c.fits-m.0 tt w.in-8.is
+      | in_default w ↦ w.result-is ∙ picked-row c.args.m c.args.r 9 c.fits-m.0 tt (omega arith)
+    ]
