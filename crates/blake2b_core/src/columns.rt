@@ -55,7 +55,8 @@ fn turned(row: u64x4, places: usize) -> u64x4
     }
 }
 
-// G on the diagonals: they stand in columns where the rows are turned against the second.
+// G on the diagonals: they stand in columns where the other rows are turned against the second. That
+// one stays still, since G is done with it last and needs it first.
 #[inline(always)]
 pub(crate) fn mixed_diagonals(v: [u64x4; 4], x: u64x4, y: u64x4) -> [u64x4; 4]
     ensures { words result ≡ diagonals (words v) x y }
