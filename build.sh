@@ -1,29 +1,61 @@
-# Read by `digests`, `test`, `install` and the benchmarks, with `top` set to the repository's folder:
-# names the built program and its tools, and says how it is made. What it says goes to standard error.
+# shellcheck shell=sh disable=SC2034,SC2154  # what is set here is read by the scripts that take it in, and they set top
+# Read by digests, install, test, the scripts of tools/ and the benchmarks, with `top` set to the repository's folder.
+# A level names the processors that a program is compiled for. The program of each stands in out/LEVEL, beside the list
+# of what it was made from; tools/build makes them.
 
-program=$top/crates/digests/out/digests
+version=2.0.0
 tools='md5sum sha1sum sha224sum sha256sum sha384sum sha512sum b2sum anysum'
+fast=x86-64-v3
+levels="default $fast"
 
-# Whether the program is missing, or a source is newer than it.
-is_stale() {
-    [ ! -x "$program" ] || [ -n "$(find "$top/crates.txt" "$top/crates" -name out -prune -o -type f -newer "$program" -print | head -n 1)" ]
+# Whether a level's program is there and nothing that it was made from has changed since. The list holds every source
+# and, for what comes and goes, every folder of sources; it is as old as the build's begin. What counts is the time that
+# the system notes for each change, which copying and unpacking can't set back.
+is_current() {
+    [ -x "$top/out/$1/digests" ] &&
+        changed=$(CDPATH='' cd -- "$top" && exec 2>&1 find -files0-from "out/$1/sources" -maxdepth 0 \
+            -cnewer "out/$1/sources" -print -quit) &&
+        [ -z "$changed" ]
 }
 
-# Proves every crate that the program stands on, then compiles and links it. The gate's own run of the
-# program is `digests sha256sum` over nothing; the same run ends the build here. The program is then as
-# old as the build's begin, so that a source that changed meanwhile is newer than it.
+# Whether a level's program runs on this machine: one for later processors ends at once, with the status 127.
+runs_here() {
+    [ "$(printf abc | "$top/out/$1/digests" sha256sum 2>&1)" = \
+        'ba7816bf8f01cfea414140de5dae2223b00361a396177a9cb410ff61f20015ad  -' ]
+}
+
+# Sets `machine` to what tells this machine, since its start, from others that see the same folder.
+name_machine() {
+    machine=
+    { read -r machine </proc/sys/kernel/random/boot_id; } 2>/dev/null
+    machine="$machine ${GLIBC_TUNABLES-}"
+}
+
+# Sets `level` to the one that was found to be the best that runs on this machine; fails where none was.
+recall_level() {
+    name_machine
+    { IFS= read -r known && read -r level; } 2>/dev/null <"$top/out/best" && [ "$known" = "$machine" ]
+}
+
+# Sets `level` to the best that runs on this machine, and notes it for the calls to come.
+find_level() {
+    name_machine
+    level=default
+    if runs_here "$fast"; then level=$fast; fi
+    if printf '%s\n' "$machine" "$level" 2>/dev/null >"$top/out/best.$$"; then
+        mv -f -- "$top/out/best.$$" "$top/out/best"
+    fi
+}
+
+# Builds what is stale, and sets `level` to the one that is wanted or, for none, to the best that runs on this machine;
+# and `program` to its program.
 build_program() {
-    is_stale || return 0
-    if ! command -v rt >/dev/null; then
-        echo "digests: the command rt of the Rattle kit is not on the PATH" >&2
-        return 1
+    if [ -n "$1" ]; then
+        level=$1
+        is_current "$level" || "$top/tools/build" || return 1
+    elif ! { recall_level && is_current "$level"; }; then
+        "$top/tools/build" || return 1
+        find_level
     fi
-    echo "digests: proving and building the program; a first build takes some minutes" >&2
-    begin=$top/crates/digests/out/begin
-    if ! mkdir -p "${begin%/*}" || ! touch "$begin" ||
-        ! (cd "$top/crates/digests" && exec rt run -- sha256sum) </dev/null >/dev/null || [ ! -x "$program" ]; then
-        echo "digests: the build failed" >&2
-        return 1
-    fi
-    touch -r "$begin" "$program"
+    program=$top/out/$level/digests
 }

@@ -28,7 +28,7 @@ OURS, GNU, BARE = "ours", "GNU", "bare"
 
 def built_program():
     """The program of this repository, built where it is stale."""
-    script = 'top=$1; . "$top/build.sh"; build_program && echo "$program"'
+    script = 'top=$1; . "$top/build.sh"; build_program "" && echo "$program"'
     built = subprocess.run(["sh", "-c", script, "sh", TOP], stdout=subprocess.PIPE, text=True)
     if built.returncode:
         sys.exit(1)

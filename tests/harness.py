@@ -21,6 +21,7 @@ from typing import NamedTuple
 PROGRAM = ""
 WITHOUT_CHECK = False
 
+NOT_FOR_THIS_MACHINE = 127  # the status of a program for later processors than the machine's
 TOP = os.path.dirname(os.path.dirname(os.path.abspath(__file__)))
 RUN_SECONDS = 100
 TEST_SECONDS = 120

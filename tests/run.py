@@ -1,12 +1,14 @@
 #!/usr/bin/env python3
-"""Runs the end-to-end tests of the built program: `run.py [--without-check] [--only WORD] PROGRAM`.
+"""Runs the end-to-end tests of the built program: `run.py [--without-check] [--only WORD] [PROGRAM..]`.
 
-Every test runs the program from the outside, on real files, pipes, terminals and devices. The last line counts the
-tests; the status is 1 where one failed."""
+Every test runs the program from the outside, on real files, pipes, terminals and devices. With no PROGRAM it is this
+repository's own, for each level for which it is built. The last line counts the tests; the status is 1 where one
+failed."""
 
 import argparse
 import collections
 import os
+import subprocess
 import sys
 import time
 import unittest
@@ -18,12 +20,29 @@ sys.dont_write_bytecode = True
 import harness  # noqa: E402  (it stands beside this file)
 
 
-def tests_below(suite, word):
-    """The tests of a suite whose full name holds the word."""
+def built_programs():
+    """The programs of this repository, the default level's first. Whether they are stale, only `./digests` looks."""
+    out = os.path.join(harness.TOP, "out")
+    levels = sorted(os.listdir(out)) if os.path.isdir(out) else []
+    found = [os.path.join(out, level, "digests") for level in levels]
+    return [path for path in found if os.path.isfile(path)]
+
+
+def why_not(program):
+    """What keeps a program from running on this machine, or nothing."""
+    if not os.path.isfile(program) or not os.access(program, os.X_OK):
+        sys.exit(f"run.py: {program} is no program")
+    ran = subprocess.run([program, "md5sum", "--version"], stdout=subprocess.PIPE, stderr=subprocess.PIPE)
+    return ran.stderr.decode(errors="replace").strip() if ran.returncode == harness.NOT_FOR_THIS_MACHINE else ""
+
+
+def tests_below(suite, word, again):
+    """The tests of a suite whose full name holds the word; `again` where they ran over another program before, and
+    those that look at the repository more than at the program are left out."""
     for test in suite:
         if isinstance(test, unittest.TestSuite):
-            yield from tests_below(test, word)
-        elif word in test.id():
+            yield from tests_below(test, word, again)
+        elif word in test.id() and not (again and getattr(test, "of_the_repository", False)):
             yield test
 
 
@@ -32,31 +51,57 @@ def names_of(entries):
     return {getattr(test, "test_case", test).id() for test, _ in entries}
 
 
-def main():
-    reader = argparse.ArgumentParser(description="Tests the built program from the outside.")
-    reader.add_argument("program", help="the program digests")
-    reader.add_argument("--without-check", action="store_true", help="leave out what calls the checker")
-    reader.add_argument("--only", default="", metavar="WORD", help="run only the tests whose name holds WORD")
-    reader.add_argument("--verbose", action="store_true", help="name each test")
-    asked = reader.parse_args()
-    harness.PROGRAM = os.path.abspath(asked.program)
-    harness.WITHOUT_CHECK = asked.without_check
-    if not os.access(harness.PROGRAM, os.X_OK):
-        sys.exit(f"run.py: {asked.program} is no program")
-    os.environ["LC_ALL"] = "C"
+def run_over(program, asked, again):
+    """Runs the tests over a program: how many passed, failed and were skipped, or None where none was chosen."""
+    harness.PROGRAM = program
+    harness.gnu.cache_clear()
     started = time.monotonic()
     found = unittest.defaultTestLoader.discover(HERE, pattern="test_*.py")
-    chosen = unittest.TestSuite(tests_below(found, asked.only))
+    chosen = unittest.TestSuite(tests_below(found, asked.only, again))
+    if not chosen.countTestCases():
+        return None
     result = unittest.TextTestRunner(sys.stdout, verbosity=2 if asked.verbose else 1).run(chosen)
     # Parts of one test that fail, or are skipped, each have an entry; the test counts once.
     failed = names_of(result.failures + result.errors)
     skipped = names_of(result.skipped) - failed
     for why, count in collections.Counter(why for _, why in result.skipped).items():
         print(f"skipped {count}: {why}")
-    passed = result.testsRun - len(failed) - len(skipped)
-    seconds = time.monotonic() - started
-    print(f"{passed} end-to-end tests passed, {len(failed)} failed, {len(skipped)} skipped, in {seconds:.0f} s")
-    if failed or not passed:
+    counts = [result.testsRun - len(failed) - len(skipped), len(failed), len(skipped)]
+    print_counts(program, counts, time.monotonic() - started)
+    return counts
+
+
+def print_counts(what, counts, seconds):
+    passed, failed, skipped = counts
+    print(f"{what}: {passed} end-to-end tests passed, {failed} failed, {skipped} skipped, in {seconds:.0f} s", flush=True)
+
+
+def main():
+    reader = argparse.ArgumentParser(description="Tests the built program from the outside.")
+    reader.add_argument("program", nargs="*", help="the program digests; without it, this repository's own")
+    reader.add_argument("--without-check", action="store_true", help="leave out what calls the checker")
+    reader.add_argument("--only", default="", metavar="WORD", help="run only the tests whose name holds WORD")
+    reader.add_argument("--verbose", action="store_true", help="name each test")
+    asked = reader.parse_args()
+    harness.WITHOUT_CHECK = asked.without_check
+    programs = [os.path.abspath(program) for program in asked.program] or built_programs()
+    if not programs:
+        sys.exit("run.py: nothing is built: ./digests builds it")
+    os.environ["LC_ALL"] = "C"
+    started, counts = time.monotonic(), []
+    for program in programs:
+        why = why_not(program)
+        if why:
+            print(f"{program}: skipped: {why}", flush=True)
+            continue
+        counted = run_over(program, asked, again=bool(counts))
+        if counted is None and not counts:
+            sys.exit(f"run.py: no test's name holds '{asked.only}'")
+        counts += [counted] if counted else []
+    sums = [sum(them) for them in zip(*counts)] or [0, 0, 0]
+    if len(programs) > 1:
+        print_counts("in all", sums, time.monotonic() - started)
+    if sums[1] or not sums[0]:
         sys.exit(1)
 
 

@@ -1,5 +1,5 @@
-"""The scripts at the top of the repository: `install`, and `digests`, which builds the program and becomes it. They run
-in a copy of the repository that has the program under test, and a stand-in for the command that builds."""
+"""The scripts `digests` and `install`, in a copy of the repository: `./digests` is the program, and what is installed
+below a prefix can be taken away again."""
 
 import hashlib
 import os
@@ -8,50 +8,19 @@ import signal
 import subprocess
 
 import harness
-from harness import E, M, S, TOOLS, Case, Ran
+from harness import E, M, S, TOOLS, Ran
+from repository import DEFAULT, FAST, Repository
 
 NAMES = [*TOOLS, "anysum"]
-
-# What stands in for the command rt: notes how it was called and makes the program from a copy, or fails.
-RT = """#!/bin/sh
-echo "$PWD $*" >>"$RT_NOTES"
-[ -n "${RT_FAILS-}" ] && exit 1
-cp "$RT_PROGRAM" out/digests
-[ -z "${RT_EDITS-}" ] || { sleep 0.05; touch src/main.rt; }
-"""
-
-
-class Repository(Case):
-    """A copy of the repository's scripts in a folder with a space in its name."""
-
-    def setUp(self):
-        super().setUp()
-        self.top = os.path.join(self.folder, "the repository")
-        crate = os.path.join(self.top, "crates", "digests")
-        self.source = os.path.join(crate, "src", "main.rt")
-        self.program = os.path.join(crate, "out", "digests")
-        os.makedirs(os.path.dirname(self.source))
-        os.makedirs(os.path.dirname(self.program))
-        for name in ("digests", "install", "build.sh"):
-            shutil.copy(os.path.join(harness.TOP, name), self.top)
-        for path in (self.source, os.path.join(self.top, "crates.txt")):
-            self.write(path, "")
-            os.utime(path, (1, 1))
-        shutil.copy(harness.PROGRAM, self.program)
-        self.write("rt", RT)
-        os.chmod(self.path("rt"), 0o755)
-        self.notes = os.fsdecode(self.path("notes"))
-        self.write(self.notes, "")
-        path = self.folder + os.pathsep + os.environ["PATH"]
-        self.env = {**os.environ, "PATH": path, "RT_NOTES": self.notes, "RT_PROGRAM": harness.PROGRAM}
-
-    def script(self, name, *words, stdin=b"", **how):
-        """Runs a script of the repository in the test's folder."""
-        return self.run_command([os.path.join(self.top, name), *words], stdin, env=how.pop("env", self.env), **how)
 
 
 class Launcher(Repository):
     """`./digests` is the program."""
+
+    def setUp(self):
+        super().setUp()
+        self.build()
+        self.write(self.notes, "")
 
     def test_words_outputs_and_status(self):
         self.assertEqual(self.script("digests", "md5sum", "a", "e"), Ran(0, f"{M}  a\n{E}  e\n".encode(), b""))
@@ -106,97 +75,178 @@ class Launcher(Repository):
                 ran = self.run_command(words, env=self.env)
                 self.assertEqual(ran, expected)
 
-    def builds(self):
-        """How often the program was built so far."""
-        return self.read(self.notes).count(b"\n")
-
-    def test_builds_what_is_missing_or_stale(self):
-        fresh = Ran(0, f"{M}  a\n".encode(), b"")
-        built = fresh._replace(err=b"digests: proving and building the program; a first build takes some minutes\n")
-        crate = os.path.dirname(os.path.dirname(self.program))
-        os.remove(self.program)
-        self.assertEqual(self.script("digests", "md5sum", "a"), built)
-        self.assertEqual(self.read(self.notes).decode(), f"{crate} run -- sha256sum\n")
-        self.assertEqual(self.script("digests", "md5sum", "a"), fresh)
-        os.utime(self.source)
-        self.assertEqual(self.script("digests", "md5sum", "a"), built)
-        self.assertEqual(self.script("digests", "md5sum", "a"), fresh)
-        shutil.rmtree(os.path.dirname(self.program))
-        self.assertEqual(self.script("digests", "md5sum", "-", stdin=b"abc").out, f"{M}  -\n".encode())
-        self.assertEqual(self.builds(), 3)
-
-    def test_a_source_that_changes_while_it_builds_is_built_again(self):
-        os.remove(self.program)
-        self.assertEqual(self.script("digests", "md5sum", "a", env={**self.env, "RT_EDITS": "1"}).status, 0)
-        self.assertEqual(self.script("digests", "md5sum", "a").status, 0)
-        self.assertEqual(self.script("digests", "md5sum", "a").status, 0)
-        self.assertEqual(self.builds(), 2)
-
-    def test_a_build_that_fails(self):
-        os.utime(self.source)
-        ran = self.script("digests", "md5sum", "a", env={**self.env, "RT_FAILS": "1"})
-        self.assertEqual((ran.status, ran.out), (1, b""))
-        self.assertTrue(ran.err.endswith(b"digests: the build failed\n"), ran.err)
-        os.remove(self.path("rt"))
-        if shutil.which("rt", path=self.env["PATH"]) is None:
-            ran = self.script("digests", "md5sum", "a")
-            self.assertEqual((ran.status, ran.out), (1, b""))
-
 
 class Install(Repository):
     """`./install PREFIX` and `./install --remove PREFIX`."""
 
     def setUp(self):
         super().setUp()
+        self.write_fake_program()
+        self.build()
         self.prefix = os.path.join(self.folder, "a prefix")
         self.bin = os.path.join(self.prefix, "bin")
+        self.not_on_path = f"install: {self.bin} is not on the PATH, where the tools' names are looked for\n"
 
-    def installs(self, *words, status=0):
+    def installs(self, *words, status=0, **how):
         """Runs `install` and returns what it says on standard error."""
-        ran = self.script("install", *(words or [self.prefix]))
-        self.assertEqual((ran.status, ran.out), (status, b""), ran.err)
+        ran = self.script("install", *(words or [self.prefix]), **how)
+        self.assertEqual(ran.status, status, ran.err)
+        self.told = ran.out.decode()
         return ran.err.decode()
 
+    def removes(self, prefix=None, **how):
+        """Takes away what was installed, and returns what is said."""
+        said = self.installs("--remove", prefix or self.prefix, **how)
+        self.assertEqual(self.told, "")
+        return said
+
     def tree(self):
-        """What stands below the prefix: names, and contents or what a link says."""
+        """What stands below the prefix: names, and contents or what a link says; nothing for a folder."""
         found = {}
-        for folder, _, names in os.walk(self.prefix):
-            for name in names:
+        for folder, folders, names in os.walk(self.prefix):
+            for name in folders + names:
                 path = os.path.join(folder, name)
-                content = os.readlink(path) if os.path.islink(path) else self.read(path)
+                if os.path.islink(path):
+                    content = os.readlink(path)
+                else:
+                    content = None if os.path.isdir(path) else self.read(path)
                 found[os.path.relpath(path, self.prefix)] = content
         return found
 
     def test_installed_tools_run(self):
-        self.assertEqual(self.installs(), "")
+        self.assertEqual(self.installs(), self.not_on_path)
         shutil.rmtree(self.top)  # what is installed needs the repository no more
+        for tool, (_, of_nothing, of_abc) in TOOLS.items():
+            ran = self.run_command([os.path.join(self.bin, "digests"), tool, "a", "e"])
+            self.assertEqual(ran, Ran(0, f"{of_abc}  a\n{of_nothing}  e\n".encode(), b""))
+        self.assertEqual(sorted(os.listdir(self.bin)), sorted([*NAMES, "digests"]))
+        self.assertEqual(os.stat(os.path.join(self.bin, "digests")).st_mode & 0o777, 0o755)
+
+    def test_links_are_the_tools(self):
+        self.installs("--cpu", DEFAULT, self.prefix)
         for tool, (_, of_nothing, of_abc) in TOOLS.items():
             ran = self.run_command([os.path.join(self.bin, tool), "a", "e"])
             self.assertEqual(ran, Ran(0, f"{of_abc}  a\n{of_nothing}  e\n".encode(), b""))
         ran = self.run_command([os.path.join(self.bin, "anysum")])
         self.assertEqual(ran.err, b"anysum: --check is required\nTry 'anysum --help' for more information.\n")
-        ran = self.run_command([os.path.join(self.bin, "digests"), "md5sum", "a"])
-        self.assertEqual(ran, Ran(0, f"{M}  a\n".encode(), b""))
-        self.assertEqual(sorted(os.listdir(self.bin)), sorted([*NAMES, "digests"]))
-        self.assertEqual(os.stat(os.path.join(self.bin, "digests")).st_mode & 0o777, 0o755)
+
+    def test_what_is_said(self):
+        self.put("man/b2sum.1", "")
+        self.put("man/md5sum.1", "")
+        self.put("completions/_digests", "")
+        self.installs()
+        version = self.run_command(["sh", "-c", '. "$1" && echo "$version"', "sh", self.in_top("build.sh")])
+        self.assertEqual(self.told.splitlines(), [
+            f"{self.bin}/digests: the program, version {version.out.decode().strip()}, for the level {FAST}",
+            f"{self.bin}: links to it for {' '.join(NAMES)}",
+            f"{self.prefix}/share/man/man1: 2 manual pages",
+            f"{self.prefix}/share/zsh/site-functions: 1 completions",
+            f"{self.prefix}/share/digests/installed: what was installed, for install --remove",
+        ])
+
+    def test_levels(self):
+        """The faster program where it runs here, else the default's; or the one that is asked for."""
+        hidden = {"GLIBC_TUNABLES": "glibc.cpu.hwcaps=-AVX2"}
+        installed = os.path.join(self.bin, "digests")
+        does_not_run = f"install: this machine doesn't run a program for the level {FAST}\n"
+        for words, how, level, more in (([], {}, FAST, ""), ([], hidden, DEFAULT, ""),
+                                        (["--cpu", DEFAULT], {}, DEFAULT, ""), ([f"--cpu={FAST}"], {}, FAST, ""),
+                                        (["--cpu", FAST], hidden, FAST, does_not_run)):
+            with self.subTest(words=words, how=how):
+                self.assertEqual(self.installs(*words, self.prefix, **how), more + self.not_on_path)
+                self.assertEqual(self.read(installed), self.read(self.in_top(f"out/{level}/digests")))
+                self.assertIn(f"for the level {level}\n", self.told)
+        self.removes()
+        self.assertFalse(os.path.exists(self.prefix))
+
+    def test_on_the_path(self):
+        path = f"{self.env['PATH']}:{self.bin}"
+        said = self.installs(PATH=path)
+        if harness.gnu("b2sum"):
+            self.assertTrue(said.startswith("install: others of these names come first on the PATH: "), said)
+            self.assertIn(f" {shutil.which('b2sum', path=path)}", said)
+            self.assertEqual(said.count("\n"), 1)
+        os.symlink(self.prefix, self.path("same"))
+        for first in (self.bin, f"nowhere:{self.folder}/same/bin/", f"{self.bin}//"):
+            self.assertEqual(self.installs(PATH=f"{first}:{self.env['PATH']}"), "", first)
+        self.assertEqual(self.installs(PATH=f":{self.env['PATH']}", cwd=self.bin), "")
 
     def test_again_and_away(self):
         self.installs()
         before = self.tree()
-        self.assertEqual(self.installs(), "")
+        self.assertEqual(self.installs(), self.not_on_path)
         self.assertEqual(self.tree(), before)
-        self.assertEqual(self.installs("--remove", self.prefix), "")
-        self.assertEqual(self.tree(), {})
+        self.assertEqual(self.removes(), "")
+        self.assertFalse(os.path.exists(self.prefix))
         self.assertIn("nothing is installed", self.installs("--remove", self.prefix, status=1))
 
     def test_a_newer_program_takes_the_place_of_an_older_one(self):
         self.installs()
-        with open(self.program, "ab") as file:
-            file.write(b"\n")
+        self.write(self.source, "another version")
+        self.env["RT_FAST"] = harness.PROGRAM
         self.installs()
-        self.assertEqual(self.read(os.path.join(self.bin, "digests")), self.read(self.program))
-        self.installs("--remove", self.prefix)
-        self.assertEqual(self.tree(), {})
+        self.assertEqual(self.read(os.path.join(self.bin, "digests")), self.read(self.fast_program))
+        self.removes()
+        self.assertFalse(os.path.exists(self.prefix))
+
+    def test_folders_that_were_there_stay(self):
+        for there in ("bin", "share/man", "share/digests", ""):
+            with self.subTest(there=there):
+                os.makedirs(os.path.join(self.prefix, there))
+                before = self.tree()
+                self.put("man/b2sum.1", "")
+                self.installs()
+                self.installs()
+                self.removes()
+                before.pop("share/digests", None)  # it is this program's own
+                self.assertEqual(self.tree(), before)
+                shutil.rmtree(self.prefix)
+
+    def test_folders_that_others_use_stay(self):
+        deep = os.path.join(self.folder, "one", "two", "three")
+        self.installs(deep)
+        self.write(os.path.join(deep, "share", "theirs"), "")
+        self.write("one/theirs", "")
+        self.assertEqual(self.removes(deep), "")
+        self.assertEqual(os.listdir(deep), ["share"])
+        self.assertEqual(os.listdir(os.path.join(deep, "share")), ["theirs"])
+        shutil.rmtree(self.path("one/two"))
+        self.installs(deep)
+        self.removes(deep)
+        self.assertEqual(os.listdir(self.path("one")), [b"theirs"])
+
+    def test_pages_and_completions(self):
+        for name in ("man/b2sum.1", "man/digests.1", "man/README", "completions/digests.bash", "completions/_digests",
+                     "completions/digests.fish", "completions/md5sum.bash"):
+            self.put(name, f"text of {name}")
+        self.installs()
+        found = {name: text for name, text in self.tree().items() if text is not None and not name.startswith("bin/")}
+        del found["share/digests/installed"]
+        bash, fish = "share/bash-completion/completions/", "share/fish/vendor_completions.d/"
+        wanted = {"share/man/man1/b2sum.1": "man/b2sum.1", "share/man/man1/digests.1": "man/digests.1",
+                  "share/zsh/site-functions/_digests": "completions/_digests"}
+        for tool in ["digests", *NAMES]:
+            wanted[bash + tool] = "completions/digests.bash"
+            wanted[f"{fish}{tool}.fish"] = "completions/digests.fish"
+        wanted[bash + "md5sum"] = "completions/md5sum.bash"
+        self.assertEqual(found, {to: f"text of {name}".encode() for to, name in wanted.items()})
+        self.put("man/b2sum.1", "newer")
+        os.remove(self.in_top("man/digests.1"))
+        self.installs()
+        self.assertEqual(self.tree()["share/man/man1/b2sum.1"], b"newer")
+        self.assertNotIn("share/man/man1/digests.1", self.tree())
+        self.write(os.path.join(self.prefix, bash, "b2sum"), "theirs")
+        self.assertEqual(self.removes(), f"install: {self.prefix}/{bash}b2sum is not of this program's making and stays\n")
+        self.assertEqual([name for name, text in self.tree().items() if text is not None], [bash + "b2sum"])
+
+    def test_foreign_pages_are_not_overwritten(self):
+        self.put("man/b2sum.1", "ours")
+        page = os.path.join(self.prefix, "share/man/man1/b2sum.1")
+        os.makedirs(os.path.dirname(page))
+        self.write(page, "theirs")
+        self.assertIn(page, self.installs(status=1))
+        self.assertEqual(self.read(page), b"theirs")
+        self.assertFalse(os.path.exists(self.bin))
 
     def test_foreign_files_are_not_overwritten(self):
         for name, make in (("md5sum", lambda path: self.write(path, "theirs")),
@@ -209,8 +259,10 @@ class Install(Repository):
                 os.makedirs(self.bin)
                 make(os.path.join(self.bin, name))
                 before = self.tree()
-                self.assertIn(os.path.join(self.bin, name), self.installs(status=1))
-                self.assertEqual((self.tree(), os.listdir(self.bin)), (before, [name]))
+                said = self.installs(status=1)
+                self.assertIn(f"\n{os.path.join(self.bin, name)}\n", said)
+                self.assertIn("install: move them away, or give another PREFIX", said)
+                self.assertEqual((self.tree(), os.listdir(self.bin), self.told), (before, [name], ""))
 
     def test_foreign_files_are_not_taken_away(self):
         self.installs()
@@ -220,9 +272,9 @@ class Install(Repository):
         self.write(os.path.join(self.bin, "digests"), "theirs")
         os.symlink("elsewhere", os.path.join(self.bin, "b2sum"))
         self.write(os.path.join(self.bin, "other"), "theirs")
-        said = self.installs("--remove", self.prefix)
+        said = self.removes()
         theirs = {f"bin/{name}": b"theirs" for name in ("md5sum", "digests", "other")}
-        self.assertEqual(self.tree(), {**theirs, "bin/b2sum": "elsewhere"})
+        self.assertEqual(self.tree(), {"bin": None, **theirs, "bin/b2sum": "elsewhere"})
         self.assertEqual(said.count("stays"), 3)
 
     def test_what_was_not_installed_is_not_taken_away(self):
@@ -234,21 +286,48 @@ class Install(Repository):
         self.installs("--remove", self.prefix, status=1)
         self.assertEqual(self.tree(), before)
 
+    def test_what_an_older_version_installed_is_taken_away(self):
+        """Its note names the program and the links alone."""
+        self.installs()
+        note = os.path.join(self.prefix, "share/digests/installed")
+        lines = [line for line in self.read(note).splitlines(True) if line.startswith((b"program ", b"link "))]
+        self.write(note, b"".join(lines))
+        self.removes()
+        self.assertEqual(self.tree(), {"bin": None, "share": None})
+
     def test_prefixes(self):
         os.mkdir(self.path("inner"))
         how = {"cwd": self.path("inner"), "env": self.env}
         script = "../the repository/install"
-        self.assertEqual(self.run_command([script, "here/and\nthere"], **how), Ran(0, b"", b""))
+        self.assertEqual(self.run_command([script, "--cpu", DEFAULT, "here/and\nthere"], **how).status, 0)
         installed = self.path("inner/here/and\nthere/bin")
         self.assertEqual(self.run_command([installed + b"/md5sum", "a"]).out, f"{M}  a\n".encode())
         self.assertEqual(self.run_command([script, "--remove", "here/and\nthere/"], **how), Ran(0, b"", b""))
-        self.assertEqual(os.listdir(installed), [])
+        self.assertEqual(os.listdir(self.path("inner")), [])
+
+    def test_a_stage(self):
+        """With DESTDIR all goes below that folder, and the note doesn't name it."""
+        stage = os.path.join(self.folder, "a stage")
+        self.assertEqual(self.installs("/usr", DESTDIR=stage), "")
+        self.assertIn(f"{stage}/usr/bin/digests: ", self.told)
+        self.assertNotIn(b"stage", self.read(os.path.join(stage, "usr/share/digests/installed")))
+        self.assertTrue(os.path.islink(os.path.join(stage, "usr/bin/b2sum")))
+        self.assertEqual(self.removes("/usr", DESTDIR=stage), "")
+        self.assertFalse(os.path.exists(stage))
+        self.assertIn("begins with a slash", self.installs("usr", status=2, DESTDIR=stage))
 
     def test_usage(self):
-        for words in ([], [""], ["--remove"], ["a", "b"], ["--other"], ["-x"], ["--remove", ""]):
-            ran = self.script("install", *words)
-            self.assertEqual((ran.status, ran.out), (2, b""))
-            self.assertTrue(ran.err.startswith(b"usage: "), ran.err)
+        for words in ([], [""], ["--remove"], ["a", "b"], ["--other"], ["-x"], ["--remove", ""], ["--cpu"],
+                      ["--cpu", DEFAULT], ["--cpu", "other", "a"], ["--cpu", "", "a"], ["--cpu=", "a"],
+                      ["--cpu", f"{DEFAULT} {FAST}", "a"], ["--remove", "--cpu", DEFAULT, "a"]):
+            with self.subTest(words=words):
+                ran = self.script("install", *words)
+                self.assertEqual((ran.status, ran.out), (2, b""))
+                self.assertRegex(ran.err, rb"^install: .*\nusage: install ")
+        ran = self.script("install", "--help")
+        self.assertEqual((ran.status, ran.err), (0, b""))
+        self.assertTrue(ran.out.startswith(b"usage: install "))
+        self.assertEqual(os.listdir(self.folder).count("a"), 1)
 
     def test_a_prefix_that_cannot_be_written(self):
         self.write("file", "")
@@ -257,10 +336,9 @@ class Install(Repository):
         self.assertEqual(self.read("file"), b"")
 
     def test_builds_first(self):
-        os.remove(self.program)
+        shutil.rmtree(self.in_top("out"))
         self.assertIn("proving and building", self.installs())
-        self.assertEqual(self.run_command([os.path.join(self.bin, "md5sum"), "a"]).out, f"{M}  a\n".encode())
-        os.utime(self.source)
-        ran = self.script("install", os.path.join(self.folder, "second"), env={**self.env, "RT_FAILS": "1"})
-        self.assertEqual(ran.status, 1)
+        self.assertEqual(self.run_command([os.path.join(self.bin, "digests"), "md5sum", "a"]).out, f"{M}  a\n".encode())
+        self.write(self.source, "another version")
+        self.installs(os.path.join(self.folder, "second"), status=1, RT_FAILS="run digests")
         self.assertFalse(os.path.exists(self.path("second")))
