@@ -36,27 +36,29 @@ def built_program():
 
 
 def built_bare():
-    """The bare loops, proved and built in a small repository of their own; None where that can't be."""
+    """The bare loops, proved and built in a small repository of their own; None where that can't be. That is taken away
+    again: the gate reads no crate and no `.rt` file beside this repository's own."""
     source = os.path.join(HERE, "bare", "main.rt.txt")  # a file named *.rt stands only in a crate
-    repository = os.path.join(HERE, "out")
-    crate = os.path.join(repository, "crates", "bare")
-    program = os.path.join(crate, "out", "bare")
-    copy = os.path.join(crate, "src", "main.rt")
-    if os.path.exists(program) and os.path.getmtime(program) > os.path.getmtime(source):
+    program = os.path.join(HERE, "out", "bare")
+    if os.path.isfile(program) and os.path.getmtime(program) > os.path.getmtime(source):
         return program
     if shutil.which("rt") is None:
         return None
     print("run.py: building the bare loops; this takes about a minute", file=sys.stderr)
-    os.makedirs(os.path.dirname(copy), exist_ok=True)
-    shutil.copy(source, copy)
-    with open(os.path.join(repository, "crates.txt"), "w") as crates:
-        crates.write("bare: md5 sha1 sha2\n")
-    words = ["rt", "run", "--", "sha256sum"]
-    ran = subprocess.run(words, cwd=crate, stdin=subprocess.DEVNULL, stdout=subprocess.PIPE, stderr=subprocess.STDOUT)
-    if ran.returncode:
-        sys.stderr.buffer.write(ran.stdout)
-        return None
-    os.utime(program)
+    shutil.rmtree(os.path.dirname(program), ignore_errors=True)
+    os.makedirs(os.path.dirname(program))
+    with tempfile.TemporaryDirectory(prefix="digests-bare-") as repository:
+        crate = os.path.join(repository, "crates", "bare")
+        os.makedirs(os.path.join(crate, "src"))
+        shutil.copy(source, os.path.join(crate, "src", "main.rt"))
+        with open(os.path.join(repository, "crates.txt"), "w") as crates:
+            crates.write("bare: md5 sha1 sha2\n")
+        how = {"stdin": subprocess.DEVNULL, "stdout": subprocess.PIPE, "stderr": subprocess.STDOUT}
+        ran = subprocess.run(["rt", "run", "--", "sha256sum"], cwd=crate, **how)
+        if ran.returncode:
+            sys.stderr.buffer.write(ran.stdout)
+            return None
+        shutil.copy(os.path.join(crate, "out", "bare"), program)
     return program
 
 

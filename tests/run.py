@@ -33,7 +33,9 @@ def why_not(program):
     if not os.path.isfile(program) or not os.access(program, os.X_OK):
         sys.exit(f"run.py: {program} is no program")
     ran = subprocess.run([program, "md5sum", "--version"], stdout=subprocess.PIPE, stderr=subprocess.PIPE)
-    return ran.stderr.decode(errors="replace").strip() if ran.returncode == harness.NOT_FOR_THIS_MACHINE else ""
+    if ran.returncode != harness.NOT_FOR_THIS_MACHINE:
+        return ""
+    return ran.stderr.decode(errors="replace").strip() or "it doesn't run on this machine"
 
 
 def tests_below(suite, word, again):

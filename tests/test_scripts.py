@@ -1,0 +1,220 @@
+"""The repository's own scripts: their words, the shell that they name, the version that they tell."""
+
+import os
+import re
+import shutil
+import subprocess
+import sys
+
+import harness
+from harness import TOP, Case, Ran
+from repository import DEFAULT, FAST, Repository
+
+
+def files_of_git():
+    """The files of the repository, as git knows them, or None where it can't say."""
+    try:
+        ran = subprocess.run(["git", "-C", TOP, "ls-files", "-co", "--exclude-standard", "-z"], capture_output=True)
+    except OSError:
+        return None
+    return [name for name in ran.stdout.decode().split("\0") if name] if ran.returncode == 0 else None
+
+
+def shell_scripts():
+    """The names of the shell scripts: those that name a shell in the first line."""
+    names = ["digests", "install", "test", "build.sh", ".ci/run"]
+    return names + [f"tools/{name}" for name in sorted(os.listdir(os.path.join(TOP, "tools"))) if "." not in name]
+
+
+class Layout(Case):
+    """What the scripts look like."""
+
+    of_the_repository = True
+
+    def text(self, name):
+        return self.read(os.path.join(TOP, name)).decode()
+
+    def test_each_says_its_shell(self):
+        for name in shell_scripts():
+            first = self.text(name).splitlines()[0]
+            starts = "# shellcheck shell=sh " if name == "build.sh" else "#!/bin/sh"
+            self.assertTrue(first.startswith(starts), (name, first))
+            if name != "build.sh":
+                self.assertTrue(os.access(os.path.join(TOP, name), os.X_OK), name)
+
+    def test_every_shell_script_is_known(self):
+        names = files_of_git()
+        if names is None:
+            self.skipTest("this folder is no clone of git")
+        found = [name for name in names
+                 if os.path.isfile(os.path.join(TOP, name)) and not name.endswith((".md", ".py", ".bash", ".fish"))
+                 and re.match(rb"#!.*sh\b|# shellcheck shell", self.read(os.path.join(TOP, name)))]
+        self.assertEqual(sorted(found), sorted(shell_scripts()))
+
+    def test_shellcheck(self):
+        if shutil.which("shellcheck") is None:
+            self.skipTest("shellcheck isn't installed")
+        ran = self.run_command(["shellcheck", "-x", *shell_scripts()], cwd=TOP)
+        self.assertEqual((ran.status, ran.out.decode()), (0, ""))
+
+    def test_other_shells(self):
+        """The scripts are as good for every shell that there is."""
+        for shell in ("dash", "bash", "busybox"):
+            if shutil.which(shell):
+                words = [shell, "sh", "-n"] if shell == "busybox" else [shell, "-n"]
+                for name in shell_scripts():
+                    self.assertEqual(self.run_command([*words, os.path.join(TOP, name)]), Ran(0, b"", b""))
+
+    def test_ignored(self):
+        lines = self.text(".gitignore").splitlines()
+        self.assertEqual(sorted(lines), ["__pycache__/", "out/"])
+
+    def test_version(self):
+        """The scripts, README and CHANGELOG name the same one."""
+        version = re.search(r"(?m)^version=(\d+\.\d+\.\d+)$", self.text("build.sh"))[1]
+        newest = re.search(r"(?m)^## (\S+?),? ", self.text("CHANGELOG.md"))[1]
+        told = re.search(r"(?m)^Version: (\S+?)[,.] ", self.text("README.md"))[1]
+        self.assertEqual((newest, told), (version, version))
+
+    def test_sums(self):
+        """Where the newest version has sums, they are those of what is built, and README's way to check them works."""
+        _, _, newest, *_ = re.split(r"(?m)^(## .*)$", self.text("CHANGELOG.md"))
+        if "\n## " in newest or "  out/" not in newest:
+            self.skipTest("the newest version has no sums yet")
+        kit, built = re.search(r"Built with `(.*)`", newest)[1], os.path.join(TOP, "out", "kit")
+        if not os.path.exists(built) or self.read(built).decode().strip() != kit:
+            self.skipTest("what is built was built by another kit, or not at all")
+        command = re.search(r"(?m)^    (grep .* CHANGELOG\.md .*)$", self.text("README.md"))[1]
+        ran = self.run_command(["sh", "-c", command], cwd=TOP)
+        self.assertEqual(ran, Ran(0, f"out/{DEFAULT}/digests: OK\nout/{FAST}/digests: OK\n".encode(), b""))
+
+
+class Sums(Repository):
+    """`tools/sums`."""
+
+    def setUp(self):
+        super().setUp()
+        self.build()
+        self.lines = "".join(f"    {self.sum_of(level)}  out/{level}/digests\n" for level in (DEFAULT, FAST))
+        self.block = f"Built with `a kit`:\n\n{self.lines}"
+
+    def sum_of(self, level):
+        ran = self.run_command([harness.PROGRAM, "sha256sum", self.in_top(f"out/{level}/digests")])
+        return ran.out.split()[0].decode()
+
+    def test_printed(self):
+        self.assertEqual(self.script("tools/sums"), Ran(0, self.block.encode(), b""))
+
+    def test_written(self):
+        """Into the newest version's part alone, and a second time to the same."""
+        old = "## 1.0.0\n\nOld.\n\nBuilt with `old`:\n\n    00  out/default/digests\n"
+        for before in ("No sums yet: some words.\n", "Built with `b`:\n\n    1234  out/default/digests\n"):
+            self.put("CHANGELOG.md", f"# Changes\n\n## 2.0.0\n\n- New.\n\n{before}\n{old}")
+            for _ in range(2):
+                self.assertEqual(self.script("tools/sums", "--write"), Ran(0, b"", b""))
+                written = self.read(self.in_top("CHANGELOG.md")).decode()
+                self.assertEqual(written, f"# Changes\n\n## 2.0.0\n\n- New.\n\n{self.block}\n{old}")
+
+    def test_checked_with_the_tool(self):
+        command = "grep -m 2 '  out/' CHANGELOG.md | ./digests sha256sum -c"
+        self.put("CHANGELOG.md", f"# Changes\n\n## 2.0.0\n\n{self.block}")
+        ran = self.run_command(["sh", "-c", command], cwd=self.top, env=self.env)
+        self.assertEqual(ran.status, 0)
+        self.write(self.program, self.read(self.program) + b"x")
+        ran = self.run_command(["sh", "-c", command], cwd=self.top, env=self.env)
+        self.assertEqual((ran.status, ran.out), (1, b"out/default/digests: FAILED\nout/x86-64-v3/digests: OK\n"))
+
+    def test_other_words(self):
+        ran = self.script("tools/sums", "--other")
+        self.assertEqual((ran.status, ran.out), (2, b""))
+
+
+class Words(Repository):
+    """The words of `./test`, and what it needs."""
+
+    def test_help(self):
+        ran = self.script("test", "--help")
+        self.assertEqual((ran.status, ran.err), (0, b""))
+        self.assertTrue(ran.out.startswith(b"usage: test "))
+        self.assertIn(b"minutes", ran.out)
+
+    def test_other_words(self):
+        for words in (["quickly"], ["-h"], [""], ["--help "], ["--", "--help"]):
+            ran = self.script("test", *words)
+            self.assertEqual((ran.status, ran.out), (2, b""))
+            self.assertIn(f"'{words[0]}' is not known".encode(), ran.err)
+        self.assertEqual(self.calls(), [])
+
+    def test_what_is_done(self):
+        """It says what it will do before it builds, and its last line is the gate's."""
+        self.put("tests/run.py", "print('the tests', flush=True)\n")
+        self.write("commands/rt", self.read("commands/rt").replace(b"[ \"$1\" = version ]", b"""[ "$1" = ci ] && {
+    echo "$PWD ci" >>"$RT_NOTES"
+    [ -e out/place ] && echo "a place is left"
+    echo "5 passed, ${RT_FAILED-0} failed"
+    exit "${RT_FAILED-0}"
+}
+[ "$1" = version ]"""))
+        ran = self.script("test")
+        first, second, third = ran.out.decode().splitlines()
+        self.assertRegex(first, "^test: .* minutes ")
+        self.assertEqual((ran.status, second, third), (0, "the tests", "5 passed, 0 failed"))
+        self.assertEqual(self.calls()[-1], f"{os.path.realpath(self.top)} ci")
+        self.put("out/place/crates/low/src/lib.rt", "left behind")
+        ran = self.script("test", RT_FAILED="1")
+        self.assertEqual((ran.status, ran.out.splitlines()[-2:]), (1, [b"the tests", b"5 passed, 1 failed"]))
+        self.put("tests/run.py", "raise SystemExit(1)\n")
+        self.assertNotEqual(self.script("test").status, 0)
+
+    def test_what_it_needs(self):
+        """Python first, then the kit: what is missing is told before anything is done."""
+        few = os.fsdecode(self.path("few"))
+        os.mkdir(few)
+        for name in ("sh", "dirname", "readlink"):
+            os.symlink(shutil.which(name), os.path.join(few, name))
+        ran = self.script("test", PATH=few)
+        self.assertEqual(ran, Ran(2, b"", b"test: Python 3.9 or newer is needed\n"))
+        os.symlink(sys.executable, os.path.join(few, "python3"))
+        ran = self.script("test", PATH=few)
+        self.assertEqual(ran, Ran(2, b"", b"test: the command rt of the Rattle kit is not on the PATH\n"))
+
+
+class Runner(Repository):
+    """The words of `tests/run.py`."""
+
+    def setUp(self):
+        super().setUp()
+        shutil.copytree(os.path.join(TOP, "tests"), self.in_top("tests"), ignore=shutil.ignore_patterns("__pycache__"))
+        shutil.copy(os.path.join(TOP, ".gitignore"), self.top)
+
+    def runner(self, *words):
+        return self.run_command([sys.executable, self.in_top("tests/run.py"), *words], env=self.env)
+
+    def test_nothing_chosen(self):
+        ran = self.runner("--only", "no such test", harness.PROGRAM)
+        self.assertEqual((ran.status, ran.out), (1, b""))
+        self.assertEqual(ran.err, b"run.py: no test's name holds 'no such test'\n")
+
+    def test_nothing_built(self):
+        self.assertEqual(self.runner(), Ran(1, b"", b"run.py: nothing is built: ./digests builds it\n"))
+        self.assertEqual(self.runner("nothing").status, 1)
+        self.assertEqual(self.runner(os.fsdecode(self.path("a"))).status, 1)
+
+    def test_both_programs_are_found(self):
+        self.build()
+        ran = self.runner("--only", "test_words.ToolNames.test_unknown_tool")
+        lines = ran.out.decode().splitlines()
+        for level in (DEFAULT, FAST):
+            wanted = f"{self.top}/out/{level}/digests: 1 end-to-end tests passed, 0 failed, 0 skipped, in "
+            self.assertTrue(any(line.startswith(wanted) for line in lines), lines)
+        self.assertRegex(lines[-1], r"^in all: 2 end-to-end tests passed, 0 failed, 0 skipped, in \d+ s$")
+        ran = self.runner("--only", "test_scripts.Layout.test_ignored")  # looks at the repository, so once is enough
+        self.assertRegex(ran.out.decode(), r"(?m)^in all: 1 end-to-end tests passed, 0 failed")
+
+    def test_a_program_that_does_not_run_here(self):
+        self.write_fake_program()
+        self.build()
+        self.env["GLIBC_TUNABLES"] = "glibc.cpu.hwcaps=-AVX2"
+        ran = self.runner("--only", "test_words.ToolNames.test_unknown_tool")
+        self.assertIn(f"out/{FAST}/digests: skipped: it doesn't run on this machine\n", ran.out.decode())
+        self.assertEqual(ran.status, 0)
