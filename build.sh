@@ -42,9 +42,15 @@ find_level() {
     name_machine
     level=default
     if runs_here "$fast"; then level=$fast; fi
-    if printf '%s\n' "$machine" "$level" 2>/dev/null >"$top/out/best.$$"; then
-        mv -f -- "$top/out/best.$$" "$top/out/best"
-    fi
+    {
+        printf '%s\n' "$machine" "$level" >"$top/out/best.$$" && mv -f -- "$top/out/best.$$" "$top/out/best"
+    } 2>/dev/null
+}
+
+all_are_current() {
+    for level in $levels; do
+        is_current "$level" || return 1
+    done
 }
 
 # Builds what is stale, and sets `level` to the one that is wanted or, for none, to the best that runs on this machine;
@@ -54,7 +60,7 @@ build_program() {
         level=$1
         is_current "$level" || "$top/tools/build" || return 1
     elif ! { recall_level && is_current "$level"; }; then
-        "$top/tools/build" || return 1
+        all_are_current || "$top/tools/build" || return 1
         find_level
     fi
     program=$top/out/$level/digests

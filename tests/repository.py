@@ -1,5 +1,5 @@
-"""A small copy of the repository, its scripts in a folder with a space in its name, for tests of building and installing.
-A script stands in for the command `rt`, so that nothing is proved."""
+"""A small copy of the repository, its scripts in a folder with a space in its name, for tests of building and
+installing. A script stands in for the command `rt`, so that nothing is proved."""
 
 import os
 import shutil
@@ -104,6 +104,7 @@ class Repository(Case):
         AVX2 is hidden."""
         self.starts = os.path.join(self.folder, "starts")
         self.write(self.starts, "")
+        os.chmod(self.starts, 0o666)
         self.write("fake", f"""#!/bin/sh
 echo >>'{self.starts}'
 case ${{GLIBC_TUNABLES-}} in *-AVX2*) exit 127 ;; esac

@@ -8,6 +8,7 @@ failed."""
 import argparse
 import collections
 import os
+import signal
 import subprocess
 import sys
 import time
@@ -75,7 +76,8 @@ def run_over(program, asked, again):
 
 def print_counts(what, counts, seconds):
     passed, failed, skipped = counts
-    print(f"{what}: {passed} end-to-end tests passed, {failed} failed, {skipped} skipped, in {seconds:.0f} s", flush=True)
+    told = f"{passed} end-to-end tests passed, {failed} failed, {skipped} skipped, in {seconds:.0f} s"
+    print(f"{what}: {told}", flush=True)
 
 
 def main():
@@ -90,6 +92,8 @@ def main():
     if not programs:
         sys.exit("run.py: nothing is built: ./digests builds it")
     os.environ["LC_ALL"] = "C"
+    # Where a shell starts this in the background, the signal is ignored, and so it would be in what the tests start.
+    signal.signal(signal.SIGINT, signal.default_int_handler)
     started, counts = time.monotonic(), []
     for program in programs:
         why = why_not(program)

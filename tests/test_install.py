@@ -236,7 +236,8 @@ class Install(Repository):
         self.assertEqual(self.tree()["share/man/man1/b2sum.1"], b"newer")
         self.assertNotIn("share/man/man1/digests.1", self.tree())
         self.write(os.path.join(self.prefix, bash, "b2sum"), "theirs")
-        self.assertEqual(self.removes(), f"install: {self.prefix}/{bash}b2sum is not of this program's making and stays\n")
+        stays = f"install: {self.prefix}/{bash}b2sum is not of this program's making and stays\n"
+        self.assertEqual(self.removes(), stays)
         self.assertEqual([name for name, text in self.tree().items() if text is not None], [bash + "b2sum"])
 
     def test_foreign_pages_are_not_overwritten(self):
