@@ -11,10 +11,11 @@ levels="default $fast"
 # Whether a level's program is there and nothing that it was made from has changed since. The list holds every source
 # and, for what comes and goes, every folder of sources; it is as old as the build's begin. What counts is the time that
 # the system notes for each change, which copying and unpacking can't set back.
+# shellcheck disable=SC2185  # the list names what is looked at
 is_current() {
     [ -x "$top/out/$1/digests" ] &&
-        changed=$(CDPATH='' cd -- "$top" && exec 2>&1 find -files0-from "out/$1/sources" -maxdepth 0 \
-            -cnewer "out/$1/sources" -print -quit) &&
+        changed=$(CDPATH='' cd -- "$top" && LC_ALL=C find -files0-from "out/$1/sources" -maxdepth 0 \
+            -cnewer "out/$1/sources" -print -quit 2>&1) &&
         [ -z "$changed" ]
 }
 
