@@ -2,8 +2,7 @@
 ghost use Rattle.std.specs.Prelude.{◌≡◌, None, Some, IfOk};
 ghost use Rattle.std.specs.Io.KnownBytes.{append_known};
 ghost use Rattle.sum_engine.specs.Scenes.{scene, Kept};
-ghost use Rattle.digests.specs.declared.command_line.CommandLine.TheVariants.{Asks};
-ghost use Rattle.digests.specs.Program.{ProgramGives, EndsGives, Failed};
+ghost use Rattle.digests.specs.Program.{ProgramGives, EndsGives, Failed, call};
 
 use crate::arguments::Arguments;
 use crate::command_line::{CommandLine, NotRead, read_command_line};
@@ -13,7 +12,7 @@ use crate::reading::{Request, read_words};
 use crate::run::{answer, told};
 use crate::tool::Tool;
 use crate::words::Words;
-use std::alloc::Global;
+use std::alloc::Allocator;
 use sum_engine::Settings;
 use sum_lines::{Finish, Sink, Style, WholeLines, put_all};
 use sum_sources::{Input, Source, Stdin};
@@ -25,8 +24,8 @@ use sum_sources::{Input, Source, Stdin};
 /// `digests: words not read` on standard error and status 1 where a word isn't UTF-8, or memory for the words was
 /// refused; `digests: unknown tool` and status 1 where there is no such tool. After a stop, `TOOL: memory exhausted` or
 /// `TOOL: write error` where that can be written, and status 1.
-pub fn command<G: Arguments, I: Input + Drop, S: Source, O: Finish, E: Sink>(
-    alloc: Global,
+pub fn command<A: Allocator + Copy, G: Arguments, I: Input + Drop, S: Source, O: Finish, E: Sink>(
+    alloc: A,
     arguments: &G,
     stdin: &mut Stdin<I>,
     source: &mut S,
@@ -56,16 +55,16 @@ pub fn command<G: Arguments, I: Input + Drop, S: Source, O: Finish, E: Sink>(
 }
 
 // Runs the tool on its words, and ends.
-fn perform<I: Input + Drop, S: Source, O: Finish, E: Sink>(
-    alloc: Global,
+fn perform<A: Allocator + Copy, I: Input + Drop, S: Source, O: Finish, E: Sink>(
+    alloc: A,
     tool: Tool,
-    words: &Words,
+    words: &Words<A>,
     stdin: &mut Stdin<I>,
     source: &mut S,
     out: &mut WholeLines<O>,
     err: &mut WholeLines<E>,
 ) -> u8
-    ensures { EndsGives (Some (Asks tool words.now)) (S.refusals source.old) (S.refusals source.new)
+    ensures { EndsGives (Some (call tool words.now)) (S.refusals source.old) (S.refusals source.new)
         (Kept (O.failures out.old.sink) (O.failures out.new.sink) (E.failures err.old.sink) (E.failures err.new.sink))
         (Failed (O.failures out.old.sink) (O.failures out.new.sink) (E.failures err.old.sink) (E.failures err.new.sink))
         (scene I.content (S.told source.old) stdin.old (append_known (O.written out.old.sink) out.old.held)
