@@ -113,9 +113,10 @@ pub ends-failed : (line : Text) (oa ob ea em eb : Option Text) (o o' e e1 e' : �
     → HoldsFront oa ob [] → HoldsFront ea em [] → Failed o o' e e1 → Says line em eb e1 e'
     → CutsOff line oa ob ea eb 1 × Failed o o' e e'
 ends-failed line oa ob ea em eb o o' e e1 e' out err f s =
-    let more = says-fails line em eb e1 e' s in
-    ((refl, out, (em, err, says-front line em eb e1 e' s)),
-      (f.0, more.0 + f.1, omega (arith, f.2), f.3, more.1 ∙ ap (fails more.0) f.4 ∙ fails-more more.0 f.1 e))
+    let more = says-fails line em eb e1 e' s in (
+      (refl, out, (em, err, says-front line em eb e1 e' s)),
+      (f.0, more.0 + f.1, omega (arith, f.2), f.3, more.1 ∙ ap (fails more.0) f.4 ∙ fails-more more.0 f.1 e),
+    )
 
 pub ends-write : (line : Text) (oa ob ea em eb : Option Text) (e e' : ℕ)
     → HoldsFront oa ob [] → HoldsFront ea em [] → Says line em eb e e'
@@ -131,8 +132,10 @@ ends-memory line oa ob ea em eb o o' e e1 e' (Err f) h s =
 ends-memory line oa ob ea em eb o o' e e1 e' (Ok u) h (inl s) =
     inl (refl, h.0, Appends-kept ea em eb (line Memory) h.1 s.0, (h.2.0, s.1 ∙ h.2.1))
 ends-memory line oa ob ea em eb o o' e e1 e' (Ok u) h (inr s) =
-    inr ((refl, front-kept oa ob h.0, (em, front-kept ea em h.1, s.0)),
-      (0, suc s.1.0, omega arith, h.2.0, s.1.1 ∙ ap (fails (suc s.1.0)) h.2.1))
+    inr (
+      (refl, front-kept oa ob h.0, (em, front-kept ea em h.1, s.0)),
+      (0, suc s.1.0, omega arith, h.2.0, s.1.1 ∙ ap (fails (suc s.1.0)) h.2.1),
+    )
 
 pub settles-both : {E : Type 0} (oa ob ea eb : Option Text) (o o' e e' : ℕ) (x y r : Result (Unit {0}) E)
     → r ≡ result_and x y → Settles oa ob o o' x → Settles ea eb e e' y

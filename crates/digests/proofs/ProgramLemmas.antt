@@ -48,12 +48,15 @@ fronts-of o line a w t t' oa ob ea eb answer asked rest is world out err cut = (
 whole-of : (o : Outcome) (line : Text) (status answer : ℕ) (a : Scene) (w : World) (t : Bool) (oa ob ea eb : Option Text)
     → answer ≡ status → Does a (record { world = w; taken = t; out = oa; err = ea }) o.out o.err o.asks
     → Keeps oa ob → Appends ea eb line → Whole o line status a (record { world = w; taken = t; out = ob; err = eb }) answer
-whole-of o line status answer a w t oa ob ea eb is does out err = (is, record {
-  world = does.world;
-  taken = does.taken;
-  out = Appends-then_kept a.out oa ob o.out does.out out;
-  err = Appends-trans a.err ea eb o.err line does.err err;
-})
+whole-of o line status answer a w t oa ob ea eb is does out err = (
+  is,
+  record {
+    world = does.world;
+    taken = does.taken;
+    out = Appends-then_kept a.out oa ob o.out does.out out;
+    err = Appends-trans a.err ea eb o.err line does.err err;
+  },
+)
 
 appends-none : (a b : Option Text) → Keeps a b → Appends a b []
 appends-none None b h = tt
@@ -70,23 +73,42 @@ pub ends : (line : Option Call) (n m : ℕ) (s : Option Scene) (w : Option World
 ends line n m None w t oa ob ea eb o o1 o' e e1 e' answer r run failures close = tt
 ends line n m (Some a) None t oa ob ea eb o o1 o' e e1 e' answer r run failures close = absurd run
 ends line n m (Some a) (Some w) t oa ob ea eb o o1 o' e e1 e' answer (Ok status) run kept (inl c) =
-    inl (inl (whole-of (outcome_of line a.world) [] _ answer a w t oa ob ea eb (c.0 ∙ run.0) run.1 c.1 (appends-none ea eb c.2),
-      kept-both o o1 o' e e1 e' kept c.3))
+    inl (inl (
+      whole-of (outcome_of line a.world) [] _ answer a w t oa ob ea eb (c.0 ∙ run.0) run.1 c.1 (appends-none ea eb c.2),
+      kept-both o o1 o' e e1 e' kept c.3,
+    ))
 ends line n m (Some a) (Some w) t oa ob ea eb o o1 o' e e1 e' answer (Ok status) run kept (inr c) =
     let x = outcome_of line a.world in
-    inl (inr (fronts-of x _ a w t t oa ob ea eb answer x.asks [] (sym (append-nil x.asks)) run.1.world
-      (up_to-whole a.out oa x.out run.1.out) (up_to-whole a.err ea x.err run.1.err) c.0, failed-since o o1 o' e e1 e' kept c.1))
+    inl (inr (
+      fronts-of x _ a w t t oa ob ea eb answer x.asks [] (sym (append-nil x.asks)) run.1.world
+          (up_to-whole a.out oa x.out run.1.out) (up_to-whole a.err ea x.err run.1.err) c.0,
+      failed-since o o1 o' e e1 e' kept c.1,
+    ))
 ends line n m (Some a) (Some w) t oa ob ea eb o o1 o' e e1 e' answer (Err Write) run rose c =
     let x = outcome_of line a.world in
-    inl (inr (fronts-of x _ a w t t oa ob ea eb answer run.0 run.1 run.2 run.3.world run.3.out run.3.err c.0,
-      failed-write o o1 o' e e1 e' rose c.1))
+    inl (inr (
+      fronts-of x _ a w t t oa ob ea eb answer run.0 run.1 run.2 run.3.world run.3.out run.3.err c.0,
+      failed-write o o1 o' e e1 e' rose c.1,
+    ))
 ends line n m (Some a) (Some w) t oa ob ea eb o o1 o' e e1 e' answer (Err Memory) run kept (inl c) =
-    inr (run.0, run.1, run.3,
-      inl (whole-of (place_in line a.world run.0 run.1) _ _ answer a w t oa ob ea eb c.0 run.2 c.1 c.2, kept-both o o1 o' e e1 e' kept c.3))
+    inr (
+      run.0,
+      run.1,
+      run.3,
+      inl (whole-of (place_in line a.world run.0 run.1) _ _ answer a w t oa ob ea eb c.0 run.2 c.1 c.2, kept-both o o1 o' e e1 e' kept c.3),
+    )
 ends line n m (Some a) (Some w) t oa ob ea eb o o1 o' e e1 e' answer (Err Memory) run kept (inr c) =
     let x = place_in line a.world run.0 run.1 in
-    inr (run.0, run.1, run.3, inr (fronts-of x _ a w t t oa ob ea eb answer x.asks [] (sym (append-nil x.asks)) run.2.world
-      (up_to-whole a.out oa x.out run.2.out) (up_to-whole a.err ea x.err run.2.err) c.0, failed-since o o1 o' e e1 e' kept c.1))
+    inr (
+      run.0,
+      run.1,
+      run.3,
+      inr (
+        fronts-of x _ a w t t oa ob ea eb answer x.asks [] (sym (append-nil x.asks)) run.2.world
+            (up_to-whole a.out oa x.out run.2.out) (up_to-whole a.err ea x.err run.2.err) c.0,
+        failed-since o o1 o' e e1 e' kept c.1,
+      ),
+    )
 
 -- the same where one line was written, and no tool ran
 said-fails : {E : Type 0} (A B : Type 0) (o e e1 : ℕ) (r : Result (Unit {0}) E)

@@ -80,7 +80,18 @@ fn perform<A: Allocator + Copy, I: Input + Drop, S: Source, O: Finish, E: Sink>(
 // The byte that ends each line of standard output: a newline, or NUL where the words ask for that.
 fn end_of_lines(asked: &Result<Request, WordFault>) -> u8 {
     match asked {
-        Ok(Request::Generate(Settings { kind: _, style: Style { mode: _, zero: true } }, _)) => b'\0',
+        Ok(
+            Request::Generate(
+                Settings {
+                    kind: _,
+                    style: Style {
+                        mode: _,
+                        zero: true,
+                    },
+                },
+                _,
+            ),
+        ) => b'\0',
         _ => b'\n',
     }
 }

@@ -36,7 +36,11 @@ impl Write for StandardOutput {
             return Ok(());
         }
         let error = Error::from_raw_os_error(os::errno());
-        if is_closed(&error) { Ok(()) } else { Err(error) }
+        if is_closed(&error) {
+            Ok(())
+        } else {
+            Err(error)
+        }
     }
 }
 
