@@ -1,7 +1,7 @@
 -- Joins a checker's fields to where it stands.
 use Rattle.std.specs.Prelude.{ℕ, Option, None, Some, Result, Ok, Err}
 use Rattle.sum_sources.specs.Contents.{Content}
-use Rattle.sum_sources.specs.LineReading.{coming, taken_of, used_of, count_of}
+use Rattle.sum_sources.specs.LineReading.{coming, left, taken_of, used_of, count_of}
 use Rattle.sum_engine.specs.declared.checker.Checker.{Checker}
 use Rattle.sum_engine.specs.declared.checker.State.{State}
 use Rattle.sum_engine.specs.declared.checker.State.TheVariants.{Running, Ended, Stopped}
@@ -24,6 +24,10 @@ now_of content s scene = now_by (coming content s.reader) (count_of s.reader) (u
 -- what is still to come of its manifest
 abbrev pub to_come : {I : Type 0} → (I → Option Content) → Checker I → Option Content
 to_come content s = coming content s.reader
+
+-- what its input has left to give
+abbrev pub left_of : {I : Type 0} → (I → Option Content) → Checker I → Option Content
+left_of content s = left content s.reader
 
 -- the bytes that its input has given, those that the lines handled used, and the number of these lines
 abbrev pub given_of : {I : Type 0} → Checker I → ℕ

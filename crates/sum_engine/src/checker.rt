@@ -38,11 +38,11 @@ pub struct Checker<'a, I> {
 
 impl<'a, I: Input> Checker<'a, I> {
     ghost use Rattle.std.specs.Option.{option_map};
-    ghost use Rattle.sum_sources.specs.Contents.{clip};
+    ghost use Rattle.sum_sources.specs.Contents.{WhereTold, clip};
     ghost use Rattle.sum_lines.specs.Entries.{form_then, line_form};
     ghost use Rattle.sum_engine.specs.Scenes.{Scene, scene, Failures, refusals_after};
     ghost use Rattle.sum_engine.specs.Steps.{now_by, StepGives, HandleGives, Wants};
-    ghost use Rattle.sum_engine.specs.Views.{rules_of_checker, now_of, to_come, given_of, handled_of, number_of};
+    ghost use Rattle.sum_engine.specs.Views.{rules_of_checker, now_of, to_come, left_of, given_of, handled_of, number_of};
     ghost use Rattle.sum_engine.specs.Views.{answer_of};
 
     /// A checker of the manifest that `input` gives. In diagnostics the manifest has the name `shown`; `from_stdin`
@@ -65,6 +65,7 @@ impl<'a, I: Input> Checker<'a, I> {
             ≡ now_by (option_map clip (I.content input)) 0 0 Form.Undecided no_counts s }
         ensures going { answer_of result ≡ None }
         ensures given { given_of result ≡ 0 }
+        ensures left { left_of I.content result ≡ I.content input }
     {
         let listing = Listing {
             settings,
@@ -116,6 +117,8 @@ impl<'a, I: Input> Checker<'a, I> {
         ensures failures { answer_of self.old ≡ None
             → Failures (O.failures out.old) (O.failures out.new) (E.failures err.old) (E.failures err.new) result }
         ensures untouched { result ≡ Err Stop.Memory → (out.new ≡ out.old) × (err.new ≡ err.old) }
+        ensures taken { WhereTold (left_of I.content self.old) (left_of I.content self.new)
+            (λ c d. given_of self.new + length d.bytes ≡ given_of self.old + length c.bytes) }
         ensures ahead { OnOk result (given_of self.new ≤ handled_of self.new + 8192) }
         ensures going { result ≡ Ok Progress.Going → answer_of self.new ≡ None }
         ensures ended { IfOk result (λ p. (p ≡ Progress.Going) ⊎ (answer_of self.new ≡ Some result)) }
@@ -160,6 +163,8 @@ impl<'a, I: Input> Checker<'a, I> {
         ensures failures { Failures (O.failures out.old) (O.failures out.new)
             (E.failures err.old) (E.failures err.new) result }
         ensures untouched { result ≡ Err Stop.Memory → (out.new ≡ out.old) × (err.new ≡ err.old) }
+        ensures taken { WhereTold (left_of I.content self.old) (left_of I.content self.new)
+            (λ c d. given_of self.new + length d.bytes ≡ given_of self.old + length c.bytes) }
         ensures ahead { OnOk result (given_of self.new ≤ handled_of self.new + 8192) }
         ensures work { result ≡ Ok Progress.Going → has_stopped self.new.reader ≡ false }
         ensures rules { rules_of_checker self.new ≡ rules_of_checker self.old }
