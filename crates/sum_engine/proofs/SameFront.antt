@@ -33,7 +33,8 @@ entry_alone p algos before later line i =
     ∙ entry_stays p (form algos before) (form algos later) (tagged_of algos line) (plain_of algos line)
 
 pub same_entry : SameEntry
-same_entry p algos before later others line i = entry_alone p algos before later line i ∙ sym (entry_alone p algos before others line i)
+same_entry p algos before later others line i =
+    entry_alone p algos before later line i ∙ sym (entry_alone p algos before others line i)
 
 form_alone : (algos : Algos) (before later : List (List ℕ)) (line tail : List ℕ) → line_form algos line ≡ form_of_tail tail
     → form algos (before ++ (line ∷ later)) ≡ form_then (form algos before) (form_of_tail tail)
@@ -71,7 +72,8 @@ fronts r w n f (l ∷ ls) later =
 abbrev renamed : Rules → List ℕ → Rules
 renamed r other = record r { shown = other }
 
-judge_renamed : (r : Rules) (other : List ℕ) (w : World) (n : ℕ) (x : Said) → judge r w n x ≡ judge (renamed r other) w n x
+judge_renamed : (r : Rules) (other : List ℕ) (w : World) (n : ℕ) (x : Said)
+    → judge r w n x ≡ judge (renamed r other) w n x
 judge_renamed r other w n Nothing = refl
 judge_renamed r other w n Improper = refl
 judge_renamed r other w n (Spells s) = refl

@@ -3,12 +3,10 @@ use Rattle.std.proofs.Common.{◌≡◌, ℕ, ◌+◌, ◌&&◌, ◌||◌, Bool,
 use Rattle.std.specs.Prelude.{flat_map, OnOk, IfSome}
 use Rattle.std.specs.List.{list_any}
 use Rattle.std.specs.Option.{option_map}
-use Rattle.std.proofs.Math.Bool.{or-false}
 use Rattle.std.proofs.lemmas.Bool.{false≢true}
 use Rattle.std.proofs.lemmas.List.Folds.{list_any-append}
 use Rattle.sum_sources.specs.declared.fault.Fault.{Fault}
-use Rattle.sum_sources.specs.declared.lines.Next.TheVariants.{Line, NoMore}
-use Rattle.sum_sources.specs.declared.lines.LineStop.TheVariants as line_stops
+use Rattle.sum_sources.specs.declared.lines.Next.TheVariants.{Line}
 use Rattle.sum_sources.specs.Contents.{Content, WhereTold, clip}
 use Rattle.sum_sources.specs.ManifestLines.{lines, LineOf}
 use Rattle.sum_sources.specs.Sources.{Given, Telling, OpenGives}
@@ -85,14 +83,16 @@ asks_next r f c d l is =
     let first = said_asks (now r) (says Present algo here l) in
     ap (λ x. list_any is_dash (lines_ask (now r) (form_then f (form algo x)) x)) is
     ∙ ap (λ g. list_any is_dash (lines_ask (now r) g (l ∷ ls))) (form_on f (line_form algo l) (form algo ls))
-    ∙ ap (λ x. list_any is_dash (said_asks (now r) x ++ lines_ask (now r) all ls)) (said_stays Present algo f (form algo ls) l)
+    ∙ ap (λ x. list_any is_dash (said_asks (now r) x ++ lines_ask (now r) all ls))
+    (said_stays Present algo f (form algo ls) l)
     ∙ list_any-append is_dash first (lines_ask (now r) all ls)
 
 line_by : (r : Rules) (x y : Option Content) (f : Form) (line : List ℕ) (t t' : Bool)
     → WhereTold x y (λ c d. LineOf c d (Ok Line) line)
     → t' ≡ t || list_any is_dash
     (said_asks (now r) (says Present r.settings.algo (form_then f (line_form r.settings.algo line)) line))
-    → StdinOf (stdin_by (now r) f x t) (stdin_by (now r) (form_then f (line_form r.settings.algo line)) y t') t' (Ok Going)
+    → StdinOf (stdin_by (now r) f x t) (stdin_by (now r) (form_then f (line_form r.settings.algo line)) y t') t'
+    (Ok Going)
 line_by r None y f line t t' h is = tt
 line_by r (Some c) None f line t t' h is = absurd h
 line_by r (Some c) (Some d) f line t t' h is =
@@ -114,25 +114,6 @@ stdin_line r s x y z f g line t t' rules same on h is =
     ∙ ap (λ v. stdin_by (now r) (form_then f (line_form r.settings.algo line)) v t') same in
     subst Q (sym all) (line_by r x y f line t t' h is)
 
-none_left : (r : Rules) (f : Form) (c : Content) (t : Bool) → lines c ≡ [] → t ≡ t || asks_stdin (now r) f c
-none_left r f c t is =
-    sym (ap (λ ls. t || list_any is_dash (lines_ask (now r) (form_then f (form r.settings.algo ls)) ls)) is ∙ or-false t)
-
-pub stdin_no_more : (r : Rules) (x y : Option Content) (f : Form) (line : List ℕ) (t : Bool) (new : Option Bool) (good : Bool)
-    → WhereTold x y (λ c d. LineOf c d (Ok NoMore) line) → StdinOf (stdin_by (now r) f x t) new t (Ok (Ended good))
-stdin_no_more r None y f line t new good h = tt
-stdin_no_more r (Some c) None f line t new good h = absurd h
-stdin_no_more r (Some c) (Some d) f line t new good h = none_left r f c t h.0
-
-pub stdin_fault : (r : Rules) (x y : Option Content) (f : Form) (line : List ℕ) (t : Bool) (new : Option Bool) (good : Bool) (e : Fault)
-    → WhereTold x y (λ c d. LineOf c d (Err (line_stops.Fault e)) line) → StdinOf (stdin_by (now r) f x t) new t (Ok (Ended good))
-stdin_fault r None y f line t new good e h = tt
-stdin_fault r (Some c) None f line t new good e h = absurd h
-stdin_fault r (Some c) (Some d) f line t new good e h = none_left r f c t h.0
-
-pub stays_taken : (t t' b : Bool) → t' ≡ t || b → t ≡ true → t' ≡ true
-stays_taken t t' b is h = is ∙ ap (λ x. x || b) h
-
 -- ---- a whole manifest
 
 -- what a told manifest says of standard input is the same at each step
@@ -145,8 +126,8 @@ pub steady_start : (r s : Rules) (x : Option Content) (t : Bool) (here : Option 
 steady_start r s None t here rules is = tt
 steady_start r s (Some c) t here rules is = is ∙ ap (λ v. stdin_by v Undecided (Some c) t) rules
 
-pub steady_more : (first here next : Option Bool) (taken : Bool) → Steady first here → StdinOf here next taken (Ok Going)
-    → Steady first next
+pub steady_more : (first here next : Option Bool) (taken : Bool) → Steady first here
+    → StdinOf here next taken (Ok Going) → Steady first next
 steady_more None here next taken h k = tt
 steady_more (Some b) here next taken h k = subst (λ o. StdinOf o next taken (Ok Going)) h k
 
@@ -157,10 +138,14 @@ steady_end (Some b) here next taken good h k = subst (λ o. StdinOf o next taken
 
 -- ---- a manifest that is a file
 
+-- the rules of a manifest that is shown by that name
+abbrev file_rules : CheckSettings → List ℕ → List ℕ → Bool → Rules
+file_rules settings tool name b =
+    record { profile = Present; settings = settings; tool = tool; shown = name; from_stdin = b }
+
 file_asks : (settings : CheckSettings) (tool name : List ℕ) (w : World) (c : Content) → is_dash name ≡ false
     → w.answer name ≡ Given c
-    → asks_stdin (record { profile = Present; settings = settings; tool = tool; shown = name; from_stdin = false })
-    Undecided (clip c) ≡ list_any is_dash (checked settings tool w name).asks
+    → asks_stdin (file_rules settings tool name false) Undecided (clip c) ≡ list_any is_dash (checked settings tool w name).asks
 file_asks settings tool name w c d is =
     let r = rules_of settings tool name in
     let v = after w (name ∷ []) in
@@ -172,20 +157,19 @@ file_asks settings tool name w c d is =
     ap (λ y. list_any is_dash (checked_by r name v y).asks) given in
     let asks : list_any is_dash (flat_map asks_of (verdicts r f v 0 ls)) ≡ list_any is_dash (lines_ask r f ls) =
     ap (list_any is_dash) (verdicts_ask r f v 0 ls) in
-    let by : Bool → Bool → Bool = λ b shown.
-    list_any is_dash (lines_ask (record { profile = Present; settings = settings; tool = tool; shown = name; from_stdin = b }) f ls) in
-    let other : list_any is_dash (lines_ask r f ls) ≡ by (is_dash name) false = refl in
-    sym (all ∙ ap (λ b. b || list_any is_dash (flat_map asks_of (verdicts r f v 0 ls))) d ∙ asks ∙ other ∙ ap (λ b. by b false) d)
+    let by : Bool → Bool = λ b. list_any is_dash (lines_ask (file_rules settings tool name b) f ls) in
+    let other : list_any is_dash (lines_ask r f ls) ≡ by (is_dash name) = refl in
+    sym (all ∙ ap (λ b. b || list_any is_dash (flat_map asks_of (verdicts r f v 0 ls))) d ∙ asks ∙ other ∙ ap by d)
 
 or_no : (a b : Bool) → b ≡ false → a || b ≡ true → a ≡ true
 or_no true b d h = refl
 or_no false b d h = absurd (false≢true (sym d ∙ h))
 
 file_taken : {F : Type 0} (content : F → Option Content) (settings : CheckSettings) (tool name : List ℕ)
-    (s t : Option Telling) (file : F) (before taken : Bool) → is_dash name ≡ false → OpenGives content s t name (Ok file)
-    → (before ≡ true → taken ≡ true)
-    → IfSome (stdin_by (record { profile = Present; settings = settings; tool = tool; shown = name; from_stdin = false })
-    Undecided (option_map clip (content file)) before) (λ b. taken ≡ b)
+    (s t : Option Telling) (file : F) (before taken : Bool) → is_dash name ≡ false
+    → OpenGives content s t name (Ok file) → (before ≡ true → taken ≡ true)
+    → IfSome (stdin_by (file_rules settings tool name false) Undecided (option_map clip (content file)) before)
+    (λ b. taken ≡ b)
     → TakesStdin settings tool name s before taken
 file_taken content settings tool name None t file before taken d g kept h = λ e. kept (or_no before (is_dash name) d e)
 file_taken content settings tool name (Some s) None file before taken d g kept h = absurd g
@@ -198,9 +182,8 @@ file_taken content settings tool name (Some s) (Some t) file before taken d g ke
 pub on_file : {F E : Type 0} (content : F → Option Content) (settings : CheckSettings) (tool name : List ℕ)
     (s t : Option Telling) (file : F) (before taken : Bool) (x : Result Bool E) → is_dash name ≡ false
     → OpenGives content s t name (Ok file) → OnOk x (before ≡ true → taken ≡ true)
-    → OnOk x (IfSome (stdin_by
-    (record { profile = Present; settings = settings; tool = tool; shown = name; from_stdin = false })
-    Undecided (option_map clip (content file)) before) (λ b. taken ≡ b))
+    → OnOk x (IfSome (stdin_by (file_rules settings tool name false) Undecided (option_map clip (content file)) before)
+    (λ b. taken ≡ b))
     → OnOk x (TakesStdin settings tool name s before taken)
 on_file content settings tool name s t file before taken (Ok good) d g kept h =
     file_taken content settings tool name s t file before taken d g kept h

@@ -46,6 +46,7 @@ lines-preserved g c =
     let step = rw c.in-Ok-Going.field-0-is at (c.in-Ok-Going.ensures.gives so_far.going) in
     let gives = rw so_far.rules at step in
     let failures = c.in-Ok-Going.ensures.failures so_far.going in
+    let stdin = rw c.in-Ok-Going.field-0-is at (c.in-Ok-Going.ensures.stdin so_far.going) in
     record {
       along = along_more _ _ _ _ _ _ so_far.along gives;
       rules = c.in-Ok-Going.ensures.rules ∙ so_far.rules;
@@ -53,6 +54,6 @@ lines-preserved g c =
       refusals = c.in-Ok-Going.ensures.wants so_far.going ∙ so_far.refusals;
       out = failures.0 ∙ so_far.out;
       err = failures.1 ∙ so_far.err;
-      stdin = steady_more _ _ _ _ so_far.stdin (rw c.in-Ok-Going.field-0-is at (c.in-Ok-Going.ensures.stdin so_far.going));
+      stdin = steady_more _ _ _ _ so_far.stdin stdin;
       kept = λ h. c.in-Ok-Going.ensures.kept (so_far.kept h);
     }
