@@ -1,12 +1,13 @@
 -- What the scanning functions answer, step by step.
 use Rattle.std.proofs.Common.{ℕ, ◌≡◌, ◌+◌, ◌-◌, ◌*◌, ◌<◌, ◌≤◌, Bool, true, false, cond, eqb, ◌==◌, nat_le, List, [], ◌∷◌, ◌++◌, length, take, drop, get_or, slice_range, Option, None, Some, MatchOption, IfSome, Result, Ok, Err, Bor, refl, ap, sym, ◌∙◌, arith, inl, inr, subst, append_assoc, length-append, length-drop}
 use lib.Pointwise.{pointwise}
-use Rattle.std.specs.List.{AllPass, take_while}
+use Rattle.std.specs.List.{AllPass, prefix_len, take_while}
 use Rattle.std.specs.Option.{option_copied}
 use Rattle.std.proofs.lemmas.Bool.{cases_Bool, cond-true, cond-false, eqb-true, and_parts, leb-true}
 use Rattle.std.proofs.lemmas.Bool.Decides.{eqb_tells}
 use Rattle.std.proofs.lemmas.List.{drop_at, get_or-drop, take-append-drop, drop_more, take_at, take_all}
 use Rattle.std.proofs.lemmas.List.Elements.{All-from_get_or}
+use Rattle.std.proofs.lemmas.List.Folds.{length-prefix_len}
 use Rattle.memchr.specs.Find.{Nowhere, Passes, IsLastByte, is_byte}
 use Rattle.hex.specs.Hex.{decode_of, is_hex_digit}
 use Rattle.hex.specs.declared.error.FromHexError.{FromHexError}
@@ -219,6 +220,17 @@ tail-place line blank text digits rest tail e hb hm hd hr ht =
       rest_any line (length line - length tail) ∙ ap (λ k. drop k line) at
           ∙ ap (drop (length front)) whole ∙ drop_at front tail (length front) refl,
     )
+
+-- more digits than any digest has
+pub plain-none : (a : Algo) (line blank text : List ℕ) (e : Bool) → blank ≡ after_while is_blank line
+    → (e, text) ≡ unmarked blank → 128 < prefix_len is_hex_digit text → None ≡ plain_as a line
+unfolding plain_behind
+plain-none a line blank text e hb hm more =
+    let u : unmarked (after_while is_blank line) ≡ (e, text) = ap unmarked (sym hb) ∙ sym hm in
+    let size = length-prefix_len is_hex_digit text in
+    let none : sized a (decode_of (take_while is_hex_digit text)) ≡ None =
+    sized_none a (take_while is_hex_digit text) (λ d. let few = d.few in omega arith) in
+    rw (u, none) refl
 
 pub plain-read : (a : Algo) (line blank text digits rest tail name : List ℕ) (e : Bool) (k : KindValue × List ℕ)
     → blank ≡ after_while is_blank line → (e, text) ≡ unmarked blank → digits ≡ take_while is_hex_digit text

@@ -27,7 +27,7 @@ fn plain_as(algo: Algo, line: &[u8]) -> Option<LineParts>
     ensures range { IfSome result (λ p. (p.start ≤ p.stop) × (p.stop ≤ length line.now)) }
 {
     let (escaped, text) = unmark(skip_blanks(line));
-    let (digits, rest) = split_hex_digits(text);
+    let (digits, rest) = split_hex_digits(text)?;
     let (kind, digest) = kind_and_digest(algo, digits)?;
     let tail = tail(rest)?;
     Some(LineParts {
