@@ -1,10 +1,9 @@
 -- The command line by its list of arguments.
-use Rattle.std.proofs.Common.{ℕ, ◌≡◌, ◌+◌, ◌-◌, ◌≤◌, ◌<◌, Bool, true, false, not, ◌==◌, zero, suc, List, [], ◌∷◌, length, drop, get_or, Some, None, refl, ap, sym, ◌∙◌, arith, inl, inr}
+use Rattle.std.proofs.Common.{ℕ, ◌≡◌, ◌+◌, ◌-◌, ◌<◌, Bool, true, false, not, ◌==◌, zero, suc, List, [], ◌∷◌, length, drop, get_or, Some, None, refl, ap, sym, ◌∙◌, arith, inl, inr}
 use Rattle.std.proofs.lemmas.List.Sums.{suffix_len_is}
 use Rattle.std.proofs.lemmas.Bool.Decides.{eqb_tells}
 use Rattle.std.specs.List.{suffix_len}
-use Rattle.std.specs.Prelude.{slice_get, Option, ◌++◌, ◌&&◌, take}
-use Rattle.std.specs.List.{list_all}
+use Rattle.std.specs.Prelude.{slice_get, Option, ◌++◌, ◌&&◌}
 use Rattle.std.specs.Str.{IsUtf8, is_utf8}
 use Rattle.std.proofs.lemmas.Str.{is_utf8-from_IsUtf8}
 use Rattle.std.proofs.lemmas.List.{append-nil, append_assoc}
@@ -13,7 +12,7 @@ use Rattle.digests.specs.declared.tool.Tool.{Tool}
 use Rattle.digests.specs.Items.{Text}
 use Rattle.digests.specs.Tools.{tool_called}
 use Rattle.memchr.specs.Find.{Passes, Nowhere, is_byte, IsLastByte}
-use Rattle.digests.specs.Program.{call, last_part, on_words, by_name, command_line}
+use Rattle.digests.specs.Program.{call, last_part, on_words}
 use Rattle.digests.specs.Arguments.{ArgumentIs, IsNameOf, IsFirstWord, WordsUpTo, WordsAre, CallIs}
 
 -- ---- the last part of a path

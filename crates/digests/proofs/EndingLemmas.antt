@@ -1,14 +1,14 @@
 -- The end of a run: what its outputs hold by what they accepted.
-use Rattle.std.proofs.Common.{ℕ, zero, suc, ◌≡◌, ◌+◌, ◌<◌, List, [], ◌++◌, Option, None, Some, Result, Ok, Err, refl, ap, sym, ◌∙◌, arith, inl, inr, append_assoc, append-nil, subst}
-use Rattle.std.specs.Prelude.{◌⊎◌, MatchResult}
+use Rattle.std.proofs.Common.{ℕ, zero, suc, ◌≡◌, ◌+◌, [], ◌++◌, Option, None, Some, Result, Ok, Err, refl, ap, sym, ◌∙◌, arith, inl, inr, append_assoc, append-nil, subst}
+use Rattle.std.specs.Prelude.{MatchResult}
 use Rattle.std.specs.Result.{result_and}
 use Rattle.sum_engine.specs.declared.stop.Stop.{Stop}
-use Rattle.sum_engine.specs.declared.stop.Stop.TheVariants.{Memory, Write}
+use Rattle.sum_engine.specs.declared.stop.Stop.TheVariants.{Memory}
 use Rattle.std.specs.Io.KnownBytes.{Keeps, Appends, append_known}
 use Rattle.sum_lines.specs.Sinks.{AppendsFront, after_failure}
-use Rattle.sum_engine.specs.Scenes.{Kept, AppendsUpTo}
+use Rattle.sum_engine.specs.Scenes.{AppendsUpTo}
 use Rattle.digests.specs.Items.{Text}
-use Rattle.digests.specs.Program.{HoldsFront, HoldsFrontThen, fails, Failed}
+use Rattle.digests.specs.Program.{HoldsFront, fails, Failed}
 use Rattle.digests.specs.Endings.{Settles, SettlesBoth, Says, CutsOff, Closes}
 
 -- ---- what an output holds

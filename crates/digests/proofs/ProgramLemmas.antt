@@ -1,6 +1,6 @@
 -- A run and its end, joined.
-use Rattle.std.proofs.Common.{ℕ, zero, suc, ◌≡◌, ◌+◌, ◌<◌, Bool, List, [], ◌++◌, Option, None, Some, Result, Ok, Err, refl, ap, sym, ◌∙◌, arith, inl, inr, append-nil, subst}
-use Rattle.std.specs.Prelude.{◌⊎◌, MatchResult}
+use Rattle.std.proofs.Common.{ℕ, ◌≡◌, ◌+◌, Bool, List, [], ◌++◌, Option, None, Some, Result, Ok, Err, refl, ap, sym, ◌∙◌, arith, inl, inr, append-nil, subst}
+use Rattle.std.specs.Prelude.{MatchResult}
 use Rattle.std.specs.Io.KnownBytes.{Keeps, Appends}
 use Rattle.sum_lines.specs.Sinks.{AppendsFront, after_failure}
 use Rattle.sum_engine.specs.declared.stop.Stop.{Stop}
@@ -11,12 +11,11 @@ use Rattle.sum_engine.specs.Scenes.{Scene, scene_by, Does, Kept, Rose, Failures,
 use Rattle.digests.specs.Items.{Text}
 use Rattle.digests.specs.Texts.{unknown_tool, not_read}
 use Rattle.digests.proofs.RunLemmas.{said_on_err}
-use Rattle.digests.specs.Meaning.{status_of}
 use Rattle.digests.specs.Runs.{RunGives, told_of}
 use Rattle.digests.specs.Arguments.{CallIs}
 use Rattle.digests.specs.Endings.{CutsOff, Closes}
-use Rattle.digests.specs.Program.{Call, unknown, command_line, outcome_of, place_in, WantsMemory, stop_told, tool_of, HoldsFront, HoldsFrontThen, fails, Failed, Whole, Fronts, EndsAs, EndsGives, ProgramGives}
-use Rattle.digests.proofs.EndingLemmas.{front-up_to, front-whole, front-front, up_to-whole, Appends-then_kept, fails-more}
+use Rattle.digests.specs.Program.{Call, unknown, outcome_of, place_in, WantsMemory, stop_told, tool_of, fails, Failed, Whole, Fronts, EndsGives, ProgramGives}
+use Rattle.digests.proofs.EndingLemmas.{front-up_to, front-front, up_to-whole, Appends-then_kept, fails-more}
 use Rattle.std.proofs.KnownBytes.{Appends-trans}
 
 -- ---- failures, one call after another

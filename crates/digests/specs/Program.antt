@@ -1,5 +1,5 @@
 -- What the program does, from the list of its arguments (the name that it was called by, and the words) to its status.
-use Rattle.std.specs.Prelude.{ℕ, zero, suc, ◌≡◌, ◌==◌, ◌+◌, ◌<◌, ◌⊎◌, List, [], ◌∷◌, ◌++◌, Option, None, Some, ⊤, codes, if◌then◌else◌}
+use Rattle.std.specs.Prelude.{ℕ, zero, suc, ◌≡◌, ◌==◌, ◌+◌, ◌<◌, ◌⊎◌, List, [], ◌∷◌, ◌++◌, Option, None, Some, ⊤, if◌then◌else◌}
 use Rattle.std.specs.List.{after_last, list_all}
 use Rattle.std.specs.Str.{is_utf8}
 use Rattle.sum_lines.specs.Sinks.{after_failure}
@@ -7,7 +7,7 @@ use Rattle.sum_engine.specs.declared.stop.Stop.{Stop}
 use Rattle.sum_engine.specs.declared.stop.Stop.TheVariants.{Memory, Write}
 use Rattle.sum_engine.specs.Worlds.{World, after}
 use Rattle.sum_engine.specs.Outcomes.{Outcome}
-use Rattle.sum_engine.specs.Scenes.{Scene, Does, Kept}
+use Rattle.sum_engine.specs.Scenes.{Scene, Does}
 use Rattle.digests.specs.declared.tool.Tool.{Tool}
 use Rattle.digests.specs.Items.{Text}
 use Rattle.digests.specs.Request.{request}

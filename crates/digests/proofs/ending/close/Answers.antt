@@ -1,4 +1,4 @@
-use Rattle.std.proofs.Common.{◌≡◌, ◌∙◌, ap, inr, refl}
+use Rattle.std.proofs.Common.{◌∙◌, ap, inr, refl}
 use Rattle.std.specs.Prelude.{Err}
 use Rattle.digests.specs.Program.{stop_told}
 use Rattle.sum_engine.specs.declared.stop.Stop.TheVariants.{Write}
