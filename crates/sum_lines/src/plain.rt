@@ -39,12 +39,15 @@ fn plain_as(algo: Algo, line: &[u8]) -> Option<LineParts>
     })
 }
 
-// The digest that the digits spell, with its kind, where the algorithm has digests of that length.
+// The digest that the digits spell, with its kind. Digits are decoded only where the algorithm has digests of as many.
 fn kind_and_digest(algo: Algo, digits: &[u8]) -> Option<(Kind, Digest)>
     ensures { result ≡ sized algo (decode_of digits.now) }
 {
+    if digits.len() % 2 != 0 {
+        return None;
+    }
+    let kind = kind_of_len(algo, digits.len() / 2)?;
     let digest = Digest::from_hex(digits)?;
-    let kind = kind_of_len(algo, digest.as_slice().len())?;
     Some((kind, digest))
 }
 

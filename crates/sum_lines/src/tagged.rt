@@ -146,16 +146,14 @@ fn kind_of_bits(digits: &[u8]) -> Option<Kind>
     Kind::blake2b_bits(bits).ok()
 }
 
-// The digest of that length that the digits spell.
+// The digest of that length that the digits spell. Digits are decoded only where they are as many.
 fn digest_of(len: usize, digits: &[u8]) -> Option<Digest>
     requires some { 1 ≤ len }
     requires few { len ≤ 64 }
     ensures { result ≡ digest_at len (decode_of digits.now) }
 {
-    let digest = Digest::from_hex(digits)?;
-    if digest.as_slice().len() == len {
-        Some(digest)
-    } else {
-        None
+    if digits.len() != 2 * len {
+        return None;
     }
+    Digest::from_hex(digits)
 }
