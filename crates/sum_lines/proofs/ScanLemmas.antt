@@ -1,5 +1,5 @@
 -- What the scanning functions answer, step by step.
-use Rattle.std.proofs.Common.{ℕ, ◌≡◌, ◌+◌, ◌-◌, ◌*◌, ◌/◌, ◌%◌, ◌<◌, ◌≤◌, Bool, true, false, cond, eqb, eq-eqb, ◌==◌, nat_le, List, [], ◌∷◌, ◌++◌, length, take, drop, get_or, slice_range, Option, None, Some, MatchOption, IfSome, IsSome, Result, Ok, Err, Bor, refl, ap, sym, ◌∙◌, arith, inl, inr, subst, append_assoc, length-append, length-drop}
+use Rattle.std.proofs.Common.{ℕ, ◌≡◌, ◌+◌, ◌-◌, ◌*◌, ◌/◌, ◌<◌, ◌≤◌, Bool, true, false, cond, eqb, eq-eqb, ◌==◌, nat_le, List, [], ◌∷◌, ◌++◌, length, take, drop, get_or, slice_range, Option, None, Some, MatchOption, IfSome, IsSome, Result, Ok, Err, Bor, refl, ap, sym, ◌∙◌, arith, inl, inr, subst, append_assoc, length-append, length-drop}
 use lib.Pointwise.{pointwise}
 use Rattle.std.specs.List.{AllPass, prefix_len, take_while}
 use Rattle.std.specs.Option.{option_copied}
@@ -20,7 +20,7 @@ use Rattle.digest_kinds.specs.declared.algo.Algo.{Algo}
 use Rattle.digest_kinds.specs.declared.algo.Algo.TheVariants.{Md5, Sha1, Sha224, Sha256, Sha384, Sha512, Blake2b}
 use Rattle.digest_kinds.specs.declared.algo.Algos.{Algos}
 use Rattle.sum_lines.specs.Shapes.{is_blank, mark, optional}
-use Rattle.sum_lines.specs.Scanned.{after_while, unmarked, past, split_last, is_past, begins, algo_of, digest_at, Opened, opened_of, name_behind, tagged_of, sized, tail_of, plain_behind, plain_as}
+use Rattle.sum_lines.specs.Scanned.{after_while, unmarked, past, split_last, is_past, begins, algo_of, digest_at, Opened, opened_text, opened_of, name_behind, tagged_of, sized, tail_of, plain_behind, plain_as}
 use Rattle.sum_lines.proofs.FrontLemmas.{isn't, split_last-none, split_last-at, front-and-rest, unmarked-is, past-some, split_last-some}
 use Rattle.sum_lines.proofs.TaggedParts.{opened_of-some}
 use Rattle.sum_lines.proofs.TaggedLemmas.{algo_of-tag}
@@ -211,6 +211,11 @@ opened-ends algos line o h =
           ∙ ap (λ l. mark u.0 ++ l) f.whole)
           ∙ regroup (take_while is_blank line) (mark u.0) (tag o.kind.algo) f.width space (40 ∷ []) o.inner,
     )
+
+-- what is opened behind a line's blanks and its mark is the line's
+pub opened-line : (algos : Algos) (line text : List ℕ) (e : Bool) → (e, text) ≡ unmarked (after_while is_blank line)
+    → opened_text algos e text ≡ opened_of algos line
+opened-line algos line text e hm = ap (λ (u : Bool × List ℕ). opened_text algos u.0 u.1) hm
 
 -- the places of the name
 pub name-range : (line front inner raw behind : List ℕ) → line ≡ front ++ inner

@@ -1,4 +1,4 @@
-use Rattle.std.proofs.Common.{refl, sym, arith}
+use Rattle.std.proofs.Common.{refl}
 use Rattle.sum_lines.proofs.ScanLemmas.{sized_none, sized_other, sized_of}
 use Rattle.sum_lines.proofs.plain.kind_and_digest.Goals as goal
 
