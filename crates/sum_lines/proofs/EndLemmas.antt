@@ -1,5 +1,5 @@
 -- What the sink below a sink of whole lines has in the end, where nothing was held, and nothing known, at the start.
-use Rattle.std.proofs.Common.{ℕ, ◌≡◌, ◌<◌, List, [], ◌++◌, length, Option, None, Some, refl, ap, sym, ◌∙◌, append_assoc, append-nil, length-append, arith}
+use Rattle.std.proofs.Common.{ℕ, List, [], ◌++◌, Option, None, Some, refl, ap, sym, ◌∙◌, append_assoc, append-nil, length-append, arith}
 use Rattle.std.specs.Io.KnownBytes.{Appends, append_known}
 use Rattle.sum_lines.specs.Sinks.{AppendsFront}
 
