@@ -8,7 +8,8 @@ use Rattle.std.specs.Io.KnownBytes.{Keeps, Appends, append_known}
 use Rattle.sum_lines.specs.Sinks.{AppendsFront, after_failure}
 use Rattle.sum_engine.specs.Scenes.{AppendsUpTo}
 use Rattle.digests.specs.Items.{Text}
-use Rattle.digests.specs.Program.{HoldsFront, fails, Failed}
+use Rattle.std.specs.Prelude.{OnOk}
+use Rattle.digests.specs.Program.{HoldsFront, fails, Failed, IsKept}
 use Rattle.digests.specs.Endings.{Settles, SettlesBoth, Says, CutsOff, Closes}
 
 -- ---- what an output holds
@@ -147,3 +148,9 @@ settles-both oa ob ea eb o o' e e' (Err f) (Ok v) r is out err =
     rw is (out.0, front-kept ea eb err.0, (1, 0, omega arith, out.1, err.1))
 settles-both oa ob ea eb o o' e e' (Err f) (Err g) r is out err =
     rw is (out.0, err.0, (1, 1, omega arith, out.1, err.1))
+
+-- an output that answered in the end that it keeps what it took
+pub kept-told : {O E : Type 0} (gives : O → Result (Unit {0}) E → O → Type 0) (below out : O) (r : Result (Unit {0}) E)
+    → gives below r out → OnOk r (IsKept gives out)
+kept-told gives below out (Ok u) h = (below, h)
+kept-told gives below out (Err e) h = tt

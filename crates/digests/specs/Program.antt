@@ -1,5 +1,5 @@
 -- What the program does, from the list of its arguments (the name that it was called by, and the words) to its status.
-use Rattle.std.specs.Prelude.{ℕ, zero, suc, ◌≡◌, ◌==◌, ◌+◌, ◌<◌, ◌⊎◌, List, [], ◌∷◌, ◌++◌, Option, None, Some, ⊤, if◌then◌else◌}
+use Rattle.std.specs.Prelude.{Result, Ok, ℕ, zero, suc, ◌≡◌, ◌==◌, ◌+◌, ◌<◌, ◌⊎◌, List, [], ◌∷◌, ◌++◌, Option, None, Some, ⊤, if◌then◌else◌}
 use Rattle.std.specs.List.{after_last, list_all}
 use Rattle.std.specs.Str.{is_utf8}
 use Rattle.sum_lines.specs.Sinks.{after_failure}
@@ -84,6 +84,10 @@ fails (suc k) n = after_failure (fails k n)
 
 abbrev pub Failed : ℕ → ℕ → ℕ → ℕ → Type 0
 Failed o o' e e' = (i : ℕ) × (j : ℕ) × (0 < i + j) × (o' ≡ fails i o) × (e' ≡ fails j e)
+
+-- an output was asked in the end whether it keeps what it took, and does
+abbrev pub IsKept : {O E : Type 0} → (O → Result (Unit {0}) E → O → Type 0) → O → Type 0
+IsKept {O} finish_gives out = (below : O) × finish_gives below (Ok tt) out
 
 -- the whole of an outcome, and then a line on standard error
 abbrev pub Whole : Outcome → Text → ℕ → Scene → Scene → ℕ → Type 0

@@ -2,7 +2,7 @@
 ghost use Rattle.std.specs.Prelude.{◌≡◌, None, Some, IfOk};
 ghost use Rattle.std.specs.Io.KnownBytes.{append_known};
 ghost use Rattle.sum_engine.specs.Scenes.{scene, Kept};
-ghost use Rattle.digests.specs.Program.{ProgramGives, EndsGives, Failed, call};
+ghost use Rattle.digests.specs.Program.{ProgramGives, EndsGives, Failed, IsKept, call};
 
 use crate::arguments::Arguments;
 use crate::command_line::{CommandLine, NotRead, read_command_line};
@@ -32,12 +32,13 @@ pub fn command<A: Allocator + Copy, G: Arguments, I: Input + Drop, S: Source, O:
     out: &mut WholeLines<O>,
     err: &mut WholeLines<E>,
 ) -> u8
-    ensures { ProgramGives (G.told arguments.now) (S.refusals source.old) (S.refusals source.new)
+    ensures gives { ProgramGives (G.told arguments.now) (S.refusals source.old) (S.refusals source.new)
         (Kept (O.failures out.old.sink) (O.failures out.new.sink) (E.failures err.old.sink) (E.failures err.new.sink))
         (Failed (O.failures out.old.sink) (O.failures out.new.sink) (E.failures err.old.sink) (E.failures err.new.sink))
         (scene I.content (S.told source.old) stdin.old (append_known (O.written out.old.sink) out.old.held)
         (append_known (E.written err.old.sink) err.old.held))
         (scene I.content (S.told source.new) stdin.new (O.written out.new.sink) (E.written err.new.sink)) result }
+    ensures kept { result ≡ 0 → IsKept O.finish_gives out.new.sink }
 {
     match read_command_line(alloc, arguments) {
         Ok(CommandLine::Asks(tool, words)) => {
@@ -64,12 +65,13 @@ fn perform<A: Allocator + Copy, I: Input + Drop, S: Source, O: Finish, E: Sink>(
     out: &mut WholeLines<O>,
     err: &mut WholeLines<E>,
 ) -> u8
-    ensures { EndsGives (Some (call tool words.now)) (S.refusals source.old) (S.refusals source.new)
+    ensures gives { EndsGives (Some (call tool words.now)) (S.refusals source.old) (S.refusals source.new)
         (Kept (O.failures out.old.sink) (O.failures out.new.sink) (E.failures err.old.sink) (E.failures err.new.sink))
         (Failed (O.failures out.old.sink) (O.failures out.new.sink) (E.failures err.old.sink) (E.failures err.new.sink))
         (scene I.content (S.told source.old) stdin.old (append_known (O.written out.old.sink) out.old.held)
         (append_known (E.written err.old.sink) err.old.held))
         (scene I.content (S.told source.new) stdin.new (O.written out.new.sink) (E.written err.new.sink)) result }
+    ensures kept { result ≡ 0 → IsKept O.finish_gives out.new.sink }
 {
     let asked = read_words(tool, words);
     out.end_lines_with(end_of_lines(&asked));
