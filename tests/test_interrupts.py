@@ -1,5 +1,5 @@
-"""Calls to the system that are interrupted again and again, and outputs whose loss is told only when they are closed.
-All of it by `strace`, which makes a call fail."""
+"""Calls to the system that are interrupted again and again, and how many writes a run makes. All of it by `strace`,
+which makes a call fail."""
 
 import os
 
@@ -83,50 +83,6 @@ class Interrupted(Traced):
         ran, calls = self.failing("openat", "EINTR", ["md5sum", a], only=a, when=FEW, timeout=ENDLESS)
         self.assertEqual(ran, Ran(0, as_bytes([f"{M}  {a}"]), b""))
         self.assertEqual(len(calls), 1000)
-
-
-@needs_strace
-class ToldAtTheEnd(Traced):
-    """The system tells only when standard output is closed that what it took is lost, as quotas and network file
-    systems do."""
-
-    def closing(self, error, words, **how):
-        """A run in which the closing of standard output fails."""
-        return self.failing("close", error, words, only=self.path("out"), **how)
-
-    def test_generating(self):
-        """It is a write error, though every line had been taken."""
-        for error in ("EIO", "ENOSPC", "EDQUOT"):
-            with self.subTest(error=error):
-                ran, _ = self.closing(error, "md5sum a e")
-                self.assertEqual(ran, Ran(1, as_bytes([f"{M}  a", f"{E}  e"]), WRITE_ERROR))
-
-    def test_help_and_version(self):
-        """The same for the texts."""
-        for words in ("md5sum --help", "md5sum --version"):
-            with self.subTest(words=words):
-                ran, _ = self.closing("EIO", words)
-                self.assertEqual(ran, Ran(1, self.run_words(words).out, WRITE_ERROR))
-
-    def test_behind_other_faults(self):
-        """A file that was missing is told as well."""
-        ran, _ = self.closing("EIO", "md5sum a x")
-        self.assertEqual(ran, Ran(1, as_bytes([f"{M}  a"]), as_bytes([X_MISSING]) + WRITE_ERROR))
-
-    @needs_check
-    def test_checking(self):
-        """The same for reports."""
-        self.write("l", [f"{M}  a"])
-        ran, _ = self.closing("EIO", "md5sum -c l")
-        self.assertEqual(ran, Ran(1, b"a: OK\n", WRITE_ERROR))
-
-    def test_it_is_closed_at_the_end(self):
-        """Standard output is closed behind its last line, and only then."""
-        ran, calls = self.traced(["-e", "trace=write,writev,close", "-P", os.fsdecode(self.path("out"))], "md5sum a e")
-        self.assertEqual(ran, Ran(0, as_bytes([f"{M}  a", f"{E}  e"]), b""))
-        names = [call.partition("(")[0] for call in calls]
-        self.assertEqual(names[:3], ["write", "write", "close"])
-        self.assertEqual(set(names[3:]) - {"close"}, set())
 
 
 @needs_strace

@@ -1,21 +1,19 @@
 -- The command line by its list of arguments.
-use Rattle.std.proofs.Common.{ℕ, ◌≡◌, ◌+◌, ◌-◌, ◌≤◌, ◌<◌, Bool, true, false, not, ◌==◌, zero, suc, List, [], ◌∷◌, length, drop, get_or, Some, None, refl, ap, sym, ◌∙◌, arith, inl, inr}
+use Rattle.std.proofs.Common.{ℕ, ◌≡◌, ◌+◌, ◌-◌, ◌<◌, Bool, true, false, not, ◌==◌, zero, suc, List, [], ◌∷◌, length, drop, get_or, Some, None, refl, ap, sym, ◌∙◌, arith, inl, inr}
 use Rattle.std.proofs.lemmas.List.Sums.{suffix_len_is}
 use Rattle.std.proofs.lemmas.Bool.Decides.{eqb_tells}
 use Rattle.std.specs.List.{suffix_len}
-use Rattle.std.specs.Prelude.{slice_get, Option, ◌++◌, ◌&&◌, take}
-use Rattle.std.specs.List.{list_all}
+use Rattle.std.specs.Prelude.{slice_get, Option, ◌++◌, ◌&&◌}
 use Rattle.std.specs.Str.{IsUtf8, is_utf8}
 use Rattle.std.proofs.lemmas.Str.{is_utf8-from_IsUtf8}
 use Rattle.std.proofs.lemmas.List.{append-nil, append_assoc}
 use Rattle.std.proofs.lemmas.List.Folds.{list_all-append}
 use Rattle.digests.specs.declared.tool.Tool.{Tool}
-use Rattle.digests.specs.declared.command_line.CommandLine.TheVariants.{UnknownTool, Asks}
 use Rattle.digests.specs.Items.{Text}
 use Rattle.digests.specs.Tools.{tool_called}
 use Rattle.memchr.specs.Find.{Passes, Nowhere, is_byte, IsLastByte}
-use Rattle.digests.specs.Program.{last_part, on_words, by_name, command_line}
-use Rattle.digests.specs.Arguments.{ArgumentIs, IsNameOf, IsFirstWord, WordsUpTo, WordsAre, CommandLineIs}
+use Rattle.digests.specs.Program.{call, last_part, on_words}
+use Rattle.digests.specs.Arguments.{ArgumentIs, IsNameOf, IsFirstWord, WordsUpTo, WordsAre, CallIs}
 
 -- ---- the last part of a path
 
@@ -95,14 +93,14 @@ and-left true b h = refl
 and-left false b h = h
 
 pub line-by_name : (told : Option (List Text)) (tool : Tool) (words : List Text)
-    → IsNameOf told (Some tool) → WordsAre told 1 words → CommandLineIs told (Asks tool words)
+    → IsNameOf told (Some tool) → WordsAre told 1 words → CallIs told (call tool words)
 line-by_name None tool words n w = tt
 line-by_name (Some []) tool words n w = cc
 line-by_name (Some (name ∷ rest)) tool words n w =
     rw (← w.0, w.1, ← n) refl
 
 pub line-by_word : (told : Option (List Text)) (tool : Option Tool) (words : List Text)
-    → IsNameOf told None → IsFirstWord told tool → WordsAre told 2 words → CommandLineIs told (on_words tool words)
+    → IsNameOf told None → IsFirstWord told tool → WordsAre told 2 words → CallIs told (on_words tool words)
 line-by_word None tool words n f w = tt
 line-by_word (Some []) tool words n f w = rw f.0 refl
 line-by_word (Some (name ∷ [])) tool words n f w = rw (f.0, ← n) refl

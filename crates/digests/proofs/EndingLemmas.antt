@@ -1,14 +1,15 @@
 -- The end of a run: what its outputs hold by what they accepted.
-use Rattle.std.proofs.Common.{ℕ, zero, suc, ◌≡◌, ◌+◌, ◌<◌, List, [], ◌++◌, Option, None, Some, Result, Ok, Err, refl, ap, sym, ◌∙◌, arith, inl, inr, append_assoc, append-nil, subst}
-use Rattle.std.specs.Prelude.{◌⊎◌, MatchResult}
+use Rattle.std.proofs.Common.{ℕ, zero, suc, ◌≡◌, ◌+◌, [], ◌++◌, Option, None, Some, Result, Ok, Err, refl, ap, sym, ◌∙◌, arith, inl, inr, append_assoc, append-nil, subst}
+use Rattle.std.specs.Prelude.{MatchResult}
 use Rattle.std.specs.Result.{result_and}
 use Rattle.sum_engine.specs.declared.stop.Stop.{Stop}
-use Rattle.sum_engine.specs.declared.stop.Stop.TheVariants.{Memory, Write}
+use Rattle.sum_engine.specs.declared.stop.Stop.TheVariants.{Memory}
 use Rattle.std.specs.Io.KnownBytes.{Keeps, Appends, append_known}
 use Rattle.sum_lines.specs.Sinks.{AppendsFront, after_failure}
-use Rattle.sum_engine.specs.Scenes.{Kept, AppendsUpTo}
+use Rattle.sum_engine.specs.Scenes.{AppendsUpTo}
 use Rattle.digests.specs.Items.{Text}
-use Rattle.digests.specs.Program.{HoldsFront, HoldsFrontThen, fails, Failed}
+use Rattle.std.specs.Prelude.{OnOk}
+use Rattle.digests.specs.Program.{HoldsFront, fails, Failed, IsKept}
 use Rattle.digests.specs.Endings.{Settles, SettlesBoth, Says, CutsOff, Closes}
 
 -- ---- what an output holds
@@ -113,9 +114,10 @@ pub ends-failed : (line : Text) (oa ob ea em eb : Option Text) (o o' e e1 e' : �
     → HoldsFront oa ob [] → HoldsFront ea em [] → Failed o o' e e1 → Says line em eb e1 e'
     → CutsOff line oa ob ea eb 1 × Failed o o' e e'
 ends-failed line oa ob ea em eb o o' e e1 e' out err f s =
-    let more = says-fails line em eb e1 e' s in
-    ((refl, out, (em, err, says-front line em eb e1 e' s)),
-      (f.0, more.0 + f.1, omega (arith, f.2), f.3, more.1 ∙ ap (fails more.0) f.4 ∙ fails-more more.0 f.1 e))
+    let more = says-fails line em eb e1 e' s in (
+      (refl, out, (em, err, says-front line em eb e1 e' s)),
+      (f.0, more.0 + f.1, omega (arith, f.2), f.3, more.1 ∙ ap (fails more.0) f.4 ∙ fails-more more.0 f.1 e),
+    )
 
 pub ends-write : (line : Text) (oa ob ea em eb : Option Text) (e e' : ℕ)
     → HoldsFront oa ob [] → HoldsFront ea em [] → Says line em eb e e'
@@ -131,8 +133,10 @@ ends-memory line oa ob ea em eb o o' e e1 e' (Err f) h s =
 ends-memory line oa ob ea em eb o o' e e1 e' (Ok u) h (inl s) =
     inl (refl, h.0, Appends-kept ea em eb (line Memory) h.1 s.0, (h.2.0, s.1 ∙ h.2.1))
 ends-memory line oa ob ea em eb o o' e e1 e' (Ok u) h (inr s) =
-    inr ((refl, front-kept oa ob h.0, (em, front-kept ea em h.1, s.0)),
-      (0, suc s.1.0, omega arith, h.2.0, s.1.1 ∙ ap (fails (suc s.1.0)) h.2.1))
+    inr (
+      (refl, front-kept oa ob h.0, (em, front-kept ea em h.1, s.0)),
+      (0, suc s.1.0, omega arith, h.2.0, s.1.1 ∙ ap (fails (suc s.1.0)) h.2.1),
+    )
 
 pub settles-both : {E : Type 0} (oa ob ea eb : Option Text) (o o' e e' : ℕ) (x y r : Result (Unit {0}) E)
     → r ≡ result_and x y → Settles oa ob o o' x → Settles ea eb e e' y
@@ -144,3 +148,9 @@ settles-both oa ob ea eb o o' e e' (Err f) (Ok v) r is out err =
     rw is (out.0, front-kept ea eb err.0, (1, 0, omega arith, out.1, err.1))
 settles-both oa ob ea eb o o' e e' (Err f) (Err g) r is out err =
     rw is (out.0, err.0, (1, 1, omega arith, out.1, err.1))
+
+-- an output that answered in the end that it keeps what it took
+pub kept-told : {O E : Type 0} (gives : O → Result (Unit {0}) E → O → Type 0) (below out : O) (r : Result (Unit {0}) E)
+    → gives below r out → OnOk r (IsKept gives out)
+kept-told gives below out (Ok u) h = (below, h)
+kept-told gives below out (Err e) h = tt

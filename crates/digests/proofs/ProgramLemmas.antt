@@ -1,6 +1,6 @@
 -- A run and its end, joined.
-use Rattle.std.proofs.Common.{ℕ, zero, suc, ◌≡◌, ◌+◌, ◌<◌, Bool, List, [], ◌++◌, Option, None, Some, Result, Ok, Err, refl, ap, sym, ◌∙◌, arith, inl, inr, append-nil, subst}
-use Rattle.std.specs.Prelude.{◌⊎◌, MatchResult}
+use Rattle.std.proofs.Common.{ℕ, ◌≡◌, ◌+◌, Bool, List, [], ◌++◌, Option, None, Some, Result, Ok, Err, refl, ap, sym, ◌∙◌, arith, inl, inr, append-nil, subst}
+use Rattle.std.specs.Prelude.{MatchResult}
 use Rattle.std.specs.Io.KnownBytes.{Keeps, Appends}
 use Rattle.sum_lines.specs.Sinks.{AppendsFront, after_failure}
 use Rattle.sum_engine.specs.declared.stop.Stop.{Stop}
@@ -8,17 +8,14 @@ use Rattle.sum_engine.specs.declared.stop.Stop.TheVariants.{Memory, Write}
 use Rattle.sum_engine.specs.Worlds.{World, after}
 use Rattle.sum_engine.specs.Outcomes.{Outcome}
 use Rattle.sum_engine.specs.Scenes.{Scene, scene_by, Does, Kept, Rose, Failures, AppendsUpTo}
-use Rattle.digests.specs.declared.command_line.CommandLine.{CommandLine}
-use Rattle.digests.specs.declared.command_line.CommandLine.TheVariants.{UnknownTool}
 use Rattle.digests.specs.Items.{Text}
 use Rattle.digests.specs.Texts.{unknown_tool, not_read}
 use Rattle.digests.proofs.RunLemmas.{said_on_err}
-use Rattle.digests.specs.Meaning.{status_of}
 use Rattle.digests.specs.Runs.{RunGives, told_of}
-use Rattle.digests.specs.Arguments.{CommandLineIs}
+use Rattle.digests.specs.Arguments.{CallIs}
 use Rattle.digests.specs.Endings.{CutsOff, Closes}
-use Rattle.digests.specs.Program.{command_line, outcome_of, place_in, WantsMemory, stop_told, tool_of, HoldsFront, HoldsFrontThen, fails, Failed, Whole, Fronts, EndsAs, EndsGives, ProgramGives}
-use Rattle.digests.proofs.EndingLemmas.{front-up_to, front-whole, front-front, up_to-whole, Appends-then_kept, fails-more}
+use Rattle.digests.specs.Program.{Call, unknown, outcome_of, place_in, WantsMemory, stop_told, tool_of, fails, Failed, Whole, Fronts, EndsGives, ProgramGives}
+use Rattle.digests.proofs.EndingLemmas.{front-up_to, front-front, up_to-whole, Appends-then_kept, fails-more}
 use Rattle.std.proofs.KnownBytes.{Appends-trans}
 
 -- ---- failures, one call after another
@@ -50,12 +47,15 @@ fronts-of o line a w t t' oa ob ea eb answer asked rest is world out err cut = (
 whole-of : (o : Outcome) (line : Text) (status answer : ℕ) (a : Scene) (w : World) (t : Bool) (oa ob ea eb : Option Text)
     → answer ≡ status → Does a (record { world = w; taken = t; out = oa; err = ea }) o.out o.err o.asks
     → Keeps oa ob → Appends ea eb line → Whole o line status a (record { world = w; taken = t; out = ob; err = eb }) answer
-whole-of o line status answer a w t oa ob ea eb is does out err = (is, record {
-  world = does.world;
-  taken = does.taken;
-  out = Appends-then_kept a.out oa ob o.out does.out out;
-  err = Appends-trans a.err ea eb o.err line does.err err;
-})
+whole-of o line status answer a w t oa ob ea eb is does out err = (
+  is,
+  record {
+    world = does.world;
+    taken = does.taken;
+    out = Appends-then_kept a.out oa ob o.out does.out out;
+    err = Appends-trans a.err ea eb o.err line does.err err;
+  },
+)
 
 appends-none : (a b : Option Text) → Keeps a b → Appends a b []
 appends-none None b h = tt
@@ -64,31 +64,50 @@ appends-none (Some x) (Some y) h = h ∙ sym (append-nil x)
 
 -- ---- a run that answered, and its end
 
-pub ends : (line : Option CommandLine) (n m : ℕ) (s : Option Scene) (w : Option World) (t : Bool) (oa ob ea eb : Option Text)
+pub ends : (line : Option Call) (n m : ℕ) (s : Option Scene) (w : Option World) (t : Bool) (oa ob ea eb : Option Text)
     → (o o1 o' e e1 e' answer : ℕ) (r : Result ℕ Stop)
     → RunGives (outcome_of line) (place_in line) (WantsMemory line n m) s (scene_by w t oa ea) r
     → Failures o o1 e e1 r → Closes (stop_told (tool_of line)) r oa ob ea eb o1 o' e1 e' answer
     → EndsGives line n m (Kept o o' e e') (Failed o o' e e') s (scene_by w t ob eb) answer
-ends line n m None w t oa ob ea eb o o1 o' e e1 e' answer r run fails close = tt
-ends line n m (Some a) None t oa ob ea eb o o1 o' e e1 e' answer r run fails close = absurd run
+ends line n m None w t oa ob ea eb o o1 o' e e1 e' answer r run failures close = tt
+ends line n m (Some a) None t oa ob ea eb o o1 o' e e1 e' answer r run failures close = absurd run
 ends line n m (Some a) (Some w) t oa ob ea eb o o1 o' e e1 e' answer (Ok status) run kept (inl c) =
-    inl (inl (whole-of (outcome_of line a.world) [] _ answer a w t oa ob ea eb (c.0 ∙ run.0) run.1 c.1 (appends-none ea eb c.2),
-      kept-both o o1 o' e e1 e' kept c.3))
+    inl (inl (
+      whole-of (outcome_of line a.world) [] _ answer a w t oa ob ea eb (c.0 ∙ run.0) run.1 c.1 (appends-none ea eb c.2),
+      kept-both o o1 o' e e1 e' kept c.3,
+    ))
 ends line n m (Some a) (Some w) t oa ob ea eb o o1 o' e e1 e' answer (Ok status) run kept (inr c) =
     let x = outcome_of line a.world in
-    inl (inr (fronts-of x _ a w t t oa ob ea eb answer x.asks [] (sym (append-nil x.asks)) run.1.world
-      (up_to-whole a.out oa x.out run.1.out) (up_to-whole a.err ea x.err run.1.err) c.0, failed-since o o1 o' e e1 e' kept c.1))
+    inl (inr (
+      fronts-of x _ a w t t oa ob ea eb answer x.asks [] (sym (append-nil x.asks)) run.1.world
+          (up_to-whole a.out oa x.out run.1.out) (up_to-whole a.err ea x.err run.1.err) c.0,
+      failed-since o o1 o' e e1 e' kept c.1,
+    ))
 ends line n m (Some a) (Some w) t oa ob ea eb o o1 o' e e1 e' answer (Err Write) run rose c =
     let x = outcome_of line a.world in
-    inl (inr (fronts-of x _ a w t t oa ob ea eb answer run.0 run.1 run.2 run.3.world run.3.out run.3.err c.0,
-      failed-write o o1 o' e e1 e' rose c.1))
+    inl (inr (
+      fronts-of x _ a w t t oa ob ea eb answer run.0 run.1 run.2 run.3.world run.3.out run.3.err c.0,
+      failed-write o o1 o' e e1 e' rose c.1,
+    ))
 ends line n m (Some a) (Some w) t oa ob ea eb o o1 o' e e1 e' answer (Err Memory) run kept (inl c) =
-    inr (run.0, run.1, run.3,
-      inl (whole-of (place_in line a.world run.0 run.1) _ _ answer a w t oa ob ea eb c.0 run.2 c.1 c.2, kept-both o o1 o' e e1 e' kept c.3))
+    inr (
+      run.0,
+      run.1,
+      run.3,
+      inl (whole-of (place_in line a.world run.0 run.1) _ _ answer a w t oa ob ea eb c.0 run.2 c.1 c.2, kept-both o o1 o' e e1 e' kept c.3),
+    )
 ends line n m (Some a) (Some w) t oa ob ea eb o o1 o' e e1 e' answer (Err Memory) run kept (inr c) =
     let x = place_in line a.world run.0 run.1 in
-    inr (run.0, run.1, run.3, inr (fronts-of x _ a w t t oa ob ea eb answer x.asks [] (sym (append-nil x.asks)) run.2.world
-      (up_to-whole a.out oa x.out run.2.out) (up_to-whole a.err ea x.err run.2.err) c.0, failed-since o o1 o' e e1 e' kept c.1))
+    inr (
+      run.0,
+      run.1,
+      run.3,
+      inr (
+        fronts-of x _ a w t t oa ob ea eb answer x.asks [] (sym (append-nil x.asks)) run.2.world
+            (up_to-whole a.out oa x.out run.2.out) (up_to-whole a.err ea x.err run.2.err) c.0,
+        failed-since o o1 o' e e1 e' kept c.1,
+      ),
+    )
 
 -- the same where one line was written, and no tool ran
 said-fails : {E : Type 0} (A B : Type 0) (o e e1 : ℕ) (r : Result (Unit {0}) E)
@@ -103,9 +122,9 @@ Said text a b i j r =
 pub ends-unknown : {E : Type 0} (n m : ℕ) (w : Option World) (t : Bool) (oa ob ea em eb : Option Text) (o o' e e1 e' answer : ℕ)
     → (r : Result (Unit {0}) E) (told : Result ℕ Stop) → Said unknown_tool ea em e e1 r → told ≡ told_of r 1
     → Closes (stop_told None) told oa ob em eb o o' e1 e' answer
-    → EndsGives (Some UnknownTool) n m (Kept o o' e e') (Failed o o' e e') (scene_by w t oa ea) (scene_by w t ob eb) answer
+    → EndsGives (Some unknown) n m (Kept o o' e e') (Failed o o' e e') (scene_by w t oa ea) (scene_by w t ob eb) answer
 ends-unknown n m w t oa ob ea em eb o o' e e1 e' answer r told said is close =
-    let line = Some UnknownTool in
+    let line = Some unknown in
     let closed = subst (λ x. Closes (stop_told None) x oa ob em eb o o' e1 e' answer) is close in
     ends line n m (scene_by w t oa ea) w t oa ob em eb o o o' e e1 e' answer (told_of r 1)
     (said_on_err unknown_tool w t (place_in line) (WantsMemory line n m) oa ea em _ _ r said)
@@ -116,7 +135,7 @@ pub ends-not_read : {E : Type 0} (n m : ℕ) (w : Option World) (t : Bool) (oa o
     → Closes (stop_told None) told oa ob em eb o o' e1 e' answer
     → EndsGives None n m (Kept o o' e e') (Failed o o' e e') (scene_by w t oa ea) (scene_by w t ob eb) answer
 ends-not_read n m w t oa ob ea em eb o o' e e1 e' answer r told said is close =
-    let line : Option CommandLine = None in
+    let line : Option Call = None in
     let closed = subst (λ x. Closes (stop_told None) x oa ob em eb o o' e1 e' answer) is close in
     ends line n m (scene_by w t oa ea) w t oa ob em eb o o o' e e1 e' answer (told_of r 1)
     (said_on_err not_read w t (place_in line) (WantsMemory line n m) oa ea em _ _ r said)
@@ -124,12 +143,12 @@ ends-not_read n m w t oa ob ea em eb o o' e e1 e' answer r told said is close =
 
 -- ---- the command line is that of the arguments
 
-pub program-read : (told : Option (List Text)) (line : CommandLine) (n m : ℕ) (kept failed : Type 0) (a b : Option Scene)
-    → (answer : ℕ) → CommandLineIs told line → EndsGives (Some line) n m kept failed a b answer
+pub program-read : (told : Option (List Text)) (line : Call) (n m : ℕ) (kept failed : Type 0) (a b : Option Scene)
+    → (answer : ℕ) → CallIs told line → EndsGives (Some line) n m kept failed a b answer
     → ProgramGives told n m kept failed a b answer
 program-read None line n m kept failed a b answer is h = tt
 program-read (Some all) line n m kept failed a b answer is h =
-    let P : Option CommandLine → Type 0 = λ c. EndsGives c n m kept failed a b answer in inl (subst P (sym is) h)
+    let P : Option Call → Type 0 = λ c. EndsGives c n m kept failed a b answer in inl (subst P (sym is) h)
 
 pub program-not_read : (told : Option (List Text)) (n m : ℕ) (kept failed : Type 0) (a b : Option Scene) (answer : ℕ)
     → EndsGives None n m kept failed a b answer → ProgramGives told n m kept failed a b answer

@@ -1,7 +1,7 @@
 -- Joins the reading of the arguments to their list.
 use Rattle.std.specs.Prelude.{ℕ, ◌≡◌, ◌<◌, true, List, ◌++◌, take, drop, length, slice_get, Option, None, Some, Result, Ok, Err, ⊤}
 use Rattle.std.specs.List.{list_all}
-use Rattle.std.specs.Option.{option_map, option_and_then}
+use Rattle.std.specs.Option.{option_and_then}
 use Rattle.std.specs.Str.{is_utf8}
 use Rattle.std.specs.declared.env.FillError.{FillError}
 use Rattle.std.specs.declared.env.FillError.TheVariants.{NotPresent, TooLong}
@@ -9,7 +9,8 @@ use Rattle.digests.specs.declared.tool.Tool.{Tool}
 use Rattle.digests.specs.declared.command_line.CommandLine.{CommandLine}
 use Rattle.digests.specs.Items.{Text}
 use Rattle.digests.specs.Tools.{tool_called}
-use Rattle.digests.specs.Program.{last_part, command_line}
+use Rattle.digests.specs.declared.command_line.CommandLine.TheVariants.{UnknownTool, Asks}
+use Rattle.digests.specs.Program.{Call, unknown, call, last_part, command_line}
 
 -- what one call does where the arguments are told: the argument at the place stands in front of the buffer; or there is
 -- none; or it is longer than the buffer
@@ -46,6 +47,11 @@ abbrev pub WordsUpTo : Option (List Text) → ℕ → ℕ → List Text → Type
 WordsUpTo None first place words = ⊤
 WordsUpTo (Some all) first place words = (drop first all ≡ words ++ drop place all) × (list_all is_utf8 words ≡ true)
 
-abbrev pub CommandLineIs : Option (List Text) → CommandLine → Type 0
-CommandLineIs None c = ⊤
-CommandLineIs (Some all) c = command_line all ≡ Some c
+-- what the program's value calls for
+abbrev pub call_of : {A : Type 0} → CommandLine A → Call
+call_of UnknownTool = unknown
+call_of (Asks tool words) = call tool words
+
+abbrev pub CallIs : Option (List Text) → Call → Type 0
+CallIs None c = ⊤
+CallIs (Some all) c = command_line all ≡ Some c

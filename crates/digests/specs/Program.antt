@@ -1,5 +1,5 @@
 -- What the program does, from the list of its arguments (the name that it was called by, and the words) to its status.
-use Rattle.std.specs.Prelude.{ℕ, zero, suc, ◌≡◌, ◌==◌, ◌+◌, ◌<◌, ◌⊎◌, List, [], ◌∷◌, ◌++◌, Option, None, Some, ⊤, codes, if◌then◌else◌}
+use Rattle.std.specs.Prelude.{Result, Ok, ℕ, zero, suc, ◌≡◌, ◌==◌, ◌+◌, ◌<◌, ◌⊎◌, List, [], ◌∷◌, ◌++◌, Option, None, Some, ⊤, if◌then◌else◌}
 use Rattle.std.specs.List.{after_last, list_all}
 use Rattle.std.specs.Str.{is_utf8}
 use Rattle.sum_lines.specs.Sinks.{after_failure}
@@ -7,10 +7,8 @@ use Rattle.sum_engine.specs.declared.stop.Stop.{Stop}
 use Rattle.sum_engine.specs.declared.stop.Stop.TheVariants.{Memory, Write}
 use Rattle.sum_engine.specs.Worlds.{World, after}
 use Rattle.sum_engine.specs.Outcomes.{Outcome}
-use Rattle.sum_engine.specs.Scenes.{Scene, Does, Kept}
+use Rattle.sum_engine.specs.Scenes.{Scene, Does}
 use Rattle.digests.specs.declared.tool.Tool.{Tool}
-use Rattle.digests.specs.declared.command_line.CommandLine.{CommandLine}
-use Rattle.digests.specs.declared.command_line.CommandLine.TheVariants.{UnknownTool, Asks}
 use Rattle.digests.specs.Items.{Text}
 use Rattle.digests.specs.Request.{request}
 use Rattle.digests.specs.Tools.{name_of, tool_called}
@@ -22,46 +20,51 @@ use Rattle.digests.specs.Runs.{Wanting}
 abbrev pub last_part : Text → Text
 last_part path = after_last (λ b. b == 47) path
 
--- the first word names the tool, and the others are its words
-abbrev pub on_words : Option Tool → List Text → CommandLine
-on_words None words = UnknownTool
-on_words (Some tool) words = Asks tool words
+-- what a command line calls for: an unknown tool, or this one on these words
+pub data Call : Type 0 where
+  unknown : Call
+  call : Tool → List Text → Call
 
-abbrev pub by_word : List Text → CommandLine
-by_word [] = UnknownTool
+-- the first word names the tool, and the others are its words
+abbrev pub on_words : Option Tool → List Text → Call
+on_words None words = unknown
+on_words (Some tool) words = call tool words
+
+abbrev pub by_word : List Text → Call
+by_word [] = unknown
 by_word (word ∷ words) = on_words (tool_called word) words
 
 -- but where the program was called by a tool's name, all words are that tool's
-abbrev pub by_name : Option Tool → List Text → CommandLine
+abbrev pub by_name : Option Tool → List Text → Call
 by_name None words = by_word words
-by_name (Some tool) words = Asks tool words
+by_name (Some tool) words = call tool words
 
 -- nothing, where a word is not a text
-abbrev pub command_line : List Text → Option CommandLine
-command_line [] = Some UnknownTool
+abbrev pub command_line : List Text → Option Call
+command_line [] = Some unknown
 command_line (name ∷ words) =
     if list_all is_utf8 words then Some (by_name (tool_called (last_part name)) words) else None
 
 -- what that comes to, what of it stands at a place, which places want memory, and the line that tells of a stop
-abbrev pub outcome_of : Option CommandLine → World → Outcome
+abbrev pub outcome_of : Option Call → World → Outcome
 outcome_of None w = on_err not_read
-outcome_of (Some UnknownTool) w = on_err unknown_tool
-outcome_of (Some (Asks tool words)) w = meaning tool words w
+outcome_of (Some unknown) w = on_err unknown_tool
+outcome_of (Some (call tool words)) w = meaning tool words w
 
-abbrev pub place_in : Option CommandLine → World → ℕ → ℕ → Outcome
-place_in (Some (Asks tool words)) w j k = place tool words w j k
+abbrev pub place_in : Option Call → World → ℕ → ℕ → Outcome
+place_in (Some (call tool words)) w j k = place tool words w j k
 place_in line w j k = nothing
 
-abbrev pub WantsMemory : Option CommandLine → ℕ → ℕ → World → ℕ → ℕ → Type 0
-WantsMemory (Some (Asks tool words)) n m w j k = Wanting n m (name_of tool) w (request tool words) j k
+abbrev pub WantsMemory : Option Call → ℕ → ℕ → World → ℕ → ℕ → Type 0
+WantsMemory (Some (call tool words)) n m w j k = Wanting n m (name_of tool) w (request tool words) j k
 WantsMemory line n m w j k = ⊥
 
 abbrev pub stop_told : Option Tool → Stop → Text
 stop_told None stop = []
 stop_told (Some tool) stop = stop_line tool stop
 
-abbrev pub tool_of : Option CommandLine → Option Tool
-tool_of (Some (Asks tool words)) = Some tool
+abbrev pub tool_of : Option Call → Option Tool
+tool_of (Some (call tool words)) = Some tool
 tool_of line = None
 
 -- what an output holds is a front of what it held and then the text
@@ -82,6 +85,10 @@ fails (suc k) n = after_failure (fails k n)
 abbrev pub Failed : ℕ → ℕ → ℕ → ℕ → Type 0
 Failed o o' e e' = (i : ℕ) × (j : ℕ) × (0 < i + j) × (o' ≡ fails i o) × (e' ≡ fails j e)
 
+-- an output was asked in the end whether it keeps what it took, and does
+abbrev pub IsKept : {O E : Type 0} → (O → Result (Unit {0}) E → O → Type 0) → O → Type 0
+IsKept {O} finish_gives out = (below : O) × finish_gives below (Ok tt) out
+
 -- the whole of an outcome, and then a line on standard error
 abbrev pub Whole : Outcome → Text → ℕ → Scene → Scene → ℕ → Type 0
 Whole o line status a b answer = (answer ≡ status) × Does a b o.out (o.err ++ line) o.asks
@@ -93,14 +100,14 @@ Fronts o line a b answer = (answer ≡ 1) × ((asked : List Text) × (rest : Lis
 
 -- how a program ends: with all that its command line comes to; or fronts of it, where an output failed; or at a place
 -- where memory was wanted, with all that stands there, or fronts of that where an output failed too
-abbrev pub EndsAs : Option CommandLine → ℕ → ℕ → Type 0 → Type 0 → Scene → Scene → ℕ → Type 0
+abbrev pub EndsAs : Option Call → ℕ → ℕ → Type 0 → Type 0 → Scene → Scene → ℕ → Type 0
 EndsAs line n m kept failed a b answer =
     (let o = outcome_of line a.world in (Whole o [] (status_of o.good) a b answer × kept)
     ⊎ (Fronts o (stop_told (tool_of line) Write) a b answer × failed))
     ⊎ ((j : ℕ) × (k : ℕ) × WantsMemory line n m a.world j k × (let o = place_in line a.world j k in
     (Whole o (stop_told (tool_of line) Memory) 1 a b answer × kept) ⊎ (Fronts o (stop_told (tool_of line) Memory) a b answer × failed)))
 
-abbrev pub EndsGives : Option CommandLine → ℕ → ℕ → Type 0 → Type 0 → Option Scene → Option Scene → ℕ → Type 0
+abbrev pub EndsGives : Option Call → ℕ → ℕ → Type 0 → Type 0 → Option Scene → Option Scene → ℕ → Type 0
 EndsGives line n m kept failed None b answer = ⊤
 EndsGives line n m kept failed (Some a) None answer = ⊥
 EndsGives line n m kept failed (Some a) (Some b) answer = EndsAs line n m kept failed a b answer

@@ -2,8 +2,7 @@
 ghost use Rattle.std.specs.Prelude.{◌≡◌, None, Some, IfOk};
 ghost use Rattle.std.specs.Io.KnownBytes.{append_known};
 ghost use Rattle.sum_engine.specs.Scenes.{scene, Kept};
-ghost use Rattle.digests.specs.declared.command_line.CommandLine.TheVariants.{Asks};
-ghost use Rattle.digests.specs.Program.{ProgramGives, EndsGives, Failed};
+ghost use Rattle.digests.specs.Program.{ProgramGives, EndsGives, Failed, IsKept, call};
 
 use crate::arguments::Arguments;
 use crate::command_line::{CommandLine, NotRead, read_command_line};
@@ -13,7 +12,7 @@ use crate::reading::{Request, read_words};
 use crate::run::{answer, told};
 use crate::tool::Tool;
 use crate::words::Words;
-use std::alloc::Global;
+use std::alloc::Allocator;
 use sum_engine::Settings;
 use sum_lines::{Finish, Sink, Style, WholeLines, put_all};
 use sum_sources::{Input, Source, Stdin};
@@ -25,20 +24,21 @@ use sum_sources::{Input, Source, Stdin};
 /// `digests: words not read` on standard error and status 1 where a word isn't UTF-8, or memory for the words was
 /// refused; `digests: unknown tool` and status 1 where there is no such tool. After a stop, `TOOL: memory exhausted` or
 /// `TOOL: write error` where that can be written, and status 1.
-pub fn command<G: Arguments, I: Input + Drop, S: Source, O: Finish, E: Sink>(
-    alloc: Global,
+pub fn command<A: Allocator + Copy, G: Arguments, I: Input + Drop, S: Source, O: Finish, E: Sink>(
+    alloc: A,
     arguments: &G,
     stdin: &mut Stdin<I>,
     source: &mut S,
     out: &mut WholeLines<O>,
     err: &mut WholeLines<E>,
 ) -> u8
-    ensures { ProgramGives (G.told arguments.now) (S.refusals source.old) (S.refusals source.new)
+    ensures gives { ProgramGives (G.told arguments.now) (S.refusals source.old) (S.refusals source.new)
         (Kept (O.failures out.old.sink) (O.failures out.new.sink) (E.failures err.old.sink) (E.failures err.new.sink))
         (Failed (O.failures out.old.sink) (O.failures out.new.sink) (E.failures err.old.sink) (E.failures err.new.sink))
         (scene I.content (S.told source.old) stdin.old (append_known (O.written out.old.sink) out.old.held)
         (append_known (E.written err.old.sink) err.old.held))
         (scene I.content (S.told source.new) stdin.new (O.written out.new.sink) (E.written err.new.sink)) result }
+    ensures kept { result ≡ 0 → IsKept O.finish_gives out.new.sink }
 {
     match read_command_line(alloc, arguments) {
         Ok(CommandLine::Asks(tool, words)) => {
@@ -56,21 +56,22 @@ pub fn command<G: Arguments, I: Input + Drop, S: Source, O: Finish, E: Sink>(
 }
 
 // Runs the tool on its words, and ends.
-fn perform<I: Input + Drop, S: Source, O: Finish, E: Sink>(
-    alloc: Global,
+fn perform<A: Allocator + Copy, I: Input + Drop, S: Source, O: Finish, E: Sink>(
+    alloc: A,
     tool: Tool,
-    words: &Words,
+    words: &Words<A>,
     stdin: &mut Stdin<I>,
     source: &mut S,
     out: &mut WholeLines<O>,
     err: &mut WholeLines<E>,
 ) -> u8
-    ensures { EndsGives (Some (Asks tool words.now)) (S.refusals source.old) (S.refusals source.new)
+    ensures gives { EndsGives (Some (call tool words.now)) (S.refusals source.old) (S.refusals source.new)
         (Kept (O.failures out.old.sink) (O.failures out.new.sink) (E.failures err.old.sink) (E.failures err.new.sink))
         (Failed (O.failures out.old.sink) (O.failures out.new.sink) (E.failures err.old.sink) (E.failures err.new.sink))
         (scene I.content (S.told source.old) stdin.old (append_known (O.written out.old.sink) out.old.held)
         (append_known (E.written err.old.sink) err.old.held))
         (scene I.content (S.told source.new) stdin.new (O.written out.new.sink) (E.written err.new.sink)) result }
+    ensures kept { result ≡ 0 → IsKept O.finish_gives out.new.sink }
 {
     let asked = read_words(tool, words);
     out.end_lines_with(end_of_lines(&asked));
@@ -81,7 +82,18 @@ fn perform<I: Input + Drop, S: Source, O: Finish, E: Sink>(
 // The byte that ends each line of standard output: a newline, or NUL where the words ask for that.
 fn end_of_lines(asked: &Result<Request, WordFault>) -> u8 {
     match asked {
-        Ok(Request::Generate(Settings { kind: _, style: Style { mode: _, zero: true } }, _)) => b'\0',
+        Ok(
+            Request::Generate(
+                Settings {
+                    kind: _,
+                    style: Style {
+                        mode: _,
+                        zero: true,
+                    },
+                },
+                _,
+            ),
+        ) => b'\0',
         _ => b'\n',
     }
 }

@@ -2,14 +2,14 @@
 ghost use Rattle.std.specs.Prelude.{◌≡◌, ◌≤◌, ◌<◌, ◌+◌, ℕ, length, vec_len, Some, take, IfOk, IfSome, OnOk};
 ghost use Rattle.std.specs.Option.{option_map};
 ghost use Rattle.digests.specs.Tools.{tool_called};
-ghost use Rattle.digests.specs.Arguments.{ArgumentIs, WordsAre, IsNameOf, IsFirstWord, CommandLineIs};
+ghost use Rattle.digests.specs.Arguments.{ArgumentIs, WordsAre, IsNameOf, IsFirstWord, CallIs, call_of};
 ghost use Rattle.digests.specs.Program.{last_part};
 
 use crate::arguments::Arguments;
 use crate::tool::Tool;
 use crate::words::Words;
 use memchr::memrchr;
-use std::alloc::{AllocError, Global};
+use std::alloc::{AllocError, Allocator};
 use std::env::FillError;
 
 /// How long an argument may be that is read without taking memory. A page costs a short run the least.
@@ -21,20 +21,20 @@ pub struct NotRead;
 
 /// What a command line asks for.
 #[derive(Drop)]
-pub enum CommandLine {
+pub enum CommandLine<A: Allocator> {
     /// No tool, or one that there isn't.
     UnknownTool,
     /// This tool, on these words.
-    Asks(Tool, Words),
+    Asks(Tool, Words<A>),
 }
 
 /// Reads the command line. The last part of the name by which the program was called is the tool's, where it is one;
 /// else the first word is. Each word has to be UTF-8.
-pub fn read_command_line<G: Arguments>(
-    alloc: Global,
+pub fn read_command_line<A: Allocator + Copy, G: Arguments>(
+    alloc: A,
     arguments: &G,
-) -> Result<CommandLine, NotRead>
-    ensures { IfOk result (CommandLineIs (G.told arguments.now)) }
+) -> Result<CommandLine<A>, NotRead>
+    ensures { IfOk result (λ line. CallIs (G.told arguments.now) (call_of line)) }
 {
     let mut page = [0; PAGE];
     let mut more = Vec::new(alloc);
@@ -53,11 +53,11 @@ pub fn read_command_line<G: Arguments>(
 
 // The argument at this place, `None` past the last. It is copied to the page, or where it is longer to the vector, which
 // grows for it.
-fn argument<'a, G: Arguments>(
+fn argument<'a, A: Allocator, G: Arguments>(
     arguments: &G,
     place: usize,
     page: &'a mut [u8],
-    more: &'a mut Vec<u8>,
+    more: &'a mut Vec<u8, A>,
 ) -> Result<Option<&'a [u8]>, NotRead>
     ensures { IfOk result (λ o. ArgumentIs (G.told arguments.now) place (option_map (λ s. s.now) o)) }
 {
@@ -72,10 +72,10 @@ fn argument<'a, G: Arguments>(
 }
 
 // Copies the argument at this place to the vector's front and answers its length.
-fn fill_growing<G: Arguments>(
+fn fill_growing<A: Allocator, G: Arguments>(
     arguments: &G,
     place: usize,
-    more: &mut Vec<u8>,
+    more: &mut Vec<u8, A>,
 ) -> Result<Option<usize>, NotRead>
     ensures within { IfOk result (λ o. IfSome o (λ n. n ≤ vec_len more.new)) }
     ensures bytes { IfOk result (λ o. ArgumentIs (G.told arguments.now) place
@@ -95,7 +95,7 @@ fn fill_growing<G: Arguments>(
 }
 
 // Makes the vector longer, and at least twice as long as it was.
-fn grow(more: &mut Vec<u8>) -> Result<(), AllocError>
+fn grow<A: Allocator>(more: &mut Vec<u8, A>) -> Result<(), AllocError>
     ensures { OnOk result (vec_len more.old < vec_len more.new) }
 {
     let len = more.len();
@@ -106,10 +106,10 @@ fn grow(more: &mut Vec<u8>) -> Result<(), AllocError>
 }
 
 // The tool that is called by the last part of the name by which the program was called.
-fn tool_called_by_name<G: Arguments>(
+fn tool_called_by_name<A: Allocator, G: Arguments>(
     arguments: &G,
     page: &mut [u8],
-    more: &mut Vec<u8>,
+    more: &mut Vec<u8, A>,
 ) -> Result<Option<Tool>, NotRead>
     ensures { IfOk result (λ tool. IsNameOf (G.told arguments.now) tool) }
 {
@@ -130,10 +130,10 @@ fn last_part(path: &[u8]) -> &[u8]
 }
 
 // The tool that is called by the first word.
-fn tool_called_by_word<G: Arguments>(
+fn tool_called_by_word<A: Allocator, G: Arguments>(
     arguments: &G,
     page: &mut [u8],
-    more: &mut Vec<u8>,
+    more: &mut Vec<u8, A>,
 ) -> Result<Option<Tool>, NotRead>
     ensures { IfOk result (λ tool. IsFirstWord (G.told arguments.now) tool) }
 {
@@ -147,13 +147,13 @@ fn tool_called_by_word<G: Arguments>(
 }
 
 // The arguments from this place on, each of which has to be a text.
-fn words_from<G: Arguments>(
-    alloc: Global,
+fn words_from<A: Allocator + Copy, G: Arguments>(
+    alloc: A,
     arguments: &G,
     first: usize,
     page: &mut [u8],
-    more: &mut Vec<u8>,
-) -> Result<Words, NotRead>
+    more: &mut Vec<u8, A>,
+) -> Result<Words<A>, NotRead>
     ensures { IfOk result (λ words. WordsAre (G.told arguments.now) first words) }
 {
     let mut words = Words::new(alloc);

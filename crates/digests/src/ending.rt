@@ -1,8 +1,8 @@
 //! The end of a run: what its outputs hold is handed on, and a stop is told.
-ghost use Rattle.std.specs.Prelude.{◌≡◌, []};
+ghost use Rattle.std.specs.Prelude.{◌≡◌, [], OnOk};
 ghost use Rattle.std.specs.Io.KnownBytes.{append_known};
 ghost use Rattle.digests.specs.Endings.{Settles, SettlesBoth, Says, Closes};
-ghost use Rattle.digests.specs.Program.{stop_told};
+ghost use Rattle.digests.specs.Program.{stop_told, IsKept};
 
 use crate::faults::put_stop;
 use crate::tool::Tool;
@@ -18,10 +18,11 @@ pub(crate) fn close<O: Finish, E: Sink>(
     out: &mut WholeLines<O>,
     err: &mut WholeLines<E>,
 ) -> u8
-    ensures { Closes (stop_told tool) answer
+    ensures text { Closes (stop_told tool) answer
         (append_known (O.written out.old.sink) out.old.held) (O.written out.new.sink)
         (append_known (E.written err.old.sink) err.old.held) (E.written err.new.sink)
         (O.failures out.old.sink) (O.failures out.new.sink) (E.failures err.old.sink) (E.failures err.new.sink) result }
+    ensures kept { result ≡ 0 → IsKept O.finish_gives out.new.sink }
 {
     match answer {
         Ok(status) => match hand_on(out, err) {
@@ -57,6 +58,7 @@ fn hand_on<O: Finish, E: Sink>(
         (append_known (E.written err.old.sink) err.old.held) (E.written err.new.sink)
         (O.failures out.old.sink) (O.failures out.new.sink) (E.failures err.old.sink) (E.failures err.new.sink) result }
     ensures none { err.new.held ≡ [] }
+    ensures kept { OnOk result (IsKept O.finish_gives out.new.sink) }
 {
     let kept = hand_over(out);
     let told = err.flush();
@@ -65,8 +67,9 @@ fn hand_on<O: Finish, E: Sink>(
 
 // Hands on what the output holds, and sees to it that all of it is kept.
 fn hand_over<O: Finish>(out: &mut WholeLines<O>) -> Result<(), SinkFault>
-    ensures { Settles (append_known (O.written out.old.sink) out.old.held) (O.written out.new.sink)
+    ensures text { Settles (append_known (O.written out.old.sink) out.old.held) (O.written out.new.sink)
         (O.failures out.old.sink) (O.failures out.new.sink) result }
+    ensures kept { OnOk result (IsKept O.finish_gives out.new.sink) }
 {
     out.flush()?;
     out.finish()

@@ -11,7 +11,8 @@ ghost use Rattle.digests.specs.declared.tool.Tool.{Tool};
 use crate::faults::WordFault;
 use crate::options::Flag;
 use crate::tool::Tool;
-use crate::words::Words;
+use crate::words::{LentWords, Words};
+use std::alloc::Allocator;
 use std::marker::Model;
 
 /// What words say: an option without a value, the value of `--length`, an operand, or that something is wrong.
@@ -27,7 +28,7 @@ pub enum Item<'a> {
 #[derive(Drop)]
 pub struct Items<'a> {
     tool: Tool,
-    words: &'a Words,
+    words: LentWords<'a>,
     at: usize,
     state: State<'a>,
 }
@@ -57,17 +58,17 @@ impl<'a> Model for Items<'a> {
 
     ghost Value = { List Item };
 
-    ghost view = { λ i. to_come i.tool i.state (drop i.at i.words.now) };
+    ghost view = { λ i. to_come i.tool i.state (drop i.at i.words) };
 }
 
 impl<'a> Items<'a> {
     /// All items of the words.
-    pub fn new(tool: Tool, words: &'a Words) -> Items<'a>
+    pub fn new<A: Allocator>(tool: Tool, words: &'a Words<A>) -> Items<'a>
         ensures { result ≡ items tool words.now }
     {
         Items {
             tool,
-            words,
+            words: words.lent(),
             at: 0,
             state: State::Word,
         }
@@ -81,14 +82,14 @@ impl<'a> Items<'a> {
             State::Ended => return None,
             State::Operands => Step::Operands,
             State::Cluster(letter, rest) => letter_step(self.tool, letter, rest),
-            State::Word => word_step(self.tool, take_word(self.words, &mut self.at)?),
+            State::Word => word_step(self.tool, take_word(&self.words, &mut self.at)?),
         };
-        say(self.tool, self.words, &mut self.at, &mut self.state, step)
+        say(self.tool, &self.words, &mut self.at, &mut self.state, step)
     }
 }
 
 // The word at a place, which goes on.
-fn take_word<'a>(words: &'a Words, at: &mut usize) -> Option<&'a str>
+fn take_word<'a>(words: &LentWords<'a>, at: &mut usize) -> Option<&'a str>
     ensures { TakesWord (drop at.old words.now) (option_copied result) (drop at.new words.now) }
 {
     let word = words.get(*at)?;
@@ -99,7 +100,7 @@ fn take_word<'a>(words: &'a Words, at: &mut usize) -> Option<&'a str>
 // The item that a step says.
 fn say<'a>(
     tool: Tool,
-    words: &'a Words,
+    words: &LentWords<'a>,
     at: &mut usize,
     state: &mut State<'a>,
     step: Step<'a>,
@@ -252,7 +253,7 @@ impl<'a> Model for Operands<'a> {
 
 impl<'a> Operands<'a> {
     /// All operands that a tool's words give.
-    pub fn new(tool: Tool, words: &'a Words) -> Operands<'a>
+    pub fn new<A: Allocator>(tool: Tool, words: &'a Words<A>) -> Operands<'a>
         ensures { result ≡ operands_of (items tool words.now) }
     {
         Operands {

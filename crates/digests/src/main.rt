@@ -23,13 +23,13 @@ pub mod words;
 use arguments::SystemArguments;
 use command::command;
 use std::process::ExitCode;
-use streams::{StandardOutput, standard_input};
+use streams::standard_input;
 use sum_lines::{FromWrite, WholeLines};
 use sum_sources::{Files, Stdin};
 
 fn main(rt: HostRuntime) -> ExitCode {
     let mut stdin = Stdin::new(standard_input(rt.stdin()));
-    let mut out = WholeLines::new(FromWrite::new(StandardOutput::new(rt.stdout())), b'\n');
+    let mut out = WholeLines::new(FromWrite::new(rt.stdout()), b'\n');
     let mut err = WholeLines::new(FromWrite::new(rt.stderr()), b'\n');
     let status = command(
         rt.alloc(),

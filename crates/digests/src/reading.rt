@@ -14,6 +14,7 @@ use crate::options::Flag;
 use crate::tool::Tool;
 use crate::words::Words;
 use digest_kinds::{Algos, Kind, LengthFault};
+use std::alloc::Allocator;
 use sum_engine::{CheckSettings, Report, Settings};
 use sum_lines::{Mode, Style};
 
@@ -33,7 +34,10 @@ pub enum Request<'a> {
 /// What a tool's words ask for (coreutils manual, "md5sum invocation" and "b2sum invocation"). An unknown, ambiguous or
 /// incomplete option, `--help` and `--version` decide where they come first; else the first fault holds in the order of
 /// [`WordFault`]. It takes no memory.
-pub fn read_words<'a>(tool: Tool, words: &'a Words) -> Result<Request<'a>, WordFault<'a>>
+pub fn read_words<'a, A: Allocator>(
+    tool: Tool,
+    words: &'a Words<A>,
+) -> Result<Request<'a>, WordFault<'a>>
     ensures { answer_of result ≡ request tool words.now }
 {
     let chosen = match read_options(tool, words) {
@@ -88,9 +92,9 @@ struct Chosen<'a> {
 }
 
 // What all options say, or the answer where one of the words decides it.
-fn read_options<'a>(
+fn read_options<'a, A: Allocator>(
     tool: Tool,
-    words: &'a Words,
+    words: &'a Words<A>,
 ) -> Result<Chosen<'a>, Result<Request<'a>, WordFault<'a>>>
     ensures read { MatchResult result (λ c. chosen_of c ≡ options (items tool words.now))
         (λ r. first_of ends (items tool words.now) ≡ Some (answer_of r)) }

@@ -28,7 +28,7 @@ use sum_sources::{Input, Source, Stdin};
 pub fn run<A: Allocator + Copy, I: Input + Drop, S: Source, O: Sink, E: Sink>(
     alloc: A,
     tool: Tool,
-    words: &Words,
+    words: &Words<A>,
     stdin: &mut Stdin<I>,
     source: &mut S,
     out: &mut O,

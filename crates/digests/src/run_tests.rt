@@ -2,6 +2,7 @@
 mod checking;
 mod generating;
 mod hostile;
+mod program;
 mod words;
 
 use crate::run::run;
@@ -93,23 +94,25 @@ fn run_line(
     files: &mut ToldSource<Global>,
     stops: (usize, usize),
 ) -> Result<Run, Fail> {
-    run_line_on(alloc, alloc, line, input, files, stops)
+    let run = run_line_on(alloc, line, input, files, stops)?;
+    Ok(run.ok_or("no room for the words")?)
 }
 
-// The same, with the words of the line in memory and all else on a heap.
+// The same on a heap: `None` where it has no room for the words.
 fn run_line_on<A: Allocator + Copy>(
-    alloc: Global,
     heap: A,
     line: &str,
     input: Told,
     files: &mut ToldSource<A>,
     (out_stop, err_stop): (usize, usize),
-) -> Result<Run, Fail> {
+) -> Result<Option<Run>, Fail> {
     let mut parts = line.split(' ');
     let tool = Tool::from_word(parts.next().unwrap_or("")).ok_or("no such tool")?;
-    let mut words = Words::new(alloc);
+    let mut words = Words::new(heap);
     for word in parts {
-        words.add(word)?;
+        if words.add(word).is_err() {
+            return Ok(None);
+        }
     }
     let mut out = ToldSink::new(out_stop);
     let mut err = ToldSink::new(err_stop);
@@ -122,7 +125,7 @@ fn run_line_on<A: Allocator + Copy>(
         &mut out,
         &mut err,
     );
-    Ok(Run { out, err, answer })
+    Ok(Some(Run { out, err, answer }))
 }
 
 // A line, what it writes on standard output and on standard error, and the status that it answers.

@@ -12,7 +12,7 @@ use sum_engine::{CheckSettings, Report, Stop};
 use sum_lines::{Mode, ToldSink};
 
 // The words of a line, parted by spaces.
-fn words_of(alloc: Global, line: &str) -> Result<Words, NoRoom> {
+fn words_of(alloc: Global, line: &str) -> Result<Words<Global>, NoRoom> {
     let mut words = Words::new(alloc);
     for word in line.split_whitespace() {
         words.add(word)?;

@@ -41,11 +41,13 @@ is_raw Undecided tail raw h = absurd (none_some raw h)
 is_raw Reversed tail raw h = sym (some_same tail raw h)
 is_raw Standard tail raw h = standard_raw tail raw (begins_standard tail) refl h
 
-named_some : (t : Parts) (o : Option (List ℕ)) (s : Spelled) → named t o ≡ Some s → (n : List ℕ) × (o ≡ Some n) × (record { algo = t.kind.algo; digest = t.digest; name = n } ≡ s)
+named_some : (t : Parts) (o : Option (List ℕ)) (s : Spelled) → named t o ≡ Some s
+    → (n : List ℕ) × (o ≡ Some n) × (record { algo = t.kind.algo; digest = t.digest; name = n } ≡ s)
 named_some t None s h = absurd (none_some s h)
 named_some t (Some n) s h = (n, refl, some_same (record { algo = t.kind.algo; digest = t.digest; name = n }) s h)
 
-spelled_some : (p : Profile) (t : Parts) (o : Option (List ℕ)) (s : Spelled) → spelled p t o ≡ Some s → (raw : List ℕ) × (o ≡ Some raw) × (named t (name_of p t.escaped raw) ≡ Some s)
+spelled_some : (p : Profile) (t : Parts) (o : Option (List ℕ)) (s : Spelled) → spelled p t o ≡ Some s
+    → (raw : List ℕ) × (o ≡ Some raw) × (named t (name_of p t.escaped raw) ≡ Some s)
 spelled_some p t None s h = absurd (none_some s h)
 spelled_some p t (Some raw) s h = (raw, refl, h)
 
@@ -53,8 +55,8 @@ not_tagged : (algos : Algos) (line : List ℕ) (e : Bool) (kind : KindValue) (d 
 not_tagged algos line e kind d tail None p h = refl
 not_tagged algos line e kind d tail (Some q) p h = absurd (apart algos algos line e q.escaped kind q.kind d q.digest tail q.text p (read_is_tagged algos line q h))
 
-pub entry_value : (p : Profile) (algos : Algos) (f : Form) (line : List ℕ) (s : Spelled) → Entry (escape_by p) algos f line s
-    → entry_of p algos f line ≡ Some s
+pub entry_value : (p : Profile) (algos : Algos) (f : Form) (line : List ℕ) (s : Spelled)
+    → Entry (escape_by p) algos f line s → entry_of p algos f line ≡ Some s
 unfolding entry_of
 entry_value p algos f line s (i, inl t) =
     let q : Parts = record { escaped = t.escaped; kind = kind_of s; digest = s.digest; text = t.raw } in
@@ -62,17 +64,19 @@ entry_value p algos f line s (i, inl t) =
     ∙ ap (named q) (name_is p t.escaped t.raw s.name t.spells)
 entry_value p algos f line s (i, inr t) =
     let q : Parts = record { escaped = t.escaped; kind = kind_of s; digest = s.digest; text = t.tail } in
-    ap (λ x. entry_by p f x (plain_of algos line)) (not_tagged algos line t.escaped (kind_of s) s.digest t.tail (tagged_of algos line) t.plain refl)
+    ap (λ x. entry_by p f x (plain_of algos line))
+    (not_tagged algos line t.escaped (kind_of s) s.digest t.tail (tagged_of algos line) t.plain refl)
     ∙ ap (entry_by p f None) (plain_is_read algos line q t.plain) ∙ ap (spelled p q) (raw_is f t.tail t.raw t.is_raw)
     ∙ ap (named q) (name_is p t.escaped t.raw s.name t.spells)
 
-by_parts : (p : Profile) (algos : Algos) (f : Form) (line : List ℕ) (s : Spelled) (t q : Option Parts) → tagged_of algos line ≡ t
-    → plain_of algos line ≡ q → entry_by p f t q ≡ Some s
+by_parts : (p : Profile) (algos : Algos) (f : Form) (line : List ℕ) (s : Spelled) (t q : Option Parts)
+    → tagged_of algos line ≡ t → plain_of algos line ≡ q → entry_by p f t q ≡ Some s
     → ByTag (escape_by p) algos line s ⊎ ByTail (escape_by p) algos f line s
 by_parts p algos f line s (Some u) q i j h =
     let n = named_some u (name_of p u.escaped u.text) s h in
     let t = read_is_tagged algos line u i in
-    let kind : u.kind ≡ record { algo = u.kind.algo; len = length u.digest } = ap (λ l. record { algo = u.kind.algo; len = l }) (sym t.size) in
+    let kind : u.kind ≡ record { algo = u.kind.algo; len = length u.digest } =
+    ap (λ l. record { algo = u.kind.algo; len = l }) (sym t.size) in
     inl (subst (λ (x : Spelled). ByTag (escape_by p) algos line x) n.2 (record {
       escaped = u.escaped;
       raw = u.text;
@@ -84,7 +88,8 @@ by_parts p algos f line s None (Some u) i j h =
     let r = spelled_some p u (raw_of f u.text) s h in
     let n = named_some u (name_of p u.escaped r.0) s r.2 in
     let t = read_is_plain algos line u j in
-    let kind : u.kind ≡ record { algo = u.kind.algo; len = length u.digest } = ap (λ l. record { algo = u.kind.algo; len = l }) (sym t.size) in
+    let kind : u.kind ≡ record { algo = u.kind.algo; len = length u.digest } =
+    ap (λ l. record { algo = u.kind.algo; len = l }) (sym t.size) in
     inr (subst (λ (x : Spelled). ByTail (escape_by p) algos f line x) n.2 (record {
       escaped = u.escaped;
       tail = u.text;
@@ -97,7 +102,8 @@ by_parts p algos f line s None (Some u) i j h =
 pub value_entry : (p : Profile) (algos : Algos) (f : Form) (line : List ℕ) (s : Spelled) → ignored line ≡ false
     → entry_of p algos f line ≡ Some s → Entry (escape_by p) algos f line s
 unfolding entry_of
-value_entry p algos f line s i h = (i, by_parts p algos f line s (tagged_of algos line) (plain_of algos line) refl refl h)
+value_entry p algos f line s i h =
+    (i, by_parts p algos f line s (tagged_of algos line) (plain_of algos line) refl refl h)
 
 pub entry_is : EntryIs
 entry_is p algos f line s i = (entry_value p algos f line s, value_entry p algos f line s i)
@@ -111,7 +117,8 @@ no_entry algos f line (Some s) i h is = absurd (h s (value_entry Present algos f
 pub reads_says : (algos : Algos) (f : Form) (old new : List ℕ) (r : Reading) → Reads algos f old new r
     → said_by new r ≡ says Present algos f old
 reads_says algos f old new readings.Ignored h = rw h.0 refl
-reads_says algos f old new readings.Bad h = rw h.0 (sym (no_entry algos f old (entry_of Present algos f old) h.0 h.1 refl))
+reads_says algos f old new readings.Bad h =
+    rw h.0 (sym (no_entry algos f old (entry_of Present algos f old) h.0 h.1 refl))
 reads_says algos f old new (readings.Entry kind digest start stop) h =
     rw h.3.0 (ap said_of (sym (entry_value Present algos f old _ h.3)))
 

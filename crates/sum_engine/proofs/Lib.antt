@@ -14,3 +14,4 @@ pub mod SameFront
 pub mod GoodLemmas
 pub mod OldNames
 pub mod OldVerdicts
+pub mod TakingLemmas

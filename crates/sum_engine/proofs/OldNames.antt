@@ -100,7 +100,8 @@ abbrev SameName : List ℕ → Type 0
 SameName raw = (unescape Older raw ≡ unescape Present raw) × CleanName (unescape Present raw)
 
 abbrev SameOnto : Option ℕ → Option ℕ → List ℕ → Type 0
-SameOnto o q raw = (onto o (unescape Older raw) ≡ onto q (unescape Present raw)) × CleanName (onto q (unescape Present raw))
+SameOnto o q raw = (onto o (unescape Older raw) ≡ onto q (unescape Present raw))
+    × CleanName (onto q (unescape Present raw))
 
 same_onto : (o q : Option ℕ) (raw : List ℕ) → o ≡ q → CleanByte q → SameName raw → SameOnto o q raw
 same_onto o q raw is clean h = (
@@ -282,7 +283,8 @@ pub says_same : (algos : Algos) (f : Form) (line : List ℕ) → NoReturn line �
 says_same algos f [] free none some = absurd (omega (arith, some))
 says_same algos f (b ∷ bs) free none some =
     let e = entry_same algos f (b ∷ bs) free none in
-    let i = ignored (b ∷ bs) in (
+    let i = ignored (b ∷ bs) in
+    let new = entry_of Present algos f (b ∷ bs) in (
       ap (λ o. cond i Nothing (said_of o)) e.0,
-      unless_ignored i (said_of (entry_of Present algos f (b ∷ bs))) (said_clean (entry_of Present algos f (b ∷ bs)) e.1),
+      unless_ignored i (said_of new) (said_clean new e.1),
     )

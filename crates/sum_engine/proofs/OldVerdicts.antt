@@ -38,7 +38,8 @@ use Rattle.sum_engine.proofs.OldNames.{NotReturn, same_escape, CleanSaid, says_s
 -- ---- the lines
 
 first_clean : (b : ℕ) (ls : List (List ℕ)) → b ≢ 13 → All NoReturn ls → All NoReturn (onto_first b ls)
-first_clean b [] free all = All-cons NoReturn (b ∷ []) [] (All-cons NotReturn b [] free (All-nil NotReturn)) (All-nil NoReturn)
+first_clean b [] free all =
+    All-cons NoReturn (b ∷ []) [] (All-cons NotReturn b [] free (All-nil NotReturn)) (All-nil NoReturn)
 first_clean b (l ∷ ls) free all =
     All-cons NoReturn (b ∷ l) ls (All-cons NotReturn b l free (All-head NoReturn l ls all)) (All-tail NoReturn l ls all)
 
@@ -161,7 +162,8 @@ outs_same r (j ∷ js) all =
     ap (λ t. t ∷ map (out_of (under Older r)) js) one
     ∙ ap (λ ts. out_of (under Present r) j ∷ ts) (outs_same r js (All-tail CleanName j js all))
 
-fault_same : (tool name : List ℕ) (f : Fault) → NoReturn name → fault_line Older tool name f ≡ fault_line Present tool name f
+fault_same : (tool name : List ℕ) (f : Fault) → NoReturn name
+    → fault_line Older tool name f ≡ fault_line Present tool name f
 fault_same tool name f free = rw (same_escape name free) refl
 
 err_same : (r : Rules) (n : ℕ) (v : Verdict) (name : List ℕ) → NoReturn r.shown → NoReturn name
@@ -177,7 +179,8 @@ errs_same : (r : Rules) (js : List Judged) → NoReturn r.shown → All CleanNam
     → map (err_of (under Older r)) js ≡ map (err_of (under Present r)) js
 errs_same r [] own all = refl
 errs_same r (j ∷ js) own all =
-    ap (λ t. t ∷ map (err_of (under Older r)) js) (err_same r j.number j.verdict j.name own (All-head CleanName j js all))
+    ap (λ t. t ∷ map (err_of (under Older r)) js)
+    (err_same r j.number j.verdict j.name own (All-head CleanName j js all))
     ∙ ap (λ ts. err_of (under Present r) j ∷ ts) (errs_same r js own (All-tail CleanName j js all))
 
 end_same : (r : Rules) (e : Ending) (c : Counts) → NoReturn r.shown

@@ -29,11 +29,13 @@ decided Standard b g = refl
 decided Reversed b g = refl
 
 stays : (p : Profile) (i : Bool) (f g : Form) (t q : Option Parts) → let x = cond i Undecided (form_of_parts q) in
-    cond i Nothing (said_of (entry_by p (form_then (form_then f x) g) t q)) ≡ cond i Nothing (said_of (entry_by p (form_then f x) t q))
+    cond i Nothing (said_of (entry_by p (form_then (form_then f x) g) t q))
+    ≡ cond i Nothing (said_of (entry_by p (form_then f x) t q))
 stays p true f g t q = refl
 stays p false f g (Some t) q = refl
 stays p false f g None None = refl
-stays p false f g None (Some q) = ap (λ x. said_of (spelled p q (raw_of x q.text))) (decided f (begins_standard q.text) g)
+stays p false f g None (Some q) =
+    ap (λ x. said_of (spelled p q (raw_of x q.text))) (decided f (begins_standard q.text) g)
 
 -- an empty line isn't plain
 pub not_plain : (algos : Algos) (o : Option Parts) → plain_of algos [] ≡ o → o ≡ None
@@ -48,7 +50,8 @@ not_plain algos (Some q) h =
       length-append t.digits (t.blank ∷ q.text),
     ))
 
-any_form : (p : Profile) (f g : Form) (t q : Option Parts) → q ≡ None → said_of (entry_by p f t q) ≡ said_of (entry_by p g t q)
+any_form : (p : Profile) (f g : Form) (t q : Option Parts) → q ≡ None
+    → said_of (entry_by p f t q) ≡ said_of (entry_by p g t q)
 any_form p f g (Some t) q h = refl
 any_form p f g None None h = refl
 any_form p f g None (Some q) h = cc
@@ -58,26 +61,31 @@ pub said_stays : (p : Profile) (algos : Algos) (f g : Form) (l : List ℕ)
     → says p algos (form_then (form_then f (line_form algos l)) g) l ≡ says p algos (form_then f (line_form algos l)) l
 unfolding entry_of
 said_stays Present algos f g l = stays Present (ignored l) f g (tagged_of algos l) (plain_of algos l)
-said_stays Older algos f g [] = any_form Older _ _ (tagged_of algos []) (plain_of algos []) (not_plain algos (plain_of algos []) refl)
-said_stays Older algos f g (b ∷ bs) = stays Older (ignored (b ∷ bs)) f g (tagged_of algos (b ∷ bs)) (plain_of algos (b ∷ bs))
+said_stays Older algos f g [] =
+    any_form Older _ _ (tagged_of algos []) (plain_of algos []) (not_plain algos (plain_of algos []) refl)
+said_stays Older algos f g (b ∷ bs) =
+    stays Older (ignored (b ∷ bs)) f g (tagged_of algos (b ∷ bs)) (plain_of algos (b ∷ bs))
 
 -- what a line says by the form of all lines is what it says by the form so far and its own
 says_now : (r : Rules) (a : Now) (l : List ℕ) (ls : List (List ℕ)) →
-    says r.profile r.settings.algo (form_then a.form (form r.settings.algo (l ∷ ls))) l ≡ says r.profile r.settings.algo (form_then a.form (line_form r.settings.algo l)) l
+    says r.profile r.settings.algo (form_then a.form (form r.settings.algo (l ∷ ls))) l
+    ≡ says r.profile r.settings.algo (form_then a.form (line_form r.settings.algo l)) l
 says_now r a l ls =
     let algo = r.settings.algo in
-    ap (λ g. says r.profile algo g l) (form_on a.form (line_form algo l) (form algo ls)) ∙ said_stays r.profile algo a.form (form algo ls) l
+    ap (λ g. says r.profile algo g l) (form_on a.form (line_form algo l) (form algo ls))
+    ∙ said_stays r.profile algo a.form (form algo ls) l
 
 -- the first of what is left
-pub rest_head : (r : Rules) (a : Now) (l : List ℕ) (ls : List (List ℕ)) → lines_by r.profile a.rest ≡ l ∷ ls → rest_verdicts r a ≡ next_judged r a l
-    ∷ verdicts r (form_then a.form (form r.settings.algo (l ∷ ls))) (after a.scene.world (asks_of (next_judged r a l))) (a.number + 1) ls
+pub rest_head : (r : Rules) (a : Now) (l : List ℕ) (ls : List (List ℕ)) → lines_by r.profile a.rest ≡ l ∷ ls
+    → rest_verdicts r a ≡ next_judged r a l ∷ verdicts r (form_then a.form (form r.settings.algo (l ∷ ls))) (after a.scene.world (asks_of (next_judged r a l))) (a.number + 1) ls
 rest_head r a l ls h =
     let algo = r.settings.algo in
     let w = a.scene.world in
     let n = a.number in
     let f = form_then a.form (form algo (l ∷ ls)) in
     let start : rest_verdicts r a ≡ verdicts r f w n (l ∷ ls) = ap (λ x. verdicts r (form_then a.form (form algo x)) w n x) h in
-    let one : judge r w (n + 1) (says r.profile algo f l) ≡ next_judged r a l = ap (judge r w (n + 1)) (says_now r a l ls) in
+    let one : judge r w (n + 1) (says r.profile algo f l) ≡ next_judged r a l =
+    ap (judge r w (n + 1)) (says_now r a l ls) in
     start ∙ ap (λ (j : Judged). j ∷ verdicts r f (after w (asks_of j)) (n + 1) ls) one
 
 pub rest_none : (r : Rules) (a : Now) → lines_by r.profile a.rest ≡ [] → rest_verdicts r a ≡ []

@@ -9,7 +9,7 @@ use Rattle.sum_lines.proofs.EntryLemmas.{form-append}
 use Rattle.sum_lines.proofs.PlainLemmas.{plain_is_read}
 use Rattle.sum_engine.specs.Worlds.{World, after}
 use Rattle.sum_engine.specs.Profiles.{Profile}
-use Rattle.sum_engine.specs.Grammar.{entry_by, entry_of, spelled, raw_of, says}
+use Rattle.sum_engine.specs.Grammar.{Said, Nothing, Improper, Spells, entry_by, entry_of, spelled, raw_of, says}
 use Rattle.sum_engine.specs.Verdicts.{Rules, Judged, judge, asks_of, verdicts}
 use Rattle.sum_engine.specs.Laws.{SameEntry, SameForm, SameVerdicts}
 use Rattle.sum_engine.proofs.RestLemmas.{form_on, decided, said_stays}
@@ -33,7 +33,8 @@ entry_alone p algos before later line i =
     ∙ entry_stays p (form algos before) (form algos later) (tagged_of algos line) (plain_of algos line)
 
 pub same_entry : SameEntry
-same_entry p algos before later others line i = entry_alone p algos before later line i ∙ sym (entry_alone p algos before others line i)
+same_entry p algos before later others line i =
+    entry_alone p algos before later line i ∙ sym (entry_alone p algos before others line i)
 
 form_alone : (algos : Algos) (before later : List (List ℕ)) (line tail : List ℕ) → line_form algos line ≡ form_of_tail tail
     → form algos (before ++ (line ∷ later)) ≡ form_then (form algos before) (form_of_tail tail)
@@ -67,5 +68,27 @@ fronts r w n f (l ∷ ls) later =
     ∙ ap (λ x. judge r w (n + 1) x ∷ take (length ls) (verdicts r (form_then here rest) (after w (asks_of (judge r w (n + 1) x))) (n + 1) (ls ++ later))) (said_stays r.profile algo f rest l)
     ∙ ap (λ x. j ∷ x) (fronts r (after w (asks_of j)) (n + 1) here ls later)
 
+-- the name of the manifest has no part in them
+abbrev renamed : Rules → List ℕ → Rules
+renamed r other = record r { shown = other }
+
+judge_renamed : (r : Rules) (other : List ℕ) (w : World) (n : ℕ) (x : Said)
+    → judge r w n x ≡ judge (renamed r other) w n x
+judge_renamed r other w n Nothing = refl
+judge_renamed r other w n Improper = refl
+judge_renamed r other w n (Spells s) = refl
+
+running_renamed : (r : Rules) (other : List ℕ) (w : World) (n : ℕ) (f : Form) (ls : List (List ℕ))
+    → running r w n f ls ≡ running (renamed r other) w n f ls
+running_renamed r other w n f [] = refl
+running_renamed r other w n f (l ∷ ls) =
+    let here = form_then f (line_form r.settings.algo l) in
+    let j = judge (renamed r other) w (n + 1) (says r.profile r.settings.algo here l) in
+    ap (λ x. x ∷ running r (after w (asks_of x)) (n + 1) here ls)
+    (judge_renamed r other w (n + 1) (says r.profile r.settings.algo here l))
+    ∙ ap (λ xs. j ∷ xs) (running_renamed r other (after w (asks_of j)) (n + 1) here ls)
+
 pub same_verdicts : SameVerdicts
-same_verdicts r w front later others = fronts r w 0 Undecided front later ∙ sym (fronts r w 0 Undecided front others)
+same_verdicts r other w front later others =
+    fronts r w 0 Undecided front later ∙ running_renamed r other w 0 Undecided front
+    ∙ sym (fronts (renamed r other) w 0 Undecided front others)

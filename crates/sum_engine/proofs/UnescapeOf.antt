@@ -139,12 +139,13 @@ escape_unescape p (b ∷ c ∷ cs) n h = elim (eqb_tells b 92) [
       let e : onto (letter p c) (unescape p cs) ≡ Some n = rw same.0 at h in
       let o = onto_some (letter p c) (unescape p cs) n e in
       ap (λ x. x ∷ c ∷ cs) same.1 ∙ sym (ap (escape_by p) o.4 ∙ escape_cons p o.0 o.1
-      ∙ ap (λ l. l ++ escape_by p o.1) (escape_letter p c o.0 o.2) ∙ ap (λ l. 92 ∷ c ∷ l) (sym (escape_unescape p cs o.1 o.3)))
+      ∙ ap (λ l. l ++ escape_by p o.1) (escape_letter p c o.0 o.2)
+      ∙ ap (λ l. 92 ∷ c ∷ l) (sym (escape_unescape p cs o.1 o.3)))
   | inr backslash ↦
       let e : onto (itself p b) (unescape p (c ∷ cs)) ≡ Some n = rw backslash.0 at h in
       let o = onto_some (itself p b) (unescape p (c ∷ cs)) n e in
-      sym (ap (escape_by p) o.4 ∙ escape_cons p o.0 o.1 ∙ ap (λ l. l ++ escape_by p o.1) (escape_plain p b o.0 o.2 backslash.0)
-      ∙ ap (λ l. b ∷ l) (sym (escape_unescape p (c ∷ cs) o.1 o.3)))
+      sym (ap (escape_by p) o.4 ∙ escape_cons p o.0 o.1
+      ∙ ap (λ l. l ++ escape_by p o.1) (escape_plain p b o.0 o.2 backslash.0) ∙ ap (λ l. b ∷ l) (sym (escape_unescape p (c ∷ cs) o.1 o.3)))
 ]
 
 -- no NUL

@@ -27,8 +27,10 @@ SameForm = (algos : Algos) (before later others : List (List ℕ)) (line : List 
     → (e : Bool) (kind : KindValue) (d tail : List ℕ) → ignored line ≡ false → Plain algos line e kind d tail
     → form algos (before ++ (line ∷ later)) ≡ form algos (before ++ (line ∷ others))
 
--- nor in the verdicts up to it, whatever was asked before, where both manifests or neither came from standard input
+-- nor in the verdicts up to it, whatever was asked before; nor has the name of the manifest, where both or neither came
+-- from standard input
 abbrev pub SameVerdicts : Type 0
-SameVerdicts = (r : Rules) (w : World) (front later others : List (List ℕ)) →
+SameVerdicts = (r : Rules) (other : List ℕ) (w : World) (front later others : List (List ℕ)) →
     take (length front) (verdicts r (form r.settings.algo (front ++ later)) w 0 (front ++ later))
-    ≡ take (length front) (verdicts r (form r.settings.algo (front ++ others)) w 0 (front ++ others))
+    ≡ take (length front)
+    (verdicts (record r { shown = other }) (form r.settings.algo (front ++ others)) w 0 (front ++ others))

@@ -9,6 +9,7 @@ pub mod Checking
 pub mod Scenes
 pub mod Asking
 pub mod Steps
+pub mod Taking
 pub mod Listings
 pub mod Judging
 pub mod States

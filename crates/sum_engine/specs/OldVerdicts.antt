@@ -34,7 +34,8 @@ abbrev pub NoEscapedReturn : Algos → List ℕ → Type 0
 NoEscapedReturn algos line = (kind : KindValue) (digest name : List ℕ)
     → Tagged algos line true kind digest name ⊎ Plain algos line true kind digest name → ¬ HasEscapedReturn name
 
--- a manifest that has no carriage return, neither in its own name nor as a byte nor as the escape `\r`, and no empty line
+-- a manifest that has no carriage return, neither in its own name nor as a byte nor as the escape `\r`, and no empty
+-- line
 pub record Old (r : Rules) (c : Content) : Type 0 where
   pub own_name : NoReturn r.shown
   pub no_byte : NoReturn c.bytes

@@ -1,5 +1,5 @@
--- What versions of the tools make of a name's escape and of a manifest's lines. The tools here have the present profile.
--- Of the older one speaks the law of old verdicts alone.
+-- What versions of the tools make of a name's escape and of a manifest's lines. The tools here have the present
+-- profile. Of the older one speaks the law of old verdicts alone.
 use Rattle.std.specs.Prelude.{ℕ, ◌==◌, Bool, false, List, [], ◌∷◌, flat_map, if◌then◌else◌}
 use Rattle.sum_sources.specs.Contents.{Content}
 use Rattle.sum_sources.specs.ManifestLines.{lines, pieces}

@@ -45,16 +45,12 @@ RunGives r (Some c) n m None b x = ⊤
 RunGives r (Some c) n m (Some a) None x = ⊥
 RunGives r (Some c) n m (Some a) (Some b) x = RunOf r c n m a b x
 
--- the reply to the manifest's name has bytes past so many lines
-abbrev pub RepliesPast : ℕ → Reply → Type 0
-RepliesPast k (Refused f) = ⊥
-RepliesPast k (Given c) = BytesPast k (clip c)
-
 -- where a run of one manifest stands that wants memory: before it was opened, where the source was refused memory; or
--- after it was opened and some lines were handled, where memory was refused or bytes stand past these lines
+-- after it was opened, which gave a content, and some of its lines were handled
 abbrev pub PlaceOf : ℕ → ℕ → ℕ → Reply → Type 0
 PlaceOf n m zero r = m ≡ after_refusal n
-PlaceOf n m (suc k) r = (m ≡ after_refusal n) ⊎ ((m ≡ n) × RepliesPast k r)
+PlaceOf n m (suc k) (Refused f) = ⊥
+PlaceOf n m (suc k) (Given c) = WantsAt n m k (clip c)
 
 -- what checking one manifest does: all of its outcome; on a write fault a front of it; on want of memory all of it up
 -- to a place

@@ -36,7 +36,8 @@ now_by (Some rest) n u f c (Some s) =
 -- the next line's verdict
 abbrev pub next_judged : Rules → Now → List ℕ → Judged
 next_judged r a l =
-    judge r a.scene.world (a.number + 1) (says r.profile r.settings.algo (form_then a.form (line_form r.settings.algo l)) l)
+    let f = form_then a.form (line_form r.settings.algo l) in
+    judge r a.scene.world (a.number + 1) (says r.profile r.settings.algo f l)
 
 -- one line was handled; the line's vector holds this then
 pub record Handles (r : Rules) (a b : Now) (vector : List ℕ) : Type 0 where
@@ -108,7 +109,8 @@ abbrev pub HandleGives : {A : Type 0} → Rules → Form → List ℕ → ℕ �
     → Result A Stop → Type 0
 HandleGives r f line n c d None b x = ⊤
 HandleGives r f line n c d (Some a) None x = ⊥
-HandleGives r f line n c d (Some a) (Some b) x = HandleOf r (judge r a.world n (says r.profile r.settings.algo f line)) c d a b x
+HandleGives r f line n c d (Some a) (Some b) x =
+    HandleOf r (judge r a.world n (says r.profile r.settings.algo f line)) c d a b x
 
 -- a step's want of memory: the source was refused it, or bytes of the manifest were still to come
 abbrev pub Wants : ℕ → ℕ → Option Content → Result Progress Stop → Type 0

@@ -14,8 +14,8 @@ use Rattle.sum_engine.specs.Profiles.{Profile, lines_by}
 use Rattle.sum_engine.specs.Grammar.{Said, Nothing, Improper, Spells, says}
 use Rattle.sum_engine.specs.Worlds.{World, is_dash, reply, after, read}
 
--- what a manifest is checked by: the profile, the settings, the tool's name, the name under which the manifest is shown,
--- and whether it came from standard input
+-- what a manifest is checked by: the profile, the settings, the tool's name, the name under which the manifest is
+-- shown, and whether it came from standard input
 pub record Rules : Type 0 where
   pub profile : Profile
   pub settings : CheckSettings

@@ -1,7 +1,7 @@
 -- Joins a checker's fields to where it stands.
-use Rattle.std.specs.Prelude.{ℕ, Option, None, Some, Result, Ok, Err}
+use Rattle.std.specs.Prelude.{ℕ, Bool, Option, None, Some, Result, Ok, Err}
 use Rattle.sum_sources.specs.Contents.{Content}
-use Rattle.sum_sources.specs.LineReading.{coming, taken_of, used_of, count_of}
+use Rattle.sum_sources.specs.LineReading.{coming, left, taken_of, used_of, count_of}
 use Rattle.sum_engine.specs.declared.checker.Checker.{Checker}
 use Rattle.sum_engine.specs.declared.checker.State.{State}
 use Rattle.sum_engine.specs.declared.checker.State.TheVariants.{Running, Ended, Stopped}
@@ -12,6 +12,7 @@ use Rattle.sum_engine.specs.Verdicts.{Rules}
 use Rattle.sum_engine.specs.Listings.{rules_in}
 use Rattle.sum_engine.specs.Scenes.{Scene}
 use Rattle.sum_engine.specs.Steps.{Now, now_by}
+use Rattle.sum_engine.specs.Taking.{stdin_by}
 
 -- what its manifest is checked by
 abbrev pub rules_of_checker : {I : Type 0} → Checker I → Rules
@@ -24,6 +25,14 @@ now_of content s scene = now_by (coming content s.reader) (count_of s.reader) (u
 -- what is still to come of its manifest
 abbrev pub to_come : {I : Type 0} → (I → Option Content) → Checker I → Option Content
 to_come content s = coming content s.reader
+
+-- whether standard input was taken or a line to come asks it, where the manifest tells
+abbrev pub stdin_of : {I : Type 0} → (I → Option Content) → Checker I → Bool → Option Bool
+stdin_of content s taken = stdin_by (rules_of_checker s) s.form (coming content s.reader) taken
+
+-- what its input has left to give
+abbrev pub left_of : {I : Type 0} → (I → Option Content) → Checker I → Option Content
+left_of content s = left content s.reader
 
 -- the bytes that its input has given, those that the lines handled used, and the number of these lines
 abbrev pub given_of : {I : Type 0} → Checker I → ℕ

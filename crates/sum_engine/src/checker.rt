@@ -1,6 +1,7 @@
 //! Checking a manifest, a line at a time.
-ghost use Rattle.std.specs.Prelude.{◌≡◌, ◌≤◌, ◌<◌, ◌^◌, ◌+◌, ◌⊎◌, Ok, Err, Some, None, true, false, Option, length};
-ghost use Rattle.std.specs.Prelude.{OnOk, IfOk, IfSome, IsErr};
+ghost use Rattle.std.specs.Prelude.{◌≡◌, ◌≤◌, ◌<◌, ◌^◌, ◌+◌, ◌⊎◌, ◌||◌, Ok, Err, Some, None, true, false, Option, Bool, length};
+ghost use Rattle.std.specs.Prelude.{OnOk, IfOk, IfSome, IsErr, is_none};
+ghost use Rattle.std.specs.List.{list_any};
 ghost use Rattle.sum_sources.specs.LineReading.{count_of, has_stopped};
 ghost use Rattle.sum_engine.specs.Profiles.{Present};
 ghost use Rattle.sum_engine.specs.Reports.{total, no_counts};
@@ -38,11 +39,15 @@ pub struct Checker<'a, I> {
 
 impl<'a, I: Input> Checker<'a, I> {
     ghost use Rattle.std.specs.Option.{option_map};
-    ghost use Rattle.sum_sources.specs.Contents.{clip};
+    ghost use Rattle.sum_sources.specs.Contents.{WhereTold, clip};
     ghost use Rattle.sum_lines.specs.Entries.{form_then, line_form};
     ghost use Rattle.sum_engine.specs.Scenes.{Scene, scene, Failures, refusals_after};
     ghost use Rattle.sum_engine.specs.Steps.{now_by, StepGives, HandleGives, Wants};
-    ghost use Rattle.sum_engine.specs.Views.{rules_of_checker, now_of, to_come, given_of, handled_of, number_of};
+    ghost use Rattle.sum_engine.specs.Views.{rules_of_checker, now_of, to_come, stdin_of, left_of, given_of, handled_of, number_of};
+    ghost use Rattle.sum_engine.specs.Grammar.{says};
+    ghost use Rattle.sum_engine.specs.Judging.{said_asks};
+    ghost use Rattle.sum_engine.specs.Taking.{StdinOf, stdin_by};
+    ghost use Rattle.sum_engine.specs.Worlds.{is_dash};
     ghost use Rattle.sum_engine.specs.Views.{answer_of};
 
     /// A checker of the manifest that `input` gives. In diagnostics the manifest has the name `shown`; `from_stdin`
@@ -65,6 +70,9 @@ impl<'a, I: Input> Checker<'a, I> {
             ≡ now_by (option_map clip (I.content input)) 0 0 Form.Undecided no_counts s }
         ensures going { answer_of result ≡ None }
         ensures given { given_of result ≡ 0 }
+        ensures left { left_of I.content result ≡ I.content input }
+        ensures stdin { (taken : Bool) → stdin_of I.content result taken
+            ≡ stdin_by (rules_of_checker result) Form.Undecided (option_map clip (I.content input)) taken }
     {
         let listing = Listing {
             settings,
@@ -115,7 +123,13 @@ impl<'a, I: Input> Checker<'a, I> {
             → Wants (S.refusals source.old) (S.refusals source.new) (to_come I.content self.old) result }
         ensures failures { answer_of self.old ≡ None
             → Failures (O.failures out.old) (O.failures out.new) (E.failures err.old) (E.failures err.new) result }
+        ensures stdin { answer_of self.old ≡ None
+            → StdinOf (stdin_of I.content self.old (is_none stdin.old))
+            (stdin_of I.content self.new (is_none stdin.new)) (is_none stdin.new) result }
+        ensures kept { OnOk result (is_none stdin.old ≡ true → is_none stdin.new ≡ true) }
         ensures untouched { result ≡ Err Stop.Memory → (out.new ≡ out.old) × (err.new ≡ err.old) }
+        ensures taken { WhereTold (left_of I.content self.old) (left_of I.content self.new)
+            (λ c d. given_of self.new + length d.bytes ≡ given_of self.old + length c.bytes) }
         ensures ahead { OnOk result (given_of self.new ≤ handled_of self.new + 8192) }
         ensures going { result ≡ Ok Progress.Going → answer_of self.new ≡ None }
         ensures ended { IfOk result (λ p. (p ≡ Progress.Going) ⊎ (answer_of self.new ≡ Some result)) }
@@ -159,7 +173,12 @@ impl<'a, I: Input> Checker<'a, I> {
         ensures wants { Wants (S.refusals source.old) (S.refusals source.new) (to_come I.content self.old) result }
         ensures failures { Failures (O.failures out.old) (O.failures out.new)
             (E.failures err.old) (E.failures err.new) result }
+        ensures stdin { StdinOf (stdin_of I.content self.old (is_none stdin.old))
+            (stdin_of I.content self.new (is_none stdin.new)) (is_none stdin.new) result }
+        ensures kept { OnOk result (is_none stdin.old ≡ true → is_none stdin.new ≡ true) }
         ensures untouched { result ≡ Err Stop.Memory → (out.new ≡ out.old) × (err.new ≡ err.old) }
+        ensures taken { WhereTold (left_of I.content self.old) (left_of I.content self.new)
+            (λ c d. given_of self.new + length d.bytes ≡ given_of self.old + length c.bytes) }
         ensures ahead { OnOk result (given_of self.new ≤ handled_of self.new + 8192) }
         ensures work { result ≡ Ok Progress.Going → has_stopped self.new.reader ≡ false }
         ensures rules { rules_of_checker self.new ≡ rules_of_checker self.old }
@@ -208,6 +227,9 @@ impl<'a, I: Input> Checker<'a, I> {
         ensures refusals { S.refusals source.new ≡ refusals_after (S.refusals source.old) result }
         ensures failures { Failures (O.failures out.old) (O.failures out.new)
             (E.failures err.old) (E.failures err.new) result }
+        ensures asked { OnOk result (is_none stdin.new ≡ is_none stdin.old || list_any is_dash
+            (said_asks (rules_of_checker self.old) (says Present self.old.listing.settings.algo
+            (form_then self.old.form (line_form self.old.listing.settings.algo line.old.items)) line.old.items))) }
         ensures untouched { result ≡ Err Stop.Memory → (out.new ≡ out.old) × (err.new ≡ err.old) }
         ensures reader { self.new.reader ≡ self.old.reader }
         ensures state { self.new.state ≡ self.old.state }

@@ -18,7 +18,7 @@ pub fn entry_is()
 {}
 
 /// What comes behind a line has no part in its entry, in its verdict after the same asks and, where the line is plain,
-/// in the form.
+/// in the form. Nor has the manifest's name in the verdicts, where both manifests or neither came from standard input.
 pub fn same_front()
     ensures entry { SameEntry }
     ensures form { SameForm }

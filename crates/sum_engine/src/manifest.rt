@@ -1,11 +1,13 @@
 //! Checking one manifest.
-ghost use Rattle.std.specs.Prelude.{◌≡◌, ◌⊎◌, Some, Err, Ok};
+ghost use Rattle.std.specs.Prelude.{◌≡◌, ◌⊎◌, Some, Err, Ok, true, OnOk, IfSome, is_none};
 ghost use Rattle.std.specs.Option.{option_map};
 ghost use Rattle.sum_sources.specs.Contents.{clip};
+ghost use Rattle.sum_lines.specs.declared.line_reading.Form.TheVariants.{Undecided};
 ghost use Rattle.sum_engine.specs.Profiles.{Present};
 ghost use Rattle.sum_engine.specs.Checking.{rules_of};
 ghost use Rattle.sum_engine.specs.Scenes.{scene, Failures};
 ghost use Rattle.sum_engine.specs.Runs.{RunGives, CheckGives, RefusedOnMemory};
+ghost use Rattle.sum_engine.specs.Taking.{TakesStdin, stdin_by};
 
 use crate::asking::DASH;
 use crate::checker::Checker;
@@ -36,6 +38,8 @@ pub fn check_one<A: Allocator + Copy, J: Input + Drop, S: Source, O: Sink, E: Si
     ensures gives { CheckGives settings tool.now name.now (S.refusals source.old) (S.refusals source.new)
         (scene J.content (S.told source.old) stdin.old (O.written out.old) (E.written err.old))
         (scene J.content (S.told source.new) stdin.new (O.written out.new) (E.written err.new)) result }
+    ensures stdin { OnOk result (TakesStdin settings tool.now name.now (S.told source.old) (is_none stdin.old)
+        (is_none stdin.new)) }
     ensures refusals { RefusedOnMemory (S.refusals source.old) (S.refusals source.new) result }
     ensures failures { Failures (O.failures out.old) (O.failures out.new)
         (E.failures err.old) (E.failures err.new) result }
@@ -91,6 +95,15 @@ fn check_input<'a, A: Allocator, I: Input + Drop, J: Input + Drop, S: Source, O:
         (option_map clip (I.content input)) (S.refusals source.old) (S.refusals source.new)
         (scene J.content (S.told source.old) stdin.old (O.written out.old) (E.written err.old))
         (scene J.content (S.told source.new) stdin.new (O.written out.new) (E.written err.new)) result }
+    ensures stdin { OnOk result (IfSome (stdin_by (record {
+      profile = Present;
+      settings = settings;
+      tool = tool.now;
+      shown = shown.now;
+      from_stdin = from_stdin;
+    }) Undecided (option_map clip (I.content input))
+        (is_none stdin.old)) (λ taken. is_none stdin.new ≡ taken)) }
+    ensures kept { OnOk result (is_none stdin.old ≡ true → is_none stdin.new ≡ true) }
     ensures refusals { RefusedOnMemory (S.refusals source.old) (S.refusals source.new) result }
     ensures failures { Failures (O.failures out.old) (O.failures out.new)
         (E.failures err.old) (E.failures err.new) result }

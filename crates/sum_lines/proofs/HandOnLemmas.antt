@@ -1,5 +1,5 @@
 -- What was offered of a text, piece after piece, while it was handed on.
-use Rattle.std.proofs.Common.{ℕ, ◌≡◌, ◌+◌, ◌<◌, ◌≤◌, List, [], ◌∷◌, ◌++◌, length, take, drop, Option, None, Some, refl, ap, sym, ◌∙◌, append_assoc, append-nil, take-append-drop, length-take, arith, length-append}
+use Rattle.std.proofs.Common.{ℕ, ◌≡◌, ◌<◌, ◌≤◌, List, [], ◌∷◌, ◌++◌, length, take, drop, Option, None, Some, refl, ap, sym, ◌∙◌, append_assoc, append-nil, take-append-drop, length-take, arith}
 use Rattle.sum_lines.specs.Sinks.{Offers}
 use Rattle.sum_lines.specs.WholeLines.{IsRest, AreRests, HandsOn}
 

@@ -1,12 +1,14 @@
 -- What the scanning functions answer, step by step.
-use Rattle.std.proofs.Common.{ℕ, ◌≡◌, ◌+◌, ◌-◌, ◌*◌, ◌<◌, ◌≤◌, Bool, true, false, cond, eqb, ◌==◌, nat_le, List, [], ◌∷◌, ◌++◌, length, take, drop, get_or, slice_range, Option, None, Some, MatchOption, IfSome, Result, Ok, Err, Bor, refl, ap, sym, ◌∙◌, arith, inl, inr, subst, append_assoc, length-append, length-drop}
+use Rattle.std.proofs.Common.{ℕ, ◌≡◌, ◌+◌, ◌-◌, ◌*◌, ◌/◌, ◌<◌, ◌≤◌, Bool, true, false, cond, eqb, eq-eqb, ◌==◌, nat_le, List, [], ◌∷◌, ◌++◌, length, take, drop, get_or, slice_range, Option, None, Some, MatchOption, IfSome, IsSome, Result, Ok, Err, Bor, refl, ap, sym, ◌∙◌, arith, inl, inr, subst, append_assoc, length-append, length-drop}
 use lib.Pointwise.{pointwise}
-use Rattle.std.specs.List.{AllPass, take_while}
+use Rattle.std.specs.List.{AllPass, prefix_len, take_while}
 use Rattle.std.specs.Option.{option_copied}
 use Rattle.std.proofs.lemmas.Bool.{cases_Bool, cond-true, cond-false, eqb-true, and_parts, leb-true}
 use Rattle.std.proofs.lemmas.Bool.Decides.{eqb_tells}
+use Rattle.std.proofs.lemmas.Option.{cond_some}
 use Rattle.std.proofs.lemmas.List.{drop_at, get_or-drop, take-append-drop, drop_more, take_at, take_all}
 use Rattle.std.proofs.lemmas.List.Elements.{All-from_get_or}
+use Rattle.std.proofs.lemmas.List.Folds.{length-prefix_len}
 use Rattle.memchr.specs.Find.{Nowhere, Passes, IsLastByte, is_byte}
 use Rattle.hex.specs.Hex.{decode_of, is_hex_digit}
 use Rattle.hex.specs.declared.error.FromHexError.{FromHexError}
@@ -18,7 +20,7 @@ use Rattle.digest_kinds.specs.declared.algo.Algo.{Algo}
 use Rattle.digest_kinds.specs.declared.algo.Algo.TheVariants.{Md5, Sha1, Sha224, Sha256, Sha384, Sha512, Blake2b}
 use Rattle.digest_kinds.specs.declared.algo.Algos.{Algos}
 use Rattle.sum_lines.specs.Shapes.{is_blank, mark, optional}
-use Rattle.sum_lines.specs.Scanned.{after_while, unmarked, past, split_last, is_past, begins, algo_of, digest_at, Opened, opened_of, name_behind, tagged_of, sized, tail_of, plain_behind, plain_as}
+use Rattle.sum_lines.specs.Scanned.{after_while, unmarked, past, split_last, is_past, begins, algo_of, digest_at, Opened, opened_text, opened_of, name_behind, tagged_of, sized, tail_of, plain_behind, plain_as}
 use Rattle.sum_lines.proofs.FrontLemmas.{isn't, split_last-none, split_last-at, front-and-rest, unmarked-is, past-some, split_last-some}
 use Rattle.sum_lines.proofs.TaggedParts.{opened_of-some}
 use Rattle.sum_lines.proofs.TaggedLemmas.{algo_of-tag}
@@ -138,6 +140,58 @@ sized_refused a s (Ok d) h none = elim (cases_Bool (has_len a (length d))) [
 pub sized_none : (a : Algo) (s : List ℕ) → (IsDigits s → ⊥) → sized a (decode_of s) ≡ None
 sized_none a s none = sized_refused a s (decode_of s) refl none
 
+-- ---- as many digits as a digest has, or another number
+
+decoded-size : (s d : List ℕ) → decode_of s ≡ Ok d → length s ≡ 2 * length d
+decoded-size s d h = let k = decode_of-ok s d h in k.2
+
+sized_by : (a : Algo) (n : ℕ) (r : Result (List ℕ) FromHexError) → ((d : List ℕ) → r ≡ Ok d → length d ≡ n)
+    → has_len a n ≡ false → sized a r ≡ None
+sized_by a n (Err e) size lacks = refl
+sized_by a n (Ok d) size lacks = cond-false (has_len a (length d)) _ None (ap (has_len a) (size d refl) ∙ lacks)
+
+-- the kind that has digests of as many digits, or none that has
+pub sized_other : (a : Algo) (s : List ℕ) (k : KindValue) → None ≡ cond (has_len a (length s / 2)) (Some k) None
+    → None ≡ sized a (decode_of s)
+sized_other a s k h = elim (cases_Bool (has_len a (length s / 2))) [
+  | inl has ↦ let bad = rw has at h in cc
+  | inr lacks ↦ sym (sized_by a (length s / 2) (decode_of s) (λ d h. let size = decoded-size s d h in omega arith) lacks)
+]
+
+pub sized_of : (a : Algo) (s d : List ℕ) (k : KindValue) → decode_of s ≡ Ok d
+    → Some k ≡ cond (has_len a (length s / 2)) (Some (record { algo = a; len = length s / 2 })) None
+    → Some (k, d) ≡ sized a (decode_of s)
+sized_of a s d k h is =
+    let size = decoded-size s d h in
+    let same : length d ≡ length s / 2 = omega arith in
+    let has = cond_some (has_len a (length s / 2)) _ k (sym is) in
+    rw (h, same, has.0) (ap (λ x. Some (x, d)) (sym has.1))
+
+digest_by : (n : ℕ) (r : Result (List ℕ) FromHexError) → ((d : List ℕ) → r ≡ Ok d → length d ≡ n → ⊥)
+    → digest_at n r ≡ None
+digest_by n (Err e) other = refl
+digest_by n (Ok d) other = elim (eqb_tells (length d) n) [
+  | inl same ↦ absurd (other d refl same.1)
+  | inr differs ↦ cond-false (length d == n) (Some d) None differs.0
+]
+
+pub digest_other : (s : List ℕ) (n : ℕ) → (length s ≡ 2 * n → ⊥) → digest_at n (decode_of s) ≡ None
+digest_other s n other =
+    digest_by n (decode_of s) (λ d h same. let size = decoded-size s d h in other (omega arith))
+
+digest_here : (s : List ℕ) (n : ℕ) (d : List ℕ) → decode_of s ≡ Ok d → length s ≡ 2 * n
+    → digest_at n (decode_of s) ≡ Some d
+digest_here s n d h len =
+    let size = decoded-size s d h in
+    let same : length d ≡ n = omega arith in
+    rw h (cond-true (length d == n) (Some d) None (eq-eqb (length d) n same))
+
+-- what decoding as many digits gives
+pub digest_from : (s : List ℕ) (n : ℕ) (r : Option (List ℕ)) → 1 ≤ n → n ≤ 64 → length s ≡ 2 * n
+    → IfSome r (λ d. decode_of s ≡ Ok d) → (IsDigits s → IsSome r) → r ≡ digest_at n (decode_of s)
+digest_from s n (Some d) some few len spelled found = sym (digest_here s n d spelled len)
+digest_from s n None some few len spelled found = sym (digest_none s n some few (λ d. let bad = found d in cc))
+
 -- ---- a tagged line
 
 regroup : (a b c d e f i : List ℕ)
@@ -157,6 +211,11 @@ opened-ends algos line o h =
           ∙ ap (λ l. mark u.0 ++ l) f.whole)
           ∙ regroup (take_while is_blank line) (mark u.0) (tag o.kind.algo) f.width space (40 ∷ []) o.inner,
     )
+
+-- what is opened behind a line's blanks and its mark is the line's
+pub opened-line : (algos : Algos) (line text : List ℕ) (e : Bool) → (e, text) ≡ unmarked (after_while is_blank line)
+    → opened_text algos e text ≡ opened_of algos line
+opened-line algos line text e hm = ap (λ (u : Bool × List ℕ). opened_text algos u.0 u.1) hm
 
 -- the places of the name
 pub name-range : (line front inner raw behind : List ℕ) → line ≡ front ++ inner
@@ -219,6 +278,17 @@ tail-place line blank text digits rest tail e hb hm hd hr ht =
       rest_any line (length line - length tail) ∙ ap (λ k. drop k line) at
           ∙ ap (drop (length front)) whole ∙ drop_at front tail (length front) refl,
     )
+
+-- more digits than any digest has
+pub plain-none : (a : Algo) (line blank text : List ℕ) (e : Bool) → blank ≡ after_while is_blank line
+    → (e, text) ≡ unmarked blank → 128 < prefix_len is_hex_digit text → None ≡ plain_as a line
+unfolding plain_behind
+plain-none a line blank text e hb hm more =
+    let u : unmarked (after_while is_blank line) ≡ (e, text) = ap unmarked (sym hb) ∙ sym hm in
+    let size = length-prefix_len is_hex_digit text in
+    let none : sized a (decode_of (take_while is_hex_digit text)) ≡ None =
+    sized_none a (take_while is_hex_digit text) (λ d. let few = d.few in omega arith) in
+    rw (u, none) refl
 
 pub plain-read : (a : Algo) (line blank text digits rest tail name : List ℕ) (e : Bool) (k : KindValue × List ℕ)
     → blank ≡ after_while is_blank line → (e, text) ≡ unmarked blank → digits ≡ take_while is_hex_digit text

@@ -7,7 +7,7 @@ ghost use Rattle.sum_lines.specs.Readings.{Reads, form_after};
 
 use crate::names::name_in;
 use crate::plain::plain;
-use crate::scanning::LineParts;
+use crate::scanning::{LineParts, skip_blanks, unmark};
 use crate::tagged::tagged;
 use digest_kinds::{Algos, Digest, Kind};
 use std::alloc::Allocator;
@@ -69,10 +69,12 @@ fn shape_of(algos: Algos, line: &[u8]) -> Shape
     ensures { ShapeIs algos line.now result }
 {
     if is_ignored(line) {
-        Shape::Ignored
-    } else if let Some(found) = tagged(algos, line) {
+        return Shape::Ignored;
+    }
+    let (escaped, text) = unmark(skip_blanks(line));
+    if let Some(found) = tagged(algos, line, escaped, text) {
         Shape::Tagged(found)
-    } else if let Some(found) = plain(algos, line) {
+    } else if let Some(found) = plain(algos, line, escaped, text) {
         Shape::Plain(found)
     } else {
         Shape::Neither

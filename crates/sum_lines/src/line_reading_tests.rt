@@ -160,6 +160,29 @@ fn lengths_of_blake2b(rt: HostRuntime) -> Result<(), Fail> {
 }
 
 #[test]
+fn as_many_digits_as_a_digest_has(rt: HostRuntime) -> Result<(), Fail> {
+    // SHA-512 of `abc`, and digits behind it.
+    const D: &[u8] = b"ddaf35a193617abacc417349ae20413112e6fa4e89a97ea20a9eeee64b55d39a\
+        2192992a274fc1a836ba3c23a3feebbd454d4423643ce80e2a9ac94fa54ca49fab";
+    let letters = [b'a'; 1000];
+    let rows: [Row; 5] = [
+        (
+            b"",
+            &D[..128],
+            b"  a",
+            Entry(b"a", 130, 131),
+            Form::Standard,
+        ),
+        (b"", &D[..127], b"  a", Bad, Form::Undecided),
+        (b"", &D[..129], b"  a", Bad, Form::Undecided),
+        (b"", &D[..130], b"  a", Bad, Form::Undecided),
+        (b"", &letters, b"  a", Bad, Form::Undecided),
+    ];
+    let sha512 = Algo::Sha512;
+    check_each(&rt, rt.alloc(), Algos::One(sha512), Kind::of(sha512), &rows)
+}
+
+#[test]
 fn other_tags_and_ignored_lines(rt: HostRuntime) -> Result<(), Fail> {
     let rows: [Row; 3] = [
         (b"SHA512 (a) = ", S, b"", Bad, Form::Undecided),

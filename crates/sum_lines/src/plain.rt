@@ -4,30 +4,33 @@ ghost use Rattle.std.specs.Prelude.{◌≡◌, ◌≤◌, IfSome, if◌then◌el
 ghost use Rattle.std.specs.Option.{option_copied, option_map};
 ghost use Rattle.hex.specs.Hex.{decode_of};
 ghost use Rattle.digest_kinds.specs.Kinds.{has_len};
-ghost use Rattle.sum_lines.specs.Scanned.{plain_of, plain_as, sized, tail_of};
+ghost use Rattle.sum_lines.specs.Scanned.{after_while, plain_of, plain_as, sized, tail_of, unmarked};
+ghost use Rattle.sum_lines.specs.Shapes.{is_blank};
 ghost use Rattle.sum_lines.specs.Found.{line_parts};
 
-use crate::scanning::{LineParts, skip_blanks, split_hex_digits, unmark};
+use crate::scanning::{LineParts, split_hex_digits};
 use digest_kinds::{Algo, Algos, Digest, Kind};
 
-/// Reads a plain line of the one algorithm. None where the line isn't plain.
-pub(crate) fn plain(algos: Algos, line: &[u8]) -> Option<LineParts>
+/// Reads a plain line of the one algorithm, whose text stands behind its blanks and its mark. None where the line isn't
+/// plain.
+pub(crate) fn plain(algos: Algos, line: &[u8], escaped: bool, text: &[u8]) -> Option<LineParts>
+    requires { (escaped, text.now) ≡ unmarked (after_while is_blank line.now) }
     ensures parts { option_map (line_parts line.now) result ≡ plain_of algos line.now }
     ensures range { IfSome result (λ p. (p.start ≤ p.stop) × (p.stop ≤ length line.now)) }
 {
     match algos {
-        Algos::One(algo) => plain_as(algo, line),
+        Algos::One(algo) => plain_as(algo, line, escaped, text),
         Algos::Any => None,
     }
 }
 
 #[tactic(auto, unfolding(crate::specs::Scanned::plain_behind))]
-fn plain_as(algo: Algo, line: &[u8]) -> Option<LineParts>
+fn plain_as(algo: Algo, line: &[u8], escaped: bool, text: &[u8]) -> Option<LineParts>
+    requires { (escaped, text.now) ≡ unmarked (after_while is_blank line.now) }
     ensures parts { option_map (line_parts line.now) result ≡ plain_as algo line.now }
     ensures range { IfSome result (λ p. (p.start ≤ p.stop) × (p.stop ≤ length line.now)) }
 {
-    let (escaped, text) = unmark(skip_blanks(line));
-    let (digits, rest) = split_hex_digits(text);
+    let (digits, rest) = split_hex_digits(text)?;
     let (kind, digest) = kind_and_digest(algo, digits)?;
     let tail = tail(rest)?;
     Some(LineParts {
@@ -39,12 +42,15 @@ fn plain_as(algo: Algo, line: &[u8]) -> Option<LineParts>
     })
 }
 
-// The digest that the digits spell, with its kind, where the algorithm has digests of that length.
+// The digest that the digits spell, with its kind. Digits are decoded only where the algorithm has digests of as many.
 fn kind_and_digest(algo: Algo, digits: &[u8]) -> Option<(Kind, Digest)>
     ensures { result ≡ sized algo (decode_of digits.now) }
 {
+    if digits.len() % 2 != 0 {
+        return None;
+    }
+    let kind = kind_of_len(algo, digits.len() / 2)?;
     let digest = Digest::from_hex(digits)?;
-    let kind = kind_of_len(algo, digest.as_slice().len())?;
     Some((kind, digest))
 }
 

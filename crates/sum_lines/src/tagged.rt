@@ -6,19 +6,22 @@ ghost use Rattle.std.specs.Option.{option_copied, option_map};
 ghost use Rattle.hex.specs.Hex.{decode_of};
 ghost use Rattle.digest_kinds.specs.Kinds.{tag};
 ghost use Rattle.sum_lines.specs.Scanned.{after_while, algo_at, bits_at, blake2b_at, digest_at, is_digit, kind_at};
-ghost use Rattle.sum_lines.specs.Scanned.{opened_of, past, tagged_of, width_at};
+ghost use Rattle.sum_lines.specs.Scanned.{opened_text, past, tagged_of, unmarked, width_at};
+ghost use Rattle.sum_lines.specs.Shapes.{is_blank};
 ghost use Rattle.sum_lines.specs.Found.{line_parts};
 
-use crate::scanning::{LineParts, past_text, skip_blanks, split_at_last, unmark, unspace};
+use crate::scanning::{LineParts, past_text, skip_blanks, split_at_last, unspace};
 use digest_kinds::{Algo, Algos, Digest, Kind};
 
-/// Reads a tagged line of these algorithms. None where the line isn't tagged.
+/// Reads a tagged line of these algorithms, whose text stands behind its blanks and its mark. None where the line isn't
+/// tagged.
 #[tactic(auto, unfolding(crate::specs::Scanned::name_behind))]
-pub(crate) fn tagged(algos: Algos, line: &[u8]) -> Option<LineParts>
+pub(crate) fn tagged(algos: Algos, line: &[u8], escaped: bool, text: &[u8]) -> Option<LineParts>
+    requires { (escaped, text.now) ≡ unmarked (after_while is_blank line.now) }
     ensures parts { option_map (line_parts line.now) result ≡ tagged_of algos line.now }
     ensures range { IfSome result (λ t. (t.start ≤ t.stop) × (t.stop ≤ length line.now)) }
 {
-    let Some(opened) = open_line(algos, line) else {
+    let Some(opened) = open_line(algos, escaped, text) else {
         return None;
     };
     // The name may hold `)`, and what follows the closing one can't.
@@ -47,11 +50,10 @@ struct OpenedLine<'a> {
 }
 
 #[tactic(auto, unfolding(crate::specs::Scanned::opened_text))]
-fn open_line(algos: Algos, line: &[u8]) -> Option<OpenedLine<'_>>
+fn open_line(algos: Algos, escaped: bool, text: &[u8]) -> Option<OpenedLine<'_>>
     ensures { option_map (λ o. record { escaped = o.escaped; kind = o.kind; inner = o.inner.now }) result
-        ≡ opened_of algos line.now }
+        ≡ opened_text algos escaped text.now }
 {
-    let (escaped, text) = unmark(skip_blanks(line));
     let algo = algo_at(algos, text)?;
     let Some((kind, behind_width)) = width(algo, past_tag(algo, text)?) else {
         return None;
@@ -146,16 +148,14 @@ fn kind_of_bits(digits: &[u8]) -> Option<Kind>
     Kind::blake2b_bits(bits).ok()
 }
 
-// The digest of that length that the digits spell.
+// The digest of that length that the digits spell. Digits are decoded only where they are as many.
 fn digest_of(len: usize, digits: &[u8]) -> Option<Digest>
     requires some { 1 ≤ len }
     requires few { len ≤ 64 }
     ensures { result ≡ digest_at len (decode_of digits.now) }
 {
-    let digest = Digest::from_hex(digits)?;
-    if digest.as_slice().len() == len {
-        Some(digest)
-    } else {
-        None
+    if digits.len() != 2 * len {
+        return None;
     }
+    Digest::from_hex(digits)
 }

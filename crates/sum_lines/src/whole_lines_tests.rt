@@ -70,8 +70,9 @@ impl Sink for Recorder {
 
 // What was offered and what was taken is this.
 fn check(rt: &impl Abort, lines: &WholeLines<Recorder>, offers: &[u8], taken: &[u8]) {
-    assert_eq!(rt; lines.sink().offers.bytes(), offers);
-    assert_eq!(rt; lines.sink().taken.bytes(), taken);
+    let below = lines.sink();
+    assert_eq!(rt; below.offers.bytes(), offers);
+    assert_eq!(rt; below.taken.bytes(), taken);
 }
 
 // Writes the line of the name, and wants it handed on as one piece.

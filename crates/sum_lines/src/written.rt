@@ -30,6 +30,7 @@ pub struct Style {
 ghost use Rattle.sum_lines.specs.Lines.{form_of, line, line_tag, mark};
 ghost use Rattle.hex.specs.Hex.{encode_lower};
 ghost use Rattle.sum_lines.specs.Parts.{part_text};
+ghost use Rattle.sum_lines.specs.Escape.{escape};
 
 /// Writes the line of a name and its digest. A fault where a write failed; a shorter front of the line is
 /// then written.
@@ -49,8 +50,9 @@ pub fn put_line<S: Sink>(
         put_form(sink, style.mode, kind, Part::Bytes(name), digits)?;
         return put_all(sink, b"\0");
     }
-    put_all(sink, mark_of(name))?;
-    put_form(sink, style.mode, kind, Part::Escaped(name), digits)?;
+    let (mark, name) = mark_and_name(name);
+    put_all(sink, mark)?;
+    put_form(sink, style.mode, kind, name, digits)?;
     put_all(sink, b"\n")
 }
 
@@ -62,11 +64,16 @@ fn digits_of<'a>(digest: &Digest, buffer: &'a mut [u8; 128]) -> &'a [u8]
     &buffer[..count]
 }
 
-// What stands before a line.
-fn mark_of(name: &[u8]) -> &'static [u8]
-    ensures { result.now ≡ mark name.now }
+// What stands before a line, and its name, escaped. A name that is its own escape is searched once.
+fn mark_and_name(name: &[u8]) -> (&'static [u8], Part<'_>)
+    ensures mark { result.0.now ≡ mark name.now }
+    ensures name { part_text result.1 ≡ escape name.now }
 {
-    if needs_escape(name) { b"\\" } else { b"" }
+    if needs_escape(name) {
+        (b"\\", Part::Escaped(name))
+    } else {
+        (b"", Part::Bytes(name))
+    }
 }
 
 // Writes a line without its end and without a backslash before it.

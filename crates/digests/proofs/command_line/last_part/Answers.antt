@@ -1,4 +1,4 @@
-use Rattle.std.proofs.Common.{◌≡◌, ◌∙◌, sym, ap, drop, length}
+use Rattle.std.proofs.Common.{◌∙◌, sym, drop}
 use Rattle.std.proofs.lemmas.List.{drop-drop, take_rest}
 use Rattle.digests.proofs.CommandLineLemmas.{last_part-none, last_part-some}
 use Rattle.digests.proofs.command_line.last_part.Goals as goal

@@ -1,5 +1,3 @@
-use Rattle.std.proofs.Common.{subst}
-use Rattle.digests.specs.Arguments.{WordsUpTo}
 use Rattle.digests.proofs.CommandLineLemmas.{words-start, words-more, words-all}
 use Rattle.digests.proofs.command_line.words_from.Goals as goal
 

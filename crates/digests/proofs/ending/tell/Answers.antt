@@ -1,4 +1,3 @@
-use Rattle.std.proofs.Common.{inr, refl}
 use Rattle.digests.proofs.EndingLemmas.{says-failed}
 use Rattle.digests.proofs.ending.tell.Goals as goal
 

@@ -7,11 +7,11 @@ use Rattle.digests.proofs.ReadingLemmas.{after-unsaid, after-then, ends_not}
 use Rattle.digests.proofs.reading.read_options.Goals as goal
 
 pub loop-item-init : goal.loop-item-init
-loop-item-init c = rw c.new-items.ensures
+loop-item-init g c = rw c.new-items.ensures
     (record { options = after-unsaid (items c.args.tool c.args.words.now); ends = refl })
 
 pub loop-item-preserved-in_default-flag : goal.loop-item-preserved-in_default-flag
-loop-item-preserved-in_default-flag c =
+loop-item-preserved-in_default-flag g c =
     let one = option (full_name c.in-Flag.flag) in
     let rest = c.next.new.self in
     let taken : c.loop-item.items ≡ one ∷ rest = c.in-Some.ensures ∙ ap (λ i. item_of i ∷ rest) c.in-Flag.is in

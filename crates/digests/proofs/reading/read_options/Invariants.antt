@@ -5,10 +5,10 @@ use Rattle.digests.specs.Reading.{after, chosen_of}
 use Rattle.digests.proofs.reading.read_options.Given as goal
 
 abbrev pub invariant-loop-item : goal.invariant-loop-item
-invariant-loop-item l = record {
+invariant-loop-item g l = record {
   options : after (chosen_of l.chosen) l.items ≡ options (items l.fn.tool l.words);
   ends : first_of ends l.items ≡ first_of ends (items l.fn.tool l.words);
 }
 
 abbrev pub decreases-loop-item : goal.decreases-loop-item
-decreases-loop-item l = length l.items
+decreases-loop-item g l = length l.items

@@ -1,5 +1,6 @@
 use Rattle.std.proofs.Common.{refl, ◌∙◌, rules}
 use Rattle.sum_engine.proofs.ManifestLemmas.{along_none, along_more, along_end, along_stop}
+use Rattle.sum_engine.proofs.TakingLemmas.{steady_start, steady_more, steady_end}
 use Rattle.sum_engine.proofs.manifest.check_input.Goals as goal
 
 pub lines-init : goal.lines-init
@@ -10,6 +11,8 @@ lines-init g c = record {
   refusals = refl;
   out = refl;
   err = refl;
+  stdin = steady_start _ _ _ _ _ c.new-checker.ensures.rules (c.new-checker.ensures.stdin _);
+  kept = λ h. h;
 }
 
 pub returns-in-Err-clause-gives : goal.returns-in-Err-clause-gives
@@ -28,12 +31,22 @@ returns-in-Ok-Ended-clause-gives g c =
     let gives = rw so_far.rules at step in
     along_end _ _ _ _ _ _ _ last.form last.counts _ _ _ _ _ so_far.along gives
 
+pub returns-in-Ok-Ended-clause-stdin : goal.returns-in-Ok-Ended-clause-stdin
+returns-in-Ok-Ended-clause-stdin g c =
+    let so_far = c.lines.invariant in
+    let step = rw c.in-Ok-Ended.field-0-is at (c.in-Ok-Ended.ensures.stdin so_far.going) in
+    steady_end _ _ _ _ _ so_far.stdin step
+
+pub returns-in-Ok-Ended-clause-kept : goal.returns-in-Ok-Ended-clause-kept
+returns-in-Ok-Ended-clause-kept g c = λ h. c.in-Ok-Ended.ensures.kept (c.lines.invariant.kept h)
+
 pub lines-preserved : goal.lines-preserved
 lines-preserved g c =
     let so_far = c.lines.invariant in
     let step = rw c.in-Ok-Going.field-0-is at (c.in-Ok-Going.ensures.gives so_far.going) in
     let gives = rw so_far.rules at step in
     let failures = c.in-Ok-Going.ensures.failures so_far.going in
+    let stdin = rw c.in-Ok-Going.field-0-is at (c.in-Ok-Going.ensures.stdin so_far.going) in
     record {
       along = along_more _ _ _ _ _ _ so_far.along gives;
       rules = c.in-Ok-Going.ensures.rules ∙ so_far.rules;
@@ -41,4 +54,6 @@ lines-preserved g c =
       refusals = c.in-Ok-Going.ensures.wants so_far.going ∙ so_far.refusals;
       out = failures.0 ∙ so_far.out;
       err = failures.1 ∙ so_far.err;
+      stdin = steady_more _ _ _ _ so_far.stdin stdin;
+      kept = λ h. c.in-Ok-Going.ensures.kept (so_far.kept h);
     }

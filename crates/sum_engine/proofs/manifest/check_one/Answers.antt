@@ -1,6 +1,7 @@
 use Rattle.std.proofs.Common.{◌≡◌, true, false, rules}
 use Rattle.sum_engine.specs.Worlds.{is_dash}
 use Rattle.sum_engine.proofs.ManifestLemmas.{one_dash, one_file, one_fault_cut}
+use Rattle.sum_engine.proofs.TakingLemmas.{on_file}
 use Rattle.sum_engine.proofs.manifest.check_one.Goals as goal
 
 pub returns-then-eq-clause-gives : goal.returns-then-eq-clause-gives
@@ -18,3 +19,10 @@ pub returns-in-Ok-clause-gives : goal.returns-in-Ok-clause-gives
 returns-in-Ok-clause-gives g c =
     let dash : is_dash c.args.name.now ≡ false = search rules in
     one_file g.S.File.Input.content c.args.settings c.args.tool.now c.args.name.now _ _ _ _ c.in-Ok.file _ _ _ _ _ _ _ dash c.in-Ok.ensures.answer c.in-Ok.ensures.refusals c.check_input-in-Ok.ensures.gives
+
+pub returns-in-Ok-clause-stdin : goal.returns-in-Ok-clause-stdin
+returns-in-Ok-clause-stdin g c =
+    let dash : is_dash c.args.name.now ≡ false = search rules in
+    on_file g.S.File.Input.content c.args.settings c.args.tool.now c.args.name.now _ _ c.in-Ok.file _ _
+    c.check_input-in-Ok.result dash c.in-Ok.ensures.answer c.check_input-in-Ok.ensures.kept
+    c.check_input-in-Ok.ensures.stdin

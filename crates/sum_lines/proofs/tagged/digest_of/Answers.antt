@@ -1,11 +1,10 @@
-use Rattle.std.proofs.Common.{refl}
-use Rattle.sum_lines.proofs.ScanLemmas.{digest_none}
+use Rattle.std.proofs.Common.{refl, arith}
+use Rattle.sum_lines.proofs.ScanLemmas.{digest_other, digest_from}
 use Rattle.sum_lines.proofs.tagged.digest_of.Goals as goal
 
-pub returns-in_err-digest : goal.returns-in_err-digest
-returns-in_err-digest c =
-    rw (
-      c.from_residual.ensures,
-      digest_none c.args.digits.now c.args.len c.requires.some c.requires.few
-          (λ d. let bad = c.in_err-digest.ensures.found.1 d in cc),
-    ) refl
+pub returns-then-digits-len : goal.returns-then-digits-len
+returns-then-digits-len c = rw (digest_other c.args.digits.now c.args.len (λ same. omega arith)) refl
+
+pub returns : goal.returns
+returns c = digest_from c.args.digits.now c.args.len c.from_hex.result c.requires.some c.requires.few (omega arith)
+    c.from_hex.ensures.value c.from_hex.ensures.found.1

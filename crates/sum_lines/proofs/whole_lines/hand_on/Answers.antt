@@ -1,4 +1,4 @@
-use Rattle.std.proofs.Common.{arith, length, take, drop, ◌≡◌, ◌-◌, ◌+◌, ◌++◌, ◌≤◌, ◌<◌, length-drop, sym, ◌∙◌}
+use Rattle.std.proofs.Common.{arith, length-drop, sym, ◌∙◌}
 use Rattle.std.proofs.lemmas.List.{take_rest, drop-drop}
 use Rattle.std.proofs.Math.Seq.{take-add}
 use Rattle.std.proofs.KnownBytes.{Appends-trans}

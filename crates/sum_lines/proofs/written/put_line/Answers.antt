@@ -15,12 +15,12 @@ returns-then-style g c =
 pub returns-in_err-put_form-2 : goal.returns-in_err-put_form-2
 returns-in_err-put_form-2 g c =
     let failed = err_from_is_err_and c.from_residual-in_err-put_form-2.result c.from_residual-in_err-put_form-2.ensures.1 in
-    let marked = rw c.mark_of.ensures at c.in_ok-put_all.ensures in
-    let form = rw c.digits_of-digits.ensures at c.in_err-put_form-2.ensures in
+    let marked = rw c.mark_and_name.ensures.mark at c.in_ok-put_all.ensures in
+    let form = rw (c.digits_of-digits.ensures, c.mark_and_name.ensures.name) at c.in_err-put_form-2.ensures in
     rw (failed.1, c.if-style.false) (Ends-at_second _ _ _ _ _ _ _ _ _ _ marked form refl)
 
 pub returns : goal.returns
 returns g c =
-    let marked = rw c.mark_of.ensures at c.in_ok-put_all.ensures in
-    let form = rw c.digits_of-digits.ensures at c.in_ok-put_form-2.ensures in
+    let marked = rw c.mark_and_name.ensures.mark at c.in_ok-put_all.ensures in
+    let form = rw (c.digits_of-digits.ensures, c.mark_and_name.ensures.name) at c.in_ok-put_form-2.ensures in
     rw c.if-style.false (Ends-three _ _ _ _ _ _ _ _ _ _ _ _ _ marked form c.put_all-3.ensures refl)

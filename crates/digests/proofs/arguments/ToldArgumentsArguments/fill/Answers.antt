@@ -1,5 +1,4 @@
-use Rattle.std.proofs.Common.{◌≡◌, ◌∙◌, sym, ap, length, drop, refl, Some}
-use Rattle.std.specs.Option.{option_map}
+use Rattle.std.proofs.Common.{length, drop, refl}
 use Rattle.std.proofs.lemmas.List.{take_at}
 use Rattle.std.proofs.lemmas.Option.{slice_get_read, slice_get-map}
 use Rattle.digests.proofs.arguments.ToldArgumentsArguments.fill.Goals as goal

@@ -5,7 +5,7 @@ use Rattle.digests.proofs.PieceLemmas.{CutsAt-push, pieces-push}
 use Rattle.digests.proofs.words.Words.add.Goals as goal
 
 pub truncate-requires : goal.truncate-requires
-truncate-requires c =
+truncate-requires g c =
     let bytes : string_bytes c.push_str.new.self ≡ string_bytes c.self.inside.text ++ c.args.word.now =
     c.in-Ok.ensures.bytes in
     let before : length (string_bytes c.self.inside.text) ≡ length c.as_str-before.result.now =
@@ -14,11 +14,11 @@ truncate-requires c =
     (string_bytes c.self.inside.text) c.args.word.now bytes c.utf8.word) in (seam.0, λ _. seam.1)
 
 pub invariant_of-self-in-Ok-push : goal.invariant_of-self-in-Ok-push
-invariant_of-self-in-Ok-push c =
+invariant_of-self-in-Ok-push g c =
     rw (c.in-Ok-push.ensures.items, c.as_str.ensures.value, c.in-Ok.ensures.bytes)
     (CutsAt-push _ _ 0 _ c.utf8.word c.self.invariant)
 
 pub returns-clause-ok : goal.returns-clause-ok
-returns-clause-ok c =
+returns-clause-ok g c =
     rw (c.in-Ok-push.ensures.items, c.as_str.ensures.value, c.in-Ok.ensures.bytes, ← c.self.view_is)
     (pieces-push _ _ 0 _ c.self.invariant)

@@ -1,4 +1,4 @@
-use Rattle.std.proofs.Common.{arith, length, take, drop, ◌≡◌, ◌≤◌, ◌-◌, ◌+◌, ◌++◌, [], inl, inr, length-take, sym, ◌∙◌, ap, refl, take-append-drop}
+use Rattle.std.proofs.Common.{arith, length, take, drop, ◌≡◌, inl, inr, length-take, sym, refl, take-append-drop}
 use Rattle.std.proofs.lemmas.Bool.{false≢true}
 use Rattle.sum_lines.proofs.WholeLineLemmas.{EndsWith-append, Appends-handed, held_back, none_held}
 use Rattle.sum_lines.proofs.whole_lines.WholeLinesSink.write.Goals as goal

@@ -1,0 +1,5 @@
+use Rattle.digests.proofs.EndingLemmas.{kept-told}
+use Rattle.digests.proofs.ending.hand_over.Goals as goal
+
+pub returns-clause-kept : goal.returns-clause-kept
+returns-clause-kept g c = kept-told g.O.Finish.finish_gives _ _ c.finish.result c.finish.ensures.gives
