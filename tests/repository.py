@@ -16,10 +16,12 @@ RT = """#!/bin/sh
 echo "${PWD#"$RT_TOP/"} $*" >>"$RT_NOTES"
 echo "rt says: $*" >&2
 [ -z "${RT_HANGS-}" ] || { : >"$RT_HANGS"; sleep 60; }
-if [ "${RT_FAILS-}" = "$1 ${PWD##*/}" ]; then
-    echo "rt: this is why"
-    exit 1
-fi
+case ${RT_FAILS-none} in
+    "$1 ${PWD##*/}" | "${2-}")
+        echo "rt: this is why" >&2
+        exit 1
+        ;;
+esac
 if [ -n "${RT_EDITS-}" ]; then
     sleep 0.05
     echo >>"$RT_EDITS"

@@ -272,12 +272,15 @@ class Levels(Repository):
         self.assertEqual(self.script("digests", "md5sum", "a", GLIBC_TUNABLES=HIDDEN), OF_A)
         self.assertEqual(self.script("digests", "which").out, b"fast\n")
 
-    def test_a_fast_program_that_was_not_made(self):
-        self.write(self.source, "x")
-        ran = self.script("digests", "md5sum", "a", RT_FAST=os.fsdecode(self.path("nothing there")))
-        self.assertEqual(ran.status, 0)
-        ran = self.script("digests", "md5sum", "a")
-        self.assertEqual(ran.status, 0)
+    def test_a_level_that_fails(self):
+        """The build goes on there, and an older program of that level doesn't stand in for it."""
+        self.write(self.source, "another version")
+        for _ in range(2):
+            ran = self.script("digests", "which", RT_FAILS="--cpu")
+            self.assertEqual((ran.status, ran.out), (1, b""))
+            self.assertIn(f"the program for {FAST}: failed\n".encode(), ran.err)
+        self.assertEqual(self.build(), BOTH[2:])
+        self.assertEqual(self.script("digests", "which"), Ran(0, b"fast\n", b""))
 
 
 class OfThisMachine(Case):
