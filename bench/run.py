@@ -165,7 +165,8 @@ def bound(times, name):
         return "the start of a process"
     if BARE in times and times[BARE].least > 0.93 * times[name].least:
         return "the kit's digest"
-    return f"{'the kernel' if times[name].kernel > 0.5 else 'ours'} (kernel {times[name].kernel:.0%})"
+    share = f"{times[name].kernel:.0%}"
+    return f"the kernel ({share})" if times[name].kernel > 0.5 else f"ours (the kernel {share})"
 
 
 def print_speeds(bench):
