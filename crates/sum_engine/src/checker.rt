@@ -16,7 +16,7 @@ use crate::summary::{Counts, is_good, put_summary};
 use crate::verdict::{judge, read};
 use std::alloc::Allocator;
 use sum_lines::{Form, Sink};
-use sum_sources::{Input, LineReader, LineStop, Next, Source, Stdin};
+use sum_sources::{Input, LineReader, LineStop, Next, PIECE, Source, Stdin};
 
 #[derive(Clone, Copy, Debug, PartialEq, Eq)]
 enum State {
@@ -33,6 +33,8 @@ pub struct Checker<'a, I> {
     form: Form,
     counts: Counts,
     state: State,
+    // what listed files are read into: one for all of them
+    buffer: [u8; PIECE],
     ghost few: { total counts ≤ count_of reader },
     ghost work: { IsRunning state → has_stopped reader ≡ false },
 }
@@ -86,6 +88,7 @@ impl<'a, I: Input> Checker<'a, I> {
             form: Form::Undecided,
             counts: Counts::NONE,
             state: State::Running,
+            buffer: [0; PIECE],
         }
     }
 
@@ -237,7 +240,14 @@ impl<'a, I: Input> Checker<'a, I> {
     {
         let (reading, form) = read(self.listing.settings.algo, self.form, line);
         self.form = form;
-        let Some(judgement) = judge(&self.listing, line, &reading, stdin, source) else {
+        let Some(judgement) = judge(
+            &self.listing,
+            line,
+            &reading,
+            stdin,
+            source,
+            &mut self.buffer,
+        ) else {
             return Err(Stop::Memory);
         };
         let number = self.reader.lines();
