@@ -196,6 +196,39 @@ fn output_that_is_not_kept(rt: HostRuntime) -> Result<(), Fail> {
     Ok(())
 }
 
+// Memory is short for the manifest's line, and then standard output isn't kept: what is told is why the run stopped.
+#[test]
+fn stopped_and_not_kept(rt: HostRuntime) -> Result<(), Fail> {
+    let line = format!(in rt.alloc(); "{MD5_OF_ABC}  a\n")?;
+    let arguments = [b"md5sum".as_slice(), b"-c"];
+    let mut stopped = false;
+    for number in 1..1000 {
+        let heap = Refusing::new(rt.alloc(), number);
+        let mut files = ToldSource::new(rt.alloc(), 100);
+        add_files(&mut files)?;
+        let mut out = WholeLines::new(FromWrite::new(LosesAll), b'\n');
+        let mut err = WholeLines::new(ToldSink::<64>::new(64), b'\n');
+        let status = command(
+            &heap,
+            &ToldArguments::new(&arguments),
+            &mut Stdin::new(Told::new(line.as_bytes(), Ending::Whole, 1)),
+            &mut files,
+            &mut out,
+            &mut err,
+        );
+        assert_eq!(rt; status, 1);
+        if !heap.has_refused() {
+            assert_eq!(rt; err.sink().bytes(), b"md5sum: write error\n".as_slice());
+            assert!(rt; stopped);
+            return Ok(());
+        }
+        let exhausted = b"md5sum: memory exhausted\n".as_slice();
+        stopped = err.sink().bytes() == exhausted;
+        assert!(rt; stopped || err.sink().bytes() == b"digests: words not read\n".as_slice());
+    }
+    Err(Fail::from("no run was without a refusal"))
+}
+
 #[test]
 fn closed_standard_input(rt: HostRuntime) -> Result<(), Fail> {
     let closed: Closable<Told> = Closable::Closed;
