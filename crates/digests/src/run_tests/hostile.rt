@@ -2,8 +2,6 @@
 use super::checking::VERDICTS;
 use super::{add_files, assert_broken, assert_rows, run_line, spelled};
 use crate::run::run;
-use crate::tool::Tool;
-use crate::words::Words;
 use std::alloc::Global;
 use std::ops::RangeInclusive;
 use std::process::Abort;
@@ -11,6 +9,7 @@ use std::test::Fail;
 use sum_engine::Stop;
 use sum_lines::ToldSink;
 use sum_sources::{Answer, Ending, Fault, Stdin, Told, ToldSource};
+use sum_words::{Tool, Words};
 
 pub(super) const REPORTS: &str = "a: OK\nx: FAILED open or read\ne: FAILED\n";
 
