@@ -2,7 +2,7 @@
 use Rattle.std.proofs.Common.{◌≡◌, ℕ, ◌+◌, ◌^◌, ◌<◌, true, false, List, [], ◌∷◌, Ok, Err, refl, w64, Bor}
 use seplogic.Ra.Ura.{Ura}
 use mir.Syntax.{Ty, Args, Fn, a_type, dnil, dcons}
-use mir.Val.{Val, vunit, vint, vptr}
+use mir.Val.{Val, vint, vptr}
 use mir.MapTy.{inst_fn}
 use base.Logic.{SProp, ent, id⊢}
 use base.Fml.{Lft, Share, ftrue, flft}
@@ -14,7 +14,7 @@ use contract.BorrowLft.{◌⊑◌, ⊑_trans}
 use contract.Monad.{Fun, fact}
 use contract.Running.{tables, tables_of}
 use sound.WpLaws.{fm_of, WpFn-mono}
-use types.Run.{stop, fld, addr, no_more, and_then, of_opd, returns, enter}
+use types.Run.{stop, fld, addr, no_more, and_then, returns, enter}
 use denote.Exit.{yes}
 use denote.RattleType.{owns}
 use denote.Ref.{shr_vals}
@@ -29,7 +29,7 @@ use denote.Triple.Statement.{Triple}
 use denote.Triple.Table.{entered, cited}
 use denote.Triple.Walked.{Stays, stay_dropped, walk_of, ends_at, walked, Goes-dropped, walk_Meets}
 use types.Kit.{‵, raw, ◌⊛◌, later, given, learn, ◌$◌, ◌∵◌, !, qed, move, keep, drop, use0, use1, use2, split}
-use types.Kit.{split3, join, fsplit, fjoin, suffices, await, done}
+use types.Kit.{join, fsplit, fjoin, suffices, await, done}
 use types.ByLocal.{alloc_all, pass_all, free_all, look_at, get, through, sets, lands_as}
 use denote.RawPtr.{block_ptr}
 use denote.Builtin.{usize, RefOf}
@@ -47,9 +47,8 @@ use mathlib.Core.Bool.{Bool}
 use mir.Val.{vbool}
 use base.Logic.{sep, ex, guard}
 use base.Fml.{fsep}
-use prog.Wp.{Env}
 use types.Logic.{sem}
-use types.Kit.{Item, some, pick, feq_i, feq_l, check, show, updating, at_ret, now as at_once}
+use types.Kit.{some, pick, feq_i, feq_l, check, show, updating, at_ret, now as at_once}
 use types.Run.{lit, first, branches, skips, exec, returns_within}
 use types.Part.{agg}
 use types.ByLocal.{env}
