@@ -174,3 +174,16 @@ class Sizes(Case):
             file.write(as_bytes(["", f"{M}  a"]))
         ran = self.run_words("md5sum -c l x", preexec_fn=limits(memory=400 * MEGA))
         self.assertEqual(ran, Ran(1, b"a: OK\n", b"md5sum: memory exhausted\n"))
+
+    def test_want_of_memory_and_a_full_output(self):
+        """The run ends at what comes first, and says that one: a line for which there is no memory, or a report that
+        can't be written. What is full isn't asked for anything where memory was short before the first report."""
+        for before, said in (("", b"md5sum: memory exhausted\n"), (f"{M}  a\n", b"md5sum: write error\n")):
+            with self.subTest(before=before), self.full() as full:
+                with open(self.path("l"), "wb") as file:
+                    file.write(as_bytes(before))
+                    file.seek(2000 * MEGA, os.SEEK_CUR)
+                    file.write(as_bytes(["", f"{M}  a"]))
+                limited = {"stdout": full, "preexec_fn": limits(memory=400 * MEGA)}
+                self.expect("md5sum -c l", err=said, status=1, **limited)
+                self.expect("md5sum -c l", status=1, stderr=full, **limited)

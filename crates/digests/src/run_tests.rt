@@ -1,8 +1,10 @@
 //! Worked command lines, run over told input and told files into told sinks.
 mod checking;
 mod generating;
+mod growths;
 mod hostile;
 mod program;
+mod refusing;
 mod words;
 
 use crate::run::run;

@@ -1,5 +1,5 @@
 //! Checking manifests.
-use super::{add_files, assert_asked, assert_broken, assert_rows, run_line, spelled};
+use super::{PIECES, add_files, assert_asked, assert_broken, assert_rows, run_line, spelled};
 use std::test::Fail;
 use sum_sources::{Answer, Ending, Fault, Told, ToldSource};
 
@@ -63,17 +63,20 @@ fn verdicts(rt: HostRuntime) -> Result<(), Fail> {
 #[test]
 fn names_asked(rt: HostRuntime) -> Result<(), Fail> {
     let manifest = spelled(rt.alloc(), VERDICTS)?;
-    let mut files = ToldSource::new(rt.alloc(), 8192);
-    add_files(&mut files)?;
-    files.add(b"l", Answer::Content(manifest.as_bytes(), Ending::Whole))?;
-    run_line(
-        rt.alloc(),
-        "md5sum -c l",
-        Told::new(b"", Ending::Whole, 8192),
-        &mut files,
-        (1024, 1024),
-    )?;
-    assert_asked(&rt, &files, &[b"l", b"a", b"x", b"e"])
+    for piece in PIECES {
+        let mut files = ToldSource::new(rt.alloc(), piece);
+        add_files(&mut files)?;
+        files.add(b"l", Answer::Content(manifest.as_bytes(), Ending::Whole))?;
+        run_line(
+            rt.alloc(),
+            "md5sum -c l",
+            Told::new(b"", Ending::Whole, piece),
+            &mut files,
+            (1024, 1024),
+        )?;
+        assert_asked(&rt, &files, &[b"l", b"a", b"x", b"e"])?;
+    }
+    Ok(())
 }
 
 #[test]

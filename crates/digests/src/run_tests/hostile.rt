@@ -1,12 +1,9 @@
-//! Memory that is refused, outputs that stop at any byte, manifests that break off anywhere, and hostile ones.
+//! Outputs that stop at any byte, manifests that break off anywhere, and hostile ones.
 use super::checking::VERDICTS;
-use super::{
-    Row, Run, add_all, add_files, assert_as, assert_broken, assert_rows, run_line, run_line_on,
-    spelled,
-};
+use super::{add_files, assert_broken, assert_rows, run_line, spelled};
 use crate::run::run;
-use linked_list_allocator::LocalHeap;
-use std::alloc::{Allocator, Global};
+use std::alloc::Global;
+use std::ops::RangeInclusive;
 use std::process::Abort;
 use std::test::Fail;
 use sum_engine::Stop;
@@ -14,153 +11,20 @@ use sum_lines::ToldSink;
 use sum_sources::{Answer, Ending, Fault, Stdin, Told, ToldSource};
 use sum_words::{Tool, Words};
 
-// A place between two operands or two lines of a manifest: the texts up to there, and how many names were asked.
-type Place<'a> = (&'a str, &'a str, usize);
+pub(super) const REPORTS: &str = "a: OK\nx: FAILED open or read\ne: FAILED\n";
 
-// Whether these are the names that were asked.
-fn asked<A: Allocator + Copy>(files: &ToldSource<A>, names: &[&str]) -> bool {
-    for (i, name) in names.iter().enumerate() {
-        if files.asked_name(i) != Some(name.as_bytes()) {
-            return false;
-        }
-    }
-    files.asked_name(names.len()).is_none()
-}
-
-// Whether the outputs and the names asked stand at one of the places.
-fn stands_at<A: Allocator + Copy>(
-    alloc: Global,
-    run: &Run,
-    files: &ToldSource<A>,
-    names: &[&str],
-    places: &[Place],
-) -> Result<bool, Fail> {
-    for (out, err, count) in places {
-        if run.out.bytes() == spelled(alloc, out)?.as_bytes()
-            && run.err.bytes() == spelled(alloc, err)?.as_bytes()
-            && asked(files, names.get(..*count).ok_or("names")?)
-        {
-            return Ok(true);
-        }
-    }
-    Ok(false)
-}
-
-// Runs the row's line with the file `a`, the empty file `e`, the manifest `l` and its lines on a heap of each size,
-// up to one with room for all. A growth that is refused once the files and the words are there stops the run at a
-// place; the last run does as the row says.
-fn assert_each_growth(
-    rt: &(impl Abort + AllocGlobal),
-    manifest: &str,
-    names: &[&str],
-    places: &[Place],
-    row: Row,
-) -> Result<(), Fail> {
-    let manifest = spelled(rt.alloc(), manifest)?;
-    let all: [(&[u8], &[u8]); 3] = [(b"a", b"abc"), (b"e", b""), (b"l", manifest.as_bytes())];
-    let mut stops: u64 = 0;
-    for units in 0..256 {
-        let heap = LocalHeap::new(rt.alloc(), units * 16)?;
-        let mut files = ToldSource::new(&heap, 8192);
-        if add_all(&mut files, &all).is_err() {
-            continue;
-        }
-        let input = Told::new(b"abc", Ending::Whole, 8192);
-        let run = match run_line_on(&heap, row.0, input, &mut files, (1024, 1024))? {
-            Some(run) => run,
-            None => continue,
-        };
-        if run.answer.is_ok() {
-            assert!(rt; stops > 0);
-            return assert_as(rt, &run, row);
-        }
-        assert_eq!(rt; run.answer, Err(Stop::Memory));
-        assert!(rt; stands_at(rt.alloc(), &run, &files, names, places)?);
-        stops = stops.saturating_add(1);
-    }
-    Err(Fail::from("no heap had room enough"))
-}
-
-#[test]
-fn growths_of_generating(rt: HostRuntime) -> Result<(), Fail> {
-    let missing = "md5sum: x: No such file or directory\n";
-    let places = [("", "", 0), ("$M  a\n", "", 1), ("$M  a\n", missing, 2)];
-    let row = ("md5sum a x e", "$M  a\n$E  e\n", missing, 1);
-    assert_each_growth(&rt, "", &["a", "x", "e"], &places, row)
-}
-
-const REPORTS: &str = "a: OK\nx: FAILED open or read\ne: FAILED\n";
-
-const WARNINGS: &str = "md5sum: x: No such file or directory\n\
+pub(super) const WARNINGS: &str = "md5sum: x: No such file or directory\n\
                         md5sum: WARNING: 1 line is improperly formatted\n\
                         md5sum: WARNING: 1 listed file could not be read\n\
                         md5sum: WARNING: 1 computed checksum did NOT match\n";
 
-#[test]
-fn growths_of_checking(rt: HostRuntime) -> Result<(), Fail> {
-    let places = [
-        ("", "", 0),
-        ("", "", 1),
-        ("a: OK\n", "", 2),
-        (
-            "a: OK\nx: FAILED open or read\n",
-            "md5sum: x: No such file or directory\n",
-            3,
-        ),
-    ];
-    let row = ("md5sum -c l", REPORTS, WARNINGS, 1);
-    assert_each_growth(&rt, VERDICTS, &["l", "a", "x", "e"], &places, row)
-}
-
-#[test]
-fn growths_of_two_manifests(rt: HostRuntime) -> Result<(), Fail> {
-    let places = [
-        ("", "", 0),
-        ("", "", 1),
-        ("-: OK\n", "", 1),
-        ("-: OK\n", "", 2),
-    ];
-    let row = (
-        "md5sum -c l l",
-        "-: OK\n-: FAILED\n",
-        "md5sum: WARNING: 1 computed checksum did NOT match\n",
-        1,
-    );
-    assert_each_growth(&rt, "$M  -\n", &["l", "l"], &places, row)
-}
-
-// The heap has room for the first line and none for the second: the first one's report stands.
-#[test]
-fn long_line_refused(rt: HostRuntime) -> Result<(), Fail> {
-    let mut manifest = spelled(rt.alloc(), "$M  a\n$M  ")?;
-    for _ in 0..5000 {
-        manifest.push('x')?;
-    }
-    let heap = LocalHeap::new(rt.alloc(), 2048)?;
-    let mut files = ToldSource::new(&heap, 8192);
-    add_files(&mut files)?;
-    files.add(b"l3", Answer::Content(manifest.as_bytes(), Ending::Whole))?;
-    let input = Told::new(b"", Ending::Whole, 8192);
-    let run = run_line_on(&heap, "md5sum -c l3", input, &mut files, (1024, 1024))?;
-    let run = run.ok_or("no room for the words")?;
-    assert_eq!(rt; run.answer, Err(Stop::Memory));
-    assert!(rt;
-        stands_at(
-            rt.alloc(),
-            &run,
-            &files,
-            &["l3", "a"],
-            &[("a: OK\n", "", 2)]
-        )?
-    );
-    Ok(())
-}
-
-// Checks all verdicts with outputs that stop so, and asserts fronts of both texts.
+// Checks all verdicts with outputs that stop so, and asserts the answer, fronts of both texts and so many bytes on each
+// output.
 fn assert_stopped(
     rt: &(impl Abort + AllocGlobal),
     stops: (usize, usize),
     answer: Result<u8, Stop>,
+    (out, err): (RangeInclusive<usize>, RangeInclusive<usize>),
 ) -> Result<(), Fail> {
     let manifest = spelled(rt.alloc(), VERDICTS)?;
     let mut files = ToldSource::new(rt.alloc(), 8192);
@@ -171,20 +35,41 @@ fn assert_stopped(
     assert_eq!(rt; run.answer, answer);
     assert!(rt; REPORTS.as_bytes().starts_with(run.out.bytes()));
     assert!(rt; WARNINGS.as_bytes().starts_with(run.err.bytes()));
-    assert!(rt; run.out.bytes().len() == stops.0 || run.err.bytes().len() == stops.1);
+    assert!(rt;
+        out.contains(&run.out.bytes().len()),
+        "standard output at {}",
+        stops.0
+    );
+    assert!(rt;
+        err.contains(&run.err.bytes().len()),
+        "standard error at {}",
+        stops.1
+    );
     Ok(())
 }
 
+// The output that stops holds just these bytes, the other one all of the lines that were handled and none of later ones.
+// Only of the line of `x`, which both outputs tell of, it may hold a part.
 #[test]
 fn each_byte_the_last(rt: HostRuntime) -> Result<(), Fail> {
     for stop in 0..39 {
-        assert_stopped(&rt, (stop, 1024), Err(Stop::Write))?;
+        let err = if stop < 6 {
+            0..=0
+        } else if stop < 29 {
+            0..=37
+        } else {
+            37..=37
+        };
+        assert_stopped(&rt, (stop, 1024), Err(Stop::Write), (stop..=stop, err))?;
     }
     for stop in 0..185 {
-        assert_stopped(&rt, (1024, stop), Err(Stop::Write))?;
+        let out = if stop < 37 { 6..=29 } else { 39..=39 };
+        assert_stopped(&rt, (1024, stop), Err(Stop::Write), (out, stop..=stop))?;
     }
-    assert_stopped(&rt, (39, 1024), Ok(1))?;
-    assert_stopped(&rt, (1024, 185), Ok(1))
+    for stops in [(39, 1024), (1024, 185), (39, 185)] {
+        assert_stopped(&rt, stops, Ok(1), (39..=39, 185..=185))?;
+    }
+    Ok(())
 }
 
 // The reports of the lines that a newline ended, then the fault, and no summary.

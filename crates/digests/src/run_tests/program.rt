@@ -1,7 +1,7 @@
 //! The whole program, over told arguments.
+use super::refusing::Refusing;
 use super::{MD5_OF_ABC, MD5_OF_NOTHING, SHA256_OF_ABC, add_files};
 use crate::command::command;
-use linked_list_allocator::LocalHeap;
 use std::alloc::{Allocator, Global};
 use std::env::FillError;
 use std::io;
@@ -196,6 +196,39 @@ fn output_that_is_not_kept(rt: HostRuntime) -> Result<(), Fail> {
     Ok(())
 }
 
+// Memory is short for the manifest's line, and then standard output isn't kept: what is told is why the run stopped.
+#[test]
+fn stopped_and_not_kept(rt: HostRuntime) -> Result<(), Fail> {
+    let line = format!(in rt.alloc(); "{MD5_OF_ABC}  a\n")?;
+    let arguments = [b"md5sum".as_slice(), b"-c"];
+    let mut stopped = false;
+    for number in 1..1000 {
+        let heap = Refusing::new(rt.alloc(), number);
+        let mut files = ToldSource::new(rt.alloc(), 100);
+        add_files(&mut files)?;
+        let mut out = WholeLines::new(FromWrite::new(LosesAll), b'\n');
+        let mut err = WholeLines::new(ToldSink::<64>::new(64), b'\n');
+        let status = command(
+            &heap,
+            &ToldArguments::new(&arguments),
+            &mut Stdin::new(Told::new(line.as_bytes(), Ending::Whole, 1)),
+            &mut files,
+            &mut out,
+            &mut err,
+        );
+        assert_eq!(rt; status, 1);
+        if !heap.has_refused() {
+            assert_eq!(rt; err.sink().bytes(), b"md5sum: write error\n".as_slice());
+            assert!(rt; stopped);
+            return Ok(());
+        }
+        let exhausted = b"md5sum: memory exhausted\n".as_slice();
+        stopped = err.sink().bytes() == exhausted;
+        assert!(rt; stopped || err.sink().bytes() == b"digests: words not read\n".as_slice());
+    }
+    Err(Fail::from("no run was without a refusal"))
+}
+
 #[test]
 fn closed_standard_input(rt: HostRuntime) -> Result<(), Fail> {
     let closed: Closable<Told> = Closable::Closed;
@@ -215,29 +248,30 @@ fn closed_standard_input(rt: HostRuntime) -> Result<(), Fail> {
     Ok(())
 }
 
-// On each heap up to one with room for the words, memory is wanted for them; without words none is.
+// Each growth of the words in turn is refused; without words there is none.
 #[test]
 fn memory_for_words(rt: HostRuntime) -> Result<(), Fail> {
     let arguments = [b"md5sum".as_slice(), b"a", b"-", b"a"];
     let out = format!(in rt.alloc(); "{MD5_OF_ABC}  a\n{MD5_OF_NOTHING}  -\n{MD5_OF_ABC}  a\n")?;
-    let mut refused: u64 = 0;
-    for units in 0..64 {
-        let heap = LocalHeap::new(rt.alloc(), units * 16)?;
+    for number in 1..1000 {
+        let heap = Refusing::new(rt.alloc(), number);
         let input = Told::new(b"", Ending::Whole, 1);
         let ended = call(rt.alloc(), &heap, &arguments, input, AMPLE)?;
-        if ended.status == 0 {
+        if !heap.has_refused() {
+            assert!(rt; number > 1);
+            assert_eq!(rt; ended.status, 0);
             assert_eq!(rt; ended.out.bytes(), out.as_bytes());
             assert_eq!(rt; ended.err.bytes().len(), 0);
             break;
         }
+        assert_eq!(rt; ended.status, 1);
         assert_eq!(rt; ended.out.bytes().len(), 0);
         assert_eq!(rt; ended.err.bytes(), b"digests: words not read\n".as_slice());
-        refused = refused.saturating_add(1);
     }
-    assert!(rt; refused > 0);
-    let heap = LocalHeap::new(rt.alloc(), 0)?;
+    let heap = Refusing::new(rt.alloc(), 1);
     let input = Told::new(b"abc", Ending::Whole, 1);
     let ended = call(rt.alloc(), &heap, &[b"md5sum".as_slice()], input, AMPLE)?;
     assert_eq!(rt; ended.status, 0);
+    assert!(rt; !heap.has_refused());
     Ok(())
 }

@@ -1,5 +1,6 @@
 //! What the words ask for, and what their faults print.
 use super::assert_rows;
+use std::process::Abort;
 use std::test::Fail;
 
 const MD5SUM_HELP: &str = "Usage: md5sum [OPTION]... [FILE]...
@@ -18,11 +19,25 @@ Print or check MD5 checksums. With no FILE, or when FILE is -, read standard inp
       --version         print the version
 ";
 
-// A fault of each stage of the reading. What the other faults print is tested of `put_fault`.
+// That each line is refused with this text, in two lines on standard error, and with nothing on standard output.
+fn assert_refused(rt: &(impl Abort + AllocGlobal), rows: &[(&str, &str)]) -> Result<(), Fail> {
+    for (line, text) in rows {
+        let tool = line.split(' ').next().unwrap_or("");
+        let err = format!(in rt.alloc();
+            "{tool}: {text}\nTry '{tool} --help' for more information.\n"
+        )?;
+        assert_rows(rt, "abc", &[], &[(line, "", err.as_str(), 1)])?;
+    }
+    Ok(())
+}
+
 #[test]
-fn faults(rt: HostRuntime) -> Result<(), Fail> {
+fn faults_of_options(rt: HostRuntime) -> Result<(), Fail> {
     let rows = [
         ("md5sum --foo --help", "unrecognized option '--foo'"),
+        ("md5sum --foo=1 a", "unrecognized option '--foo'"),
+        ("md5sum --s a", "option '--s' is ambiguous"),
+        ("md5sum --t a", "option '--t' is ambiguous"),
         ("md5sum --=x a", "option '--' is ambiguous"),
         ("sha256sum --st l", "option '--st' is ambiguous"),
         (
@@ -33,22 +48,74 @@ fn faults(rt: HostRuntime) -> Result<(), Fail> {
             "md5sum --help=1",
             "option '--help' doesn't allow an argument",
         ),
-        ("b2sum e --len", "option '--length' requires an argument"),
-        ("b2sum e -l", "option requires an argument -- 'l'"),
         ("sha256sum -cq l", "invalid option -- 'q'"),
         ("md5sum -l 8 a", "invalid option -- 'l'"),
-        ("b2sum -l 520 e", "invalid length: '520'"),
-        ("b2sum -l --help", "invalid length: '--help'"),
-        ("b2sum -l 12 e", "length is not a multiple of 8: '12'"),
         ("md5sum --tag -t a", "--tag does not support --text mode"),
+        (
+            "md5sum -c -t --tag -t l",
+            "--tag does not support --text mode",
+        ),
+    ];
+    assert_refused(&rt, &rows)
+}
+
+#[test]
+fn faults_of_lengths(rt: HostRuntime) -> Result<(), Fail> {
+    let rows = [
+        ("b2sum e --len", "option '--length' requires an argument"),
+        ("b2sum e -l", "option requires an argument -- 'l'"),
+        ("b2sum -l 520 e", "invalid length: '520'"),
+        ("b2sum -l 513 e", "invalid length: '513'"),
+        ("b2sum -l --help", "invalid length: '--help'"),
+        ("b2sum --length= e", "invalid length: ''"),
+        ("b2sum -l +8 e", "invalid length: '+8'"),
+        ("b2sum -l 12 e", "length is not a multiple of 8: '12'"),
+    ];
+    assert_refused(&rt, &rows)
+}
+
+#[test]
+fn faults_of_checking(rt: HostRuntime) -> Result<(), Fail> {
+    let rows = [
         (
             "md5sum -c --tag -z l",
             "the --zero option is not supported when verifying checksums",
         ),
         (
+            "md5sum -c --tag l",
+            "the --tag option is meaningless when verifying checksums",
+        ),
+        (
+            "md5sum -c -b l",
+            "the --binary and --text options are meaningless when verifying checksums",
+        ),
+        (
+            "md5sum --strict --ignore-missing a",
+            "the --ignore-missing option is meaningful only when verifying checksums",
+        ),
+        (
+            "md5sum --quiet -w --status a",
+            "the --status option is meaningful only when verifying checksums",
+        ),
+        (
+            "md5sum --status -w a",
+            "the --warn option is meaningful only when verifying checksums",
+        ),
+        (
             "md5sum --status --quiet a",
             "the --quiet option is meaningful only when verifying checksums",
         ),
+        (
+            "sha256sum --str l",
+            "the --strict option is meaningful only when verifying checksums",
+        ),
+    ];
+    assert_refused(&rt, &rows)
+}
+
+#[test]
+fn faults_of_anysum(rt: HostRuntime) -> Result<(), Fail> {
+    let rows = [
         ("anysum", "--check is required"),
         ("anysum m", "--check is required"),
         ("anysum -b m", "--check is required"),
@@ -63,14 +130,7 @@ fn faults(rt: HostRuntime) -> Result<(), Fail> {
         ("anysum -c -l 8 m", "invalid option -- 'l'"),
         ("anysum -c --length=8 m", "unrecognized option '--length'"),
     ];
-    for (line, text) in rows {
-        let tool = line.split(' ').next().unwrap_or("");
-        let err = format!(in rt.alloc();
-            "{tool}: {text}\nTry '{tool} --help' for more information.\n"
-        )?;
-        assert_rows(&rt, "abc", &[], &[(line, "", err.as_str(), 1)])?;
-    }
-    Ok(())
+    assert_refused(&rt, &rows)
 }
 
 #[test]
@@ -85,6 +145,8 @@ fn accepted(rt: HostRuntime) -> Result<(), Fail> {
         ("b2sum --len 256 e", "$B  e\n", "", 0),
         ("b2sum -bl256 e", "$B *e\n", "", 0),
         ("b2sum -l 0256 e", "$B  e\n", "", 0),
+        // BLAKE2b of one byte (RFC 7693), of nothing.
+        ("b2sum -l 12 -l 8 e", "2e  e\n", "", 0),
     ];
     assert_rows(&rt, "abc", &[], &rows)
 }

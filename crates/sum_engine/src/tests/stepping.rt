@@ -3,6 +3,7 @@ use super::checking::{ALL, CHECK, files};
 use super::hashing::Refusing;
 use crate::{Checker, Progress, Stop, check_one};
 use linked_list_allocator::LocalHeap;
+use std::ops::RangeInclusive;
 use std::process::Abort;
 use std::test::Fail;
 use sum_lines::ToldSink;
@@ -127,109 +128,66 @@ fn memory_refused(rt: HostRuntime) -> Result<(), Fail> {
     Ok(())
 }
 
-// What stands on both outputs after so many lines, and after the end.
-const OUT_AFTER: [&str; 7] = [
-    "",
-    "a: OK\n",
-    "a: OK\n",
-    "a: OK\n",
-    "a: OK\nx: FAILED open or read\n",
-    "a: OK\nx: FAILED open or read\ne: FAILED\n",
-    "a: OK\nx: FAILED open or read\ne: FAILED\n",
-];
+const REPORTS: &[u8] = b"a: OK\nx: FAILED open or read\ne: FAILED\n";
 
-const ERR_AFTER: [&str; 7] = [
-    "",
-    "",
-    "",
-    "",
-    "md5sum: x: No such file or directory\n",
-    "md5sum: x: No such file or directory\n",
-    "md5sum: x: No such file or directory\n\
-     md5sum: WARNING: 1 line is improperly formatted\n\
-     md5sum: WARNING: 1 listed file could not be read\n\
-     md5sum: WARNING: 1 computed checksum did NOT match\n",
-];
+const WARNINGS: &[u8] = b"md5sum: x: No such file or directory\n\
+    md5sum: WARNING: 1 line is improperly formatted\n\
+    md5sum: WARNING: 1 listed file could not be read\n\
+    md5sum: WARNING: 1 computed checksum did NOT match\n";
 
-// Steps over the manifest until well past its end, with the source and the line on a heap of this size, and
-// answers what the last step did. None where the heap has no room for the source.
-fn steps_on(
+// `check_one` of all verdicts with outputs that stop so answers this, and leaves fronts of both texts, of so many bytes.
+fn stops_at(
     rt: &(impl Abort + AllocGlobal),
-    size: usize,
-) -> Result<Option<Result<Progress, Stop>>, Fail> {
-    let heap = LocalHeap::new(rt.alloc(), size)?;
-    let Ok(mut source) = files(&heap, ALL, Ending::Whole) else {
-        return Ok(None);
-    };
+    stops: (usize, usize),
+    want: Result<bool, Stop>,
+    (in_out, in_err): (RangeInclusive<usize>, RangeInclusive<usize>),
+) -> Result<(), Fail> {
+    let mut source = files(rt.alloc(), ALL, Ending::Whole)?;
     let mut stdin = Stdin::new(Told::new(b"", Ending::Whole, 1));
-    let mut out = ToldSink::<1000>::new(1000);
-    let mut err = ToldSink::<1000>::new(1000);
-    let input = Told::new(ALL, Ending::Whole, 8192);
-    let mut checker = Checker::new(CHECK, "md5sum", b"l", false, input);
-    let mut line = Vec::new(&heap);
-    let mut lines: usize = 0;
-    let mut answer = Ok(Progress::Going);
-    for _ in 0..9 {
-        answer = checker.step(&mut line, &mut stdin, &mut source, &mut out, &mut err);
-        let after = match answer {
-            Ok(Progress::Going) => lines.saturating_add(1),
-            Ok(Progress::Ended(_)) => 6,
-            Err(_) => lines,
-        };
-        lines = after;
-        assert_eq!(rt;
-            out.bytes(),
-            OUT_AFTER.get(after).ok_or("lines")?.as_bytes()
-        );
-        assert_eq!(rt;
-            err.bytes(),
-            ERR_AFTER.get(after).ok_or("lines")?.as_bytes()
-        );
-    }
-    Ok(Some(answer))
+    let mut out = ToldSink::<1000>::new(stops.0);
+    let mut err = ToldSink::<1000>::new(stops.1);
+    let good = check_one(
+        rt.alloc(),
+        CHECK,
+        "md5sum",
+        b"l",
+        &mut stdin,
+        &mut source,
+        &mut out,
+        &mut err,
+    );
+    assert!(rt; good == want);
+    assert!(rt; REPORTS.starts_with(out.bytes()) && WARNINGS.starts_with(err.bytes()));
+    assert!(rt;
+        in_out.contains(&out.bytes().len()),
+        "standard output at {}",
+        stops.0
+    );
+    assert!(rt;
+        in_err.contains(&err.bytes().len()),
+        "standard error at {}",
+        stops.1
+    );
+    Ok(())
 }
 
-// On a heap of each size up to one with room for all: a growth that is refused stops the checker between two
-// lines, and it stays stopped.
-#[test]
-fn each_growth_refused(rt: HostRuntime) -> Result<(), Fail> {
-    let mut stops: u64 = 0;
-    for units in 0..256 {
-        match steps_on(&rt, units * 16)? {
-            None => {}
-            Some(Err(stop)) => {
-                assert!(rt; stop == Stop::Memory);
-                stops = stops.saturating_add(1);
-            }
-            Some(Ok(progress)) => {
-                assert!(rt; progress == Progress::Ended(false) && stops > 0);
-                return Ok(());
-            }
-        }
-    }
-    Err(Fail::from("no heap had room enough"))
-}
-
+// The output that stops holds just these bytes, the other one all of the lines that were handled and none of later ones.
+// Only of the line of `x`, which both outputs tell of, it may hold a part.
 #[test]
 fn each_byte_the_last(rt: HostRuntime) -> Result<(), Fail> {
-    let text = "a: OK\nx: FAILED open or read\ne: FAILED\n".as_bytes();
     for stop in 0..39 {
-        let mut source = files(rt.alloc(), ALL, Ending::Whole)?;
-        let mut stdin = Stdin::new(Told::new(b"", Ending::Whole, 1));
-        let mut out = ToldSink::<1000>::new(stop);
-        let mut err = ToldSink::<1000>::new(1000);
-        let good = check_one(
-            rt.alloc(),
-            CHECK,
-            "md5sum",
-            b"l",
-            &mut stdin,
-            &mut source,
-            &mut out,
-            &mut err,
-        );
-        assert!(rt; good == Err(Stop::Write));
-        assert_eq!(rt; out.bytes(), text.get(..stop).ok_or("short")?);
+        let err = if stop < 6 {
+            0..=0
+        } else if stop < 29 {
+            0..=37
+        } else {
+            37..=37
+        };
+        stops_at(&rt, (stop, 1000), Err(Stop::Write), (stop..=stop, err))?;
     }
-    Ok(())
+    for stop in 0..185 {
+        let out = if stop < 37 { 6..=29 } else { 39..=39 };
+        stops_at(&rt, (1000, stop), Err(Stop::Write), (out, stop..=stop))?;
+    }
+    stops_at(&rt, (39, 185), Ok(false), (39..=39, 185..=185))
 }

@@ -35,6 +35,9 @@ fn reads(
 
 const ABC: &[u8] = b"900150983cd24fb0d6963f7d28e17f72  a";
 
+// The same line twice, of which a newline ends only the first.
+const TWICE: &[u8] = b"900150983cd24fb0d6963f7d28e17f72  a\n900150983cd24fb0d6963f7d28e17f72  a";
+
 #[test]
 fn ends(rt: HostRuntime) {
     let fault = Err(LineStop::Fault(Fault::Other));
@@ -48,11 +51,37 @@ fn ends(rt: HostRuntime) {
         &five,
         Ok(Next::NoMore),
     );
-    reads(&rt, b"one\ntwo", other, &[b"one"], fault);
+    reads(&rt, TWICE, other, &[ABC], fault);
     reads(&rt, b"", Ending::Whole, &[], Ok(Next::NoMore));
     reads(&rt, b"", other, &[], fault);
     reads(&rt, b"\n", Ending::Whole, &[b""], Ok(Next::NoMore));
     reads(&rt, b"one\n", other, &[b"one"], fault);
+}
+
+// A manifest that breaks off behind each of its bytes: the lines that a newline ended, and then the fault.
+#[test]
+fn breaks_off(rt: HostRuntime) -> Result<(), Fail> {
+    let manifest = b"900150983cd24fb0d6963f7d28e17f72  a\n#c\njunk\n\
+        900150983cd24fb0d6963f7d28e17f72 *x\n900150983cd24fb0d6963f7d28e17f72  e\n";
+    let lines: [&[u8]; 5] = [
+        ABC,
+        b"#c",
+        b"junk",
+        b"900150983cd24fb0d6963f7d28e17f72 *x",
+        b"900150983cd24fb0d6963f7d28e17f72  e",
+    ];
+    for count in 0..=116 {
+        let front = manifest.get(..count).ok_or("count")?;
+        let ended = front.iter().filter(|byte| **byte == b'\n').count();
+        reads(
+            &rt,
+            front,
+            Ending::Broken(Fault::Other),
+            lines.get(..ended).ok_or("ended")?,
+            Err(LineStop::Fault(Fault::Other)),
+        );
+    }
+    Ok(())
 }
 
 #[test]

@@ -61,6 +61,37 @@ fn kinds_of_faults(rt: HostRuntime) {
     }
 }
 
+// A reader that would have to wait for its first byte, and then has it.
+#[derive(Drop)]
+struct LateByte {
+    is_there: bool,
+}
+
+impl Read for LateByte {
+    fn read(&mut self, buf: &mut [u8]) -> io::Result<usize> {
+        if !self.is_there {
+            self.is_there = true;
+            return Err(io::Error::from(ErrorKind::WouldBlock));
+        }
+        match buf.first_mut() {
+            Some(first) => {
+                *first = 7;
+                Ok(1)
+            }
+            None => Ok(0),
+        }
+    }
+}
+
+// What would have to be waited for is a fault: it isn't tried again.
+#[test]
+fn nothing_yet(rt: HostRuntime) {
+    let mut buf = [0; 4];
+    let mut input = FromRead::new(LateByte { is_there: false });
+    assert!(rt; input.read(&mut buf) == Err(Fault::Other));
+    assert_eq!(rt; buf, [0; 4]);
+}
+
 #[test]
 fn texts_of_faults(rt: HostRuntime) {
     assert_eq!(rt; Fault::NotFound.text(), "No such file or directory");

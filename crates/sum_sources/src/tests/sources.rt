@@ -3,7 +3,10 @@ use crate::{
     Answer, Closable, Ending, Fault, Files, Input, NoRoom, OpenFault, Source, Told, ToldSource,
 };
 use linked_list_allocator::LocalHeap;
-use std::fs;
+use std::alloc::Allocator;
+use std::fs::{self, Metadata, OpenOptions};
+use std::io::{self, ErrorKind};
+use std::rt;
 use std::test::Fail;
 
 #[test]
@@ -56,6 +59,10 @@ fn real_files(rt: HostRuntime) -> Result<(), Fail> {
     assert!(rt; file.read(&mut buf) == Ok(3));
     assert!(rt; buf.starts_with(b"abc"));
     assert!(rt; file.read(&mut buf) == Ok(0));
+    // A file is no folder.
+    assert!(rt;
+        files.open_file(b"sum_sources_real/").err() == Some(OpenFault::Fault(Fault::Other))
+    );
     fs::remove_file(&rt, "sum_sources_real")?;
     assert!(rt;
         files.open_file(b"sum_sources_real").err() == Some(OpenFault::Fault(Fault::NotFound))
@@ -63,6 +70,70 @@ fn real_files(rt: HostRuntime) -> Result<(), Fail> {
     assert!(rt; files.open_file(b"\xff").err() == Some(OpenFault::Fault(Fault::Other)));
     assert!(rt; files.open_file(b"").err() == Some(OpenFault::Fault(Fault::NotFound)));
     Ok(())
+}
+
+// A file system that has no memory to open anything, and nothing else.
+#[derive(Drop)]
+struct NoMemory;
+
+fn no_memory<T>() -> io::Result<T> {
+    Err(io::Error::from(ErrorKind::OutOfMemory))
+}
+
+impl rt::Files for NoMemory {
+    type File = fs::File;
+
+    type Dir = io::Empty;
+
+    fn open_file(&self, _how: &OpenOptions, _path: &str) -> io::Result<fs::File> {
+        no_memory()
+    }
+
+    fn open_dir(&self, _path: &str) -> io::Result<io::Empty> {
+        no_memory()
+    }
+
+    fn metadata(&self, _path: &str) -> io::Result<Metadata> {
+        no_memory()
+    }
+
+    fn symlink_metadata(&self, _path: &str) -> io::Result<Metadata> {
+        no_memory()
+    }
+
+    fn copy(&self, _from: &str, _to: &str) -> io::Result<u64> {
+        no_memory()
+    }
+
+    fn rename(&self, _from: &str, _to: &str) -> io::Result<()> {
+        no_memory()
+    }
+
+    fn remove_file(&self, _path: &str) -> io::Result<()> {
+        no_memory()
+    }
+
+    fn create_dir(&self, _path: &str) -> io::Result<()> {
+        no_memory()
+    }
+
+    fn remove_dir(&self, _path: &str) -> io::Result<()> {
+        no_memory()
+    }
+
+    fn remove_dir_all<B: Allocator>(&self, _alloc: B, _path: &str) -> io::Result<()> {
+        no_memory()
+    }
+}
+
+// Want of memory is told as such, the first time and each time.
+#[test]
+fn no_memory_to_open(rt: HostRuntime) {
+    let mut files = Files::new(NoMemory);
+    for _ in 0..3 {
+        assert!(rt; files.open_file(b"a").err() == Some(OpenFault::Memory));
+    }
+    assert!(rt; files.open_file(b"\xff").err() == Some(OpenFault::Fault(Fault::Other)));
 }
 
 // What is open gives what its input gives; what is closed faults at each read.
