@@ -147,11 +147,14 @@ class Words(Repository):
         self.assertEqual(self.calls(), [])
 
     def test_what_is_done(self):
-        """It says what it will do before it builds, and its last line is the gate's."""
+        """It says what it will do before it builds, and its last line is the gate's, which counts wrong bodies that are
+        refused by their shape alone as failed."""
         self.put("tests/run.py", "print('the tests', flush=True)\n")
         self.write("commands/rt", self.read("commands/rt").replace(b"[ \"$1\" = version ]", b"""[ "$1" = ci ] && {
     echo "$PWD ci" >>"$RT_NOTES"
     [ -e out/place ] && echo "a place is left"
+    [ -z "${RT_SAYS-}" ] || printf '%s\\n' "$RT_SAYS"
+    [ -n "${RT_DIES-}" ] && exit 1
     echo "5 passed, ${RT_FAILED-0} failed"
     exit "${RT_FAILED-0}"
 }
@@ -166,6 +169,16 @@ class Words(Repository):
         self.assertEqual((ran.status, ran.out.splitlines()[-2:]), (1, [b"the tests", b"5 passed, 1 failed"]))
         self.put("tests/run.py", "raise SystemExit(1)\n")
         self.assertNotEqual(self.script("test").status, 0)
+        self.put("tests/run.py", "print('the tests', flush=True)\n")
+        ran = self.script("test", RT_DIES="1", RT_SAYS="killed")
+        self.assertEqual((ran.status, ran.out.splitlines()[-1:]), (1, [b"killed"]))
+        said = "rt: must-fail low/one.edit: refused, as it must be"
+        ran = self.script("test", RT_SAYS=f"{said}: a goal (only because of it)\n{said}")
+        self.assertEqual((ran.status, ran.out.splitlines()[-1:]), (0, [b"5 passed, 0 failed"]))
+        weak = f"{said} (only because a proof file names what the edit took away, so this says little)"
+        ran = self.script("test", RT_SAYS=f"{weak}: a file\n{said}")
+        self.assertEqual((ran.status, ran.out.splitlines()[-2:]),
+                         (1, [b"test: low/one.edit: refused by its shape alone", b"4 passed, 1 failed"]))
 
     def test_what_it_needs(self):
         """Python first, then the kit: what is missing is told before anything is done."""

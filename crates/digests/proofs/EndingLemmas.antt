@@ -7,7 +7,7 @@ use Rattle.sum_engine.specs.declared.stop.Stop.TheVariants.{Memory}
 use Rattle.std.specs.Io.KnownBytes.{Keeps, Appends, append_known}
 use Rattle.sum_lines.specs.Sinks.{AppendsFront, after_failure}
 use Rattle.sum_engine.specs.Scenes.{AppendsUpTo}
-use Rattle.digests.specs.Items.{Text}
+use Rattle.sum_words.specs.Items.{Text}
 use Rattle.std.specs.Prelude.{OnOk}
 use Rattle.digests.specs.Program.{HoldsFront, fails, Failed, IsKept}
 use Rattle.digests.specs.Endings.{Settles, SettlesBoth, Says, CutsOff, Closes}

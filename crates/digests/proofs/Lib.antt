@@ -1,13 +1,5 @@
-mod ToolLemmas
-mod CommandLineLemmas
+mod RunLemmas
 mod EndingLemmas
 mod ProgramLemmas
-mod PieceLemmas
-mod OptionLemmas
-mod WordLemmas
-mod ReadingLemmas
-mod RunLemmas
-mod TextLemmas
-mod Rows
-mod PlainLemmas
 mod WrittenLemmas
+mod MeaningRows

@@ -13,7 +13,7 @@ use Rattle.sum_engine.specs.declared.settings.CheckSettings.{CheckSettings}
 use Rattle.sum_engine.specs.Generation.{generated}
 use Rattle.sum_engine.specs.Checking.{checked, checked_upto}
 use Rattle.sum_engine.specs.Runs.{CheckGives, RefusedOnMemory, PlaceOf}
-use Rattle.digests.specs.Tools.{name_of}
+use Rattle.sum_words.specs.Tools.{name_of}
 use Rattle.digests.specs.declared.run.Job.{Job}
 use Rattle.digests.specs.declared.run.Job.TheVariants as jobs
 use Rattle.std.specs.Io.KnownBytes.{Appends}
@@ -22,11 +22,11 @@ use Rattle.std.proofs.Math.Bool.{or-false}
 use Rattle.sum_lines.specs.Sinks.{AppendsFront}
 use Rattle.sum_engine.proofs.WorldLemmas.{after-none, after-append}
 use Rattle.sum_engine.proofs.SceneLemmas.{does_nothing, does_both, cut_after, none_yet, front_of}
-use Rattle.digests.specs.Items.{Text}
+use Rattle.sum_words.specs.Items.{Text}
 use Rattle.digests.specs.Meaning.{nothing, joined, all_of, upto, no_part, status_of, on_out, on_err, answered, place_of}
-use Rattle.digests.specs.declared.tool.Tool.{Tool}
-use Rattle.digests.specs.declared.reading.Request.{Request}
-use Rattle.digests.specs.Faults.{Fault}
+use Rattle.sum_words.specs.declared.tool.Tool.{Tool}
+use Rattle.sum_words.specs.declared.reading.Request.{Request}
+use Rattle.sum_words.specs.Faults.{Fault}
 use Rattle.digests.specs.Runs.{one_of, part_of, told_of, Stands, Reached, Comes, CutShort, OneGives, RunGives, PlaceAt, Wanting, Refused, RefusedBy, RefusalsOf}
 
 abbrev outcome : List ℕ → List ℕ → List Text → Bool → Outcome

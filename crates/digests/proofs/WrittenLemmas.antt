@@ -20,7 +20,7 @@ use Rattle.sum_engine.specs.Worlds.{World, is_dash, reply, after, ended, read}
 use Rattle.sum_engine.specs.Generation.{generated, generated_by}
 use Rattle.sum_engine.specs.Reports.{right_line}
 use Rattle.sum_engine.proofs.GoodLemmas.{Item, text_of, Listed, manifest_good}
-use Rattle.digests.specs.Items.{Text}
+use Rattle.sum_words.specs.Items.{Text}
 use Rattle.digests.specs.Meaning.{all_of}
 use Rattle.digests.specs.Written.{Listable, Written, written, names_of, Checkable, IsGood, WrittenIsGood, JoinedIsGood}
 

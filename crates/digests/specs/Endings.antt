@@ -6,7 +6,7 @@ use Rattle.sum_lines.specs.Sinks.{after_failure}
 use Rattle.sum_engine.specs.declared.stop.Stop.{Stop}
 use Rattle.sum_engine.specs.declared.stop.Stop.TheVariants.{Memory, Write}
 use Rattle.sum_engine.specs.Scenes.{Kept}
-use Rattle.digests.specs.Items.{Text}
+use Rattle.sum_words.specs.Items.{Text}
 use Rattle.digests.specs.Program.{HoldsFront, HoldsFrontThen, fails, Failed}
 
 -- all that an output accepted is handed on, or a front of it

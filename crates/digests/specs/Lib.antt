@@ -1,16 +1,5 @@
-pub mod Tools
-pub mod Pieces
-pub mod Faults
-pub mod Items
-pub mod Walk
-pub mod Request
-pub mod Reading
 pub mod Meaning
 pub mod Runs
-pub mod Texts
 pub mod Program
-pub mod Arguments
 pub mod Endings
-pub mod Shown
-pub mod PlainWords
 pub mod Written

@@ -5,14 +5,14 @@ use Rattle.sum_engine.specs.Worlds.{World, after}
 use Rattle.sum_engine.specs.Outcomes.{Outcome}
 use Rattle.sum_engine.specs.Generation.{generated}
 use Rattle.sum_engine.specs.Checking.{checked, checked_upto}
-use Rattle.digests.specs.declared.tool.Tool.{Tool}
-use Rattle.digests.specs.declared.reading.Request.{Request}
-use Rattle.digests.specs.declared.reading.Request.TheVariants.{Generate, Check, Help, Version}
-use Rattle.digests.specs.Tools.{name_of}
-use Rattle.digests.specs.Faults.{Fault}
-use Rattle.digests.specs.Items.{Text}
-use Rattle.digests.specs.Request.{request}
-use Rattle.digests.specs.Texts.{fault_lines, help, version}
+use Rattle.sum_words.specs.declared.tool.Tool.{Tool}
+use Rattle.sum_words.specs.declared.reading.Request.{Request}
+use Rattle.sum_words.specs.declared.reading.Request.TheVariants.{Generate, Check, Help, Version}
+use Rattle.sum_words.specs.Tools.{name_of}
+use Rattle.sum_words.specs.Faults.{Fault}
+use Rattle.sum_words.specs.Items.{Text}
+use Rattle.sum_words.specs.Request.{request}
+use Rattle.sum_words.specs.Texts.{fault_lines, help, version}
 
 -- nothing is written, nothing is asked
 abbrev pub nothing : Outcome

@@ -1,49 +1,19 @@
--- What the program does, from the list of its arguments (the name that it was called by, and the words) to its status.
-use Rattle.std.specs.Prelude.{Result, Ok, ℕ, zero, suc, ◌≡◌, ◌==◌, ◌+◌, ◌<◌, ◌⊎◌, List, [], ◌∷◌, ◌++◌, Option, None, Some, ⊤, if◌then◌else◌}
-use Rattle.std.specs.List.{after_last, list_all}
-use Rattle.std.specs.Str.{is_utf8}
+-- What the program does, from the list of its arguments to its status.
+use Rattle.std.specs.Prelude.{Result, Ok, ℕ, zero, suc, ◌≡◌, ◌+◌, ◌<◌, ◌⊎◌, List, [], ◌++◌, Option, None, Some, ⊤}
 use Rattle.sum_lines.specs.Sinks.{after_failure}
 use Rattle.sum_engine.specs.declared.stop.Stop.{Stop}
 use Rattle.sum_engine.specs.declared.stop.Stop.TheVariants.{Memory, Write}
 use Rattle.sum_engine.specs.Worlds.{World, after}
 use Rattle.sum_engine.specs.Outcomes.{Outcome}
 use Rattle.sum_engine.specs.Scenes.{Scene, Does}
-use Rattle.digests.specs.declared.tool.Tool.{Tool}
-use Rattle.digests.specs.Items.{Text}
-use Rattle.digests.specs.Request.{request}
-use Rattle.digests.specs.Tools.{name_of, tool_called}
-use Rattle.digests.specs.Texts.{not_read, unknown_tool, stop_line}
+use Rattle.sum_words.specs.declared.tool.Tool.{Tool}
+use Rattle.sum_words.specs.Items.{Text}
+use Rattle.sum_words.specs.Request.{request}
+use Rattle.sum_words.specs.Tools.{name_of}
+use Rattle.sum_words.specs.CommandLines.{Call, unknown, call, command_line}
+use Rattle.sum_words.specs.Texts.{not_read, unknown_tool, stop_line}
 use Rattle.digests.specs.Meaning.{nothing, meaning, place, on_err, status_of}
 use Rattle.digests.specs.Runs.{Wanting}
-
--- the last part of a path: what stands behind its last slash (47)
-abbrev pub last_part : Text → Text
-last_part path = after_last (λ b. b == 47) path
-
--- what a command line calls for: an unknown tool, or this one on these words
-pub data Call : Type 0 where
-  unknown : Call
-  call : Tool → List Text → Call
-
--- the first word names the tool, and the others are its words
-abbrev pub on_words : Option Tool → List Text → Call
-on_words None words = unknown
-on_words (Some tool) words = call tool words
-
-abbrev pub by_word : List Text → Call
-by_word [] = unknown
-by_word (word ∷ words) = on_words (tool_called word) words
-
--- but where the program was called by a tool's name, all words are that tool's
-abbrev pub by_name : Option Tool → List Text → Call
-by_name None words = by_word words
-by_name (Some tool) words = call tool words
-
--- nothing, where a word is not a text
-abbrev pub command_line : List Text → Option Call
-command_line [] = Some unknown
-command_line (name ∷ words) =
-    if list_all is_utf8 words then Some (by_name (tool_called (last_part name)) words) else None
 
 -- what that comes to, what of it stands at a place, which places want memory, and the line that tells of a stop
 abbrev pub outcome_of : Option Call → World → Outcome

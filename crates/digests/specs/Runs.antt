@@ -12,10 +12,10 @@ use Rattle.sum_engine.specs.Scenes.{Scene, Does}
 use Rattle.sum_engine.specs.Runs.{CutOff, PlaceOf}
 use Rattle.digests.specs.declared.run.Job.{Job}
 use Rattle.digests.specs.declared.run.Job.TheVariants as jobs
-use Rattle.digests.specs.declared.reading.Request.{Request}
-use Rattle.digests.specs.declared.reading.Request.TheVariants as requests
-use Rattle.digests.specs.Faults.{Fault}
-use Rattle.digests.specs.Items.{Text}
+use Rattle.sum_words.specs.declared.reading.Request.{Request}
+use Rattle.sum_words.specs.declared.reading.Request.TheVariants as requests
+use Rattle.sum_words.specs.Faults.{Fault}
+use Rattle.sum_words.specs.Items.{Text}
 use Rattle.digests.specs.Meaning.{joined, all_of, upto, or_dash, no_part, status_of}
 
 -- one operand of a job, and what stands at a place in it

@@ -13,7 +13,7 @@ use Rattle.sum_engine.specs.Worlds.{World, is_dash, reply}
 use Rattle.sum_engine.specs.Generation.{generated}
 use Rattle.sum_engine.specs.Reports.{right_line}
 use Rattle.sum_engine.specs.Checking.{checked}
-use Rattle.digests.specs.Items.{Text}
+use Rattle.sum_words.specs.Items.{Text}
 use Rattle.digests.specs.Meaning.{all_of}
 
 -- a name that isn't empty, holds no NUL and isn't `-`, and whose file is whole and not too long

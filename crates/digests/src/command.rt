@@ -2,20 +2,19 @@
 ghost use Rattle.std.specs.Prelude.{◌≡◌, None, Some, IfOk};
 ghost use Rattle.std.specs.Io.KnownBytes.{append_known};
 ghost use Rattle.sum_engine.specs.Scenes.{scene, Kept};
-ghost use Rattle.digests.specs.Program.{ProgramGives, EndsGives, Failed, IsKept, call};
+ghost use Rattle.sum_words.specs.CommandLines.{call};
+ghost use Rattle.digests.specs.Program.{ProgramGives, EndsGives, Failed, IsKept};
 
-use crate::arguments::Arguments;
-use crate::command_line::{CommandLine, NotRead, read_command_line};
 use crate::ending::close;
-use crate::faults::{WordFault, put_unknown};
-use crate::reading::{Request, read_words};
 use crate::run::{answer, told};
-use crate::tool::Tool;
-use crate::words::Words;
 use std::alloc::Allocator;
 use sum_engine::Settings;
 use sum_lines::{Finish, Sink, Style, WholeLines, put_all};
 use sum_sources::{Input, Source, Stdin};
+use sum_words::{
+    Arguments, CommandLine, NotRead, Request, Tool, WordFault, Words, put_unknown,
+    read_command_line, read_words,
+};
 
 /// Does what the program was called for, and answers its exit status. The tool is the one by whose name the program was
 /// called, as by a link, or else the one that the first word names; the other words are the tool's. Each line is handed

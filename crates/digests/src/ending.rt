@@ -4,10 +4,9 @@ ghost use Rattle.std.specs.Io.KnownBytes.{append_known};
 ghost use Rattle.digests.specs.Endings.{Settles, SettlesBoth, Says, Closes};
 ghost use Rattle.digests.specs.Program.{stop_told, IsKept};
 
-use crate::faults::put_stop;
-use crate::tool::Tool;
 use sum_engine::Stop;
 use sum_lines::{Finish, Sink, SinkFault, WholeLines};
+use sum_words::{Tool, put_stop};
 
 /// Ends a run that answered so: hands on what the outputs hold, sees to it that standard output is kept, and tells of a
 /// stop where that can be written. After a write fault nothing of what was cut off is written any more. Answers the exit

@@ -1,24 +1,21 @@
 //! What a whole command line does.
 ghost use Rattle.std.specs.Prelude.{◌≡◌, ◌∷◌, List, ℕ, [], None};
 ghost use Rattle.sum_engine.specs.Scenes.{scene, Failures};
-ghost use Rattle.digests.specs.Tools.{name_of};
-ghost use Rattle.digests.specs.Walk.{Takes};
-ghost use Rattle.digests.specs.Request.{request};
-ghost use Rattle.digests.specs.Reading.{answer_of};
+ghost use Rattle.sum_words.specs.Tools.{name_of};
+ghost use Rattle.sum_words.specs.Walk.{Takes};
+ghost use Rattle.sum_words.specs.Request.{request};
+ghost use Rattle.sum_words.specs.Reading.{answer_of};
 ghost use Rattle.digests.specs.Meaning.{all_of, answered, upto, or_dash, meaning, place, place_of, status_of};
 ghost use Rattle.digests.specs.Runs.{one_of, part_of, told_of, OneGives, RunGives, PlaceAt, Wanting, Refused};
 ghost use Rattle.digests.specs.Runs.{RefusedBy, RefusalsOf};
 
-use crate::faults::{WordFault, put_fault};
-use crate::items::Operands;
-use crate::reading::{Request, read_words};
-use crate::texts::{put_help, put_version};
-use crate::tool::Tool;
-use crate::words::Words;
 use std::alloc::Allocator;
 use sum_engine::{CheckSettings, Settings, Stop, check_one, generate_one};
 use sum_lines::{Sink, SinkFault};
 use sum_sources::{Input, Source, Stdin};
+use sum_words::{
+    Operands, Request, Tool, WordFault, Words, put_fault, put_help, put_version, read_words,
+};
 
 /// Runs a tool on its words: writes what they mean for what standard input and the source have to give, and answers the
 /// status, 0 where all is good and 1 where anything isn't (coreutils manual, "md5sum invocation").

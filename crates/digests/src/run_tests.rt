@@ -6,14 +6,13 @@ mod program;
 mod words;
 
 use crate::run::run;
-use crate::tool::Tool;
-use crate::words::{NoRoom, Words};
 use std::alloc::{Allocator, Global};
 use std::process::Abort;
 use std::test::Fail;
 use sum_engine::Stop;
 use sum_lines::ToldSink;
 use sum_sources::{Answer, Ending, Fault, Stdin, Told, ToldSource};
+use sum_words::{NoRoom, Tool, Words};
 
 // Digests of the standards (RFC 1321, FIPS 180-4, RFC 7693). In the texts of rows `$M` stands for the first, and so on.
 const MD5_OF_ABC: &str = "900150983cd24fb0d6963f7d28e17f72";

@@ -5,8 +5,6 @@ use super::{
     spelled,
 };
 use crate::run::run;
-use crate::tool::Tool;
-use crate::words::Words;
 use linked_list_allocator::LocalHeap;
 use std::alloc::{Allocator, Global};
 use std::process::Abort;
@@ -14,6 +12,7 @@ use std::test::Fail;
 use sum_engine::Stop;
 use sum_lines::ToldSink;
 use sum_sources::{Answer, Ending, Fault, Stdin, Told, ToldSource};
+use sum_words::{Tool, Words};
 
 // A place between two operands or two lines of a manifest: the texts up to there, and how many names were asked.
 type Place<'a> = (&'a str, &'a str, usize);

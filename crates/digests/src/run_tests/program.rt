@@ -1,6 +1,5 @@
 //! The whole program, over told arguments.
 use super::{MD5_OF_ABC, MD5_OF_NOTHING, SHA256_OF_ABC, add_files};
-use crate::arguments::{Arguments, ToldArguments};
 use crate::command::command;
 use linked_list_allocator::LocalHeap;
 use std::alloc::{Allocator, Global};
@@ -11,6 +10,7 @@ use std::process::Abort;
 use std::test::Fail;
 use sum_lines::{FromWrite, Sink, ToldSink, WholeLines};
 use sum_sources::{Closable, Ending, Input, Stdin, Told, ToldSource};
+use sum_words::{Arguments, ToldArguments};
 
 // What both outputs of the program hold in the end, and its status.
 #[derive(Drop)]

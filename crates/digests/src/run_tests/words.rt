@@ -1,7 +1,22 @@
 //! What the words ask for, and what their faults print.
 use super::assert_rows;
-use crate::tests::MD5SUM_HELP;
 use std::test::Fail;
+
+const MD5SUM_HELP: &str = "Usage: md5sum [OPTION]... [FILE]...
+Print or check MD5 checksums. With no FILE, or when FILE is -, read standard input.
+  -b, --binary          mark each line as binary
+  -c, --check           read checksums from the FILEs and check them
+      --tag             write lines of the tagged form
+  -t, --text            mark each line as text (default)
+  -z, --zero            end each line with NUL and escape no name
+      --ignore-missing  with -c: neither fail nor report for missing files
+      --quiet           with -c: print no OK lines
+      --status          with -c: print no report
+      --strict          with -c: fail for improperly formatted lines
+  -w, --warn            with -c: name each improperly formatted line
+      --help            print this text
+      --version         print the version
+";
 
 // A fault of each stage of the reading. What the other faults print is tested of `put_fault`.
 #[test]

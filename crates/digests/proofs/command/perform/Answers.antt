@@ -1,6 +1,6 @@
 use Rattle.std.proofs.Common.{refl}
 use Rattle.std.specs.Prelude.{Some}
-use Rattle.digests.specs.Program.{call}
+use Rattle.sum_words.specs.CommandLines.{call}
 use Rattle.digests.proofs.RunLemmas.{asked-is}
 use Rattle.digests.proofs.ProgramLemmas.{ends}
 use Rattle.digests.proofs.command.perform.Goals as goal

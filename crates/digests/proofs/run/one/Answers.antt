@@ -1,4 +1,4 @@
-use Rattle.digests.specs.Tools.{name_of}
+use Rattle.sum_words.specs.Tools.{name_of}
 use Rattle.digests.proofs.RunLemmas.{job-generates, job-checks, job-generates-refused, job-checks-refused}
 use Rattle.digests.proofs.run.one.Goals as goal
 

@@ -1,0 +1,243 @@
+-- Worked command lines: both texts, the names that are asked and whether all is good, as the meaning has them.
+use Rattle.std.proofs.Common.{◌≡◌, ◌++◌, List, [], ◌∷◌, refl, codes, true, false}
+use Rattle.std.specs.Prelude.{flat_map, if◌then◌else◌}
+use Rattle.std.specs.List.{concat}
+use Rattle.std.specs.Str.{bytes_eq, chars}
+use lib.Utf8.{encode}
+use Rattle.md5.specs.Md5.{block_words as md5_words, rounds as md5_rounds, compress as md5_compress}
+use Rattle.md5.specs.Md5.{hash_after as md5_after, digest_bytes as md5_bytes, md5}
+use Rattle.blake2b_core.specs.Compression.{mix, scheduled, round, block_words, start, compress}
+use Rattle.blake2b_core.specs.Digest.{blocks, hash_after, blake2b}
+use Rattle.sum_sources.specs.declared.fault.Fault.TheVariants.{NotFound, Other}
+use Rattle.sum_sources.specs.declared.fault.Ending.TheVariants.{Whole, Broken}
+use Rattle.std.specs.Fmt.{digits}
+use Rattle.hex.specs.Hex.{encode_with, decode_pairs}
+use Rattle.sum_lines.specs.Scanned.{opened_text, name_behind, plain_behind}
+use Rattle.sum_sources.specs.ManifestLines.{pieces}
+use Rattle.sum_engine.specs.Grammar.{entry_of}
+use Rattle.sum_sources.specs.Contents.{Content, limit}
+use Rattle.sum_sources.specs.Sources.{Reply, Refused, Given}
+use Rattle.sum_engine.specs.Worlds.{World}
+use Rattle.sum_words.specs.declared.tool.Tool.TheVariants.{Md5sum, B2sum, Anysum}
+use Rattle.sum_words.specs.Items.{Text, resolved, lettered}
+use Rattle.digests.specs.Meaning.{meaning}
+
+abbrev whole : Text → Content
+whole bytes = record { bytes = bytes; ending = Whole }
+
+-- bytes, and then a fault
+abbrev broken : Text → Content
+broken bytes = record { bytes = bytes; ending = Broken Other }
+
+-- the file `a` holds abc, `e` is empty, `l` has one content and standard input another; no other file is there
+abbrev answer_with : Content → Text → Reply
+answer_with l name =
+    if bytes_eq name (codes "a") then Given (whole (codes "abc"))
+    else if bytes_eq name (codes "e") then Given (whole [])
+    else if bytes_eq name (codes "l") then Given l
+    else Refused NotFound
+
+-- the content of these lines, which ends whole
+abbrev list_of : List Text → Content
+list_of lines = whole (flat_map (λ line. line ++ codes "\n") lines)
+
+abbrev world : Content → Content → World
+world l input = record { answer = answer_with l; asked = []; input = input }
+
+-- md5sum a e
+files : meaning Md5sum
+    (codes "a" ∷ codes "e" ∷ [])
+    (world (whole []) (whole [])) ≡ record {
+      out = concat (codes "900150983cd24fb0d6963f7d28e17f72  a\n"
+          ∷ codes "d41d8cd98f00b204e9800998ecf8427e  e\n" ∷ []);
+      err = [];
+      asks = codes "a" ∷ codes "e" ∷ [];
+      good = true;
+    }
+unfolding chars encode resolved lettered limit encode_with
+    md5_words md5_rounds md5_compress md5_after md5_bytes md5
+files = refl
+
+-- md5sum a x e
+missing_file : meaning Md5sum
+    (codes "a" ∷ codes "x" ∷ codes "e" ∷ [])
+    (world (whole []) (whole [])) ≡ record {
+      out = concat (codes "900150983cd24fb0d6963f7d28e17f72  a\n"
+          ∷ codes "d41d8cd98f00b204e9800998ecf8427e  e\n" ∷ []);
+      err = concat (codes "md5sum: x: No such file or directory\n" ∷ []);
+      asks = codes "a" ∷ codes "x" ∷ codes "e" ∷ [];
+      good = false;
+    }
+unfolding chars encode resolved lettered limit encode_with
+    md5_words md5_rounds md5_compress md5_after md5_bytes md5
+missing_file = refl
+
+-- md5sum - -, with `abc` on standard input
+stdin_twice : meaning Md5sum
+    (codes "-" ∷ codes "-" ∷ [])
+    (world (whole []) (whole (codes "abc"))) ≡ record {
+      out = concat (codes "900150983cd24fb0d6963f7d28e17f72  -\n"
+          ∷ codes "d41d8cd98f00b204e9800998ecf8427e  -\n" ∷ []);
+      err = [];
+      asks = codes "-" ∷ codes "-" ∷ [];
+      good = true;
+    }
+unfolding chars encode resolved lettered limit encode_with
+    md5_words md5_rounds md5_compress md5_after md5_bytes md5
+stdin_twice = refl
+
+-- md5sum, whose input gives three bytes and then a fault
+stdin_fails : meaning Md5sum
+    ([])
+    (world (whole []) (broken (codes "abc"))) ≡ record {
+      out = [];
+      err = concat (codes "md5sum: -: Input/output error\n" ∷ []);
+      asks = codes "-" ∷ [];
+      good = false;
+    }
+unfolding chars encode resolved lettered limit
+    md5_words md5_rounds md5_compress md5_after md5_bytes md5
+stdin_fails = refl
+
+-- b2sum -l 256 --tag e
+tagged : meaning B2sum
+    (codes "-l" ∷ codes "256" ∷ codes "--tag" ∷ codes "e" ∷ [])
+    (world (whole []) (whole [])) ≡ record {
+      out = concat (codes "BLAKE2b-256 (e) = 0e5751c026e543b2e8ab2eb06099daa1d1e5df47778f7787faab45cdf12fe3a8\n" ∷ []);
+      err = [];
+      asks = codes "e" ∷ [];
+      good = true;
+    }
+unfolding chars encode resolved lettered limit encode_with digits
+    mix scheduled round block_words start compress blocks hash_after blake2b
+tagged = refl
+
+-- md5sum --foo --help
+unknown_option : meaning Md5sum
+    (codes "--foo" ∷ codes "--help" ∷ [])
+    (world (whole []) (whole [])) ≡ record {
+      out = [];
+      err = concat (codes "md5sum: unrecognized option '--foo'\n"
+          ∷ codes "Try 'md5sum --help' for more information.\n" ∷ []);
+      asks = [];
+      good = false;
+    }
+unfolding chars encode resolved lettered
+unknown_option = refl
+
+-- md5sum -c l
+all_verdicts : meaning Md5sum
+    (codes "-c" ∷ codes "l" ∷ [])
+    (world (list_of (codes "900150983cd24fb0d6963f7d28e17f72  a"
+    ∷ codes "#c"
+    ∷ codes "junk"
+    ∷ codes "900150983cd24fb0d6963f7d28e17f72 *x"
+    ∷ codes "900150983cd24fb0d6963f7d28e17f72  e" ∷ [])) (whole [])) ≡ record {
+      out = concat (codes "a: OK\n"
+          ∷ codes "x: FAILED open or read\n"
+          ∷ codes "e: FAILED\n" ∷ []);
+      err = concat (codes "md5sum: x: No such file or directory\n"
+          ∷ codes "md5sum: WARNING: 1 line is improperly formatted\n"
+          ∷ codes "md5sum: WARNING: 1 listed file could not be read\n"
+          ∷ codes "md5sum: WARNING: 1 computed checksum did NOT match\n" ∷ []);
+      asks = codes "l" ∷ codes "a" ∷ codes "x" ∷ codes "e" ∷ [];
+      good = false;
+    }
+unfolding chars encode resolved lettered limit pieces entry_of opened_text plain_behind decode_pairs digits
+    md5_words md5_rounds md5_compress md5_after md5_bytes md5
+all_verdicts = refl
+
+-- md5sum -c --ignore-missing -w --strict l
+ignore_missing : meaning Md5sum
+    (codes "-c" ∷ codes "--ignore-missing" ∷ codes "-w" ∷ codes "--strict" ∷ codes "l" ∷ [])
+    (world (list_of (codes "900150983cd24fb0d6963f7d28e17f72  a"
+    ∷ codes "#c"
+    ∷ codes "junk"
+    ∷ codes "900150983cd24fb0d6963f7d28e17f72 *x"
+    ∷ codes "900150983cd24fb0d6963f7d28e17f72  e" ∷ [])) (whole [])) ≡ record {
+      out = concat (codes "a: OK\n"
+          ∷ codes "e: FAILED\n" ∷ []);
+      err = concat (codes "md5sum: l: 3: improperly formatted MD5 checksum line\n"
+          ∷ codes "md5sum: WARNING: 1 line is improperly formatted\n"
+          ∷ codes "md5sum: WARNING: 1 computed checksum did NOT match\n" ∷ []);
+      asks = codes "l" ∷ codes "a" ∷ codes "x" ∷ codes "e" ∷ [];
+      good = false;
+    }
+unfolding chars encode resolved lettered limit pieces entry_of opened_text plain_behind decode_pairs digits
+    md5_words md5_rounds md5_compress md5_after md5_bytes md5
+ignore_missing = refl
+
+-- md5sum -c, whose manifest on standard input lists `-`
+nothing_to_check : meaning Md5sum
+    (codes "-c" ∷ [])
+    (world (whole []) (list_of (codes "900150983cd24fb0d6963f7d28e17f72  -" ∷ []))) ≡ record {
+      out = [];
+      err = concat (codes "md5sum: standard input: no properly formatted checksum lines found\n" ∷ []);
+      asks = codes "-" ∷ [];
+      good = false;
+    }
+unfolding chars encode resolved lettered limit pieces entry_of opened_text plain_behind decode_pairs digits
+    md5_words md5_rounds md5_compress md5_after md5_bytes md5
+nothing_to_check = refl
+
+-- md5sum -c l, where the manifest breaks off in its second line
+manifest_fails : meaning Md5sum
+    (codes "-c" ∷ codes "l" ∷ [])
+    (world (broken (
+    codes "900150983cd24fb0d6963f7d28e17f72  a\n"
+    ++ codes "900150983cd24fb0d6963f7d28e17f72  a")) (whole [])) ≡ record {
+      out = concat (codes "a: OK\n" ∷ []);
+      err = concat (codes "md5sum: l: Input/output error\n" ∷ []);
+      asks = codes "l" ∷ codes "a" ∷ [];
+      good = false;
+    }
+unfolding chars encode resolved lettered limit pieces entry_of opened_text plain_behind decode_pairs digits
+    md5_words md5_rounds md5_compress md5_after md5_bytes md5
+manifest_fails = refl
+
+-- md5sum -c l l, which lists `-`, with `abc` on standard input
+stdin_listed : meaning Md5sum
+    (codes "-c" ∷ codes "l" ∷ codes "l" ∷ [])
+    (world (list_of (codes "900150983cd24fb0d6963f7d28e17f72  -" ∷ [])) (whole (codes "abc"))) ≡ record {
+      out = concat (codes "-: OK\n"
+          ∷ codes "-: FAILED\n" ∷ []);
+      err = concat (codes "md5sum: WARNING: 1 computed checksum did NOT match\n" ∷ []);
+      asks = codes "l" ∷ codes "-" ∷ codes "l" ∷ codes "-" ∷ [];
+      good = false;
+    }
+unfolding chars encode resolved lettered limit pieces entry_of opened_text plain_behind decode_pairs digits
+    md5_words md5_rounds md5_compress md5_after md5_bytes md5
+stdin_listed = refl
+
+-- md5sum -c l, whose first line has one blank, and the second two
+reversed_form : meaning Md5sum
+    (codes "-c" ∷ codes "l" ∷ [])
+    (world (list_of (codes "900150983cd24fb0d6963f7d28e17f72 a"
+    ∷ codes "900150983cd24fb0d6963f7d28e17f72  a" ∷ [])) (whole [])) ≡ record {
+      out = concat (codes "a: OK\n"
+          ∷ codes " a: FAILED open or read\n" ∷ []);
+      err = concat (codes "md5sum:  a: No such file or directory\n"
+          ∷ codes "md5sum: WARNING: 1 listed file could not be read\n" ∷ []);
+      asks = codes "l" ∷ codes "a" ∷ codes " a" ∷ [];
+      good = false;
+    }
+unfolding chars encode resolved lettered limit pieces entry_of opened_text plain_behind decode_pairs digits
+    md5_words md5_rounds md5_compress md5_after md5_bytes md5
+reversed_form = refl
+
+-- anysum -c l
+mixed_tags : meaning Anysum
+    (codes "-c" ∷ codes "l" ∷ [])
+    (world (list_of (codes "MD5 (a) = 900150983cd24fb0d6963f7d28e17f72"
+    ∷ codes "BLAKE2b-256 (e) = 0e5751c026e543b2e8ab2eb06099daa1d1e5df47778f7787faab45cdf12fe3a8"
+    ∷ codes "900150983cd24fb0d6963f7d28e17f72  a" ∷ [])) (whole [])) ≡ record {
+      out = concat (codes "a: OK\n"
+          ∷ codes "e: OK\n" ∷ []);
+      err = concat (codes "anysum: WARNING: 1 line is improperly formatted\n" ∷ []);
+      asks = codes "l" ∷ codes "a" ∷ codes "e" ∷ [];
+      good = true;
+    }
+unfolding chars encode resolved lettered limit pieces entry_of opened_text plain_behind decode_pairs digits name_behind
+    md5_words md5_rounds md5_compress md5_after md5_bytes md5
+    mix scheduled round block_words start compress blocks hash_after blake2b
+mixed_tags = refl

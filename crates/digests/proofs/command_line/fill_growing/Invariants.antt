@@ -1,5 +1,0 @@
-use Rattle.std.proofs.Common.{◌-◌, ◌^◌, vec_len}
-use Rattle.digests.proofs.command_line.fill_growing.Given as goal
-
-abbrev pub decreases-longer : goal.decreases-longer
-decreases-longer g l = 2 ^ 64 - vec_len l.more

@@ -1,5 +1,0 @@
-use Rattle.digests.specs.Arguments.{WordsUpTo}
-use Rattle.digests.proofs.command_line.words_from.Given as goal
-
-abbrev pub invariant-places : goal.invariant-places
-invariant-places g l = WordsUpTo (g.G.Arguments.told l.arguments) l.first l.place l.words

@@ -1,8 +1,0 @@
-use Rattle.digests.proofs.PlainLemmas.{plain_words, words_behind}
-use Rattle.digests.proofs.laws.plain_words_are_operands.Goals as goal
-
-pub returns-clause-plain : goal.returns-clause-plain
-returns-clause-plain c = plain_words
-
-pub returns-clause-behind : goal.returns-clause-behind
-returns-clause-behind c = words_behind

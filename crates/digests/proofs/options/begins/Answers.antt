@@ -1,5 +1,0 @@
-use Rattle.std.proofs.lemmas.Str.Pattern.{starts_text}
-use Rattle.digests.proofs.options.begins.Goals as goal
-
-pub returns : goal.returns
-returns c = rw (← c.name.ensures) (starts_text _ _ _ c.starts_with.ensures.cases)

@@ -1,7 +1,0 @@
-use Rattle.std.proofs.Common.{◌∙◌, ap}
-use Rattle.digests.specs.Tools.{tool_called}
-use Rattle.digests.proofs.ToolLemmas.{named}
-use Rattle.digests.proofs.tool.Tool.from_word.Goals as goal
-
-pub returns : goal.returns
-returns c = named c.args.word.now c.of_name.result (c.of_name.ensures ∙ ap tool_called c.as_bytes.ensures.value)

@@ -1,6 +1,0 @@
-use Rattle.digests.specs.Tools.{tool_called}
-use Rattle.digests.proofs.tool.Tool.of_name.Goals as goal
-
-pub returns : goal.returns
-unfolding tool_called
-returns c = c.first_called.ensures

@@ -1,0 +1,9 @@
+mod ToolLemmas
+mod CommandLineLemmas
+mod PieceLemmas
+mod OptionLemmas
+mod WordLemmas
+mod ReadingLemmas
+mod TextLemmas
+mod Rows
+mod PlainLemmas

@@ -1,0 +1,5 @@
+use Rattle.sum_words.specs.Arguments.{WordsUpTo}
+use Rattle.sum_words.proofs.command_line.words_from.Given as goal
+
+abbrev pub invariant-places : goal.invariant-places
+invariant-places g l = WordsUpTo (g.G.Arguments.told l.arguments) l.first l.place l.words

@@ -1,0 +1,9 @@
+use Rattle.std.proofs.Common.{◌≡◌, length}
+use Rattle.sum_words.specs.Items.{operands_of}
+use Rattle.sum_words.proofs.items.Operands.next.Given as goal
+
+abbrev pub invariant-loop-item : goal.invariant-loop-item
+invariant-loop-item l = operands_of l.self-inside.items ≡ l.fn.self
+
+abbrev pub decreases-loop-item : goal.decreases-loop-item
+decreases-loop-item l = length l.self-inside.items

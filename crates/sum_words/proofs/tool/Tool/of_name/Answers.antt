@@ -1,0 +1,6 @@
+use Rattle.sum_words.specs.Tools.{tool_called}
+use Rattle.sum_words.proofs.tool.Tool.of_name.Goals as goal
+
+pub returns : goal.returns
+unfolding tool_called
+returns c = c.first_called.ensures

@@ -1,0 +1,57 @@
+-- Joins the reading of the arguments to their list.
+use Rattle.std.specs.Prelude.{ℕ, ◌≡◌, ◌<◌, true, List, ◌++◌, take, drop, length, slice_get, Option, None, Some, Result, Ok, Err, ⊤}
+use Rattle.std.specs.List.{list_all}
+use Rattle.std.specs.Option.{option_and_then}
+use Rattle.std.specs.Str.{is_utf8}
+use Rattle.std.specs.declared.env.FillError.{FillError}
+use Rattle.std.specs.declared.env.FillError.TheVariants.{NotPresent, TooLong}
+use Rattle.sum_words.specs.declared.tool.Tool.{Tool}
+use Rattle.sum_words.specs.declared.command_line.CommandLine.{CommandLine}
+use Rattle.sum_words.specs.Items.{Text}
+use Rattle.sum_words.specs.Tools.{tool_called}
+use Rattle.sum_words.specs.declared.command_line.CommandLine.TheVariants.{UnknownTool, Asks}
+use Rattle.sum_words.specs.CommandLines.{Call, unknown, call, last_part, command_line}
+
+-- what one call does where the arguments are told: the argument at the place stands in front of the buffer; or there is
+-- none; or it is longer than the buffer
+abbrev pub Fills : Option (List Text) → ℕ → List ℕ → Result ℕ FillError → Type 0
+Fills None place buffer r = ⊤
+Fills (Some all) place buffer (Ok n) = slice_get all place ≡ Some (take n buffer)
+Fills (Some all) place buffer (Err NotPresent) = slice_get all place ≡ None
+Fills (Some all) place buffer (Err TooLong) =
+    (argument : Text) × (slice_get all place ≡ Some argument) × (length buffer < length argument)
+
+-- the argument at a place, where there is one
+abbrev pub ArgumentIs : Option (List Text) → ℕ → Option Text → Type 0
+ArgumentIs None place o = ⊤
+ArgumentIs (Some all) place o = slice_get all place ≡ o
+
+-- the tool by the name that the program was called by
+abbrev pub IsNameOf : Option (List Text) → Option Tool → Type 0
+IsNameOf None tool = ⊤
+IsNameOf (Some all) tool = tool ≡ option_and_then (λ name. tool_called (last_part name)) (slice_get all 0)
+
+-- the tool by the first word, which is a text
+abbrev pub IsFirstWord : Option (List Text) → Option Tool → Type 0
+IsFirstWord None tool = ⊤
+IsFirstWord (Some all) tool =
+    (tool ≡ option_and_then tool_called (slice_get all 1)) × (list_all is_utf8 (take 1 (drop 1 all)) ≡ true)
+
+-- the words from a place on, which are texts
+abbrev pub WordsAre : Option (List Text) → ℕ → List Text → Type 0
+WordsAre None place words = ⊤
+WordsAre (Some all) place words = (words ≡ drop place all) × (list_all is_utf8 words ≡ true)
+
+-- the words before a place are those read so far
+abbrev pub WordsUpTo : Option (List Text) → ℕ → ℕ → List Text → Type 0
+WordsUpTo None first place words = ⊤
+WordsUpTo (Some all) first place words = (drop first all ≡ words ++ drop place all) × (list_all is_utf8 words ≡ true)
+
+-- what the program's value calls for
+abbrev pub call_of : {A : Type 0} → CommandLine A → Call
+call_of UnknownTool = unknown
+call_of (Asks tool words) = call tool words
+
+abbrev pub CallIs : Option (List Text) → Call → Type 0
+CallIs None c = ⊤
+CallIs (Some all) c = command_line all ≡ Some c

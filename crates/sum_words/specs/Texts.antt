@@ -1,0 +1,94 @@
+-- The texts that the program itself writes: those of faults, help and version, and its own lines.
+use Rattle.std.specs.Prelude.{true, false, [], ◌++◌, codes}
+use Rattle.std.specs.Char.{encode_utf8}
+use Rattle.digest_kinds.specs.declared.algo.Algos.{Algos}
+use Rattle.digest_kinds.specs.declared.algo.Algos.TheVariants.{One, Any}
+use Rattle.digest_kinds.specs.Kinds.{tag}
+use Rattle.sum_lines.specs.Escape.{escape}
+use Rattle.sum_engine.specs.declared.stop.Stop.{Stop}
+use Rattle.sum_engine.specs.declared.stop.Stop.TheVariants.{Memory, Write}
+use Rattle.sum_words.specs.declared.tool.Tool.{Tool}
+use Rattle.sum_words.specs.declared.tool.Tool.TheVariants as tools
+use Rattle.sum_words.specs.Tools.{name_of, algos_of}
+use Rattle.sum_words.specs.Items.{Text}
+use Rattle.sum_words.specs.Faults.{Fault, unknown_long, ambiguous_long, value_not_allowed, value_missing, unknown_short, length_invalid, length_not_bytes, tag_with_text, zero_with_check, tag_with_check, mode_with_check, ignore_without_check, status_without_check, warn_without_check, quiet_without_check, strict_without_check, check_needed}
+
+-- a fault: what a text shows of the words is escaped as names are
+abbrev pub fault_text : Fault → Text
+fault_text (unknown_long name) = codes "unrecognized option '--" ++ escape name ++ codes "'"
+fault_text (ambiguous_long name) = codes "option '--" ++ escape name ++ codes "' is ambiguous"
+fault_text (value_not_allowed full) = codes "option '--" ++ full ++ codes "' doesn't allow an argument"
+fault_text (value_missing true) = codes "option '--length' requires an argument"
+fault_text (value_missing false) = codes "option requires an argument -- 'l'"
+fault_text (unknown_short c) = codes "invalid option -- '" ++ escape (encode_utf8 c) ++ codes "'"
+fault_text (length_invalid value) = codes "invalid length: '" ++ escape value ++ codes "'"
+fault_text (length_not_bytes value) = codes "length is not a multiple of 8: '" ++ escape value ++ codes "'"
+fault_text tag_with_text = codes "--tag does not support --text mode"
+fault_text zero_with_check = codes "the --zero option is not supported when verifying checksums"
+fault_text tag_with_check = codes "the --tag option is meaningless when verifying checksums"
+fault_text mode_with_check = codes "the --binary and --text options are meaningless when verifying checksums"
+fault_text ignore_without_check = codes "the --ignore-missing option is meaningful only when verifying checksums"
+fault_text status_without_check = codes "the --status option is meaningful only when verifying checksums"
+fault_text warn_without_check = codes "the --warn option is meaningful only when verifying checksums"
+fault_text quiet_without_check = codes "the --quiet option is meaningful only when verifying checksums"
+fault_text strict_without_check = codes "the --strict option is meaningful only when verifying checksums"
+fault_text check_needed = codes "--check is required"
+
+abbrev pub lines_of : Text → Text → Text
+lines_of name text = name ++ codes ": " ++ text ++ codes "\nTry '" ++ name ++ codes " --help' for more information.\n"
+
+abbrev pub fault_lines : Tool → Fault → Text
+fault_lines t f = lines_of (name_of t) (fault_text f)
+
+-- help: what the tool is for, and its options
+abbrev pub purpose : Algos → Text
+purpose (One algo) =
+    codes "Print or check " ++ tag algo ++ codes " checksums. With no FILE, or when FILE is -, read standard input.\n"
+purpose Any = codes "Check checksums of tagged lines. With no FILE, or when FILE is -, read standard input.\n"
+
+abbrev pub length_help : Tool → Text
+length_help tools.B2sum = codes "  -l, --length=BITS     digest length in bits, a multiple of 8, at most 512\n"
+length_help t = []
+
+abbrev pub first_options : Text
+first_options =
+    codes "  -b, --binary          mark each line as binary\n"
+    ++ codes "  -c, --check           read checksums from the FILEs and check them\n"
+
+abbrev pub last_options : Text
+last_options =
+    codes "      --tag             write lines of the tagged form\n"
+    ++ codes "  -t, --text            mark each line as text (default)\n"
+    ++ codes "  -z, --zero            end each line with NUL and escape no name\n"
+    ++ codes "      --ignore-missing  with -c: neither fail nor report for missing files\n"
+    ++ codes "      --quiet           with -c: print no OK lines\n"
+    ++ codes "      --status          with -c: print no report\n"
+    ++ codes "      --strict          with -c: fail for improperly formatted lines\n"
+    ++ codes "  -w, --warn            with -c: name each improperly formatted line\n"
+    ++ codes "      --help            print this text\n"
+    ++ codes "      --version         print the version\n"
+
+abbrev pub help : Tool → Text
+help t =
+    codes "Usage: " ++ name_of t ++ codes " [OPTION]... [FILE]...\n"
+    ++ purpose (algos_of t)
+    ++ first_options
+    ++ length_help t
+    ++ last_options
+
+abbrev pub version : Tool → Text
+version t = name_of t ++ codes " (digests), profile 2\n"
+
+-- the program's own lines
+abbrev pub not_read : Text
+not_read = codes "digests: words not read\n"
+
+abbrev pub unknown_tool : Text
+unknown_tool = codes "digests: unknown tool\n"
+
+abbrev pub stop_text : Stop → Text
+stop_text Memory = codes "memory exhausted"
+stop_text Write = codes "write error"
+
+abbrev pub stop_line : Tool → Stop → Text
+stop_line t s = name_of t ++ codes ": " ++ stop_text s ++ codes "\n"

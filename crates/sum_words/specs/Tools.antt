@@ -1,0 +1,43 @@
+-- The tools: the name of each, and the algorithms of its digests.
+use Rattle.std.specs.Prelude.{List, [], ◌∷◌, ℕ, Bool, Option, codes}
+use Rattle.std.specs.List.{find}
+use Rattle.std.specs.Str.{bytes_eq}
+use Rattle.digest_kinds.specs.declared.algo.Algo.TheVariants.{Md5, Sha1, Sha224, Sha256, Sha384, Sha512, Blake2b}
+use Rattle.digest_kinds.specs.declared.algo.Algos.{Algos}
+use Rattle.digest_kinds.specs.declared.algo.Algos.TheVariants.{One, Any}
+use Rattle.sum_words.specs.declared.tool.Tool.{Tool}
+use Rattle.sum_words.specs.declared.tool.Tool.TheVariants as tools
+
+-- the name by which a tool is called
+abbrev pub name_of : Tool → List ℕ
+name_of tools.Md5sum = codes "md5sum"
+name_of tools.Sha1sum = codes "sha1sum"
+name_of tools.Sha224sum = codes "sha224sum"
+name_of tools.Sha256sum = codes "sha256sum"
+name_of tools.Sha384sum = codes "sha384sum"
+name_of tools.Sha512sum = codes "sha512sum"
+name_of tools.B2sum = codes "b2sum"
+name_of tools.Anysum = codes "anysum"
+
+-- the algorithm whose digests a tool writes and checks; anysum checks those of any
+abbrev pub algos_of : Tool → Algos
+algos_of tools.Md5sum = One Md5
+algos_of tools.Sha1sum = One Sha1
+algos_of tools.Sha224sum = One Sha224
+algos_of tools.Sha256sum = One Sha256
+algos_of tools.Sha384sum = One Sha384
+algos_of tools.Sha512sum = One Sha512
+algos_of tools.B2sum = One Blake2b
+algos_of tools.Anysum = Any
+
+-- the test by which a tool is looked for
+abbrev pub is_called : List ℕ → Tool → Bool
+is_called word tool = bytes_eq (name_of tool) word
+
+-- the tools, and the one that is called so
+abbrev pub all_tools : List Tool
+all_tools = tools.Md5sum ∷ tools.Sha1sum ∷ tools.Sha224sum ∷ tools.Sha256sum ∷ tools.Sha384sum ∷ tools.Sha512sum ∷
+    tools.B2sum ∷ tools.Anysum ∷ []
+
+unfoldable pub tool_called : List ℕ → Option Tool
+tool_called word = find (is_called word) all_tools

@@ -1,0 +1,79 @@
+//! The list of arguments that the program is called with.
+ghost use Rattle.std.specs.Prelude.{◌≡◌, ◌≤◌, ℕ, List, Option, None, IfOk, length, map};
+ghost use Rattle.sum_words.specs.Arguments.{Fills};
+
+use std::env::FillError;
+use std::marker::Model;
+use std::rt::Env;
+
+/// A list of arguments, the name by which the program was called first.
+pub trait Arguments {
+    /// The arguments, where they are told.
+    ghost told: { Self → Option (List (List ℕ)) } = { λ _. None };
+
+    /// Copies the argument at this place, counted from 0, to the front of the buffer, and answers its length.
+    /// `FillError::NotPresent` past the last argument, `FillError::TooLong` where the buffer can't hold it.
+    fn fill(&self, place: usize, buffer: &mut [u8]) -> Result<usize, FillError>
+        ensures count { IfOk result (λ n. n ≤ length buffer.new) }
+        ensures bytes { Fills (told self.now) place buffer.new result };
+}
+
+/// The arguments that the system hands over. Nothing of them is told.
+#[derive(Drop)]
+pub struct SystemArguments<R> {
+    rt: R,
+}
+
+impl<R: Env> SystemArguments<R> {
+    /// The arguments that this runtime has.
+    pub fn new(rt: R) -> Self {
+        SystemArguments { rt }
+    }
+}
+
+impl<R: Env> Arguments for SystemArguments<R> {
+    fn fill(&self, place: usize, buffer: &mut [u8]) -> Result<usize, FillError> {
+        self.rt.arg(place, buffer)
+    }
+}
+
+/// A list of arguments in memory, which it tells.
+#[derive(Drop)]
+pub struct ToldArguments<'a> {
+    arguments: &'a [&'a [u8]],
+}
+
+impl<'a> Model for ToldArguments<'a> {
+    ghost use Rattle.std.specs.Prelude.{List, ℕ, map};
+
+    ghost Value = { List (List ℕ) };
+
+    ghost view = { λ s. map (λ a. a.now) s.arguments.now };
+}
+
+impl<'a> ToldArguments<'a> {
+    /// These arguments, the name by which the program was called first.
+    pub fn new(arguments: &'a [&'a [u8]]) -> Self
+        ensures { result ≡ map (λ a. a.now) arguments.entry.now }
+    {
+        ToldArguments { arguments }
+    }
+}
+
+impl<'a> Arguments for ToldArguments<'a> {
+    ghost use Rattle.std.specs.Prelude.{Some};
+
+    ghost told = { λ s. Some s };
+
+    fn fill(&self, place: usize, buffer: &mut [u8]) -> Result<usize, FillError> {
+        let Some(argument) = self.arguments.get(place) else {
+            return Err(FillError::NotPresent);
+        };
+        let len = argument.len();
+        if buffer.len() < len {
+            return Err(FillError::TooLong);
+        }
+        buffer[..len].copy_from_slice(argument);
+        Ok(len)
+    }
+}

@@ -1,0 +1,172 @@
+//! The command line: which tool is asked for, and on which words.
+ghost use Rattle.std.specs.Prelude.{◌≡◌, ◌≤◌, ◌<◌, ◌+◌, ℕ, length, vec_len, Some, take, IfOk, IfSome, OnOk};
+ghost use Rattle.std.specs.Option.{option_map};
+ghost use Rattle.sum_words.specs.Tools.{tool_called};
+ghost use Rattle.sum_words.specs.Arguments.{ArgumentIs, WordsAre, IsNameOf, IsFirstWord, CallIs, call_of};
+ghost use Rattle.sum_words.specs.CommandLines.{last_part};
+
+use crate::arguments::Arguments;
+use crate::tool::Tool;
+use crate::words::Words;
+use memchr::memrchr;
+use std::alloc::{AllocError, Allocator};
+use std::env::FillError;
+
+/// How long an argument may be that is read without taking memory. A page costs a short run the least.
+const PAGE: usize = 4096;
+
+/// The words could not be read: one isn't UTF-8, or memory was refused.
+#[derive(Clone, Copy, Debug, PartialEq, Eq)]
+pub struct NotRead;
+
+/// What a command line asks for.
+#[derive(Drop)]
+pub enum CommandLine<A: Allocator> {
+    /// No tool, or one that there isn't.
+    UnknownTool,
+    /// This tool, on these words.
+    Asks(Tool, Words<A>),
+}
+
+/// Reads the command line. The last part of the name by which the program was called is the tool's, where it is one;
+/// else the first word is. Each word has to be UTF-8.
+pub fn read_command_line<A: Allocator + Copy, G: Arguments>(
+    alloc: A,
+    arguments: &G,
+) -> Result<CommandLine<A>, NotRead>
+    ensures { IfOk result (λ line. CallIs (G.told arguments.now) (call_of line)) }
+{
+    let mut page = [0; PAGE];
+    let mut more = Vec::new(alloc);
+    let mut tool = tool_called_by_name(arguments, &mut page, &mut more)?;
+    let mut first = 1;
+    if tool.is_none() {
+        tool = tool_called_by_word(arguments, &mut page, &mut more)?;
+        first = 2;
+    }
+    let words = words_from(alloc, arguments, first, &mut page, &mut more)?;
+    match tool {
+        Some(tool) => Ok(CommandLine::Asks(tool, words)),
+        None => Ok(CommandLine::UnknownTool),
+    }
+}
+
+// The argument at this place, `None` past the last. It is copied to the page, or where it is longer to the vector, which
+// grows for it.
+fn argument<'a, A: Allocator, G: Arguments>(
+    arguments: &G,
+    place: usize,
+    page: &'a mut [u8],
+    more: &'a mut Vec<u8, A>,
+) -> Result<Option<&'a [u8]>, NotRead>
+    ensures { IfOk result (λ o. ArgumentIs (G.told arguments.now) place (option_map (λ s. s.now) o)) }
+{
+    match arguments.fill(place, page) {
+        Ok(len) => Ok(Some(&page[..len])),
+        Err(FillError::NotPresent) => Ok(None),
+        Err(FillError::TooLong) => match fill_growing(arguments, place, more)? {
+            Some(len) => Ok(Some(&more[..len])),
+            None => Ok(None),
+        },
+    }
+}
+
+// Copies the argument at this place to the vector's front and answers its length.
+fn fill_growing<A: Allocator, G: Arguments>(
+    arguments: &G,
+    place: usize,
+    more: &mut Vec<u8, A>,
+) -> Result<Option<usize>, NotRead>
+    ensures within { IfOk result (λ o. IfSome o (λ n. n ≤ vec_len more.new)) }
+    ensures bytes { IfOk result (λ o. ArgumentIs (G.told arguments.now) place
+        (option_map (λ n. take n more.new.items) o)) }
+{
+    'longer: loop {
+        match arguments.fill(place, more.as_mut_slice()) {
+            Ok(len) => return Ok(Some(len)),
+            Err(FillError::NotPresent) => return Ok(None),
+            Err(FillError::TooLong) => {
+                let Ok(()) = grow(more) else {
+                    return Err(NotRead);
+                };
+            }
+        }
+    }
+}
+
+// Makes the vector longer, and at least twice as long as it was.
+fn grow<A: Allocator>(more: &mut Vec<u8, A>) -> Result<(), AllocError>
+    ensures { OnOk result (vec_len more.old < vec_len more.new) }
+{
+    let len = more.len();
+    let Some(twice) = len.checked_mul(2) else {
+        return Err(AllocError);
+    };
+    more.resize(twice.max(2 * PAGE), 0)
+}
+
+// The tool that is called by the last part of the name by which the program was called.
+fn tool_called_by_name<A: Allocator, G: Arguments>(
+    arguments: &G,
+    page: &mut [u8],
+    more: &mut Vec<u8, A>,
+) -> Result<Option<Tool>, NotRead>
+    ensures { IfOk result (λ tool. IsNameOf (G.told arguments.now) tool) }
+{
+    match argument(arguments, 0, page, more)? {
+        Some(path) => Ok(Tool::of_name(last_part(path))),
+        None => Ok(None),
+    }
+}
+
+// What stands behind the last slash of a path; all of it where there is none.
+fn last_part(path: &[u8]) -> &[u8]
+    ensures { result.now ≡ last_part path.now }
+{
+    match memrchr(b'/', path) {
+        Some(slash) => &path[slash..][1..],
+        None => path,
+    }
+}
+
+// The tool that is called by the first word.
+fn tool_called_by_word<A: Allocator, G: Arguments>(
+    arguments: &G,
+    page: &mut [u8],
+    more: &mut Vec<u8, A>,
+) -> Result<Option<Tool>, NotRead>
+    ensures { IfOk result (λ tool. IsFirstWord (G.told arguments.now) tool) }
+{
+    match argument(arguments, 1, page, more)? {
+        Some(word) => match str::from_utf8(word) {
+            Ok(name) => Ok(Tool::of_name(name.as_bytes())),
+            Err(_) => Err(NotRead),
+        },
+        None => Ok(None),
+    }
+}
+
+// The arguments from this place on, each of which has to be a text.
+fn words_from<A: Allocator + Copy, G: Arguments>(
+    alloc: A,
+    arguments: &G,
+    first: usize,
+    page: &mut [u8],
+    more: &mut Vec<u8, A>,
+) -> Result<Words<A>, NotRead>
+    ensures { IfOk result (λ words. WordsAre (G.told arguments.now) first words) }
+{
+    let mut words = Words::new(alloc);
+    'places: for place in first..usize::MAX {
+        let Some(word) = argument(arguments, place, page, more)? else {
+            return Ok(words);
+        };
+        let Ok(text) = str::from_utf8(word) else {
+            return Err(NotRead);
+        };
+        let Ok(()) = words.add(text) else {
+            return Err(NotRead);
+        };
+    }
+    Err(NotRead)
+}

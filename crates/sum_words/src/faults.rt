@@ -1,0 +1,161 @@
+//! What the program writes on standard error where it does nothing else: for a fault in the words, for a tool that it
+//! doesn't know, and for a run that stopped.
+ghost use Rattle.std.specs.Prelude.{◌≡◌, ◌++◌};
+ghost use Rattle.sum_lines.specs.Sinks.{Writes};
+ghost use Rattle.sum_lines.specs.Parts.{part_text};
+ghost use Rattle.sum_words.specs.Walk.{fault_of};
+ghost use Rattle.sum_words.specs.Shown.{shown_text};
+ghost use Rattle.sum_words.specs.Texts.{fault_text, fault_lines, lines_of, unknown_tool, stop_text, stop_line};
+
+use crate::tool::Tool;
+use sum_engine::Stop;
+use sum_lines::{Part, Sink, SinkFault, put_all, put_parts};
+
+/// A fault in the words. Each holds what its text shows, and the faults stand in the order in which they count.
+#[derive(Clone, Copy, Debug, PartialEq, Eq)]
+pub enum WordFault<'a> {
+    /// A long option, of this name as it was typed, that no option's name begins with.
+    UnknownLong(&'a str),
+    /// A long option, of this name as it was typed, that several options' names begin with.
+    AmbiguousLong(&'a str),
+    /// A value after `=` at the option of this full name, which takes none.
+    ValueNotAllowed(&'static str),
+    /// No word left for the value of `--length` (true) or of `-l` (false).
+    ValueMissing(bool),
+    /// A character of a cluster that is no option.
+    UnknownShort(char),
+    /// A length that isn't one or more digits, or is over 512.
+    LengthInvalid(&'a str),
+    /// A length that isn't a multiple of 8.
+    LengthNotBytes(&'a str),
+    /// `--tag`, with `--text` after it.
+    TagWithText,
+    /// `--zero` with `--check`.
+    ZeroWithCheck,
+    /// `--tag` with `--check`.
+    TagWithCheck,
+    /// `--binary` or `--text` with `--check`.
+    ModeWithCheck,
+    /// `--ignore-missing` without `--check`.
+    IgnoreWithoutCheck,
+    /// `--status` as the report setting, without `--check`.
+    StatusWithoutCheck,
+    /// `--warn` as the report setting, without `--check`.
+    WarnWithoutCheck,
+    /// `--quiet` as the report setting, without `--check`.
+    QuietWithoutCheck,
+    /// `--strict` without `--check`.
+    StrictWithoutCheck,
+    /// `anysum` without `--check`.
+    CheckNeeded,
+}
+
+/// Writes the two lines of a fault. A fault of the sink where a write failed; a shorter front of the lines is then
+/// written.
+pub fn put_fault<E: Sink>(err: &mut E, tool: Tool, fault: &WordFault<'_>) -> Result<(), SinkFault>
+    ensures { Writes E.written E.failures err.old err.new (fault_lines tool (fault_of fault.now)) result }
+{
+    let name = tool.name();
+    let (front, shown, back) = wording(fault);
+    let mut buffer = [0; 4];
+    match shown {
+        Shown::Nothing => put_lines(err, name, front, Part::Bytes(b""), back),
+        Shown::FullName(full) => put_lines(err, name, front, Part::Bytes(full.as_bytes()), back),
+        Shown::Typed(text) => put_lines(err, name, front, Part::Escaped(text.as_bytes()), back),
+        Shown::Letter(letter) => {
+            let text = letter.encode_utf8(&mut buffer);
+            put_lines(err, name, front, Part::Escaped(text.as_bytes()), back)
+        }
+    }
+}
+
+// What a text shows: nothing, an option's full name, which needs no escape, or what was typed.
+#[derive(Clone, Copy)]
+enum Shown<'a> {
+    Nothing,
+    FullName(&'static str),
+    Typed(&'a str),
+    Letter(char),
+}
+
+// Writes the two lines of a fault, of whose text these are the parts.
+fn put_lines<'a, E: Sink>(
+    err: &mut E,
+    name: &'a str,
+    front: &'a str,
+    shown: Part<'a>,
+    back: &'a str,
+) -> Result<(), SinkFault>
+    ensures { Writes E.written E.failures err.old err.new
+        (lines_of name.now (front.now ++ part_text shown.entry ++ back.now)) result }
+{
+    let name = Part::Bytes(name.as_bytes());
+    let front = Part::Bytes(front.as_bytes());
+    let back = Part::Bytes(back.as_bytes());
+    let hint = Part::Bytes(b"\nTry '");
+    let end = Part::Bytes(b" --help' for more information.\n");
+    let colon = Part::Bytes(b": ");
+    put_parts(err, &[name, colon, front, shown, back, hint, name, end])
+}
+
+// A fault's text: what stands before what it shows of the words, that, and what stands behind it.
+#[rattlefmt::skip]
+fn wording<'a>(fault: &WordFault<'a>) -> (&'static str, Shown<'a>, &'static str)
+    ensures { result.0.now ++ shown_text result.1 ++ result.2.now ≡ fault_text (fault_of fault.now) }
+{
+    match *fault {
+        WordFault::UnknownLong(name) => ("unrecognized option '--", Shown::Typed(name), "'"),
+        WordFault::AmbiguousLong(name) => ("option '--", Shown::Typed(name), "' is ambiguous"),
+        WordFault::ValueNotAllowed(full) => ("option '--", Shown::FullName(full), "' doesn't allow an argument"),
+        WordFault::ValueMissing(true) => ("option '--length' requires an argument", Shown::Nothing, ""),
+        WordFault::ValueMissing(false) => ("option requires an argument -- 'l'", Shown::Nothing, ""),
+        WordFault::UnknownShort(letter) => ("invalid option -- '", Shown::Letter(letter), "'"),
+        WordFault::LengthInvalid(value) => ("invalid length: '", Shown::Typed(value), "'"),
+        WordFault::LengthNotBytes(value) => ("length is not a multiple of 8: '", Shown::Typed(value), "'"),
+        WordFault::TagWithText => ("--tag does not support --text mode", Shown::Nothing, ""),
+        WordFault::ZeroWithCheck =>
+            ("the --zero option is not supported when verifying checksums", Shown::Nothing, ""),
+        WordFault::TagWithCheck =>
+            ("the --tag option is meaningless when verifying checksums", Shown::Nothing, ""),
+        WordFault::ModeWithCheck =>
+            ("the --binary and --text options are meaningless when verifying checksums", Shown::Nothing, ""),
+        WordFault::IgnoreWithoutCheck =>
+            ("the --ignore-missing option is meaningful only when verifying checksums", Shown::Nothing, ""),
+        WordFault::StatusWithoutCheck =>
+            ("the --status option is meaningful only when verifying checksums", Shown::Nothing, ""),
+        WordFault::WarnWithoutCheck =>
+            ("the --warn option is meaningful only when verifying checksums", Shown::Nothing, ""),
+        WordFault::QuietWithoutCheck =>
+            ("the --quiet option is meaningful only when verifying checksums", Shown::Nothing, ""),
+        WordFault::StrictWithoutCheck =>
+            ("the --strict option is meaningful only when verifying checksums", Shown::Nothing, ""),
+        WordFault::CheckNeeded => ("--check is required", Shown::Nothing, ""),
+    }
+}
+
+/// Writes the line for an unknown or missing tool. A fault of the sink where a write failed; a shorter front of the
+/// line is then written.
+pub fn put_unknown<E: Sink>(err: &mut E) -> Result<(), SinkFault>
+    ensures { Writes E.written E.failures err.old err.new unknown_tool result }
+{
+    put_all(err, b"digests: unknown tool\n")
+}
+
+/// Writes the line for a run of the tool that stopped. A fault of the sink where a write failed; a shorter front of
+/// the line is then written.
+pub fn put_stop<E: Sink>(err: &mut E, tool: Tool, stop: Stop) -> Result<(), SinkFault>
+    ensures { Writes E.written E.failures err.old err.new (stop_line tool stop) result }
+{
+    let name = Part::Bytes(tool.name().as_bytes());
+    let text = Part::Bytes(stop_wording(stop).as_bytes());
+    put_parts(err, &[name, Part::Bytes(b": "), text, Part::Bytes(b"\n")])
+}
+
+fn stop_wording(stop: Stop) -> &'static str
+    ensures { result.now ≡ stop_text stop }
+{
+    match stop {
+        Stop::Memory => "memory exhausted",
+        Stop::Write => "write error",
+    }
+}

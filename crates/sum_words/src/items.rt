@@ -1,0 +1,275 @@
+//! What the words say, item by item.
+ghost use Rattle.std.specs.Prelude.{◌≡◌, List, ℕ, [], ◌∷◌, Bool, MatchOption, drop, true, false, codes, eqb};
+ghost use Rattle.std.specs.Option.{option_copied};
+ghost use Rattle.std.specs.List.{starts_with};
+ghost use Rattle.std.specs.Str.{chars};
+ghost use Rattle.sum_words.specs.Items.{name_part, value_part, long_word, dash_word, read_word, cluster, operands_of};
+ghost use Rattle.sum_words.specs.Items.{items};
+ghost use Rattle.sum_words.specs.Walk.{to_come, read_then, step_says, item_of, Takes, TakesWord, IsBehind};
+ghost use Rattle.sum_words.specs.declared.tool.Tool.{Tool};
+
+use crate::faults::WordFault;
+use crate::options::Flag;
+use crate::tool::Tool;
+use crate::words::{LentWords, Words};
+use std::alloc::Allocator;
+use std::marker::Model;
+
+/// What words say: an option without a value, the value of `--length`, an operand, or that something is wrong.
+#[derive(Clone, Copy)]
+pub enum Item<'a> {
+    Flag(Flag),
+    Length(&'a str),
+    Operand(&'a str),
+    Fault(WordFault<'a>),
+}
+
+/// The items that a tool's words say, one by one. Nothing comes after a fault.
+#[derive(Drop)]
+pub struct Items<'a> {
+    tool: Tool,
+    words: LentWords<'a>,
+    at: usize,
+    state: State<'a>,
+}
+
+// How reading goes on: with a whole word, with the rest of a cluster, with operands alone, or not at all.
+#[derive(Clone, Copy)]
+enum State<'a> {
+    Word,
+    Cluster(char, &'a str),
+    Operands,
+    Ended,
+}
+
+// What one option or word makes of reading: it says an item, it wants the next word as the value of a long or a short
+// option, or it makes operands of all that come.
+#[derive(Clone, Copy)]
+enum Step<'a> {
+    Say(Item<'a>, State<'a>),
+    Value(bool),
+    Operands,
+}
+
+impl<'a> Model for Items<'a> {
+    ghost use Rattle.std.specs.Prelude.{List, drop};
+    ghost use Rattle.sum_words.specs.Items.{Item};
+    ghost use Rattle.sum_words.specs.Walk.{to_come};
+
+    ghost Value = { List Item };
+
+    ghost view = { λ i. to_come i.tool i.state (drop i.at i.words) };
+}
+
+impl<'a> Items<'a> {
+    /// All items of the words.
+    pub fn new<A: Allocator>(tool: Tool, words: &'a Words<A>) -> Items<'a>
+        ensures { result ≡ items tool words.now }
+    {
+        Items {
+            tool,
+            words: words.lent(),
+            at: 0,
+            state: State::Word,
+        }
+    }
+
+    /// Takes the first item that is left; `None` where none is left.
+    pub fn next(&mut self) -> Option<Item<'a>>
+        ensures { Takes item_of self.old result self.new }
+    {
+        let step = match self.state {
+            State::Ended => return None,
+            State::Operands => Step::Operands,
+            State::Cluster(letter, rest) => letter_step(self.tool, letter, rest),
+            State::Word => word_step(self.tool, take_word(&self.words, &mut self.at)?),
+        };
+        say(self.tool, &self.words, &mut self.at, &mut self.state, step)
+    }
+}
+
+// The word at a place, which goes on.
+fn take_word<'a>(words: &LentWords<'a>, at: &mut usize) -> Option<&'a str>
+    ensures { TakesWord (drop at.old words.now) (option_copied result) (drop at.new words.now) }
+{
+    let word = words.get(*at)?;
+    *at += 1;
+    Some(word)
+}
+
+// The item that a step says.
+fn say<'a>(
+    tool: Tool,
+    words: &LentWords<'a>,
+    at: &mut usize,
+    state: &mut State<'a>,
+    step: Step<'a>,
+) -> Option<Item<'a>>
+    ensures { Takes item_of (step_says tool step.entry (drop at.old words.now))
+        result (to_come tool state.new (drop at.new words.now)) }
+{
+    match step {
+        Step::Say(item, next) => {
+            *state = next;
+            Some(item)
+        }
+        Step::Value(is_long) => match take_word(words, at) {
+            Some(value) => {
+                *state = State::Word;
+                Some(Item::Length(value))
+            }
+            None => {
+                *state = State::Ended;
+                Some(Item::Fault(WordFault::ValueMissing(is_long)))
+            }
+        },
+        Step::Operands => {
+            *state = State::Operands;
+            Some(Item::Operand(take_word(words, at)?))
+        }
+    }
+}
+
+// What a whole word makes of reading.
+fn word_step<'a>(tool: Tool, word: &'a str) -> Step<'a>
+    ensures { (ws : List (List ℕ)) → step_says tool result ws
+        ≡ read_then tool (read_word tool word.now) ws }
+{
+    if word == "--" {
+        return Step::Operands;
+    }
+    if let Some(text) = behind("--", word) {
+        return long_step(tool, text);
+    }
+    match behind("-", word) {
+        Some(letters) => dash_step(tool, word, letters),
+        None => Step::Say(Item::Operand(word), State::Word),
+    }
+}
+
+// What a word that begins with one dash makes of reading.
+fn dash_step<'a>(tool: Tool, word: &'a str, letters: &'a str) -> Step<'a>
+    ensures { (ws : List (List ℕ)) → step_says tool result ws
+        ≡ read_then tool (dash_word tool word.now (chars letters.now)) ws }
+{
+    match first(letters) {
+        Some((letter, rest)) => letter_step(tool, letter, rest),
+        None => Step::Say(Item::Operand(word), State::Word),
+    }
+}
+
+// What a long option makes of reading, its two dashes left out.
+fn long_step<'a>(tool: Tool, text: &'a str) -> Step<'a>
+    ensures { (ws : List (List ℕ)) → step_says tool result ws
+        ≡ read_then tool (long_word tool text.now) ws }
+{
+    let (name, value) = name_and_value(text);
+    let flag = match Flag::of_name(tool, name) {
+        Ok(flag) => flag,
+        Err(fault) => return Step::Say(Item::Fault(fault), State::Ended),
+    };
+    match (flag.takes_value(), value) {
+        (true, Some(value)) => Step::Say(Item::Length(value), State::Word),
+        (true, None) => Step::Value(true),
+        (false, Some(_)) => Step::Say(
+            Item::Fault(WordFault::ValueNotAllowed(flag.name())),
+            State::Ended,
+        ),
+        (false, None) => Step::Say(Item::Flag(flag), State::Word),
+    }
+}
+
+// What a letter of a cluster makes of reading, with the rest of the word behind it.
+fn letter_step<'a>(tool: Tool, letter: char, rest: &'a str) -> Step<'a>
+    ensures { (ws : List (List ℕ)) → step_says tool result ws
+        ≡ read_then tool (cluster tool (letter ∷ chars rest.now)) ws }
+{
+    match Flag::of_letter(tool, letter) {
+        None => Step::Say(Item::Fault(WordFault::UnknownShort(letter)), State::Ended),
+        Some(Flag::Length) => {
+            if rest.is_empty() {
+                Step::Value(false)
+            } else {
+                Step::Say(Item::Length(rest), State::Word)
+            }
+        }
+        Some(flag) => Step::Say(Item::Flag(flag), rest_of_cluster(rest)),
+    }
+}
+
+// How reading goes on with the rest of a cluster.
+fn rest_of_cluster(letters: &str) -> State<'_>
+    ensures { (t : Tool) (ws : List (List ℕ)) → to_come t result ws
+        ≡ read_then t (cluster t (chars letters.now)) ws }
+{
+    match first(letters) {
+        Some((letter, rest)) => State::Cluster(letter, rest),
+        None => State::Word,
+    }
+}
+
+// The first character of a text, and what stands behind it.
+fn first(text: &str) -> Option<(char, &str)>
+    ensures { MatchOption result (chars text.now ≡ []) (λ p. chars text.now ≡ p.0 ∷ chars p.1.now) }
+{
+    let mut rest = text.chars();
+    let letter = rest.next()?;
+    Some((letter, rest.as_str()))
+}
+
+// What stands behind a front of a word.
+fn behind<'a>(front: &str, word: &'a str) -> Option<&'a str>
+    ensures { MatchOption result (starts_with eqb word.now front.now ≡ false)
+        (λ rest. IsBehind front.now word.now rest.now) }
+{
+    word.strip_prefix(front)
+}
+
+// A long option's name, and the value behind its first `=`.
+fn name_and_value(text: &str) -> (&str, Option<&str>)
+    ensures name { result.0.now ≡ name_part text.now }
+    ensures value { option_copied result.1 ≡ value_part text.now }
+{
+    match text.split_once('=') {
+        Some((name, value)) => (name, Some(value)),
+        None => (text, None),
+    }
+}
+
+/// The operands that the words give, one by one. It is seen as the list of those still to come.
+#[derive(Drop)]
+pub struct Operands<'a> {
+    items: Items<'a>,
+}
+
+impl<'a> Model for Operands<'a> {
+    ghost use Rattle.std.specs.Prelude.{List, ℕ};
+    ghost use Rattle.sum_words.specs.Items.{operands_of};
+
+    ghost Value = { List (List ℕ) };
+
+    ghost view = { λ o. operands_of o.items };
+}
+
+impl<'a> Operands<'a> {
+    /// All operands that a tool's words give.
+    pub fn new<A: Allocator>(tool: Tool, words: &'a Words<A>) -> Operands<'a>
+        ensures { result ≡ operands_of (items tool words.now) }
+    {
+        Operands {
+            items: Items::new(tool, words),
+        }
+    }
+
+    /// Takes the first operand that is left; `None` where none is left.
+    pub fn next(&mut self) -> Option<&'a str>
+        ensures { Takes (λ word. word.now) self.old result self.new }
+    {
+        while let Some(item) = self.items.next() {
+            if let Item::Operand(word) = item {
+                return Some(word);
+            }
+        }
+        None
+    }
+}

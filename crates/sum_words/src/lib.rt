@@ -1,0 +1,26 @@
+//! The words of a command line: the tools, what the arguments call for, what the words ask for, and the texts that
+//! answer words alone.
+#![tactic(auto)]
+
+mod arguments;
+mod command_line;
+mod faults;
+mod items;
+pub mod laws;
+mod options;
+mod reading;
+#[cfg(test)]
+mod tests;
+mod texts;
+mod tool;
+mod words;
+
+pub use arguments::{Arguments, SystemArguments, ToldArguments};
+pub use command_line::{CommandLine, NotRead, read_command_line};
+pub use faults::{WordFault, put_fault, put_stop, put_unknown};
+pub use items::{Item, Items, Operands};
+pub use options::Flag;
+pub use reading::{Request, read_words};
+pub use texts::{put_help, put_version};
+pub use tool::Tool;
+pub use words::{LentWords, NoRoom, Words};

@@ -1,0 +1,76 @@
+//! The help and the version text.
+ghost use Rattle.std.specs.Prelude.{◌≡◌, ◌++◌};
+ghost use Rattle.sum_lines.specs.Sinks.{Writes};
+ghost use Rattle.sum_words.specs.Texts.{help, version, length_help};
+
+use crate::tool::Tool;
+use digest_kinds::{Algos, Kind};
+use sum_lines::{Part, Sink, SinkFault, put_parts};
+
+/// Writes the help text. A fault of the sink where a write failed; a shorter front of the text is then written.
+pub fn put_help<O: Sink>(out: &mut O, tool: Tool) -> Result<(), SinkFault>
+    ensures { Writes O.written O.failures out.old out.new (help tool) result }
+{
+    let usage = Part::Bytes(b"Usage: ");
+    let name = Part::Bytes(tool.name().as_bytes());
+    let operands = Part::Bytes(b" [OPTION]... [FILE]...\n");
+    let first = Part::Bytes(FIRST_OPTIONS.as_bytes());
+    let length = Part::Bytes(length_line(tool).as_bytes());
+    let last = Part::Bytes(LAST_OPTIONS.as_bytes());
+    match tool.algos() {
+        Algos::One(algo) => {
+            let print = Part::Bytes(b"Print or check ");
+            let tag = Part::Bytes(Kind::of(algo).tag().as_bytes());
+            let check = Part::Bytes(
+                b" checksums. With no FILE, or when FILE is -, read standard input.\n",
+            );
+            put_parts(
+                out,
+                &[
+                    usage, name, operands, print, tag, check, first, length, last,
+                ],
+            )
+        }
+        Algos::Any => {
+            let check = Part::Bytes(
+                b"Check checksums of tagged lines. With no FILE, or when FILE is -, read standard input.\n",
+            );
+            put_parts(out, &[usage, name, operands, check, first, length, last])
+        }
+    }
+}
+
+/// Writes the version text. A fault of the sink where a write failed; a shorter front of the text is then written.
+pub fn put_version<O: Sink>(out: &mut O, tool: Tool) -> Result<(), SinkFault>
+    ensures { Writes O.written O.failures out.old out.new (version tool) result }
+{
+    let name = Part::Bytes(tool.name().as_bytes());
+    put_parts(out, &[name, Part::Bytes(b" (digests), profile 2\n")])
+}
+
+const FIRST_OPTIONS: &str = "  -b, --binary          mark each line as binary
+  -c, --check           read checksums from the FILEs and check them
+";
+
+const LAST_OPTIONS: &str = "      --tag             write lines of the tagged form
+  -t, --text            mark each line as text (default)
+  -z, --zero            end each line with NUL and escape no name
+      --ignore-missing  with -c: neither fail nor report for missing files
+      --quiet           with -c: print no OK lines
+      --status          with -c: print no report
+      --strict          with -c: fail for improperly formatted lines
+  -w, --warn            with -c: name each improperly formatted line
+      --help            print this text
+      --version         print the version
+";
+
+// The line of the option that b2sum alone has.
+fn length_line(tool: Tool) -> &'static str
+    ensures { result.now ≡ length_help tool }
+{
+    match tool {
+        Tool::B2sum =>
+            "  -l, --length=BITS     digest length in bits, a multiple of 8, at most 512\n",
+        _ => "",
+    }
+}

@@ -1,0 +1,92 @@
+//! The tools, and what each is called.
+ghost use Rattle.std.specs.Prelude.{◌≡◌, ◌↔◌, Some};
+ghost use Rattle.sum_words.specs.declared.tool.Tool.{Tool};
+ghost use Rattle.sum_words.specs.Tools.{name_of, algos_of, is_called, tool_called};
+ghost use Rattle.std.specs.List.{find};
+
+use digest_kinds::{Algo, Algos};
+
+/// One of the eight tools: the seven GNU digest tools of the coreutils manual, and `anysum`, which checks manifests of
+/// mixed tagged lines.
+#[derive(Clone, Copy, Debug, PartialEq, Eq)]
+pub enum Tool {
+    Md5sum,
+    Sha1sum,
+    Sha224sum,
+    Sha256sum,
+    Sha384sum,
+    Sha512sum,
+    B2sum,
+    Anysum,
+}
+
+static TOOLS: [Tool; 8] = [
+    Tool::Md5sum,
+    Tool::Sha1sum,
+    Tool::Sha224sum,
+    Tool::Sha256sum,
+    Tool::Sha384sum,
+    Tool::Sha512sum,
+    Tool::B2sum,
+    Tool::Anysum,
+];
+
+impl Tool {
+    /// The tool of this name; `None` for every word that names no tool.
+    pub fn from_word(word: &str) -> Option<Tool>
+        ensures { (tool : Tool) → (result ≡ Some tool) ↔ (name_of tool ≡ word.now) }
+    {
+        Tool::of_name(word.as_bytes())
+    }
+
+    /// The tool whose name these bytes are; `None` where they are none's.
+    pub fn of_name(name: &[u8]) -> Option<Tool>
+        ensures { result ≡ tool_called name.now }
+    {
+        first_called(&TOOLS, name)
+    }
+
+    /// The tool's name, as it is typed and as it begins each of its messages.
+    pub fn name(self) -> &'static str
+        ensures { result.now ≡ name_of self }
+    {
+        match self {
+            Tool::Md5sum => "md5sum",
+            Tool::Sha1sum => "sha1sum",
+            Tool::Sha224sum => "sha224sum",
+            Tool::Sha256sum => "sha256sum",
+            Tool::Sha384sum => "sha384sum",
+            Tool::Sha512sum => "sha512sum",
+            Tool::B2sum => "b2sum",
+            Tool::Anysum => "anysum",
+        }
+    }
+
+    /// The algorithms of the tool's digests: one, and any for `anysum`.
+    pub fn algos(self) -> Algos
+        ensures { result ≡ algos_of self }
+    {
+        match self {
+            Tool::Md5sum => Algos::One(Algo::Md5),
+            Tool::Sha1sum => Algos::One(Algo::Sha1),
+            Tool::Sha224sum => Algos::One(Algo::Sha224),
+            Tool::Sha256sum => Algos::One(Algo::Sha256),
+            Tool::Sha384sum => Algos::One(Algo::Sha384),
+            Tool::Sha512sum => Algos::One(Algo::Sha512),
+            Tool::B2sum => Algos::One(Algo::Blake2b),
+            Tool::Anysum => Algos::Any,
+        }
+    }
+}
+
+// The first of these tools that has this name.
+fn first_called(tools: &[Tool], name: &[u8]) -> Option<Tool>
+    ensures { result ≡ find (is_called name.now) tools.now }
+{
+    for tool in tools {
+        if tool.name().as_bytes() == name {
+            return Some(*tool);
+        }
+    }
+    None
+}
