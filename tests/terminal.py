@@ -18,7 +18,7 @@ SHELLS = {
 PS1='{prompt}' PS2=
 bind 'set enable-bracketed-paste off'
 bind '"\\C-xa": insert-completions'
-. '{completions}/digests.bash'
+{load}
 for name in {names}; do
     eval "$name() {{ printf '%s\\n' \\"\\$@\\" >words.new; mv words.new words; }}"
 done
@@ -26,7 +26,7 @@ done
     "zsh": (["zsh", "-d", "-i"], ".zshrc", """
 PS1='{prompt}' PROMPT_SP= RPS1=
 unsetopt prompt_cr prompt_sp
-fpath=('{completions}' $fpath)
+{load}
 autoload -Uz compinit && compinit -u -d '{folder}/dump'
 zle -C everything complete-word _generic
 bindkey '^Xa' everything
@@ -41,16 +41,16 @@ done
 
 
 class Terminal:
-    """A shell in a folder, with the completions of another."""
+    """A shell in a folder, which loads completions by a line of its own; they are for functions of these names."""
 
-    def __init__(self, shell, folder, completions, names):
+    def __init__(self, shell, folder, load, names):
         words, rc_name, rc = SHELLS[shell]
         home = os.path.join(folder, "home")
         os.makedirs(home, exist_ok=True)
         self.words = os.path.join(folder, "here", "words")
         rc_path = os.path.join(home, rc_name)
         with open(rc_path, "w", encoding="utf-8") as file:
-            file.write(rc.format(prompt=PROMPT.decode(), completions=completions, folder=home, names=" ".join(names)))
+            file.write(rc.format(prompt=PROMPT.decode(), load=load, folder=home, names=" ".join(names)))
         env = {"PATH": os.environ["PATH"], "HOME": home, "ZDOTDIR": home, "TERM": "dumb", "LC_ALL": "C.UTF-8"}
         self.master, slave = pty.openpty()
         self.process = subprocess.Popen([word.format(rc=rc_path) for word in words], stdin=slave, stdout=slave,

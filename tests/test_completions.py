@@ -90,7 +90,7 @@ class Typed(Shell):
 
     def setUp(self):
         super().setUp()
-        self.terminal = Terminal(self.shell, self.folder, COMPLETIONS, ["digests", *NAMES])
+        self.terminal = Terminal(self.shell, self.folder, self.load, ["digests", *NAMES])
         self.addCleanup(self.terminal.close)
 
     def offered(self, line):
@@ -108,6 +108,7 @@ class Bash(Typed, Case):
 
     of_the_repository = True
     shell = "bash"
+    load = f". '{COMPLETIONS}/digests.bash'"
 
     def test_one_key(self):
         """As it is most often used."""
@@ -121,6 +122,7 @@ class Zsh(Typed, Case):
 
     of_the_repository = True
     shell = "zsh"
+    load = f"fpath=('{COMPLETIONS}' $fpath)"
     test_one_key = Bash.test_one_key
 
 
