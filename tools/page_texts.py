@@ -44,6 +44,8 @@ OPTIONS = {
     "version": (EITHER, "Print the version of what the tools do, and end."),
 }
 
+REFUSED_BY_ANYSUM = "Of no use here, since no lines of checksums are written."
+
 USE_OF_OPTIONS = (
     "Options and names may stand in any order; after `--` every word is a name. A long option may be cut short where "
     "what is left is the beginning of one option alone.")
@@ -64,17 +66,24 @@ CHECKING = (
     "Each {FILE} is a manifest: a list of lines as they are written without `--zero`. Each line is checked and "
     "reported before the next one is read. A listed file named `-` is standard input, except in a manifest that comes "
     "from there itself.",
-    "Empty lines, and lines that begin with `#`, are passed over. A carriage return at a line's end is dropped. Digits "
-    "of either case are read, and blanks before them. In the tagged form the space before the parenthesis may be "
-    "missing, and there may be none or several about the equals sign.",
-    "The first line that isn't tagged decides how all such lines of the manifest are read: where a space or a star "
-    "follows the blank behind the digits, that isn't part of the name; otherwise the name begins at once. A line that "
-    "can't be read so is improperly formatted: it is counted, and fails the check only with `--strict`, or where "
-    "there is no other.",
+    "Empty lines, and lines that begin with `#`, are passed over. A carriage return at a line's end is dropped. Blanks "
+    "at its beginning are passed over, and digits of either case are read. In the tagged form the space before the "
+    "parenthesis may be missing, and there may be none or several about the equals sign.",
     "On standard output, for each listed file:",
     "At the end of each manifest, standard error tells how many lines were improperly formatted, how many files could "
-    "not be read, and how many checksums did not match.",
+    "not be read, and how many checksums did not match. Not with `--status`.",
 )
+
+# How a line is read, between the first and the last paragraphs of that.
+CHECKING_OF_ANYSUM = (
+    "Any other line is improperly formatted, also one that names no algorithm: it is counted, and fails the check only "
+    "with `--strict`, or where there is no other.")
+
+CHECKING_OF_OTHERS = (
+    "The first line that begins with its digits decides how all such lines of the manifest are read: where a space or "
+    "a star follows the blank behind the digits, that isn't part of the name; otherwise the name begins at once. A "
+    "line that can't be read so is improperly formatted: it is counted, and fails the check only with `--strict`, or "
+    "where there is no other.")
 
 REPORTS = {
     "{NAME}: OK": "It has this checksum. Not with `--quiet` or `--status`.",
@@ -84,7 +93,8 @@ REPORTS = {
 
 STATUSES = {
     "0": "Every file was read and its line written; or, with `--check`, every manifest was read to its end, lists a "
-         "file that has the right checksum, and none that has another or couldn't be read.",
+         "file that has the right checksum, and none that has another or couldn't be read; and with `--strict` no line "
+         "is improperly formatted.",
     "1": "Anything else: also a fault of the options, memory that is refused, or an output that fails.",
     "127": "The program was built for later processors than this machine's. Nothing was done.",
 }

@@ -71,22 +71,23 @@ def description(tool):
                    "once, and a second `-` is an empty file.")
 
 
-def option_item(option):
+def option_item(option, tool):
     """An option's names, and what is said of it."""
     value = f" {{{option['value']}}}" if option["value"] else ""
     short = f"`-{option['short']}`{value}, " if option["short"] else ""
     long = f"`--{option['long']}`" + (f"`=`{{{option['value']}}}" if option["value"] else "")
-    return item(short + long, texts.OPTIONS[option["long"]][1])
+    where, text = texts.OPTIONS[option["long"]]
+    return item(short + long, texts.REFUSED_BY_ANYSUM if (tool, where) == ("anysum", texts.WITHOUT) else text)
 
 
 def options(tool, known):
     """All that the help lists, in three groups."""
-    groups = {where: [option_item(one) for one in known if texts.OPTIONS[one["long"]][0] == where]
-              for where in (texts.EITHER, texts.WITHOUT, texts.WITH)}
-    always = f", which `{tool}` always needs" if tool == "anysum" else ""
-    return section("OPTIONS", texts.USE_OF_OPTIONS, *groups[texts.EITHER],
-                   f"These are refused with `--check`{always}:", *groups[texts.WITHOUT],
-                   "These are refused without `--check`:", *groups[texts.WITH])
+    either, without, with_check = ([option_item(one, tool) for one in known if texts.OPTIONS[one["long"]][0] == where]
+                                   for where in (texts.EITHER, texts.WITHOUT, texts.WITH))
+    if tool == "anysum":
+        return section("OPTIONS", texts.USE_OF_OPTIONS, *either, *with_check, "These are always refused:", *without)
+    return section("OPTIONS", texts.USE_OF_OPTIONS, *either, "These are refused with `--check`:", *without,
+                   "These are refused without `--check`:", *with_check)
 
 
 def line_formats(tool):
@@ -94,13 +95,18 @@ def line_formats(tool):
     tag = texts.TOOLS[tool][1]
     forms = [] if tool == "anysum" else [item("text", "{DIGITS}, two spaces, {NAME}"),
                                          item("binary", "{DIGITS}, a space, a star, {NAME}")]
-    forms.append(item("tagged", f"`{tag or '{TAG}'} (`{{NAME}}`) = `{{DIGITS}}".replace("`{TAG}", "{TAG}` ")))
+    forms.append(item("tagged", (f"`{tag} (`" if tag else "{TAG}` (`") + "{NAME}`) = `{DIGITS}"))
     return section("LINE FORMATS", texts.LINE_FORMATS[0], *forms, *texts.TAGS.get(tool, ()), texts.LINE_FORMATS[1])
 
 
-def checking():
+def checking(tool):
     *before, reports, after = texts.CHECKING
-    return section("CHECKING", *before, reports, *lines_of(texts.REPORTS), after)
+    lines = texts.CHECKING_OF_ANYSUM if tool == "anysum" else texts.CHECKING_OF_OTHERS
+    return section("CHECKING", *before, lines, reports, *lines_of(texts.REPORTS), after)
+
+
+def exit_status():
+    return section("EXIT STATUS", *lines_of(texts.STATUSES))
 
 
 def diagnostics(tool):
@@ -140,7 +146,7 @@ def see_also(tool):
 
 def page_of_tool(tool, known):
     return page(tool, texts.DATE, f"digests {version()}", name_section(tool), synopsis(tool), description(tool),
-                options(tool, known), line_formats(tool), checking(), section("EXIT STATUS", *lines_of(texts.STATUSES)),
+                options(tool, known), line_formats(tool), checking(tool), exit_status(),
                 diagnostics(tool), examples(tool), section("LIMITS", *texts.LIMITS), security(tool),
                 differences(tool), see_also(tool))
 
@@ -154,7 +160,7 @@ def page_of_program():
                 section("SYNOPSIS", [".nf", *(inline(f"{use} [{{WORD}}]...") for use in texts.PROGRAM_USES), ".fi"]),
                 section("DESCRIPTION", *texts.PROGRAM, *tools),
                 section("OPTIONS", texts.PROGRAM_OPTIONS), section("LINE FORMATS", texts.PROGRAM_LINES),
-                section("CHECKING", texts.PROGRAM_CHECKING), section("EXIT STATUS", *lines_of(texts.STATUSES)),
+                section("CHECKING", texts.PROGRAM_CHECKING), exit_status(),
                 section("DIAGNOSTICS", *lines_of(texts.PROGRAM_DIAGNOSTICS)),
                 section("EXAMPLES", *(part for why, *lines in texts.PROGRAM_EXAMPLES for part in (why, shown(*lines)))),
                 section("LIMITS", *texts.LIMITS), section("SECURITY", texts.PROGRAM_SECURITY),
