@@ -6,7 +6,7 @@ import shutil
 import subprocess
 
 import harness
-from harness import TOP, Case, needs_check
+from harness import TOP, Case, Ran, needs_check
 
 NAMES = [*harness.TOOLS, "anysum", "digests"]
 SECTIONS = ["NAME", "SYNOPSIS", "DESCRIPTION", "OPTIONS", "LINE FORMATS", "CHECKING", "EXIT STATUS", "DIAGNOSTICS",
@@ -90,6 +90,41 @@ class Pages(Case):
         for name in NAMES:
             self.assertIn(f'.TH {name.upper()} 1 ', self.read(path_of(name)).decode())
             self.assertIn(f'"digests {version}"', self.read(path_of(name)).decode())
+
+
+@needs_check
+class Said(Case):
+    """What the program says on standard error stands in the pages' DIAGNOSTICS."""
+
+    def marks(self, name):
+        """What a line may be, as patterns: names in capitals stand for others."""
+        marks = re.findall(r"(?m)^\.TP\n(.*)$", sections_of(name)["DIAGNOSTICS"])
+        return [re.sub(r"\b(?:FILE|NAME|N|TAG)\b", ".*", re.escape(mark)) for mark in marks]
+
+    def said_by(self, tool):
+        """Lines for each diagnostic that can be had without refusing memory or permission."""
+        tag = harness.TOOLS[tool][0]
+        digits = harness.TOOLS[tool][1]
+        self.write("list", f"bad\n{tag} (x) = {digits}\n")
+        self.write("missing", f"{tag} (x) = {digits}\n")
+        runs = [["x"], ["/"], ["-c", "-w", "list"], ["-c", "e"], ["-c", "--ignore-missing", "missing"], ["--other"]]
+        lines = [line for words in runs for line in self.run_command([harness.PROGRAM, tool, *words]).err.splitlines()]
+        full = self.run_command(["sh", "-c", f"'{harness.PROGRAM}' {tool} a >/dev/full"]) \
+            if os.path.exists("/dev/full") else Ran(0, b"", b"")
+        return [line.decode() for line in lines + full.err.splitlines()]
+
+    def test_each(self):
+        for tool in harness.TOOLS:
+            said, found = self.said_by(tool), set()
+            for line in said:
+                if line.startswith("Try '") or "WARNING: 1 line is" in line:
+                    continue
+                fitting = [mark for mark in self.marks(tool) if re.fullmatch(f"{tool}: {mark}", line)]
+                self.assertNotEqual(fitting, [], line)
+                found.update(fitting)
+            missing = {mark for mark in self.marks(tool) if mark not in found}
+            self.assertLessEqual(missing, {re.sub("FILE", ".*", re.escape("FILE: Permission denied")),
+                                           re.escape("memory exhausted"), re.escape("write error")})
 
 
 class Made(Case):
