@@ -14,8 +14,8 @@ use Rattle.sum_engine.specs.Generation.{generated}
 use Rattle.sum_engine.specs.Checking.{checked, checked_upto}
 use Rattle.sum_engine.specs.Runs.{CheckGives, RefusedOnMemory, PlaceOf}
 use Rattle.sum_words.specs.Tools.{name_of}
-use Rattle.digests.specs.declared.run.Job.{Job}
-use Rattle.digests.specs.declared.run.Job.TheVariants as jobs
+use Rattle.sum_words.specs.declared.reading.Job.{Job}
+use Rattle.sum_words.specs.declared.reading.Job.TheVariants as jobs
 use Rattle.std.specs.Io.KnownBytes.{Appends}
 use Rattle.std.proofs.KnownBytes.{Appends-nil}
 use Rattle.std.proofs.Math.Bool.{or-false}
@@ -23,11 +23,11 @@ use Rattle.sum_lines.specs.Sinks.{AppendsFront}
 use Rattle.sum_engine.proofs.WorldLemmas.{after-none, after-append}
 use Rattle.sum_engine.proofs.SceneLemmas.{does_nothing, does_both, cut_after, none_yet, front_of}
 use Rattle.sum_words.specs.Items.{Text}
-use Rattle.digests.specs.Meaning.{nothing, joined, all_of, upto, no_part, status_of, on_out, on_err, answered, place_of}
+use Rattle.digests.specs.Meaning.{nothing, joined, all_of, one_of, part_of, upto, status_of, on_out, on_err, answered, place_of}
 use Rattle.sum_words.specs.declared.tool.Tool.{Tool}
 use Rattle.sum_words.specs.declared.reading.Request.{Request}
 use Rattle.sum_words.specs.Faults.{Fault}
-use Rattle.digests.specs.Runs.{one_of, part_of, told_of, Stands, Reached, Comes, CutShort, OneGives, RunGives, PlaceAt, Wanting, Refused, RefusedBy, RefusalsOf}
+use Rattle.digests.specs.Runs.{told_of, Stands, Reached, Comes, CutShort, OneGives, RunGives, PlaceAt, Wanting, Refused, RefusedBy, RefusalsOf}
 
 abbrev outcome : List ℕ → List ℕ → List Text → Bool → Outcome
 outcome o e a g = record { out = o; err = e; asks = a; good = g }
@@ -158,7 +158,7 @@ asked-is t n m asked same s u r r' is told h =
 -- a name that is hashed is done as a whole or not at all
 pub one-generates : (settings : Settings) (tool name : Text) (s t : Option Scene) (n m : ℕ) (r : Result Bool Stop)
     → Generates (λ w. generated settings tool w name) s t r → m ≡ refusals_after n r
-    → OneGives n m (generated settings tool) no_part name s t r
+    → OneGives n m (one_of (jobs.Generate settings) tool) (part_of (jobs.Generate settings) tool) name s t r
 one-generates settings tool name None t n m r h k = tt
 one-generates settings tool name (Some a) None n m r h k = absurd h
 one-generates settings tool name (Some a) (Some b) n m (Ok good) h k = h

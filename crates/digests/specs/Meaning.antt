@@ -7,7 +7,9 @@ use Rattle.sum_engine.specs.Generation.{generated}
 use Rattle.sum_engine.specs.Checking.{checked, checked_upto}
 use Rattle.sum_words.specs.declared.tool.Tool.{Tool}
 use Rattle.sum_words.specs.declared.reading.Request.{Request}
-use Rattle.sum_words.specs.declared.reading.Request.TheVariants.{Generate, Check, Help, Version}
+use Rattle.sum_words.specs.declared.reading.Request.TheVariants.{Work, Help, Version}
+use Rattle.sum_words.specs.declared.reading.Job.{Job}
+use Rattle.sum_words.specs.declared.reading.Job.TheVariants.{Generate, Check}
 use Rattle.sum_words.specs.Tools.{name_of}
 use Rattle.sum_words.specs.Faults.{Fault}
 use Rattle.sum_words.specs.Items.{Text}
@@ -39,12 +41,16 @@ on_out text = record { out = text; err = []; asks = []; good = true }
 abbrev pub on_err : Text → Outcome
 on_err text = record { out = []; err = text; asks = []; good = false }
 
+-- what one operand of a job comes to
+abbrev pub one_of : Job → Text → World → Text → Outcome
+one_of (Generate settings) tool w name = generated settings tool w name
+one_of (Check settings) tool w name = checked settings tool w name
+
 abbrev pub answered : Tool → Result Request Fault → World → Outcome
 answered t (Err fault) w = on_err (fault_lines t fault)
 answered t (Ok Help) w = on_out (help t)
 answered t (Ok Version) w = on_out (version t)
-answered t (Ok (Generate settings names)) w = all_of (generated settings (name_of t)) w (or_dash names)
-answered t (Ok (Check settings names)) w = all_of (checked settings (name_of t)) w (or_dash names)
+answered t (Ok (Work job names)) w = all_of (one_of job (name_of t)) w (or_dash names)
 
 abbrev pub meaning : Tool → List Text → World → Outcome
 meaning t words w = answered t (request t words) w
@@ -60,13 +66,13 @@ upto one part w [] j k = nothing
 upto one part w (n ∷ ns) zero k = part w n k
 upto one part w (n ∷ ns) (suc j) k = joined (one w n) (upto one part (after w (one w n).asks) ns j k)
 
--- a name that is hashed has no place within: its line is there or not
-abbrev pub no_part : World → Text → ℕ → Outcome
-no_part w name k = nothing
+-- what stands at a place in one operand: a name that is hashed has none, its line is there or not
+abbrev pub part_of : Job → Text → World → Text → ℕ → Outcome
+part_of (Generate settings) tool w name k = nothing
+part_of (Check settings) tool w name k = checked_upto settings tool w name k
 
 abbrev pub place_of : Tool → Result Request Fault → World → ℕ → ℕ → Outcome
-place_of t (Ok (Generate settings names)) w j k = upto (generated settings (name_of t)) no_part w (or_dash names) j k
-place_of t (Ok (Check settings names)) w j k = upto (checked settings (name_of t)) (checked_upto settings (name_of t)) w (or_dash names) j k
+place_of t (Ok (Work job names)) w j k = upto (one_of job (name_of t)) (part_of job (name_of t)) w (or_dash names) j k
 place_of t r w j k = nothing
 
 abbrev pub place : Tool → List Text → World → ℕ → ℕ → Outcome

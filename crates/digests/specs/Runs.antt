@@ -6,26 +6,15 @@ use Rattle.sum_engine.specs.declared.stop.Stop.{Stop}
 use Rattle.sum_engine.specs.declared.stop.Stop.TheVariants.{Memory, Write}
 use Rattle.sum_engine.specs.Worlds.{World, reply, after}
 use Rattle.sum_engine.specs.Outcomes.{Outcome}
-use Rattle.sum_engine.specs.Generation.{generated}
-use Rattle.sum_engine.specs.Checking.{checked, checked_upto}
 use Rattle.sum_engine.specs.Scenes.{Scene, Does}
 use Rattle.sum_engine.specs.Runs.{CutOff, PlaceOf}
-use Rattle.digests.specs.declared.run.Job.{Job}
-use Rattle.digests.specs.declared.run.Job.TheVariants as jobs
+use Rattle.sum_words.specs.declared.reading.Job.{Job}
+use Rattle.sum_words.specs.declared.reading.Job.TheVariants as jobs
 use Rattle.sum_words.specs.declared.reading.Request.{Request}
 use Rattle.sum_words.specs.declared.reading.Request.TheVariants as requests
 use Rattle.sum_words.specs.Faults.{Fault}
 use Rattle.sum_words.specs.Items.{Text}
-use Rattle.digests.specs.Meaning.{joined, all_of, upto, or_dash, no_part, status_of}
-
--- one operand of a job, and what stands at a place in it
-abbrev pub one_of : Job → Text → World → Text → Outcome
-one_of (jobs.Generate settings) tool w name = generated settings tool w name
-one_of (jobs.Check settings) tool w name = checked settings tool w name
-
-abbrev pub part_of : Job → Text → World → Text → ℕ → Outcome
-part_of (jobs.Generate settings) tool w name k = no_part w name k
-part_of (jobs.Check settings) tool w name k = checked_upto settings tool w name k
+use Rattle.digests.specs.Meaning.{joined, all_of, one_of, upto, or_dash, status_of}
 
 -- the outcome came about, or was cut short by a write fault
 abbrev pub Comes : Outcome → Scene → Scene → Type 0
@@ -53,8 +42,7 @@ PlaceAt n m one w (name ∷ names) (suc j) k = PlaceAt n m one (after w (one w n
 
 -- the same of a command line: nothing but generation and checking wants memory
 abbrev pub Wanting : ℕ → ℕ → Text → World → Result Request Fault → ℕ → ℕ → Type 0
-Wanting n m tool w (Ok (requests.Generate settings names)) j k = PlaceAt n m (generated settings tool) w (or_dash names) j k
-Wanting n m tool w (Ok (requests.Check settings names)) j k = PlaceAt n m (checked settings tool) w (or_dash names) j k
+Wanting n m tool w (Ok (requests.Work job names)) j k = PlaceAt n m (one_of job tool) w (or_dash names) j k
 Wanting n m tool w r j k = ⊥
 
 -- a run: all of it, with its status, cut short, or stopped at a place
@@ -86,8 +74,7 @@ RefusalsOf refused n m (Err Memory) = refused n m
 
 -- the same of a command line: a fault, help and version want no memory
 abbrev pub RefusedBy : Result Request Fault → ℕ → ℕ → Type 0
-RefusedBy (Ok (requests.Generate settings names)) n m = m ≡ after_refusal n
-RefusedBy (Ok (requests.Check settings names)) n m = (m ≡ n) ⊎ (m ≡ after_refusal n)
+RefusedBy (Ok (requests.Work job names)) n m = Refused job n m
 RefusedBy r n m = ⊥
 
 -- the operands before the rest came to `done`, and there are j of them

@@ -12,7 +12,7 @@ use sum_engine::Settings;
 use sum_lines::{Finish, Sink, Style, WholeLines, put_all};
 use sum_sources::{Input, Source, Stdin};
 use sum_words::{
-    Arguments, CommandLine, NotRead, Request, Tool, WordFault, Words, put_unknown,
+    Arguments, CommandLine, Job, NotRead, Request, Tool, WordFault, Words, put_unknown,
     read_command_line, read_words,
 };
 
@@ -82,14 +82,14 @@ fn perform<A: Allocator + Copy, I: Input + Drop, S: Source, O: Finish, E: Sink>(
 fn end_of_lines(asked: &Result<Request, WordFault>) -> u8 {
     match asked {
         Ok(
-            Request::Generate(
-                Settings {
+            Request::Work(
+                Job::Generate(Settings {
                     kind: _,
                     style: Style {
                         mode: _,
                         zero: true,
                     },
-                },
+                }),
                 _,
             ),
         ) => b'\0',

@@ -5,16 +5,17 @@ ghost use Rattle.sum_words.specs.Tools.{name_of};
 ghost use Rattle.sum_words.specs.Walk.{Takes};
 ghost use Rattle.sum_words.specs.Request.{request};
 ghost use Rattle.sum_words.specs.Reading.{answer_of};
-ghost use Rattle.digests.specs.Meaning.{all_of, answered, upto, or_dash, meaning, place, place_of, status_of};
-ghost use Rattle.digests.specs.Runs.{one_of, part_of, told_of, OneGives, RunGives, PlaceAt, Wanting, Refused};
+ghost use Rattle.digests.specs.Meaning.{all_of, answered, one_of, part_of, upto, or_dash, meaning, place, place_of};
+ghost use Rattle.digests.specs.Meaning.{status_of};
+ghost use Rattle.digests.specs.Runs.{told_of, OneGives, RunGives, PlaceAt, Wanting, Refused};
 ghost use Rattle.digests.specs.Runs.{RefusedBy, RefusalsOf};
 
 use std::alloc::Allocator;
-use sum_engine::{CheckSettings, Settings, Stop, check_one, generate_one};
+use sum_engine::{Stop, check_one, generate_one};
 use sum_lines::{Sink, SinkFault};
 use sum_sources::{Input, Source, Stdin};
 use sum_words::{
-    Operands, Request, Tool, WordFault, Words, put_fault, put_help, put_version, read_words,
+    Job, Operands, Request, Tool, WordFault, Words, put_fault, put_help, put_version, read_words,
 };
 
 /// Runs a tool on its words: writes what they mean for what standard input and the source have to give, and answers the
@@ -74,30 +75,16 @@ pub(crate) fn answer<A: Allocator + Copy, I: Input + Drop, S: Source, O: Sink, E
         Err(fault) => told(put_fault(err, tool, &fault), 1),
         Ok(Request::Help) => told(put_help(out, tool), 0),
         Ok(Request::Version) => told(put_version(out, tool), 0),
-        Ok(Request::Generate(settings, operands)) => {
-            each(
-                alloc,
-                &Job::Generate(settings),
-                tool,
-                operands,
-                stdin,
-                source,
-                out,
-                err,
-            )
-        }
-        Ok(Request::Check(settings, operands)) => {
-            each(
-                alloc,
-                &Job::Check(settings),
-                tool,
-                operands,
-                stdin,
-                source,
-                out,
-                err,
-            )
-        }
+        Ok(Request::Work(job, operands)) => each(
+            alloc,
+            &job,
+            tool,
+            operands,
+            stdin,
+            source,
+            out,
+            err,
+        ),
     }
 }
 
@@ -109,15 +96,6 @@ pub(crate) fn told(written: Result<(), SinkFault>, status: u8) -> Result<u8, Sto
         Ok(()) => Ok(status),
         Err(_) => Err(Stop::Write),
     }
-}
-
-/// What is done with each operand.
-#[derive(Clone, Copy)]
-pub enum Job {
-    /// Its line is written.
-    Generate(Settings),
-    /// It is a manifest, which is checked.
-    Check(CheckSettings),
 }
 
 // One operand.

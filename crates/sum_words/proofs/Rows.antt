@@ -10,14 +10,15 @@ use Rattle.sum_lines.specs.declared.written.Mode.TheVariants as modes
 use Rattle.sum_engine.specs.declared.settings.Report.TheVariants as reports
 use Rattle.sum_words.specs.declared.tool.Tool.TheVariants.{Md5sum, Sha256sum, B2sum, Anysum}
 use Rattle.sum_words.specs.declared.reading.Request.{Request}
-use Rattle.sum_words.specs.declared.reading.Request.TheVariants.{Generate, Check, Help, Version}
+use Rattle.sum_words.specs.declared.reading.Request.TheVariants.{Work, Help, Version}
+use Rattle.sum_words.specs.declared.reading.Job.TheVariants.{Generate, Check}
 use Rattle.sum_words.specs.Faults.{Fault, unknown_long, ambiguous_long, value_not_allowed, value_missing, unknown_short, length_invalid, length_not_bytes, tag_with_text, zero_with_check, tag_with_check, mode_with_check, ignore_without_check, status_without_check, warn_without_check, quiet_without_check, strict_without_check, check_needed}
 use Rattle.sum_words.specs.Items.{Text, resolved, lettered}
 use Rattle.sum_words.specs.Request.{request}
 
 abbrev pub writes : Algo → ℕ → Mode → List Text → Result Request Fault
-writes algo len mode operands = Ok (Generate
-    (record { kind = record { algo = algo; len = len }; style = record { mode = mode; zero = false } }) operands)
+writes algo len mode operands = Ok (Work (Generate
+    (record { kind = record { algo = algo; len = len }; style = record { mode = mode; zero = false } })) operands)
 
 -- length faults
 length_faults_1 : request B2sum (codes "-l" ∷ codes "520" ∷ codes "e" ∷ []) ≡ Err (length_invalid (codes "520"))
@@ -241,14 +242,14 @@ version_1 = refl
 
 -- checking
 checking_1 : request Anysum (codes "-c" ∷ codes "--strict" ∷ codes "-w" ∷ codes "m" ∷ codes "n" ∷ [])
-    ≡ Ok (Check (record { algo = Any; report = reports.Warn; strict = true; ignore_missing = false })
+    ≡ Ok (Work (Check (record { algo = Any; report = reports.Warn; strict = true; ignore_missing = false }))
     (codes "m" ∷ codes "n" ∷ []))
 unfolding chars encode resolved lettered
 checking_1 = refl
 
 checking_2 : request B2sum (codes "-c" ∷ codes "-l" ∷ codes "8" ∷ codes "--status" ∷ codes "--quiet" ∷ codes
     "--ignore-missing" ∷ codes "-" ∷ codes "l" ∷ [])
-    ≡ Ok (Check (record { algo = One Blake2b; report = reports.Quiet; strict = false; ignore_missing = true })
+    ≡ Ok (Work (Check (record { algo = One Blake2b; report = reports.Quiet; strict = false; ignore_missing = true }))
     (codes "-" ∷ codes "l" ∷ []))
 unfolding chars encode resolved lettered
 checking_2 = refl

@@ -16,7 +16,8 @@ use Rattle.sum_engine.specs.declared.settings.Report.{Report}
 use Rattle.sum_engine.specs.declared.settings.Report.TheVariants as reports
 use Rattle.sum_words.specs.declared.tool.Tool.{Tool}
 use Rattle.sum_words.specs.declared.reading.Request.{Request}
-use Rattle.sum_words.specs.declared.reading.Request.TheVariants.{Generate, Check, Help, Version}
+use Rattle.sum_words.specs.declared.reading.Request.TheVariants.{Work, Help, Version}
+use Rattle.sum_words.specs.declared.reading.Job.TheVariants.{Generate, Check}
 use Rattle.sum_words.specs.Tools.{algos_of}
 use Rattle.sum_words.specs.Faults.{Fault, length_invalid, length_not_bytes, tag_with_text, tag_with_check, mode_with_check, status_without_check, quiet_without_check, zero_with_check, ignore_without_check, warn_without_check, strict_without_check, check_needed}
 use Rattle.sum_words.specs.Items.{Text, Item, option, length_value, operand, fault, items, operands_of}
@@ -140,16 +141,16 @@ report_of report =
 abbrev pub generation : Algos → Option KindValue → Options → List Text → Result Request Fault
 generation Any kind o words = Err check_needed
 generation (One algo) kind o words =
-    Ok (Generate (record { kind = unwrap_or kind (full_kind algo); style = style_of o }) words)
+    Ok (Work (Generate (record { kind = unwrap_or kind (full_kind algo); style = style_of o })) words)
 
 abbrev pub asked : Tool → Option KindValue → Options → List Text → Result Request Fault
 asked t kind o words =
-    if o.check then Ok (Check (record {
+    if o.check then Ok (Work (Check (record {
       algo = algos_of t;
       report = report_of o.report;
       strict = o.strict;
       ignore_missing = o.ignore_missing;
-    }) words)
+    })) words)
     else generation (algos_of t) kind o words
 
 -- a fault of the length value counts before these faults

@@ -18,13 +18,20 @@ use std::alloc::Allocator;
 use sum_engine::{CheckSettings, Report, Settings};
 use sum_lines::{Mode, Style};
 
+/// What is done with each operand.
+#[derive(Clone, Copy)]
+pub enum Job {
+    /// Its line is written.
+    Generate(Settings),
+    /// It is a manifest, which is checked.
+    Check(CheckSettings),
+}
+
 /// What a command line asks for.
 #[derive(Drop)]
 pub enum Request<'a> {
-    /// To write a line for each operand.
-    Generate(Settings, Operands<'a>),
-    /// To check each operand, a manifest.
-    Check(CheckSettings, Operands<'a>),
+    /// To do this with each operand.
+    Work(Job, Operands<'a>),
     /// The help text.
     Help,
     /// The version text.
@@ -59,7 +66,7 @@ pub fn read_words<'a, A: Allocator>(
             strict: chosen.strict,
             ignore_missing: chosen.ignore_missing,
         };
-        return Ok(Request::Check(settings, operands));
+        return Ok(Request::Work(Job::Check(settings), operands));
     }
     match tool.algos() {
         Algos::Any => Err(WordFault::CheckNeeded),
@@ -71,7 +78,7 @@ pub fn read_words<'a, A: Allocator>(
                     zero: chosen.zero,
                 },
             };
-            Ok(Request::Generate(settings, operands))
+            Ok(Request::Work(Job::Generate(settings), operands))
         }
     }
 }

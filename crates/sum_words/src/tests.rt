@@ -1,6 +1,6 @@
 //! Worked command lines.
 use crate::faults::{put_fault, put_stop, put_unknown};
-use crate::reading::{Request, read_words};
+use crate::reading::{Job, Request, read_words};
 use crate::texts::{put_help, put_version};
 use crate::tool::Tool;
 use crate::words::{NoRoom, Words};
@@ -52,7 +52,7 @@ fn assert_generates(
 ) -> Result<(), Fail> {
     let words = words_of(rt.alloc(), line)?;
     match read_words(tool, &words) {
-        Ok(Request::Generate(settings, mut operands)) => {
+        Ok(Request::Work(Job::Generate(settings), mut operands)) => {
             assert_eq!(rt; settings.kind.bits(), bits, "in {line}");
             assert_eq!(rt; settings.style.mode, mode, "in {line}");
             assert!(rt; !settings.style.zero, "in {line}");
@@ -233,7 +233,7 @@ fn faults_are_escaped(rt: HostRuntime) -> Result<(), Fail> {
 fn settings_of_checking(rt: HostRuntime) -> Result<(), Fail> {
     let words = words_of(rt.alloc(), "-c --ignore-missing -w --strict l")?;
     match read_words(Tool::Md5sum, &words) {
-        Ok(Request::Check(settings, mut operands)) => {
+        Ok(Request::Work(Job::Check(settings), mut operands)) => {
             let expected = CheckSettings {
                 algo: Algos::One(Algo::Md5),
                 report: Report::Warn,
@@ -248,7 +248,7 @@ fn settings_of_checking(rt: HostRuntime) -> Result<(), Fail> {
     }
     let words = words_of(rt.alloc(), "--quiet --check --status - m")?;
     match read_words(Tool::Anysum, &words) {
-        Ok(Request::Check(settings, mut operands)) => {
+        Ok(Request::Work(Job::Check(settings), mut operands)) => {
             let expected = CheckSettings {
                 algo: Algos::Any,
                 report: Report::Status,
@@ -292,7 +292,7 @@ fn words_are_any_texts(rt: HostRuntime) -> Result<(), Fail> {
     assert_eq!(rt; words.get(3), Some("\u{e4}\u{20ac}"));
     assert_eq!(rt; words.get(4), None);
     match read_words(Tool::Md5sum, &words) {
-        Ok(Request::Generate(settings, mut operands)) => {
+        Ok(Request::Work(Job::Generate(settings), mut operands)) => {
             assert_eq!(rt; settings.kind, Kind::of(Algo::Md5));
             assert!(rt; settings.style.zero);
             assert_eq!(rt; operands.next(), Some(""));

@@ -33,16 +33,9 @@ pub returns-in-Ok-Version-clause-refusals : goal.returns-in-Ok-Version-clause-re
 returns-in-Ok-Version-clause-refusals g c =
     told-refused (RefusedBy (answer_of c.args.asked)) _ _ _ _ c.told-in-Ok-Version.ensures
 
-pub returns-in-Ok-Generate-clause-gives : goal.returns-in-Ok-Generate-clause-gives
-returns-in-Ok-Generate-clause-gives g c =
-    asked-is c.args.tool _ _ _ _ _ _ _ _ (sym (ap answer_of (c.in-Ok-Generate.is ∙ ap Ok c.in-Ok-Generate.field-0-is))) refl c.each.ensures.gives
+pub returns-in-Ok-Work-clause-gives : goal.returns-in-Ok-Work-clause-gives
+returns-in-Ok-Work-clause-gives g c =
+    asked-is c.args.tool _ _ _ _ _ _ _ _ (sym (ap answer_of (c.in-Ok-Work.is ∙ ap Ok c.in-Ok-Work.field-0-is))) refl c.each.ensures.gives
 
-pub returns-in-Ok-Generate-clause-refusals : goal.returns-in-Ok-Generate-clause-refusals
-returns-in-Ok-Generate-clause-refusals g c = refused-is _ _ _ _ _ (sym (ap answer_of (c.in-Ok-Generate.is ∙ ap Ok c.in-Ok-Generate.field-0-is))) c.each.ensures.refusals
-
-pub returns-in-Ok-Check-clause-gives : goal.returns-in-Ok-Check-clause-gives
-returns-in-Ok-Check-clause-gives g c =
-    asked-is c.args.tool _ _ _ _ _ _ _ _ (sym (ap answer_of (c.in-Ok-Check.is ∙ ap Ok c.in-Ok-Check.field-0-is))) refl c.each-in-Ok-Check.ensures.gives
-
-pub returns-in-Ok-Check-clause-refusals : goal.returns-in-Ok-Check-clause-refusals
-returns-in-Ok-Check-clause-refusals g c = refused-is _ _ _ _ _ (sym (ap answer_of (c.in-Ok-Check.is ∙ ap Ok c.in-Ok-Check.field-0-is))) c.each-in-Ok-Check.ensures.refusals
+pub returns-in-Ok-Work-clause-refusals : goal.returns-in-Ok-Work-clause-refusals
+returns-in-Ok-Work-clause-refusals g c = refused-is _ _ _ _ _ (sym (ap answer_of (c.in-Ok-Work.is ∙ ap Ok c.in-Ok-Work.field-0-is))) c.each.ensures.refusals
