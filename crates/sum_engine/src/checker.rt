@@ -208,6 +208,13 @@ impl<'a, I: Input> Checker<'a, I> {
         }
     }
 
+    // The number of the line that was read last.
+    fn number(&self) -> u64
+        ensures { result ≡ number_of self.now }
+    {
+        self.reader.lines()
+    }
+
     // Handles a line that was read.
     fn handle<A: Allocator, J: Input + Drop, S: Source, O: Sink, E: Sink>(
         &mut self,
@@ -250,7 +257,7 @@ impl<'a, I: Input> Checker<'a, I> {
         ) else {
             return Err(Stop::Memory);
         };
-        let number = self.reader.lines();
+        let number = self.number();
         match put_report(
             out,
             err,
