@@ -8,7 +8,7 @@ use Rattle.std.specs.Simd.{first_chunks}
 use Rattle.byteorder.specs.Endian.{little_bytes}
 use Rattle.blake2b_core.specs.Compression.{compress}
 use Rattle.blake2b_core.specs.Digest.{block_count, padded, blocks, hash_after, blake2b}
-use Rattle.blake2b_core.specs.Holding.{AreBlocksFrom}
+use Rattle.blake2b_core.specs.joins.Holding.{AreBlocksFrom}
 use Rattle.blake2b_core.proofs.CompressionLemmas.{length-first_chunks, get_or-first_chunks}
 
 -- a block that the message fills

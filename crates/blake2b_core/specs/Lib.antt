@@ -1,5 +1,4 @@
 pub mod Compression
-pub mod Columns
 pub mod Digest
-pub mod Holding
 pub mod Laws
+pub mod joins

@@ -2,7 +2,7 @@
 ghost use Rattle.std.specs.Prelude.{◌≡◌, map};
 ghost use Rattle.std.specs.List.{range_with_len};
 ghost use Rattle.blake2b_core.specs.Compression.{block_words, compress, round, scheduled, start};
-ghost use Rattle.blake2b_core.specs.Columns.{fed_forward, words};
+ghost use Rattle.blake2b_core.specs.joins.Columns.{fed_forward, words};
 
 use crate::columns::{mixed_columns, mixed_diagonals};
 use byteorder::{ByteOrder, LittleEndian};

@@ -3,7 +3,7 @@ ghost use Rattle.std.specs.Prelude.{◌≡◌, ◌↔◌, ◌⊎◌, ℕ, ◌+�
 ghost use Rattle.std.specs.Prelude.{replicate, IsNone, IfSome};
 ghost use Rattle.std.specs.Simd.{first_chunks};
 ghost use Rattle.blake2b_core.specs.Digest.{blake2b, blocks, hash_after, initial};
-ghost use Rattle.blake2b_core.specs.Holding.{AreBlocksFrom};
+ghost use Rattle.blake2b_core.specs.joins.Holding.{AreBlocksFrom};
 
 use crate::compression::{IV, advance, compress};
 use crate::output::Output;

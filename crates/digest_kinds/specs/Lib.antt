@@ -1,6 +1,6 @@
-pub mod AnyHasherState
 pub mod Digests
 pub mod Digits
 pub mod Kinds
 pub mod Lengths
 pub mod Tags
+pub mod joins

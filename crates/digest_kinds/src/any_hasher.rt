@@ -50,7 +50,7 @@ impl AnyHasher {
 }
 
 impl Hasher for AnyHasher {
-    ghost use Rattle.digest_kinds.specs.AnyHasherState.{Holds, kind_of, taken_of, counted};
+    ghost use Rattle.digest_kinds.specs.joins.AnyHasherState.{Holds, kind_of, taken_of, counted};
 
     ghost holds = { Holds };
 

@@ -10,7 +10,7 @@ use Rattle.sum_engine.specs.Scenes.{AppendsUpTo}
 use Rattle.sum_words.specs.Items.{Text}
 use Rattle.std.specs.Prelude.{OnOk}
 use Rattle.digests.specs.Program.{HoldsFront, fails, Failed, IsKept}
-use Rattle.digests.specs.Endings.{Settles, SettlesBoth, Says, CutsOff, Closes}
+use Rattle.digests.specs.joins.Endings.{Settles, SettlesBoth, Says, CutsOff, Closes}
 
 -- ---- what an output holds
 

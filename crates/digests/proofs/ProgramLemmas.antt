@@ -11,9 +11,10 @@ use Rattle.sum_engine.specs.Scenes.{Scene, scene_by, Does, Kept, Rose, Failures,
 use Rattle.sum_words.specs.Items.{Text}
 use Rattle.sum_words.specs.Texts.{unknown_tool, not_read}
 use Rattle.digests.proofs.RunLemmas.{said_on_err}
-use Rattle.digests.specs.Runs.{RunGives, told_of}
-use Rattle.sum_words.specs.Arguments.{CallIs}
-use Rattle.digests.specs.Endings.{CutsOff, Closes}
+use Rattle.digests.specs.Headline.{RunGives}
+use Rattle.digests.specs.joins.Runs.{told_of}
+use Rattle.sum_words.specs.joins.Arguments.{CallIs}
+use Rattle.digests.specs.joins.Endings.{CutsOff, Closes}
 use Rattle.sum_words.specs.CommandLines.{Call, unknown}
 use Rattle.digests.specs.Program.{outcome_of, place_in, WantsMemory, stop_told, tool_of, fails, Failed, Whole, Fronts, EndsGives, ProgramGives}
 use Rattle.digests.proofs.EndingLemmas.{front-up_to, front-front, up_to-whole, Appends-then_kept, fails-more}

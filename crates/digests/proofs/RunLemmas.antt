@@ -27,7 +27,8 @@ use Rattle.digests.specs.Meaning.{nothing, joined, all_of, one_of, part_of, upto
 use Rattle.sum_words.specs.declared.tool.Tool.{Tool}
 use Rattle.sum_words.specs.declared.reading.Request.{Request}
 use Rattle.sum_words.specs.Faults.{Fault}
-use Rattle.digests.specs.Runs.{told_of, Stands, Reached, Comes, CutShort, OneGives, RunGives, PlaceAt, Wanting, Refused, RefusedBy, RefusalsOf}
+use Rattle.digests.specs.Headline.{Comes, CutShort, RunGives, PlaceAt, Wanting, Refused, RefusedBy, RefusalsOf}
+use Rattle.digests.specs.joins.Runs.{told_of, Stands, Reached, OneGives}
 
 abbrev outcome : List ℕ → List ℕ → List Text → Bool → Outcome
 outcome o e a g = record { out = o; err = e; asks = a; good = g }

@@ -1,5 +1,5 @@
 pub mod Meaning
-pub mod Runs
+pub mod Headline
 pub mod Program
-pub mod Endings
 pub mod Written
+pub mod joins

@@ -13,7 +13,7 @@ use Rattle.sum_words.specs.Tools.{name_of}
 use Rattle.sum_words.specs.CommandLines.{Call, unknown, call, command_line}
 use Rattle.sum_words.specs.Texts.{not_read, unknown_tool, stop_line}
 use Rattle.digests.specs.Meaning.{nothing, meaning, place, on_err, status_of}
-use Rattle.digests.specs.Runs.{Wanting}
+use Rattle.digests.specs.Headline.{Wanting}
 
 -- what that comes to, what of it stands at a place, which places want memory, and the line that tells of a stop
 abbrev pub outcome_of : Option Call → World → Outcome

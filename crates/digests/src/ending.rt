@@ -1,7 +1,7 @@
 //! The end of a run: what its outputs hold is handed on, and a stop is told.
 ghost use Rattle.std.specs.Prelude.{◌≡◌, [], OnOk};
 ghost use Rattle.std.specs.Io.KnownBytes.{append_known};
-ghost use Rattle.digests.specs.Endings.{Settles, SettlesBoth, Says, Closes};
+ghost use Rattle.digests.specs.joins.Endings.{Settles, SettlesBoth, Says, Closes};
 ghost use Rattle.digests.specs.Program.{stop_told, IsKept};
 
 use sum_engine::Stop;

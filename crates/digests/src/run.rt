@@ -2,13 +2,14 @@
 ghost use Rattle.std.specs.Prelude.{◌≡◌, ◌∷◌, List, ℕ, [], None};
 ghost use Rattle.sum_engine.specs.Scenes.{scene, Failures};
 ghost use Rattle.sum_words.specs.Tools.{name_of};
-ghost use Rattle.sum_words.specs.Walk.{Takes};
+ghost use Rattle.sum_words.specs.joins.Walk.{Takes};
 ghost use Rattle.sum_words.specs.Request.{request};
-ghost use Rattle.sum_words.specs.Reading.{answer_of};
+ghost use Rattle.sum_words.specs.joins.Reading.{answer_of};
 ghost use Rattle.digests.specs.Meaning.{all_of, answered, one_of, part_of, upto, or_dash, meaning, place, place_of};
 ghost use Rattle.digests.specs.Meaning.{status_of};
-ghost use Rattle.digests.specs.Runs.{told_of, OneGives, RunGives, PlaceAt, Wanting, Refused};
-ghost use Rattle.digests.specs.Runs.{RefusedBy, RefusalsOf};
+ghost use Rattle.digests.specs.Headline.{RunGives, PlaceAt, Wanting, Refused};
+ghost use Rattle.digests.specs.joins.Runs.{told_of, OneGives};
+ghost use Rattle.digests.specs.Headline.{RefusedBy, RefusalsOf};
 
 use std::alloc::Allocator;
 use sum_engine::{Stop, check_one, generate_one};

@@ -13,7 +13,7 @@ use Rattle.sum_words.specs.Items.{Text}
 use Rattle.sum_words.specs.Tools.{tool_called}
 use Rattle.memchr.specs.Find.{Passes, Nowhere, is_byte, IsLastByte}
 use Rattle.sum_words.specs.CommandLines.{call, last_part, on_words}
-use Rattle.sum_words.specs.Arguments.{ArgumentIs, IsNameOf, IsFirstWord, WordsUpTo, WordsAre, CallIs}
+use Rattle.sum_words.specs.joins.Arguments.{ArgumentIs, IsNameOf, IsFirstWord, WordsUpTo, WordsAre, CallIs}
 
 -- ---- the last part of a path
 

@@ -7,7 +7,7 @@ use Rattle.std.proofs.lemmas.Slice.Eq.{bytes_eq-Decides}
 use Rattle.sum_words.specs.declared.options.Flag.{Flag}
 use Rattle.sum_words.specs.Faults.{Fault, ambiguous_long}
 use Rattle.sum_words.specs.Items.{Text, the_one, meant, is_full, is_begun_by}
-use Rattle.sum_words.specs.Walk.{full_name, named}
+use Rattle.sum_words.specs.joins.Walk.{full_name, named}
 
 -- the one that is meant by what was found so far and these
 abbrev pub the_one_with : Text → Option Flag → List Text → Result Text Fault

@@ -8,9 +8,9 @@ use Rattle.std.proofs.lemmas.Str.Parse.{IsNumeralModel, numerals_by_value, tells
 use Rattle.sum_words.specs.declared.options.Flag.{Flag}
 use Rattle.sum_words.specs.declared.options.Flag.TheVariants as flags
 use Rattle.sum_words.specs.Items.{Text, Item, option}
-use Rattle.sum_words.specs.Walk.{full_name}
+use Rattle.sum_words.specs.joins.Walk.{full_name}
 use Rattle.sum_words.specs.Request.{Options, options, or_else, ends, is_number}
-use Rattle.sum_words.specs.Reading.{after, IsNumberOf}
+use Rattle.sum_words.specs.joins.Reading.{after, IsNumberOf}
 
 or_else-none : {X : Type 0} (x : Option X) → or_else x None ≡ x
 or_else-none None = refl

@@ -14,7 +14,7 @@ use Rattle.sum_words.specs.declared.options.Flag.{Flag}
 use Rattle.sum_words.specs.declared.options.Flag.TheVariants as flags
 use Rattle.sum_words.specs.Faults.{Fault}
 use Rattle.sum_words.specs.Items.{Text, attached, a_value, says, length_value, option, takes_value, lettered, cluster, resolved, long, long_word, name_part, value_part}
-use Rattle.sum_words.specs.Walk.{IsBehind, full_name}
+use Rattle.sum_words.specs.joins.Walk.{IsBehind, full_name}
 
 -- what stands behind a front
 pub behind_front : (front text : List ℕ) (r : Option (Bor (List ℕ))) →

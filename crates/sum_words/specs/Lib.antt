@@ -1,12 +1,8 @@
 pub mod Tools
-pub mod Pieces
 pub mod Faults
 pub mod Items
-pub mod Walk
 pub mod Request
-pub mod Reading
 pub mod Texts
 pub mod CommandLines
-pub mod Arguments
-pub mod Shown
 pub mod PlainWords
+pub mod joins

@@ -2,7 +2,7 @@
 ghost use Rattle.std.specs.Prelude.{◌≡◌, ◌≤◌, ◌<◌, ◌+◌, ℕ, length, vec_len, Some, take, IfOk, IfSome, OnOk};
 ghost use Rattle.std.specs.Option.{option_map};
 ghost use Rattle.sum_words.specs.Tools.{tool_called};
-ghost use Rattle.sum_words.specs.Arguments.{ArgumentIs, WordsAre, IsNameOf, IsFirstWord, CallIs, call_of};
+ghost use Rattle.sum_words.specs.joins.Arguments.{ArgumentIs, WordsAre, IsNameOf, IsFirstWord, CallIs, call_of};
 ghost use Rattle.sum_words.specs.CommandLines.{last_part};
 
 use crate::arguments::Arguments;

@@ -3,8 +3,8 @@
 ghost use Rattle.std.specs.Prelude.{◌≡◌, ◌++◌};
 ghost use Rattle.sum_lines.specs.Sinks.{Writes};
 ghost use Rattle.sum_lines.specs.Parts.{part_text};
-ghost use Rattle.sum_words.specs.Walk.{fault_of};
-ghost use Rattle.sum_words.specs.Shown.{shown_text};
+ghost use Rattle.sum_words.specs.joins.Walk.{fault_of};
+ghost use Rattle.sum_words.specs.joins.Shown.{shown_text};
 ghost use Rattle.sum_words.specs.Texts.{fault_text, fault_lines, lines_of, unknown_tool, stop_text, stop_line};
 
 use crate::tool::Tool;

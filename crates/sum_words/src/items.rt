@@ -5,7 +5,7 @@ ghost use Rattle.std.specs.List.{starts_with};
 ghost use Rattle.std.specs.Str.{chars};
 ghost use Rattle.sum_words.specs.Items.{name_part, value_part, long_word, dash_word, read_word, cluster, operands_of};
 ghost use Rattle.sum_words.specs.Items.{items};
-ghost use Rattle.sum_words.specs.Walk.{to_come, read_then, step_says, item_of, Takes, TakesWord, IsBehind};
+ghost use Rattle.sum_words.specs.joins.Walk.{to_come, read_then, step_says, item_of, Takes, TakesWord, IsBehind};
 ghost use Rattle.sum_words.specs.declared.tool.Tool.{Tool};
 
 use crate::faults::WordFault;
@@ -54,7 +54,7 @@ enum Step<'a> {
 impl<'a> Model for Items<'a> {
     ghost use Rattle.std.specs.Prelude.{List, drop};
     ghost use Rattle.sum_words.specs.Items.{Item};
-    ghost use Rattle.sum_words.specs.Walk.{to_come};
+    ghost use Rattle.sum_words.specs.joins.Walk.{to_come};
 
     ghost Value = { List Item };
 

@@ -3,7 +3,7 @@ ghost use Rattle.std.specs.Prelude.{◌≡◌, map};
 ghost use Rattle.std.specs.Option.{option_map};
 ghost use Rattle.std.specs.List.{filter};
 ghost use Rattle.sum_words.specs.Items.{names, takes_value, lettered, the_one, resolved, is_begun_by};
-ghost use Rattle.sum_words.specs.Walk.{full_name, named, resolution};
+ghost use Rattle.sum_words.specs.joins.Walk.{full_name, named, resolution};
 
 use crate::faults::WordFault;
 use crate::tool::Tool;

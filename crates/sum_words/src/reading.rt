@@ -3,10 +3,10 @@ ghost use Rattle.std.specs.Prelude.{◌≡◌, ◌∷◌, [], None, Some, MatchR
 ghost use Rattle.std.specs.Option.{option_copied, option_map};
 ghost use Rattle.std.specs.Str.{all_ascii_digits};
 ghost use Rattle.sum_words.specs.Items.{items, option};
-ghost use Rattle.sum_words.specs.Walk.{fault_of, full_name};
+ghost use Rattle.sum_words.specs.joins.Walk.{fault_of, full_name};
 ghost use Rattle.sum_words.specs.Request.{options, ends, first_of, holding, faults, length_kind, kind_asked, report_of};
 ghost use Rattle.sum_words.specs.Request.{mode_of, request};
-ghost use Rattle.sum_words.specs.Reading.{chosen_of, after, answer_of, IsNumberOf};
+ghost use Rattle.sum_words.specs.joins.Reading.{chosen_of, after, answer_of, IsNumberOf};
 
 use crate::faults::WordFault;
 use crate::items::{Item, Items, Operands};

@@ -1,5 +1,5 @@
 use Rattle.std.proofs.Common.{refl}
-use Rattle.blake2b_core.specs.Columns.{columns, diagonals}
+use Rattle.blake2b_core.specs.joins.Columns.{columns, diagonals}
 use Rattle.blake2b_core.specs.Compression.{round}
 use Rattle.blake2b_core.proofs.compression.round.Goals as goal
 

@@ -1,6 +1,6 @@
 use Rattle.std.proofs.Common.{◌≡◌, ℕ, ◌+◌, ◌*◌, List}
 use Rattle.blake2b_core.specs.Digest.{blocks, hash_after}
-use Rattle.blake2b_core.specs.Holding.{AreBlocksFrom}
+use Rattle.blake2b_core.specs.joins.Holding.{AreBlocksFrom}
 use Rattle.blake2b_core.proofs.whole.chained.Given as goal
 
 abbrev pub invariant-loop-block : goal.invariant-loop-block

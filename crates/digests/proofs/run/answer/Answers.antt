@@ -1,8 +1,8 @@
 use Rattle.std.proofs.Common.{refl, sym, ap, ◌∙◌}
 use Rattle.std.specs.Prelude.{Ok}
-use Rattle.sum_words.specs.Reading.{answer_of}
+use Rattle.sum_words.specs.joins.Reading.{answer_of}
 use Rattle.digests.specs.Meaning.{nothing}
-use Rattle.digests.specs.Runs.{RefusedBy}
+use Rattle.digests.specs.Headline.{RefusedBy}
 use Rattle.digests.proofs.RunLemmas.{asked-is, said_on_out, said_on_err, told-refused, refused-is}
 use Rattle.digests.proofs.run.answer.Goals as goal
 

@@ -1,6 +1,6 @@
 use Rattle.std.proofs.Common.{◌≡◌, refl, sym, ap, ◌∙◌}
 use Rattle.std.specs.Prelude.{◌&&◌}
-use Rattle.digests.specs.Runs.{Refused}
+use Rattle.digests.specs.Headline.{Refused}
 use Rattle.digests.proofs.RunLemmas.{reached-start, reached-step, reached-end, reached-stop, reached-with, refused-since}
 use Rattle.digests.proofs.run.each.Goals as goal
 use Rattle.digests.proofs.run.each.Goals.{then-good, else-good}

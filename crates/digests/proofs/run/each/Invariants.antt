@@ -2,7 +2,7 @@ use Rattle.std.proofs.Common.{◌≡◌, ◌∷◌, length}
 use Rattle.sum_engine.specs.Scenes.{scene}
 use Rattle.sum_words.specs.Tools.{name_of}
 use Rattle.digests.specs.Meaning.{or_dash, one_of, part_of}
-use Rattle.digests.specs.Runs.{Reached}
+use Rattle.digests.specs.joins.Runs.{Reached}
 use Rattle.digests.proofs.run.each.Given as goal
 
 abbrev pub invariant-operands : goal.invariant-operands

@@ -1,4 +1,4 @@
-use Rattle.sum_words.specs.Arguments.{WordsUpTo}
+use Rattle.sum_words.specs.joins.Arguments.{WordsUpTo}
 use Rattle.sum_words.proofs.command_line.words_from.Given as goal
 
 abbrev pub invariant-places : goal.invariant-places

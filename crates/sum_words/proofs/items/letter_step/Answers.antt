@@ -1,7 +1,7 @@
 use Rattle.std.proofs.Common.{sym, ap, ◌∙◌, Some, rules}
 use Rattle.std.specs.Option.{option_map}
 use Rattle.std.proofs.lemmas.Bool.{eqb-true}
-use Rattle.sum_words.specs.Walk.{read_then, full_name}
+use Rattle.sum_words.specs.joins.Walk.{read_then, full_name}
 use Rattle.sum_words.proofs.WordLemmas.{letter_alone, letter_with_value}
 use Rattle.sum_words.proofs.items.letter_step.Goals as goal
 

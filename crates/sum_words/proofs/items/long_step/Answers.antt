@@ -1,6 +1,6 @@
 use Rattle.std.proofs.Common.{sym, ap, Err}
 use Rattle.std.specs.Option.{option_copied}
-use Rattle.sum_words.specs.Walk.{read_then, fault_of}
+use Rattle.sum_words.specs.joins.Walk.{read_then, fault_of}
 use Rattle.sum_words.proofs.WordLemmas.{long_reads}
 use Rattle.sum_words.proofs.items.long_step.Goals as goal
 

@@ -1,5 +1,5 @@
 use Rattle.std.proofs.Common.{◌≡◌, drop, map}
-use Rattle.sum_words.specs.Walk.{full_name, named}
+use Rattle.sum_words.specs.joins.Walk.{full_name, named}
 use Rattle.sum_words.proofs.options.first_named.Given as goal
 
 abbrev pub invariant-loop-flag : goal.invariant-loop-flag

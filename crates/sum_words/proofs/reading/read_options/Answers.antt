@@ -1,8 +1,8 @@
 use Rattle.std.proofs.Common.{◌≡◌, refl, sym, ◌∙◌, ap, ◌∷◌}
 use Rattle.sum_words.specs.Items.{items, option}
-use Rattle.sum_words.specs.Walk.{full_name, item_of}
+use Rattle.sum_words.specs.joins.Walk.{full_name, item_of}
 use Rattle.sum_words.specs.Request.{first_of, ends, or_else}
-use Rattle.sum_words.specs.Reading.{after, chosen_of}
+use Rattle.sum_words.specs.joins.Reading.{after, chosen_of}
 use Rattle.sum_words.proofs.ReadingLemmas.{after-unsaid, after-then, ends_not}
 use Rattle.sum_words.proofs.reading.read_options.Goals as goal
 

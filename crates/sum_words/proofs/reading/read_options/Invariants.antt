@@ -1,7 +1,7 @@
 use Rattle.std.proofs.Common.{◌≡◌, length}
 use Rattle.sum_words.specs.Items.{items}
 use Rattle.sum_words.specs.Request.{options, first_of, ends}
-use Rattle.sum_words.specs.Reading.{after, chosen_of}
+use Rattle.sum_words.specs.joins.Reading.{after, chosen_of}
 use Rattle.sum_words.proofs.reading.read_options.Given as goal
 
 abbrev pub invariant-loop-item : goal.invariant-loop-item

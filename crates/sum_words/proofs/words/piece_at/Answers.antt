@@ -1,6 +1,6 @@
 use Rattle.std.proofs.Common.{◌≤◌, length, sym, refl}
 use Rattle.std.proofs.lemmas.Option.{slice_get_past}
-use Rattle.sum_words.specs.Pieces.{pieces}
+use Rattle.sum_words.specs.joins.Pieces.{pieces}
 use Rattle.sum_words.proofs.PieceLemmas.{piece_read, pieces-length}
 use Rattle.sum_words.proofs.words.piece_at.Goals as goal
 

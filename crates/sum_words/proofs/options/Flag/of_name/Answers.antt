@@ -1,7 +1,7 @@
 use Rattle.std.proofs.Common.{sym, ◌∙◌, ap}
 use Rattle.std.specs.List.{filter}
 use Rattle.sum_words.specs.Items.{the_one, names, is_begun_by, resolved}
-use Rattle.sum_words.specs.Walk.{named}
+use Rattle.sum_words.specs.joins.Walk.{named}
 use Rattle.sum_words.proofs.OptionLemmas.{meant_in_full, meant_by_front}
 use Rattle.sum_words.proofs.options.Flag.of_name.Goals as goal
 

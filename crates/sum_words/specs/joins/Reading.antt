@@ -10,7 +10,7 @@ use Rattle.sum_words.specs.declared.faults.WordFault.{WordFault}
 use Rattle.sum_words.specs.declared.reading.Chosen.{Chosen}
 use Rattle.sum_words.specs.Faults.{Fault}
 use Rattle.sum_words.specs.Items.{Text, Item}
-use Rattle.sum_words.specs.Walk.{fault_of}
+use Rattle.sum_words.specs.joins.Walk.{fault_of}
 use Rattle.sum_words.specs.Request.{Options, or_else, last_of, among, mode_names, report_names, value_of, has, is_number}
 
 -- the names of the options that set these

@@ -1,5 +1,6 @@
--- Joins the calls of a run to its meaning: what each did to the world and the outputs. Two numbers, n and m, are how
--- often the source was refused memory before a call and after it.
+-- The form of the headline: what a run does to a told world and both outputs. It does all that the outcome says; or it is
+-- cut short by a failed write; or it stops at a place, for want of memory. Two numbers, n and m, are how often the source
+-- was refused memory before the call and after it.
 use Rattle.std.specs.Prelude.{ℕ, zero, suc, ◌≡◌, ◌+◌, ◌⊎◌, Bool, List, [], ◌∷◌, Option, None, Some, Result, Ok, Err, ⊤}
 use Rattle.sum_sources.specs.Sources.{after_refusal}
 use Rattle.sum_engine.specs.declared.stop.Stop.{Stop}
@@ -23,17 +24,6 @@ Comes o a b = Does a b o.out o.err o.asks
 abbrev pub CutShort : Outcome → Scene → Scene → Type 0
 CutShort o a b = CutOff a b o.out o.err o.asks
 
--- one operand: all of it, cut short, or stopped at one of its places
-abbrev pub OneOf : ℕ → ℕ → Text → Outcome → (ℕ → Outcome) → Scene → Scene → Result Bool Stop → Type 0
-OneOf n m name o part a b (Ok good) = (good ≡ o.good) × Comes o a b
-OneOf n m name o part a b (Err Write) = CutShort o a b
-OneOf n m name o part a b (Err Memory) = (k : ℕ) × Comes (part k) a b × PlaceOf n m k (reply a.world name)
-
-abbrev pub OneGives : ℕ → ℕ → (World → Text → Outcome) → (World → Text → ℕ → Outcome) → Text → Option Scene → Option Scene → Result Bool Stop → Type 0
-OneGives n m one part name None b r = ⊤
-OneGives n m one part name (Some a) None r = ⊥
-OneGives n m one part name (Some a) (Some b) r = OneOf n m name (one a.world name) (part a.world name) a b r
-
 -- where a run over operands stands that wants memory: at the place of the operand that comes after the first j
 abbrev pub PlaceAt : ℕ → ℕ → (World → Text → Outcome) → World → List Text → ℕ → ℕ → Type 0
 PlaceAt n m one w [] j k = ⊥
@@ -56,11 +46,6 @@ RunGives outcome place wanting None b r = ⊤
 RunGives outcome place wanting (Some a) None r = ⊥
 RunGives outcome place wanting (Some a) (Some b) r = RunOf (outcome a.world) (place a.world) (wanting a.world) a b r
 
--- the end of a run that wrote one text
-abbrev pub told_of : {U E : Type 0} → Result U E → ℕ → Result ℕ Stop
-told_of (Ok u) status = Ok status
-told_of (Err e) status = Err Write
-
 -- what a job's want of memory says of the source's refusals: in generation the source was refused memory; in checking
 -- a line may have been
 abbrev pub Refused : Job → ℕ → ℕ → Type 0
@@ -76,16 +61,3 @@ RefusalsOf refused n m (Err Memory) = refused n m
 abbrev pub RefusedBy : Result Request Fault → ℕ → ℕ → Type 0
 RefusedBy (Ok (requests.Work job names)) n m = Refused job n m
 RefusedBy r n m = ⊥
-
--- the operands before the rest came to `done`, and there are j of them
-pub record Stands (one : World → Text → Outcome) (part : World → Text → ℕ → Outcome) (w : World) (names : List Text) (done : Outcome) (j : ℕ) (rest : List Text) : Type 0 where
-  pub total : all_of one w names ≡ joined done (all_of one (after w done.asks) rest)
-  pub places : (i k : ℕ) → upto one part w names (j + i) k ≡ joined done (upto one part (after w done.asks) rest i k)
-  pub wanting : (n m i k : ℕ) → PlaceAt n m one (after w done.asks) rest i k → PlaceAt n m one w names (j + i) k
-
--- the operands before the rest came about, and were good or not
-abbrev pub Reached : (World → Text → Outcome) → (World → Text → ℕ → Outcome) → List Text → Option Scene → Option Scene → Bool → List Text → Type 0
-Reached one part names None b good rest = ⊤
-Reached one part names (Some a) None good rest = ⊥
-Reached one part names (Some a) (Some b) good rest =
-    (done : Outcome) × (j : ℕ) × Stands one part a.world names done j rest × Comes done a b × (good ≡ done.good)

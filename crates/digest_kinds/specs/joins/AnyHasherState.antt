@@ -3,7 +3,7 @@ use Rattle.std.specs.Prelude.{◌≡◌, ℕ, List, length}
 use Rattle.md5.specs.Md5.{Holds as HoldsMd5}
 use Rattle.sha1.specs.Sha1.{Holds as HoldsSha1}
 use Rattle.sha2.specs.Hashers.{Holds224, Holds256, Holds384, Holds512}
-use Rattle.blake2b_core.specs.Holding.{Holds as HoldsBlake2b, digest_len, taken as taken_blake2b}
+use Rattle.blake2b_core.specs.joins.Holding.{Holds as HoldsBlake2b, digest_len, taken as taken_blake2b}
 use Rattle.digest_kinds.specs.Kinds.{KindValue, blake2b_kind, full_kind}
 use Rattle.digest_kinds.specs.declared.algo.Algo.TheVariants as algos
 use Rattle.digest_kinds.specs.declared.any_hasher.AnyHasher.{AnyHasher}

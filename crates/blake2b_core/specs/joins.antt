@@ -1,0 +1,3 @@
+-- What joins one function to the next; nobody has to believe it.
+pub mod Columns
+pub mod Holding

@@ -1,0 +1,2 @@
+-- What joins one function to the next; nobody has to believe it.
+pub mod AnyHasherState
