@@ -1,10 +1,12 @@
-"""Running commands for the benchmarks: the least time of several runs, side by side, the number of their writes, and
-the peak of memory."""
+"""Running commands for the benchmarks: their processor time in interleaved rounds, how often they call the system, and
+the peak of their memory."""
 
 import os
+import statistics
 import subprocess
 import tempfile
 import time
+from typing import NamedTuple
 
 
 class Contender:
@@ -26,44 +28,56 @@ class Contender:
             )
 
 
+class Times(NamedTuple):
+    """The seconds of processor time that one contender took: the least, the quartiles, and how much of the time of all
+    its runs was the kernel's."""
+
+    least: float
+    quartiles: tuple
+    kernel: float
+
+
+def times_of(runs):
+    """What the pairs of all seconds and the kernel's seconds of some runs come to."""
+    seconds = [both for both, _ in runs]
+    quartiles = statistics.quantiles(seconds, n=4, method="inclusive") if len(seconds) > 1 else seconds * 3
+    total = sum(seconds)
+    return Times(min(seconds), tuple(quartiles), sum(kernel for _, kernel in runs) / total if total else 0.0)
+
+
 def run_once(contender, stdin, stdout, folder):
-    """The seconds of one run."""
-    began = time.perf_counter()
-    status = contender.start(stdin, stdout, folder).wait()
-    seconds = time.perf_counter() - began
-    if status != contender.status:
-        raise SystemExit(f"run.py: {contender.name}: {' '.join(contender.words[:6])} gave the status {status}")
-    return seconds
+    """The seconds of processor time of one run, and those of them that were the kernel's."""
+    started = contender.start(stdin, stdout, folder)
+    _, status, used = os.wait4(started.pid, 0)
+    started.returncode = os.waitstatus_to_exitcode(status)
+    if started.returncode != contender.status:
+        said = f"{contender.name}: {' '.join(contender.words[:6])} gave the status {started.returncode}"
+        raise SystemExit(f"run.py: {said}")
+    return used.ru_utime + used.ru_stime, used.ru_stime
 
 
-def tracing(strace):
-    """The words of `strace` at this path, so that it halts a program only at the calls that it counts, where this
-    version can do that."""
-    quick = [strace, "-f", "--seccomp-bpf"]
-    tried = subprocess.run([*quick, "-o", os.devnull, "-e", "trace=write", "true"], stderr=subprocess.DEVNULL)
-    return quick if tried.returncode == 0 else [strace, "-f"]
-
-
-def count_writes(contender, strace, stdin=os.devnull, stdout=os.devnull, folder=None):
-    """How often it calls the system to write in one run, as `strace` at this path counts; None where that may not
-    trace."""
-    with tempfile.NamedTemporaryFile() as summary:
-        traced = [contender.program or contender.words[0], *contender.words[1:]]
-        words = [*tracing(strace), "-c", "-o", summary.name, "-e", "trace=write,writev", *traced]
-        if Contender(contender.name, words).start(stdin, stdout, folder).wait() != contender.status:
-            return None
-        rows = [line.split() for line in summary.read().decode().splitlines()]
-    return sum(int(row[3]) for row in rows if row and row[-1] in ("write", "writev"))
-
-
-def least_times(contenders, rounds, stdin=os.devnull, stdout=os.devnull, folder=None):
-    """The least seconds of each contender by name: in each round every one runs once, in turn from another one on."""
-    times = {contender.name: [] for contender in contenders}
+def measure(contenders, rounds, stdin=os.devnull, stdout=os.devnull, folder=None):
+    """The times of each contender by name: in each round every one runs once, in turn from another one on."""
+    runs = {contender.name: [] for contender in contenders}
     for turn in range(rounds):
         first = turn % len(contenders)
         for contender in contenders[first:] + contenders[:first]:
-            times[contender.name].append(run_once(contender, stdin, stdout, folder))
-    return {name: min(seconds) for name, seconds in times.items()}
+            runs[contender.name].append(run_once(contender, stdin, stdout, folder))
+    return {name: times_of(some) for name, some in runs.items()}
+
+
+def count_calls(contender, strace, stdin=os.devnull, stdout=os.devnull, folder=None):
+    """How often it calls the system in one run, and how often to write, as `strace` at this path counts; None where
+    that may not trace."""
+    with tempfile.NamedTemporaryFile() as summary:
+        traced = [contender.program or contender.words[0], *contender.words[1:]]
+        words = [strace, "-f", "-c", "-o", summary.name, *traced]
+        if Contender(contender.name, words).start(stdin, stdout, folder).wait() != contender.status:
+            return None
+        rows = [line.split() for line in summary.read().decode().splitlines()]
+    calls = {row[-1]: int(row[3]) for row in rows if len(row) > 4 and row[3].isdecimal()}
+    calls.pop("total", None)
+    return sum(calls.values()), sum(calls.get(name, 0) for name in ("write", "writev"))
 
 
 def peak_memory(contender, stdin=os.devnull, stdout=os.devnull, folder=None):

@@ -1,9 +1,11 @@
 #!/usr/bin/env python3
-"""Measures the built program beside GNU coreutils and beside bare loops over the kit's digests, in one run:
-`bench/run.py [--size MIB] [--rounds N] [--only PART] [--program FILE] [--no-bare]`.
+"""Measures the built programs beside GNU coreutils and other tools, in one run:
+`bench/run.py [--size MIB] [--rounds N] [--only PART].. [--program FILE].. [--no-bare]`.
 
-Every number is the least of several rounds, in which the programs take turns. A speed is a ratio of times: 1.00 is as
-fast as the other, 2.00 twice as fast. What isn't installed is left out."""
+The program of each level that runs on this machine is measured, or each `--program`; beside GNU's tools, beside uutils,
+busybox and OpenSSL, and beside a bare loop over the kit's digest. What isn't installed is left out. Times are processor
+time on one processor, in rounds in which the programs take turns. A speed is GNU's least time divided by the program's
+own: 1.00 is as fast as GNU, 2.00 twice as fast. The tables are as `docs/PERFORMANCE.md` has them."""
 
 import argparse
 import os
@@ -19,20 +21,23 @@ TOP = os.path.dirname(HERE)
 sys.dont_write_bytecode = True
 sys.path.insert(0, HERE)
 
-from measure import Contender, count_writes, least_times, peak_memory  # noqa: E402  (it stands beside this file)
+from measure import Contender, count_calls, measure, peak_memory  # noqa: E402  (it stands beside this file)
 
 TOOLS = ("md5sum", "sha1sum", "sha224sum", "sha256sum", "sha384sum", "sha512sum", "b2sum")
+CHECKED = ("md5sum", "sha256sum", "b2sum")
 MIB = 1 << 20
-OURS, GNU, BARE = "ours", "GNU", "bare"
+GNU, BARE, OPENSSL = "GNU", "kit's loop", "openssl"
+OTHERS = {"uutils": "coreutils", "busybox": "busybox"}  # programs that are every tool, by the first word
 
 
-def built_program():
-    """The program of this repository, built where it is stale."""
-    script = 'top=$1; . "$top/build.sh"; build_program "" && echo "$program"'
+def built_programs():
+    """The programs of this repository that run on this machine, by level, built where they are stale."""
+    script = """top=$1; . "$top/build.sh"; all_are_current || "$top/tools/build" || exit 1
+        for it in $levels; do if runs_here "$it"; then echo "$it"; fi; done"""
     built = subprocess.run(["sh", "-c", script, "sh", TOP], stdout=subprocess.PIPE, text=True)
     if built.returncode:
         sys.exit(1)
-    return built.stdout.rstrip("\n")
+    return {level: os.path.join(TOP, "out", level, "digests") for level in built.stdout.split()}
 
 
 def built_bare():
@@ -71,25 +76,41 @@ def gnu_tool(tool):
     return (path, said.splitlines()[0]) if "GNU coreutils" in said else (None, None)
 
 
+def works(words):
+    """Whether there is such a command and it hashes nothing well."""
+    quiet = {"stdin": subprocess.DEVNULL, "stdout": subprocess.DEVNULL, "stderr": subprocess.DEVNULL}
+    return shutil.which(words[0]) is not None and subprocess.run(words, **quiet).returncode == 0
+
+
 class Bench:
-    """The programs that are compared, and a folder for what they work on."""
+    """The programs that are compared, a folder for what they work on, and the rows that were measured."""
 
     def __init__(self, asked, folder):
-        self.program = os.path.abspath(asked.program) if asked.program else built_program()
+        named = {path: os.path.abspath(path) for path in asked.program or ()}
+        self.ours = named or built_programs()
         self.bare = None if asked.no_bare else built_bare()
         self.rounds = asked.rounds
         self.size = asked.size
         self.folder = folder
         self.out = os.path.join(folder, "out")
         self.strace = shutil.which("strace")
+        self.rows = []
 
-    def contenders(self, tool, *words):
+    def contenders(self, tool, *words, status=0):
         """Ours, and GNU's where it is installed, with the same words."""
-        both = [Contender(OURS, [self.program, tool, *words])]
+        found = [Contender(name, [path, tool, *words], status=status) for name, path in self.ours.items()]
         path, _ = gnu_tool(tool)
-        if path:
-            both.append(Contender(GNU, [tool, *words], path))
-        return both
+        return found + ([Contender(GNU, [tool, *words], path, status)] if path else [])
+
+    def hashers(self, tool):
+        """All that hash standard input as the tool does."""
+        found = self.contenders(tool)
+        if self.bare and tool != "b2sum":
+            found.append(Contender(BARE, [self.bare, tool]))
+        digest = "blake2b512" if tool == "b2sum" else tool[: -len("sum")]
+        others = [(name, [first, tool]) for name, first in OTHERS.items()]
+        others.append((OPENSSL, ["openssl", "dgst", "-" + digest]))
+        return found + [Contender(name, words) for name, words in others if works(words)]
 
     def large(self, mebibytes):
         """A file of that size."""
@@ -111,128 +132,157 @@ class Bench:
                     file.write(chance.randbytes(100))
         return names
 
-    def writes(self, contenders):
-        """How often each contender calls the system to write, by name; none where `strace` isn't there to count."""
-        if self.strace is None:
-            return {}
-        counts = {it.name: count_writes(it, self.strace, stdout=self.out, folder=self.folder) for it in contenders}
-        return {name: count for name, count in counts.items() if count is not None}
+    def manifest(self, tool):
+        """The tool's manifest of 200,000 lines for 20,000 files."""
+        path = os.path.join(self.folder, tool)
+        if not os.path.exists(path):
+            words = [next(iter(self.ours.values())), tool, *self.small(20000)]
+            lines = subprocess.run(words, stdout=subprocess.PIPE, cwd=self.folder, check=True).stdout
+            with open(path, "wb") as file:
+                file.write(lines * 10)
+        return path
 
-    def least(self, contenders, rounds=None, **how):
-        """The least times of these contenders."""
-        return least_times(contenders, rounds or self.rounds, folder=self.folder, **how)
-
-
-def heading(text, *columns):
-    """Prints a table's head."""
-    print(f"\n{text}\n")
-    print("".join(f"{column:>14}" if i else f"{column:<30}" for i, column in enumerate(columns)))
+    def add(self, work, contenders, rounds=None, **how):
+        """Measures a piece of work and keeps its row."""
+        self.rows.append((work, measure(contenders, rounds or self.rounds, folder=self.folder, **how)))
 
 
-def row(name, *cells):
-    """Prints a table's row."""
-    print(f"{name:<30}" + "".join(f"{cell:>14}" for cell in cells))
+def table(head, rows):
+    """Prints a table with these columns."""
+    print("\n| " + " | ".join(head) + " |\n|" + "---|" * len(head))
+    for row in rows:
+        print("| " + " | ".join(row) + " |")
 
 
-def speed(times, other):
-    """How many times as fast as the other ours is."""
-    return f"{times[other] / times[OURS]:.2f}" if other in times else "-"
+def speed(times, name):
+    """How many times as fast as GNU's a program is."""
+    return f"{times[GNU].least / times[name].least:.2f}" if GNU in times and name in times else "-"
 
 
-def seconds(times, name, digits=3):
-    """The seconds of one contender."""
-    return f"{times[name]:.{digits}f} s" if name in times else "-"
+def bound(times, name):
+    """What most of a program's time goes into, as far as this run tells."""
+    if times[name].least < 0.005:  # too short for the system to tell the kernel's share
+        return "the start of a process"
+    if BARE in times and times[BARE].least > 0.93 * times[name].least:
+        return "the kit's digest"
+    share = f"{times[name].kernel:.0%}"
+    return f"the kernel ({share})" if times[name].kernel > 0.5 else f"ours (the kernel {share})"
+
+
+def print_speeds(bench):
+    """The table of speeds, and the one of the times that they come from."""
+    ours = list(bench.ours)
+    names = [*ours, BARE, *OTHERS, OPENSSL]
+    names = [name for name in names if any(name in times for _, times in bench.rows)]
+    rows = [[work, *(speed(times, name) for name in names), bound(times, ours[0])] for work, times in bench.rows]
+    table(["times as fast as GNU", *names, "bound by"], rows)
+    names = [name for name in (GNU, *ours) if any(name in times for _, times in bench.rows)]
+    rows = [[work, *(spread(times.get(name)) for name in names)] for work, times in bench.rows]
+    table(["milliseconds: least, quartiles", *names], rows)
+
+
+def spread(times):
+    """The least time and the quartiles in milliseconds."""
+    if times is None:
+        return "-"
+    return f"{in_milliseconds(times.least)}, " + " ".join(in_milliseconds(it) for it in times.quartiles)
+
+
+def in_milliseconds(seconds):
+    """A time in milliseconds, of three digits or more."""
+    return f"{seconds * 1000:.0f}" if seconds >= 0.1 else f"{seconds * 1000:.2f}"
 
 
 def hashing(bench):
     """Each tool over standard input."""
-    columns = ("tool", "ours", "GNU", "bare loop", "MB/s", "against GNU", "against bare")
-    heading(f"Standard input of {bench.size} MiB", *columns)
-    large = bench.large(bench.size)
     for tool in TOOLS:
-        contenders = bench.contenders(tool)
-        if bench.bare and tool != "b2sum":
-            contenders.append(Contender(BARE, [bench.bare, tool]))
-        times = bench.least(contenders, stdin=large)
-        rate = f"{bench.size * MIB / times[OURS] / 1e6:.0f}"
-        row(tool, *(seconds(times, name) for name in (OURS, GNU, BARE)), rate, speed(times, GNU), speed(times, BARE))
-
-
-def blake(bench):
-    """b2sum at two sizes, more rounds for the small one."""
-    heading("b2sum", "standard input", "ours", "GNU", "against GNU")
-    for mebibytes, rounds in ((64, 5 * bench.rounds), (bench.size, 2 * bench.rounds)):
-        times = bench.least(bench.contenders("b2sum"), rounds, stdin=bench.large(mebibytes))
-        row(f"{mebibytes} MiB", seconds(times, OURS, 4), seconds(times, GNU, 4), speed(times, GNU))
+        bench.add(f"`{tool}`, {bench.size} MiB", bench.hashers(tool), stdin=bench.large(bench.size))
 
 
 def start(bench):
-    """The time from the call to the end, with nothing to do."""
-    heading("Start-up", "call", "ours", "GNU", "against GNU")
+    """A call with nothing to do."""
     for tool, *words in (("sha256sum",), ("md5sum", "/dev/null")):
-        times = bench.least(bench.contenders(tool, *words), 60 * bench.rounds)
-        cells = [f"{times[name] * 1000:.2f} ms" if name in times else "-" for name in (OURS, GNU)]
-        row(" ".join([tool, *words]), *cells, speed(times, GNU))
+        bench.add(f"`{' '.join([tool, *words])}`, start", bench.contenders(tool, *words), 60 * bench.rounds)
 
 
 def files(bench):
-    """Many small files as operands, and a manifest of many lines: output into a file, and the writes that it takes."""
-    heading("Files of 100 bytes", "work", "ours", "GNU", "against GNU", "our writes", "GNU's writes")
-    names = bench.small(20000)
-    for tool in ("md5sum", "sha256sum", "b2sum"):
-        measure_files(bench, f"{tool}, 20,000 operands", bench.contenders(tool, *names), 2 * bench.rounds)
-        manifest = os.path.join(bench.folder, "manifest")
-        with open(bench.out, "rb") as lines, open(manifest, "wb") as file:
-            file.write(lines.read() * 10)
-        measure_files(bench, f"{tool} -c, 200,000 lines", bench.contenders(tool, "-c", manifest), bench.rounds)
+    """Many small files as operands, and manifests of many lines, with output into a file."""
+    for tool in CHECKED:
+        rounds = 2 * bench.rounds
+        names = bench.small(20000)
+        bench.add(f"`{tool}`, 20,000 operands", bench.contenders(tool, *names), 2 * rounds, stdout=bench.out)
+        for words in (("-c",), ("-c", "--status")):
+            found = bench.contenders(tool, *words, bench.manifest(tool))
+            bench.add(f"`{tool} {' '.join(words)}`, 200,000 lines", found, rounds, stdout=bench.out)
 
 
-def measure_files(bench, work, contenders, rounds):
-    """A row of the times and the writes of these contenders."""
-    times = bench.least(contenders, rounds, stdout=bench.out)
-    counts = bench.writes(contenders)
-    cells = [f"{counts[name]:,}" if name in counts else "-" for name in (OURS, GNU)]
-    row(work, seconds(times, OURS), seconds(times, GNU), speed(times, GNU), *cells)
+def reading(bench):
+    """Lines that are read for nothing: as many digits as a digest has, and no name behind them."""
+    manifest = os.path.join(bench.folder, "digits")
+    chance = random.Random(3)
+    with open(manifest, "w") as file:
+        for _ in range(200000):
+            file.write(chance.randbytes(32).hex() + "..........\n")
+    found = bench.contenders("sha256sum", "-c", "--status", manifest, status=1)
+    bench.add("`sha256sum -c --status`, 200,000 bad lines", found, 4 * bench.rounds)
+    size = os.path.getsize(manifest)
+    rows = [[name, f"{it.least / size * 1e9:.2f}"] for name, it in bench.rows[-1][1].items()]
+    table(["bad lines of 75 bytes", "ns a byte"], rows)
+
+
+def calls(bench):
+    """How often the system is called, and how often to write."""
+    if bench.strace is None:
+        print("\nstrace: not installed, system calls aren't counted")
+        return
+    rows = []
+    for words in (("-c",), ("-c", "--status")):
+        cells = [f"`sha256sum {' '.join(words)}`, 200,000 lines"]
+        found = bench.contenders("sha256sum", *words, bench.manifest("sha256sum"))
+        for it in (found[0], found[-1]):
+            counted = count_calls(it, bench.strace, stdout=bench.out, folder=bench.folder)
+            cells.append(f"{counted[0]:,}, {counted[1]:,} to write" if counted else "-")
+        rows.append(cells)
+    table(["system calls", "ours", "GNU" if gnu_tool("sha256sum")[0] else "ours again"], rows)
 
 
 def memory(bench):
     """The peak of resident memory."""
-    heading("Peak memory", "work", "ours", "GNU")
-    manifest = os.path.join(bench.folder, "manifest")
     with open(os.path.join(bench.folder, "a"), "wb") as file:
         file.write(b"abc")
-    with open(manifest, "w") as file:
-        file.write("900150983cd24fb0d6963f7d28e17f72  a\n" * 200000)
-    works = [
-        (f"sha256sum, {bench.size} MiB", "sha256sum", [bench.large(bench.size)]),
-        (f"b2sum, {bench.size} MiB", "b2sum", [bench.large(bench.size)]),
-        ("md5sum, 100,000 operands", "md5sum", ["a"] * 100000),
-        ("md5sum -c, 200,000 lines", "md5sum", ["-c", manifest]),
+    works_on = [
+        (f"`sha256sum`, {bench.size} MiB", "sha256sum", [bench.large(bench.size)]),
+        (f"`b2sum`, {bench.size} MiB", "b2sum", [bench.large(bench.size)]),
+        ("`md5sum`, 100,000 operands", "md5sum", ["a"] * 100000),
+        ("`md5sum -c`, 200,000 lines", "md5sum", ["-c", bench.manifest("md5sum")]),
     ]
-    for name, tool, words in works:
+    rows = []
+    for work, tool, words in works_on:
         found = bench.contenders(tool, *words)
-        peaks = {it.name: peak_memory(it, stdout=bench.out, folder=bench.folder) for it in found}
-        row(name, *(f"{peaks[who] / 1e6:.1f} MB" if peaks.get(who) else "-" for who in (OURS, GNU)))
+        peaks = [peak_memory(it, stdout=bench.out, folder=bench.folder) for it in found]
+        rows.append([work, *(f"{peak / 1e6:.1f}" if peak else "-" for peak in peaks)])
+    table(["megabytes at most", *(it.name for it in found)], rows)
 
 
 def lines(bench):
     """Improperly formatted lines of several lengths, 64 MiB of them in all: the time for a byte stays level."""
-    columns = ("lines", "of )", "of blanks", "tagged, of )")
-    heading("md5sum -c over 64 MiB of lines", *columns)
     manifest = os.path.join(bench.folder, "long")
+    rows = []
     for name, length in (("1 KiB", 1 << 10), ("1 MiB", MIB), ("64 MiB", 64 * MIB)):
-        cells = []
-        for line in (b")" * (length - 1), b" " * (length - 1), b"MD5 (" + b")" * (length - 6)):
+        cells = [f"64 MiB of lines of {name}"]
+        for line in (b")" * (length - 1), b" " * (length - 1), b"a" * (length - 1), b"MD5 (" + b")" * (length - 6)):
             with open(manifest, "wb") as file:
                 for _ in range(64 * MIB // length):
                     file.write(line + b"\n")
-            ours = [Contender(OURS, [bench.program, "md5sum", "-c", manifest], status=1)]
-            took = bench.least(ours, stdout=bench.out)[OURS]
-            cells.append(f"{took / (64 * MIB) * 1e9:.3f} ns/B")
-        row(name, *cells)
+            ours = bench.contenders("md5sum", "-c", manifest, status=1)[:1]
+            (times,) = measure(ours, bench.rounds, folder=bench.folder).values()
+            cells.append(f"{times.least / (64 * MIB) * 1e9:.3f}")
+        rows.append(cells)
+    table(["ns a byte", "of `)`", "of blanks", "of digits", "tagged, of `)`"], rows)
 
 
-PARTS = {"hashing": hashing, "blake": blake, "start": start, "files": files, "lines": lines, "memory": memory}
+TIMED = {"hashing": hashing, "start": start, "files": files, "reading": reading}
+OTHER = {"calls": calls, "lines": lines, "memory": memory}
 
 
 class Reader(argparse.ArgumentParser):
@@ -256,28 +306,50 @@ def program(word):
     return word
 
 
+def print_conditions(bench, rounds):
+    """What the numbers depend on."""
+    (processor,) = os.sched_getaffinity(0)
+    print(f"{platform.platform()}, {os.cpu_count()} processors ({model()}); all on processor {processor}")
+    print(f"load {os.getloadavg()[0]:.1f} at the start; {rounds} rounds or more")
+    print(f"GNU: {gnu_tool('md5sum')[1] or 'not installed, left out'}")
+    for name, first in (*OTHERS.items(), (OPENSSL, "openssl")):
+        if shutil.which(first) is None:
+            print(f"{name}: not installed, left out")
+
+
+def model():
+    """The processor's name, where Linux tells it."""
+    try:
+        with open("/proc/cpuinfo") as file:
+            return next((line.partition(":")[2].strip() for line in file if line.startswith("model name")), "unknown")
+    except OSError:
+        return "unknown"
+
+
 def main():
-    reader = Reader(description="Measures the program beside others.", allow_abbrev=False)
+    reader = Reader(description="Measures the programs beside others.", allow_abbrev=False)
     number = {"type": at_least_one, "metavar": "N"}
-    reader.add_argument("--size", default=512, help="size of the large input in MiB (512)", **number)
+    reader.add_argument("--size", default=256, help="size of the large input in MiB (256)", **number)
     reader.add_argument("--rounds", default=5, help="rounds of which the least counts (5)", **number)
-    reader.add_argument("--only", choices=PARTS, action="append", help="only this part; may be given again")
-    reader.add_argument("--program", type=program, metavar="FILE", help="the program, else this repository's own")
+    reader.add_argument("--only", choices=[*TIMED, *OTHER], action="append", help="only this part; may be repeated")
+    reader.add_argument("--program", type=program, metavar="FILE", action="append",
+                        help="this program, in place of the two levels'; may be repeated")
     reader.add_argument("--no-bare", action="store_true", help="leave out the bare loops")
     asked = reader.parse_args()
     os.environ["LC_ALL"] = "C"
     with tempfile.TemporaryDirectory(prefix="digests-bench-") as folder:
         bench = Bench(asked, folder)
-        print(f"{platform.platform()}, {os.cpu_count()} processors, load {os.getloadavg()[0]:.1f}")
-        print(f"least of {asked.rounds} rounds or more")
-        print(f"GNU: {gnu_tool('md5sum')[1] or 'not installed, left out'}")
-        if bench.strace is None:
-            print("strace: not installed, writes aren't counted")
-        if bench.bare is None and not asked.no_bare:
-            print("bare loops: not built, left out")
-        for name, measure in PARTS.items():
+        os.sched_setaffinity(0, {max(os.sched_getaffinity(0))})
+        print_conditions(bench, asked.rounds)
+        for name, part in TIMED.items():
             if not asked.only or name in asked.only:
-                measure(bench)
+                part(bench)
+        if bench.rows:
+            print_speeds(bench)
+        for name, part in OTHER.items():
+            if not asked.only or name in asked.only:
+                part(bench)
+        print(f"\nload {os.getloadavg()[0]:.1f} at the end")
 
 
 if __name__ == "__main__":

@@ -1,6 +1,7 @@
 """The benchmark's command: what is wrong with its words is told in one line, before anything is built or measured."""
 
 import os
+import shutil
 import sys
 
 import harness
@@ -28,10 +29,20 @@ class Words(Case):
                 self.assertIn(words[0].partition("=")[0].encode(), ran.err)
 
     def test_one_part(self):
-        """A part can be measured alone; every row has a number for ours."""
-        ran = self.bench("--no-bare", "--rounds", "1", "--only", "start", "--program", harness.PROGRAM)
+        """A part can be measured alone; every row has a speed beside GNU, where that is installed, and quartiles."""
+        ran = self.bench("--no-bare", "--rounds", "2", "--only", "start", "--program", harness.PROGRAM)
         self.assertEqual((ran.status, ran.err), (0, b""))
-        rows = [line for line in ran.out.decode().splitlines() if line.startswith(("sha256sum ", "md5sum "))]
-        self.assertEqual(len(rows), 2)
-        for row in rows:
-            self.assertRegex(row, r"\d ms")
+        for work in ("`sha256sum`, start", "`md5sum /dev/null`, start"):
+            rows = [line for line in ran.out.decode().splitlines() if line.startswith(f"| {work} |")]
+            self.assertEqual(len(rows), 2, ran.out)
+            self.assertRegex(rows[0], r"\| (\d+\.\d\d|-) \| the start of a process \|$")
+            self.assertRegex(rows[1], r"\| \d+\.\d\d, \d+\.\d\d \d+\.\d\d \d+\.\d\d \|$")
+
+    def test_two_programs(self):
+        """Programs that are named each have a column, in their order."""
+        other = os.path.join(self.folder, "other")
+        shutil.copy(harness.PROGRAM, other)
+        ran = self.bench("--no-bare", "--rounds", "1", "--only", "reading", "--program", other, "--program",
+                         harness.PROGRAM)
+        self.assertEqual((ran.status, ran.err), (0, b""))
+        self.assertRegex(ran.out.decode(), rf"\| times as fast as GNU \| {other} \| {harness.PROGRAM} \|")

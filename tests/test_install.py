@@ -140,7 +140,7 @@ class Install(Repository):
             f"{self.bin}/digests: the program, version {version.out.decode().strip()}, for the level {FAST}",
             f"{self.bin}: links to it for {' '.join(NAMES)}",
             f"{self.prefix}/share/man/man1: 2 manual pages",
-            f"{self.prefix}/share/zsh/site-functions: 1 completions",
+            f"{self.prefix}/share/zsh/site-functions: 1 completion",
             f"{self.prefix}/share/digests/installed: what was installed, for install --remove",
         ])
 

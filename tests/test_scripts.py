@@ -23,7 +23,8 @@ def files_of_git():
 def shell_scripts():
     """The names of the shell scripts: those that name a shell in the first line."""
     names = ["digests", "install", "test", "build.sh", ".ci/run"]
-    return names + [f"tools/{name}" for name in sorted(os.listdir(os.path.join(TOP, "tools"))) if "." not in name]
+    tools = [f"tools/{name}" for name in sorted(os.listdir(os.path.join(TOP, "tools"))) if "." not in name]
+    return names + [name for name in tools if os.path.isfile(os.path.join(TOP, name))]
 
 
 class Layout(Case):

@@ -5,7 +5,7 @@ ghost use Rattle.sum_engine.specs.Worlds.{is_dash};
 ghost use Rattle.sum_engine.specs.Scenes.{world};
 
 use digest_kinds::{AnyHasher, Digest, Kind};
-use sum_sources::{Fault, Input, OpenFault, Source, Stdin, hash_input};
+use sum_sources::{Fault, Input, OpenFault, PIECE, Source, Stdin, hash_input_over};
 
 /// What came of a name that was asked.
 #[derive(Drop)]
@@ -23,13 +23,14 @@ pub(crate) const DASH: &[u8] = b"-";
 
 ghost use Rattle.sum_engine.specs.Asking.{AskGives, ComesOf, Sized};
 
-/// Opens the name, where `-` is standard input, and reads it to its end. None where the source had no memory to open
-/// it; the name then doesn't count as asked.
+/// Opens the name, where `-` is standard input, and reads it to its end, by way of the buffer. None where the source
+/// had no memory to open it; the name then doesn't count as asked.
 pub(crate) fn ask<I: Input + Drop, S: Source>(
     kind: Kind,
     name: &[u8],
     stdin: &mut Stdin<I>,
     source: &mut S,
+    buffer: &mut [u8; PIECE],
 ) -> Option<Asked>
     ensures gives { AskGives kind (world I.content (S.told source.old) stdin.old)
         (world I.content (S.told source.new) stdin.new) name.now result }
@@ -40,20 +41,20 @@ pub(crate) fn ask<I: Input + Drop, S: Source>(
     ensures sized { Sized kind result }
 {
     if name == DASH {
-        return Some(read_digest(kind, &mut stdin.take()));
+        return Some(read_digest(kind, &mut stdin.take(), buffer));
     }
     match source.open_file(name) {
-        Ok(mut file) => Some(read_digest(kind, &mut file)),
+        Ok(mut file) => Some(read_digest(kind, &mut file, buffer)),
         Err(OpenFault::Fault(fault)) => Some(Asked::Refused(fault)),
         Err(OpenFault::Memory) => None,
     }
 }
 
-fn read_digest<F: Input>(kind: Kind, file: &mut F) -> Asked
+fn read_digest<F: Input>(kind: Kind, file: &mut F, buffer: &mut [u8; PIECE]) -> Asked
     ensures gives { IfSome (F.content file.old) (λ c. ComesOf kind c result) }
     ensures sized { Sized kind (Some result) }
 {
-    match hash_input(file, AnyHasher::new(kind)) {
+    match hash_input_over(file, AnyHasher::new(kind), buffer) {
         Ok(digest) => Asked::Read(digest),
         Err(fault) => Asked::Broken(fault),
     }

@@ -16,7 +16,7 @@ use crate::summary::{Counts, is_good, put_summary};
 use crate::verdict::{judge, read};
 use std::alloc::Allocator;
 use sum_lines::{Form, Sink};
-use sum_sources::{Input, LineReader, LineStop, Next, Source, Stdin};
+use sum_sources::{Input, LineReader, LineStop, Next, PIECE, Source, Stdin};
 
 #[derive(Clone, Copy, Debug, PartialEq, Eq)]
 enum State {
@@ -33,6 +33,8 @@ pub struct Checker<'a, I> {
     form: Form,
     counts: Counts,
     state: State,
+    // what listed files are read into: one for all of them
+    buffer: [u8; PIECE],
     ghost few: { total counts ≤ count_of reader },
     ghost work: { IsRunning state → has_stopped reader ≡ false },
 }
@@ -86,6 +88,7 @@ impl<'a, I: Input> Checker<'a, I> {
             form: Form::Undecided,
             counts: Counts::NONE,
             state: State::Running,
+            buffer: [0; PIECE],
         }
     }
 
@@ -205,6 +208,13 @@ impl<'a, I: Input> Checker<'a, I> {
         }
     }
 
+    // The number of the line that was read last.
+    fn number(&self) -> u64
+        ensures { result ≡ number_of self.now }
+    {
+        self.reader.lines()
+    }
+
     // Handles a line that was read.
     fn handle<A: Allocator, J: Input + Drop, S: Source, O: Sink, E: Sink>(
         &mut self,
@@ -237,10 +247,17 @@ impl<'a, I: Input> Checker<'a, I> {
     {
         let (reading, form) = read(self.listing.settings.algo, self.form, line);
         self.form = form;
-        let Some(judgement) = judge(&self.listing, line, &reading, stdin, source) else {
+        let Some(judgement) = judge(
+            &self.listing,
+            line,
+            &reading,
+            stdin,
+            source,
+            &mut self.buffer,
+        ) else {
             return Err(Stop::Memory);
         };
-        let number = self.reader.lines();
+        let number = self.number();
         match put_report(
             out,
             err,

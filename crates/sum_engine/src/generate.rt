@@ -9,7 +9,7 @@ use crate::report::put_fault_line;
 use crate::settings::Settings;
 use crate::stop::Stop;
 use sum_lines::{Sink, put_line};
-use sum_sources::{Input, Source, Stdin};
+use sum_sources::{Input, PIECE, Source, Stdin};
 
 /// Hashes what stands under one name, where `-` is standard input, and answers whether it was read to its end. Its line
 /// goes to `out`, or a line with the fault to `err` (coreutils manual, "md5sum invocation").
@@ -34,7 +34,8 @@ pub fn generate_one<I: Input + Drop, S: Source, O: Sink, E: Sink>(
     ensures taken { OnOk result (is_none stdin.new ≡ is_none stdin.old || is_dash name.now) }
     ensures untouched { result ≡ Err Stop.Memory → (out.new ≡ out.old) × (err.new ≡ err.old) }
 {
-    match ask(settings.kind, name, stdin, source) {
+    let mut buffer: [u8; PIECE] = [0; PIECE];
+    match ask(settings.kind, name, stdin, source, &mut buffer) {
         None => Err(Stop::Memory),
         Some(Asked::Read(digest)) => {
             match put_line(out, settings.style, settings.kind, name, &digest) {

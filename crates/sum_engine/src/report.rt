@@ -1,10 +1,13 @@
 //! The lines that checking writes about a manifest's lines.
-ghost use Rattle.std.specs.Prelude.{MatchResult};
+ghost use Rattle.std.specs.Prelude.{[], ◌∷◌, MatchResult};
+ghost use Rattle.std.specs.List.{concat};
 ghost use Rattle.std.specs.Io.KnownBytes.{Appends};
+ghost use Rattle.sum_lines.specs.Escape.{escape, escape_differs};
+ghost use Rattle.sum_lines.specs.Shapes.{mark};
 ghost use Rattle.sum_lines.specs.Sinks.{Writes};
 ghost use Rattle.sum_engine.specs.Profiles.{Present};
 ghost use Rattle.sum_engine.specs.Generation.{fault_line};
-ghost use Rattle.sum_engine.specs.Reports.{name_line, said_of, out_by, bad_line, err_by};
+ghost use Rattle.sum_engine.specs.Reports.{said_of, out_by, bad_line, err_by};
 ghost use Rattle.sum_engine.specs.Listings.{rules_in};
 ghost use Rattle.sum_engine.specs.Scenes.{AppendsUpTo, Kept, Rose};
 
@@ -90,26 +93,24 @@ fn put_said<O: Sink>(out: &mut O, verdict: Verdict, name: &[u8]) -> Result<(), S
 {
     match verdict {
         Verdict::Ignored | Verdict::Bad | Verdict::Missing => Ok(()),
-        Verdict::Right => put_name_line(out, name, b"OK"),
-        Verdict::Wrong => put_name_line(out, name, b"FAILED"),
-        Verdict::Unread(_) => put_name_line(out, name, b"FAILED open or read"),
+        Verdict::Right => put_name_line(out, name, b": OK\n"),
+        Verdict::Wrong => put_name_line(out, name, b": FAILED\n"),
+        Verdict::Unread(_) => put_name_line(out, name, b": FAILED open or read\n"),
     }
 }
 
-fn put_name_line<'a, O: Sink>(out: &mut O, name: &'a [u8], text: &'a [u8]) -> Result<(), SinkFault>
-    ensures { Writes O.written O.failures out.old out.new (name_line Present name.now text.now) result }
+// Writes the name and what stands behind it. Most names hold nothing to escape, and are then searched once.
+fn put_name_line<'a, O: Sink>(out: &mut O, name: &'a [u8], rest: &'a [u8]) -> Result<(), SinkFault>
+    ensures { Writes O.written O.failures out.old out.new
+        (concat (mark (escape_differs name.now) ∷ escape name.now ∷ rest.now ∷ [])) result }
 {
-    let mark: &[u8] = if needs_escape(name) { b"\\" } else { b"" };
-    put_parts(
-        out,
-        &[
-            Part::Bytes(mark),
-            Part::Escaped(name),
-            Part::Bytes(b": "),
-            Part::Bytes(text),
-            Part::Bytes(b"\n"),
-        ],
-    )
+    if needs_escape(name) {
+        return put_parts(
+            out,
+            &[Part::Bytes(b"\\"), Part::Escaped(name), Part::Bytes(rest)],
+        );
+    }
+    put_parts(out, &[Part::Bytes(name), Part::Bytes(rest)])
 }
 
 fn put_err<E: Sink>(

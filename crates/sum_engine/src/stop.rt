@@ -2,13 +2,12 @@
 
 use thiserror::Error;
 
-/// Why a run stopped before its end. Nothing is written after it.
+/// Why a run stopped before its end: `Memory` where a growth was refused, `Write` where a write to an output failed.
+/// Nothing is written after it.
 #[derive(Clone, Copy, Debug, PartialEq, Eq, Error)]
 pub enum Stop {
-    /// A growth was refused.
     #[error("memory exhausted")]
     Memory,
-    /// A write to an output failed.
     #[error("write error")]
     Write,
 }

@@ -14,7 +14,7 @@ use crate::listing::Listing;
 use digest_kinds::{Algos, Digest};
 use std::alloc::Allocator;
 use sum_lines::{Form, Reading, read_line};
-use sum_sources::{Fault, Input, Source, Stdin};
+use sum_sources::{Fault, Input, PIECE, Source, Stdin};
 
 /// What checking finds of a manifest's line.
 #[derive(Clone, Copy, Debug, PartialEq, Eq)]
@@ -60,6 +60,7 @@ pub(crate) fn judge<'a, I: Input + Drop, S: Source>(
     reading: &Reading,
     stdin: &mut Stdin<I>,
     source: &mut S,
+    buffer: &mut [u8; PIECE],
 ) -> Option<Judgement<'a>>
     requires { Within line.now reading.now }
     ensures gives { JudgeGives (rules_in listing.now) (world I.content (S.told source.old) stdin.old)
@@ -93,7 +94,7 @@ pub(crate) fn judge<'a, I: Input + Drop, S: Source>(
                     name,
                 });
             }
-            let Some(asked) = ask(*kind, name, stdin, source) else {
+            let Some(asked) = ask(*kind, name, stdin, source, buffer) else {
                 return None;
             };
             let verdict = compare(&asked, digest, listing.settings.ignore_missing);

@@ -290,6 +290,16 @@ plain-none a line blank text e hb hm more =
     sized_none a (take_while is_hex_digit text) (λ d. let few = d.few in omega arith) in
     rw (u, none) refl
 
+-- digits that spell no digest of the algorithm
+pub plain-unsized : (a : Algo) (line blank text digits : List ℕ) (e : Bool) → blank ≡ after_while is_blank line
+    → (e, text) ≡ unmarked blank → digits ≡ take_while is_hex_digit text → None ≡ sized a (decode_of digits)
+    → None ≡ plain_as a line
+unfolding plain_behind
+plain-unsized a line blank text digits e hb hm hd none =
+    let u : unmarked (after_while is_blank line) ≡ (e, text) = ap unmarked (sym hb) ∙ sym hm in
+    let dd : sized a (decode_of (take_while is_hex_digit text)) ≡ None = rw (← hd) (sym none) in
+    rw (u, dd) refl
+
 pub plain-read : (a : Algo) (line blank text digits rest tail name : List ℕ) (e : Bool) (k : KindValue × List ℕ)
     → blank ≡ after_while is_blank line → (e, text) ≡ unmarked blank → digits ≡ take_while is_hex_digit text
     → rest ≡ after_while is_hex_digit text → Some tail ≡ tail_of rest

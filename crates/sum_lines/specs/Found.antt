@@ -1,15 +1,12 @@
 -- This joins what the scanning functions answer to what they were found to hold.
-use Rattle.std.specs.Prelude.{ℕ, ◌≡◌, ◌≤◌, Bool, true, false, List, length, slice_range, Some, None}
-use Rattle.digest_kinds.specs.declared.algo.Algos.{Algos}
+use Rattle.std.specs.Prelude.{ℕ, ◌≡◌, ◌≤◌, Bool, true, false, List, length, slice_range}
 use Rattle.sum_lines.specs.declared.line_reading.Form.{Form}
 use Rattle.sum_lines.specs.declared.line_reading.Reading.{Reading}
 use Rattle.sum_lines.specs.declared.line_reading.Reading.TheVariants as readings
-use Rattle.sum_lines.specs.declared.line_reading.Shape.{Shape}
-use Rattle.sum_lines.specs.declared.line_reading.Shape.TheVariants as shapes
 use Rattle.sum_lines.specs.declared.scanning.LineParts.{LineParts}
 use Rattle.sum_lines.specs.Escape.{escape}
-use Rattle.sum_lines.specs.Entries.{RawOf, Spells, ignored}
-use Rattle.sum_lines.specs.Scanned.{Parts, plain_of, tagged_of}
+use Rattle.sum_lines.specs.Entries.{RawOf, Spells}
+use Rattle.sum_lines.specs.Scanned.{Parts}
 
 -- the parts of a line that these places stand for
 abbrev pub text_of : List ℕ → LineParts → List ℕ
@@ -17,16 +14,6 @@ text_of line p = slice_range line p.start p.stop
 
 abbrev pub line_parts : List ℕ → LineParts → Parts
 line_parts line p = record { escaped = p.escaped; kind = p.kind; digest = p.digest; text = text_of line p }
-
--- what a whole line is
-abbrev pub ShapeIs : Algos → List ℕ → Shape → Type 0
-ShapeIs algos line shapes.Ignored = ignored line ≡ true
-ShapeIs algos line (shapes.Tagged p) = (ignored line ≡ false) × (Some (line_parts line p) ≡ tagged_of algos line)
-    × (p.start ≤ p.stop) × (p.stop ≤ length line)
-ShapeIs algos line (shapes.Plain p) = (ignored line ≡ false) × (Some (line_parts line p) ≡ plain_of algos line)
-    × (p.start ≤ p.stop) × (p.stop ≤ length line) × (None ≡ tagged_of algos line)
-ShapeIs algos line shapes.Neither = (ignored line ≡ false) × (None ≡ tagged_of algos line)
-    × (None ≡ plain_of algos line)
 
 -- whether the raw name spells a name, which then stands in new from start on
 abbrev pub Names : Bool → List ℕ → ℕ → List ℕ → Bool → Type 0

@@ -2,7 +2,7 @@
 
 ghost use Rattle.std.specs.Prelude.{◌≡◌, ◌≤◌, if◌then◌else◌, length, vec_len};
 ghost use Rattle.sum_lines.specs.Entries.{begins_standard, form_of_tail, form_then, ignored};
-ghost use Rattle.sum_lines.specs.Found.{NamesEntry, NamesTail, ShapeIs, text_of};
+ghost use Rattle.sum_lines.specs.Found.{NamesEntry, NamesTail, text_of};
 ghost use Rattle.sum_lines.specs.Readings.{Reads, form_after};
 
 use crate::names::name_in;
@@ -48,36 +48,16 @@ pub fn read_line<A: Allocator>(algos: Algos, form: Form, line: &mut Vec<u8, A>) 
     ensures reads { Reads algos result.1 line.old.items line.new.items result.0 }
     ensures len { vec_len line.new ≤ vec_len line.old }
 {
-    match shape_of(algos, line) {
-        Shape::Ignored => (Reading::Ignored, form),
-        Shape::Tagged(found) => (read_name(line, found), form),
-        Shape::Plain(found) => read_tail(form, line, found),
-        Shape::Neither => (Reading::Bad, form),
-    }
-}
-
-// What a line is as a whole.
-#[derive(Debug, Drop)]
-enum Shape {
-    Ignored,
-    Tagged(LineParts),
-    Plain(LineParts),
-    Neither,
-}
-
-fn shape_of(algos: Algos, line: &[u8]) -> Shape
-    ensures { ShapeIs algos line.now result }
-{
     if is_ignored(line) {
-        return Shape::Ignored;
+        return (Reading::Ignored, form);
     }
     let (escaped, text) = unmark(skip_blanks(line));
     if let Some(found) = tagged(algos, line, escaped, text) {
-        Shape::Tagged(found)
+        (read_name(line, found), form)
     } else if let Some(found) = plain(algos, line, escaped, text) {
-        Shape::Plain(found)
+        read_tail(form, line, found)
     } else {
-        Shape::Neither
+        (Reading::Bad, form)
     }
 }
 

@@ -31,8 +31,13 @@ fn plain_as(algo: Algo, line: &[u8], escaped: bool, text: &[u8]) -> Option<LineP
     ensures range { IfSome result (λ p. (p.start ≤ p.stop) × (p.stop ≤ length line.now)) }
 {
     let (digits, rest) = split_hex_digits(text)?;
-    let (kind, digest) = kind_and_digest(algo, digits)?;
     let tail = tail(rest)?;
+    if digits.len() % 2 != 0 {
+        return None;
+    }
+    let kind = kind_of_len(algo, digits.len() / 2)?;
+    // Last, since it costs the most.
+    let digest = Digest::from_hex(digits)?;
     Some(LineParts {
         escaped,
         kind,
@@ -40,18 +45,6 @@ fn plain_as(algo: Algo, line: &[u8], escaped: bool, text: &[u8]) -> Option<LineP
         start: line.len() - tail.len(),
         stop: line.len(),
     })
-}
-
-// The digest that the digits spell, with its kind. Digits are decoded only where the algorithm has digests of as many.
-fn kind_and_digest(algo: Algo, digits: &[u8]) -> Option<(Kind, Digest)>
-    ensures { result ≡ sized algo (decode_of digits.now) }
-{
-    if digits.len() % 2 != 0 {
-        return None;
-    }
-    let kind = kind_of_len(algo, digits.len() / 2)?;
-    let digest = Digest::from_hex(digits)?;
-    Some((kind, digest))
 }
 
 // The algorithm's kind with digests of that length.

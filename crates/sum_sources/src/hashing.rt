@@ -5,15 +5,32 @@ ghost use Rattle.sum_sources.specs.Contents.{clip, Hashes};
 use crate::{Fault, Input};
 use digest_kinds::{Digest, Hasher, LIMIT};
 
+/// The most bytes that are read at once.
+pub const PIECE: usize = 8192;
+
 /// Reads `input` once, in order and to its end, in pieces of at most 8192 bytes, and answers the
 /// digest that `hasher` makes of its bytes, or the fault that the input ends by. An input of `LIMIT`
 /// bytes or more is `Fault::Other`. The hasher has to be a new one.
-pub fn hash_input<I: Input, H: Hasher + Drop>(input: &mut I, mut hasher: H) -> Result<Digest, Fault>
+pub fn hash_input<I: Input, H: Hasher + Drop>(input: &mut I, hasher: H) -> Result<Digest, Fault>
     requires { H.holds hasher [] }
     ensures gives { IfSome (I.content input.old) (λ c. Hashes (H.kind_of hasher) (clip c) result) }
     ensures len { IfOk result (λ d. length d ≡ (H.kind_of hasher).len) }
 {
-    let mut buf: [u8; 8192] = [0; 8192];
+    let mut buffer: [u8; PIECE] = [0; PIECE];
+    hash_input_over(input, hasher, &mut buffer)
+}
+
+/// As `hash_input`, but reads into the caller's buffer, so that one buffer serves many inputs. What the buffer holds
+/// doesn't matter, and what is left in it isn't said.
+pub fn hash_input_over<I: Input, H: Hasher + Drop>(
+    input: &mut I,
+    mut hasher: H,
+    buffer: &mut [u8; PIECE],
+) -> Result<Digest, Fault>
+    requires { H.holds hasher [] }
+    ensures gives { IfSome (I.content input.old) (λ c. Hashes (H.kind_of hasher) (clip c) result) }
+    ensures len { IfOk result (λ d. length d ≡ (H.kind_of hasher).len) }
+{
     loop {
         let room = LIMIT - 1 - hasher.taken();
         if room == 0 {
@@ -23,11 +40,11 @@ pub fn hash_input<I: Input, H: Hasher + Drop>(input: &mut I, mut hasher: H) -> R
                 _ => Err(Fault::Other),
             };
         }
-        let size = room.min(8192) as usize;
-        let n = input.read(&mut buf[..size])?;
+        let size = room.min(PIECE as u64) as usize;
+        let n = input.read(&mut buffer[..size])?;
         if n == 0 {
             return Ok(hasher.finish());
         }
-        hasher.update(&buf[..n]);
+        hasher.update(&buffer[..n]);
     }
 }

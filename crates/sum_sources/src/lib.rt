@@ -19,7 +19,7 @@ pub use closable::Closable;
 pub use fault::{Ending, Fault};
 pub use files::Files;
 pub use from_read::FromRead;
-pub use hashing::hash_input;
+pub use hashing::{PIECE, hash_input, hash_input_over};
 pub use input::Input;
 pub use lines::{LineReader, LineStop, Next};
 pub use source::{OpenFault, Source};

@@ -1,5 +1,5 @@
-//! `hash_input` over told inputs.
-use crate::{Ending, Fault, Told, hash_input};
+//! `hash_input` and `hash_input_over` over told inputs.
+use crate::{Ending, Fault, PIECE, Told, hash_input, hash_input_over};
 use digest_kinds::{Hasher, Md5Hasher, Sha256Hasher};
 use std::process::Abort;
 use std::test::Fail;
@@ -25,6 +25,24 @@ fn equals_one_update(rt: HostRuntime) -> Result<(), Fail> {
     for len in [0, 8191, 8192, 8193, 16384] {
         let content = vec![in rt.alloc(); 0xa5; len]?;
         agrees(&rt, &content);
+    }
+    Ok(())
+}
+
+// One buffer serves many inputs: nothing that an earlier one left in it is hashed.
+#[test]
+fn one_buffer(rt: HostRuntime) -> Result<(), Fail> {
+    let mut buffer = [b'?'; PIECE];
+    for len in [16384, 8193, 0, 100] {
+        let content = vec![in rt.alloc(); 0xa5; len]?;
+        for piece in PIECES {
+            let mut input = Told::new(&content, Ending::Whole, piece);
+            let digest = hash_input_over(&mut input, Sha256Hasher::new(), &mut buffer)?;
+            let mut whole = Sha256Hasher::new();
+            assert!(rt; content.len() < 100_000);
+            whole.update(&content);
+            assert!(rt; digest.same(&whole.finish()), "{len} in pieces of {piece}");
+        }
     }
     Ok(())
 }

@@ -13,7 +13,7 @@ returns-in-Err-clause-gives g c =
     let text = c.args.line.now.items in
     let algo = old.listing.settings.algo in
     let is = ap (λ l. said_by l c.read-reading.result.0) c.deref.ensures.value ∙ c.read-reading.ensures.said ∙ ap (λ f. says Present algo f text) c.read-reading.ensures.form in
-    let err = rw c.lines-number.ensures.value at c.in-Err.ensures.err in
+    let err = rw c.number-number.ensures at c.in-Err.ensures.err in
     handling_cut _ (rules_of_checker old) (form_then old.form (line_form algo text)) text _ old.counts old.counts _ _ _ _ _ _ _ _ _ c.in-Some.judgement c.in-Some.ensures.gives is c.in-Err.ensures.out err
 
 pub returns-in-Ok-clause-gives : goal.returns-in-Ok-clause-gives
@@ -22,5 +22,5 @@ returns-in-Ok-clause-gives g c =
     let text = c.args.line.now.items in
     let algo = old.listing.settings.algo in
     let is = ap (λ l. said_by l c.read-reading.result.0) c.deref.ensures.value ∙ c.read-reading.ensures.said ∙ ap (λ f. says Present algo f text) c.read-reading.ensures.form in
-    let err = rw c.lines-number.ensures.value at c.in-Ok.ensures.err in
+    let err = rw c.number-number.ensures at c.in-Ok.ensures.err in
     handled (rules_of_checker old) (form_then old.form (line_form algo text)) text _ old.counts _ _ _ _ _ _ _ _ _ _ c.in-Some.judgement _ c.in-Some.ensures.gives is c.in-Some.ensures.taken c.counted-self.ensures c.in-Ok.ensures.out err

@@ -1,0 +1,37 @@
+//! Lists what a manifest on standard input says: of each entry its algorithm, its digest and its file's name.
+#![tactic(auto)]
+
+use digest_kinds::Algos;
+use std::io::{self, ErrorKind};
+use sum_lines::{Form, Reading, read_line};
+use sum_sources::{FromRead, LineReader, Next};
+
+fn main(rt: HostRuntime) -> io::Result<()> {
+    let mut reader = LineReader::new(FromRead::new(rt.stdin()));
+    let mut line = Vec::new(rt.alloc());
+    let mut form = Form::Undecided;
+    for number in 1..u64::MAX {
+        match reader.next_line(&mut line) {
+            Ok(Next::Line) => {}
+            Ok(Next::NoMore) => break,
+            Err(_) => return Err(ErrorKind::Other.into()),
+        }
+        let (reading, decided) = read_line(Algos::Any, form, &mut line);
+        form = decided;
+        match reading {
+            Reading::Ignored => {}
+            Reading::Bad => println!(rt; "line {number} is no entry")?,
+            Reading::Entry {
+                kind,
+                digest,
+                start,
+                stop,
+            } => {
+                let name = String::from_utf8_lossy(rt.alloc(), &line[start..stop])?;
+                let digits = hex::encode(rt.alloc(), digest.as_slice())?;
+                println!(rt; "{} {digits} of {name:?}", kind.tag())?;
+            }
+        }
+    }
+    Ok(())
+}

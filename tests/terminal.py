@@ -1,0 +1,85 @@
+"""A shell at a terminal, as a person types into it: what the keys for completion make of a line."""
+
+import os
+import pty
+import select
+import subprocess
+import time
+
+import harness
+
+PROMPT = b"ready to type> "
+ALL = "\x18a"  # the keys that put all completions into the line
+
+# For each shell: how it is started, the name of the file that it reads first, and what stands there. Each of the names
+# is a function that writes its words into a file.
+SHELLS = {
+    "bash": (["bash", "--noprofile", "--rcfile", "{rc}", "-i"], ".bashrc", """
+PS1='{prompt}' PS2=
+bind 'set enable-bracketed-paste off'
+bind '"\\C-xa": insert-completions'
+{load}
+for name in {names}; do
+    eval "$name() {{ printf '%s\\n' \\"\\$@\\" >words.new; mv words.new words; }}"
+done
+"""),
+    "zsh": (["zsh", "-d", "-i"], ".zshrc", """
+PS1='{prompt}' PROMPT_SP= RPS1=
+unsetopt prompt_cr prompt_sp
+{load}
+autoload -Uz compinit && compinit -u -d '{folder}/dump'
+zle -C everything complete-word _generic
+bindkey '^Xa' everything
+zstyle ':completion:everything::::' completer _all_matches _complete
+zstyle ':completion:everything:*' insert true
+LISTMAX=1000
+for name in {names}; do
+    eval "$name() {{ printf '%s\\n' \\"\\$@\\" >words.new; mv words.new words; }}"
+done
+"""),
+}
+
+
+class Terminal:
+    """A shell in a folder, which loads completions by a line of its own; they are for functions of these names."""
+
+    def __init__(self, shell, folder, load, names):
+        words, rc_name, rc = SHELLS[shell]
+        home = os.path.join(folder, "home")
+        os.makedirs(home, exist_ok=True)
+        self.words = os.path.join(folder, "here", "words")
+        rc_path = os.path.join(home, rc_name)
+        with open(rc_path, "w", encoding="utf-8") as file:
+            file.write(rc.format(prompt=PROMPT.decode(), load=load, folder=home, names=" ".join(names)))
+        env = {"PATH": os.environ["PATH"], "HOME": home, "ZDOTDIR": home, "TERM": "dumb", "LC_ALL": "C.UTF-8"}
+        self.master, slave = pty.openpty()
+        self.process = subprocess.Popen([word.format(rc=rc_path) for word in words], stdin=slave, stdout=slave,
+                                        stderr=slave, cwd=os.path.join(folder, "here"), env=env,
+                                        start_new_session=True)
+        os.close(slave)
+        self.shown, self.keys = b"", ALL
+        self.wait_for(lambda: PROMPT in self.shown)
+
+    def wait_for(self, what):
+        """Reads what the shell shows until it has come so far."""
+        end = time.monotonic() + harness.RUN_SECONDS
+        while not what():
+            ready, _, _ = select.select([self.master], [], [], 0.02)
+            if ready:
+                self.shown += os.read(self.master, 65536)
+            if time.monotonic() > end:
+                raise TimeoutError(self.shown[-1000:])
+
+    def completed(self, line):
+        """The words after the command of a line whose end is completed in all ways."""
+        if os.path.exists(self.words):
+            os.remove(self.words)
+        self.shown = b""
+        os.write(self.master, f"{line}{self.keys}\n".encode())
+        self.wait_for(lambda: PROMPT in self.shown and os.path.exists(self.words))
+        with open(self.words, encoding="utf-8") as file:
+            return file.read().splitlines()
+
+    def close(self):
+        harness.end(self.process)
+        os.close(self.master)

@@ -1,0 +1,165 @@
+"""The completions in completions/, in real shells: they offer what the program takes at that place."""
+
+import os
+import re
+import shutil
+import subprocess
+
+import harness
+from harness import TOP, Case
+from terminal import Terminal
+
+NAMES = [*harness.TOOLS, "anysum"]
+COMPLETIONS = os.path.join(TOP, "completions")
+
+
+def taken(tool, *words):
+    """Whether the program takes these words, which read nothing but standard input."""
+    ran = subprocess.run([harness.PROGRAM, tool, *words], stdin=subprocess.DEVNULL, stdout=subprocess.PIPE,
+                         stderr=subprocess.PIPE)
+    return b"\nTry '" not in ran.stderr
+
+
+def wanted_options(tool, *before):
+    """The options of the tool's help that the program takes after some words."""
+    said = subprocess.run([harness.PROGRAM, tool, "--help"], stdout=subprocess.PIPE, check=True).stdout.decode()
+    words = [word for pair in re.findall(r"(?m)^  +(?:(-\w), )?(--[a-z-]+)", said) for word in pair if word]
+    value = {"-l": ["8"], "--length": ["8"]}
+    return {word for word in words if taken(tool, *before, word, *value.get(word, []))}
+
+
+class Shell:
+    """What holds in each shell. `offered` answers all completions of a line's last word."""
+
+    shell = ""
+
+    def setUp(self):
+        super().setUp()
+        if shutil.which(self.shell) is None:
+            self.skipTest(f"{self.shell} isn't installed")
+        os.mkdir(self.path("here"))
+        for name in ("some", "some more"):
+            self.write(f"here/{name}", "")
+
+    def test_options(self):
+        self.assertEqual(wanted_options("anysum"), {"-c", "--check", "--help", "--version"})
+        for tool in ("md5sum", "b2sum", "anysum"):
+            for command in (tool, f"digests {tool}"):
+                self.assertEqual(self.offered(f"{command} -"), wanted_options(tool), command)
+        long = {word for word in wanted_options("sha512sum") if word.startswith("--")}
+        self.assertEqual(self.offered("sha512sum --"), long)
+
+    def test_options_after_check(self):
+        """Only here those that need it, and no more those that it refuses; --check again is as the shell likes."""
+        again = {"-c", "--check"}
+        for tool in ("sha1sum", "b2sum", "anysum"):
+            for before in ("-c", "--check", "--che", "some -c"):
+                for command in (tool, f"digests {tool}"):
+                    offered = self.offered(f"{command} {before} -")
+                    self.assertEqual(offered - again, wanted_options(tool, "-c") - again, (command, before))
+        self.assertEqual(self.offered("md5sum -wc --st"), {"--status", "--strict"})
+        self.assertEqual(self.offered("md5sum --st"), set())
+
+    def test_lengths(self):
+        every = {str(bits) for bits in range(8, 513, 8)}
+        for command in ("b2sum", "digests b2sum"):
+            for words in ("-l ", "--length ", "--length="):
+                self.assertEqual(self.lengths(f"{command} {words}"), every, words)
+            self.assertEqual(self.lengths(f"{command} --tag -l 25"), {"256"})
+            self.assertEqual(self.lengths(f"{command} --length=51"), {"512"})
+        self.assertTrue(all(taken("b2sum", "-l", bits) for bits in every))
+
+    def test_files(self):
+        for command in ("md5sum ", "digests sha1sum ", "b2sum -c ", "anysum -c ", "b2sum -l 8 ", "b2sum --length=8 ",
+                        "md5sum -w some "):
+            self.assertEqual(self.offered(f"{command}so"), {"some", "some more"}, command)
+        self.write("here/-file", "")
+        self.assertEqual(self.offered("md5sum -- -"), {"-file"})
+        self.assertEqual(self.offered("digests md5sum -- -"), {"-file"})
+
+    def test_tools(self):
+        self.assertEqual(self.offered("digests "), set(NAMES))
+        self.assertEqual(self.offered("digests sha2"), {"sha224sum", "sha256sum"})
+
+    def lengths(self, line):
+        return {word.rpartition("=")[2] for word in self.offered(line)}
+
+
+class Typed(Shell):
+    """A shell at a terminal."""
+
+    def setUp(self):
+        super().setUp()
+        self.terminal = Terminal(self.shell, self.folder, self.load, ["digests", *NAMES])
+        self.addCleanup(self.terminal.close)
+
+    def offered(self, line):
+        """What the line has more than before its last word; a word that stays as it is has no completion."""
+        before, last = line.split()[1:], ""
+        if not line.endswith(" "):
+            last = before.pop()
+        words = self.terminal.completed(line)
+        self.assertEqual(words[:len(before)], before, line)
+        return set(words[len(before):]) - {last}
+
+
+class Bash(Typed, Case):
+    """In bash."""
+
+    of_the_repository = True
+    shell = "bash"
+    load = f". '{COMPLETIONS}/digests.bash'"
+
+    def test_one_key(self):
+        """As it is most often used."""
+        self.terminal.keys = "\t"
+        self.assertEqual(self.offered("sha256sum --che"), {"--check"})
+        self.assertEqual(self.offered("digests sha5"), {"sha512sum"})
+
+
+class Zsh(Typed, Case):
+    """In zsh."""
+
+    of_the_repository = True
+    shell = "zsh"
+    load = f"fpath=('{COMPLETIONS}' $fpath)"
+    test_one_key = Bash.test_one_key
+
+
+class Fish(Shell, Case):
+    """In fish, which has a command for it."""
+
+    of_the_repository = True
+    shell = "fish"
+
+    def offered(self, line):
+        command = "source $argv[1]/digests.fish; complete -C $argv[2]"
+        env = {**os.environ, "HOME": self.folder, "XDG_CONFIG_HOME": self.folder, "LC_ALL": "C.UTF-8"}
+        words = ["fish", "--no-config", "-c", command, COMPLETIONS, line]
+        ran = self.run_command(words, cwd=self.path("here"), env=env)
+        self.assertEqual((ran.status, ran.err), (0, b""))
+        return {text.split("\t")[0] for text in ran.out.decode().splitlines()}
+
+    def test_read_for_each_name(self):
+        """The file stands under each tool's name, so a shell may read it several times."""
+        line = "source $argv[1]/digests.fish; source $argv[1]/digests.fish; complete -C 'b2sum --l'"
+        ran = self.run_command(["fish", "--no-config", "-c", line, COMPLETIONS], cwd=self.path("here"),
+                               env={**os.environ, "HOME": self.folder, "LC_ALL": "C.UTF-8"})
+        self.assertEqual(ran.out.decode().count("--length"), 1)
+
+
+class Source(Case):
+    """What stands in the files."""
+
+    of_the_repository = True
+
+    def test_shellcheck(self):
+        if shutil.which("shellcheck") is None:
+            self.skipTest("shellcheck isn't installed")
+        ran = self.run_command(["shellcheck", "-s", "bash", os.path.join(COMPLETIONS, "digests.bash")])
+        self.assertEqual((ran.status, ran.out), (0, b""))
+
+    def test_nothing_is_left_to_fill_in(self):
+        self.assertEqual(sorted(os.listdir(COMPLETIONS)), ["_digests", "digests.bash", "digests.fish"])
+        for name in os.listdir(COMPLETIONS):
+            self.assertNotRegex(self.read(os.path.join(COMPLETIONS, name)), rb"@[A-Z]+@")

@@ -1,0 +1,36 @@
+"""The small programs in crates/example_*: short, without proof files, and no part of the program."""
+
+import os
+
+from harness import TOP, Case
+from repository import Repository
+from test_build import BOTH
+
+FILES = {"example_hash": [], "example_list": [], "example_check": ["data"]}
+
+
+class Examples(Case):
+    """What the gate doesn't look at: it proves them, and compares what they write."""
+
+    of_the_repository = True
+
+    def test_size_and_files(self):
+        found = [name for name in os.listdir(os.path.join(TOP, "crates")) if name.startswith("example")]
+        self.assertEqual(sorted(found), sorted(FILES))
+        for name, more in FILES.items():
+            folder = os.path.join(TOP, "crates", name)
+            self.assertEqual(sorted(set(os.listdir(folder)) - {"out"}), sorted(["src", "stdin", "stdout", *more]))
+            self.assertEqual(os.listdir(os.path.join(folder, "src")), ["main.rt"])
+            self.assertLess(self.read(os.path.join(folder, "src", "main.rt")).count(b"\n"), 40)
+
+
+class Building(Repository):
+    """A build of the program."""
+
+    def test_examples_are_left_out(self):
+        source = self.put("crates/example_some/src/main.rt", "fn main() {}\n")
+        self.put("crates.txt", "low: memchr\ndigests: low\nexample_some: low\n")
+        self.assertEqual(self.build(), BOTH)
+        self.assertIn("crate 2 of 2, digests: ", self.said)
+        self.write(source, "another version")
+        self.assertEqual(self.build(), [])

@@ -1,0 +1,153 @@
+"""README: the commands that it shows do what it shows, and a stranger who goes its way arrives."""
+
+import hashlib
+import os
+import re
+import shutil
+import subprocess
+
+import harness
+from harness import TOP, Case, Ran
+from repository import Repository
+from terminal import Terminal
+
+NAMES = ["digests", *harness.TOOLS, "anysum"]
+LOADER = "/usr/share/bash-completion/bash_completion"
+
+
+def readme():
+    with open(os.path.join(TOP, "README.md"), encoding="utf-8") as file:
+        return file.read()
+
+
+def section(title):
+    """What stands below a heading, up to the next one of its level."""
+    return re.search(rf"(?ms)^## {re.escape(title)}\n(.*?)(?=^## |\Z)", readme())[1]
+
+
+def shown():
+    """The commands that are shown after a `$`, and what they write."""
+    blocks = "".join(re.findall(r"(?m)^    .*\n", readme().split("\n## ")[0]))
+    return re.findall(r"    \$ (.*)\n((?:    (?!\$ ).*\n?)*)", blocks)
+
+
+def commands(title):
+    """The commands of a section's blocks, without what is said behind them."""
+    return [line.split(" # ")[0].strip() for line in re.findall(r"(?m)^    (\S.*)$", section(title))]
+
+
+class Page(Case):
+    """The page itself."""
+
+    of_the_repository = True
+
+    def test_set_up_is_two_commands(self):
+        self.assertEqual(commands("Set-up"), ["./digests sha256sum README.md", "./test"])
+
+    def test_the_first_screen(self):
+        """What it is, three commands of ours with what they write, and why, within 30 lines."""
+        first = readme().split("\n## ")[0]
+        self.assertLess(first.count("\n"), 30)
+        self.assertEqual([command.count("./digests ") for command, _ in shown()], [1, 2, 3])
+
+    def test_cells_are_short(self):
+        rows = re.findall(r"(?m)^\|(.*)\|$", readme())
+        self.assertGreater(len(rows), 30)
+        for row in rows:
+            for cell in row.split("|"):
+                self.assertLessEqual(len(cell.split()), 20, cell)
+
+    def test_what_is_proved_comes_last(self):
+        titles = re.findall(r"(?m)^## (.*)$", readme())
+        self.assertEqual(titles[:4], ["What you need", "Set-up", "Installing", "The tools"])
+        self.assertEqual(titles[-1], "What is proved, crate by crate")
+
+    def test_words_are_explained_before_they_are_used(self):
+        text = re.sub(r"`[^`]*`", "``", readme())
+        for word, explained in (("the gate", "named *the gate* here"), (" kit", "the Rattle kit. Rattle is Rust"),
+                                ("crate", "a crate is a part of the source")):
+            self.assertLessEqual(text.index(explained) - text.index(word), 40, word)
+        self.assertNotIn(" told ", text)
+
+    def test_files_that_are_named(self):
+        for name in set(re.findall(r"`((?:docs|bench|crates|man)/[\w./]+)`", readme())):
+            if "/TOOL" not in name and name != "docs/PERFORMANCE.md":
+                self.assertTrue(os.path.exists(os.path.join(TOP, name)), name)
+
+
+class Stranger(Repository):
+    """A fresh clone, README's commands, an installation, and its end. In the place of the kit's command stands one that
+    proves nothing."""
+
+    def setUp(self):
+        super().setUp()
+        shutil.rmtree(self.top)
+        git = ["git", "-c", "safe.directory=*", "clone", "-q", "--no-local", TOP, self.top]
+        if shutil.which("git") is None or self.run_command(git).status:
+            self.skipTest("this folder is no clone of git")
+        self.prefix = os.path.join(self.folder, "a prefix")
+        self.env["PATH"] = os.path.join(self.prefix, "bin") + os.pathsep + self.env["PATH"]
+
+    def shell(self, command, **how):
+        """Runs a command as README shows it."""
+        return self.run_command(["sh", "-c", command], cwd=self.top, env=self.env, **how)
+
+    def in_prefix(self, name):
+        return os.path.join(self.prefix, name)
+
+    def test_the_way(self):
+        self.build_by_the_first_command()
+        for command, out in shown():
+            ran = self.shell(command)
+            self.assertEqual(ran, Ran(0, re.sub(r"(?m)^    ", "", out).encode(), b""), command)
+        self.install()
+        for step in (self.see_the_pages, self.complete_in_bash):
+            with self.subTest(step=step.__name__):
+                step()
+        self.remove()
+
+    def build_by_the_first_command(self):
+        ran = self.shell(commands("Set-up")[0])
+        page = self.read(os.path.join(self.top, "README.md"))
+        self.assertEqual((ran.status, ran.out.decode()), (0, f"{hashlib.sha256(page).hexdigest()}  README.md\n"))
+        self.assertIn(b"digests: proving and building the program", ran.err)
+        self.assertEqual(self.shell(commands("Set-up")[0]).err, b"")
+
+    def install(self):
+        """Nothing stands in the way, and the tools are found."""
+        put, _ = commands("Installing")[:2]
+        ran = self.shell(put.replace("PREFIX", f"'{self.prefix}'"))
+        self.assertEqual((ran.status, ran.err), (0, b""))
+        self.assertIn(f"{self.in_prefix('bin')}/digests: the program, version ".encode(), ran.out)
+        for name in NAMES[1:]:
+            self.assertEqual(self.shell(f"{name} --version").out.decode(), f"{name} (digests), profile 2\n")
+
+    def see_the_pages(self):
+        """By the page's path, and by its name alone."""
+        if shutil.which("man") is None:
+            self.skipTest("man isn't installed")
+        for name in NAMES:
+            page = self.in_prefix(f"share/man/man1/{name}.1")
+            ran = self.shell(f"MANWIDTH=80 man -l '{page}'")
+            self.assertEqual((ran.status, ran.err), (0, b""))
+            self.assertTrue(ran.out.decode().startswith(f"{name.upper()}(1)"), ran.out[:80])
+            self.assertEqual(self.shell(f"man -w {name}").out.decode().strip(), page)
+
+    def complete_in_bash(self):
+        """The package for completions finds the file by the tool's name."""
+        if shutil.which("bash") is None or not os.path.exists(LOADER):
+            self.skipTest("bash-completion isn't installed")
+        os.mkdir(self.path("here"))
+        where = self.in_prefix("share")
+        terminal = Terminal("bash", self.folder, f"XDG_DATA_DIRS='{where}'; . {LOADER}", NAMES)
+        self.addCleanup(terminal.close)
+        self.assertEqual(terminal.completed("b2sum -l 25"), ["-l", "256"])
+        self.assertEqual(terminal.completed("digests sha2"), ["sha224sum", "sha256sum"])
+        self.assertEqual(terminal.completed("anysum -c --st"), ["-c", "--status", "--strict"])
+
+    def remove(self):
+        _, away = commands("Installing")[:2]
+        self.assertEqual(self.shell(away.replace("PREFIX", f"'{self.prefix}'")), Ran(0, b"", b""))
+        self.assertFalse(os.path.lexists(self.prefix))
+        said = subprocess.run(["git", "-C", self.top, "status", "--short"], stdout=subprocess.PIPE, check=True)
+        self.assertEqual(said.stdout, b"")

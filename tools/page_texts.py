@@ -1,0 +1,218 @@
+"""What the manual pages say, and the one table of the tools and of their options, from which pages and completions are
+made."""
+
+DATE = "2026-11-22"  # of the last change of these texts
+
+# Tool: its standard, the algorithm's name there, and the bits of its digest. The last has none of its own.
+TOOLS = {
+    "md5sum": ("RFC 1321", "MD5", 128),
+    "sha1sum": ("FIPS 180-4", "SHA1", 160),
+    "sha224sum": ("FIPS 180-4", "SHA224", 224),
+    "sha256sum": ("FIPS 180-4", "SHA256", 256),
+    "sha384sum": ("FIPS 180-4", "SHA384", 384),
+    "sha512sum": ("FIPS 180-4", "SHA512", 512),
+    "b2sum": ("RFC 7693", "BLAKE2b", 512),
+    "anysum": (None, None, None),
+}
+
+# Where an option may stand: only with --check, only without it, or wherever it likes.
+WITH, WITHOUT, EITHER = "with", "without", "either"
+
+# Long name: where it may stand, and what is said of it beyond the help's words.
+OPTIONS = {
+    "binary": (WITHOUT, "Put a star before each name in the lines that are written. The bytes that are read are the "
+               "same: no system that this program runs on has files that are text for one and binary for another."),
+    "check": (EITHER, "Take each {FILE} for a manifest, read the files that it lists, and report which of them have "
+              "the checksum that stands there; see CHECKING."),
+    "length": (EITHER, "Make a digest of {BITS} bits: a multiple of 8 from 8 to 512; 0 means 512. A shorter digest "
+               "isn't the beginning of a longer one. With `--check` the number is looked at and has no further effect, "
+               "since each line says its length by its digits."),
+    "tag": (WITHOUT, "Write lines of the tagged form, which name the algorithm. With `--text` after it, it is "
+            "refused."),
+    "text": (WITHOUT, "Put a space before each name in the lines that are written, as is done without it. Of "
+             "`--binary` and `--text` the last counts."),
+    "zero": (WITHOUT, "End each line by a byte 0 in place of a newline, and write each name as it is. Such lines "
+             "can't be checked."),
+    "ignore-missing": (WITH, "Pass over a listed file that isn't there. A manifest of which no file has the right "
+                       "checksum is still a failure."),
+    "quiet": (WITH, "Print no line for a file that has the right checksum."),
+    "status": (WITH, "Print no line for any file and no warning: the exit status tells. Files and manifests that "
+               "can't be read are still told of. Of `--quiet`, `--status` and `--warn` the last counts."),
+    "strict": (WITH, "Fail where a line of a manifest is improperly formatted."),
+    "warn": (WITH, "Name each line of a manifest that is improperly formatted, by its number."),
+    "help": (EITHER, "Print a short help, and end."),
+    "version": (EITHER, "Print the version of what the tools do, and end."),
+}
+
+REFUSED_BY_ANYSUM = "Of no use here, since no lines of checksums are written."
+
+USE_OF_OPTIONS = (
+    "Options and names may stand in any order; after `--` every word is a name. A long option may be cut short where "
+    "what is left is the beginning of one option alone.")
+
+LINE_FORMATS = (
+    "The digits are hexadecimal, in lower case where they are written.",
+    "A backslash, a newline or a carriage return in a name is written as `\\\\`, `\\n` or `\\r`, and a backslash then "
+    "stands before the whole line. So each line is one line, whatever the name. With `--zero` none of this is done.",
+)
+
+TAGS = {
+    "b2sum": ("The tag of a digest that was shortened by `--length` is `BLAKE2b-`{BITS}.",),
+    "anysum": ("{TAG} is `MD5`, `SHA1`, `SHA224`, `SHA256`, `SHA384`, `SHA512`, `BLAKE2b`, or `BLAKE2b-`{BITS} for a "
+               "shorter digest. Lines of the other forms don't say their algorithm: they are improperly formatted.",),
+}
+
+CHECKING = (
+    "Each {FILE} is a manifest: a list of lines as they are written without `--zero`. Each line is checked and "
+    "reported before the next one is read. A listed file named `-` is standard input, except in a manifest that comes "
+    "from there itself.",
+    "Empty lines, and lines that begin with `#`, are passed over. A carriage return at a line's end is dropped. Blanks "
+    "at its beginning are passed over, and digits of either case are read. In the tagged form the space before the "
+    "parenthesis may be missing, and there may be none or several about the equals sign.",
+    "On standard output, for each listed file:",
+    "At the end of each manifest, standard error tells how many lines were improperly formatted, how many files could "
+    "not be read, and how many checksums did not match. Not with `--status`.",
+)
+
+# How a line is read, between the first and the last paragraphs of that.
+CHECKING_OF_ANYSUM = (
+    "Any other line is improperly formatted, also one that names no algorithm: it is counted, and fails the check only "
+    "with `--strict`, or where there is no other.")
+
+CHECKING_OF_OTHERS = (
+    "The first line that begins with its digits decides how all such lines of the manifest are read: where a space or "
+    "a star follows the blank behind the digits, that isn't part of the name; otherwise the name begins at once. A "
+    "line that can't be read so is improperly formatted: it is counted, and fails the check only with `--strict`, or "
+    "where there is no other.")
+
+REPORTS = {
+    "{NAME}: OK": "It has this checksum. Not with `--quiet` or `--status`.",
+    "{NAME}: FAILED": "It has another checksum. Not with `--status`.",
+    "{NAME}: FAILED open or read": "It couldn't be read; standard error tells why. Not with `--status`.",
+}
+
+STATUSES = {
+    "0": "Every file was read and its line written; or, with `--check`, every manifest was read to its end, lists a "
+         "file that has the right checksum, and none that has another or couldn't be read; and with `--strict` no line "
+         "is improperly formatted.",
+    "1": "Anything else: also a fault of the options, memory that is refused, or an output that fails.",
+    "127": "The program was built for later processors than this machine's. Nothing was done.",
+}
+
+DIAGNOSTICS = {
+    "{FILE}: No such file or directory": "It isn't there. The other files are still read.",
+    "{FILE}: Permission denied": "It may not be opened. The other files are still read.",
+    "{FILE}: Input/output error": "It can't be read for another reason: a directory, a device that fails, a name that "
+                                  "isn't UTF-8 in a manifest, standard input that is closed. The other files are "
+                                  "still read.",
+    "{FILE}: {N}: improperly formatted {TAG} checksum line": "With `--warn`: line number {N} of the manifest.",
+    "{FILE}: no properly formatted checksum lines found": "The manifest lists nothing.",
+    "{FILE}: no file was verified": "With `--ignore-missing`: no listed file has the right checksum.",
+    "WARNING: 1 listed file could not be read": "How many; and the like for lines and for checksums.",
+    "memory exhausted": "Memory was refused. The run ends there; what was written stands.",
+    "write error": "An output failed, or its reader went away. The run ends there.",
+    "unrecognized option '--{NAME}'": "And the like: a fault of the options. Nothing was read.",
+}
+
+LIMITS = (
+    "A word of the command line that isn't UTF-8 can't be read: the answer is `digests: words not read`. A name in a "
+    "manifest that isn't UTF-8 can't be opened.",
+    "A directory is an `Input/output error`.",
+    "What `--zero` writes can't be checked.",
+    "A file of 2^61 bytes or more is an `Input/output error`.",
+    "One line is held in memory at a time, however long the manifest is.",
+    "A line of up to 8 KiB goes to the system in one piece, so that lines of several runs into one file or pipe are "
+    "never torn. A longer line may be.",
+)
+
+SECURITY = {
+    "broken": "{0} is broken for forgery: anyone can make two files with the same checksum, and for a signed or "
+              "trusted list that is enough. It still finds damage by chance. Where somebody might cheat, use "
+              "`sha256sum`(1) or `b2sum`(1).",
+    "good": "No way is known to make two files with the same {0} checksum.",
+    "length": "With `--length` two such files can be found by about 2^({BITS}/2) tries: give 256 or more where somebody "
+              "might cheat.",
+    "any": "Under this tool a manifest chooses the algorithm line by line. MD5 and SHA-1 are broken for forgery: "
+           "anyone can make two files with the same checksum. Where somebody might cheat, look at the lines' tags.",
+    "manifest": "A checksum proves no more than the manifest: one that comes from the same place as the files shows "
+                "damage, and no forgery. The tools are not for secrets: the time that a run takes may depend on what "
+                "is read, and memory isn't wiped.",
+}
+
+DIFFERENCES = (
+    "Names in messages and reports stand as they do in lines, with backslash, newline and carriage return escaped; "
+    "GNU's tools quote some names there as a shell does.",
+    "A directory is an `Input/output error` in place of `Is a directory`.",
+    "A reader that goes away, as `head`(1) does, is a write error with status 1; GNU's tools are ended by a signal.",
+    "The language that is set and `POSIXLY_CORRECT` have no effect.",
+    "`--help` and `--version` print other texts.",
+)
+
+DIFFERENCE_OF_LENGTH = (
+    "The tag `BLAKE2b-512` is read, too, and a fault of `--length` is told in other words.")
+
+DIFFERENCE_OF_ANYSUM = "GNU has no tool of this name. The nearest is `cksum`(1), whose lines name the algorithm."
+
+EXAMPLES_OF_OTHERS = (
+    ("A file's checksum, and later whether the file still has it:",
+     "{tool} image.iso > image.sum", "{tool} -c image.sum"),
+    ("All files below a folder, whatever their names:",
+     "find . -type f ! -name SUMS -print0 | xargs -0 -r {tool} > SUMS"),
+    ("The same on all processors, in another order:",
+     "find . -type f ! -name SUMS -print0 |", "    xargs -0 -r -n 32 -P \"$(nproc)\" {tool} > SUMS"),
+    ("Whether all still have them, with a line only for those that haven't; then the same on all processors, where "
+     "lines go to one run and the next in turn:",
+     "{tool} -c --quiet SUMS", "split -e -n \"r/$(nproc)\" --filter='{tool} -c --quiet' SUMS"),
+    ("A large file with a sign of progress, by `pv`(1), and its check:",
+     "pv image.iso | {tool} > image.sum", "pv image.iso | {tool} -c image.sum"),
+)
+
+EXAMPLES_OF_ANYSUM = (
+    ("A manifest of two algorithms, and its check:",
+     "sha256sum --tag image.iso > image.sum", "b2sum --tag image.iso >> image.sum", "{tool} -c image.sum"),
+    ("All files below a folder, on all processors:",
+     "find . -type f ! -name SUMS -print0 |", "    xargs -0 -r -n 32 -P \"$(nproc)\" sha512sum --tag > SUMS",
+     "{tool} -c --quiet SUMS"),
+    ("A check on all processors, where lines go to one run and the next in turn:",
+     "split -e -n \"r/$(nproc)\" --filter='{tool} -c --quiet' SUMS"),
+    ("A large file with a sign of progress, by `pv`(1):",
+     "pv image.iso | sha256sum --tag > image.sum", "pv image.iso | {tool} -c image.sum"),
+)
+
+PROGRAM_USES = ("`digests` {TOOL}", "{TOOL}")
+
+PROGRAM = (
+    "One program holds eight tools that write and check the checksums of files. {TOOL} says which of them it is to be; "
+    "each has a page of its own, with its options.",
+    "Called by a link that has a tool's name, as those beside the installed program, it is that tool. What it writes "
+    "is proved by machine-checked contracts, from its arguments to its exit status.",
+)
+
+PROGRAM_OPTIONS = (
+    "It has none of its own, and each {WORD} is for the tool. `digests `{TOOL}` --help` lists the tool's.")
+
+PROGRAM_LINES = "Each tool writes and reads lines with digits and a name; its page has their forms."
+
+PROGRAM_CHECKING = "`--check` is an option of every tool; its page says what is read, and what is written."
+
+PROGRAM_DIAGNOSTICS = {
+    "digests: unknown tool": "The first word, or the link's name, is no tool's.",
+    "digests: words not read": "A word isn't UTF-8, or there is no memory for the words.",
+    "this machine lacks a feature of x86-64-v3": "And the like: the program was built for later processors.",
+}
+
+PROGRAM_EXAMPLES = (
+    ("A file's checksum, and later whether the file still has it:",
+     "digests sha256sum image.iso > image.sum", "digests sha256sum -c image.sum"),
+    ("All files below a folder on all processors, whatever their names, and their check:",
+     "find . -type f ! -name SUMS -print0 |", "    xargs -0 -r -n 32 -P \"$(nproc)\" digests b2sum > SUMS",
+     "digests b2sum -c --quiet SUMS"),
+    ("A large file with a sign of progress, by `pv`(1):", "pv image.iso | digests sha512sum"),
+)
+
+PROGRAM_SECURITY = (
+    "MD5 and SHA-1 are broken for forgery: anyone can make two files with the same checksum. Where somebody might "
+    "cheat, use `sha256sum`(1) or `b2sum`(1), and a manifest that comes from a place that can be trusted.")
+
+PROGRAM_DIFFERENCES = (
+    "GNU's tools are a program each; the pages say what else differs. `anysum`(1) has no counterpart there.")

@@ -1,0 +1,69 @@
+"""Manual pages in the macros of man(7). In a text `these marks` stand around what is typed as it is, and {these} around
+a name that stands for another."""
+
+import re
+import textwrap
+
+WIDTH = 78
+
+
+def escaped(text):
+    """A text with what roff reads as its own signs written out."""
+    for sign, spelled in (("\\", "\\e"), ("-", "\\-"), ("'", "\\(aq"), ("^", "\\(ha"), ("~", "\\(ti")):
+        text = text.replace(sign, spelled)
+    return text
+
+
+def inline(text):
+    """A text with its marks as changes of the font; hyphens are those of words, except in what is typed."""
+    parts = re.split(r"(`[^`]*`|\{[^}]*\})", text)
+    for place, part in enumerate(parts):
+        if part.startswith("`"):
+            parts[place] = "\\%\\fB" + escaped(part[1:-1]).replace(" ", "\\ ") + "\\fR"
+        elif part.startswith("{"):
+            parts[place] = "\\fI" + escaped(part[1:-1]) + "\\fR"
+    return "".join(parts)
+
+
+def paragraph(text):
+    """A text as lines, each sentence on lines of its own, as roff wants them."""
+    lines = []
+    for sentence in re.split(r"(?<=[.?!]) (?=[A-Z`{])", inline(text).replace("\\ ", "\0")):
+        lines += textwrap.wrap(sentence, WIDTH, break_long_words=False, break_on_hyphens=False)
+    return [guarded(line.replace("\0", "\\ ")) for line in lines]
+
+
+def guarded(line):
+    """A line that isn't taken for a macro."""
+    return "\\&" + line if line[:1] in (".", "'") else line
+
+
+def item(mark, *texts):
+    """What a list says of a mark; each further text is a paragraph below the same mark."""
+    lines = [".TP", inline(mark)] + paragraph(texts[0])
+    if texts[1:]:
+        lines += [".RS"] + [line for text in texts[1:] for line in [".PP", *paragraph(text)]] + [".RE"]
+    return lines
+
+
+def shown(*commands):
+    """Lines as they are, moved to the right."""
+    return [".PP", ".RS 4", ".nf", *(guarded(escaped(command)) for command in commands), ".fi", ".RE"]
+
+
+def section(title, *parts):
+    """A part is a text, or a list of lines of roff."""
+    lines = [f".SH {title}"]
+    for part in parts:
+        if isinstance(part, str):
+            lines += ([] if lines[-1].startswith(".SH") else [".PP"]) + paragraph(part)
+        else:
+            lines += part[1:] if lines[-1].startswith(".SH") and part[0] == ".PP" else part
+    return lines
+
+
+def page(name, date, source, *sections):
+    """A whole page."""
+    head = [".\\\" Made by tools/pages.py: edit what that reads."]
+    head.append(f'.TH {name.upper()} 1 "{date}" "{source}" "User Commands"')
+    return "\n".join(head + [line for part in sections for line in part]) + "\n"
