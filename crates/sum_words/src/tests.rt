@@ -305,6 +305,21 @@ fn words_are_any_texts(rt: HostRuntime) -> Result<(), Fail> {
     Ok(())
 }
 
+// There is room for a word of any length.
+#[test]
+fn long_words(rt: HostRuntime) -> Result<(), Fail> {
+    let mut words = Words::new(rt.alloc());
+    let mut long = String::new(rt.alloc());
+    for i in 0..3 {
+        for _ in 0..102_401 {
+            long.push('y')?;
+        }
+        words.add(long.as_str())?;
+        assert!(rt; words.get(i) == Some(long.as_str()));
+    }
+    Ok(())
+}
+
 #[test]
 fn tools(rt: HostRuntime) -> Result<(), Fail> {
     for (name, tool) in [
