@@ -33,4 +33,4 @@ returns-in_default-plain-clause-reads g c =
     rw c.deref.ensures.value at (sym c.is_ignored.ensures ∙ c.if-is_ignored.false) in
     let untagged = rw c.deref-3.ensures.value at c.in_default.ensures.parts in
     let parts = rw c.deref-in_default.ensures.value at c.in_default-plain.ensures.parts in
-    reads-none c.args.algos c.args.form c.args.line.now.items c.args.line.now.items untagged parts heard
+    reads-none c.args.algos _ c.args.line.now.items c.args.line.now.items untagged parts heard
