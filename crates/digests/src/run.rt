@@ -22,8 +22,8 @@ use sum_words::{
 /// Runs a tool on its words: writes what they mean for what standard input and the source have to give, and answers the
 /// status, 0 where all is good and 1 where anything isn't (coreutils manual, "md5sum invocation").
 ///
-/// `Stop::Memory` where memory was refused; the outputs then stand at a place between two operands. `Stop::Write` where
-/// a write failed; each output then holds a front of its text.
+/// `Stop::Memory` where memory was refused; the outputs then stand at a place between two operands or, in checking,
+/// between two lines of a manifest. `Stop::Write` where a write failed; each output then holds a front of its text.
 pub fn run<A: Allocator + Copy, I: Input + Drop, S: Source, O: Sink, E: Sink>(
     alloc: A,
     tool: Tool,

@@ -52,8 +52,8 @@ fn put_escape<S: Sink>(sink: &mut S, byte: u8) -> Result<(), SinkFault>
     }
 }
 
-/// Unescapes the bytes of the line from that place on. True: they were the escape of a name, and are now
-/// that name. False: they are the escape of no name; what stands before the place is as it was, what stands
+/// Unescapes the bytes of the line from that place on, which is at most its length. True: they were the escape of a
+/// name, and are now that name. False: they are the escape of no name; what stands before the place is as it was, what stands
 /// behind it is open, and the line isn't longer.
 pub fn unescape_in<A: Allocator>(line: &mut Vec<u8, A>, from: usize) -> bool
     requires { from ≤ vec_len line.old }

@@ -32,8 +32,8 @@ ghost use Rattle.hex.specs.Hex.{encode_lower};
 ghost use Rattle.sum_lines.specs.Parts.{part_text};
 ghost use Rattle.sum_lines.specs.Escape.{escape};
 
-/// Writes the line of a name and its digest. A fault where a write failed; a shorter front of the line is
-/// then written.
+/// Writes the line of a name and its digest, which has the kind's length. A fault where a write failed; a shorter front
+/// of the line is then written.
 pub fn put_line<S: Sink>(
     sink: &mut S,
     style: Style,
