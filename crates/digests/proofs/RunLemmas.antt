@@ -12,7 +12,8 @@ use Rattle.sum_engine.specs.declared.settings.Settings.{Settings}
 use Rattle.sum_engine.specs.declared.settings.CheckSettings.{CheckSettings}
 use Rattle.sum_engine.specs.Generation.{generated}
 use Rattle.sum_engine.specs.Checking.{checked, checked_upto}
-use Rattle.sum_engine.specs.Runs.{CheckGives, RefusedOnMemory, PlaceOf}
+use Rattle.sum_engine.specs.Runs.{CheckGives, RefusedOnMemory}
+use Rattle.sum_engine.specs.Places.{PlaceOf}
 use Rattle.sum_words.specs.Tools.{name_of}
 use Rattle.sum_words.specs.declared.reading.Job.{Job}
 use Rattle.sum_words.specs.declared.reading.Job.TheVariants as jobs

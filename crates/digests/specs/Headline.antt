@@ -8,7 +8,8 @@ use Rattle.sum_engine.specs.declared.stop.Stop.TheVariants.{Memory, Write}
 use Rattle.sum_engine.specs.Worlds.{World, reply, after}
 use Rattle.sum_engine.specs.Outcomes.{Outcome}
 use Rattle.sum_engine.specs.Scenes.{Scene, Does}
-use Rattle.sum_engine.specs.Runs.{CutOff, PlaceOf}
+use Rattle.sum_engine.specs.Places.{PlaceOf}
+use Rattle.sum_engine.specs.Scenes.{CutOff}
 use Rattle.sum_words.specs.declared.reading.Job.{Job}
 use Rattle.sum_words.specs.declared.reading.Job.TheVariants as jobs
 use Rattle.sum_words.specs.declared.reading.Request.{Request}

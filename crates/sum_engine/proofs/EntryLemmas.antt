@@ -16,7 +16,7 @@ use Rattle.sum_lines.proofs.TaggedParts.{read_is_tagged}
 use Rattle.sum_lines.specs.Escape.{escape}
 use Rattle.sum_engine.specs.Profiles.{Profile, Present, escape_by}
 use Rattle.sum_engine.specs.Grammar.{named, spelled, raw_of, name_of, entry_by, entry_of, said_of, says, Improper}
-use Rattle.sum_engine.specs.Judging.{said_by, Within}
+use Rattle.sum_engine.specs.joins.Judging.{said_by, Within}
 use Rattle.sum_engine.specs.Laws.{EntryIs}
 use Rattle.sum_engine.proofs.UnescapeOf.{name_is, is_name}
 

@@ -12,7 +12,7 @@ use Rattle.sum_engine.specs.Worlds.{World, reply, read}
 use Rattle.sum_engine.specs.Profiles.{Present}
 use Rattle.sum_engine.specs.Generation.{generated, fault_line}
 use Rattle.sum_engine.specs.Scenes.{scene_by, Generates}
-use Rattle.sum_engine.specs.Asking.{AskGives, Comes}
+use Rattle.sum_engine.specs.joins.Asking.{AskGives, Comes}
 use Rattle.sum_engine.proofs.SceneLemmas.{none_yet, front_of}
 
 -- the name was read

@@ -23,8 +23,11 @@ use Rattle.sum_engine.specs.Verdicts.{Rules, Judged, all_verdicts}
 use Rattle.sum_engine.specs.Reports.{no_counts}
 use Rattle.sum_engine.specs.Checking.{rules_of, checked_by}
 use Rattle.sum_engine.specs.Scenes.{Scene, scene_by, world_by, Does, Cut, AppendsUpTo}
-use Rattle.sum_engine.specs.Steps.{Now, now_by, StepGives, Wants, next_judged, past_lines}
-use Rattle.sum_engine.specs.Runs.{CutOff, WantsAt, RunOf, RunGives, CheckOf, CheckGives}
+use Rattle.sum_engine.specs.Steps.{Now, now_by, StepGives, Wants, next_judged}
+use Rattle.sum_sources.specs.ManifestLines.{past_lines}
+use Rattle.sum_engine.specs.Runs.{RunOf, RunGives, CheckOf, CheckGives}
+use Rattle.sum_engine.specs.Places.{WantsAt}
+use Rattle.sum_engine.specs.Scenes.{CutOff}
 use Rattle.sum_engine.proofs.WorldLemmas.{after-append, dash_asked, name_asked}
 use Rattle.sum_engine.proofs.SceneLemmas.{none_yet, front_of, does_both}
 use Rattle.sum_engine.proofs.RunLemmas.{outs, errs, asks, Did, did_none, did_more, did_end, did_cut, did_some}

@@ -13,7 +13,8 @@ use Rattle.sum_engine.specs.Worlds.{after}
 use Rattle.sum_engine.specs.Profiles.{Profile, Present, Older, lines_by}
 use Rattle.sum_engine.specs.Grammar.{Nothing, said_of, entry_by, entry_of, spelled, raw_of, says}
 use Rattle.sum_engine.specs.Verdicts.{Rules, Judged, judge, asks_of, verdicts}
-use Rattle.sum_engine.specs.Steps.{Now, Handles, next_judged, rest_verdicts, past_lines}
+use Rattle.sum_engine.specs.Steps.{Now, Handles, next_judged, rest_verdicts}
+use Rattle.sum_sources.specs.ManifestLines.{past_lines}
 
 -- the form so far, then a line's, then that of the rest
 pub form_on : (f x g : Form) → form_then f (form_then x g) ≡ form_then (form_then f x) g

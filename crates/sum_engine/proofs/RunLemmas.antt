@@ -14,8 +14,10 @@ use Rattle.sum_engine.specs.Grammar.{says}
 use Rattle.sum_engine.specs.Worlds.{after}
 use Rattle.sum_engine.specs.Reports.{out_of, err_of, counts, counted, end_text, good}
 use Rattle.sum_engine.specs.Scenes.{Scene, Does, Cut}
-use Rattle.sum_engine.specs.Steps.{Now, Handles, Ends, next_judged, next_out, next_err, next_asks, rest_verdicts, start, past_lines}
-use Rattle.sum_engine.specs.Runs.{CutOff, HandledTimes, StepsJoin, StepsEnd, StepsCut}
+use Rattle.sum_engine.specs.Steps.{Now, Handles, Ends, next_judged, next_out, next_err, next_asks, rest_verdicts, start}
+use Rattle.sum_sources.specs.ManifestLines.{past_lines}
+use Rattle.sum_engine.specs.Runs.{HandledTimes, StepsJoin, StepsEnd, StepsCut}
+use Rattle.sum_engine.specs.Scenes.{CutOff}
 use Rattle.sum_engine.proofs.SceneLemmas.{does_nothing, does_both, cut_after}
 use Rattle.sum_engine.proofs.RestLemmas.{rest_head, rest_none, rest_on, past_next, past_ending}
 use Rattle.sum_engine.proofs.CountLemmas.{counts_more}

@@ -22,7 +22,7 @@ use Rattle.sum_engine.specs.Grammar.{Said, says}
 use Rattle.sum_engine.specs.Verdicts.{Rules, judge}
 use Rattle.sum_engine.specs.Reports.{out_by, err_by, counted, summary}
 use Rattle.sum_engine.specs.Scenes.{Scene, scene_by, AppendsUpTo}
-use Rattle.sum_engine.specs.Judging.{JudgeGives, judgement_asks}
+use Rattle.sum_engine.specs.joins.Judging.{JudgeGives, judgement_asks}
 use Rattle.sum_engine.specs.Steps.{now_by, StepGives, HandleGives}
 use Rattle.sum_engine.proofs.WorldLemmas.{after-none}
 use Rattle.sum_engine.proofs.SceneLemmas.{none_yet, front_of}

@@ -22,8 +22,8 @@ use Rattle.sum_engine.specs.Worlds.{World, is_dash, reply, after, read}
 use Rattle.sum_engine.specs.Grammar.{Said, Nothing, Improper, Spells, says}
 use Rattle.sum_engine.specs.Verdicts.{Rules, not_found, against, judge, asks_by, asks_of, verdicts}
 use Rattle.sum_engine.specs.Checking.{rules_of, checked, checked_by}
-use Rattle.sum_engine.specs.Judging.{said_asks}
-use Rattle.sum_engine.specs.Taking.{lines_ask, asks_stdin, stdin_by, StdinOf, TakesStdin}
+use Rattle.sum_engine.specs.joins.Judging.{said_asks}
+use Rattle.sum_engine.specs.joins.Taking.{lines_ask, asks_stdin, stdin_by, StdinOf, TakesStdin}
 use Rattle.sum_engine.proofs.StepLemmas.{now}
 use Rattle.sum_engine.proofs.RestLemmas.{form_on, said_stays}
 

@@ -15,8 +15,8 @@ use Rattle.sum_engine.specs.declared.verdict.Verdict.TheVariants.{Bad, Right, Wr
 use Rattle.sum_engine.specs.Worlds.{World, is_dash, reply, read, after}
 use Rattle.sum_engine.specs.Grammar.{Spells}
 use Rattle.sum_engine.specs.Verdicts.{Rules, Judged, verdict_of, not_found, against, asks_by}
-use Rattle.sum_engine.specs.Asking.{AskGives, Comes}
-use Rattle.sum_engine.specs.Judging.{JudgeGives, compared}
+use Rattle.sum_engine.specs.joins.Asking.{AskGives, Comes}
+use Rattle.sum_engine.specs.joins.Judging.{JudgeGives, compared}
 
 -- a reply against the line's digest
 abbrev verdict_by : Bool → KindValue → List ℕ → Reply → Verdict

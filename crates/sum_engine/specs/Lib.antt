@@ -7,13 +7,9 @@ pub mod Verdicts
 pub mod Reports
 pub mod Checking
 pub mod Scenes
-pub mod Asking
 pub mod Steps
-pub mod Taking
-pub mod Listings
-pub mod Judging
-pub mod States
-pub mod Views
+pub mod Places
 pub mod Runs
 pub mod Laws
 pub mod OldVerdicts
+pub mod joins

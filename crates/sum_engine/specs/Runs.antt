@@ -1,7 +1,8 @@
--- Joins a checker's steps to a whole manifest.
+-- What a checker's steps come to: a whole manifest.
 use Rattle.std.specs.Prelude.{ℕ, zero, suc, ◌≡◌, ◌+◌, ◌⊎◌, ◌<◌, Bool, List, ◌++◌, take, drop, length, flat_map, Option, None, Some, Result, Ok, Err, ⊤}
 use Rattle.sum_sources.specs.Contents.{Content, clip}
 use Rattle.sum_sources.specs.Sources.{Reply, Refused, Given, after_refusal}
+use Rattle.sum_sources.specs.ManifestLines.{past_lines}
 use Rattle.sum_engine.specs.declared.settings.CheckSettings.{CheckSettings}
 use Rattle.sum_engine.specs.declared.stop.Stop.{Stop}
 use Rattle.sum_engine.specs.declared.stop.Stop.TheVariants.{Memory, Write}
@@ -10,21 +11,9 @@ use Rattle.sum_engine.specs.Profiles.{lines_by}
 use Rattle.sum_engine.specs.Verdicts.{Rules, asks_of, all_verdicts}
 use Rattle.sum_engine.specs.Reports.{out_of, err_of, counts, end_text, good}
 use Rattle.sum_engine.specs.Checking.{checked, checked_upto}
-use Rattle.sum_engine.specs.Scenes.{Scene, Does, Cut}
-use Rattle.sum_engine.specs.Steps.{Now, Handles, Ends, start, past_lines, next_out, next_err, next_asks}
-
--- these names were asked and a front of each text was written, and these are a front of what a whole run comes to
-abbrev pub CutOff : Scene → Scene → List ℕ → List ℕ → List (List ℕ) → Type 0
-CutOff a b out err asks =
-    (asked : List (List ℕ)) × (rest : List (List ℕ)) × (asks ≡ asked ++ rest) × Cut a b out err asked
-
--- bytes stand past so many lines
-abbrev pub BytesPast : ℕ → Content → Type 0
-BytesPast k c = 0 < length (past_lines k c).bytes
-
--- the source was refused memory, or bytes of the manifest stand past the lines handled
-abbrev pub WantsAt : ℕ → ℕ → ℕ → Content → Type 0
-WantsAt n m k c = (m ≡ after_refusal n) ⊎ ((m ≡ n) × BytesPast k c)
+use Rattle.sum_engine.specs.Scenes.{Scene, Does, Cut, CutOff}
+use Rattle.sum_engine.specs.Places.{WantsAt, PlaceOf}
+use Rattle.sum_engine.specs.Steps.{Now, Handles, Ends, start, next_out, next_err, next_asks}
 
 -- a new checker that was run to its end, on a manifest that was asked as the first thing
 abbrev pub RunOf : Rules → Content → ℕ → ℕ → Scene → Scene → Result Bool Stop → Type 0
@@ -44,13 +33,6 @@ RunGives r None n m a b x = ⊤
 RunGives r (Some c) n m None b x = ⊤
 RunGives r (Some c) n m (Some a) None x = ⊥
 RunGives r (Some c) n m (Some a) (Some b) x = RunOf r c n m a b x
-
--- where a run of one manifest stands that wants memory: before it was opened, where the source was refused memory; or
--- after it was opened, which gave a content, and some of its lines were handled
-abbrev pub PlaceOf : ℕ → ℕ → ℕ → Reply → Type 0
-PlaceOf n m zero r = m ≡ after_refusal n
-PlaceOf n m (suc k) (Refused f) = ⊥
-PlaceOf n m (suc k) (Given c) = WantsAt n m k (clip c)
 
 -- what checking one manifest does: all of its outcome; on a write fault a front of it; on want of memory all of it up
 -- to a place

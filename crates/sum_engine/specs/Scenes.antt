@@ -1,4 +1,4 @@
--- Joins a call to the definitions: what it works on, and what it did there.
+-- What a call works on, a scene, and what doing and being cut short mean there.
 use Rattle.std.specs.Prelude.{ℕ, ◌≡◌, ◌⊎◌, ◌||◌, Bool, List, ◌++◌, Option, None, Some, Result, Ok, Err, ⊤, is_none}
 use Rattle.std.specs.List.{list_any}
 use Rattle.std.specs.Io.KnownBytes.{Appends}
@@ -51,6 +51,11 @@ pub record Cut (a b : Scene) (o e : List ℕ) (asks : List (List ℕ)) : Type 0 
   pub world : b.world ≡ after a.world asks
   pub out : AppendsUpTo a.out b.out o
   pub err : AppendsUpTo a.err b.err e
+
+-- these names were asked and a front of each text was written, and these are a front of what a whole run comes to
+abbrev pub CutOff : Scene → Scene → List ℕ → List ℕ → List (List ℕ) → Type 0
+CutOff a b out err asks =
+    (asked : List (List ℕ)) × (rest : List (List ℕ)) × (asks ≡ asked ++ rest) × Cut a b out err asked
 
 -- a call of one operand whose outcome is o: all of it, or a write failed, or there was no memory to ask
 abbrev pub OutcomeOf : Outcome → Scene → Scene → Result Bool Stop → Type 0

@@ -1,4 +1,4 @@
--- Joins a checker to the definitions: where it stands in its manifest, and what each of its steps does there.
+-- Where a checker stands in its manifest, and what each of its steps does there.
 use Rattle.std.specs.Prelude.{ℕ, zero, suc, ◌≡◌, ◌+◌, ◌≤◌, ◌⊎◌, ◌<◌, Bool, List, [], ◌∷◌, length, Option, None, Some, Result, Ok, Err, IfSome, ⊤}
 use Rattle.sum_sources.specs.Contents.{Content}
 use Rattle.sum_sources.specs.Sources.{after_refusal}
@@ -93,11 +93,6 @@ rest_verdicts r a =
 -- a new checker
 abbrev pub start : Content → Scene → Now
 start c s = record { rest = c; number = 0; used = 0; form = Undecided; counts = no_counts; scene = s }
-
--- the content past so many lines
-abbrev pub past_lines : ℕ → Content → Content
-past_lines zero c = c
-past_lines (suc k) c = past_lines k (past_line c)
 
 -- a line was handled that has this verdict
 abbrev pub HandleOf : {A : Type 0} → Rules → Judged → Counts → Counts → Scene → Scene → Result A Stop → Type 0

@@ -21,7 +21,7 @@ pub(crate) enum Asked {
 /// The name of standard input.
 pub(crate) const DASH: &[u8] = b"-";
 
-ghost use Rattle.sum_engine.specs.Asking.{AskGives, ComesOf, Sized};
+ghost use Rattle.sum_engine.specs.joins.Asking.{AskGives, ComesOf, Sized};
 
 /// Opens the name, where `-` is standard input, and reads it to its end, by way of the buffer. None where the source
 /// had no memory to open it; the name then doesn't count as asked.

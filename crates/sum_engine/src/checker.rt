@@ -2,10 +2,10 @@
 ghost use Rattle.std.specs.Prelude.{◌≡◌, ◌≤◌, ◌<◌, ◌^◌, ◌+◌, ◌⊎◌, ◌||◌, Ok, Err, Some, None, true, false, Option, Bool, length};
 ghost use Rattle.std.specs.Prelude.{OnOk, IfOk, IfSome, IsErr, is_none};
 ghost use Rattle.std.specs.List.{list_any};
-ghost use Rattle.sum_sources.specs.LineReading.{count_of, has_stopped};
+ghost use Rattle.sum_sources.specs.joins.LineReading.{count_of, has_stopped};
 ghost use Rattle.sum_engine.specs.Profiles.{Present};
 ghost use Rattle.sum_engine.specs.Reports.{total, no_counts};
-ghost use Rattle.sum_engine.specs.States.{IsRunning};
+ghost use Rattle.sum_engine.specs.joins.States.{IsRunning};
 
 use crate::listing::Listing;
 use crate::progress::Progress;
@@ -45,12 +45,12 @@ impl<'a, I: Input> Checker<'a, I> {
     ghost use Rattle.sum_lines.specs.Entries.{form_then, line_form};
     ghost use Rattle.sum_engine.specs.Scenes.{Scene, scene, Failures, refusals_after};
     ghost use Rattle.sum_engine.specs.Steps.{now_by, StepGives, HandleGives, Wants};
-    ghost use Rattle.sum_engine.specs.Views.{rules_of_checker, now_of, to_come, stdin_of, left_of, given_of, handled_of, number_of};
+    ghost use Rattle.sum_engine.specs.joins.Views.{rules_of_checker, now_of, to_come, stdin_of, left_of, given_of, handled_of, number_of};
     ghost use Rattle.sum_engine.specs.Grammar.{says};
-    ghost use Rattle.sum_engine.specs.Judging.{said_asks};
-    ghost use Rattle.sum_engine.specs.Taking.{StdinOf, stdin_by};
+    ghost use Rattle.sum_engine.specs.joins.Judging.{said_asks};
+    ghost use Rattle.sum_engine.specs.joins.Taking.{StdinOf, stdin_by};
     ghost use Rattle.sum_engine.specs.Worlds.{is_dash};
-    ghost use Rattle.sum_engine.specs.Views.{answer_of};
+    ghost use Rattle.sum_engine.specs.joins.Views.{answer_of};
 
     /// A checker of the manifest that `input` gives. In diagnostics the manifest has the name `shown`; `from_stdin`
     /// says whether it came from standard input, where a line that names `-` is improperly formatted.

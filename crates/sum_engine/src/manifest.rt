@@ -7,7 +7,7 @@ ghost use Rattle.sum_engine.specs.Profiles.{Present};
 ghost use Rattle.sum_engine.specs.Checking.{rules_of};
 ghost use Rattle.sum_engine.specs.Scenes.{scene, Failures};
 ghost use Rattle.sum_engine.specs.Runs.{RunGives, CheckGives, RefusedOnMemory};
-ghost use Rattle.sum_engine.specs.Taking.{TakesStdin, stdin_by};
+ghost use Rattle.sum_engine.specs.joins.Taking.{TakesStdin, stdin_by};
 
 use crate::asking::DASH;
 use crate::checker::Checker;

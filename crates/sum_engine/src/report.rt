@@ -8,7 +8,7 @@ ghost use Rattle.sum_lines.specs.Sinks.{Writes};
 ghost use Rattle.sum_engine.specs.Profiles.{Present};
 ghost use Rattle.sum_engine.specs.Generation.{fault_line};
 ghost use Rattle.sum_engine.specs.Reports.{said_of, out_by, bad_line, err_by};
-ghost use Rattle.sum_engine.specs.Listings.{rules_in};
+ghost use Rattle.sum_engine.specs.joins.Listings.{rules_in};
 ghost use Rattle.sum_engine.specs.Scenes.{AppendsUpTo, Kept, Rose};
 
 use crate::listing::Listing;

@@ -19,7 +19,7 @@ pub(crate) struct Counts {
 
 ghost use Rattle.sum_engine.specs.Reports.{list_line, warning, warnings, unverified, summary, good};
 ghost use Rattle.sum_engine.specs.Reports.{entries, total, counted, no_counts};
-ghost use Rattle.sum_engine.specs.Listings.{rules_in};
+ghost use Rattle.sum_engine.specs.joins.Listings.{rules_in};
 ghost use Rattle.sum_sources.specs.declared.fault.Ending.TheVariants.{Whole};
 
 impl Counts {

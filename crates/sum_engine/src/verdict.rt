@@ -40,8 +40,8 @@ pub(crate) struct Judgement<'a> {
     pub name: &'a [u8],
 }
 
-ghost use Rattle.sum_engine.specs.Listings.{rules_in};
-ghost use Rattle.sum_engine.specs.Judging.{said_by, Within, JudgeGives, compared, judgement_asks, said_asks};
+ghost use Rattle.sum_engine.specs.joins.Listings.{rules_in};
+ghost use Rattle.sum_engine.specs.joins.Judging.{said_by, Within, JudgeGives, compared, judgement_asks, said_asks};
 
 /// Reads a line, in a list of the form that the lines before it have.
 pub(crate) fn read<A: Allocator>(algos: Algos, form: Form, line: &mut Vec<u8, A>) -> (Reading, Form)

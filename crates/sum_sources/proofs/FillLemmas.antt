@@ -11,7 +11,7 @@ use Rattle.sum_sources.specs.declared.fault.Ending.{Ending}
 use Rattle.sum_sources.specs.declared.fault.Ending.TheVariants.{Broken}
 use Rattle.sum_sources.specs.Contents.{Content, limit, WhereTold, ReadsFrom, ReadGives}
 use Rattle.sum_sources.specs.Standard.{nothing}
-use Rattle.sum_sources.specs.LineReading.{clip_to, behind, FillOf}
+use Rattle.sum_sources.specs.joins.LineReading.{clip_to, behind, FillOf}
 use Rattle.sum_sources.proofs.ContentLemmas.{limit-value}
 
 pub content-same : (c d : Content) → c.bytes ≡ d.bytes → c.ending ≡ d.ending → c ≡ d

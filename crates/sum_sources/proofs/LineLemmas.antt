@@ -18,7 +18,7 @@ use Rattle.sum_sources.specs.declared.lines.State.TheVariants as states
 use Rattle.sum_sources.specs.Contents.{Content, WhereTold}
 use Rattle.sum_sources.specs.Standard.{nothing}
 use Rattle.sum_sources.specs.ManifestLines.{last_line, line_pieces, pieces, lines, past_line, NoNewline, LineOf}
-use Rattle.sum_sources.specs.LineReading.{at_state, EndsPiece, IsLastPiece, PieceOf}
+use Rattle.sum_sources.specs.joins.LineReading.{at_state, EndsPiece, IsLastPiece, PieceOf}
 use Rattle.sum_sources.proofs.FillLemmas.{content-same}
 use Rattle.sum_sources.proofs.ToldLemmas.{WhereTold-map}
 

@@ -12,7 +12,7 @@ use Rattle.sum_sources.specs.declared.lines.Next.TheVariants.{Line, NoMore}
 use Rattle.sum_sources.specs.declared.lines.LineStop.TheVariants as stops
 use Rattle.sum_sources.specs.Contents.{Content, WhereTold}
 use Rattle.sum_sources.specs.Standard.{nothing}
-use Rattle.sum_sources.specs.LineReading.{behind, clip_to, at_state, FillOf, TakesPiece, EndsPiece, PieceOf}
+use Rattle.sum_sources.specs.joins.LineReading.{behind, clip_to, at_state, FillOf, TakesPiece, EndsPiece, PieceOf}
 use Rattle.sum_sources.specs.ManifestLines.{NoNewline}
 use Rattle.sum_sources.proofs.FillLemmas.{content-same}
 use Rattle.sum_sources.proofs.ToldLemmas.{WhereTold-map, WhereTold-then}

@@ -1,5 +1,5 @@
 -- The lines of a manifest.
-use Rattle.std.specs.Prelude.{ℕ, ◌≡◌, ◌+◌, ◌==◌, false, List, [], ◌∷◌, ◌++◌, map, All, Result, Ok, Err, ⊤}
+use Rattle.std.specs.Prelude.{ℕ, zero, suc, ◌≡◌, ◌+◌, ◌==◌, false, List, [], ◌∷◌, ◌++◌, map, All, Result, Ok, Err, ⊤}
 use Rattle.std.specs.List.{slice_split, after_first, flat_map}
 use Rattle.std.specs.Str.Lines.{strip_carriage_return}
 use Rattle.sum_sources.specs.declared.fault.Ending.{Ending}
@@ -60,3 +60,8 @@ abbrev pub lines_after : ℕ → Result Next LineStop → ℕ
 lines_after n (Ok Line) = n + 1
 lines_after n (Ok NoMore) = n
 lines_after n (Err e) = n
+
+-- the content past so many lines
+abbrev pub past_lines : ℕ → Content → Content
+past_lines zero c = c
+past_lines (suc k) c = past_lines k (past_line c)

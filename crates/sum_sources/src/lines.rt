@@ -3,7 +3,7 @@ ghost use Rattle.std.specs.Prelude.{◌≡◌, ◌≤◌, ◌<◌, ◌^◌, ◌+
 ghost use Rattle.std.specs.Prelude.{IfOk, IfSome, IsErr, OnOk, if◌then◌else◌};
 ghost use Rattle.std.specs.Str.Lines.{strip_carriage_return};
 ghost use Rattle.sum_sources.specs.Contents.{ReadGives};
-ghost use Rattle.sum_sources.specs.LineStates.{IsReading};
+ghost use Rattle.sum_sources.specs.joins.LineStates.{IsReading};
 
 use crate::{Fault, Input};
 use digest_kinds::LIMIT;
@@ -75,8 +75,8 @@ impl<I: Input> LineReader<I> {
     ghost use Rattle.std.specs.Option.{option_map};
     ghost use Rattle.sum_sources.specs.Contents.{WhereTold, clip};
     ghost use Rattle.sum_sources.specs.ManifestLines.{LineOf, lines_after};
-    ghost use Rattle.sum_sources.specs.LineReading.{buffered, ahead, FillOf, TakesPiece, PieceOf};
-    ghost use Rattle.sum_sources.specs.LineReading.{coming, left, taken_of, used_of, count_of, answer_of, has_stopped};
+    ghost use Rattle.sum_sources.specs.joins.LineReading.{buffered, ahead, FillOf, TakesPiece, PieceOf};
+    ghost use Rattle.sum_sources.specs.joins.LineReading.{coming, left, taken_of, used_of, count_of, answer_of, has_stopped};
 
     /// A reader of the lines of `input`. An input of `LIMIT` bytes or more counts as its first
     /// `LIMIT - 1` bytes and then `Fault::Other`.

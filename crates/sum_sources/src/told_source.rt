@@ -2,7 +2,7 @@
 ghost use Rattle.std.specs.Prelude.{◌≡◌, ◌++◌, ◌∷◌, [], OnOk, OnErr, IfOk, Some, map, max, slice_get};
 ghost use Rattle.std.specs.Option.{option_map};
 ghost use Rattle.sum_sources.specs.Sources.{first_reply, telling_of, OpenGives, after_refusal, refusals_after};
-ghost use Rattle.sum_sources.specs.ToldPairs.{pair_of, reply_of};
+ghost use Rattle.sum_sources.specs.joins.ToldPairs.{pair_of, reply_of};
 
 use crate::{Ending, Fault, Input, OpenFault, Source, Told};
 use std::alloc::Allocator;
@@ -40,7 +40,7 @@ pub struct ToldSource<'a, A: Allocator + Copy> {
 impl<'a, A: Allocator + Copy> Model for ToldSource<'a, A> {
     ghost use Rattle.std.specs.Prelude.{map};
     ghost use Rattle.sum_sources.specs.Sources.{ToldFiles};
-    ghost use Rattle.sum_sources.specs.ToldPairs.{pair_of};
+    ghost use Rattle.sum_sources.specs.joins.ToldPairs.{pair_of};
 
     ghost Value = { ToldFiles };
 

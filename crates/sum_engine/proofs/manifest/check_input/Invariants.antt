@@ -3,8 +3,8 @@ use Rattle.std.specs.Option.{option_map}
 use Rattle.sum_sources.specs.Contents.{clip}
 use Rattle.sum_engine.specs.Scenes.{scene}
 use Rattle.sum_lines.specs.declared.line_reading.Form.TheVariants.{Undecided}
-use Rattle.sum_engine.specs.Taking.{stdin_by}
-use Rattle.sum_engine.specs.Views.{rules_of_checker, stdin_of, now_of, answer_of, number_of}
+use Rattle.sum_engine.specs.joins.Taking.{stdin_by}
+use Rattle.sum_engine.specs.joins.Views.{rules_of_checker, stdin_of, now_of, answer_of, number_of}
 use Rattle.sum_engine.specs.Profiles.{Present}
 use Rattle.sum_engine.specs.Verdicts.{Rules}
 use Rattle.sum_engine.proofs.ManifestLemmas.{Along}

@@ -1,7 +1,7 @@
 use Rattle.std.proofs.Common.{◌≡◌, ◌&&◌, false, slice_range, ap, sym, refl, rules}
 use Rattle.sum_lines.specs.Entries.{Spelled}
 use Rattle.sum_engine.specs.Worlds.{is_dash}
-use Rattle.sum_engine.specs.Listings.{rules_in}
+use Rattle.sum_engine.specs.joins.Listings.{rules_in}
 use Rattle.sum_engine.proofs.VerdictLemmas.{judged_entry}
 use Rattle.sum_engine.proofs.verdict.judge.Goals as goal
 use Rattle.sum_engine.proofs.verdict.judge.Goals.{else-listing-via-then-listing+else-eq, else-listing-via-else-listing}

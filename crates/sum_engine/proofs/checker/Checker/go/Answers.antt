@@ -1,6 +1,6 @@
 use Rattle.std.proofs.Common.{ap}
-use Rattle.sum_sources.specs.LineReading.{coming}
-use Rattle.sum_engine.specs.Views.{rules_of_checker}
+use Rattle.sum_sources.specs.joins.LineReading.{coming}
+use Rattle.sum_engine.specs.joins.Views.{rules_of_checker}
 use Rattle.sum_engine.proofs.StepLemmas.{step_line, step_line_stop, step_end_cut, step_fault_cut}
 use Rattle.sum_engine.proofs.TakingLemmas.{stdin_line}
 use Rattle.sum_engine.proofs.checker.Checker.go.Goals as goal

@@ -2,8 +2,8 @@ use Rattle.std.proofs.Common.{ap, ◌∙◌}
 use Rattle.sum_lines.specs.Entries.{form_then, line_form}
 use Rattle.sum_engine.specs.Profiles.{Present}
 use Rattle.sum_engine.specs.Grammar.{says}
-use Rattle.sum_engine.specs.Judging.{said_by}
-use Rattle.sum_engine.specs.Views.{rules_of_checker}
+use Rattle.sum_engine.specs.joins.Judging.{said_by}
+use Rattle.sum_engine.specs.joins.Views.{rules_of_checker}
 use Rattle.sum_engine.proofs.StepLemmas.{handled, handling_cut}
 use Rattle.sum_engine.proofs.checker.Checker.handle.Goals as goal
 

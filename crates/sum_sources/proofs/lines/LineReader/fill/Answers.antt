@@ -1,7 +1,7 @@
 use Rattle.std.proofs.Common.{rules, ◌≡◌, ◌≤◌, ◌<◌, ◌-◌, ℕ, [], length, take, arith, ap, refl, ◌∙◌}
 use Rattle.std.proofs.lemmas.Result.{err_from_is_err_and}
 use Rattle.std.proofs.lemmas.List.{length-take-le, take-take}
-use Rattle.sum_sources.specs.LineReading.{buffered}
+use Rattle.sum_sources.specs.joins.LineReading.{buffered}
 use Rattle.sum_sources.proofs.FillLemmas.{filled, filled_end, filled_fault, filled_long, none_buffered}
 use Rattle.sum_sources.proofs.lines.LineReader.fill.Goals as goal
 

@@ -1,5 +1,5 @@
 use Rattle.std.proofs.Common.{rules, []}
-use Rattle.sum_sources.specs.LineReading.{ahead}
+use Rattle.sum_sources.specs.joins.LineReading.{ahead}
 use Rattle.sum_sources.proofs.LineLemmas.{gives_ended, gives_stopped, gives_line, gives_no_more, gives_stop}
 use Rattle.sum_sources.proofs.lines.LineReader.next_line.Goals as goal
 

@@ -1,6 +1,6 @@
 use Rattle.std.proofs.Common.{rules, ◌∙◌, ap, arith, true, false}
 use Rattle.sum_sources.specs.Contents.{WhereTold}
-use Rattle.sum_sources.specs.LineReading.{ahead}
+use Rattle.sum_sources.specs.joins.LineReading.{ahead}
 use Rattle.sum_sources.proofs.ReadOnLemmas.{Came, Came-piece, Came-newline, Came-filled, NoNewline-piece, PieceOf-newline, AllCame-end, PieceOf-last, PieceOf-fault, sums_join}
 use Rattle.sum_sources.proofs.lines.LineReader.read_on.Goals as goal
 

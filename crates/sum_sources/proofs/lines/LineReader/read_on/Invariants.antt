@@ -1,6 +1,6 @@
 use Rattle.std.proofs.Common.{◌≡◌, length, ◌^◌, ◌-◌, ◌+◌}
 use Rattle.sum_sources.specs.Contents.{WhereTold}
-use Rattle.sum_sources.specs.LineReading.{ahead, left, used_of}
+use Rattle.sum_sources.specs.joins.LineReading.{ahead, left, used_of}
 use Rattle.sum_sources.specs.ManifestLines.{NoNewline}
 use Rattle.sum_sources.proofs.ReadOnLemmas.{Came}
 use Rattle.sum_sources.proofs.lines.LineReader.read_on.Given as goal

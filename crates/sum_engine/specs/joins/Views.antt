@@ -1,7 +1,7 @@
 -- Joins a checker's fields to where it stands.
 use Rattle.std.specs.Prelude.{ℕ, Bool, Option, None, Some, Result, Ok, Err}
 use Rattle.sum_sources.specs.Contents.{Content}
-use Rattle.sum_sources.specs.LineReading.{coming, left, taken_of, used_of, count_of}
+use Rattle.sum_sources.specs.joins.LineReading.{coming, left, taken_of, used_of, count_of}
 use Rattle.sum_engine.specs.declared.checker.Checker.{Checker}
 use Rattle.sum_engine.specs.declared.checker.State.{State}
 use Rattle.sum_engine.specs.declared.checker.State.TheVariants.{Running, Ended, Stopped}
@@ -9,10 +9,10 @@ use Rattle.sum_engine.specs.declared.progress.Progress.{Progress}
 use Rattle.sum_engine.specs.declared.progress.Progress.TheVariants as progress
 use Rattle.sum_engine.specs.declared.stop.Stop.{Stop}
 use Rattle.sum_engine.specs.Verdicts.{Rules}
-use Rattle.sum_engine.specs.Listings.{rules_in}
+use Rattle.sum_engine.specs.joins.Listings.{rules_in}
 use Rattle.sum_engine.specs.Scenes.{Scene}
 use Rattle.sum_engine.specs.Steps.{Now, now_by}
-use Rattle.sum_engine.specs.Taking.{stdin_by}
+use Rattle.sum_engine.specs.joins.Taking.{stdin_by}
 
 -- what its manifest is checked by
 abbrev pub rules_of_checker : {I : Type 0} → Checker I → Rules

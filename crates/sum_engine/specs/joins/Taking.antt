@@ -14,7 +14,7 @@ use Rattle.sum_engine.specs.Profiles.{lines_by}
 use Rattle.sum_engine.specs.Worlds.{is_dash}
 use Rattle.sum_engine.specs.Grammar.{says}
 use Rattle.sum_engine.specs.Verdicts.{Rules}
-use Rattle.sum_engine.specs.Judging.{said_asks}
+use Rattle.sum_engine.specs.joins.Judging.{said_asks}
 use Rattle.sum_engine.specs.Checking.{checked}
 
 -- the names that lines ask, in a manifest of that form
