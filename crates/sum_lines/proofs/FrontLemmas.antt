@@ -1,5 +1,5 @@
 -- The longest front that passes, and what stands behind a text or a byte.
-use Rattle.std.proofs.Common.{ℕ, ◌≡◌, ◌+◌, ◌<◌, not, Bool, true, false, eq-eqb, ◌==◌, List, [], ◌∷◌, ◌++◌, length, take, zero, suc, min, Option, None, Some, refl, ap, sym, ◌∙◌, arith, inl, inr, subst}
+use Rattle.std.proofs.Common.{ℕ, ◌≡◌, ◌+◌, ◌<◌, not, Bool, true, false, eq-eqb, ◌==◌, List, [], ◌∷◌, ◌++◌, length, Option, None, Some, refl, ap, sym, ◌∙◌, arith, inl, inr, subst}
 use Rattle.std.proofs.lemmas.Bool.{cond-true, cond-false, cases_Bool}
 use Rattle.std.proofs.lemmas.Bool.Decides.{eqb_tells}
 use Rattle.std.proofs.lemmas.List.{take-append-drop, take_at, drop_at}
@@ -42,14 +42,6 @@ prefix_len-all p (x ∷ xs) all =
     let head : p x ≡ true = All-head (λ x. p x ≡ true) x xs all in
     let more = prefix_len-all p xs (All-tail (λ x. p x ≡ true) x xs all) in
     cond-true (p x) (1 + prefix_len p xs) 0 head ∙ omega arith
-
-pub prefix_len-take : (p : ℕ → Bool) (xs : List ℕ) (n : ℕ) → prefix_len p (take n xs) ≡ min n (prefix_len p xs)
-prefix_len-take p xs zero = omega arith
-prefix_len-take p [] (suc n) = omega arith
-prefix_len-take p (x ∷ xs) (suc n) = elim (cases_Bool (p x)) [
-  | inl pass ↦ let more = prefix_len-take p xs n in rw pass (omega (arith, more))
-  | inr stop ↦ rw stop (omega arith)
-]
 
 pub front-at : (p : ℕ → Bool) (xs : List ℕ) (y : ℕ) (ys : List ℕ) → AllPass p xs → p y ≡ false
     → take_while p (xs ++ (y ∷ ys)) ≡ xs

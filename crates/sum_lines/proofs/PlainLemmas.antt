@@ -23,11 +23,11 @@ use Rattle.sum_lines.proofs.TaggedLemmas.{Begins, unmarked-front, hex-no_blank, 
 -- ---- what is read joins to the line
 
 -- a kind and its digest that digits spell
-record Sized (a : Algo) (r : Result (List ℕ) FromHexError) (k : KindValue × List ℕ) : Type 0 where
-  is_algo : k.0.algo ≡ a
-  size : length k.1 ≡ k.0.len
-  spelled : r ≡ Ok k.1
-  has : has_len a k.0.len ≡ true
+pub record Sized (a : Algo) (r : Result (List ℕ) FromHexError) (k : KindValue × List ℕ) : Type 0 where
+  pub is_algo : k.0.algo ≡ a
+  pub size : length k.1 ≡ k.0.len
+  pub spelled : r ≡ Ok k.1
+  pub has : has_len a k.0.len ≡ true
 
 sized-some : (a : Algo) (r : Result (List ℕ) FromHexError) (k : KindValue × List ℕ) → sized a r ≡ Some k → Sized a r k
 sized-some a (Ok d) k h =
@@ -43,12 +43,12 @@ tail_of-some (b ∷ []) tail h = cc
 tail_of-some (b ∷ x ∷ xs) tail h = let e = cond_some (is_blank b) (x ∷ xs) tail h in
     (b, e.0, ap (λ l. b ∷ l) e.1, rw (← e.1) (omega arith))
 
-record Found (a : Algo) (e : Bool) (s : List ℕ) (p : Parts) : Type 0 where
-  escaped : p.escaped ≡ e
-  sized : Sized a (decode_of (take_while is_hex_digit s)) (p.kind, p.digest)
-  tail : tail_of (after_while is_hex_digit s) ≡ Some p.text
+pub record Found (a : Algo) (e : Bool) (s : List ℕ) (p : Parts) : Type 0 where
+  pub escaped : p.escaped ≡ e
+  pub sized : Sized a (decode_of (take_while is_hex_digit s)) (p.kind, p.digest)
+  pub tail : tail_of (after_while is_hex_digit s) ≡ Some p.text
 
-plain_behind-some : (a : Algo) (e : Bool) (s : List ℕ) (p : Parts) → plain_behind a e s ≡ Some p → Found a e s p
+pub plain_behind-some : (a : Algo) (e : Bool) (s : List ℕ) (p : Parts) → plain_behind a e s ≡ Some p → Found a e s p
 unfolding plain_behind
 plain_behind-some a e s p h =
     let d = bind_some _ _ _ h in
@@ -102,7 +102,7 @@ hex-no_hash x h = elim (eqb_tells x 35) [
   | inr other ↦ other.0
 ]
 
-blank-no_hex : (b : ℕ) → is_blank b ≡ true → is_hex_digit b ≡ false
+pub blank-no_hex : (b : ℕ) → is_blank b ≡ true → is_hex_digit b ≡ false
 blank-no_hex b h = elim (eqb_tells b 32) [
   | inl same ↦ rw same.1 refl
   | inr other ↦ elim (eqb_tells b 9) [
@@ -170,7 +170,7 @@ sized-ok : (a : Algo) (ds d : List ℕ) → decode_of ds ≡ Ok d → has_len a 
 sized-ok a ds d h size =
     rw h (cond-true (has_len a (length d)) (Some (record { algo = a; len = length d }, d)) None size)
 
-tail_of-at : (b : ℕ) (tail : List ℕ) → is_blank b ≡ true → 0 < length tail → tail_of (b ∷ tail) ≡ Some tail
+pub tail_of-at : (b : ℕ) (tail : List ℕ) → is_blank b ≡ true → 0 < length tail → tail_of (b ∷ tail) ≡ Some tail
 tail_of-at b [] h lt = absurd (omega arith)
 tail_of-at b (x ∷ xs) h lt = cond-true (is_blank b) (Some (x ∷ xs)) None h
 

@@ -1,14 +1,13 @@
 -- What the scanning functions answer, step by step.
 use Rattle.std.proofs.Common.{ℕ, ◌≡◌, ◌+◌, ◌-◌, ◌*◌, ◌/◌, ◌<◌, ◌≤◌, Bool, true, false, cond, eqb, eq-eqb, ◌==◌, nat_le, List, [], ◌∷◌, ◌++◌, length, take, drop, get_or, slice_range, Option, None, Some, MatchOption, IfSome, IsSome, Result, Ok, Err, Bor, refl, ap, sym, ◌∙◌, arith, inl, inr, subst, append_assoc, length-append, length-drop}
 use lib.Pointwise.{pointwise}
-use Rattle.std.specs.List.{AllPass, prefix_len, take_while}
+use Rattle.std.specs.List.{AllPass, take_while}
 use Rattle.std.specs.Option.{option_copied}
 use Rattle.std.proofs.lemmas.Bool.{cases_Bool, cond-true, cond-false, eqb-true, and_parts, leb-true}
 use Rattle.std.proofs.lemmas.Bool.Decides.{eqb_tells}
 use Rattle.std.proofs.lemmas.Option.{cond_some}
 use Rattle.std.proofs.lemmas.List.{drop_at, get_or-drop, take-append-drop, drop_more, take_at, take_all}
 use Rattle.std.proofs.lemmas.List.Elements.{All-from_get_or}
-use Rattle.std.proofs.lemmas.List.Folds.{length-prefix_len}
 use Rattle.memchr.specs.Find.{Nowhere, Passes, IsLastByte, is_byte}
 use Rattle.hex.specs.Hex.{decode_of, is_hex_digit}
 use Rattle.hex.specs.declared.error.FromHexError.{FromHexError}
@@ -24,7 +23,7 @@ use Rattle.sum_lines.specs.Scanned.{after_while, unmarked, past, split_last, is_
 use Rattle.sum_lines.proofs.FrontLemmas.{isn't, split_last-none, split_last-at, front-and-rest, unmarked-is, past-some, split_last-some}
 use Rattle.sum_lines.proofs.TaggedParts.{opened_of-some}
 use Rattle.sum_lines.proofs.TaggedLemmas.{algo_of-tag}
-use Rattle.sum_lines.proofs.PlainLemmas.{tail_of-some, has_len-some}
+use Rattle.sum_lines.proofs.PlainLemmas.{tail_of-some}
 
 -- ---- a text in front
 
@@ -103,7 +102,7 @@ algo_is s None t f = go (algo_of s) refl
 
 -- ---- digits that spell no digest
 
-has_len-most : (a : Algo) (n : ℕ) → has_len a n ≡ true → n ≤ 64
+pub has_len-most : (a : Algo) (n : ℕ) → has_len a n ≡ true → n ≤ 64
 has_len-most Md5 n h = let e = eqb-true n 16 h in omega arith
 has_len-most Sha1 n h = let e = eqb-true n 20 h in omega arith
 has_len-most Sha224 n h = let e = eqb-true n 28 h in omega arith
@@ -112,7 +111,7 @@ has_len-most Sha384 n h = let e = eqb-true n 48 h in omega arith
 has_len-most Sha512 n h = let e = eqb-true n 64 h in omega arith
 has_len-most Blake2b n h = let k = and_parts (nat_le 1 n) (nat_le n 64) h in leb-true n 64 k.1
 
-decoded-digits : (s d : List ℕ) → decode_of s ≡ Ok d → 1 ≤ length d → length d ≤ 64 → IsDigits s
+pub decoded-digits : (s d : List ℕ) → decode_of s ≡ Ok d → 1 ≤ length d → length d ≤ 64 → IsDigits s
 decoded-digits s d h some few =
     let k = decode_of-ok s d h in
     let size : length s ≡ 2 * length d = k.2 in
@@ -129,34 +128,10 @@ digest_refused s n (Ok d) h some few none = elim (eqb_tells (length d) n) [
 pub digest_none : (s : List ℕ) (n : ℕ) → 1 ≤ n → n ≤ 64 → (IsDigits s → ⊥) → digest_at n (decode_of s) ≡ None
 digest_none s n some few none = digest_refused s n (decode_of s) refl some few none
 
-sized_refused : (a : Algo) (s : List ℕ) (r : Result (List ℕ) FromHexError) → decode_of s ≡ r → (IsDigits s → ⊥)
-    → sized a r ≡ None
-sized_refused a s (Err e) h none = refl
-sized_refused a s (Ok d) h none = elim (cases_Bool (has_len a (length d))) [
-  | inl has ↦ absurd (none (decoded-digits s d h (has_len-some a (length d) has) (has_len-most a (length d) has)))
-  | inr lacks ↦ cond-false (has_len a (length d)) _ None lacks
-]
-
-pub sized_none : (a : Algo) (s : List ℕ) → (IsDigits s → ⊥) → sized a (decode_of s) ≡ None
-sized_none a s none = sized_refused a s (decode_of s) refl none
-
 -- ---- as many digits as a digest has, or another number
 
 decoded-size : (s d : List ℕ) → decode_of s ≡ Ok d → length s ≡ 2 * length d
 decoded-size s d h = let k = decode_of-ok s d h in k.2
-
-sized_by : (a : Algo) (n : ℕ) (r : Result (List ℕ) FromHexError) → ((d : List ℕ) → r ≡ Ok d → length d ≡ n)
-    → has_len a n ≡ false → sized a r ≡ None
-sized_by a n (Err e) size lacks = refl
-sized_by a n (Ok d) size lacks = cond-false (has_len a (length d)) _ None (ap (has_len a) (size d refl) ∙ lacks)
-
--- the kind that has digests of as many digits, or none that has
-pub sized_other : (a : Algo) (s : List ℕ) (k : KindValue) → None ≡ cond (has_len a (length s / 2)) (Some k) None
-    → None ≡ sized a (decode_of s)
-sized_other a s k h = elim (cases_Bool (has_len a (length s / 2))) [
-  | inl has ↦ let bad = rw has at h in cc
-  | inr lacks ↦ sym (sized_by a (length s / 2) (decode_of s) (λ d h. let size = decoded-size s d h in omega arith) lacks)
-]
 
 pub sized_of : (a : Algo) (s d : List ℕ) (k : KindValue) → decode_of s ≡ Ok d
     → Some k ≡ cond (has_len a (length s / 2)) (Some (record { algo = a; len = length s / 2 })) None
@@ -255,7 +230,7 @@ tagged-read algos line o h (r ∷ rs) after name after_blank digits digits_blank
 regroup4 : (a b c d i : List ℕ) → a ++ (b ++ (c ++ (d ++ i))) ≡ (a ++ (b ++ (c ++ d))) ++ i
 regroup4 a b c d i = simp append_assoc
 
-rest_any : (xs : List ℕ) (i : ℕ) → slice_range xs i (length xs) ≡ drop i xs
+pub rest_any : (xs : List ℕ) (i : ℕ) → slice_range xs i (length xs) ≡ drop i xs
 rest_any xs i = take_all (length xs - i) (drop i xs) (omega (arith, length-drop i xs))
 
 -- the place of the tail
@@ -278,27 +253,6 @@ tail-place line blank text digits rest tail e hb hm hd hr ht =
       rest_any line (length line - length tail) ∙ ap (λ k. drop k line) at
           ∙ ap (drop (length front)) whole ∙ drop_at front tail (length front) refl,
     )
-
--- more digits than any digest has
-pub plain-none : (a : Algo) (line blank text : List ℕ) (e : Bool) → blank ≡ after_while is_blank line
-    → (e, text) ≡ unmarked blank → 128 < prefix_len is_hex_digit text → None ≡ plain_as a line
-unfolding plain_behind
-plain-none a line blank text e hb hm more =
-    let u : unmarked (after_while is_blank line) ≡ (e, text) = ap unmarked (sym hb) ∙ sym hm in
-    let size = length-prefix_len is_hex_digit text in
-    let none : sized a (decode_of (take_while is_hex_digit text)) ≡ None =
-    sized_none a (take_while is_hex_digit text) (λ d. let few = d.few in omega arith) in
-    rw (u, none) refl
-
--- digits that spell no digest of the algorithm
-pub plain-unsized : (a : Algo) (line blank text digits : List ℕ) (e : Bool) → blank ≡ after_while is_blank line
-    → (e, text) ≡ unmarked blank → digits ≡ take_while is_hex_digit text → None ≡ sized a (decode_of digits)
-    → None ≡ plain_as a line
-unfolding plain_behind
-plain-unsized a line blank text digits e hb hm hd none =
-    let u : unmarked (after_while is_blank line) ≡ (e, text) = ap unmarked (sym hb) ∙ sym hm in
-    let dd : sized a (decode_of (take_while is_hex_digit text)) ≡ None = rw (← hd) (sym none) in
-    rw (u, dd) refl
 
 pub plain-read : (a : Algo) (line blank text digits rest tail name : List ℕ) (e : Bool) (k : KindValue × List ℕ)
     → blank ≡ after_while is_blank line → (e, text) ≡ unmarked blank → digits ≡ take_while is_hex_digit text

@@ -8,8 +8,12 @@ ghost use Rattle.sum_lines.specs.Scanned.{after_while, plain_of, plain_as, sized
 ghost use Rattle.sum_lines.specs.Shapes.{is_blank};
 ghost use Rattle.sum_lines.specs.Found.{line_parts};
 
-use crate::scanning::{LineParts, split_hex_digits};
+use crate::scanning::LineParts;
 use digest_kinds::{Algo, Algos, Digest, Kind};
+use memchr::memchr2;
+
+// The digits of the longest digest.
+const MOST_DIGITS: usize = 128;
 
 /// Reads a plain line of the one algorithm, whose text stands behind its blanks and its mark. None where the line isn't
 /// plain.
@@ -24,18 +28,19 @@ pub(crate) fn plain(algos: Algos, line: &[u8], escaped: bool, text: &[u8]) -> Op
     }
 }
 
-#[tactic(auto, unfolding(crate::specs::Scanned::plain_behind))]
 fn plain_as(algo: Algo, line: &[u8], escaped: bool, text: &[u8]) -> Option<LineParts>
     requires { (escaped, text.now) ≡ unmarked (after_while is_blank line.now) }
     ensures parts { option_map (line_parts line.now) result ≡ plain_as algo line.now }
     ensures range { IfSome result (λ p. (p.start ≤ p.stop) × (p.stop ≤ length line.now)) }
 {
-    let (digits, rest) = split_hex_digits(text)?;
-    let tail = tail(rest)?;
-    if digits.len() % 2 != 0 {
+    // The first blank is the one behind the digits, where the line is plain.
+    let at = memchr2(b' ', b'\t', &text[..text.len().min(MOST_DIGITS + 1)])?;
+    let digits = &text[..at];
+    let tail = &text[at + 1..];
+    if tail.is_empty() {
         return None;
     }
-    let kind = kind_of_len(algo, digits.len() / 2)?;
+    let kind = kind_of_len(algo, at / 2)?;
     // Last, since it costs the most.
     let digest = Digest::from_hex(digits)?;
     Some(LineParts {
@@ -56,14 +61,4 @@ fn kind_of_len(algo: Algo, len: usize) -> Option<Kind>
         _ => Kind::of(algo),
     };
     if kind.len() == len { Some(kind) } else { None }
-}
-
-// What stands behind one blank, where it isn't empty.
-fn tail(s: &[u8]) -> Option<&[u8]>
-    ensures { option_copied result ≡ tail_of s.now }
-{
-    match s {
-        [b' ' | b'\t', tail @ ..] if !tail.is_empty() => Some(tail),
-        _ => None,
-    }
 }

@@ -5,7 +5,6 @@ ghost use Rattle.std.specs.List.{prefix_len, take_while};
 ghost use Rattle.std.specs.Option.{option_copied, option_map};
 ghost use Rattle.sum_lines.specs.Scanned.{after_while, past, split_last, unmarked, unspaced};
 ghost use Rattle.sum_lines.specs.Shapes.{is_blank};
-ghost use Rattle.hex.specs.Hex.{is_hex_digit};
 
 use digest_kinds::{Digest, Kind};
 use memchr::memrchr;
@@ -75,46 +74,4 @@ pub(crate) fn split_at_last(byte: u8, s: &[u8]) -> Option<(&[u8], &[u8])>
 {
     let at = memrchr(byte, s)?;
     Some((&s[..at], &s[at + 1..]))
-}
-
-// Each hexadecimal digit stands at its own place, and a dot at every other place.
-static HEX_DIGITS: [u8; 256] = *b"\
-    ................................\
-    ................0123456789......\
-    .ABCDEF.........................\
-    .abcdef.........................\
-    ................................\
-    ................................\
-    ................................\
-    ................................";
-
-#[inline]
-fn is_hex_digit(byte: u8) -> bool
-    ensures { result ≡ is_hex_digit byte }
-{
-    HEX_DIGITS[byte as usize] != b'.'
-}
-
-// The digits of the longest digest.
-const MOST_DIGITS: usize = 128;
-
-/// The hexadecimal digits in front, and what stands behind them. None where they are more than any digest has: a long
-/// run of digits isn't read to its end.
-pub(crate) fn split_hex_digits(s: &[u8]) -> Option<(&[u8], &[u8])>
-    ensures digits { IfSome result (λ p. p.0.now ≡ take_while is_hex_digit s.now) }
-    ensures rest { IfSome result (λ p. p.1.now ≡ after_while is_hex_digit s.now) }
-    ensures more { IfNone result (MOST_DIGITS < prefix_len is_hex_digit s.now) }
-{
-    let digits = hex_digits(&s[..s.len().min(MOST_DIGITS + 1)]);
-    if digits > MOST_DIGITS {
-        return None;
-    }
-    Some(s.split_at(digits))
-}
-
-fn hex_digits(s: &[u8]) -> usize
-    ensures value { result ≡ prefix_len is_hex_digit s.now }
-    ensures within { result ≤ length s.now }
-{
-    s.iter().take_while(|byte| is_hex_digit(**byte)).count()
 }
