@@ -1,5 +1,6 @@
 //! Worked command lines.
-use crate::faults::{put_fault, put_stop, put_unknown};
+use crate::faults::{WordFault, put_fault, put_stop, put_unknown};
+use crate::items::Operands;
 use crate::reading::{Job, Request, read_words};
 use crate::texts::{put_help, put_version};
 use crate::tool::Tool;
@@ -8,7 +9,7 @@ use digest_kinds::{Algo, Algos, Kind};
 use std::alloc::Global;
 use std::process::Abort;
 use std::test::Fail;
-use sum_engine::{CheckSettings, Report, Stop};
+use sum_engine::{CheckSettings, Report, Settings, Stop};
 use sum_lines::{Mode, ToldSink};
 
 // The words of a line, parted by spaces.
@@ -41,6 +42,17 @@ fn assert_fault(
     Ok(())
 }
 
+// The settings and operands of a request for lines.
+fn generation<'a>(asked: Result<Request<'a>, WordFault<'a>>) -> Option<(Settings, Operands<'a>)> {
+    match asked {
+        Ok(Request::Work(job, operands)) => match job {
+            Job::Generate(settings) => Some((settings, operands)),
+            Job::Check(_) => None,
+        },
+        _ => None,
+    }
+}
+
 // That the words of a line ask for lines of this kind and form about one operand.
 fn assert_generates(
     rt: &(impl Abort + AllocGlobal),
@@ -51,16 +63,12 @@ fn assert_generates(
     operand: &str,
 ) -> Result<(), Fail> {
     let words = words_of(rt.alloc(), line)?;
-    match read_words(tool, &words) {
-        Ok(Request::Work(Job::Generate(settings), mut operands)) => {
-            assert_eq!(rt; settings.kind.bits(), bits, "in {line}");
-            assert_eq!(rt; settings.style.mode, mode, "in {line}");
-            assert!(rt; !settings.style.zero, "in {line}");
-            assert_eq!(rt; operands.next(), Some(operand), "in {line}");
-            assert_eq!(rt; operands.next(), None, "in {line}");
-        }
-        _ => assert!(rt; false, "{line} is refused"),
-    }
+    let (settings, mut operands) = generation(read_words(tool, &words)).ok_or("refused")?;
+    assert_eq!(rt; settings.kind.bits(), bits, "in {line}");
+    assert_eq!(rt; settings.style.mode, mode, "in {line}");
+    assert!(rt; !settings.style.zero, "in {line}");
+    assert_eq!(rt; operands.next(), Some(operand), "in {line}");
+    assert_eq!(rt; operands.next(), None, "in {line}");
     Ok(())
 }
 
@@ -291,17 +299,14 @@ fn words_are_any_texts(rt: HostRuntime) -> Result<(), Fail> {
     assert_eq!(rt; words.get(2), Some("a\0b\n"));
     assert_eq!(rt; words.get(3), Some("\u{e4}\u{20ac}"));
     assert_eq!(rt; words.get(4), None);
-    match read_words(Tool::Md5sum, &words) {
-        Ok(Request::Work(Job::Generate(settings), mut operands)) => {
-            assert_eq!(rt; settings.kind, Kind::of(Algo::Md5));
-            assert!(rt; settings.style.zero);
-            assert_eq!(rt; operands.next(), Some(""));
-            assert_eq!(rt; operands.next(), Some("a\0b\n"));
-            assert_eq!(rt; operands.next(), Some("\u{e4}\u{20ac}"));
-            assert_eq!(rt; operands.next(), None);
-        }
-        _ => assert!(rt; false),
-    }
+    let asked = read_words(Tool::Md5sum, &words);
+    let (settings, mut operands) = generation(asked).ok_or("refused")?;
+    assert_eq!(rt; settings.kind, Kind::of(Algo::Md5));
+    assert!(rt; settings.style.zero);
+    assert_eq!(rt; operands.next(), Some(""));
+    assert_eq!(rt; operands.next(), Some("a\0b\n"));
+    assert_eq!(rt; operands.next(), Some("\u{e4}\u{20ac}"));
+    assert_eq!(rt; operands.next(), None);
     Ok(())
 }
 
