@@ -1,7 +1,7 @@
 -- What a checker's steps come to: a whole manifest.
-use Rattle.std.specs.Prelude.{ℕ, zero, suc, ◌≡◌, ◌+◌, ◌⊎◌, ◌<◌, Bool, List, ◌++◌, take, drop, length, flat_map, Option, None, Some, Result, Ok, Err, ⊤}
-use Rattle.sum_sources.specs.Contents.{Content, clip}
-use Rattle.sum_sources.specs.Sources.{Reply, Refused, Given, after_refusal}
+use Rattle.std.specs.Prelude.{ℕ, zero, suc, ◌≡◌, ◌+◌, ◌⊎◌, Bool, List, ◌++◌, take, drop, length, flat_map, Option, None, Some, Result, Ok, Err, ⊤}
+use Rattle.sum_sources.specs.Contents.{Content}
+use Rattle.sum_sources.specs.Sources.{after_refusal}
 use Rattle.sum_sources.specs.ManifestLines.{past_lines}
 use Rattle.sum_engine.specs.declared.settings.CheckSettings.{CheckSettings}
 use Rattle.sum_engine.specs.declared.stop.Stop.{Stop}

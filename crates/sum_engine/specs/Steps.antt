@@ -1,5 +1,5 @@
 -- Where a checker stands in its manifest, and what each of its steps does there.
-use Rattle.std.specs.Prelude.{ℕ, zero, suc, ◌≡◌, ◌+◌, ◌≤◌, ◌⊎◌, ◌<◌, Bool, List, [], ◌∷◌, length, Option, None, Some, Result, Ok, Err, IfSome, ⊤}
+use Rattle.std.specs.Prelude.{ℕ, ◌≡◌, ◌+◌, ◌≤◌, ◌⊎◌, ◌<◌, Bool, List, [], ◌∷◌, length, Option, None, Some, Result, Ok, Err, IfSome, ⊤}
 use Rattle.sum_sources.specs.Contents.{Content}
 use Rattle.sum_sources.specs.Sources.{after_refusal}
 use Rattle.sum_sources.specs.ManifestLines.{past_line}
