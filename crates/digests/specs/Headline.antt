@@ -1,7 +1,7 @@
 -- The form of the headline: what a run does to a told world and both outputs. It does all that the outcome says; or it is
 -- cut short by a failed write; or it stops at a place, for want of memory. Two numbers, n and m, are how often the source
 -- was refused memory before the call and after it.
-use Rattle.std.specs.Prelude.{ℕ, zero, suc, ◌≡◌, ◌+◌, ◌⊎◌, Bool, List, [], ◌∷◌, Option, None, Some, Result, Ok, Err, ⊤}
+use Rattle.std.specs.Prelude.{ℕ, zero, suc, ◌≡◌, ◌⊎◌, List, [], ◌∷◌, Option, None, Some, Result, Ok, Err, ⊤}
 use Rattle.sum_sources.specs.Sources.{after_refusal}
 use Rattle.sum_engine.specs.declared.stop.Stop.{Stop}
 use Rattle.sum_engine.specs.declared.stop.Stop.TheVariants.{Memory, Write}
@@ -16,7 +16,7 @@ use Rattle.sum_words.specs.declared.reading.Request.{Request}
 use Rattle.sum_words.specs.declared.reading.Request.TheVariants as requests
 use Rattle.sum_words.specs.Faults.{Fault}
 use Rattle.sum_words.specs.Items.{Text}
-use Rattle.digests.specs.Meaning.{joined, all_of, one_of, upto, or_dash, status_of}
+use Rattle.digests.specs.Meaning.{one_of, or_dash, status_of}
 
 -- the outcome came about, or was cut short by a write fault
 abbrev pub Comes : Outcome → Scene → Scene → Type 0

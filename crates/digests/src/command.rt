@@ -83,13 +83,15 @@ fn end_of_lines(asked: &Result<Request, WordFault>) -> u8 {
     match asked {
         Ok(
             Request::Work(
-                Job::Generate(Settings {
-                    kind: _,
-                    style: Style {
-                        mode: _,
-                        zero: true,
+                Job::Generate(
+                    Settings {
+                        kind: _,
+                        style: Style {
+                            mode: _,
+                            zero: true,
+                        },
                     },
-                }),
+                ),
                 _,
             ),
         ) => b'\0',

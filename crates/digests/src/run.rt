@@ -77,14 +77,7 @@ pub(crate) fn answer<A: Allocator + Copy, I: Input + Drop, S: Source, O: Sink, E
         Ok(Request::Help) => told(put_help(out, tool), 0),
         Ok(Request::Version) => told(put_version(out, tool), 0),
         Ok(Request::Work(job, operands)) => each(
-            alloc,
-            &job,
-            tool,
-            operands,
-            stdin,
-            source,
-            out,
-            err,
+            alloc, &job, tool, operands, stdin, source, out, err,
         ),
     }
 }

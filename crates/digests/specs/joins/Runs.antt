@@ -1,20 +1,13 @@
 -- Joins the calls of a run to the headline: what each did to the world and the outputs.
-use Rattle.std.specs.Prelude.{ℕ, zero, suc, ◌≡◌, ◌+◌, ◌⊎◌, Bool, List, [], ◌∷◌, Option, None, Some, Result, Ok, Err, ⊤}
-use Rattle.sum_sources.specs.Sources.{after_refusal}
+use Rattle.std.specs.Prelude.{ℕ, ◌≡◌, ◌+◌, Bool, List, Option, None, Some, Result, Ok, Err, ⊤}
 use Rattle.sum_engine.specs.declared.stop.Stop.{Stop}
 use Rattle.sum_engine.specs.declared.stop.Stop.TheVariants.{Memory, Write}
 use Rattle.sum_engine.specs.Worlds.{World, reply, after}
 use Rattle.sum_engine.specs.Outcomes.{Outcome}
-use Rattle.sum_engine.specs.Scenes.{Scene, Does}
+use Rattle.sum_engine.specs.Scenes.{Scene}
 use Rattle.sum_engine.specs.Places.{PlaceOf}
-use Rattle.sum_engine.specs.Scenes.{CutOff}
-use Rattle.sum_words.specs.declared.reading.Job.{Job}
-use Rattle.sum_words.specs.declared.reading.Job.TheVariants as jobs
-use Rattle.sum_words.specs.declared.reading.Request.{Request}
-use Rattle.sum_words.specs.declared.reading.Request.TheVariants as requests
-use Rattle.sum_words.specs.Faults.{Fault}
 use Rattle.sum_words.specs.Items.{Text}
-use Rattle.digests.specs.Meaning.{joined, all_of, one_of, upto, or_dash, status_of}
+use Rattle.digests.specs.Meaning.{joined, all_of, upto}
 use Rattle.digests.specs.Headline.{Comes, CutShort, PlaceAt}
 
 -- one operand: all of it, cut short, or stopped at one of its places
