@@ -17,7 +17,7 @@ TOP = os.path.dirname(os.path.dirname(os.path.realpath(__file__)))
 PROMISES = os.path.join(TOP, "docs", "PROMISES.md")
 START = re.compile(r"(?:abbrev|unfoldable|infixl|infixr|pub)\b")
 NAMED = re.compile(r"(?:(?:abbrev|unfoldable|irreducible)\s+)?(?:pub\s+)?(?:(record|data)\s+)?([^\s:({]+)")
-TOKEN = re.compile(r"[^\s(){}\[\];,.:=|λ→×⊎]+")
+TOKEN = re.compile(r">>=|[^\s(){}\[\];,.:=|λ→×⊎]+")
 
 
 def import_of(line):
@@ -111,13 +111,15 @@ class Specs:
         there = self.modules.get(module)
         if not there:
             return None
-        for spelled in (name, f"◌{name}◌", f"{name}◌", f"◌{name}"):
+        spellings = (name, f"◌{name}◌", f"{name}◌", f"◌{name}")
+        for spelled in spellings:
             if spelled in there.definitions:
                 return there.definitions[spelled]
         if (module, name) in self.owners:
             return self.owners[module, name]
-        if name in there.imports and there.imports[name][1]:
-            return self.find(*there.imports[name])
+        for spelled in spellings:
+            if spelled in there.imports and there.imports[spelled][1]:
+                return self.find(*there.imports[spelled])
         return None
 
     def meant(self, definition):

@@ -12,7 +12,8 @@ use Rattle.std.specs.Simd.Lanes.{all_below, pick_l}
 use lib.Dec.{T}
 use Rattle.byteorder.specs.Endian.{little_number}
 use Rattle.byteorder.specs.Numbers.{little_from-append}
-use Rattle.blake2b_core.specs.Compression.{◌!◌, ◌⊻◌, sigma, iv, scheduled, start, block_words}
+use Rattle.blake2b_core.specs.Compression.{◌!◌, ◌⊻◌, sigma, iv, start}
+use Rattle.blake2b_core.specs.joins.Columns.{block_words, scheduled}
 
 -- row k of SIGMA
 abbrev pub sigma_row : ℕ → List ℕ
@@ -20,7 +21,7 @@ sigma_row k = map (λ i. slice_index_or sigma k [] ! i) (range_with_len 0 16)
 
 -- what a swizzle picks by row k, out of the vector and a second copy of it
 pub picked-row : (m : List ℕ) (r k : ℕ) → length m ≡ 16 → T (all_below 16 (sigma_row k)) → r % 10 ≡ k
-    → pick_l 0 (m ++ m) (sigma_row k) ≡ map (scheduled m r) (range_with_len 0 16)
+    → pick_l 0 (m ++ m) (sigma_row k) ≡ scheduled m r
 unfolding scheduled
 picked-row m r k size below row = pick_l_left 0 m m 16 (sigma_row k) size below ∙ rw row refl
 
@@ -54,7 +55,6 @@ little_number-take xs long =
 -- sixteen words that read as the bytes of a block are its words
 pub block_words-is : (m block : List ℕ) → length m ≡ 16 → length block ≡ 128
     → ((k : ℕ) → k < length m → m ! k ≡ little_number 8 (drop (8 * k) block)) → m ≡ block_words block
-unfolding block_words
 block_words-is m block sixteen size read =
     let count : length (map (little_number 8) (first_chunks 8 16 block)) ≡ 16 =
     length-map (first_chunks 8 16 block) (little_number 8) in

@@ -1,15 +1,26 @@
 -- Lemmas on the blocks of a message, on the hash after some of them, and on the digest.
-use Rattle.std.proofs.Common.{◌≡◌, ℕ, zero, suc, ◌+◌, ◌-◌, ◌*◌, ◌<◌, ◌≤◌, true, false, List, [], ◌++◌, length, take}
+use Rattle.std.proofs.Common.{◌≡◌, ℕ, zero, suc, ◌+◌, ◌-◌, ◌*◌, ◌/◌, ◌<◌, ◌≤◌, true, false, List, [], ◌∷◌, ◌++◌, length}
+use Rattle.std.proofs.Common.{take, max, fold}
 use Rattle.std.proofs.Common.{drop, replicate, slice_index_or, refl, sym, ap, ◌∙◌, arith}
 use Rattle.std.proofs.lemmas.List.{take-append-le, drop-append-le, take_all, length-drop, length-append}
 use Rattle.std.proofs.lemmas.List.{length-replicate, drop-drop, drop-take, take-take}
-use Rattle.std.specs.List.{flat_map}
+use Rattle.std.specs.List.{flat_map, range_with_len}
+use Rattle.std.proofs.lemmas.List.Sums.{fold-append}
 use Rattle.std.specs.Simd.{first_chunks}
 use Rattle.byteorder.specs.Endian.{little_bytes}
 use Rattle.blake2b_core.specs.Compression.{compress}
-use Rattle.blake2b_core.specs.Digest.{block_count, padded, blocks, hash_after, blake2b}
+use Rattle.blake2b_core.specs.Digest.{blocks, blake2b}
+use Rattle.blake2b_core.specs.joins.Chaining.{initial, hash_after}
 use Rattle.blake2b_core.specs.joins.Holding.{AreBlocksFrom}
 use Rattle.blake2b_core.proofs.CompressionLemmas.{length-first_chunks, get_or-first_chunks}
+
+-- how many blocks a message of n bytes fills; the empty message fills one
+abbrev pub block_count : ℕ → ℕ
+block_count n = max 1 ((n + 127) / 128)
+
+-- the message, and the fewest zero bytes that fill its blocks
+abbrev pub padded : List ℕ → List ℕ
+padded m = m ++ replicate (128 * block_count (length m) - length m) 0
 
 -- a block that the message fills
 pub whole_block : (m : List ℕ) (i : ℕ) → 128 * (i + 1) ≤ length m
@@ -54,6 +65,10 @@ pub record IsLast (m : List ℕ) (k : ℕ) : Type 0 where
 block_count-last : (m : List ℕ) (k : ℕ) → IsLast m k → block_count (length m) ≡ k + 1
 block_count-last m zero l = let e = l.ends in omega arith
 block_count-last m (suc k) l = let s = l.some (omega arith) in let e = l.ends in omega arith
+
+length-blocks : (m : List ℕ) → length (blocks m) ≡ block_count (length m)
+unfolding blocks
+length-blocks m = length-first_chunks 128 (block_count (length m)) (padded m)
 
 last_block : (m : List ℕ) (k : ℕ) → IsLast m k
     → slice_index_or (blocks m) k [] ≡ drop (128 * k) m ++ replicate (128 - length (drop (128 * k) m)) 0
@@ -105,6 +120,21 @@ hash_after-full n h held m k used t size full counted here hash rest =
     let total : t ≡ 128 * (k + 1) = omega arith in
     rw (hash_after-more n (blocks m) k, block, hash, total) refl
 
+range-more : (a n j : ℕ) → a + n ≡ j → range_with_len a (suc n) ≡ range_with_len a n ++ j ∷ []
+range-more a zero j at = let here : a ≡ j = omega arith in rw here refl
+range-more a (suc n) j at = ap (λ l. a ∷ l) (range-more (a + 1) n j (omega arith))
+
+-- one block after another, from the first
+hash_after-is : (n : ℕ) (d : List (List ℕ)) (k : ℕ)
+    → fold (λ h i. compress h (slice_index_or d i []) (128 * (i + 1)) false) (initial n) (range_with_len 0 k)
+    ≡ hash_after n d k
+unfolding hash_after
+hash_after-is n d zero = refl
+hash_after-is n d (suc k) =
+    let step : List ℕ → ℕ → List ℕ = λ h i. compress h (slice_index_or d i []) (128 * (i + 1)) false in
+    let split = fold-append step (initial n) (range_with_len 0 k) (k ∷ []) in
+    rw (range-more 0 k k (omega arith), split, hash_after-is n d k) refl
+
 blake2b-last : (n : ℕ) (m : List ℕ) (k : ℕ) → IsLast m k →
     blake2b n m ≡ take n
     (flat_map (little_bytes 8)
@@ -112,8 +142,9 @@ blake2b-last : (n : ℕ) (m : List ℕ) (k : ℕ) → IsLast m k →
     (drop (128 * k) m ++ replicate (128 - length (drop (128 * k) m)) 0) (length m) true))
 unfolding blake2b
 blake2b-last n m k l =
-    let number : block_count (length m) - 1 ≡ k = omega (arith, block_count-last m k l) in
-    rw (number, last_block m k l) refl
+    let count : length (blocks m) ≡ block_count (length m) = length-blocks m in
+    let number : length (blocks m) - 1 ≡ k = omega (arith, block_count-last m k l) in
+    rw (number, hash_after-is n (blocks m) k, last_block m k l) refl
 
 -- the digest, from the hash before the last block and that block's bytes
 pub blake2b-from : (n : ℕ) (m : List ℕ) (k : ℕ) (h last bytes : List ℕ) (t : ℕ) → IsLast m k

@@ -59,25 +59,18 @@ mix v a b c d x y =
     let v = slice_set v c (v ! c ⊞ v ! d) in
     slice_set v b ((v ! b ⊻ v ! c) ⋙ 63)
 
--- the word of the block m that round r takes at place i of its row of SIGMA
-unfoldable pub scheduled : List ℕ → ℕ → ℕ → ℕ
-scheduled m r i = m ! (slice_index_or sigma (r % 10) [] ! i)
-
--- round r: G on the four columns and then on the four diagonals of v
+-- round r (3.2): G on the four columns and then on the four diagonals of v, with the words of m in the order of SIGMA
 unfoldable pub round : List ℕ → List ℕ → ℕ → List ℕ
 round m v r =
-    let v = mix v 0 4 8 12 (scheduled m r 0) (scheduled m r 1) in
-    let v = mix v 1 5 9 13 (scheduled m r 2) (scheduled m r 3) in
-    let v = mix v 2 6 10 14 (scheduled m r 4) (scheduled m r 5) in
-    let v = mix v 3 7 11 15 (scheduled m r 6) (scheduled m r 7) in
-    let v = mix v 0 5 10 15 (scheduled m r 8) (scheduled m r 9) in
-    let v = mix v 1 6 11 12 (scheduled m r 10) (scheduled m r 11) in
-    let v = mix v 2 7 8 13 (scheduled m r 12) (scheduled m r 13) in
-    mix v 3 4 9 14 (scheduled m r 14) (scheduled m r 15)
-
--- the sixteen words of a block, each of eight bytes, the lowest first
-unfoldable pub block_words : List ℕ → List ℕ
-block_words block = map (little_number 8) (first_chunks 8 16 block)
+    let s = slice_index_or sigma (r % 10) [] in
+    let v = mix v 0 4 8 12 (m ! (s ! 0)) (m ! (s ! 1)) in
+    let v = mix v 1 5 9 13 (m ! (s ! 2)) (m ! (s ! 3)) in
+    let v = mix v 2 6 10 14 (m ! (s ! 4)) (m ! (s ! 5)) in
+    let v = mix v 3 7 11 15 (m ! (s ! 6)) (m ! (s ! 7)) in
+    let v = mix v 0 5 10 15 (m ! (s ! 8)) (m ! (s ! 9)) in
+    let v = mix v 1 6 11 12 (m ! (s ! 10)) (m ! (s ! 11)) in
+    let v = mix v 2 7 8 13 (m ! (s ! 12)) (m ! (s ! 13)) in
+    mix v 3 4 9 14 (m ! (s ! 14)) (m ! (s ! 15))
 
 -- v before the first round: h and IV, with the counter t and, at the last block, a flag
 unfoldable pub start : List ℕ → ℕ → Bool → List ℕ
@@ -87,8 +80,9 @@ start h t last =
     let v = slice_set v 13 (v ! 13 ⊻ (t / 2 ^ 64)) in
     if last then slice_set v 14 (bit_not w64 (v ! 14)) else v
 
--- the compression function F (3.2)
+-- the compression function F (3.2), where m has the sixteen words of the block, each of eight bytes, the lowest first
 unfoldable pub compress : List ℕ → List ℕ → ℕ → Bool → List ℕ
 compress h block t last =
-    let v = fold (round (block_words block)) (start h t last) (range_with_len 0 12) in
+    let m = map (little_number 8) (first_chunks 8 16 block) in
+    let v = fold (round m) (start h t last) (range_with_len 0 12) in
     map (λ i. h ! i ⊻ v ! i ⊻ v ! (i + 8)) (range_with_len 0 8)

@@ -1,8 +1,7 @@
 //! The compression function F of RFC 7693, sections 3.1 and 3.2, with the constants of 2.6 and 2.7.
-ghost use Rattle.std.specs.Prelude.{◌≡◌, map};
-ghost use Rattle.std.specs.List.{range_with_len};
-ghost use Rattle.blake2b_core.specs.Compression.{block_words, compress, round, scheduled, start};
-ghost use Rattle.blake2b_core.specs.joins.Columns.{fed_forward, words};
+ghost use Rattle.std.specs.Prelude.{◌≡◌};
+ghost use Rattle.blake2b_core.specs.Compression.{compress, round, start};
+ghost use Rattle.blake2b_core.specs.joins.Columns.{block_words, fed_forward, scheduled, words};
 
 use crate::columns::{mixed_columns, mixed_diagonals};
 use byteorder::{ByteOrder, LittleEndian};
@@ -24,7 +23,7 @@ pub(crate) const IV: [u64; 8] = [
 #[inline(always)]
 #[rattlefmt::skip]
 fn scheduled(m: Simd<u64, 16>, r: usize) -> Simd<u64, 16>
-    ensures { result ≡ map (scheduled m r) (range_with_len 0 16) }
+    ensures { result ≡ scheduled m r }
 {
     match r % 10 {
         0 => m.swizzle([0, 1, 2, 3, 4, 5, 6, 7, 8, 9, 10, 11, 12, 13, 14, 15]),

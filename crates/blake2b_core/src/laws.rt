@@ -3,8 +3,8 @@ ghost use Rattle.std.specs.Prelude.{ℕ, List};
 ghost use Rattle.blake2b_core.specs.Laws.{HasVectors, IsBlocksOf};
 ghost use Rattle.blake2b_core.specs.Digest.{blocks};
 
-/// Known digests: of `abc` (RFC 7693, appendix A), and of the empty message, with 64 and with 32 bytes, as GNU b2sum and
-/// Python's hashlib give them.
+/// Known digests: of `abc` (RFC 7693, appendix A), and of the empty message, with 64 and with 32 bytes, as GNU b2sum
+/// and Python's hashlib give them.
 pub fn vectors()
     ensures { HasVectors }
 {}

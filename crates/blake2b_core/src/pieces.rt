@@ -6,7 +6,8 @@ use crate::compression::compress;
 use crate::output::Output;
 use crate::whole::{BLOCK, chained, followed_blocks, initial, zero_filled};
 
-/// A `Blake2b` takes fewer bytes than this, 2^61.
+/// A message has fewer bytes than this. FIPS 180-4 defines SHA-1, SHA-224 and SHA-256 for messages of fewer than 2^64
+/// bits, which is 2^61 bytes; BLAKE2b would allow more, and has the same bound here.
 pub const LIMIT: u64 = 1 << 61;
 
 /// A BLAKE2b digest in the making: the message so far, of which at most one block is kept back.
@@ -68,7 +69,7 @@ impl Blake2b {
     // Appends bytes to those that are held.
     fn hold(&mut self, bytes: &[u8])
         requires room { self.old.used + length bytes.now ≤ 128 }
-        requires fits { self.old.taken + length bytes.now < 2 ^ 61 }
+        requires fits { self.old.taken + length bytes.now < LIMIT }
         ensures holds { (m : List ℕ) → HoldsSoFar self.old m → HoldsSoFar self.new (m ++ bytes.now) }
         ensures size { length self.new.held ≡ 128 }
         ensures used { self.new.used ≡ self.old.used + length bytes.now }
@@ -84,7 +85,7 @@ impl Blake2b {
     // Fills the held block up and compresses it, where some bytes are held and more follow than it has
     // room for. Answers how many bytes it took.
     fn fill(&mut self, piece: &[u8]) -> usize
-        requires { self.old.taken + length piece.now < 2 ^ 61 }
+        requires { self.old.taken + length piece.now < LIMIT }
         ensures holds { (m : List ℕ) → HoldsSoFar self.old m → HoldsSoFar self.new (m ++ take result piece.now) }
         ensures some_left { 0 < length piece.now → result < length piece.now }
         ensures none { length piece.now ≡ 0 → (result ≡ 0) × (self.new.used ≡ self.old.used) }
@@ -105,7 +106,7 @@ impl Blake2b {
     // Compresses the whole blocks at the front of the piece that a byte follows, where nothing is held.
     // Answers how many bytes it took.
     fn absorb(&mut self, piece: &[u8]) -> usize
-        requires fits { self.old.taken + length piece.now < 2 ^ 61 }
+        requires fits { self.old.taken + length piece.now < LIMIT }
         requires room { 128 < self.old.used + length piece.now → self.old.used ≡ 0 }
         ensures holds { (m : List ℕ) → HoldsSoFar self.old m → HoldsSoFar self.new (m ++ take result piece.now) }
         ensures some_left { 0 < length piece.now → result < length piece.now }

@@ -2,7 +2,8 @@
 ghost use Rattle.std.specs.Prelude.{◌≡◌, ◌↔◌, ◌⊎◌, ℕ, ◌+◌, ◌-◌, ◌*◌, ◌/◌, ◌^◌, ◌<◌, ◌≤◌, List, ◌++◌, length};
 ghost use Rattle.std.specs.Prelude.{replicate, IsNone, IfSome};
 ghost use Rattle.std.specs.Simd.{first_chunks};
-ghost use Rattle.blake2b_core.specs.Digest.{blake2b, blocks, hash_after, initial};
+ghost use Rattle.blake2b_core.specs.Digest.{blake2b, blocks};
+ghost use Rattle.blake2b_core.specs.joins.Chaining.{hash_after, initial};
 ghost use Rattle.blake2b_core.specs.joins.Holding.{AreBlocksFrom};
 
 use crate::compression::{IV, advance, compress};

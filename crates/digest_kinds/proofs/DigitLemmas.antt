@@ -1,8 +1,14 @@
 -- Digits that spell a digest, and decoding them.
-use Rattle.std.proofs.Common.{◌≡◌, ℕ, ◌/◌, ◌≤◌, ◌↔◌, List, length, Result, Ok, Err, IsOk, MatchResult, arith}
-use Rattle.hex.specs.Hex.{decode_of, decode_sized}
+use Rattle.std.proofs.Common.{◌≡◌, ℕ, ◌/◌, ◌≤◌, ◌↔◌, List, length, Result, Ok, Err, IsOk, MatchResult, arith, refl}
+use Rattle.std.proofs.Common.{Bool, true, ltb, [], ◌∷◌, ◌<◌}
+use Rattle.std.specs.Prelude.{◌&&◌}
+use Rattle.std.proofs.lemmas.Bool.Decides.{Decides-by_and, Decides-ltb}
+use Rattle.std.proofs.lemmas.Str.{IsUtf8-from_ascii}
+use Rattle.std.proofs.lemmas.Str.Ascii.{IsAscii-from_all}
+use Rattle.std.specs.Str.{IsAscii, IsUtf8}
+use Rattle.hex.specs.Hex.{decode_of, decode_sized, encode_lower, lower_digits}
 use Rattle.hex.specs.declared.error.FromHexError.{FromHexError}
-use Rattle.hex.proofs.HexLemmas.{IsOk-decode_sized, IsOk-written, decode_of-ok}
+use Rattle.hex.proofs.HexLemmas.{IsAscii-encode_with, IsOk-decode_sized, IsOk-written, decode_of-ok}
 use Rattle.digest_kinds.specs.Digits.{IsDigits}
 
 -- decoding into room for half as many bytes, 1 to 64, goes well exactly where the text is digits of a digest
@@ -25,3 +31,18 @@ pub IsDigits-decode_of : (text bytes : List ℕ) → decode_of text ≡ Ok bytes
 IsDigits-decode_of text bytes h low high =
     let ok = decode_of-ok text bytes h in
     record { some = omega (arith, ok.2); few = omega (arith, ok.2); even = ok.0; digits = ok.1 }
+
+abbrev all_ascii : List ℕ → Bool
+all_ascii [] = true
+all_ascii (b ∷ bs) = ltb b 128 && all_ascii bs
+
+IsAscii-lower_digits : IsAscii lower_digits
+IsAscii-lower_digits =
+    let below = λ (b : ℕ). Decides-ltb b 128 in
+    let all = Decides-by_and (λ b. ltb b 128) (λ b. b < 128) all_ascii below refl (λ _ _. refl) lower_digits in
+    IsAscii-from_all lower_digits (all.0 refl)
+
+-- digits are a text
+pub IsUtf8-encode_lower : (bytes : List ℕ) → IsUtf8 (encode_lower bytes)
+IsUtf8-encode_lower bytes =
+    IsUtf8-from_ascii (encode_lower bytes) (IsAscii-encode_with lower_digits bytes IsAscii-lower_digits)

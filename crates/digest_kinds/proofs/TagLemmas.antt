@@ -1,5 +1,6 @@
 -- Searching the algorithms for one whose tag begins the bytes.
-use Rattle.std.proofs.Common.{◌≡◌, refl, sym, ℕ, Bool, true, false, cond, List, [], ◌∷◌, ◌++◌, nat_eq, drop, length, Some, IfSome}
+use Rattle.std.proofs.Common.{◌≡◌, refl, sym, ℕ, Bool, true, false, cond, List, [], ◌∷◌, ◌++◌, nat_eq, drop, length}
+use Rattle.std.proofs.Common.{Some, IfSome}
 use Rattle.std.specs.List.{starts_with, find}
 use Rattle.std.proofs.lemmas.Slice.Eq.{starts_is}
 use Rattle.std.proofs.lemmas.Bool.Decides.{Decides-eqb}
@@ -31,11 +32,13 @@ BeginsWithTag-begins bytes a h =
     (drop (length (tag a)) bytes, (starts_is Decides-eqb bytes (tag a) true (sym h)).0 refl)
 
 -- what the search finds has its tag in front
-pub IfSome-find-begins : (bytes : List ℕ) (algos : List Algo) → IfSome (find (begins bytes) algos) (λ a. BeginsWithTag bytes a)
+pub IfSome-find-begins : (bytes : List ℕ) (algos : List Algo)
+    → IfSome (find (begins bytes) algos) (λ a. BeginsWithTag bytes a)
 IfSome-find-begins bytes [] = tt
 IfSome-find-begins bytes (a ∷ algos) =
-    let at_test : (b : Bool) → begins bytes a ≡ b → IfSome (cond b (Some a) (find (begins bytes) algos)) (λ x. BeginsWithTag bytes x)
-    = λ b. elim b as (λ b. begins bytes a ≡ b → IfSome (cond b (Some a) (find (begins bytes) algos)) (λ x. BeginsWithTag bytes x)) [
+    let Begun : Bool → Type 0 =
+    λ b. begins bytes a ≡ b → IfSome (cond b (Some a) (find (begins bytes) algos)) (λ x. BeginsWithTag bytes x) in
+    let at_test : (b : Bool) → Begun b = λ b. elim b as Begun [
       | true ↦ λ h. BeginsWithTag-begins bytes a h
       | false ↦ λ _. IfSome-find-begins bytes algos
     ]

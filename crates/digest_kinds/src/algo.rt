@@ -56,7 +56,7 @@ impl Algo {
     }
 
     /// The tag, by which a tagged line names the algorithm.
-    pub(crate) fn tag(self) -> &'static str
+    pub fn tag(self) -> &'static str
         ensures { result.now ≡ tag self }
     {
         match self {

@@ -5,9 +5,10 @@ ghost use Rattle.digest_kinds.specs.Digits.{IsDigits};
 ghost use Rattle.hex.specs.Hex.{decode_of, encode_lower};
 
 use std::marker::Model;
+use std::{fmt, str};
 
 /// A digest, of 1 to 64 bytes.
-#[derive(Debug, Drop)]
+#[derive(Clone, Debug, Drop)]
 pub struct Digest {
     bytes: [u8; 64],
     len: usize,
@@ -66,7 +67,7 @@ impl Digest {
     pub fn same(&self, other: &Digest) -> bool
         ensures { IsTrue result ↔ (self.now ≡ other.now) }
     {
-        self.as_slice() == other.as_slice()
+        self == other
     }
 
     /// Writes the digits, in lower case, in front of `out`, leaves the rest, and answers their number.
@@ -79,5 +80,43 @@ impl Digest {
         let digits = 2 * bytes.len();
         hex::encode_to_slice(bytes, &mut out[..digits]).unwrap();
         digits
+    }
+}
+
+impl PartialEq for Digest {
+    ghost use Rattle.std.specs.Prelude.{◌==◌};
+    ghost use Rattle.std.specs.Cmp.Lexicographic.{pointwise};
+    ghost use Rattle.std.specs.Cmp.Rules.{comparing};
+    ghost use Rattle.std.proofs.Common.{rules};
+
+    ghost eq = { pointwise ◌==◌ };
+
+    ghost laws = { Prim.search (comparing, rules) };
+
+    fn eq(&self, other: &Digest) -> bool {
+        self.as_slice() == other.as_slice()
+    }
+}
+
+impl Eq for Digest {
+    ghost use Rattle.std.specs.Cmp.Rules.{comparing};
+    ghost use Rattle.std.proofs.Common.{rules};
+
+    ghost laws = { Prim.search (comparing, rules) };
+}
+
+impl fmt::Display for Digest {
+    ghost use Rattle.std.specs.Prelude.{Some};
+
+    ghost output = { λ d. Some (encode_lower d) };
+
+    /// The digits in lower case, padded as a text is.
+    fn fmt<W: fmt::Write>(&self, f: &mut fmt::Formatter<W>) -> fmt::Result {
+        let mut digits = [0; 128];
+        let count = self.hex_into(&mut digits);
+        let Ok(text) = str::from_utf8(&digits[..count]) else {
+            unreachable!();
+        };
+        f.pad(text)
     }
 }

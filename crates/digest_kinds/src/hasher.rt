@@ -1,11 +1,12 @@
 //! What every hasher does.
 
-ghost use Rattle.std.specs.Prelude.{◌≡◌, ℕ, ◌+◌, ◌^◌, ◌<◌, List, ◌++◌, length};
+ghost use Rattle.std.specs.Prelude.{◌≡◌, ℕ, ◌+◌, ◌<◌, List, ◌++◌, length};
 ghost use Rattle.digest_kinds.specs.Kinds.{KindValue};
 ghost use Rattle.digest_kinds.specs.Digests.{digest};
 
 use crate::digest::Digest;
 use crate::kind::Kind;
+pub use blake2b_core::LIMIT;
 
 /// Takes a message in pieces and gives its digest.
 pub trait Hasher {
@@ -27,7 +28,7 @@ pub trait Hasher {
 
     /// Takes the message's next piece. The whole message has to stay below [`LIMIT`](crate::LIMIT) bytes.
     fn update(&mut self, piece: &[u8])
-        requires { taken_of self.old + length piece.now < 2 ^ 61 }
+        requires { taken_of self.old + length piece.now < LIMIT }
         ensures holds { (m : List ℕ) → holds self.old m → holds self.new (m ++ piece.now) }
         ensures taken { taken_of self.new ≡ taken_of self.old + length piece.now }
         ensures kind { kind_of self.new ≡ kind_of self.old };

@@ -1,6 +1,6 @@
 //! An algorithm with its digest's length.
 
-ghost use Rattle.std.specs.Prelude.{◌≡◌, ◌*◌, ◌≤◌, IsTrue};
+ghost use Rattle.std.specs.Prelude.{◌≡◌, ◌↔◌, ◌⊎◌, ◌*◌, ◌<◌, ◌≤◌, IsTrue, IsNone, IfSome};
 ghost use Rattle.digest_kinds.specs.Kinds.{blake2b_kind, full_kind, has_len, tag};
 ghost use Rattle.digest_kinds.specs.Lengths.{blake2b_of_bits};
 
@@ -8,13 +8,12 @@ use crate::algo::Algo;
 use std::marker::Model;
 use thiserror::Error;
 
-/// Why no BLAKE2b digest has so many bits.
+/// Why no BLAKE2b digest has so many bits: `TooLong` where there are more than 512, `NotBytes` where they are no
+/// multiple of 8.
 #[derive(Clone, Copy, Debug, PartialEq, Eq, Error)]
 pub enum LengthFault {
-    /// There are more than 512.
     #[error("a BLAKE2b digest has at most 512 bits")]
     TooLong,
-    /// They are no multiple of 8.
     #[error("a BLAKE2b digest has a multiple of 8 bits")]
     NotBytes,
 }
@@ -70,6 +69,17 @@ impl Kind {
             return Err(LengthFault::NotBytes);
         }
         Ok(Kind::blake2b((bits / 8) as usize))
+    }
+
+    /// BLAKE2b with a digest of `len` bytes. `None` exactly where `len` is 0 or over 64.
+    pub fn blake2b_bytes(len: usize) -> Option<Kind>
+        ensures none { IsNone result ↔ ((len ≡ 0) ⊎ (64 < len)) }
+        ensures value { IfSome result (λ kind. kind ≡ blake2b_kind len) }
+    {
+        if len == 0 || len > 64 {
+            return None;
+        }
+        Some(Kind::blake2b(len))
     }
 
     /// BLAKE2b with a digest of `len` bytes.

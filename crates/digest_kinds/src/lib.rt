@@ -19,12 +19,8 @@ mod tests;
 pub use algo::{Algo, Algos};
 pub use any_hasher::AnyHasher;
 pub use digest::Digest;
-pub use hasher::Hasher;
+pub use hasher::{Hasher, LIMIT};
 pub use kind::{Kind, LengthFault};
 pub use kit_hashers::{
     Md5Hasher, Sha1Hasher, Sha224Hasher, Sha256Hasher, Sha384Hasher, Sha512Hasher,
 };
-
-/// A message has fewer bytes than this. FIPS 180-4 defines SHA-1, SHA-224 and SHA-256 for messages of fewer than 2^64
-/// bits, which is 2^61 bytes, and every other algorithm here allows as many.
-pub const LIMIT: u64 = 1 << 61;

@@ -55,8 +55,11 @@ pub front-failed : (a b : Option Text) (held line : Text)
 front-failed None b held line h = tt
 front-failed (Some x) None held line h = absurd h.4
 front-failed (Some x) (Some y) held line h =
-    let grown : y ++ held ≡ x ++ h.0 = h.4 ∙ ap (λ l. l ++ h.0) (append-nil x) in
-    (held ++ h.1, ap (λ l. x ++ l) h.2 ∙ sym (append_assoc x h.0 h.1) ∙ ap (λ l. l ++ h.1) (sym grown) ∙ append_assoc y held h.1)
+    let grown : y ++ held ≡ x ++ h.0 = h.4 ∙ ap (λ l. l ++ h.0) (append-nil x) in (
+      held ++ h.1,
+      ap (λ l. x ++ l) h.2 ∙ sym (append_assoc x h.0 h.1) ∙ ap (λ l. l ++ h.1) (sym grown)
+          ∙ append_assoc y held h.1,
+    )
 
 pub Keeps-nil : (a b : Option Text) → Keeps (append_known a []) b → Keeps a b
 Keeps-nil None b h = tt
@@ -91,8 +94,14 @@ settles-flush None b held i j (Err e) h = (tt, h.1)
 settles-flush (Some x) None held i j (Ok u) h = absurd h.0
 settles-flush (Some x) None held i j (Err e) h = absurd h.0.4
 settles-flush (Some x) (Some y) held i j (Ok u) h = (h.0, h.1)
-settles-flush (Some x) (Some y) held i j (Err e) h =
-    ((h.0.1, append-nil (x ++ held) ∙ ap (λ l. x ++ l) h.0.2 ∙ sym (append_assoc x h.0.0 h.0.1) ∙ ap (λ l. l ++ h.0.1) (sym h.0.4)), h.1)
+settles-flush (Some x) (Some y) held i j (Err e) h = (
+  (
+    h.0.1,
+    append-nil (x ++ held) ∙ ap (λ l. x ++ l) h.0.2 ∙ sym (append_assoc x h.0.0 h.0.1)
+        ∙ ap (λ l. l ++ h.0.1) (sym h.0.4),
+  ),
+  h.1,
+)
 
 -- ---- the ends
 
@@ -125,7 +134,8 @@ pub ends-write : (line : Text) (oa ob ea em eb : Option Text) (e e' : ℕ)
 ends-write line oa ob ea em eb e e' out err s =
     ((refl, out, (em, err, says-front line em eb e e' s)), says-fails line em eb e e' s)
 
-pub ends-memory : {E : Type 0} (line : Stop → Text) (oa ob ea em eb : Option Text) (o o' e e1 e' : ℕ) (r : Result (Unit {0}) E)
+pub ends-memory : {E : Type 0} (line : Stop → Text) (oa ob ea em eb : Option Text) (o o' e e1 e' : ℕ)
+    (r : Result (Unit {0}) E)
     → SettlesBoth oa ob ea em o o' e e1 r → Says (line Memory) em eb e1 e'
     → Closes line (Err Memory) oa ob ea eb o o' e e' 1
 ends-memory line oa ob ea em eb o o' e e1 e' (Err f) h s =

@@ -1,5 +1,5 @@
-mod RunLemmas
+mod OperandLemmas
 mod EndingLemmas
 mod ProgramLemmas
-mod WrittenLemmas
+mod WrittenIsGood
 mod MeaningRows

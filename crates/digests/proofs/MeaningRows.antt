@@ -3,18 +3,19 @@ use Rattle.std.proofs.Common.{◌≡◌, ◌++◌, List, [], ◌∷◌, refl, co
 use Rattle.std.specs.Prelude.{flat_map, if◌then◌else◌}
 use Rattle.std.specs.List.{concat}
 use Rattle.std.specs.Str.{bytes_eq, chars}
+use Rattle.std.specs.Path.{rsplit_once}
 use lib.Utf8.{encode}
 use Rattle.md5.specs.Md5.{block_words as md5_words, rounds as md5_rounds, compress as md5_compress}
 use Rattle.md5.specs.Md5.{hash_after as md5_after, digest_bytes as md5_bytes, md5}
-use Rattle.blake2b_core.specs.Compression.{mix, scheduled, round, block_words, start, compress}
-use Rattle.blake2b_core.specs.Digest.{blocks, hash_after, blake2b}
+use Rattle.blake2b_core.specs.Compression.{mix, round, start, compress}
+use Rattle.blake2b_core.specs.Digest.{blocks, blake2b}
 use Rattle.sum_sources.specs.declared.fault.Fault.TheVariants.{NotFound, Other}
 use Rattle.sum_sources.specs.declared.fault.Ending.TheVariants.{Whole, Broken}
 use Rattle.std.specs.Fmt.{digits}
 use Rattle.hex.specs.Hex.{encode_with, decode_pairs}
-use Rattle.sum_lines.specs.Scanned.{opened_text, name_behind, plain_behind}
+use Rattle.sum_lines.specs.Scanned.{plain_parts, tags, tagged_as, tagged_parts}
 use Rattle.sum_sources.specs.ManifestLines.{pieces}
-use Rattle.sum_engine.specs.Grammar.{entry_of}
+use Rattle.sum_lines.specs.Says.{entry_of}
 use Rattle.sum_sources.specs.Contents.{Content, limit}
 use Rattle.sum_sources.specs.Sources.{Reply, Refused, Given}
 use Rattle.sum_engine.specs.Worlds.{World}
@@ -109,7 +110,7 @@ tagged : meaning B2sum
       good = true;
     }
 unfolding chars encode resolved lettered limit encode_with digits
-    mix scheduled round block_words start compress blocks hash_after blake2b
+    mix round start compress blocks blake2b
 tagged = refl
 
 -- md5sum --foo --help
@@ -143,7 +144,8 @@ all_verdicts : meaning Md5sum
       asks = codes "l" ∷ codes "a" ∷ codes "x" ∷ codes "e" ∷ [];
       good = false;
     }
-unfolding chars encode resolved lettered limit pieces entry_of opened_text plain_behind decode_pairs digits
+unfolding chars encode resolved lettered limit pieces entry_of plain_parts tags tagged_as tagged_parts decode_pairs
+    digits
     md5_words md5_rounds md5_compress md5_after md5_bytes md5
 all_verdicts = refl
 
@@ -163,7 +165,8 @@ ignore_missing : meaning Md5sum
       asks = codes "l" ∷ codes "a" ∷ codes "x" ∷ codes "e" ∷ [];
       good = false;
     }
-unfolding chars encode resolved lettered limit pieces entry_of opened_text plain_behind decode_pairs digits
+unfolding chars encode resolved lettered limit pieces entry_of plain_parts tags tagged_as tagged_parts decode_pairs
+    digits
     md5_words md5_rounds md5_compress md5_after md5_bytes md5
 ignore_missing = refl
 
@@ -176,7 +179,8 @@ nothing_to_check : meaning Md5sum
       asks = codes "-" ∷ [];
       good = false;
     }
-unfolding chars encode resolved lettered limit pieces entry_of opened_text plain_behind decode_pairs digits
+unfolding chars encode resolved lettered limit pieces entry_of plain_parts tags tagged_as tagged_parts decode_pairs
+    digits
     md5_words md5_rounds md5_compress md5_after md5_bytes md5
 nothing_to_check = refl
 
@@ -191,7 +195,8 @@ manifest_fails : meaning Md5sum
       asks = codes "l" ∷ codes "a" ∷ [];
       good = false;
     }
-unfolding chars encode resolved lettered limit pieces entry_of opened_text plain_behind decode_pairs digits
+unfolding chars encode resolved lettered limit pieces entry_of plain_parts tags tagged_as tagged_parts decode_pairs
+    digits
     md5_words md5_rounds md5_compress md5_after md5_bytes md5
 manifest_fails = refl
 
@@ -205,7 +210,8 @@ stdin_listed : meaning Md5sum
       asks = codes "l" ∷ codes "-" ∷ codes "l" ∷ codes "-" ∷ [];
       good = false;
     }
-unfolding chars encode resolved lettered limit pieces entry_of opened_text plain_behind decode_pairs digits
+unfolding chars encode resolved lettered limit pieces entry_of plain_parts tags tagged_as tagged_parts decode_pairs
+    digits
     md5_words md5_rounds md5_compress md5_after md5_bytes md5
 stdin_listed = refl
 
@@ -221,7 +227,8 @@ reversed_form : meaning Md5sum
       asks = codes "l" ∷ codes "a" ∷ codes " a" ∷ [];
       good = false;
     }
-unfolding chars encode resolved lettered limit pieces entry_of opened_text plain_behind decode_pairs digits
+unfolding chars encode resolved lettered limit pieces entry_of plain_parts tags tagged_as tagged_parts decode_pairs
+    digits
     md5_words md5_rounds md5_compress md5_after md5_bytes md5
 reversed_form = refl
 
@@ -237,7 +244,8 @@ mixed_tags : meaning Anysum
       asks = codes "l" ∷ codes "a" ∷ codes "e" ∷ [];
       good = true;
     }
-unfolding chars encode resolved lettered limit pieces entry_of opened_text plain_behind decode_pairs digits name_behind
+unfolding chars encode resolved lettered limit pieces entry_of plain_parts tags tagged_as tagged_parts decode_pairs
+    digits rsplit_once
     md5_words md5_rounds md5_compress md5_after md5_bytes md5
-    mix scheduled round block_words start compress blocks hash_after blake2b
+    mix round start compress blocks blake2b
 mixed_tags = refl

@@ -7,12 +7,12 @@ use Rattle.sum_engine.specs.declared.stop.Stop.{Stop}
 use Rattle.sum_engine.specs.declared.stop.Stop.TheVariants.{Memory, Write}
 use Rattle.sum_engine.specs.Worlds.{World, after}
 use Rattle.sum_engine.specs.Outcomes.{Outcome}
-use Rattle.sum_engine.specs.Scenes.{Scene, scene_by, Does, Kept, Rose, Failures, AppendsUpTo}
+use Rattle.sum_engine.specs.Scenes.{Scene, scene_by, Does, Kept, Rose, AppendsUpTo}
 use Rattle.sum_words.specs.Items.{Text}
 use Rattle.sum_words.specs.Texts.{unknown_tool, not_read}
-use Rattle.digests.proofs.RunLemmas.{said_on_err}
+use Rattle.digests.proofs.OperandLemmas.{said_on_err}
 use Rattle.digests.specs.Headline.{RunGives}
-use Rattle.digests.specs.joins.Runs.{told_of}
+use Rattle.digests.specs.joins.Operands.{once_written}
 use Rattle.sum_words.specs.joins.Arguments.{CallIs}
 use Rattle.digests.specs.joins.Endings.{CutsOff, Closes}
 use Rattle.sum_words.specs.CommandLines.{Call, unknown}
@@ -21,6 +21,11 @@ use Rattle.digests.proofs.EndingLemmas.{front-up_to, front-front, up_to-whole, A
 use Rattle.std.proofs.KnownBytes.{Appends-trans}
 
 -- ---- failures, one call after another
+
+-- the failures of both outputs, before and after, by the answer
+abbrev FailuresOf : ℕ → ℕ → ℕ → ℕ → Result ℕ Stop → Type 0
+FailuresOf o o' e e' (Err Write) = Rose o o' e e'
+FailuresOf o o' e e' r = Kept o o' e e'
 
 kept-both : (o o1 o' e e1 e' : ℕ) → Kept o o1 e e1 → Kept o1 o' e1 e' → Kept o o' e e'
 kept-both o o1 o' e e1 e' h k = (k.0 ∙ h.0, k.1 ∙ h.1)
@@ -46,9 +51,11 @@ fronts-of o line a w t t' oa ob ea eb answer asked rest is world out err cut = (
   (cut.2.0, front-front a.err ea cut.2.0 o.err (front-up_to a.err ea o.err err) cut.2.1, cut.2.2),
 )
 
-whole-of : (o : Outcome) (line : Text) (status answer : ℕ) (a : Scene) (w : World) (t : Bool) (oa ob ea eb : Option Text)
+whole-of : (o : Outcome) (line : Text) (status answer : ℕ) (a : Scene) (w : World) (t : Bool)
+    (oa ob ea eb : Option Text)
     → answer ≡ status → Does a (record { world = w; taken = t; out = oa; err = ea }) o.out o.err o.asks
-    → Keeps oa ob → Appends ea eb line → Whole o line status a (record { world = w; taken = t; out = ob; err = eb }) answer
+    → Keeps oa ob → Appends ea eb line → Whole o line status a
+    (record { world = w; taken = t; out = ob; err = eb }) answer
 whole-of o line status answer a w t oa ob ea eb is does out err = (
   is,
   record {
@@ -69,7 +76,7 @@ appends-none (Some x) (Some y) h = h ∙ sym (append-nil x)
 pub ends : (line : Option Call) (n m : ℕ) (s : Option Scene) (w : Option World) (t : Bool) (oa ob ea eb : Option Text)
     → (o o1 o' e e1 e' answer : ℕ) (r : Result ℕ Stop)
     → RunGives (outcome_of line) (place_in line) (WantsMemory line n m) s (scene_by w t oa ea) r
-    → Failures o o1 e e1 r → Closes (stop_told (tool_of line)) r oa ob ea eb o1 o' e1 e' answer
+    → FailuresOf o o1 e e1 r → Closes (stop_told (tool_of line)) r oa ob ea eb o1 o' e1 e' answer
     → EndsGives line n m (Kept o o' e e') (Failed o o' e e') s (scene_by w t ob eb) answer
 ends line n m None w t oa ob ea eb o o1 o' e e1 e' answer r run failures close = tt
 ends line n m (Some a) None t oa ob ea eb o o1 o' e e1 e' answer r run failures close = absurd run
@@ -96,7 +103,11 @@ ends line n m (Some a) (Some w) t oa ob ea eb o o1 o' e e1 e' answer (Err Memory
       run.0,
       run.1,
       run.3,
-      inl (whole-of (place_in line a.world run.0 run.1) _ _ answer a w t oa ob ea eb c.0 run.2 c.1 c.2, kept-both o o1 o' e e1 e' kept c.3),
+      inl (
+        whole-of (place_in line a.world run.0 run.1) _ _ answer a w t oa ob ea eb c.0 run.2 c.1 c.2,
+        kept-both o o1
+            o' e e1 e' kept c.3,
+      ),
     )
 ends line n m (Some a) (Some w) t oa ob ea eb o o1 o' e e1 e' answer (Err Memory) run kept (inr c) =
     let x = place_in line a.world run.0 run.1 in
@@ -113,7 +124,7 @@ ends line n m (Some a) (Some w) t oa ob ea eb o o1 o' e e1 e' answer (Err Memory
 
 -- the same where one line was written, and no tool ran
 said-fails : {E : Type 0} (A B : Type 0) (o e e1 : ℕ) (r : Result (Unit {0}) E)
-    → MatchResult r (λ _. A × (e1 ≡ e)) (λ _. B × (e1 ≡ after_failure e)) → Failures o o e e1 (told_of r 1)
+    → MatchResult r (λ _. A × (e1 ≡ e)) (λ _. B × (e1 ≡ after_failure e)) → FailuresOf o o e e1 (once_written r 1)
 said-fails A B o e e1 (Ok u) h = (refl, h.1)
 said-fails A B o e e1 (Err f) h = inr (refl, h.1)
 
@@ -121,25 +132,27 @@ abbrev Said : {E : Type 0} → Text → Option Text → Option Text → ℕ → 
 Said text a b i j r =
     MatchResult r (λ _. Appends a b text × (j ≡ i)) (λ _. AppendsFront a b text × (j ≡ after_failure i))
 
-pub ends-unknown : {E : Type 0} (n m : ℕ) (w : Option World) (t : Bool) (oa ob ea em eb : Option Text) (o o' e e1 e' answer : ℕ)
-    → (r : Result (Unit {0}) E) (told : Result ℕ Stop) → Said unknown_tool ea em e e1 r → told ≡ told_of r 1
+pub ends-unknown : {E : Type 0} (n m : ℕ) (w : Option World) (t : Bool) (oa ob ea em eb : Option Text)
+    (o o' e e1 e' answer : ℕ)
+    → (r : Result (Unit {0}) E) (told : Result ℕ Stop) → Said unknown_tool ea em e e1 r → told ≡ once_written r 1
     → Closes (stop_told None) told oa ob em eb o o' e1 e' answer
     → EndsGives (Some unknown) n m (Kept o o' e e') (Failed o o' e e') (scene_by w t oa ea) (scene_by w t ob eb) answer
 ends-unknown n m w t oa ob ea em eb o o' e e1 e' answer r told said is close =
     let line = Some unknown in
     let closed = subst (λ x. Closes (stop_told None) x oa ob em eb o o' e1 e' answer) is close in
-    ends line n m (scene_by w t oa ea) w t oa ob em eb o o o' e e1 e' answer (told_of r 1)
+    ends line n m (scene_by w t oa ea) w t oa ob em eb o o o' e e1 e' answer (once_written r 1)
     (said_on_err unknown_tool w t (place_in line) (WantsMemory line n m) oa ea em _ _ r said)
     (said-fails _ _ o e e1 r said) closed
 
-pub ends-not_read : {E : Type 0} (n m : ℕ) (w : Option World) (t : Bool) (oa ob ea em eb : Option Text) (o o' e e1 e' answer : ℕ)
-    → (r : Result (Unit {0}) E) (told : Result ℕ Stop) → Said not_read ea em e e1 r → told ≡ told_of r 1
+pub ends-not_read : {E : Type 0} (n m : ℕ) (w : Option World) (t : Bool) (oa ob ea em eb : Option Text)
+    (o o' e e1 e' answer : ℕ)
+    → (r : Result (Unit {0}) E) (told : Result ℕ Stop) → Said not_read ea em e e1 r → told ≡ once_written r 1
     → Closes (stop_told None) told oa ob em eb o o' e1 e' answer
     → EndsGives None n m (Kept o o' e e') (Failed o o' e e') (scene_by w t oa ea) (scene_by w t ob eb) answer
 ends-not_read n m w t oa ob ea em eb o o' e e1 e' answer r told said is close =
     let line : Option Call = None in
     let closed = subst (λ x. Closes (stop_told None) x oa ob em eb o o' e1 e' answer) is close in
-    ends line n m (scene_by w t oa ea) w t oa ob em eb o o o' e e1 e' answer (told_of r 1)
+    ends line n m (scene_by w t oa ea) w t oa ob em eb o o o' e e1 e' answer (once_written r 1)
     (said_on_err not_read w t (place_in line) (WantsMemory line n m) oa ea em _ _ r said)
     (said-fails _ _ o e e1 r said) closed
 

@@ -1,7 +1,8 @@
--- The form of the headline: what a run does to a told world and both outputs. It does all that the outcome says; or it is
--- cut short by a failed write; or it stops at a place, for want of memory. Two numbers, n and m, are how often the source
--- was refused memory before the call and after it.
-use Rattle.std.specs.Prelude.{ℕ, zero, suc, ◌≡◌, ◌⊎◌, List, [], ◌∷◌, Option, None, Some, Result, Ok, Err, ⊤}
+-- The form of the headline: what a run does to a told world and both outputs. It does all that the outcome says;
+-- or it is cut short by a failed write; or it stops at a place, for want of memory. Two numbers, n and m, are how
+-- often the source was refused memory before the call and after it.
+use Rattle.std.specs.Prelude.{ℕ, zero, suc, ◌≡◌, ◌⊎◌, List, [], ◌∷◌, Option, Result, Ok, Err}
+use Rattle.sum_sources.specs.Contents.{WhereTold}
 use Rattle.sum_sources.specs.Sources.{after_refusal}
 use Rattle.sum_engine.specs.declared.stop.Stop.{Stop}
 use Rattle.sum_engine.specs.declared.stop.Stop.TheVariants.{Memory, Write}
@@ -42,10 +43,10 @@ RunOf o place wanting a b (Ok status) = (status ≡ status_of o.good) × Comes o
 RunOf o place wanting a b (Err Write) = CutShort o a b
 RunOf o place wanting a b (Err Memory) = (j : ℕ) × (k : ℕ) × Comes (place j k) a b × wanting j k
 
-abbrev pub RunGives : (World → Outcome) → (World → ℕ → ℕ → Outcome) → (World → ℕ → ℕ → Type 0) → Option Scene → Option Scene → Result ℕ Stop → Type 0
-RunGives outcome place wanting None b r = ⊤
-RunGives outcome place wanting (Some a) None r = ⊥
-RunGives outcome place wanting (Some a) (Some b) r = RunOf (outcome a.world) (place a.world) (wanting a.world) a b r
+abbrev pub RunGives : (World → Outcome) → (World → ℕ → ℕ → Outcome) → (World → ℕ → ℕ → Type 0) → Option Scene
+    → Option Scene → Result ℕ Stop → Type 0
+RunGives outcome place wanting a b r =
+    WhereTold a b (λ a b. RunOf (outcome a.world) (place a.world) (wanting a.world) a b r)
 
 -- what a job's want of memory says of the source's refusals: in generation the source was refused memory; in checking
 -- a line may have been
@@ -54,9 +55,8 @@ Refused (jobs.Generate settings) n m = m ≡ after_refusal n
 Refused (jobs.Check settings) n m = (m ≡ n) ⊎ (m ≡ after_refusal n)
 
 abbrev pub RefusalsOf : {A : Type 0} → (ℕ → ℕ → Type 0) → ℕ → ℕ → Result A Stop → Type 0
-RefusalsOf refused n m (Ok a) = m ≡ n
-RefusalsOf refused n m (Err Write) = m ≡ n
 RefusalsOf refused n m (Err Memory) = refused n m
+RefusalsOf refused n m r = m ≡ n
 
 -- the same of a command line: a fault, help and version want no memory
 abbrev pub RefusedBy : Result Request Fault → ℕ → ℕ → Type 0

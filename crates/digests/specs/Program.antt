@@ -1,5 +1,6 @@
 -- What the program does, from the list of its arguments to its status.
 use Rattle.std.specs.Prelude.{Result, Ok, ℕ, zero, suc, ◌≡◌, ◌+◌, ◌<◌, ◌⊎◌, List, [], ◌++◌, Option, None, Some, ⊤}
+use Rattle.sum_sources.specs.Contents.{WhereTold}
 use Rattle.sum_lines.specs.Sinks.{after_failure}
 use Rattle.sum_engine.specs.declared.stop.Stop.{Stop}
 use Rattle.sum_engine.specs.declared.stop.Stop.TheVariants.{Memory, Write}
@@ -39,9 +40,7 @@ tool_of line = None
 
 -- what an output holds is a front of what it held and then the text
 abbrev pub HoldsFront : Option Text → Option Text → Text → Type 0
-HoldsFront None new text = ⊤
-HoldsFront (Some old) None text = ⊥
-HoldsFront (Some old) (Some new) text = (rest : Text) × (old ++ text ≡ new ++ rest)
+HoldsFront old new text = WhereTold old new (λ old new. (rest : Text) × (old ++ text ≡ new ++ rest))
 
 -- or a front of that and then this line
 abbrev pub HoldsFrontThen : Option Text → Option Text → Text → Text → Type 0
@@ -75,12 +74,11 @@ EndsAs line n m kept failed a b answer =
     (let o = outcome_of line a.world in (Whole o [] (status_of o.good) a b answer × kept)
     ⊎ (Fronts o (stop_told (tool_of line) Write) a b answer × failed))
     ⊎ ((j : ℕ) × (k : ℕ) × WantsMemory line n m a.world j k × (let o = place_in line a.world j k in
-    (Whole o (stop_told (tool_of line) Memory) 1 a b answer × kept) ⊎ (Fronts o (stop_told (tool_of line) Memory) a b answer × failed)))
+    (Whole o (stop_told (tool_of line) Memory) 1 a b answer × kept)
+    ⊎ (Fronts o (stop_told (tool_of line) Memory) a b answer × failed)))
 
 abbrev pub EndsGives : Option Call → ℕ → ℕ → Type 0 → Type 0 → Option Scene → Option Scene → ℕ → Type 0
-EndsGives line n m kept failed None b answer = ⊤
-EndsGives line n m kept failed (Some a) None answer = ⊥
-EndsGives line n m kept failed (Some a) (Some b) answer = EndsAs line n m kept failed a b answer
+EndsGives line n m kept failed a b answer = WhereTold a b (λ a b. EndsAs line n m kept failed a b answer)
 
 -- the command line is that of the arguments, or couldn't be read for want of memory
 abbrev pub ProgramGives :

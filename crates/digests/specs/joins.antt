@@ -1,3 +1,3 @@
 -- What joins one function to the next; nobody has to believe it.
 pub mod Endings
-pub mod Runs
+pub mod Operands

@@ -6,11 +6,11 @@ ghost use Rattle.sum_words.specs.CommandLines.{call};
 ghost use Rattle.digests.specs.Program.{ProgramGives, EndsGives, Failed, IsKept};
 
 use crate::ending::close;
-use crate::run::{answer, told};
+use crate::run::{answer, status_once};
 use std::alloc::Allocator;
-use sum_engine::Settings;
+use sum_engine::{Settings, Streams};
 use sum_lines::{Finish, Sink, Style, WholeLines, put_all};
-use sum_sources::{Input, Source, Stdin};
+use sum_sources::{Input, Source};
 use sum_words::{
     Arguments, CommandLine, Job, NotRead, Request, Tool, WordFault, Words, put_unknown,
     read_command_line, read_words,
@@ -26,30 +26,27 @@ use sum_words::{
 pub fn command<A: Allocator + Copy, G: Arguments, I: Input + Drop, S: Source, O: Finish, E: Sink>(
     alloc: A,
     arguments: &G,
-    stdin: &mut Stdin<I>,
-    source: &mut S,
-    out: &mut WholeLines<O>,
-    err: &mut WholeLines<E>,
+    streams: &mut Streams<I, S, WholeLines<O>, WholeLines<E>>,
 ) -> u8
-    ensures gives { ProgramGives (G.told arguments.now) (S.refusals source.old) (S.refusals source.new)
-        (Kept (O.failures out.old.sink) (O.failures out.new.sink) (E.failures err.old.sink) (E.failures err.new.sink))
-        (Failed (O.failures out.old.sink) (O.failures out.new.sink) (E.failures err.old.sink) (E.failures err.new.sink))
-        (scene I.content (S.told source.old) stdin.old (append_known (O.written out.old.sink) out.old.held)
-        (append_known (E.written err.old.sink) err.old.held))
-        (scene I.content (S.told source.new) stdin.new (O.written out.new.sink) (E.written err.new.sink)) result }
-    ensures kept { result ≡ 0 → IsKept O.finish_gives out.new.sink }
+    ensures gives { ProgramGives (G.told arguments.now) (S.refusals streams.old.source) (S.refusals streams.new.source)
+        (Kept (O.failures streams.old.out.sink) (O.failures streams.new.out.sink) (E.failures streams.old.err.sink)
+        (E.failures streams.new.err.sink))
+        (Failed (O.failures streams.old.out.sink) (O.failures streams.new.out.sink) (E.failures streams.old.err.sink)
+        (E.failures streams.new.err.sink))
+        (scene I.content S.told (λ out. append_known (O.written out.sink) out.held)
+        (λ err. append_known (E.written err.sink) err.held) streams.old)
+        (scene I.content S.told (λ out. O.written out.sink) (λ err. E.written err.sink) streams.new) result }
+    ensures kept { result ≡ 0 → IsKept O.finish_gives streams.new.out.sink }
 {
     match read_command_line(alloc, arguments) {
-        Ok(CommandLine::Asks(tool, words)) => {
-            perform(alloc, tool, &words, stdin, source, out, err)
-        }
+        Ok(CommandLine::Asks(tool, words)) => { perform(alloc, tool, &words, streams) }
         Ok(CommandLine::UnknownTool) => {
-            let answer = told(put_unknown(err), 1);
-            close(None, answer, out, err)
+            let answer = status_once(put_unknown(&mut streams.err), 1);
+            close(None, answer, &mut streams.out, &mut streams.err)
         }
         Err(NotRead) => {
-            let answer = told(put_all(err, b"digests: words not read\n"), 1);
-            close(None, answer, out, err)
+            let answer = status_once(put_all(&mut streams.err, b"digests: words not read\n"), 1);
+            close(None, answer, &mut streams.out, &mut streams.err)
         }
     }
 }
@@ -59,23 +56,23 @@ fn perform<A: Allocator + Copy, I: Input + Drop, S: Source, O: Finish, E: Sink>(
     alloc: A,
     tool: Tool,
     words: &Words<A>,
-    stdin: &mut Stdin<I>,
-    source: &mut S,
-    out: &mut WholeLines<O>,
-    err: &mut WholeLines<E>,
+    streams: &mut Streams<I, S, WholeLines<O>, WholeLines<E>>,
 ) -> u8
-    ensures gives { EndsGives (Some (call tool words.now)) (S.refusals source.old) (S.refusals source.new)
-        (Kept (O.failures out.old.sink) (O.failures out.new.sink) (E.failures err.old.sink) (E.failures err.new.sink))
-        (Failed (O.failures out.old.sink) (O.failures out.new.sink) (E.failures err.old.sink) (E.failures err.new.sink))
-        (scene I.content (S.told source.old) stdin.old (append_known (O.written out.old.sink) out.old.held)
-        (append_known (E.written err.old.sink) err.old.held))
-        (scene I.content (S.told source.new) stdin.new (O.written out.new.sink) (E.written err.new.sink)) result }
-    ensures kept { result ≡ 0 → IsKept O.finish_gives out.new.sink }
+    ensures gives { EndsGives (Some (call tool words.now))
+        (S.refusals streams.old.source) (S.refusals streams.new.source)
+        (Kept (O.failures streams.old.out.sink) (O.failures streams.new.out.sink) (E.failures streams.old.err.sink)
+        (E.failures streams.new.err.sink))
+        (Failed (O.failures streams.old.out.sink) (O.failures streams.new.out.sink) (E.failures streams.old.err.sink)
+        (E.failures streams.new.err.sink))
+        (scene I.content S.told (λ out. append_known (O.written out.sink) out.held)
+        (λ err. append_known (E.written err.sink) err.held) streams.old)
+        (scene I.content S.told (λ out. O.written out.sink) (λ err. E.written err.sink) streams.new) result }
+    ensures kept { result ≡ 0 → IsKept O.finish_gives streams.new.out.sink }
 {
     let asked = read_words(tool, words);
-    out.end_lines_with(end_of_lines(&asked));
-    let answer = answer(alloc, tool, asked, stdin, source, out, err);
-    close(Some(tool), answer, out, err)
+    streams.out.end_lines_with(end_of_lines(&asked));
+    let answer = answer(alloc, tool, asked, streams);
+    close(Some(tool), answer, &mut streams.out, &mut streams.err)
 }
 
 // The byte that ends each line of standard output: a newline, or NUL where the words ask for that.

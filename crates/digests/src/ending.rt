@@ -9,8 +9,8 @@ use sum_lines::{Finish, Sink, SinkFault, WholeLines};
 use sum_words::{Tool, put_stop};
 
 /// Ends a run that answered so: hands on what the outputs hold, sees to it that standard output is kept, and tells of a
-/// stop where that can be written. After a write fault nothing of what was cut off is written any more. Answers the exit
-/// status: that of the run, or 1 after a stop.
+/// stop where that can be written. After a write fault nothing of what was cut off is written any more. Answers the
+/// exit status: that of the run, or 1 after a stop.
 pub(crate) fn close<O: Finish, E: Sink>(
     tool: Option<Tool>,
     answer: Result<u8, Stop>,

@@ -7,26 +7,23 @@ pub mod laws;
 pub mod run;
 #[cfg(test)]
 mod run_tests;
-pub mod streams;
+pub mod standard_input;
 
 use command::command;
+use standard_input::standard_input;
 use std::process::ExitCode;
-use streams::standard_input;
+use sum_engine::Streams;
 use sum_lines::{FromWrite, WholeLines};
 use sum_sources::{Files, Stdin};
 use sum_words::SystemArguments;
 
 fn main(rt: HostRuntime) -> ExitCode {
-    let mut stdin = Stdin::new(standard_input(rt.stdin()));
-    let mut out = WholeLines::new(FromWrite::new(rt.stdout()), b'\n');
-    let mut err = WholeLines::new(FromWrite::new(rt.stderr()), b'\n');
-    let status = command(
-        rt.alloc(),
-        &SystemArguments::new(rt),
-        &mut stdin,
-        &mut Files::new(rt),
-        &mut out,
-        &mut err,
-    );
+    let mut streams = Streams {
+        stdin: Stdin::new(standard_input(rt.stdin())),
+        source: Files::new(rt),
+        out: WholeLines::new(FromWrite::new(rt.stdout()), b'\n'),
+        err: WholeLines::new(FromWrite::new(rt.stderr()), b'\n'),
+    };
+    let status = command(rt.alloc(), &SystemArguments::new(rt), &mut streams);
     ExitCode::from(status)
 }

@@ -11,7 +11,7 @@ use crate::run::run;
 use std::alloc::{Allocator, Global};
 use std::process::Abort;
 use std::test::Fail;
-use sum_engine::Stop;
+use sum_engine::{Stop, Streams};
 use sum_lines::ToldSink;
 use sum_sources::{Answer, Ending, Fault, Stdin, Told, ToldSource};
 use sum_words::{NoRoom, Tool, Words};
@@ -92,21 +92,21 @@ fn run_line(
     alloc: Global,
     line: &str,
     input: Told,
-    files: &mut ToldSource<Global>,
+    files: ToldSource<Global>,
     stops: (usize, usize),
 ) -> Result<Run, Fail> {
-    let run = run_line_on(alloc, line, input, files, stops)?;
-    Ok(run.ok_or("no room for the words")?)
+    let (run, _) = run_line_on(alloc, line, input, files, stops)?.ok_or("no room for the words")?;
+    Ok(run)
 }
 
-// The same on a heap: `None` where it has no room for the words.
-fn run_line_on<A: Allocator + Copy>(
+// The same on a heap, and the source afterwards: `None` where the heap has no room for the words.
+fn run_line_on<'a, A: Allocator + Copy>(
     heap: A,
     line: &str,
     input: Told,
-    files: &mut ToldSource<A>,
+    files: ToldSource<'a, A>,
     (out_stop, err_stop): (usize, usize),
-) -> Result<Option<Run>, Fail> {
+) -> Result<Option<(Run, ToldSource<'a, A>)>, Fail> {
     let mut parts = line.split(' ');
     let tool = Tool::from_word(parts.next().unwrap_or("")).ok_or("no such tool")?;
     let mut words = Words::new(heap);
@@ -115,18 +115,20 @@ fn run_line_on<A: Allocator + Copy>(
             return Ok(None);
         }
     }
-    let mut out = ToldSink::new(out_stop);
-    let mut err = ToldSink::new(err_stop);
-    let answer = run(
-        heap,
-        tool,
-        &words,
-        &mut Stdin::new(input),
-        files,
-        &mut out,
-        &mut err,
-    );
-    Ok(Some(Run { out, err, answer }))
+    let mut streams = Streams {
+        stdin: Stdin::new(input),
+        source: files,
+        out: ToldSink::new(out_stop),
+        err: ToldSink::new(err_stop),
+    };
+    let answer = run(heap, tool, &words, &mut streams);
+    let Streams {
+        stdin: _,
+        source,
+        out,
+        err,
+    } = streams;
+    Ok(Some((Run { out, err, answer }, source)))
 }
 
 // A line, what it writes on standard output and on standard error, and the status that it answers.
@@ -172,7 +174,7 @@ fn assert_rows(
                 )?;
             }
             let input = Told::new(input.as_bytes(), Ending::Whole, piece);
-            let run = run_line(rt.alloc(), row.0, input, &mut files, (1024, 1024))?;
+            let run = run_line(rt.alloc(), row.0, input, files, (1024, 1024))?;
             assert_as(rt, &run, *row)?;
         }
     }
@@ -195,7 +197,7 @@ fn assert_broken(
             rt.alloc(),
             row.0,
             Told::new(bytes, ending, piece),
-            &mut files,
+            files,
             (1024, 1024),
         )?;
         assert_as(rt, &run, row)?;

@@ -2,7 +2,7 @@
 #![tactic(auto)]
 
 use digest_kinds::{Algo, Algos};
-use sum_engine::{CheckSettings, Checker, Progress, Report};
+use sum_engine::{CheckSettings, Checker, Progress, Report, Streams};
 use sum_sources::{Files, FromRead, Stdin};
 
 #[derive(Drop)]
@@ -24,13 +24,13 @@ fn main(rt: HostRuntime) -> anyhow::Result<()> {
         strict: true,
         ignore_missing: false,
     };
-    let mut stdin = Stdin::new(FromRead::new(rt.stdin()));
+    let (mut stdin, mut line) = (Stdin::new(FromRead::new(rt.stdin())), Vec::new(rt.alloc()));
     let mut checker = Checker::new(settings, "check", b"stdin", true, stdin.take());
-    let (mut source, mut line) = (Files::new(rt), Vec::new(rt.alloc()));
+    let mut streams = Streams::new(stdin, Files::new(rt), Noted(false), Noted(false));
     for number in 1..u64::MAX {
-        let (mut out, mut err) = (Noted(false), Noted(false));
-        match checker.step(&mut line, &mut stdin, &mut source, &mut out, &mut err)? {
-            Progress::Going if out.0 => println!(rt; "line {number} doesn't hold")?,
+        streams.out = Noted(false);
+        match checker.step(&mut line, &mut streams)? {
+            Progress::Going if streams.out.0 => println!(rt; "line {number} doesn't hold")?,
             Progress::Going => {}
             Progress::Ended(good) => return Ok(println!(rt; "all in all it holds: {good}")?),
         }

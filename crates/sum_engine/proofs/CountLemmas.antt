@@ -8,7 +8,8 @@ use Rattle.sum_engine.specs.declared.verdict.Verdict.TheVariants.{Ignored, Bad, 
 use Rattle.sum_engine.specs.Verdicts.{Judged}
 use Rattle.sum_engine.specs.Reports.{counts, counted, is_right, is_wrong, is_missing, is_unread, is_bad}
 
-count_more : (q : Judged → Bool) (done : List Judged) (j : Judged) → sum_by (λ i. cond (q i) 1 0) (done ++ j ∷ []) ≡ sum_by (λ i. cond (q i) 1 0) done + cond (q j) 1 0
+count_more : (q : Judged → Bool) (done : List Judged) (j : Judged)
+    → sum_by (λ i. cond (q i) 1 0) (done ++ j ∷ []) ≡ sum_by (λ i. cond (q i) 1 0) done + cond (q j) 1 0
 count_more q done j =
     let f : Judged → ℕ = λ i. cond (q i) 1 0 in
     let all : sum_by f (done ++ j ∷ []) ≡ sum_by f done + sum_by f (j ∷ []) = sum_by-append f done (j ∷ []) in
@@ -32,7 +33,8 @@ plus c v = record {
 }
 
 plus_is : (v : Verdict) (c : Counts) → plus c v ≡ counted c v
-plus_is Ignored c = same_counts _ _ _ _ _ _ _ _ _ _ (omega arith) (omega arith) (omega arith) (omega arith) (omega arith)
+plus_is Ignored c =
+    same_counts _ _ _ _ _ _ _ _ _ _ (omega arith) (omega arith) (omega arith) (omega arith) (omega arith)
 plus_is Bad c = same_counts _ _ _ _ _ _ _ _ _ _ (omega arith) (omega arith) (omega arith) (omega arith) refl
 plus_is Right c = same_counts _ _ _ _ _ _ _ _ _ _ refl (omega arith) (omega arith) (omega arith) (omega arith)
 plus_is Wrong c = same_counts _ _ _ _ _ _ _ _ _ _ (omega arith) refl (omega arith) (omega arith) (omega arith)
@@ -43,6 +45,8 @@ plus_is (Unread f) c = same_counts _ _ _ _ _ _ _ _ _ _ (omega arith) (omega arit
 pub counts_more : (done : List Judged) (j : Judged) → counts (done ++ j ∷ []) ≡ counted (counts done) j.verdict
 counts_more done j =
     let all : counts (done ++ j ∷ []) ≡ plus (counts done) j.verdict =
-    same_counts _ _ _ _ _ _ _ _ _ _ (count_more (λ i. is_right i.verdict) done j) (count_more (λ i. is_wrong i.verdict) done j)
-    (count_more (λ i. is_missing i.verdict) done j) (count_more (λ i. is_unread i.verdict) done j) (count_more (λ i. is_bad i.verdict) done j) in
+    same_counts _ _ _ _ _ _ _ _ _ _ (count_more (λ i. is_right i.verdict) done j)
+    (count_more (λ i. is_wrong i.verdict) done j)
+    (count_more (λ i. is_missing i.verdict) done j) (count_more (λ i. is_unread i.verdict) done j)
+    (count_more (λ i. is_bad i.verdict) done j) in
     all ∙ plus_is j.verdict (counts done)

@@ -19,7 +19,7 @@ use Rattle.sum_lines.specs.declared.line_reading.Form.TheVariants.{Undecided, St
 use Rattle.sum_lines.specs.declared.written.Mode.{Mode}
 use Rattle.sum_lines.specs.Escape.{escape}
 use Rattle.sum_lines.specs.Lines.{line}
-use Rattle.sum_lines.specs.Entries.{Spelled, kind_of, Entry, ignored, form}
+use Rattle.sum_lines.specs.Entries.{Spelled, kind_of, Entry, form}
 use Rattle.sum_lines.specs.Laws.{ReadBy, Writable}
 use Rattle.sum_lines.proofs.WrittenLemmas.{front_of, read_back}
 use Rattle.sum_sources.specs.declared.fault.Ending.TheVariants.{Whole}
@@ -36,12 +36,12 @@ use Rattle.sum_engine.specs.declared.verdict.Verdict.{Verdict}
 use Rattle.sum_engine.specs.declared.verdict.Verdict.TheVariants.{Right, Bad, Missing}
 use Rattle.sum_engine.specs.Worlds.{World, is_dash, reply, after, ended, read}
 use Rattle.sum_engine.specs.Outcomes.{Outcome}
-use Rattle.sum_engine.specs.Profiles.{Present}
-use Rattle.sum_engine.specs.Grammar.{Nothing, Spells, said_of, entry_of, says}
+use Rattle.sum_lines.specs.Profiles.{present}
+use Rattle.sum_lines.specs.Says.{Spells, says}
 use Rattle.sum_engine.specs.Verdicts.{Rules, Judged, not_found, against, verdict_of, judge, asks_of, verdicts, all_verdicts}
 use Rattle.sum_engine.specs.Reports.{out_of, err_of, right_line, is_right, is_wrong, is_missing, is_unread, is_bad, counts, entries, list_line, unless_status, summary, good}
 use Rattle.sum_engine.specs.Checking.{rules_of, checked_content, checked_by, checked}
-use Rattle.sum_engine.proofs.EntryLemmas.{entry_value}
+use Rattle.sum_lines.proofs.SaysLemmas.{says_is}
 use Rattle.sum_engine.proofs.StepLemmas.{now}
 
 -- ---- what is written
@@ -224,12 +224,11 @@ rights n (i ∷ is) = right (n + 1) i ∷ rights (n + 1) is
 
 judged : (r : Rules) (w : World) (n : ℕ) (f : Form) (i : Item) → Listed r.settings.algo w.answer i
     → Entry escape r.settings.algo f (front i) (spelled i)
-    → judge r w n (says Present r.settings.algo f (front i)) ≡ right n i
+    → judge r w n (says present r.settings.algo f (front i)) ≡ right n i
 judged r w n f i h e =
     let algos : Algos = r.settings.algo in
-    let spells : says Present algos f (front i) ≡ Spells (spelled i) =
-    cond-false (ignored (front i)) Nothing (said_of (entry_of Present algos f (front i))) e.0
-    ∙ ap said_of (entry_value Present algos f (front i) (spelled i) e) in
+    let spells : says present algos f (front i) ≡ Spells (spelled i) =
+    (let is = says_is present algos f (front i) in (is.spells (spelled i)).1 (e.0, e)) in
     let make : Verdict → Judged = λ v. record { number = n; verdict = v; name = i.name } in
     ap (judge r w n) spells ∙ ap make (verdict-right r w i h)
 
@@ -243,7 +242,7 @@ right-verdicts r answer before (i ∷ is) w n e u all =
     let h : Listed algos answer i = All-head (Listed algos answer) i is all in
     let b = back algos answer before later i h u in
     let f : Form = form algos (before ++ (front i ∷ later)) in
-    let first : judge r w (n + 1) (says Present algos f (front i)) ≡ right (n + 1) i =
+    let first : judge r w (n + 1) (says present algos f (front i)) ≡ right (n + 1) i =
     judged r w (n + 1) f i (subst (λ a. Listed algos a i) (sym e) h) b.1 in
     let next : World = after w (i.name ∷ []) in
     let rest : verdicts (now r) f next (n + 1) later ≡ rights (n + 1) is =

@@ -6,10 +6,9 @@ pub mod VerdictLemmas
 pub mod StepLemmas
 pub mod RestLemmas
 pub mod CountLemmas
-pub mod RunLemmas
+pub mod JoinLemmas
 pub mod ManifestLemmas
-pub mod UnescapeOf
-pub mod EntryLemmas
+pub mod SaidLemmas
 pub mod SameFront
 pub mod GoodLemmas
 pub mod OldNames

@@ -1,24 +1,20 @@
 -- A line without a carriage return, neither as a byte nor escaped in its name, says the same under both profiles.
-use Rattle.std.proofs.Common.{◌≡◌, ◌≢◌, ℕ, ◌<◌, ◌==◌, ◌||◌, Bool, true, false, cond, List, [], ◌∷◌, ◌++◌, length, Option, None, Some, refl, ap, sym, ◌∙◌, inl, inr, arith, subst, codes}
-use Rattle.std.specs.List.{All, list_all}
-use Rattle.std.specs.Prelude.{nat_lt}
-use Rattle.std.proofs.lemmas.Bool.{cond-false}
+use Rattle.std.proofs.Common.{◌≡◌, ◌≢◌, ℕ, ◌<◌, ◌==◌, ◌||◌, Bool, true, false, cond, List, [], ◌∷◌, ◌++◌, length, refl, ap, sym, ◌∙◌, inl, inr, arith, subst, codes, append_assoc}
+use Rattle.std.specs.List.{All}
 use Rattle.std.proofs.lemmas.Bool.Decides.{eqb_tells}
 use Rattle.std.proofs.lemmas.List.Elements.{All-nil, All-cons, All-head, All-tail}
 use Rattle.digest_kinds.specs.Kinds.{KindValue, tag}
 use Rattle.digest_kinds.specs.declared.algo.Algos.{Algos}
 use Rattle.sum_lines.specs.declared.line_reading.Form.{Form}
 use Rattle.sum_lines.specs.declared.line_reading.Form.TheVariants.{Undecided, Standard, Reversed}
-use Rattle.sum_lines.specs.Escape.{escape, escape_of}
+use Rattle.sum_lines.specs.Profiles.{present}
+use Rattle.sum_lines.specs.Escape.{escape, escape_of, escape_by}
 use Rattle.sum_lines.specs.Shapes.{Plain, Tagged, mark, optional}
-use Rattle.sum_lines.specs.Entries.{Spelled, ignored}
-use Rattle.sum_lines.specs.Scanned.{Parts, tagged_of, plain_of}
-use Rattle.sum_lines.proofs.PlainLemmas.{read_is_plain}
-use Rattle.sum_lines.proofs.TaggedParts.{read_is_tagged}
-use Rattle.sum_engine.specs.Profiles.{Present, Older, escape_by}
-use Rattle.sum_engine.specs.Grammar.{letter, onto, itself, unescape, without_nul, name_of, raw_of, named, spelled, entry_by, entry_of, Said, Nothing, Improper, Spells, said_of, says}
-use Rattle.sum_engine.specs.OldVerdicts.{NoReturn, HasEscapedReturn, NoEscapedReturn}
-use Rattle.sum_engine.proofs.UnescapeOf.{byte_by}
+use Rattle.sum_lines.specs.Entries.{Spelled, kind_of, ignored_by, RawOf, ByTag, ByTail, Entry}
+use Rattle.sum_lines.specs.Entries as entries
+use Rattle.sum_lines.specs.Says.{Said, Nothing, Improper, Spells, says}
+use Rattle.sum_lines.proofs.SaysLemmas.{says_is}
+use Rattle.sum_engine.specs.OldVerdicts.{older, NoReturn, HasEscapedReturn, NoEscapedReturn}
 
 abbrev pub NotReturn : ℕ → Type 0
 NotReturn b = b ≢ 13
@@ -36,169 +32,74 @@ all_right P (x ∷ xs) ys h = all_right P xs ys (All-tail P x (xs ++ ys) h)
 
 -- ---- the escape
 
-byte_same : (b : ℕ) → b ≢ 13 → byte_by Older b ≡ escape_of b
+byte_same : (b : ℕ) → b ≢ 13 → escape_of older b ≡ escape_of present b
 byte_same b free = elim (eqb_tells b 13) [
-  | inl same ↦ absurd (free same.1)
-  | inr other ↦ cond-false (b == 13) (b ∷ []) (escape_of b) other.0
-]
-
-pub same_escape : (name : List ℕ) → NoReturn name → escape_by Older name ≡ escape_by Present name
-same_escape [] free = refl
-same_escape (b ∷ bs) free =
-    ap (λ l. l ++ escape_by Older bs) (byte_same b (All-head NotReturn b bs free))
-    ∙ ap (λ l. escape_of b ++ l) (same_escape bs (All-tail NotReturn b bs free))
-
--- ---- the name whose escape some bytes are
-
--- a byte, a name or an entry's name, where there is one, has no carriage return
-abbrev CleanByte : Option ℕ → Type 0
-CleanByte None = Unit {0}
-CleanByte (Some b) = b ≢ 13
-
-abbrev CleanName : Option (List ℕ) → Type 0
-CleanName None = Unit {0}
-CleanName (Some name) = NoReturn name
-
-abbrev CleanEntry : Option Spelled → Type 0
-CleanEntry None = Unit {0}
-CleanEntry (Some s) = NoReturn s.name
-
-itself_same : (b : ℕ) → b ≢ 13 → itself Older b ≡ itself Present b
-itself_same b free = elim (eqb_tells b 13) [
   | inl same ↦ absurd (free same.1)
   | inr other ↦ rw other.0 refl
 ]
 
-clean_if : (q : Bool) (b : ℕ) → b ≢ 13 → CleanByte (cond q None (Some b))
-clean_if true b free = tt
-clean_if false b free = free
+pub same_escape : (name : List ℕ) → NoReturn name → escape_by older name ≡ escape_by present name
+same_escape [] free = refl
+same_escape (b ∷ bs) free =
+    ap (λ l. l ++ escape_by older bs) (byte_same b (All-head NotReturn b bs free))
+    ∙ ap (λ l. escape_of present b ++ l) (same_escape bs (All-tail NotReturn b bs free))
 
-itself_clean : (b : ℕ) → b ≢ 13 → CleanByte (itself Present b)
-itself_clean b free = clean_if (b == 10 || (b == 13)) b free
+-- ---- names
 
-onto_clean : (o : Option ℕ) (r : Option (List ℕ)) → CleanByte o → CleanName r → CleanName (onto o r)
-onto_clean None r h k = tt
-onto_clean (Some b) None h k = tt
-onto_clean (Some b) (Some bs) h k = All-cons NotReturn b bs h k
+-- an older name whose escape has no carriage return has none
+older_clean : (name : List ℕ) → NoReturn (escape_by older name) → NoReturn name
+older_clean [] free = All-nil NotReturn
+older_clean (b ∷ bs) free =
+    All-cons NotReturn b bs (first b (all_left NotReturn (escape_of older b) (escape_by older bs) free))
+    (older_clean bs (all_right NotReturn (escape_of older b) (escape_by older bs) free))
+  where
+    first : (b : ℕ) → NoReturn (escape_of older b) → b ≢ 13
+    first b all = λ is. All-head NotReturn 13 [] (subst (λ x. NoReturn (escape_of older x)) is all) refl
 
 -- the escaped carriage return stands behind one more escaped byte
-shift_pair : (x c : ℕ) (cs : List ℕ) → escape_of x ≡ 92 ∷ c ∷ [] → HasEscapedReturn cs → HasEscapedReturn (92 ∷ c ∷ cs)
-shift_pair x c cs is h = (
-  x ∷ h.0,
-  h.1,
-  ap (λ l. 92 ∷ c ∷ l) h.2 ∙ sym (ap (λ l. (l ++ escape h.0) ++ (codes "\\r" ++ h.1)) is),
-)
-
-shift_one : (b : ℕ) (bs : List ℕ) → escape_of b ≡ b ∷ [] → HasEscapedReturn bs → HasEscapedReturn (b ∷ bs)
-shift_one b bs is h = (
+shift : (b : ℕ) (raw : List ℕ) → HasEscapedReturn raw → HasEscapedReturn (escape_of present b ++ raw)
+shift b raw h = (
   b ∷ h.0,
   h.1,
-  ap (λ l. b ∷ l) h.2 ∙ sym (ap (λ l. (l ++ escape h.0) ++ (codes "\\r" ++ h.1)) is),
+  ap (λ l. escape_of present b ++ l) h.2 ∙ sym (append_assoc (escape_of present b) (escape h.0) (codes "\\r" ++ h.1)),
 )
 
-abbrev SameName : List ℕ → Type 0
-SameName raw = (unescape Older raw ≡ unescape Present raw) × CleanName (unescape Present raw)
-
-abbrev SameOnto : Option ℕ → Option ℕ → List ℕ → Type 0
-SameOnto o q raw = (onto o (unescape Older raw) ≡ onto q (unescape Present raw))
-    × CleanName (onto q (unescape Present raw))
-
-same_onto : (o q : Option ℕ) (raw : List ℕ) → o ≡ q → CleanByte q → SameName raw → SameOnto o q raw
-same_onto o q raw is clean h = (
-  ap (λ x. onto x (unescape Older raw)) is ∙ ap (onto q) h.0,
-  onto_clean q (unescape Present raw) clean h.1,
-)
-
--- a backslash and a letter
-pair_same : (c : ℕ) (cs : List ℕ) → (HasEscapedReturn (92 ∷ c ∷ cs) → ⊥) → ((HasEscapedReturn cs → ⊥) → SameName cs)
-    → SameOnto (letter Older c) (letter Present c) cs
-pair_same c cs free more = elim (eqb_tells c 92) [
-  | inl same ↦ rw same.1
-      (same_onto (Some 92) (Some 92) cs refl (λ e. absurd (omega (arith, e)))
-      (more (λ h. free (subst (λ x. HasEscapedReturn (92 ∷ x ∷ cs)) (sym same.1) (shift_pair 92 92 cs refl h)))))
-  | inr backslash ↦ elim (eqb_tells c 110) [
-    | inl same ↦ rw same.1
-        (same_onto (Some 10) (Some 10) cs refl (λ e. absurd (omega (arith, e)))
-        (more (λ h. free (subst (λ x. HasEscapedReturn (92 ∷ x ∷ cs)) (sym same.1) (shift_pair 10 110 cs refl h)))))
-    | inr newline ↦ elim (eqb_tells c 114) [
-      | inl same ↦ absurd (free (subst (λ x. HasEscapedReturn (92 ∷ x ∷ cs)) (sym same.1) ([], cs, refl)))
-      | inr return ↦ rw (backslash.0, newline.0, return.0) (refl, tt)
-    ]
-  ]
-]
-
--- any other byte
-one_same : (b : ℕ) (bs : List ℕ) → b ≢ 13 → (b == 92) ≡ false → (HasEscapedReturn (b ∷ bs) → ⊥)
-    → ((HasEscapedReturn bs → ⊥) → SameName bs) → SameOnto (itself Older b) (itself Present b) bs
-one_same b bs other backslash free more = elim (eqb_tells b 10) [
-  | inl same ↦ rw same.1 (refl, tt)
-  | inr newline ↦ elim (eqb_tells b 13) [
-    | inl same ↦ absurd (other same.1)
-    | inr return ↦
-        let plain : escape_of b ≡ b ∷ [] = rw (backslash, newline.0, return.0) refl in
-        same_onto (itself Older b) (itself Present b) bs (itself_same b other) (itself_clean b other)
-        (more (λ h. free (shift_one b bs plain h)))
-  ]
-]
-
-same_name : (raw : List ℕ) → NoReturn raw → (HasEscapedReturn raw → ⊥) → SameName raw
-same_name [] free none = (refl, All-nil NotReturn)
-same_name (b ∷ []) free none = elim (eqb_tells b 92) [
-  | inl same ↦ rw same.0 (refl, tt)
-  | inr backslash ↦
-      let other : b ≢ 13 = All-head NotReturn b [] free in
-      let h = same_onto (itself Older b) (itself Present b) [] (itself_same b other) (itself_clean b other)
-      (refl, All-nil NotReturn) in
-      rw backslash.0 h
-]
-same_name (b ∷ c ∷ cs) free none =
-    let more : NoReturn (c ∷ cs) = All-tail NotReturn b (c ∷ cs) free in
-    elim (eqb_tells b 92) [
-      | inl same ↦
-          let h = pair_same c cs (subst (λ x. HasEscapedReturn (x ∷ c ∷ cs) → ⊥) same.1 none)
-          (same_name cs (All-tail NotReturn c cs more)) in
-          rw same.0 h
-      | inr backslash ↦
-          let h = one_same b (c ∷ cs) (All-head NotReturn b (c ∷ cs) free) backslash.0 none (same_name (c ∷ cs) more) in
-          rw backslash.0 h
-    ]
-
--- ---- the entry
-
-clean_cond : (q : Bool) (name : List ℕ) → NoReturn name → CleanName (cond q (Some name) None)
-clean_cond true name free = free
-clean_cond false name free = tt
-
-clean_nul : (o : Option (List ℕ)) → CleanName o → CleanName (without_nul o)
-clean_nul None h = tt
-clean_nul (Some name) h = clean_cond (list_all (nat_lt 0) name) name h
+-- a name whose escape has no escaped carriage return has none
+present_clean : (name : List ℕ) → (HasEscapedReturn (escape name) → ⊥) → NoReturn name
+present_clean [] none = All-nil NotReturn
+present_clean (b ∷ bs) none =
+    All-cons NotReturn b bs (first b bs none) (present_clean bs (λ h. none (shift b (escape bs) h)))
+  where
+    first : (b : ℕ) (bs : List ℕ) → (HasEscapedReturn (escape (b ∷ bs)) → ⊥) → b ≢ 13
+    first b bs none = λ is.
+        subst (λ x. HasEscapedReturn (escape (x ∷ bs)) → ⊥) is none ([], escape bs, refl)
 
 -- the bytes have no carriage return, and behind a leading backslash no escaped one
 abbrev CleanRaw : Bool → List ℕ → Type 0
 CleanRaw e raw = NoReturn raw × (e ≡ true → HasEscapedReturn raw → ⊥)
 
-abbrev CleanIf : Bool → Option (List ℕ) → Type 0
-CleanIf e None = Unit {0}
-CleanIf e (Some raw) = CleanRaw e raw
+present_name : (e : Bool) (raw name : List ℕ) → CleanRaw e raw → entries.Spells escape e raw name → NoReturn name
+present_name true raw name h s = present_clean name (subst (λ l. HasEscapedReturn l → ⊥) s.is (h.1 refl))
+present_name false raw name h s = subst NoReturn s.is h.0
 
-name_same : (e : Bool) (raw : List ℕ) → CleanRaw e raw
-    → (name_of Older e raw ≡ name_of Present e raw) × CleanName (name_of Present e raw)
-name_same true raw h =
-    let u = same_name raw h.0 (h.1 refl) in (ap without_nul u.0, clean_nul (unescape Present raw) u.1)
-name_same false raw h = (refl, clean_nul (Some raw) h.0)
+older_name : (e : Bool) (raw name : List ℕ) → CleanRaw e raw → entries.Spells (escape_by older) e raw name
+    → NoReturn name
+older_name true raw name h s = older_clean name (subst NoReturn s.is h.0)
+older_name false raw name h s = subst NoReturn s.is h.0
 
-named_clean : (t : Parts) (o : Option (List ℕ)) → CleanName o → CleanEntry (named t o)
-named_clean t None h = tt
-named_clean t (Some name) h = h
+as_older : (e : Bool) (raw name : List ℕ) → NoReturn name → entries.Spells escape e raw name
+    → entries.Spells (escape_by older) e raw name
+as_older e raw name free s =
+    record { no_nul = s.no_nul; is = s.is ∙ ap (λ l. cond e l name) (sym (same_escape name free)) }
 
-spelled_same : (t : Parts) (o : Option (List ℕ)) → CleanIf t.escaped o
-    → (spelled Older t o ≡ spelled Present t o) × CleanEntry (spelled Present t o)
-spelled_same t None h = (refl, tt)
-spelled_same t (Some raw) h =
-    let n = name_same t.escaped raw h in (ap (named t) n.0, named_clean t (name_of Present t.escaped raw) n.1)
+as_present : (e : Bool) (raw name : List ℕ) → NoReturn name → entries.Spells (escape_by older) e raw name
+    → entries.Spells escape e raw name
+as_present e raw name free s =
+    record { no_nul = s.no_nul; is = s.is ∙ ap (λ l. cond e l name) (same_escape name free) }
 
--- the raw name in a plain line's tail
-standard_first : (b : ℕ) → (b == 32 || b == 42) ≡ true → escape_of b ≡ b ∷ []
+-- ---- the raw name
+
+standard_first : (b : ℕ) → (b == 32 || b == 42) ≡ true → escape_of present b ≡ b ∷ []
 standard_first b h = elim (eqb_tells b 32) [
   | inl same ↦ rw same.1 refl
   | inr space ↦ elim (eqb_tells b 42) [
@@ -207,18 +108,18 @@ standard_first b h = elim (eqb_tells b 32) [
   ]
 ]
 
-standard_clean : (e q : Bool) (b : ℕ) (bs : List ℕ) → (b == 32 || b == 42) ≡ q → CleanRaw e (b ∷ bs)
-    → CleanIf e (cond q (Some bs) None)
-standard_clean e false b bs is h = tt
-standard_clean e true b bs is h =
-    (All-tail NotReturn b bs h.0, λ w k. h.1 w (shift_one b bs (standard_first b is) k))
-
-raw_clean : (f : Form) (e : Bool) (tail : List ℕ) → CleanRaw e tail → CleanIf e (raw_of f tail)
-raw_clean Undecided e tail h = tt
-raw_clean Reversed e tail h = h
-raw_clean Standard e [] h = tt
-raw_clean Standard e (b ∷ []) h = tt
-raw_clean Standard e (b ∷ c ∷ cs) h = standard_clean e (b == 32 || b == 42) b (c ∷ cs) refl h
+-- the raw name in a clean tail
+raw_clean : (f : Form) (e : Bool) (tail raw : List ℕ) → CleanRaw e tail → RawOf f tail raw → CleanRaw e raw
+raw_clean Undecided e tail raw h is = absurd is
+raw_clean Reversed e tail raw h is = subst (CleanRaw e) (sym is) h
+raw_clean Standard e [] raw h is = let bad = is.0 in cc
+raw_clean Standard e (b ∷ []) raw h is = let bad = is.0 in cc
+raw_clean Standard e (b ∷ c ∷ cs) raw h is =
+    let rest : c ∷ cs ≡ raw = (let whole : b ∷ c ∷ cs ≡ is.1 ∷ raw = is.2 in cc) in
+    subst (CleanRaw e) rest (
+      All-tail NotReturn b (c ∷ cs) h.0,
+      λ w k. h.1 w (subst (λ l. HasEscapedReturn (l ++ (c ∷ cs))) (standard_first b is.0) (shift b (c ∷ cs) k)),
+    )
 
 -- the parts of a line
 tagged_text : (algos : Algos) (line : List ℕ) (e : Bool) (kind : KindValue) (d raw : List ℕ)
@@ -236,32 +137,66 @@ plain_text algos line e kind d tail t free =
     All-tail NotReturn t.blank tail (all_right NotReturn t.digits (t.blank ∷ tail) (all_right NotReturn (mark e) _
     (all_right NotReturn t.blanks _ whole)))
 
-abbrev SameEntry : Algos → Form → List ℕ → Type 0
-SameEntry algos f line =
-    (entry_of Older algos f line ≡ entry_of Present algos f line) × CleanEntry (entry_of Present algos f line)
+tag_clean : (E : List ℕ → List ℕ) (algos : Algos) (line : List ℕ) (s : Spelled) → NoReturn line
+    → NoEscapedReturn algos line → (t : ByTag E algos line s) → CleanRaw t.escaped t.raw
+tag_clean E algos line s free none t = (
+  tagged_text algos line t.escaped (kind_of s) s.digest t.raw t.tagged free,
+  λ e. none (kind_of s) s.digest t.raw
+      (inl (subst (λ x. Tagged algos line x (kind_of s) s.digest t.raw) e t.tagged)),
+)
 
-parts_same : (algos : Algos) (f : Form) (line : List ℕ) (t q : Option Parts) → tagged_of algos line ≡ t
-    → plain_of algos line ≡ q → NoReturn line → NoEscapedReturn algos line
-    → (entry_by Older f t q ≡ entry_by Present f t q) × CleanEntry (entry_by Present f t q)
-parts_same algos f line (Some u) q i j free none =
-    let t = read_is_tagged algos line u i in
-    spelled_same u (Some u.text) (
-      tagged_text algos line u.escaped u.kind u.digest u.text t free,
-      λ e. none u.kind u.digest u.text (inl (subst (λ x. Tagged algos line x u.kind u.digest u.text) e t)),
+tail_clean : (E : List ℕ → List ℕ) (algos : Algos) (f : Form) (line : List ℕ) (s : Spelled) → NoReturn line
+    → NoEscapedReturn algos line → (t : ByTail E algos f line s) → CleanRaw t.escaped t.raw
+tail_clean E algos f line s free none t = raw_clean f t.escaped t.tail t.raw (
+  plain_text algos line t.escaped (kind_of s) s.digest t.tail t.plain free,
+  λ e. none (kind_of s) s.digest t.tail
+      (inr (subst (λ x. Plain algos line x (kind_of s) s.digest t.tail) e t.plain)),
+) t.is_raw
+
+-- ---- the entry
+
+entry_older : (algos : Algos) (f : Form) (line : List ℕ) (s : Spelled) → NoReturn line → NoEscapedReturn algos line
+    → Entry escape algos f line s → NoReturn s.name × Entry (escape_by older) algos f line s
+entry_older algos f line s free none (i, inl t) =
+    let clean = present_name t.escaped t.raw s.name (tag_clean escape algos line s free none t) t.spells in
+    let spells = as_older t.escaped t.raw s.name clean t.spells in
+    (clean, (i, inl (record { escaped = t.escaped; raw = t.raw; tagged = t.tagged; spells = spells })))
+entry_older algos f line s free none (i, inr t) =
+    let clean = present_name t.escaped t.raw s.name (tail_clean escape algos f line s free none t) t.spells in
+    let spells = as_older t.escaped t.raw s.name clean t.spells in (
+      clean,
+      (
+        i,
+        inr (record {
+          escaped = t.escaped;
+          tail = t.tail;
+          raw = t.raw;
+          plain = t.plain;
+          is_raw = t.is_raw;
+          spells = spells;
+        }),
+      ),
     )
-parts_same algos f line None None i j free none = (refl, tt)
-parts_same algos f line None (Some u) i j free none =
-    let t = read_is_plain algos line u j in
-    spelled_same u (raw_of f u.text) (raw_clean f u.escaped u.text (
-      plain_text algos line u.escaped u.kind u.digest u.text t free,
-      λ e. none u.kind u.digest u.text (inr (subst (λ x. Plain algos line x u.kind u.digest u.text) e t)),
-    ))
 
-entry_same : (algos : Algos) (f : Form) (line : List ℕ) → NoReturn line → NoEscapedReturn algos line
-    → SameEntry algos f line
-unfolding entry_of
-entry_same algos f line free none =
-    parts_same algos f line (tagged_of algos line) (plain_of algos line) refl refl free none
+entry_present : (algos : Algos) (f : Form) (line : List ℕ) (s : Spelled) → NoReturn line
+    → NoEscapedReturn algos line → Entry (escape_by older) algos f line s → Entry escape algos f line s
+entry_present algos f line s free none (i, inl t) =
+    let clean = older_name t.escaped t.raw s.name (tag_clean (escape_by older) algos line s free none t) t.spells in
+    let spells = as_present t.escaped t.raw s.name clean t.spells in
+    (i, inl (record { escaped = t.escaped; raw = t.raw; tagged = t.tagged; spells = spells }))
+entry_present algos f line s free none (i, inr t) =
+    let clean = older_name t.escaped t.raw s.name (tail_clean (escape_by older) algos f line s free none t) t.spells in
+    let spells = as_present t.escaped t.raw s.name clean t.spells in (
+      i,
+      inr (record {
+        escaped = t.escaped;
+        tail = t.tail;
+        raw = t.raw;
+        plain = t.plain;
+        is_raw = t.is_raw;
+        spells = spells;
+      }),
+    )
 
 -- ---- what a line says
 
@@ -270,21 +205,33 @@ CleanSaid Nothing = Unit {0}
 CleanSaid Improper = Unit {0}
 CleanSaid (Spells s) = NoReturn s.name
 
-said_clean : (o : Option Spelled) → CleanEntry o → CleanSaid (said_of o)
-said_clean None h = tt
-said_clean (Some s) h = h
-
-unless_ignored : (i : Bool) (x : Said) → CleanSaid x → CleanSaid (cond i Nothing x)
-unless_ignored true x h = tt
-unless_ignored false x h = h
+-- a line that isn't empty is ignored under both profiles or under neither
+ignored_same : (line : List ℕ) (q : Bool) → 0 < length line → ignored_by present line ≡ q → ignored_by older line ≡ q
+ignored_same [] q some h = absurd (omega (arith, some))
+ignored_same (b ∷ bs) q some h = h
 
 pub says_same : (algos : Algos) (f : Form) (line : List ℕ) → NoReturn line → NoEscapedReturn algos line
-    → 0 < length line → (says Older algos f line ≡ says Present algos f line) × CleanSaid (says Present algos f line)
-says_same algos f [] free none some = absurd (omega (arith, some))
-says_same algos f (b ∷ bs) free none some =
-    let e = entry_same algos f (b ∷ bs) free none in
-    let i = ignored (b ∷ bs) in
-    let new = entry_of Present algos f (b ∷ bs) in (
-      ap (λ o. cond i Nothing (said_of o)) e.0,
-      unless_ignored i (said_of new) (said_clean new e.1),
-    )
+    → 0 < length line → (says older algos f line ≡ says present algos f line) × CleanSaid (says present algos f line)
+says_same algos f line free none some = go (says present algos f line) refl
+  where
+    go : (x : Said) → says present algos f line ≡ x → (says older algos f line ≡ x) × CleanSaid x
+    go Nothing h =
+        let new = says_is present algos f line in
+        let old = says_is older algos f line in
+        (old.nothing.1 (ignored_same line true some (new.nothing.0 h)), tt)
+    go Improper h =
+        let new = says_is present algos f line in
+        let old = says_is older algos f line in
+        let is = new.improper.0 h in (
+          old.improper.1 (
+            ignored_same line false some is.0,
+            λ s e. is.1 s (entry_present algos f line s free none e),
+          ),
+          tt,
+        )
+    go (Spells s) h =
+        let new = says_is present algos f line in
+        let old = says_is older algos f line in
+        let is = (new.spells s).0 h in
+        let e = entry_older algos f line s free none is.1 in
+        ((old.spells s).1 (ignored_same line false some is.0, e.1), e.0)

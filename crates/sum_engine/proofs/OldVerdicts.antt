@@ -1,5 +1,5 @@
 -- A manifest of the time of older versions is checked alike under both profiles.
-use Rattle.std.proofs.Common.{◌≡◌, ◌≢◌, ℕ, ◌+◌, ◌-◌, ◌<◌, ◌==◌, Bool, true, false, not, cond, List, [], ◌∷◌, ◌++◌, length, map, Option, None, Some, refl, ap, sym, ◌∙◌, inl, inr, subst, codes}
+use Rattle.std.proofs.Common.{◌≡◌, ◌≢◌, ℕ, ◌+◌, ◌-◌, ◌<◌, ◌==◌, Bool, true, false, not, cond, List, [], ◌∷◌, ◌++◌, length, map, refl, ap, sym, ◌∙◌, inl, inr, subst, codes}
 use Rattle.std.specs.Prelude.{bytes_eq, slice_index, flat_map}
 use Rattle.std.specs.List.{All, concat, slice_split, onto_first}
 use Rattle.std.specs.Str.Lines.{strip_carriage_return}
@@ -7,7 +7,6 @@ use Rattle.std.proofs.lemmas.Bool.{cond-false, cases_lt}
 use Rattle.std.proofs.lemmas.Bool.Decides.{eqb_tells}
 use Rattle.std.proofs.lemmas.List.{get_or_past}
 use Rattle.std.proofs.lemmas.List.Elements.{All-nil, All-cons, All-head, All-tail, All-get_or, All-weaker}
-use Rattle.digest_kinds.specs.Kinds.{tag}
 use Rattle.digest_kinds.specs.declared.algo.Algos.{Algos}
 use Rattle.sum_sources.specs.declared.fault.Ending.{Ending}
 use Rattle.sum_sources.specs.declared.fault.Ending.TheVariants.{Whole, Broken}
@@ -16,23 +15,23 @@ use Rattle.sum_sources.specs.Contents.{Content, clip}
 use Rattle.sum_sources.specs.Sources.{Refused, Given}
 use Rattle.sum_sources.specs.ManifestLines.{pieces, line_pieces, last_line}
 use Rattle.sum_lines.specs.declared.line_reading.Form.{Form}
-use Rattle.sum_lines.specs.Shapes.{mark, optional}
+use Rattle.sum_lines.specs.Shapes.{mark}
 use Rattle.sum_lines.specs.Entries.{form}
-use Rattle.sum_lines.specs.Scanned.{Parts, tagged_of, plain_of}
-use Rattle.sum_lines.proofs.TaggedParts.{read_is_tagged}
 use Rattle.sum_engine.specs.declared.summary.Counts.{Counts}
 use Rattle.sum_engine.specs.declared.verdict.Verdict.{Verdict}
 use Rattle.sum_engine.specs.declared.verdict.Verdict.TheVariants.{Ignored, Bad, Right, Wrong, Missing, Unread}
-use Rattle.sum_engine.specs.Profiles.{Present, Older, lines_by}
+use Rattle.sum_lines.specs.Profiles.{present}
+use Rattle.sum_engine.specs.OldVerdicts.{older}
+use Rattle.sum_engine.specs.Profiles.{lines_by}
 use Rattle.sum_engine.specs.Worlds.{World, after}
 use Rattle.sum_engine.specs.Outcomes.{Outcome}
-use Rattle.sum_engine.specs.Grammar.{Said, Nothing, Improper, Spells, entry_by, entry_of, said_of as said_by_entry, says}
+use Rattle.sum_lines.specs.Says.{Said, Nothing, Improper, Spells, says}
 use Rattle.sum_engine.specs.Verdicts.{Rules, Judged, judge, asks_of, verdicts, all_verdicts}
 use Rattle.sum_engine.specs.Generation.{fault_line}
 use Rattle.sum_engine.specs.Reports.{name_line, said_of, hides, out_of, err_by, err_of, counts, end_text, good}
 use Rattle.sum_engine.specs.Checking.{checked_content}
 use Rattle.sum_engine.specs.OldVerdicts.{under, NoReturn, NoEscapedReturn, Old, SameChecks, OldVerdicts, OldOutcomes, OlderDiffers}
-use Rattle.sum_engine.proofs.RestLemmas.{not_plain}
+use Rattle.sum_lines.proofs.SaysLemmas.{says_is}
 use Rattle.sum_engine.proofs.OldNames.{NotReturn, same_escape, CleanSaid, says_same}
 
 -- ---- the lines
@@ -94,12 +93,12 @@ strips (l ∷ ls) all =
     ap (λ x. x ∷ ls) (sym kept)
     ∙ ap (λ xs. strip_carriage_return l ∷ xs) (strips ls (All-tail NoReturn l ls all))
 
-lines_same : (c : Content) → NoReturn c.bytes → lines_by Older c ≡ lines_by Present c
+lines_same : (c : Content) → NoReturn c.bytes → lines_by older c ≡ lines_by present c
 lines_same c free = strips (pieces c) (pieces_clean c free)
 
 -- ---- the verdicts
 
-judge_same : (r : Rules) (w : World) (n : ℕ) (x : Said) → judge (under Older r) w n x ≡ judge (under Present r) w n x
+judge_same : (r : Rules) (w : World) (n : ℕ) (x : Said) → judge (under older r) w n x ≡ judge (under present r) w n x
 judge_same r w n Nothing = refl
 judge_same r w n Improper = refl
 judge_same r w n (Spells s) = refl
@@ -120,32 +119,32 @@ pub record Alike (algos : Algos) (line : List ℕ) : Type 0 where
   pub some : 0 < length line
 
 verdicts_same : (r : Rules) (f : Form) (w : World) (n : ℕ) (ls : List (List ℕ)) → All (Alike r.settings.algo) ls
-    → (verdicts (under Older r) f w n ls ≡ verdicts (under Present r) f w n ls)
-    × All CleanName (verdicts (under Present r) f w n ls)
+    → (verdicts (under older r) f w n ls ≡ verdicts (under present r) f w n ls)
+    × All CleanName (verdicts (under present r) f w n ls)
 verdicts_same r f w n [] all = (refl, All-nil CleanName)
 verdicts_same r f w n (l ∷ ls) all =
     let algos = r.settings.algo in
     let here = All-head (Alike algos) l ls all in
     let s = says_same algos f l here.no_byte here.no_escape here.some in
-    let old = under Older r in
-    let new = under Present r in
-    let j = judge new w (n + 1) (says Present algos f l) in
-    let one : judge old w (n + 1) (says Older algos f l) ≡ j =
-    ap (judge old w (n + 1)) s.0 ∙ judge_same r w (n + 1) (says Present algos f l) in
+    let old = under older r in
+    let new = under present r in
+    let j = judge new w (n + 1) (says present algos f l) in
+    let one : judge old w (n + 1) (says older algos f l) ≡ j =
+    ap (judge old w (n + 1)) s.0 ∙ judge_same r w (n + 1) (says present algos f l) in
     let more = verdicts_same r f (after w (asks_of j)) (n + 1) ls (All-tail (Alike algos) l ls all) in (
       ap (λ x. x ∷ verdicts old f (after w (asks_of x)) (n + 1) ls) one ∙ ap (λ xs. j ∷ xs) more.0,
       All-cons CleanName j (verdicts new f (after w (asks_of j)) (n + 1) ls)
-          (judged_clean new w (n + 1) (says Present algos f l) s.1) more.1,
+          (judged_clean new w (n + 1) (says present algos f l) s.1) more.1,
     )
 
 -- ---- what is written
 
-name_line_same : (name text : List ℕ) → NoReturn name → name_line Older name text ≡ name_line Present name text
+name_line_same : (name text : List ℕ) → NoReturn name → name_line older name text ≡ name_line present name text
 name_line_same name text free =
     ap (λ e. concat (mark (not (bytes_eq e name)) ∷ e ∷ codes ": " ∷ text ∷ codes "\n" ∷ []))
     (same_escape name free)
 
-said_same : (v : Verdict) (name : List ℕ) → NoReturn name → said_of Older v name ≡ said_of Present v name
+said_same : (v : Verdict) (name : List ℕ) → NoReturn name → said_of older v name ≡ said_of present v name
 said_same Ignored name free = refl
 said_same Bad name free = refl
 said_same Right name free = name_line_same name (codes "OK") free
@@ -154,20 +153,20 @@ said_same Missing name free = refl
 said_same (Unread f) name free = name_line_same name (codes "FAILED open or read") free
 
 outs_same : (r : Rules) (js : List Judged) → All CleanName js
-    → map (out_of (under Older r)) js ≡ map (out_of (under Present r)) js
+    → map (out_of (under older r)) js ≡ map (out_of (under present r)) js
 outs_same r [] all = refl
 outs_same r (j ∷ js) all =
-    let one : out_of (under Older r) j ≡ out_of (under Present r) j =
+    let one : out_of (under older r) j ≡ out_of (under present r) j =
     ap (cond (hides r.settings.report j.verdict) []) (said_same j.verdict j.name (All-head CleanName j js all)) in
-    ap (λ t. t ∷ map (out_of (under Older r)) js) one
-    ∙ ap (λ ts. out_of (under Present r) j ∷ ts) (outs_same r js (All-tail CleanName j js all))
+    ap (λ t. t ∷ map (out_of (under older r)) js) one
+    ∙ ap (λ ts. out_of (under present r) j ∷ ts) (outs_same r js (All-tail CleanName j js all))
 
 fault_same : (tool name : List ℕ) (f : Fault) → NoReturn name
-    → fault_line Older tool name f ≡ fault_line Present tool name f
+    → fault_line older tool name f ≡ fault_line present tool name f
 fault_same tool name f free = rw (same_escape name free) refl
 
 err_same : (r : Rules) (n : ℕ) (v : Verdict) (name : List ℕ) → NoReturn r.shown → NoReturn name
-    → err_by (under Older r) n v name ≡ err_by (under Present r) n v name
+    → err_by (under older r) n v name ≡ err_by (under present r) n v name
 err_same r n Ignored name own free = refl
 err_same r n Bad name own free = rw (same_escape r.shown own) refl
 err_same r n Right name own free = refl
@@ -176,19 +175,19 @@ err_same r n Missing name own free = refl
 err_same r n (Unread f) name own free = fault_same r.tool name f free
 
 errs_same : (r : Rules) (js : List Judged) → NoReturn r.shown → All CleanName js
-    → map (err_of (under Older r)) js ≡ map (err_of (under Present r)) js
+    → map (err_of (under older r)) js ≡ map (err_of (under present r)) js
 errs_same r [] own all = refl
 errs_same r (j ∷ js) own all =
-    ap (λ t. t ∷ map (err_of (under Older r)) js)
+    ap (λ t. t ∷ map (err_of (under older r)) js)
     (err_same r j.number j.verdict j.name own (All-head CleanName j js all))
-    ∙ ap (λ ts. err_of (under Present r) j ∷ ts) (errs_same r js own (All-tail CleanName j js all))
+    ∙ ap (λ ts. err_of (under present r) j ∷ ts) (errs_same r js own (All-tail CleanName j js all))
 
 end_same : (r : Rules) (e : Ending) (c : Counts) → NoReturn r.shown
-    → end_text (under Older r) e c ≡ end_text (under Present r) e c
+    → end_text (under older r) e c ≡ end_text (under present r) e c
 end_same r Whole c own = rw (same_escape r.shown own) refl
 end_same r (Broken f) c own = fault_same r.tool r.shown f own
 
-good_same : (r : Rules) (e : Ending) (c : Counts) → good (under Older r) e c ≡ good (under Present r) e c
+good_same : (r : Rules) (e : Ending) (c : Counts) → good (under older r) e c ≡ good (under present r) e c
 good_same r Whole c = refl
 good_same r (Broken f) c = refl
 
@@ -200,8 +199,8 @@ alike algos ls a b c = λ k d lt. record { no_byte = a k d lt; no_escape = b k d
 
 pub old_verdicts : OldVerdicts
 old_verdicts r w c h =
-    let old = under Older r in
-    let new = under Present r in
+    let old = under older r in
+    let new = under present r in
     let ls = lines_same c h.no_byte in
     let all = alike r.settings.algo (pieces c) (pieces_clean c h.no_byte) h.no_escape h.no_empty in
     let v = verdicts_same r (form r.settings.algo (pieces c)) w 0 (pieces c) all in
@@ -237,11 +236,11 @@ outcome_same a b o e q g =
     ∙ ap (λ y. make b.out b.err y a.good) q ∙ ap (make b.out b.err b.asks) g
 
 content_same : (r : Rules) (name : List ℕ) (w : World) (c : Content) → Old r c
-    → checked_content (under Older r) name c (all_verdicts (under Older r) w c)
-    ≡ checked_content (under Present r) name c (all_verdicts (under Present r) w c)
+    → checked_content (under older r) name c (all_verdicts (under older r) w c)
+    ≡ checked_content (under present r) name c (all_verdicts (under present r) w c)
 content_same r name w c h =
-    let old = under Older r in
-    let new = under Present r in
+    let old = under older r in
+    let new = under present r in
     let js = all_verdicts old w c in
     let ks = all_verdicts new w c in
     let s : SameChecks old new w c = old_verdicts r w c h in
@@ -258,26 +257,9 @@ old_outcomes r name w (Given c) own h = content_same r name w (clip c) (h c refl
 
 -- ---- where the profiles differ
 
-behind : (xs ys : List ℕ) → [] ≡ xs ++ ys → [] ≡ ys
-behind [] ys h = h
-behind (x ∷ xs) ys h = cc
-
-not_tagged : (algos : Algos) (t : Option Parts) → tagged_of algos [] ≡ t → t ≡ None
-not_tagged algos None h = refl
-not_tagged algos (Some p) h =
-    let t = read_is_tagged algos [] p h in
-    let bad = behind (optional t.gap (codes " ")) _ (behind t.width _ (behind (tag p.kind.algo) _
-    (behind (mark p.escaped) _ (behind t.blanks _ t.whole)))) in
-    cc
-
-no_entry : (f : Form) (t q : Option Parts) → t ≡ None → q ≡ None → entry_by Older f t q ≡ None
-no_entry f t q h k = rw (h, k) refl
-
-empty_line : (algos : Algos) (f : Form) → says Older algos f [] ≡ Improper
-unfolding entry_of
+empty_line : (algos : Algos) (f : Form) → says older algos f [] ≡ Improper
 empty_line algos f =
-    ap said_by_entry (no_entry f (tagged_of algos []) (plain_of algos []) (not_tagged algos (tagged_of algos []) refl)
-    (not_plain algos (plain_of algos []) refl))
+    let is = says_is older algos f [] in is.improper.1 (refl, λ s e. let bad = e.0 in cc)
 
 pub older_differs : OlderDiffers
 unfolding pieces

@@ -17,15 +17,15 @@ use Rattle.sum_engine.specs.declared.progress.Progress.TheVariants.{Going, Ended
 use Rattle.sum_engine.specs.declared.settings.CheckSettings.{CheckSettings}
 use Rattle.sum_engine.specs.declared.verdict.Verdict.{Verdict}
 use Rattle.sum_engine.specs.declared.verdict.Verdict.TheVariants.{Bad, Right, Wrong, Missing}
-use Rattle.sum_engine.specs.Profiles.{Present}
+use Rattle.sum_lines.specs.Profiles.{present}
 use Rattle.sum_engine.specs.Worlds.{World, is_dash, reply, after, read}
-use Rattle.sum_engine.specs.Grammar.{Said, Nothing, Improper, Spells, says}
+use Rattle.sum_lines.specs.Says.{Said, Nothing, Improper, Spells, says}
 use Rattle.sum_engine.specs.Verdicts.{Rules, not_found, against, judge, asks_by, asks_of, verdicts}
 use Rattle.sum_engine.specs.Checking.{rules_of, checked, checked_by}
 use Rattle.sum_engine.specs.joins.Judging.{said_asks}
 use Rattle.sum_engine.specs.joins.Taking.{lines_ask, asks_stdin, stdin_by, StdinOf, TakesStdin}
 use Rattle.sum_engine.proofs.StepLemmas.{now}
-use Rattle.sum_engine.proofs.RestLemmas.{form_on, said_stays}
+use Rattle.sum_lines.proofs.FormLemmas.{form_on, said_stays}
 
 -- ---- the names that lines ask
 
@@ -73,24 +73,24 @@ or_more false b c = refl
 -- the first line to come, and the others
 asks_next : (r : Rules) (f : Form) (c d : Content) (l : List ℕ) → lines c ≡ l ∷ lines d
     → asks_stdin (now r) f c ≡ list_any is_dash
-    (said_asks (now r) (says Present r.settings.algo (form_then f (line_form r.settings.algo l)) l))
+    (said_asks (now r) (says present r.settings.algo (form_then f (line_form r.settings.algo l)) l))
     || asks_stdin (now r) (form_then f (line_form r.settings.algo l)) d
 asks_next r f c d l is =
     let algo = r.settings.algo in
     let ls = lines d in
     let here = form_then f (line_form algo l) in
     let all = form_then here (form algo ls) in
-    let first = said_asks (now r) (says Present algo here l) in
+    let first = said_asks (now r) (says present algo here l) in
     ap (λ x. list_any is_dash (lines_ask (now r) (form_then f (form algo x)) x)) is
     ∙ ap (λ g. list_any is_dash (lines_ask (now r) g (l ∷ ls))) (form_on f (line_form algo l) (form algo ls))
     ∙ ap (λ x. list_any is_dash (said_asks (now r) x ++ lines_ask (now r) all ls))
-    (said_stays Present algo f (form algo ls) l)
+    (said_stays present algo f (form algo ls) l)
     ∙ list_any-append is_dash first (lines_ask (now r) all ls)
 
 line_by : (r : Rules) (x y : Option Content) (f : Form) (line : List ℕ) (t t' : Bool)
     → WhereTold x y (λ c d. LineOf c d (Ok Line) line)
     → t' ≡ t || list_any is_dash
-    (said_asks (now r) (says Present r.settings.algo (form_then f (line_form r.settings.algo line)) line))
+    (said_asks (now r) (says present r.settings.algo (form_then f (line_form r.settings.algo line)) line))
     → StdinOf (stdin_by (now r) f x t) (stdin_by (now r) (form_then f (line_form r.settings.algo line)) y t') t'
     (Ok Going)
 line_by r None y f line t t' h is = tt
@@ -98,14 +98,14 @@ line_by r (Some c) None f line t t' h is = absurd h
 line_by r (Some c) (Some d) f line t t' h is =
     let here = form_then f (line_form r.settings.algo line) in
     let more = asks_stdin (now r) here d in
-    let first = list_any is_dash (said_asks (now r) (says Present r.settings.algo here line)) in
+    let first = list_any is_dash (said_asks (now r) (says present r.settings.algo here line)) in
     ap (λ b. Some (b || more)) is ∙ ap Some (or_more t first more ∙ ap (λ b. t || b) (sym (asks_next r f c d line h.0)))
 
 -- a line was read and handled; the rules stayed, and the form is one line on
 pub stdin_line : (r s : Rules) (x y z : Option Content) (f g : Form) (line : List ℕ) (t t' : Bool) → s ≡ now r → z ≡ y
     → g ≡ form_then f (line_form r.settings.algo line) → WhereTold x y (λ c d. LineOf c d (Ok Line) line)
     → t' ≡ t || list_any is_dash
-    (said_asks (now r) (says Present r.settings.algo (form_then f (line_form r.settings.algo line)) line))
+    (said_asks (now r) (says present r.settings.algo (form_then f (line_form r.settings.algo line)) line))
     → StdinOf (stdin_by (now r) f x t) (stdin_by s g z t') t' (Ok Going)
 stdin_line r s x y z f g line t t' rules same on h is =
     let Q : Option Bool → Type 0 = λ o. StdinOf (stdin_by (now r) f x t) o t' (Ok Going) in
@@ -141,11 +141,12 @@ steady_end (Some b) here next taken good h k = subst (λ o. StdinOf o next taken
 -- the rules of a manifest that is shown by that name
 abbrev file_rules : CheckSettings → List ℕ → List ℕ → Bool → Rules
 file_rules settings tool name b =
-    record { profile = Present; settings = settings; tool = tool; shown = name; from_stdin = b }
+    record { profile = present; settings = settings; tool = tool; shown = name; from_stdin = b }
 
 file_asks : (settings : CheckSettings) (tool name : List ℕ) (w : World) (c : Content) → is_dash name ≡ false
     → w.answer name ≡ Given c
-    → asks_stdin (file_rules settings tool name false) Undecided (clip c) ≡ list_any is_dash (checked settings tool w name).asks
+    → asks_stdin (file_rules settings tool name false) Undecided (clip c) ≡ list_any is_dash
+    (checked settings tool w name).asks
 file_asks settings tool name w c d is =
     let r = rules_of settings tool name in
     let v = after w (name ∷ []) in

@@ -13,9 +13,9 @@ use Rattle.sum_engine.specs.declared.verdict.Judgement.{Judgement}
 use Rattle.sum_engine.specs.declared.verdict.Verdict.{Verdict}
 use Rattle.sum_engine.specs.declared.verdict.Verdict.TheVariants.{Bad, Right, Wrong, Missing, Unread}
 use Rattle.sum_engine.specs.Worlds.{World, is_dash, reply, read, after}
-use Rattle.sum_engine.specs.Grammar.{Spells}
+use Rattle.sum_lines.specs.Says.{Spells}
 use Rattle.sum_engine.specs.Verdicts.{Rules, Judged, verdict_of, not_found, against, asks_by}
-use Rattle.sum_engine.specs.joins.Asking.{AskGives, Comes}
+use Rattle.sum_engine.specs.joins.Asking.{AskGives, IsAsked}
 use Rattle.sum_engine.specs.joins.Judging.{JudgeGives, compared}
 
 -- a reply against the line's digest
@@ -26,41 +26,55 @@ never : (b : Bool) → b && false ≡ false
 never true = refl
 never false = refl
 
-no_file : (ignore : Bool) (d : List ℕ) (kind : KindValue) → verdict_by ignore kind d (Refused NotFound) ≡ compared ignore d (asked.Refused NotFound)
+no_file : (ignore : Bool) (d : List ℕ) (kind : KindValue) → verdict_by ignore kind d
+    (Refused NotFound) ≡ compared ignore d (asked.Refused NotFound)
 no_file true d kind = refl
 no_file false d kind = refl
 
-given_by : (ignore : Bool) (kind : KindValue) (d : List ℕ) (c : Content) (x : Result (List ℕ) Fault) → read kind (Given c) ≡ x → verdict_by ignore kind d (Given c) ≡ against d x
-given_by ignore kind d c x h = ap (λ b. cond b Missing (against d (read kind (Given c)))) (never ignore) ∙ ap (against d) h
+given_by : (ignore : Bool) (kind : KindValue) (d : List ℕ) (c : Content) (x : Result (List ℕ) Fault)
+    → read kind (Given c) ≡ x → verdict_by ignore kind d (Given c) ≡ against d x
+given_by ignore kind d c x h =
+    ap (λ b. cond b Missing (against d (read kind (Given c)))) (never ignore) ∙ ap (against d) h
 
-by_asked : (ignore : Bool) (kind : KindValue) (d : List ℕ) (r : Reply) (a : Asked) → Comes kind r a → verdict_by ignore kind d r ≡ compared ignore d a
+by_asked : (ignore : Bool) (kind : KindValue) (d : List ℕ) (r : Reply) (a : Asked) → IsAsked kind r a
+    → verdict_by ignore kind d r ≡ compared ignore d a
 by_asked ignore kind d r (asked.Read x) h = ap (verdict_by ignore kind d) h.1 ∙ given_by ignore kind d h.0 (Ok x) h.2
 by_asked ignore kind d r (asked.Broken f) h = ap (verdict_by ignore kind d) h.1 ∙ given_by ignore kind d h.0 (Err f) h.2
 by_asked ignore kind d r (asked.Refused NotFound) h = ap (verdict_by ignore kind d) h ∙ no_file ignore d kind
-by_asked ignore kind d r (asked.Refused Denied) h = ap (verdict_by ignore kind d) h ∙ ap (λ b. cond b Missing (Unread Denied)) (never ignore)
-by_asked ignore kind d r (asked.Refused Other) h = ap (verdict_by ignore kind d) h ∙ ap (λ b. cond b Missing (Unread Other)) (never ignore)
+by_asked ignore kind d r (asked.Refused Denied) h =
+    ap (verdict_by ignore kind d) h ∙ ap (λ b. cond b Missing (Unread Denied)) (never ignore)
+by_asked ignore kind d r (asked.Refused Other) h =
+    ap (verdict_by ignore kind d) h ∙ ap (λ b. cond b Missing (Unread Other)) (never ignore)
 
-asks_either : (b : Bool) (x y : Verdict) (name : List ℕ) → asks_by x name ≡ name ∷ [] → asks_by y name ≡ name ∷ [] → asks_by (cond b x y) name ≡ name ∷ []
+asks_either : (b : Bool) (x y : Verdict) (name : List ℕ) → asks_by x name ≡ name ∷ [] → asks_by y name ≡ name ∷ []
+    → asks_by (cond b x y) name ≡ name ∷ []
 asks_either true x y name h k = h
 asks_either false x y name h k = k
 
-asks_compared : (ignore : Bool) (d : List ℕ) (a : Asked) (name : List ℕ) → asks_by (compared ignore d a) name ≡ name ∷ []
+asks_compared : (ignore : Bool) (d : List ℕ) (a : Asked) (name : List ℕ)
+    → asks_by (compared ignore d a) name ≡ name ∷ []
 asks_compared ignore d (asked.Read x) name = asks_either (bytes_eq x d) Right Wrong name refl refl
 asks_compared ignore d (asked.Refused NotFound) name = asks_either ignore Missing (Unread NotFound) name refl refl
 asks_compared ignore d (asked.Refused Denied) name = refl
 asks_compared ignore d (asked.Refused Other) name = refl
 asks_compared ignore d (asked.Broken f) name = refl
 
-verdict_is : (r : Rules) (w : World) (s : Spelled) (a : Asked) → r.from_stdin && is_dash s.name ≡ false → Comes (kind_of s) (reply w s.name) a → verdict_of r w s ≡ compared r.settings.ignore_missing s.digest a
-verdict_is r w s a dash h = ap (λ b. cond b Bad (verdict_by r.settings.ignore_missing (kind_of s) s.digest (reply w s.name))) dash ∙ by_asked r.settings.ignore_missing (kind_of s) s.digest (reply w s.name) a h
+verdict_is : (r : Rules) (w : World) (s : Spelled) (a : Asked) → r.from_stdin && is_dash s.name ≡ false
+    → IsAsked (kind_of s) (reply w s.name) a → verdict_of r w s ≡ compared r.settings.ignore_missing s.digest a
+verdict_is r w s a dash h =
+    ap (λ b. cond b Bad (verdict_by r.settings.ignore_missing (kind_of s) s.digest (reply w s.name))) dash
+    ∙ by_asked r.settings.ignore_missing (kind_of s) s.digest (reply w s.name) a h
 
-pub judged_entry : (r : Rules) (w v : Option World) (kind : KindValue) (s : Spelled) (a : Asked) (j : Judgement) → kind ≡ kind_of s → r.from_stdin && is_dash s.name ≡ false
-    → AskGives kind w v s.name (Some a) → j.verdict ≡ compared r.settings.ignore_missing s.digest a → j.name.now ≡ s.name → JudgeGives r w v (Spells s) (Some j)
+pub judged_entry : (r : Rules) (w v : Option World) (kind : KindValue) (s : Spelled) (a : Asked) (j : Judgement)
+    → kind ≡ kind_of s → r.from_stdin && is_dash s.name ≡ false
+    → AskGives kind w v s.name (Some a) → j.verdict ≡ compared r.settings.ignore_missing s.digest a
+    → j.name.now ≡ s.name → JudgeGives r w v (Spells s) (Some j)
 judged_entry r None v kind s a j is dash h verdict name = tt
 judged_entry r (Some w) None kind s a j is dash h verdict name = absurd h
 judged_entry r (Some w) (Some v) kind s a j is dash h verdict name =
-    let comes : Comes (kind_of s) (reply w s.name) a = rw is at h.1 in
+    let comes : IsAsked (kind_of s) (reply w s.name) a = rw is at h.1 in
     let mk : ℕ → Verdict → List ℕ → Judged = λ n x y. record { number = n; verdict = x; name = y } in (
       λ n. ap (λ x. mk n x s.name) (verdict_is r w s a dash comes ∙ sym verdict) ∙ ap (mk n j.verdict) (sym name),
-      h.0 ∙ ap (after w) (sym (ap (λ x. asks_by x j.name.now) verdict ∙ asks_compared r.settings.ignore_missing s.digest a j.name.now ∙ ap (λ n. n ∷ []) name)),
+      h.0 ∙ ap (after w) (sym (ap (λ x. asks_by x j.name.now) verdict
+          ∙ asks_compared r.settings.ignore_missing s.digest a j.name.now ∙ ap (λ n. n ∷ []) name)),
     )

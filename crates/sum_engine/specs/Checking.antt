@@ -5,28 +5,35 @@ use Rattle.sum_sources.specs.Sources.{Reply, Refused, Given}
 use Rattle.sum_engine.specs.declared.settings.CheckSettings.{CheckSettings}
 use Rattle.sum_engine.specs.Worlds.{World, is_dash, reply, after}
 use Rattle.sum_engine.specs.Outcomes.{Outcome}
-use Rattle.sum_engine.specs.Profiles.{Present}
+use Rattle.sum_lines.specs.Profiles.{present}
 use Rattle.sum_engine.specs.Generation.{fault_line}
 use Rattle.sum_engine.specs.Verdicts.{Rules, Judged, asks_of, all_verdicts}
 use Rattle.sum_engine.specs.Reports.{out_of, err_of, counts, end_text, good}
 
 abbrev pub rules_of : CheckSettings → List ℕ → List ℕ → Rules
 rules_of settings tool name = record {
-  profile = Present;
+  profile = present;
   settings = settings;
   tool = tool;
   shown = if is_dash name then codes "standard input" else name;
   from_stdin = is_dash name;
 }
 
--- a manifest with this content, asked by that name: the reports of its lines, and its end
+-- a manifest asked by that name, with these verdicts: the reports of its lines
+abbrev pub begun : Rules → List ℕ → List Judged → Outcome
+begun r name js =
+    record {
+      out = flat_map (out_of r) js;
+      err = flat_map (err_of r) js;
+      asks = name ∷ flat_map asks_of js;
+      good = false;
+    }
+
+-- and then its end
 abbrev pub checked_content : Rules → List ℕ → Content → List Judged → Outcome
-checked_content r name c js = record {
-  out = flat_map (out_of r) js;
-  err = flat_map (err_of r) js ++ end_text r c.ending (counts js);
-  asks = name ∷ flat_map asks_of js;
-  good = good r c.ending (counts js);
-}
+checked_content r name c js =
+    let o = begun r name js in
+    record o { err = o.err ++ end_text r c.ending (counts js); good = good r c.ending (counts js) }
 
 abbrev pub checked_by : Rules → List ℕ → World → Reply → Outcome
 checked_by r name w (Refused f) =
@@ -37,18 +44,10 @@ checked_by r name w (Given c) = checked_content r name (clip c) (all_verdicts r 
 abbrev pub checked : CheckSettings → List ℕ → World → List ℕ → Outcome
 checked settings tool w name = checked_by (rules_of settings tool name) name (after w (name ∷ [])) (reply w name)
 
--- the front of a manifest that some lines were handled of
-abbrev pub begun_content : Rules → List ℕ → List Judged → Outcome
-begun_content r name js = record {
-  out = flat_map (out_of r) js;
-  err = flat_map (err_of r) js;
-  asks = name ∷ flat_map asks_of js;
-  good = false;
-}
-
+-- the same where k lines were handled
 abbrev pub begun_by : Rules → List ℕ → World → ℕ → Reply → Outcome
-begun_by r name w k (Refused f) = begun_content r name []
-begun_by r name w k (Given c) = begun_content r name (take k (all_verdicts r w (clip c)))
+begun_by r name w k (Refused f) = begun r name []
+begun_by r name w k (Given c) = begun r name (take k (all_verdicts r w (clip c)))
 
 -- the manifest of that name at a place: 0 is before it was opened, k + 1 is after it was opened and k of its lines
 -- were handled

@@ -7,7 +7,8 @@ use Rattle.sum_lines.specs.Lines.{line}
 use Rattle.sum_engine.specs.declared.settings.Settings.{Settings}
 use Rattle.sum_engine.specs.Worlds.{World, reply, read}
 use Rattle.sum_engine.specs.Outcomes.{Outcome}
-use Rattle.sum_engine.specs.Profiles.{Profile, Present, escape_by}
+use Rattle.sum_lines.specs.Profiles.{Profile, present}
+use Rattle.sum_lines.specs.Escape.{escape_by}
 
 -- TOOL: NAME: TEXT
 abbrev pub fault_line : Profile → List ℕ → List ℕ → Fault → List ℕ
@@ -18,7 +19,7 @@ abbrev pub generated_by : Settings → List ℕ → List ℕ → Result (List �
 generated_by settings tool name (Ok d) =
     record { out = line settings.style settings.kind name d; err = []; asks = name ∷ []; good = true }
 generated_by settings tool name (Err f) =
-    record { out = []; err = fault_line Present tool name f; asks = name ∷ []; good = false }
+    record { out = []; err = fault_line present tool name f; asks = name ∷ []; good = false }
 
 -- a name that is read gives its line, any other the line of its fault
 abbrev pub generated : Settings → List ℕ → World → List ℕ → Outcome

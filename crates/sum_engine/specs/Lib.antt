@@ -2,14 +2,13 @@ pub mod Worlds
 pub mod Outcomes
 pub mod Profiles
 pub mod Generation
-pub mod Grammar
 pub mod Verdicts
 pub mod Reports
 pub mod Checking
 pub mod Scenes
 pub mod Steps
 pub mod Places
-pub mod Runs
+pub mod Manifests
 pub mod Laws
 pub mod OldVerdicts
 pub mod joins

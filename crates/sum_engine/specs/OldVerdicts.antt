@@ -1,5 +1,5 @@
 -- What the law of old verdicts says: a manifest of the time of older versions is checked alike under both profiles.
-use Rattle.std.specs.Prelude.{ℕ, ◌≡◌, ◌≢◌, ◌<◌, ◌⊎◌, true, List, [], ◌∷◌, ◌++◌, length, map, codes}
+use Rattle.std.specs.Prelude.{ℕ, ◌≡◌, ◌≢◌, ◌<◌, ◌⊎◌, true, false, List, [], ◌∷◌, ◌++◌, length, map, codes}
 use Rattle.std.specs.List.{All}
 use Rattle.digest_kinds.specs.Kinds.{KindValue}
 use Rattle.digest_kinds.specs.declared.algo.Algos.{Algos}
@@ -10,12 +10,18 @@ use Rattle.sum_sources.specs.ManifestLines.{pieces}
 use Rattle.sum_lines.specs.declared.line_reading.Form.{Form}
 use Rattle.sum_lines.specs.Escape.{escape}
 use Rattle.sum_lines.specs.Shapes.{Plain, Tagged}
-use Rattle.sum_engine.specs.Profiles.{Profile, Present, Older, escape_by, lines_by}
+use Rattle.sum_lines.specs.Profiles.{Profile, present}
+use Rattle.sum_lines.specs.Escape.{escape_by}
+use Rattle.sum_engine.specs.Profiles.{lines_by}
 use Rattle.sum_engine.specs.Worlds.{World}
-use Rattle.sum_engine.specs.Grammar.{Improper, says}
+use Rattle.sum_lines.specs.Says.{Improper, says}
 use Rattle.sum_engine.specs.Verdicts.{Rules, all_verdicts}
 use Rattle.sum_engine.specs.Reports.{out_of, err_of, counts, end_text, good}
 use Rattle.sum_engine.specs.Checking.{checked_by}
+
+-- the profile of older versions
+abbrev pub older : Profile
+older = record { escapes_return = false; drops_return = false; ignores_empty = false }
 
 -- the same rules under a profile
 abbrev pub under : Profile → Rules → Rules
@@ -53,17 +59,17 @@ pub record SameChecks (r s : Rules) (w : World) (c : Content) : Type 0 where
 
 -- such a manifest is checked alike under both profiles, whatever was asked before
 abbrev pub OldVerdicts : Type 0
-OldVerdicts = (r : Rules) (w : World) (c : Content) → Old r c → SameChecks (under Older r) (under Present r) w c
+OldVerdicts = (r : Rules) (w : World) (c : Content) → Old r c → SameChecks (under older r) (under present r) w c
 
 -- so all that checking comes to is the same under both, also where the manifest can't be opened
 abbrev pub OldOutcomes : Type 0
 OldOutcomes = (r : Rules) (name : List ℕ) (w : World) (reply : Reply) → NoReturn r.shown
     → ((c : Content) → reply ≡ Given c → Old r (clip c))
-    → checked_by (under Older r) name w reply ≡ checked_by (under Present r) name w reply
+    → checked_by (under older r) name w reply ≡ checked_by (under present r) name w reply
 
 -- where the older profile differs: a carriage return stands unescaped in a name, stays at a line's end, and an empty
 -- line is improper
 abbrev pub OlderDiffers : Type 0
-OlderDiffers = (escape_by Older (codes "\r") ≡ codes "\r")
-    × (lines_by Older (record { bytes = codes "a\r\n"; ending = Whole }) ≡ codes "a\r" ∷ [])
-    × ((algos : Algos) (f : Form) → says Older algos f [] ≡ Improper)
+OlderDiffers = (escape_by older (codes "\r") ≡ codes "\r")
+    × (lines_by older (record { bytes = codes "a\r\n"; ending = Whole }) ≡ codes "a\r" ∷ [])
+    × ((algos : Algos) (f : Form) → says older algos f [] ≡ Improper)

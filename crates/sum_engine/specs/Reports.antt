@@ -9,11 +9,12 @@ use Rattle.sum_sources.specs.declared.fault.Ending.{Ending}
 use Rattle.sum_sources.specs.declared.fault.Ending.TheVariants.{Whole, Broken}
 use Rattle.sum_lines.specs.Shapes.{mark}
 use Rattle.sum_engine.specs.declared.settings.Report.{Report}
-use Rattle.sum_engine.specs.declared.settings.Report.TheVariants.{All, Quiet, Warn, Status}
+use Rattle.sum_engine.specs.declared.settings.Report.TheVariants.{Quiet, Warn, Status}
 use Rattle.sum_engine.specs.declared.summary.Counts.{Counts}
 use Rattle.sum_engine.specs.declared.verdict.Verdict.{Verdict}
 use Rattle.sum_engine.specs.declared.verdict.Verdict.TheVariants.{Ignored, Bad, Right, Wrong, Missing, Unread}
-use Rattle.sum_engine.specs.Profiles.{Profile, Present, escape_by}
+use Rattle.sum_lines.specs.Profiles.{Profile, present}
+use Rattle.sum_lines.specs.Escape.{escape_by}
 use Rattle.sum_engine.specs.Generation.{fault_line}
 use Rattle.sum_engine.specs.Verdicts.{Rules, Judged}
 
@@ -24,20 +25,16 @@ name_line p name text =
     concat (mark (not (bytes_eq escaped name)) ∷ escaped ∷ codes ": " ∷ text ∷ codes "\n" ∷ [])
 
 abbrev pub said_of : Profile → Verdict → List ℕ → List ℕ
-said_of p Ignored name = []
-said_of p Bad name = []
 said_of p Right name = name_line p name (codes "OK")
 said_of p Wrong name = name_line p name (codes "FAILED")
-said_of p Missing name = []
 said_of p (Unread f) name = name_line p name (codes "FAILED open or read")
+said_of p v name = []
 
 -- what a report setting leaves out of standard output
 abbrev pub hides : Report → Verdict → Bool
-hides All v = false
-hides Warn v = false
 hides Quiet Right = true
-hides Quiet v = false
 hides Status v = true
+hides report v = false
 
 -- a line's report on standard output
 abbrev pub out_by : Profile → Report → Verdict → List ℕ → List ℕ
@@ -48,7 +45,7 @@ out_of r j = out_by r.profile r.settings.report j.verdict j.name
 
 -- of a name whose file has the digest that its line gives
 abbrev pub right_line : Report → List ℕ → List ℕ
-right_line report name = out_by Present report Right name
+right_line report name = out_by present report Right name
 
 abbrev pub tag_word : Algos → List ℕ
 tag_word (One a) = tag a
@@ -60,19 +57,14 @@ bad_line r n = concat (r.tool ∷ codes ": " ∷ escape_by r.profile r.shown ∷
     ∷ codes ": improperly formatted " ∷ tag_word r.settings.algo ∷ codes " checksum line\n" ∷ [])
 
 abbrev pub if_warned : Report → List ℕ → List ℕ
-if_warned All text = []
-if_warned Quiet text = []
 if_warned Warn text = text
-if_warned Status text = []
+if_warned report text = []
 
 -- a line's report on standard error
 abbrev pub err_by : Rules → ℕ → Verdict → List ℕ → List ℕ
-err_by r n Ignored name = []
 err_by r n Bad name = if_warned r.settings.report (bad_line r n)
-err_by r n Right name = []
-err_by r n Wrong name = []
-err_by r n Missing name = []
 err_by r n (Unread f) name = fault_line r.profile r.tool name f
+err_by r n v name = []
 
 abbrev pub err_of : Rules → Judged → List ℕ
 err_of r j = err_by r j.number j.verdict j.name
@@ -145,10 +137,8 @@ warnings r c = warning r.tool c.bad (codes " line is improperly formatted") (cod
     ++ unverified r c))
 
 abbrev pub unless_status : Report → List ℕ → List ℕ
-unless_status All text = text
-unless_status Quiet text = text
-unless_status Warn text = text
 unless_status Status text = []
+unless_status report text = text
 
 -- the end of a manifest that was read whole
 abbrev pub summary : Rules → Counts → List ℕ

@@ -1,12 +1,13 @@
 -- What a call works on, a scene, and what doing and being cut short mean there.
-use Rattle.std.specs.Prelude.{ℕ, ◌≡◌, ◌⊎◌, ◌||◌, Bool, List, ◌++◌, Option, None, Some, Result, Ok, Err, ⊤, is_none}
+use Rattle.std.specs.Prelude.{ℕ, ◌≡◌, ◌⊎◌, ◌||◌, Bool, List, ◌++◌, Option, None, Some, Result, Ok, Err, is_none}
 use Rattle.std.specs.List.{list_any}
 use Rattle.std.specs.Io.KnownBytes.{Appends}
-use Rattle.sum_sources.specs.Contents.{Content}
+use Rattle.sum_sources.specs.Contents.{Content, WhereTold}
 use Rattle.sum_sources.specs.Sources.{Telling, after_refusal}
 use Rattle.sum_sources.specs.Standard.{left_in}
 use Rattle.sum_lines.specs.Sinks.{after_failure}
 use Rattle.sum_engine.specs.declared.stop.Stop.{Stop}
+use Rattle.sum_engine.specs.declared.streams.Streams.{Streams}
 use Rattle.sum_engine.specs.declared.stop.Stop.TheVariants.{Memory, Write}
 use Rattle.sum_engine.specs.Worlds.{World, is_dash, after}
 use Rattle.sum_engine.specs.Outcomes.{Outcome}
@@ -31,9 +32,10 @@ abbrev pub scene_by : Option World → Bool → Option (List ℕ) → Option (Li
 scene_by None taken out err = None
 scene_by (Some w) taken out err = Some (record { world = w; taken = taken; out = out; err = err })
 
-abbrev pub scene : {I : Type 0} → (I → Option Content) → Option Telling → Option I → Option (List ℕ) → Option (List ℕ)
-    → Option Scene
-scene content told stdin out err = scene_by (world content told stdin) (is_none stdin) out err
+abbrev pub scene : {I S O E : Type 0} → (I → Option Content) → (S → Option Telling) → (O → Option (List ℕ))
+    → (E → Option (List ℕ)) → Streams I S O E → Option Scene
+scene content told out err s =
+    scene_by (world content (told s.source) s.stdin) (is_none s.stdin) (out s.out) (err s.err)
 
 -- known bytes grow by a front of the text, which may be the whole
 abbrev pub AppendsUpTo : Option (List ℕ) → Option (List ℕ) → List ℕ → Type 0
@@ -64,9 +66,7 @@ OutcomeOf o a b (Err Write) = Cut a b o.out o.err o.asks
 OutcomeOf o a b (Err Memory) = b ≡ a
 
 abbrev pub Generates : (World → Outcome) → Option Scene → Option Scene → Result Bool Stop → Type 0
-Generates outcome None b r = ⊤
-Generates outcome (Some a) None r = ⊥
-Generates outcome (Some a) (Some b) r = OutcomeOf (outcome a.world) a b r
+Generates outcome a b r = WhereTold a b (λ a b. OutcomeOf (outcome a.world) a b r)
 
 -- a source's refusals over a call that answers want of memory only where the source was refused it
 abbrev pub refusals_after : {A : Type 0} → ℕ → Result A Stop → ℕ
@@ -82,7 +82,7 @@ abbrev pub Rose : ℕ → ℕ → ℕ → ℕ → Type 0
 Rose o o' e e' = ((o' ≡ after_failure o) × (e' ≡ e)) ⊎ ((o' ≡ o) × (e' ≡ after_failure e))
 
 -- the failures of the two outputs over a call that answers a write fault exactly where one of them failed
-abbrev pub Failures : {A : Type 0} → ℕ → ℕ → ℕ → ℕ → Result A Stop → Type 0
-Failures o o' e e' (Ok a) = Kept o o' e e'
-Failures o o' e e' (Err Write) = Rose o o' e e'
-Failures o o' e e' (Err Memory) = Kept o o' e e'
+abbrev pub Failures : {A I S O E : Type 0} → (O → ℕ) → (E → ℕ) → Streams I S O E → Streams I S O E → Result A Stop
+    → Type 0
+Failures out err a b (Err Write) = Rose (out a.out) (out b.out) (err a.err) (err b.err)
+Failures out err a b r = Kept (out a.out) (out b.out) (err a.err) (err b.err)

@@ -12,7 +12,7 @@ use Rattle.sum_engine.specs.declared.stop.Stop.{Stop}
 use Rattle.sum_engine.specs.declared.stop.Stop.TheVariants.{Memory, Write}
 use Rattle.sum_engine.specs.declared.summary.Counts.{Counts}
 use Rattle.sum_engine.specs.Profiles.{lines_by}
-use Rattle.sum_engine.specs.Grammar.{says}
+use Rattle.sum_lines.specs.Says.{says}
 use Rattle.sum_engine.specs.Verdicts.{Rules, Judged, judge, asks_of, verdicts}
 use Rattle.sum_engine.specs.Reports.{out_of, err_of, end_text, good, counted, no_counts}
 use Rattle.sum_engine.specs.Scenes.{Scene, Does, Cut}

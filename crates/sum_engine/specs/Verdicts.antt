@@ -2,16 +2,17 @@
 use Rattle.std.specs.Prelude.{ℕ, ◌+◌, ◌&&◌, Bool, true, false, List, [], ◌∷◌, Result, Ok, Err, if◌then◌else◌}
 use Rattle.std.specs.Str.{bytes_eq}
 use Rattle.sum_sources.specs.declared.fault.Fault.{Fault}
-use Rattle.sum_sources.specs.declared.fault.Fault.TheVariants.{NotFound, Denied, Other}
+use Rattle.sum_sources.specs.declared.fault.Fault.TheVariants.{NotFound}
 use Rattle.sum_sources.specs.Contents.{Content}
-use Rattle.sum_sources.specs.Sources.{Reply, Refused, Given}
+use Rattle.sum_sources.specs.Sources.{Reply, Refused}
 use Rattle.sum_lines.specs.declared.line_reading.Form.{Form}
 use Rattle.sum_lines.specs.Entries.{Spelled, kind_of, form}
 use Rattle.sum_engine.specs.declared.settings.CheckSettings.{CheckSettings}
 use Rattle.sum_engine.specs.declared.verdict.Verdict.{Verdict}
 use Rattle.sum_engine.specs.declared.verdict.Verdict.TheVariants.{Ignored, Bad, Right, Wrong, Missing, Unread}
-use Rattle.sum_engine.specs.Profiles.{Profile, lines_by}
-use Rattle.sum_engine.specs.Grammar.{Said, Nothing, Improper, Spells, says}
+use Rattle.sum_lines.specs.Profiles.{Profile}
+use Rattle.sum_engine.specs.Profiles.{lines_by}
+use Rattle.sum_lines.specs.Says.{Said, Nothing, Improper, Spells, says}
 use Rattle.sum_engine.specs.Worlds.{World, is_dash, reply, after, read}
 
 -- what a manifest is checked by: the profile, the settings, the tool's name, the name under which the manifest is
@@ -32,9 +33,7 @@ pub record Judged : Type 0 where
 -- opening answered that there is no such file
 abbrev pub not_found : Reply → Bool
 not_found (Refused NotFound) = true
-not_found (Refused Denied) = false
-not_found (Refused Other) = false
-not_found (Given c) = false
+not_found r = false
 
 -- what was read, against the digest that the line gives
 abbrev pub against : List ℕ → Result (List ℕ) Fault → Verdict
@@ -58,10 +57,7 @@ judge r w n (Spells s) = record { number = n; verdict = verdict_of r w s; name =
 abbrev pub asks_by : Verdict → List ℕ → List (List ℕ)
 asks_by Ignored name = []
 asks_by Bad name = []
-asks_by Right name = name ∷ []
-asks_by Wrong name = name ∷ []
-asks_by Missing name = name ∷ []
-asks_by (Unread f) name = name ∷ []
+asks_by v name = name ∷ []
 
 abbrev pub asks_of : Judged → List (List ℕ)
 asks_of j = asks_by j.verdict j.name

@@ -9,7 +9,7 @@ use Rattle.sum_sources.specs.declared.fault.Ending.{Ending}
 use Rattle.sum_sources.specs.declared.fault.Ending.TheVariants.{Whole, Broken}
 use Rattle.sum_sources.specs.Contents.{Content, clip}
 use Rattle.sum_sources.specs.Sources.{Reply, Refused, Given}
-use Rattle.sum_sources.specs.Standard.{nothing}
+use Rattle.sum_sources.specs.Standard.{empty_content}
 
 -- the source's answers, the names asked of it so far, and what standard input has to give
 pub record World : Type 0 where
@@ -30,7 +30,7 @@ abbrev pub after : World → List (List ℕ) → World
 after w names = record {
   answer = w.answer;
   asked = w.asked ++ filter (λ n. not (is_dash n)) names;
-  input = if list_any is_dash names then nothing else w.input;
+  input = if list_any is_dash names then empty_content else w.input;
 }
 
 -- the digest of a content that ended so, or the fault by which it ended

@@ -21,7 +21,7 @@ pub(crate) enum Asked {
 /// The name of standard input.
 pub(crate) const DASH: &[u8] = b"-";
 
-ghost use Rattle.sum_engine.specs.joins.Asking.{AskGives, ComesOf, Sized};
+ghost use Rattle.sum_engine.specs.joins.Asking.{AskGives, IsRead, Sized};
 
 /// Opens the name, where `-` is standard input, and reads it to its end, by way of the buffer. None where the source
 /// had no memory to open it; the name then doesn't count as asked.
@@ -51,7 +51,7 @@ pub(crate) fn ask<I: Input + Drop, S: Source>(
 }
 
 fn read_digest<F: Input>(kind: Kind, file: &mut F, buffer: &mut [u8; PIECE]) -> Asked
-    ensures gives { IfSome (F.content file.old) (λ c. ComesOf kind c result) }
+    ensures gives { IfSome (F.content file.old) (λ c. IsRead kind c result) }
     ensures sized { Sized kind (Some result) }
 {
     match hash_input_over(file, AnyHasher::new(kind), buffer) {

@@ -1,9 +1,10 @@
 //! Checking a manifest, a line at a time.
-ghost use Rattle.std.specs.Prelude.{◌≡◌, ◌≤◌, ◌<◌, ◌^◌, ◌+◌, ◌⊎◌, ◌||◌, Ok, Err, Some, None, true, false, Option, Bool, length};
+ghost use Rattle.std.specs.Prelude.{◌≡◌, ◌≤◌, ◌<◌, ◌+◌, ◌⊎◌, ◌||◌, Ok, Err, Some, None, true, false, Option, Bool};
+ghost use Rattle.std.specs.Prelude.{length};
 ghost use Rattle.std.specs.Prelude.{OnOk, IfOk, IfSome, IsErr, is_none};
 ghost use Rattle.std.specs.List.{list_any};
-ghost use Rattle.sum_sources.specs.joins.LineReading.{count_of, has_stopped};
-ghost use Rattle.sum_engine.specs.Profiles.{Present};
+ghost use Rattle.sum_sources.specs.joins.LineReading.{lines_given, has_stopped};
+ghost use Rattle.sum_lines.specs.Profiles.{present};
 ghost use Rattle.sum_engine.specs.Reports.{total, no_counts};
 ghost use Rattle.sum_engine.specs.joins.States.{IsRunning};
 
@@ -12,11 +13,13 @@ use crate::progress::Progress;
 use crate::report::{put_fault_line, put_report};
 use crate::settings::CheckSettings;
 use crate::stop::Stop;
+use crate::streams::Streams;
 use crate::summary::{Counts, is_good, put_summary};
 use crate::verdict::{judge, read};
+use digest_kinds::LIMIT;
 use std::alloc::Allocator;
 use sum_lines::{Form, Sink};
-use sum_sources::{Input, LineReader, LineStop, Next, PIECE, Source, Stdin};
+use sum_sources::{Input, LineReader, LineStop, Next, PIECE, Source};
 
 #[derive(Clone, Copy, Debug, PartialEq, Eq)]
 enum State {
@@ -35,7 +38,7 @@ pub struct Checker<'a, I> {
     state: State,
     // what listed files are read into: one for all of them
     buffer: [u8; PIECE],
-    ghost few: { total counts ≤ count_of reader },
+    ghost few: { total counts ≤ lines_given reader },
     ghost work: { IsRunning state → has_stopped reader ≡ false },
 }
 
@@ -45,15 +48,18 @@ impl<'a, I: Input> Checker<'a, I> {
     ghost use Rattle.sum_lines.specs.Entries.{form_then, line_form};
     ghost use Rattle.sum_engine.specs.Scenes.{Scene, scene, Failures, refusals_after};
     ghost use Rattle.sum_engine.specs.Steps.{now_by, StepGives, HandleGives, Wants};
-    ghost use Rattle.sum_engine.specs.joins.Views.{rules_of_checker, now_of, to_come, stdin_of, left_of, given_of, handled_of, number_of};
-    ghost use Rattle.sum_engine.specs.Grammar.{says};
+    ghost use Rattle.sum_engine.specs.joins.Views.{rules_of_checker, now_of, to_come, stdin_of};
+    ghost use Rattle.sum_engine.specs.joins.Views.{left_of, given_of, handled_of, number_of};
+    ghost use Rattle.sum_lines.specs.Says.{says};
     ghost use Rattle.sum_engine.specs.joins.Judging.{said_asks};
     ghost use Rattle.sum_engine.specs.joins.Taking.{StdinOf, stdin_by};
     ghost use Rattle.sum_engine.specs.Worlds.{is_dash};
     ghost use Rattle.sum_engine.specs.joins.Views.{answer_of};
 
-    /// A checker of the manifest that `input` gives. In diagnostics the manifest has the name `shown`; `from_stdin`
-    /// says whether it came from standard input, where a line that names `-` is improperly formatted.
+    /// A checker of the manifest that `input` gives. Its diagnostics begin with `tool`, as with `md5sum`, and call the
+    /// manifest `shown`; `from_stdin` says whether it came from standard input, where a line that names `-` is
+    /// improperly formatted. The standard input of the streams that the steps are lent is what any other manifest's `-`
+    /// stands for: lend the one that `input` was taken from, where it was.
     pub fn new(
         settings: CheckSettings,
         tool: &'a str,
@@ -62,7 +68,7 @@ impl<'a, I: Input> Checker<'a, I> {
         input: I,
     ) -> Self
         ensures rules { rules_of_checker result ≡ record {
-          profile = Present;
+          profile = present;
           settings = settings;
           tool = tool.entry.now;
           shown = shown.entry.now;
@@ -95,7 +101,7 @@ impl<'a, I: Input> Checker<'a, I> {
     /// How many bytes the manifest's input has given.
     pub fn taken(&self) -> u64
         ensures value { result ≡ given_of self.now }
-        ensures most { result ≤ 2 ^ 61 }
+        ensures most { result ≤ LIMIT }
     {
         self.reader.taken()
     }
@@ -109,37 +115,37 @@ impl<'a, I: Input> Checker<'a, I> {
     pub fn step<A: Allocator, J: Input + Drop, S: Source, O: Sink, E: Sink>(
         &mut self,
         line: &mut Vec<u8, A>,
-        stdin: &mut Stdin<J>,
-        source: &mut S,
-        out: &mut O,
-        err: &mut E,
+        streams: &mut Streams<J, S, O, E>,
     ) -> Result<Progress, Stop>
         ensures gives { answer_of self.old ≡ None → StepGives (rules_of_checker self.old)
             (now_of I.content self.old
-            (scene J.content (S.told source.old) stdin.old (O.written out.old) (E.written err.old)))
+            (scene J.content S.told O.written E.written streams.old))
             (now_of I.content self.new
-            (scene J.content (S.told source.new) stdin.new (O.written out.new) (E.written err.new)))
+            (scene J.content S.told O.written E.written streams.new))
             line.new.items result }
-        ensures again { IfSome (answer_of self.old) (λ r. (result ≡ r) × (out.new ≡ out.old) × (err.new ≡ err.old)
-            × (source.new ≡ source.old) × (stdin.new ≡ stdin.old) × (self.new ≡ self.old)) }
+        ensures again { IfSome (answer_of self.old) (λ r. (result ≡ r) × (self.new ≡ self.old)
+            × (streams.new.out ≡ streams.old.out) × (streams.new.err ≡ streams.old.err)
+            × (streams.new.source ≡ streams.old.source) × (streams.new.stdin ≡ streams.old.stdin)) }
         ensures wants { answer_of self.old ≡ None
-            → Wants (S.refusals source.old) (S.refusals source.new) (to_come I.content self.old) result }
+            → Wants (S.refusals streams.old.source) (S.refusals streams.new.source)
+            (to_come I.content self.old) result }
         ensures failures { answer_of self.old ≡ None
-            → Failures (O.failures out.old) (O.failures out.new) (E.failures err.old) (E.failures err.new) result }
+            → Failures O.failures E.failures streams.old streams.new result }
         ensures stdin { answer_of self.old ≡ None
-            → StdinOf (stdin_of I.content self.old (is_none stdin.old))
-            (stdin_of I.content self.new (is_none stdin.new)) (is_none stdin.new) result }
-        ensures kept { OnOk result (is_none stdin.old ≡ true → is_none stdin.new ≡ true) }
-        ensures untouched { result ≡ Err Stop.Memory → (out.new ≡ out.old) × (err.new ≡ err.old) }
+            → StdinOf (stdin_of I.content self.old (is_none streams.old.stdin))
+            (stdin_of I.content self.new (is_none streams.new.stdin)) (is_none streams.new.stdin) result }
+        ensures kept { OnOk result (is_none streams.old.stdin ≡ true → is_none streams.new.stdin ≡ true) }
+        ensures untouched { result ≡ Err Stop.Memory
+            → (streams.new.out ≡ streams.old.out) × (streams.new.err ≡ streams.old.err) }
         ensures taken { WhereTold (left_of I.content self.old) (left_of I.content self.new)
             (λ c d. given_of self.new + length d.bytes ≡ given_of self.old + length c.bytes) }
-        ensures ahead { OnOk result (given_of self.new ≤ handled_of self.new + 8192) }
+        ensures ahead { OnOk result (given_of self.new ≤ handled_of self.new + PIECE) }
         ensures going { result ≡ Ok Progress.Going → answer_of self.new ≡ None }
         ensures ended { IfOk result (λ p. (p ≡ Progress.Going) ⊎ (answer_of self.new ≡ Some result)) }
         ensures stopped { IsErr result → answer_of self.new ≡ Some result }
         ensures rules { rules_of_checker self.new ≡ rules_of_checker self.old }
         ensures number { result ≡ Ok Progress.Going → number_of self.new ≡ number_of self.old + 1 }
-        ensures few { number_of self.new ≤ 2 ^ 61 }
+        ensures few { number_of self.new ≤ LIMIT }
     {
         match self.state {
             State::Ended(good) => return Ok(Progress::Ended(good)),
@@ -147,7 +153,7 @@ impl<'a, I: Input> Checker<'a, I> {
             State::Running => {}
         }
         self.state = State::Stopped(Stop::Memory);
-        let result = self.go(line, stdin, source, out, err);
+        let result = self.go(line, streams);
         self.state = match result {
             Ok(Progress::Going) => State::Running,
             Ok(Progress::Ended(good)) => State::Ended(good),
@@ -160,51 +166,52 @@ impl<'a, I: Input> Checker<'a, I> {
     fn go<A: Allocator, J: Input + Drop, S: Source, O: Sink, E: Sink>(
         &mut self,
         line: &mut Vec<u8, A>,
-        stdin: &mut Stdin<J>,
-        source: &mut S,
-        out: &mut O,
-        err: &mut E,
+        streams: &mut Streams<J, S, O, E>,
     ) -> Result<Progress, Stop>
         requires work { has_stopped self.old.reader ≡ false }
         requires idle { IsRunning self.old.state → ⊥ }
         ensures gives { StepGives (rules_of_checker self.old)
             (now_of I.content self.old
-            (scene J.content (S.told source.old) stdin.old (O.written out.old) (E.written err.old)))
+            (scene J.content S.told O.written E.written streams.old))
             (now_of I.content self.new
-            (scene J.content (S.told source.new) stdin.new (O.written out.new) (E.written err.new)))
+            (scene J.content S.told O.written E.written streams.new))
             line.new.items result }
-        ensures wants { Wants (S.refusals source.old) (S.refusals source.new) (to_come I.content self.old) result }
-        ensures failures { Failures (O.failures out.old) (O.failures out.new)
-            (E.failures err.old) (E.failures err.new) result }
-        ensures stdin { StdinOf (stdin_of I.content self.old (is_none stdin.old))
-            (stdin_of I.content self.new (is_none stdin.new)) (is_none stdin.new) result }
-        ensures kept { OnOk result (is_none stdin.old ≡ true → is_none stdin.new ≡ true) }
-        ensures untouched { result ≡ Err Stop.Memory → (out.new ≡ out.old) × (err.new ≡ err.old) }
+        ensures wants { Wants (S.refusals streams.old.source) (S.refusals streams.new.source)
+            (to_come I.content self.old) result }
+        ensures failures { Failures O.failures E.failures streams.old streams.new result }
+        ensures stdin { StdinOf (stdin_of I.content self.old (is_none streams.old.stdin))
+            (stdin_of I.content self.new (is_none streams.new.stdin)) (is_none streams.new.stdin) result }
+        ensures kept { OnOk result (is_none streams.old.stdin ≡ true → is_none streams.new.stdin ≡ true) }
+        ensures untouched { result ≡ Err Stop.Memory
+            → (streams.new.out ≡ streams.old.out) × (streams.new.err ≡ streams.old.err) }
         ensures taken { WhereTold (left_of I.content self.old) (left_of I.content self.new)
             (λ c d. given_of self.new + length d.bytes ≡ given_of self.old + length c.bytes) }
-        ensures ahead { OnOk result (given_of self.new ≤ handled_of self.new + 8192) }
+        ensures ahead { OnOk result (given_of self.new ≤ handled_of self.new + PIECE) }
         ensures work { result ≡ Ok Progress.Going → has_stopped self.new.reader ≡ false }
         ensures rules { rules_of_checker self.new ≡ rules_of_checker self.old }
         ensures state { self.new.state ≡ self.old.state }
         ensures number { result ≡ Ok Progress.Going → number_of self.new ≡ number_of self.old + 1 }
-        ensures few { number_of self.new ≤ 2 ^ 61 }
+        ensures few { number_of self.new ≤ LIMIT }
     {
         match self.reader.next_line(line) {
             Err(LineStop::Memory) => Err(Stop::Memory),
             Err(LineStop::Fault(fault)) => {
-                match put_fault_line(err, self.listing.tool, self.listing.shown, fault) {
-                    Ok(()) => Ok(Progress::Ended(false)),
-                    Err(_) => Err(Stop::Write),
-                }
+                put_fault_line(
+                    &mut streams.err,
+                    self.listing.tool,
+                    self.listing.shown,
+                    fault,
+                )?;
+                Ok(Progress::Ended(false))
             }
-            Ok(Next::NoMore) => match put_summary(err, &self.listing, self.counts) {
-                Ok(()) => Ok(Progress::Ended(is_good(&self.listing, self.counts))),
-                Err(_) => Err(Stop::Write),
-            },
-            Ok(Next::Line) => match self.handle(line, stdin, source, out, err) {
-                Ok(()) => Ok(Progress::Going),
-                Err(stop) => Err(stop),
-            },
+            Ok(Next::NoMore) => {
+                put_summary(&mut streams.err, &self.listing, self.counts)?;
+                Ok(Progress::Ended(is_good(&self.listing, self.counts)))
+            }
+            Ok(Next::Line) => {
+                self.handle(line, streams)?;
+                Ok(Progress::Going)
+            }
         }
     }
 
@@ -219,28 +226,25 @@ impl<'a, I: Input> Checker<'a, I> {
     fn handle<A: Allocator, J: Input + Drop, S: Source, O: Sink, E: Sink>(
         &mut self,
         line: &mut Vec<u8, A>,
-        stdin: &mut Stdin<J>,
-        source: &mut S,
-        out: &mut O,
-        err: &mut E,
+        streams: &mut Streams<J, S, O, E>,
     ) -> Result<(), Stop>
-        requires room { total self.old.counts < count_of self.old.reader }
-        requires few { count_of self.old.reader ≤ 2 ^ 61 }
+        requires room { total self.old.counts < lines_given self.old.reader }
+        requires few { lines_given self.old.reader ≤ LIMIT }
         ensures gives { HandleGives (rules_of_checker self.old)
             (form_then self.old.form (line_form self.old.listing.settings.algo line.old.items)) line.old.items
-            (count_of self.old.reader) self.old.counts self.new.counts
-            (scene J.content (S.told source.old) stdin.old (O.written out.old) (E.written err.old))
-            (scene J.content (S.told source.new) stdin.new (O.written out.new) (E.written err.new)) result }
+            (lines_given self.old.reader) self.old.counts self.new.counts
+            (scene J.content S.told O.written E.written streams.old)
+            (scene J.content S.told O.written E.written streams.new) result }
         ensures form { self.new.form
             ≡ form_then self.old.form (line_form self.old.listing.settings.algo line.old.items) }
         ensures held { length line.new.items ≤ length line.old.items }
-        ensures refusals { S.refusals source.new ≡ refusals_after (S.refusals source.old) result }
-        ensures failures { Failures (O.failures out.old) (O.failures out.new)
-            (E.failures err.old) (E.failures err.new) result }
-        ensures asked { OnOk result (is_none stdin.new ≡ is_none stdin.old || list_any is_dash
-            (said_asks (rules_of_checker self.old) (says Present self.old.listing.settings.algo
+        ensures refusals { S.refusals streams.new.source ≡ refusals_after (S.refusals streams.old.source) result }
+        ensures failures { Failures O.failures E.failures streams.old streams.new result }
+        ensures asked { OnOk result (is_none streams.new.stdin ≡ is_none streams.old.stdin || list_any is_dash
+            (said_asks (rules_of_checker self.old) (says present self.old.listing.settings.algo
             (form_then self.old.form (line_form self.old.listing.settings.algo line.old.items)) line.old.items))) }
-        ensures untouched { result ≡ Err Stop.Memory → (out.new ≡ out.old) × (err.new ≡ err.old) }
+        ensures untouched { result ≡ Err Stop.Memory
+            → (streams.new.out ≡ streams.old.out) × (streams.new.err ≡ streams.old.err) }
         ensures reader { self.new.reader ≡ self.old.reader }
         ensures state { self.new.state ≡ self.old.state }
         ensures rules { rules_of_checker self.new ≡ rules_of_checker self.old }
@@ -251,26 +255,22 @@ impl<'a, I: Input> Checker<'a, I> {
             &self.listing,
             line,
             &reading,
-            stdin,
-            source,
+            &mut streams.stdin,
+            &mut streams.source,
             &mut self.buffer,
         ) else {
             return Err(Stop::Memory);
         };
         let number = self.number();
-        match put_report(
-            out,
-            err,
+        put_report(
+            &mut streams.out,
+            &mut streams.err,
             &self.listing,
             number,
             judgement.verdict,
             judgement.name,
-        ) {
-            Err(_) => Err(Stop::Write),
-            Ok(()) => {
-                self.counts = self.counts.counted(judgement.verdict);
-                Ok(())
-            }
-        }
+        )?;
+        self.counts = self.counts.counted(judgement.verdict);
+        Ok(())
     }
 }

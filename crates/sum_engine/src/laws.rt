@@ -1,7 +1,7 @@
 //! Laws over whole checks: what the steps of a [`Checker`](crate::Checker) come to together.
-ghost use Rattle.sum_engine.specs.Laws.{EntryIs, SameEntry, SameForm, SameVerdicts};
+ghost use Rattle.sum_engine.specs.Laws.{SameVerdicts};
 ghost use Rattle.sum_engine.specs.OldVerdicts.{OldVerdicts, OldOutcomes, OlderDiffers};
-ghost use Rattle.sum_engine.specs.Runs.{StepsJoin, StepsEnd, StepsCut};
+ghost use Rattle.sum_engine.specs.Manifests.{StepsJoin, StepsEnd, StepsCut};
 
 /// Steps, one after another, write the reports of a manifest's first lines, ask the names of their entries and use the
 /// bytes up to their end; the step that ends comes after all lines, and all texts are then written; a write fault
@@ -12,17 +12,10 @@ pub fn steps_join()
     ensures cut { StepsCut }
 {}
 
-/// The entry of a line, as verdicts have it, is the one that the line grammar allows.
-pub fn entry_is()
-    ensures { EntryIs }
-{}
-
-/// What comes behind a line has no part in its entry, in its verdict after the same asks and, where the line is plain,
-/// in the form. Nor has the manifest's name in the verdicts, where both manifests or neither came from standard input.
+/// What comes behind a line has no part in its verdict after the same asks. Nor has the manifest's name, where both
+/// manifests or neither came from standard input.
 pub fn same_front()
-    ensures entry { SameEntry }
-    ensures form { SameForm }
-    ensures verdicts { SameVerdicts }
+    ensures { SameVerdicts }
 {}
 
 /// Manifests of the time when older versions of the tools wrote them keep their verdicts. These versions escaped no

@@ -11,6 +11,7 @@ mod progress;
 mod report;
 mod settings;
 mod stop;
+mod streams;
 mod summary;
 #[cfg(test)]
 mod tests;
@@ -22,3 +23,4 @@ pub use manifest::check_one;
 pub use progress::Progress;
 pub use settings::{CheckSettings, Report, Settings};
 pub use stop::Stop;
+pub use streams::Streams;

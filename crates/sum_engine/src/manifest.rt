@@ -3,21 +3,23 @@ ghost use Rattle.std.specs.Prelude.{◌≡◌, ◌⊎◌, Some, Err, Ok, true, O
 ghost use Rattle.std.specs.Option.{option_map};
 ghost use Rattle.sum_sources.specs.Contents.{clip};
 ghost use Rattle.sum_lines.specs.declared.line_reading.Form.TheVariants.{Undecided};
-ghost use Rattle.sum_engine.specs.Profiles.{Present};
 ghost use Rattle.sum_engine.specs.Checking.{rules_of};
 ghost use Rattle.sum_engine.specs.Scenes.{scene, Failures};
-ghost use Rattle.sum_engine.specs.Runs.{RunGives, CheckGives, RefusedOnMemory};
+ghost use Rattle.sum_engine.specs.Manifests.{ManifestGives, CheckGives, RefusedOnMemory};
+ghost use Rattle.sum_engine.specs.joins.Listings.{rules_in};
 ghost use Rattle.sum_engine.specs.joins.Taking.{TakesStdin, stdin_by};
 
 use crate::asking::DASH;
 use crate::checker::Checker;
+use crate::listing::Listing;
 use crate::progress::Progress;
 use crate::report::put_fault_line;
 use crate::settings::CheckSettings;
 use crate::stop::Stop;
+use crate::streams::Streams;
 use std::alloc::Allocator;
 use sum_lines::Sink;
-use sum_sources::{Input, OpenFault, Source, Stdin};
+use sum_sources::{Input, OpenFault, Source};
 
 /// Checks the manifest that stands under one name, where `-` is standard input, and answers whether it is good. The
 /// reports of its lines and its summary go to `out` and `err` (coreutils manual, "md5sum invocation", `--check`).
@@ -30,88 +32,72 @@ pub fn check_one<A: Allocator + Copy, J: Input + Drop, S: Source, O: Sink, E: Si
     settings: CheckSettings,
     tool: &str,
     name: &[u8],
-    stdin: &mut Stdin<J>,
-    source: &mut S,
-    out: &mut O,
-    err: &mut E,
+    streams: &mut Streams<J, S, O, E>,
 ) -> Result<bool, Stop>
-    ensures gives { CheckGives settings tool.now name.now (S.refusals source.old) (S.refusals source.new)
-        (scene J.content (S.told source.old) stdin.old (O.written out.old) (E.written err.old))
-        (scene J.content (S.told source.new) stdin.new (O.written out.new) (E.written err.new)) result }
-    ensures stdin { OnOk result (TakesStdin settings tool.now name.now (S.told source.old) (is_none stdin.old)
-        (is_none stdin.new)) }
-    ensures refusals { RefusedOnMemory (S.refusals source.old) (S.refusals source.new) result }
-    ensures failures { Failures (O.failures out.old) (O.failures out.new)
-        (E.failures err.old) (E.failures err.new) result }
+    ensures gives { CheckGives settings tool.now name.now
+        (S.refusals streams.old.source) (S.refusals streams.new.source)
+        (scene J.content S.told O.written E.written streams.old)
+        (scene J.content S.told O.written E.written streams.new) result }
+    ensures stdin { OnOk result (TakesStdin settings tool.now name.now (S.told streams.old.source)
+        (is_none streams.old.stdin) (is_none streams.new.stdin)) }
+    ensures refusals { RefusedOnMemory (S.refusals streams.old.source) (S.refusals streams.new.source) result }
+    ensures failures { Failures O.failures E.failures streams.old streams.new result }
 {
     if name == DASH {
-        let input = stdin.take();
-        return check_input(
-            alloc,
+        let input = streams.stdin.take();
+        let listing = Listing {
             settings,
             tool,
-            b"standard input",
-            true,
-            input,
-            stdin,
-            source,
-            out,
-            err,
-        );
+            shown: b"standard input",
+            from_stdin: true,
+        };
+        return check_input(alloc, listing, input, streams);
     }
-    match source.open_file(name) {
+    match streams.source.open_file(name) {
         Err(OpenFault::Memory) => Err(Stop::Memory),
-        Err(OpenFault::Fault(fault)) => match put_fault_line(err, tool, name, fault) {
-            Ok(()) => Ok(false),
-            Err(_) => Err(Stop::Write),
-        },
-        Ok(file) => check_input(
-            alloc, settings, tool, name, false, file, stdin, source, out, err,
-        ),
+        Err(OpenFault::Fault(fault)) => {
+            put_fault_line(&mut streams.err, tool, name, fault)?;
+            Ok(false)
+        }
+        Ok(file) => {
+            let listing = Listing {
+                settings,
+                tool,
+                shown: name,
+                from_stdin: false,
+            };
+            check_input(alloc, listing, file, streams)
+        }
     }
 }
 
 // Checks a manifest that was opened.
 fn check_input<'a, A: Allocator, I: Input + Drop, J: Input + Drop, S: Source, O: Sink, E: Sink>(
     alloc: A,
-    settings: CheckSettings,
-    tool: &'a str,
-    shown: &'a [u8],
-    from_stdin: bool,
+    listing: Listing<'a>,
     input: I,
-    stdin: &mut Stdin<J>,
-    source: &mut S,
-    out: &mut O,
-    err: &mut E,
+    streams: &mut Streams<J, S, O, E>,
 ) -> Result<bool, Stop>
-    ensures gives { RunGives
-        (record {
-          profile = Present;
-          settings = settings;
-          tool = tool.now;
-          shown = shown.now;
-          from_stdin = from_stdin;
-        })
-        (option_map clip (I.content input)) (S.refusals source.old) (S.refusals source.new)
-        (scene J.content (S.told source.old) stdin.old (O.written out.old) (E.written err.old))
-        (scene J.content (S.told source.new) stdin.new (O.written out.new) (E.written err.new)) result }
-    ensures stdin { OnOk result (IfSome (stdin_by (record {
-      profile = Present;
-      settings = settings;
-      tool = tool.now;
-      shown = shown.now;
-      from_stdin = from_stdin;
-    }) Undecided (option_map clip (I.content input))
-        (is_none stdin.old)) (λ taken. is_none stdin.new ≡ taken)) }
-    ensures kept { OnOk result (is_none stdin.old ≡ true → is_none stdin.new ≡ true) }
-    ensures refusals { RefusedOnMemory (S.refusals source.old) (S.refusals source.new) result }
-    ensures failures { Failures (O.failures out.old) (O.failures out.new)
-        (E.failures err.old) (E.failures err.new) result }
+    ensures gives { ManifestGives (rules_in listing.entry) (option_map clip (I.content input))
+        (S.refusals streams.old.source) (S.refusals streams.new.source)
+        (scene J.content S.told O.written E.written streams.old)
+        (scene J.content S.told O.written E.written streams.new) result }
+    ensures stdin { OnOk result (IfSome (stdin_by (rules_in listing.entry) Undecided (option_map clip (I.content input))
+        (is_none streams.old.stdin)) (λ taken. is_none streams.new.stdin ≡ taken)) }
+    ensures kept { OnOk result (is_none streams.old.stdin ≡ true → is_none streams.new.stdin ≡ true) }
+    ensures refusals { RefusedOnMemory (S.refusals streams.old.source) (S.refusals streams.new.source) result }
+    ensures failures { Failures O.failures E.failures streams.old streams.new result }
 {
-    let mut checker = Checker::new(settings, tool, shown, from_stdin, input);
+    let mut checker = Checker::new(
+        listing.settings,
+        listing.tool,
+        listing.shown,
+        listing.from_stdin,
+        input,
+    );
     let mut line = Vec::new(alloc);
     'lines: loop {
-        match checker.step(&mut line, stdin, source, out, err) {
+        match checker.step(&mut line, streams) {
             Err(stop) => return Err(stop),
             Ok(Progress::Ended(good)) => return Ok(good),
             Ok(Progress::Going) => {}

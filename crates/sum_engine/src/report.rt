@@ -5,7 +5,7 @@ ghost use Rattle.std.specs.Io.KnownBytes.{Appends};
 ghost use Rattle.sum_lines.specs.Escape.{escape, escape_differs};
 ghost use Rattle.sum_lines.specs.Shapes.{mark};
 ghost use Rattle.sum_lines.specs.Sinks.{Writes};
-ghost use Rattle.sum_engine.specs.Profiles.{Present};
+ghost use Rattle.sum_lines.specs.Profiles.{present};
 ghost use Rattle.sum_engine.specs.Generation.{fault_line};
 ghost use Rattle.sum_engine.specs.Reports.{said_of, out_by, bad_line, err_by};
 ghost use Rattle.sum_engine.specs.joins.Listings.{rules_in};
@@ -25,7 +25,7 @@ pub(crate) fn put_fault_line<'a, E: Sink>(
     name: &'a [u8],
     fault: Fault,
 ) -> Result<(), SinkFault>
-    ensures { Writes E.written E.failures err.old err.new (fault_line Present tool.now name.now fault) result }
+    ensures { Writes E.written E.failures err.old err.new (fault_line present tool.now name.now fault) result }
 {
     let text = fault.text();
     put_parts(
@@ -52,9 +52,9 @@ pub(crate) fn put_report<O: Sink, E: Sink>(
 ) -> Result<(), SinkFault>
     ensures out { MatchResult result
         (λ _. Appends (O.written out.old) (O.written out.new)
-        (out_by Present listing.now.settings.report verdict name.now))
+        (out_by present listing.now.settings.report verdict name.now))
         (λ _. AppendsUpTo (O.written out.old) (O.written out.new)
-        (out_by Present listing.now.settings.report verdict name.now)) }
+        (out_by present listing.now.settings.report verdict name.now)) }
     ensures err { MatchResult result
         (λ _. Appends (E.written err.old) (E.written err.new) (err_by (rules_in listing.now) number verdict name.now))
         (λ _. AppendsUpTo (E.written err.old) (E.written err.new)
@@ -75,7 +75,7 @@ fn put_out<O: Sink>(
     verdict: Verdict,
     name: &[u8],
 ) -> Result<(), SinkFault>
-    ensures { Writes O.written O.failures out.old out.new (out_by Present report verdict name.now) result }
+    ensures { Writes O.written O.failures out.old out.new (out_by present report verdict name.now) result }
 {
     match report {
         Report::All => put_said(out, verdict, name),
@@ -89,7 +89,7 @@ fn put_out<O: Sink>(
 }
 
 fn put_said<O: Sink>(out: &mut O, verdict: Verdict, name: &[u8]) -> Result<(), SinkFault>
-    ensures { Writes O.written O.failures out.old out.new (said_of Present verdict name.now) result }
+    ensures { Writes O.written O.failures out.old out.new (said_of present verdict name.now) result }
 {
     match verdict {
         Verdict::Ignored | Verdict::Bad | Verdict::Missing => Ok(()),

@@ -1,5 +1,6 @@
 //! Why a run stops early.
 
+use sum_lines::SinkFault;
 use thiserror::Error;
 
 /// Why a run stopped before its end: `Memory` where a growth was refused, `Write` where a write to an output failed.
@@ -10,4 +11,15 @@ pub enum Stop {
     Memory,
     #[error("write error")]
     Write,
+}
+
+impl From<SinkFault> for Stop {
+    ghost use Rattle.std.specs.Prelude.{◌≡◌};
+    ghost use Rattle.sum_engine.specs.declared.stop.Stop.TheVariants.{Write};
+
+    ghost from_gives = { λ _ stop. stop ≡ Write };
+
+    fn from(_fault: SinkFault) -> Stop {
+        Stop::Write
+    }
 }

@@ -4,8 +4,8 @@ ghost use Rattle.std.specs.List.{list_any};
 ghost use Rattle.sum_sources.specs.Sources.{after_refusal};
 ghost use Rattle.sum_lines.specs.Entries.{form_then, line_form};
 ghost use Rattle.sum_engine.specs.Worlds.{is_dash};
-ghost use Rattle.sum_engine.specs.Profiles.{Present};
-ghost use Rattle.sum_engine.specs.Grammar.{says};
+ghost use Rattle.sum_lines.specs.Profiles.{present};
+ghost use Rattle.sum_lines.specs.Says.{says};
 ghost use Rattle.sum_engine.specs.Verdicts.{asks_by};
 ghost use Rattle.sum_engine.specs.Scenes.{world};
 
@@ -46,7 +46,7 @@ ghost use Rattle.sum_engine.specs.joins.Judging.{said_by, Within, JudgeGives, co
 /// Reads a line, in a list of the form that the lines before it have.
 pub(crate) fn read<A: Allocator>(algos: Algos, form: Form, line: &mut Vec<u8, A>) -> (Reading, Form)
     ensures form { result.1 ≡ form_then form (line_form algos line.old.items) }
-    ensures said { said_by line.new.items result.0 ≡ says Present algos result.1 line.old.items }
+    ensures said { said_by line.new.items result.0 ≡ says present algos result.1 line.old.items }
     ensures within { Within line.new.items result.0 }
     ensures held { length line.new.items ≤ length line.old.items }
 {

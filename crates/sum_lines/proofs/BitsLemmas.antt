@@ -8,7 +8,7 @@ use Rattle.std.proofs.lemmas.List.Elements.{All-append, All-cons, All-head, All-
 use Rattle.std.specs.List.{AllPass}
 use Rattle.digest_kinds.specs.Kinds.{KindValue}
 use Rattle.digest_kinds.specs.declared.algo.Algo.TheVariants.{Blake2b}
-use Rattle.sum_lines.specs.Scanned.{is_digit, number_after, bits_fit, kind_at}
+use Rattle.sum_lines.specs.joins.Steps.{is_digit, number_after, bits_fit, kind_at}
 
 -- a digit is 48 to 57
 digit-range : (d : ℕ) → is_digit d ≡ true → (48 ≤ d) × (d ≤ 57)

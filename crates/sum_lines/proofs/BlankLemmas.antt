@@ -10,7 +10,8 @@ use Rattle.hex.proofs.HexLemmas.{decode_of-ok}
 use Rattle.digest_kinds.specs.Kinds.{has_len}
 use Rattle.digest_kinds.specs.declared.algo.Algo.{Algo}
 use Rattle.sum_lines.specs.Shapes.{is_blank}
-use Rattle.sum_lines.specs.Scanned.{Parts, after_while, unmarked, tail_of, plain_behind, plain_as}
+use Rattle.sum_lines.specs.Scanned.{Parts, after_while, unmarked}
+use Rattle.sum_lines.specs.joins.Steps.{tail_of, plain_behind, plain_as}
 use Rattle.sum_lines.proofs.FrontLemmas.{front-passes, front-and-rest, front-at, rest-at}
 use Rattle.sum_lines.proofs.TaggedLemmas.{hex-no_blank}
 use Rattle.sum_lines.proofs.PlainLemmas.{tail_of-some, tail_of-at, blank-no_hex, plain_behind-some}
@@ -45,8 +46,10 @@ cut_of a e s p h =
     let whole : s ≡ ds ++ (t.0 ∷ p.text) = front-and-rest is_hex_digit s ∙ ap (λ l. ds ++ l) t.2 in
     let sum : length s ≡ length ds + length (t.0 ∷ p.text) = ap length whole ∙ length-append ds (t.0 ∷ p.text) in
     let within : length ds < length s = omega arith in
-    let rest : drop (length ds) s ≡ t.0 ∷ p.text = ap (drop (length ds)) whole ∙ drop_at ds (t.0 ∷ p.text) (length ds) refl in
-    let more : drop (length ds) s ≡ get_or s (length ds) 0 ∷ drop (length ds + 1) s = drop_more s (length ds) 0 within in
+    let rest : drop (length ds) s ≡ t.0 ∷ p.text = ap (drop (length ds)) whole
+    ∙ drop_at ds (t.0 ∷ p.text) (length ds) refl in
+    let more : drop (length ds) s ≡ get_or s (length ds) 0 ∷ drop (length ds + 1) s = drop_more s
+    (length ds) 0 within in
     let front : take (length ds) s ≡ ds = ap (take (length ds)) whole ∙ take_at ds (t.0 ∷ p.text) (length ds) refl in
     let P : List ℕ → Type 0 = λ l. Nowhere (Passes is_blank l) 0 (length ds) in
     let size = (decode_of-ok ds p.digest f.sized.spelled).2 in
@@ -93,8 +96,10 @@ searched-some a s p at n i cut is h =
     let size = length-take n s in
     let high = h.0.high in
     let le : i < n = omega (arith, size, high) in
-    let low : (i < at → ⊥) = λ less. cut.before i (omega arith) less (sym (ap is_blank (get_or-take n s i 0 le)) ∙ h.1) in
-    let top : (at < i → ⊥) = λ more. h.0.before at (omega arith) more (ap is_blank (get_or-take n s at 0 lt) ∙ cut.blank) in
+    let low : (i < at → ⊥) = λ less. cut.before i (omega arith) less
+    (sym (ap is_blank (get_or-take n s i 0 le)) ∙ h.1) in
+    let top : (at < i → ⊥) = λ more. h.0.before at (omega arith) more
+    (ap is_blank (get_or-take n s at 0 lt) ∙ cut.blank) in
     let same : at ≡ i = omega (arith, low, top) in
     subst (Cut a s p) same cut
 
@@ -115,12 +120,15 @@ placed s d n i h spelled some =
     let within : i < length s = omega (arith, size, high) in
     let blank : is_blank (get_or s i 0) ≡ true = sym (ap is_blank (get_or-take n s i 0 le)) ∙ h.1 in
     let more : drop i s ≡ get_or s i 0 ∷ drop (i + 1) s = drop_more s i 0 within in
-    let whole : s ≡ take i s ++ (get_or s i 0 ∷ drop (i + 1) s) = sym (take-append-drop i s) ∙ ap (λ l. take i s ++ l) more in
+    let whole : s ≡ take i s ++ (get_or s i 0 ∷ drop (i + 1) s) = sym (take-append-drop i s)
+    ∙ ap (λ l. take i s ++ l) more in
     let all : AllPass is_hex_digit (take i s) = (decode_of-ok (take i s) d spelled).1 in
     let stop = blank-no_hex (get_or s i 0) blank in
     record {
-      digits = sym (ap (take_while is_hex_digit) whole ∙ front-at is_hex_digit (take i s) (get_or s i 0) (drop (i + 1) s) all stop);
-      rest = more ∙ sym (ap (after_while is_hex_digit) whole ∙ rest-at is_hex_digit (take i s) (get_or s i 0) (drop (i + 1) s) all stop);
+      digits = sym (ap (take_while is_hex_digit) whole ∙ front-at is_hex_digit (take i s) (get_or s i 0)
+          (drop (i + 1) s) all stop);
+      rest = more ∙ sym (ap (after_while is_hex_digit) whole
+          ∙ rest-at is_hex_digit (take i s) (get_or s i 0) (drop (i + 1) s) all stop);
       tail = sym (ap tail_of more ∙ tail_of-at (get_or s i 0) (drop (i + 1) s) blank some);
       size = (let cut = length-take i s in omega (arith, cut, within));
     }

@@ -1,20 +1,25 @@
 -- A line spells at most one entry, and a list of lines has one form.
 use Rattle.std.proofs.Common.{ℕ, ◌≡◌, Bool, true, false, cond, List, [], ◌∷◌, ◌++◌, Option, None, Some, refl, ap, sym, ◌∙◌, ◌⊎◌, inl, inr, subst}
-use Rattle.std.proofs.lemmas.Bool.{cond-true, cond-false, cases_Bool}
+use Rattle.std.specs.Prelude.{option_map, unwrap_or, ◌==◌}
+use Rattle.std.specs.List.{AllPass}
+use Rattle.std.proofs.lemmas.Bool.Decides.{eqb_tells}
+use Rattle.std.proofs.lemmas.List.Elements.{All-head}
+use Rattle.digest_kinds.specs.Kinds.{KindValue, tag}
 use Rattle.digest_kinds.specs.declared.algo.Algo.{Algo}
 use Rattle.digest_kinds.specs.declared.algo.Algos.{Algos}
 use Rattle.digest_kinds.specs.declared.algo.Algos.TheVariants.{Any}
 use Rattle.sum_lines.specs.declared.line_reading.Form.{Form}
 use Rattle.sum_lines.specs.declared.line_reading.Form.TheVariants.{Undecided, Standard, Reversed}
 use Rattle.sum_lines.specs.Escape.{escape}
-use Rattle.sum_lines.specs.Shapes.{Tagged}
-use Rattle.sum_lines.specs.Scanned.{Parts, plain_of}
-use Rattle.sum_lines.specs.Entries.{ignored, begins_standard, form_of_tail, Decides, IsForm, Spells, RawOf, Spelled, kind_of, ByTag, ByTail, form_then, form_of_parts, line_form, form}
+use Rattle.sum_lines.specs.Shapes.{is_blank, mark, Plain, Tagged}
+use Rattle.sum_lines.specs.Scanned.{Parts, plain_parts}
+use Rattle.sum_lines.specs.Entries.{ignored, begins_standard, form_of_tail, Decides, IsForm, Spells, RawOf, Spelled, kind_of, ByTag, ByTail, form_then, line_form, form}
 use Rattle.sum_lines.specs.Laws.{OneEntry, OneForm}
 use Rattle.sum_lines.proofs.UnescapeLemmas.{escape-apart}
 use Rattle.sum_lines.proofs.TaggedParts.{same_parts}
-use Rattle.sum_lines.proofs.TaggedLemmas.{tagged_is_read}
-use Rattle.sum_lines.proofs.PlainLemmas.{apart, plain-once, plain_is_read, read_is_plain}
+use Rattle.sum_lines.proofs.TaggedLemmas.{Begins, tag-begins, tagged_is_read}
+use Rattle.sum_lines.proofs.PlainLemmas.{plain-digits, apart, plain-once}
+use Rattle.sum_lines.proofs.ScannedLemmas.{found-plain, plain-found}
 
 -- ---- one entry
 
@@ -84,49 +89,79 @@ keeps : (b : Bool) (g : Form) → form_then (cond b Standard Reversed) g ≡ con
 keeps true g = refl
 keeps false g = refl
 
+-- the form by what was found of a line
+abbrev pub form_of_parts : Option Parts → Form
+form_of_parts o = unwrap_or (option_map (λ (p : Parts). form_of_tail p.text) o) Undecided
+
 -- what a line decides, where it decides anything
 pub decides-form : (algos : Algos) (line : List ℕ) (f : Form) → Decides algos line f → (line_form algos line ≡ f)
     × ((g : Form) → form_then f g ≡ f)
 decides-form algos line f d =
     let p : Parts = record { escaped = d.escaped; kind = d.kind; digest = d.digest; text = d.tail } in
-    let here : line_form algos line ≡ form_of_tail d.tail =
-    cond-false (ignored line) Undecided (form_of_parts (plain_of algos line)) d.speaks
-    ∙ ap form_of_parts (plain_is_read algos line p d.plain) in
+    let here : line_form algos line ≡ form_of_tail d.tail = ap form_of_parts (plain-found algos line p d.plain) in
     (here ∙ sym d.is, λ g. ap (λ x. form_then x g) d.is ∙ keeps (begins_standard d.tail) g ∙ sym d.is)
 
--- a line that is read as plain parts decides; any other decides nothing
-decided : (algos : Algos) (line : List ℕ) (o : Option Parts) → o ≡ plain_of algos line → ignored line ≡ false
+blank-no_hash : (b : ℕ) → is_blank b ≡ true → (b == 35) ≡ false
+blank-no_hash b h = elim (eqb_tells b 35) [
+  | inl same ↦ let bad = rw same.1 at h in cc
+  | inr other ↦ other.0
+]
+
+pub not_ignored : (e : Bool) (xs rest : List ℕ) → Begins xs → ignored (mark e ++ (xs ++ rest)) ≡ false
+not_ignored true xs rest b = refl
+not_ignored false xs rest b = ap (λ l. ignored (l ++ rest)) b.are ∙ b.no_hash
+
+-- a line of either shape isn't ignored
+speaks : (blanks : List ℕ) (e : Bool) (xs rest : List ℕ) → AllPass is_blank blanks → Begins xs
+    → ignored (blanks ++ (mark e ++ (xs ++ rest))) ≡ false
+speaks [] e xs rest all b = not_ignored e xs rest b
+speaks (x ∷ blanks) e xs rest all b = blank-no_hash x (All-head (λ y. is_blank y ≡ true) x blanks all)
+
+pub plain-speaks : (algos : Algos) (line : List ℕ) (e : Bool) (kind : KindValue) (d tail : List ℕ)
+    → Plain algos line e kind d tail → ignored line ≡ false
+plain-speaks algos line e kind d tail p =
+    let ds = plain-digits algos line e kind d tail p in
+    ap ignored p.whole ∙ speaks p.blanks e p.digits (p.blank ∷ tail) p.are_blanks ds.begins
+
+pub tagged-speaks : (algos : Algos) (line : List ℕ) (e : Bool) (kind : KindValue) (d raw : List ℕ)
+    → Tagged algos line e kind d raw → ignored line ≡ false
+tagged-speaks algos line e kind d raw t =
+    ap ignored t.whole ∙ speaks t.blanks e (tag kind.algo) _ t.are_blanks (tag-begins kind.algo)
+
+-- a line that is found to be plain decides; any other decides nothing
+decided : (algos : Algos) (line : List ℕ) (o : Option Parts) → o ≡ plain_parts algos line
     → Decides algos line (form_of_parts o) ⊎ ((o ≡ None) × ((f : Form) → Decides algos line f → ⊥))
-decided algos line None h speaks = inr (
+decided algos line None h = inr (
   refl,
   λ f d.
       let p : Parts = record { escaped = d.escaped; kind = d.kind; digest = d.digest; text = d.tail } in
-      let bad = h ∙ plain_is_read algos line p d.plain in cc,
+      let bad = h ∙ plain-found algos line p d.plain in cc,
 )
-decided algos line (Some p) h speaks =
+decided algos line (Some p) h =
+    let plain = found-plain algos line p (sym h) in
     inl (record {
       escaped = p.escaped;
       kind = p.kind;
       digest = p.digest;
       tail = p.text;
-      speaks = speaks;
-      plain =
-          read_is_plain algos line p (sym h);
+      speaks = plain-speaks algos line p.escaped p.kind p.digest p.text plain;
+      plain = plain;
       is = refl;
     })
 
 pub decides-or : (algos : Algos) (line : List ℕ) → Decides algos line (line_form algos line)
     ⊎ ((line_form algos line ≡ Undecided) × ((f : Form) → Decides algos line f → ⊥))
-decides-or algos line = let P : Form → Type 0 = λ g. Decides algos line g
-    ⊎ ((g ≡ Undecided) × ((f : Form) → Decides algos line f → ⊥)) in elim (cases_Bool (ignored line)) [
-      | inl mute ↦ subst P (sym (cond-true (ignored line) Undecided (form_of_parts (plain_of algos line)) mute))
-          (inr (refl, λ f d. let bad = sym mute ∙ d.speaks in cc))
-      | inr speaks ↦ subst P (sym (cond-false (ignored line) Undecided (form_of_parts (plain_of algos line)) speaks))
-          (elim (decided algos line (plain_of algos line) refl speaks) [
-            | inl d ↦ inl d
-            | inr none ↦ inr (ap form_of_parts none.0, none.1)
-          ])
-    ]
+decides-or algos line = elim (decided algos line (plain_parts algos line) refl) [
+  | inl d ↦ inl d
+  | inr none ↦ inr (ap form_of_parts none.0, none.1)
+]
+
+-- an ignored line decides nothing
+pub ignored-mute : (algos : Algos) (line : List ℕ) → ignored line ≡ true → line_form algos line ≡ Undecided
+ignored-mute algos line h = elim (decides-or algos line) [
+  | inl d ↦ let bad = sym h ∙ d.speaks in cc
+  | inr mute ↦ mute.0
+]
 
 is-form : (algos : Algos) (lines : List (List ℕ)) → IsForm algos lines (form algos lines)
 is-form algos [] = refl
@@ -170,10 +205,6 @@ form-append algos (line ∷ before) after = ap (form_then (line_form algos line)
     ∙ sym (form_then-again (line_form algos line) (form algos before) (form algos after))
 
 pub form-any : (lines : List (List ℕ)) → form Any lines ≡ Undecided
+unfolding plain_parts
 form-any [] = refl
-form-any (line ∷ later) = elim (cases_Bool (ignored line)) [
-  | inl mute ↦ ap (λ x. form_then x (form Any later)) (cond-true (ignored line) Undecided Undecided mute)
-      ∙ form-any later
-  | inr speaks ↦ ap (λ x. form_then x (form Any later)) (cond-false (ignored line) Undecided Undecided speaks)
-      ∙ form-any later
-]
+form-any (line ∷ later) = form-any later

@@ -6,7 +6,8 @@ use Rattle.std.proofs.lemmas.List.{take-append-drop, take_at, drop_at}
 use Rattle.std.proofs.lemmas.List.Sums.{take_while-cons}
 use Rattle.std.proofs.lemmas.List.Elements.{All-cons, All-head, All-tail, All-nil}
 use Rattle.std.specs.List.{AllPass, prefix_len, take_while}
-use Rattle.sum_lines.specs.Scanned.{◌>>=◌, after_while, unmarked, unspaced, past, onto, split_last, some_of}
+use Rattle.sum_lines.specs.Scanned.{◌>>=◌, after_while, unmarked}
+use Rattle.sum_lines.specs.joins.Steps.{unspaced, past, onto, split_last, some_of}
 use Rattle.sum_lines.specs.Shapes.{mark, optional}
 
 pub bind_some : {A B : Type 0} (o : Option A) (f : A → Option B) (y : B) → (o >>= f) ≡ Some y → (x : A)

@@ -34,7 +34,8 @@ AreRests-from_leaves text left (piece ∷ more) rest r h =
 
 -- some of the text was taken, so that there is a first piece
 pub Leaves-some : (text : List ℕ) (pieces : List (List ℕ)) (rest : List ℕ)
-    → Leaves text pieces rest → length rest < length text → (rests : List (List ℕ)) × (pieces ≡ text ∷ rests) × AreRests text rests
+    → Leaves text pieces rest → length rest < length text → (rests : List (List ℕ)) × (pieces ≡ text ∷ rests)
+    × AreRests text rests
 Leaves-some text [] rest h small = absurd (omega (arith, ap length h))
 Leaves-some text (piece ∷ more) rest h small = (
   more,
@@ -46,7 +47,8 @@ pub Offers-nil : (a : Option (List (List ℕ))) → Offers a a []
 Offers-nil None = tt
 Offers-nil (Some x) = sym (append-nil x)
 
-pub Offers-trans : (a b c : Option (List (List ℕ))) (xs ys : List (List ℕ)) → Offers a b xs → Offers b c ys → Offers a c (xs ++ ys)
+pub Offers-trans : (a b c : Option (List (List ℕ))) (xs ys : List (List ℕ)) → Offers a b xs → Offers b c ys
+    → Offers a c (xs ++ ys)
 Offers-trans None b c xs ys p q = tt
 Offers-trans (Some x) None c xs ys p q = absurd p
 Offers-trans (Some x) (Some y) None xs ys p q = absurd q

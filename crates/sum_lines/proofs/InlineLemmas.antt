@@ -10,9 +10,10 @@ use Rattle.hex.specs.Hex.{is_hex_digit}
 use Rattle.digest_kinds.specs.Kinds.{KindValue, tag}
 use Rattle.digest_kinds.specs.declared.algo.Algo.{Algo}
 use Rattle.digest_kinds.specs.declared.algo.Algo.TheVariants.{Md5, Sha1, Sha224, Sha256, Sha384, Sha512, Blake2b}
+use Rattle.sum_lines.specs.Profiles.{present}
 use Rattle.sum_lines.specs.Escape.{escape, escape_of}
 use Rattle.sum_lines.specs.Shapes.{mark, Width}
-use Rattle.sum_lines.specs.Scanned.{is_digit}
+use Rattle.sum_lines.specs.joins.Steps.{is_digit}
 use Rattle.sum_lines.proofs.BitsLemmas.{decimal-digits}
 
 abbrev pub Inline : ℕ → Type 0
@@ -73,14 +74,14 @@ escaped-by : (xs : List ℕ) (first : ℕ) (more : List ℕ) → xs ≡ first �
 escaped-by xs first more e h = let P : List ℕ → Type 0 = All Inline in
     record { first = first; more = more; are = e; one_line = subst P (sym e) (Inline-by_test (first ∷ more) h) }
 
-escape_of-some : (x : ℕ) → Escaped (escape_of x)
+escape_of-some : (x : ℕ) → Escaped (escape_of present x)
 escape_of-some x = elim (eqb_tells x 92) [
-  | inl same ↦ escaped-by (escape_of x) 92 (92 ∷ []) (rw same.0 refl) refl
+  | inl same ↦ escaped-by (escape_of present x) 92 (92 ∷ []) (rw same.0 refl) refl
   | inr back ↦ elim (eqb_tells x 10) [
-    | inl same ↦ escaped-by (escape_of x) 92 (110 ∷ []) (rw (back.0, same.0) refl) refl
+    | inl same ↦ escaped-by (escape_of present x) 92 (110 ∷ []) (rw (back.0, same.0) refl) refl
     | inr new ↦ elim (eqb_tells x 13) [
-      | inl same ↦ escaped-by (escape_of x) 92 (114 ∷ []) (rw (back.0, new.0, same.0) refl) refl
-      | inr other ↦ escaped-by (escape_of x) x [] (rw (back.0, new.0, other.0) refl) (rw (new.0, other.0) refl)
+      | inl same ↦ escaped-by (escape_of present x) 92 (114 ∷ []) (rw (back.0, new.0, same.0) refl) refl
+      | inr other ↦ escaped-by (escape_of present x) x [] (rw (back.0, new.0, other.0) refl) (rw (new.0, other.0) refl)
     ]
   ]
 ]
@@ -88,7 +89,7 @@ escape_of-some x = elim (eqb_tells x 92) [
 pub Inline-escape : (name : List ℕ) → All Inline (escape name)
 Inline-escape [] = All-nil Inline
 Inline-escape (x ∷ xs) =
-    All-append Inline (escape_of x) (escape xs) (let e = escape_of-some x in e.one_line) (Inline-escape xs)
+    All-append Inline (escape_of present x) (escape xs) (let e = escape_of-some x in e.one_line) (Inline-escape xs)
 
 pub escape-some : (name : List ℕ) → 0 < length name → NonEmpty (escape name)
 escape-some [] h = absurd (omega arith)

@@ -9,7 +9,7 @@ use Rattle.std.proofs.lemmas.Grind.{common_steps}
 use Rattle.memchr.specs.Find.{IsFirstByte, is_byte}
 use Rattle.sum_lines.specs.Escape.{escape}
 use Rattle.sum_lines.specs.Entries.{Spells}
-use Rattle.sum_lines.specs.Found.{Names}
+use Rattle.sum_lines.specs.joins.Found.{Names}
 
 part_of : (xs : List ℕ) (i j : ℕ) → i ≤ j → j ≤ length xs → drop i (take j xs) ≡ slice_range xs i j
 part_of xs i j le fits = let sum : j ≡ i + (j - i) = omega arith in

@@ -15,7 +15,8 @@ use Rattle.digest_kinds.specs.declared.algo.Algo.TheVariants.{Md5, Sha1, Sha224,
 use Rattle.digest_kinds.specs.declared.algo.Algos.{Algos}
 use Rattle.digest_kinds.specs.declared.algo.Algos.TheVariants.{One, Any}
 use Rattle.sum_lines.specs.Shapes.{is_blank, mark, Plain, Tagged}
-use Rattle.sum_lines.specs.Scanned.{Parts, after_while, unmarked, sized, tail_of, plain_behind, plain_as, plain_of}
+use Rattle.sum_lines.specs.Scanned.{Parts, after_while, unmarked}
+use Rattle.sum_lines.specs.joins.Steps.{sized, tail_of, plain_behind, plain_as, plain_of}
 use Rattle.sum_lines.proofs.FrontLemmas.{bind_some, front-passes, front-and-rest, front-at, rest-at, unmarked-is}
 use Rattle.sum_lines.proofs.TaggedParts.{same_parts}
 use Rattle.sum_lines.proofs.TaggedLemmas.{Begins, unmarked-front, hex-no_blank, tagged-front}
@@ -158,7 +159,7 @@ pub plain-digits : (algos : Algos) (line : List ℕ) (e : Bool) (kind : KindValu
 plain-digits algos line e kind d tail p = let some = has_len-some kind.algo kind.len p.has in let size = p.size in
     digits-of p.digits d p.spelled (omega arith)
 
-plain-front : (algos : Algos) (line : List ℕ) (e : Bool) (kind : KindValue) (d tail : List ℕ)
+pub plain-front : (algos : Algos) (line : List ℕ) (e : Bool) (kind : KindValue) (d tail : List ℕ)
     → (p : Plain algos line e kind d tail) → unmarked (after_while is_blank line) ≡ (e, p.digits ++ (p.blank ∷ tail))
 plain-front algos line e kind d tail p =
     let ds = plain-digits algos line e kind d tail p in

@@ -1,24 +1,25 @@
 -- What a line reads as, by its shape.
 use Rattle.std.proofs.Common.{ℕ, ◌≡◌, ◌+◌, ◌-◌, ◌≤◌, Bool, true, false, List, [], ◌∷◌, length, take, drop, slice_range, Option, None, Some, refl, ap, sym, ◌∙◌, arith, inl, inr, subst}
-use Rattle.std.proofs.lemmas.Bool.{cond-false}
 use Rattle.std.proofs.lemmas.List.{drop-drop, drop-take, length-take}
 use Rattle.digest_kinds.specs.Kinds.{KindValue}
 use Rattle.digest_kinds.specs.declared.algo.Algos.{Algos}
 use Rattle.sum_lines.specs.declared.line_reading.Form.{Form}
-use Rattle.sum_lines.specs.declared.line_reading.Form.TheVariants.{Undecided, Standard}
+use Rattle.sum_lines.specs.declared.line_reading.Form.TheVariants.{Standard}
 use Rattle.sum_lines.specs.declared.line_reading.Reading.{Reading}
 use Rattle.sum_lines.specs.declared.line_reading.Reading.TheVariants as readings
 use Rattle.sum_lines.specs.declared.scanning.LineParts.{LineParts}
 use Rattle.sum_lines.specs.Escape.{escape}
 use Rattle.sum_lines.specs.Shapes.{Plain, Tagged}
-use Rattle.sum_lines.specs.Scanned.{Parts, plain_of, tagged_of}
-use Rattle.sum_lines.specs.Entries.{ignored, begins_standard, Spells, RawOf, Spelled, kind_of, ByTag, ByTail, form_then, form_of_parts}
-use Rattle.sum_lines.specs.Found.{line_parts, text_of, NamesEntry, NamesTail}
+use Rattle.sum_lines.specs.Scanned.{Parts}
+use Rattle.sum_lines.specs.joins.Steps.{plain_of, tagged_of}
+use Rattle.sum_lines.specs.Entries.{ignored, begins_standard, Spells, RawOf, Spelled, kind_of, ByTag, ByTail, form_of_tail, form_then}
+use Rattle.sum_lines.specs.joins.Found.{line_parts, text_of, NamesEntry, NamesTail}
 use Rattle.sum_lines.specs.Readings.{form_after, Reads}
 use Rattle.sum_lines.proofs.TaggedParts.{read_is_tagged, same_parts}
 use Rattle.sum_lines.proofs.TaggedLemmas.{tagged_is_read}
 use Rattle.sum_lines.proofs.PlainLemmas.{apart, plain_is_read, read_is_plain}
-use Rattle.sum_lines.proofs.EntryLemmas.{form_then-last, form-alone}
+use Rattle.sum_lines.proofs.EntryLemmas.{form_of_parts, ignored-mute, form_then-last, form-alone}
+use Rattle.sum_lines.proofs.ScannedLemmas.{same-plain}
 
 -- ---- the form
 
@@ -29,17 +30,24 @@ no_plain algos line p (Some q) t h =
     absurd (apart algos algos line q.escaped p.escaped q.kind p.kind q.digest p.digest q.text p.text
     (read_is_plain algos line q (sym h)) (read_is_tagged algos line p (sym t)))
 
--- a line that is heard and that is no plain one decides nothing
-form-other : (algos : Algos) (f : Form) (line : List ℕ) → ignored line ≡ false → plain_of algos line ≡ None
-    → f ≡ form_after algos f line
-form-other algos f line h none =
-    sym (ap (form_then f) (form-alone algos line
-    ∙ cond-false (ignored line) Undecided (form_of_parts (plain_of algos line)) h ∙ ap form_of_parts none)
-    ∙ form_then-last f)
+-- a line that is no plain one decides nothing
+pub form-other : (algos : Algos) (f : Form) (line : List ℕ) → plain_of algos line ≡ None → f ≡ form_after algos f line
+form-other algos f line none =
+    sym (ap (form_then f) (form-alone algos line ∙ ap form_of_parts (same-plain algos line ∙ none)) ∙ form_then-last f)
+
+pub form-plain : (algos : Algos) (f g : Form) (line : List ℕ) (found : LineParts)
+    → Some (line_parts line found) ≡ plain_of algos line → g ≡ form_then f (form_of_tail (text_of line found))
+    → g ≡ form_after algos f line
+form-plain algos f g line found p h =
+    h ∙ sym (ap (form_then f) (form-alone algos line ∙ ap form_of_parts (same-plain algos line ∙ sym p)))
+
+pub form-ignored : (algos : Algos) (f : Form) (line : List ℕ) → ignored line ≡ true → f ≡ form_after algos f line
+form-ignored algos f line h =
+    sym (ap (form_then f) (form-alone algos line ∙ ignored-mute algos line h) ∙ form_then-last f)
 
 pub form-tagged : (algos : Algos) (f : Form) (line : List ℕ) (p : Parts) → Some p ≡ tagged_of algos line
-    → ignored line ≡ false → f ≡ form_after algos f line
-form-tagged algos f line p t h = form-other algos f line h (no_plain algos line p (plain_of algos line) t refl)
+    → f ≡ form_after algos f line
+form-tagged algos f line p t = form-other algos f line (no_plain algos line p (plain_of algos line) t refl)
 
 -- ---- what reads as nothing
 

@@ -19,7 +19,8 @@ use Rattle.digest_kinds.specs.declared.algo.Algo.{Algo}
 use Rattle.digest_kinds.specs.declared.algo.Algo.TheVariants.{Md5, Sha1, Sha224, Sha256, Sha384, Sha512, Blake2b}
 use Rattle.digest_kinds.specs.declared.algo.Algos.{Algos}
 use Rattle.sum_lines.specs.Shapes.{is_blank, mark, optional}
-use Rattle.sum_lines.specs.Scanned.{after_while, unmarked, past, split_last, is_past, begins, algo_of, digest_at, Opened, opened_text, opened_of, name_behind, tagged_of, sized, tail_of, plain_behind, plain_as}
+use Rattle.sum_lines.specs.Scanned.{after_while, unmarked}
+use Rattle.sum_lines.specs.joins.Steps.{past, split_last, is_past, begins, algo_of, digest_at, Opened, opened_text, opened_of, name_behind, tagged_of, sized, tail_of, plain_behind, plain_as}
 use Rattle.sum_lines.proofs.FrontLemmas.{isn't, split_last-none, split_last-at, front-and-rest, unmarked-is, past-some, split_last-some}
 use Rattle.sum_lines.proofs.TaggedParts.{opened_of-some}
 use Rattle.sum_lines.proofs.TaggedLemmas.{algo_of-tag}

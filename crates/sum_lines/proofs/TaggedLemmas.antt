@@ -14,7 +14,8 @@ use Rattle.digest_kinds.specs.declared.algo.Algo.TheVariants.{Md5, Sha1, Sha224,
 use Rattle.digest_kinds.specs.declared.algo.Algos.{Algos}
 use Rattle.digest_kinds.specs.declared.algo.Algos.TheVariants.{One, Any}
 use Rattle.sum_lines.specs.Shapes.{is_blank, mark, optional, Width, Allows, Tagged}
-use Rattle.sum_lines.specs.Scanned.{◌>>=◌, Parts, after_while, unmarked, unspaced, algo_of, algo_at, digest_at, is_digit, bits_at, width_at, digest_behind, opened_text, opened_of, name_behind, tagged_of}
+use Rattle.sum_lines.specs.Scanned.{◌>>=◌, Parts, after_while, unmarked}
+use Rattle.sum_lines.specs.joins.Steps.{unspaced, algo_of, algo_at, digest_at, is_digit, bits_at, width_at, digest_behind, opened_text, opened_of, name_behind, tagged_of}
 use Rattle.sum_lines.proofs.FrontLemmas.{front-at, rest-at, prefix_len-all, past-front, split_last-at, isn't, some_of-some}
 use Rattle.sum_lines.proofs.BitsLemmas.{decimal-kind_at, decimal-digits}
 
@@ -118,7 +119,8 @@ width_at-none Sha512 g s = refl
 width_at-none Blake2b true s = refl
 width_at-none Blake2b false s = refl
 
-same_kind : (kind : KindValue) (a : Algo) (n : ℕ) → kind.algo ≡ a → kind.len ≡ n → kind ≡ record { algo = a; len = n }
+pub same_kind : (kind : KindValue) (a : Algo) (n : ℕ) → kind.algo ≡ a → kind.len ≡ n
+    → kind ≡ record { algo = a; len = n }
 same_kind kind a n algo len =
     let make : Algo → ℕ → KindValue = λ x y. record { algo = x; len = y } in
     ap (λ x. make x kind.len) algo ∙ ap (λ y. make a y) len
@@ -171,7 +173,7 @@ hex-no_blank x h = elim (eqb_tells x 32) [
 ]
 
 -- digits behind blanks, up to the end
-rest-hex : (blanks ds : List ℕ) → AllPass is_blank blanks → AllPass is_hex_digit ds
+pub rest-hex : (blanks ds : List ℕ) → AllPass is_blank blanks → AllPass is_hex_digit ds
     → after_while is_blank (blanks ++ ds) ≡ ds
 rest-hex blanks [] h k =
     let whole = prefix_len-all is_blank blanks h in
@@ -194,6 +196,16 @@ digest_behind-of before after ds d n hb ha h size =
 abbrev Not41 : ℕ → Type 0
 Not41 x = isn't 41 x ≡ true
 
+-- behind a name's parenthesis stands no other
+pub behind-free : (before after ds d : List ℕ) → AllPass is_blank before → AllPass is_blank after
+    → decode_of ds ≡ Ok d → AllPass (isn't 41) (before ++ (61 ∷ (after ++ ds)))
+behind-free before after ds d hb ha h =
+    let all : AllPass is_hex_digit ds = (decode_of-ok ds d h).1 in
+    let end : AllPass (isn't 41) (after ++ ds) =
+    All-append Not41 after ds (All-weaker _ Not41 blank-not41 after ha) (All-weaker _ Not41 hex-not41 ds all) in
+    All-append Not41 before (61 ∷ (after ++ ds)) (All-weaker _ Not41 blank-not41 before hb)
+    (All-cons Not41 61 (after ++ ds) refl end)
+
 name_behind-of : (e : Bool) (kind : KindValue) (raw before after ds d : List ℕ) → 0 < length raw
     → AllPass is_blank before → AllPass is_blank after → decode_of ds ≡ Ok d → length d ≡ kind.len
     → name_behind (record {
@@ -205,12 +217,7 @@ name_behind-of : (e : Bool) (kind : KindValue) (raw before after ds d : List ℕ
     (record { escaped = e; kind = kind; digest = d; text = raw })
 unfolding name_behind
 name_behind-of e kind raw before after ds d some hb ha h size =
-    let all : AllPass is_hex_digit ds = (decode_of-ok ds d h).1 in
-    let end : AllPass (isn't 41) (after ++ ds) =
-    All-append Not41 after ds (All-weaker _ Not41 blank-not41 after ha) (All-weaker _ Not41 hex-not41 ds all) in
-    let free : AllPass (isn't 41) (before ++ (61 ∷ (after ++ ds))) =
-    All-append Not41 before (61 ∷ (after ++ ds)) (All-weaker _ Not41 blank-not41 before hb)
-    (All-cons Not41 61 (after ++ ds) refl end) in
+    let free = behind-free before after ds d hb ha h in
     rw (
       split_last-at 41 raw (before ++ (61 ∷ (after ++ ds))) free,
       some_of-some raw some,

@@ -12,7 +12,8 @@ use Rattle.digest_kinds.specs.declared.algo.Algo.TheVariants.{Md5, Sha1, Sha224,
 use Rattle.digest_kinds.specs.declared.algo.Algos.{Algos}
 use Rattle.digest_kinds.specs.declared.algo.Algos.TheVariants.{One, Any}
 use Rattle.sum_lines.specs.Shapes.{is_blank, mark, optional, Width, Allows, Tagged}
-use Rattle.sum_lines.specs.Scanned.{Parts, after_while, unmarked, past, unspaced, algo_at, digest_at, is_digit, kind_at, bits_at, blake2b_at, width_at, digest_behind, Opened, opened_text, opened_of, name_behind, tagged_of}
+use Rattle.sum_lines.specs.Scanned.{Parts, after_while, unmarked}
+use Rattle.sum_lines.specs.joins.Steps.{past, unspaced, algo_at, digest_at, is_digit, kind_at, bits_at, blake2b_at, width_at, digest_behind, Opened, opened_text, opened_of, name_behind, tagged_of}
 use Rattle.sum_lines.proofs.FrontLemmas.{bind_some, front-passes, front-and-rest, unmarked-is, unspaced-is, past-some, split_last-some, some_of-is}
 use Rattle.sum_lines.proofs.BitsLemmas.{kind_at-some}
 

@@ -4,19 +4,21 @@ use Rattle.std.proofs.lemmas.Bool.Decides.{eqb_tells}
 use Rattle.std.proofs.lemmas.List.{append_cancel_left, append-nil, take_rest, length-take-le, drop-drop, take-take, take-append-le, take_more_set, drop-set-lt}
 use Rattle.std.proofs.lemmas.Grind.{flat_map-append}
 use Rattle.std.proofs.Math.Seq.{take-append-add}
+use Rattle.sum_lines.specs.Profiles.{present}
 use Rattle.sum_lines.specs.Escape.{escape_of, escape, IsEscaped}
 
 -- a byte whose escape is a backslash and this letter, and what follows
 abbrev pub behind : List ℕ → Option (ℕ × List ℕ)
 behind [] = None
-behind (c ∷ cs) = cond (c == 92) (Some (92, cs)) (cond (c == 110) (Some (10, cs)) (cond (c == 114) (Some (13, cs)) None))
+behind (c ∷ cs) =
+    cond (c == 92) (Some (92, cs)) (cond (c == 110) (Some (10, cs)) (cond (c == 114) (Some (13, cs)) None))
 
 -- the byte whose escape stands in front, and what follows
 abbrev pub first : List ℕ → Option (ℕ × List ℕ)
 first [] = None
 first (b ∷ bs) = cond (b == 92) (behind bs) (cond (b == 10) None (cond (b == 13) None (Some (b, bs))))
 
-pub first-escape : (b : ℕ) (rest : List ℕ) → first (escape_of b ++ rest) ≡ Some (b, rest)
+pub first-escape : (b : ℕ) (rest : List ℕ) → first (escape_of present b ++ rest) ≡ Some (b, rest)
 first-escape b rest = elim (eqb_tells b 92) [
   | inl same ↦ rw same.1 refl
   | inr backslash ↦ elim (eqb_tells b 10) [
@@ -35,20 +37,23 @@ none_some : {X : Type 0} (x : X) → None ≡ Some x → ⊥
 none_some x h = cc
 
 -- two escapes with the same bytes
-pub escape_of-apart : (a b : ℕ) (xs ys : List ℕ) → escape_of a ++ xs ≡ escape_of b ++ ys → (a ≡ b) × (xs ≡ ys)
+pub escape_of-apart : (a b : ℕ) (xs ys : List ℕ) → escape_of present a ++ xs ≡ escape_of present b ++ ys → (a ≡ b)
+    × (xs ≡ ys)
 escape_of-apart a b xs ys h =
     let same = some_same (a, xs) (b, ys) (sym (first-escape a xs) ∙ ap first h ∙ first-escape b ys) in
     (ap (λ p. p.0) same, ap (λ p. p.1) same)
 
-pub escape_of-some : (b : ℕ) (rest : List ℕ) → [] ≡ escape_of b ++ rest → ⊥
+pub escape_of-some : (b : ℕ) (rest : List ℕ) → [] ≡ escape_of present b ++ rest → ⊥
 escape_of-some b rest h = none_some (b, rest) (ap first h ∙ first-escape b rest)
 
 -- what follows the escape of a in the escape of a name is the escape of what follows a in it
 pub escape-rest : (a n rest : List ℕ) → escape a ++ rest ≡ escape n → (m : List ℕ) × (n ≡ a ++ m) × (rest ≡ escape m)
 escape-rest [] n rest h = (n, refl, h)
-escape-rest (x ∷ xs) [] rest h = absurd (escape_of-some x (escape xs ++ rest) (sym h ∙ append_assoc (escape_of x) (escape xs) rest))
+escape-rest (x ∷ xs) [] rest h =
+    absurd (escape_of-some x (escape xs ++ rest) (sym h ∙ append_assoc (escape_of present x) (escape xs) rest))
 escape-rest (x ∷ xs) (y ∷ ys) rest h =
-    let apart = escape_of-apart x y (escape xs ++ rest) (escape ys) (sym (append_assoc (escape_of x) (escape xs) rest) ∙ h) in
+    let apart = escape_of-apart x y (escape xs ++ rest) (escape ys)
+    (sym (append_assoc (escape_of present x) (escape xs) rest) ∙ h) in
     let more = escape-rest xs ys rest apart.1 in
     (more.0, ap (λ b. b ∷ ys) (sym apart.0) ∙ ap (λ l. x ∷ l) more.1, more.2)
 
@@ -70,33 +75,40 @@ pub record Half (start bytes : List ℕ) (read write : ℕ) : Type 0 where
 
 -- one more byte was read and written
 pub Half-more : (start bytes : List ℕ) (read write b width : ℕ) → Half start bytes read write
-    → drop read bytes ≡ escape_of b ++ drop width (drop read bytes) → 0 < width → width ≤ length (drop read bytes)
+    → drop read bytes ≡ escape_of present b ++ drop width (drop read bytes) → 0 < width
+    → width ≤ length (drop read bytes)
     → Half start (set bytes write b) (read + width) (write + 1)
 Half-more start bytes read write b width h here some fits =
     let next = read + width in
     let rest = drop next bytes in
     let within : next ≤ length bytes = omega (arith, fits, h.within, length-drop read bytes) in
-    let follows : drop width (drop read bytes) ≡ rest = drop-drop width read bytes ∙ ap (λ n. drop n bytes) (omega arith) in
-    let now : take (write + 1) (set bytes write b) ≡ take write bytes ++ b ∷ [] = take_more_set bytes write b (omega (arith, h.behind)) in
+    let follows : drop width (drop read bytes) ≡ rest = drop-drop width read bytes
+    ∙ ap (λ n. drop n bytes) (omega arith) in
+    let now : take (write + 1) (set bytes write b) ≡ take write bytes ++ b ∷ [] = take_more_set bytes write b
+    (omega (arith, h.behind)) in
     let after : drop next (set bytes write b) ≡ rest = drop-set-lt next bytes write b (omega (arith, h.behind)) in
-    let written : escape (take write bytes ++ b ∷ []) ≡ escape (take write bytes) ++ escape_of b =
-    flat_map-append escape_of (take write bytes) (b ∷ []) ∙ ap (λ l. escape (take write bytes) ++ l) (append-nil (escape_of b)) in
+    let written : escape (take write bytes ++ b ∷ []) ≡ escape (take write bytes) ++ escape_of present b =
+    flat_map-append (escape_of present) (take write bytes) (b ∷ [])
+    ∙ ap (λ l. escape (take write bytes) ++ l) (append-nil (escape_of present b)) in
     record {
       behind = omega (arith, h.behind);
       within = omega (arith, length-set bytes write b);
       size = length-set bytes write b ∙ h.size;
-      whole = ap (λ l. escape l ++ drop next (set bytes write b)) now ∙ ap (λ l. escape (take write bytes ++ b ∷ []) ++ l) after
-          ∙ ap (λ l. l ++ rest) written ∙ append_assoc (escape (take write bytes)) (escape_of b) rest
-          ∙ ap (λ l. escape (take write bytes) ++ l) (sym (here ∙ ap (λ l. escape_of b ++ l) follows)) ∙ h.whole;
+      whole = ap (λ l. escape l ++ drop next (set bytes write b)) now
+          ∙ ap (λ l. escape (take write bytes ++ b ∷ []) ++ l) after
+          ∙ ap (λ l. l ++ rest) written ∙ append_assoc (escape (take write bytes)) (escape_of present b) rest
+          ∙ ap (λ l. escape (take write bytes) ++ l) (sym (here ∙ ap (λ l. escape_of present b ++ l) follows))
+          ∙ h.whole;
     }
 
 -- what was read is within the bytes
-pub Half-fits : (start bytes : List ℕ) (read write width : ℕ) → Half start bytes read write → width ≤ length (drop read bytes) → read + width ≤ length start
+pub Half-fits : (start bytes : List ℕ) (read write width : ℕ) → Half start bytes read write
+    → width ≤ length (drop read bytes) → read + width ≤ length start
 Half-fits start bytes read write width h fits = omega (arith, fits, h.within, h.size, length-drop read bytes)
 
 -- a rest that no escape begins
 pub Half-refused : (start bytes : List ℕ) (read write : ℕ) → Half start bytes read write → read < length bytes
-    → ((b : ℕ) (rest : List ℕ) → drop read bytes ≢ escape_of b ++ rest) → ¬ IsEscaped start
+    → ((b : ℕ) (rest : List ℕ) → drop read bytes ≢ escape_of present b ++ rest) → ¬ IsEscaped start
 Half-refused start bytes read write h some none = λ e.
     let rest = escape-rest (take write bytes) e.0 (drop read bytes) (h.whole ∙ e.1) in
     elim rest.0 as (λ m. drop read bytes ≡ escape m → ⊥) [
@@ -105,20 +117,24 @@ Half-refused start bytes read write h some none = λ e.
     ] rest.2
 
 -- the bytes from a place on, which were replaced by the name
-pub in_place : (line new : List ℕ) (from : ℕ) (name : List ℕ) → drop from line ≡ escape name → new ≡ take from line ++ name
-    → (n : List ℕ) → (drop from line ≡ escape n → (true ≡ true) × (new ≡ take from line ++ n)) × ((true ≡ true) × (new ≡ take from line ++ n) → drop from line ≡ escape n)
+pub in_place : (line new : List ℕ) (from : ℕ) (name : List ℕ) → drop from line ≡ escape name
+    → new ≡ take from line ++ name
+    → (n : List ℕ) → (drop from line ≡ escape n → (true ≡ true) × (new ≡ take from line ++ n))
+    × ((true ≡ true) × (new ≡ take from line ++ n) → drop from line ≡ escape n)
 in_place line new from name e is n = (
   λ h. (refl, is ∙ ap (λ l. take from line ++ l) (escape-apart name n (sym e ∙ h))),
   λ h. e ∙ ap escape (append_cancel_left (take from line) name n (sym is ∙ h.1)),
 )
 
 -- a list cut at a place behind the part that was written into it
-pub cut_behind : (len from n : ℕ) (line d part post more : List ℕ) → d ≡ line → from + n ≤ len → from ≤ length line → n ≤ length part
+pub cut_behind : (len from n : ℕ) (line d part post more : List ℕ) → d ≡ line → from + n ≤ len → from ≤ length line
+    → n ≤ length part
     → take (from + n) (take len (take from d ++ (part ++ post) ++ more)) ≡ take from line ++ take n part
 cut_behind len from n line d part post more e fits low le =
     let f : List ℕ = take from d in
     let size : length f ≡ from = length-take-le from d (rw e low) in
-    take-take (from + n) len (f ++ (part ++ post) ++ more) fits ∙ ap (λ k. take (k + n) (f ++ (part ++ post) ++ more)) (sym size)
+    take-take (from + n) len (f ++ (part ++ post) ++ more) fits
+    ∙ ap (λ k. take (k + n) (f ++ (part ++ post) ++ more)) (sym size)
     ∙ ap (take (length f + n)) (append_assoc f (part ++ post) more) ∙ take-append-add f ((part ++ post) ++ more) n
     ∙ ap (λ l. f ++ take n l) (append_assoc part post more) ∙ ap (λ l. f ++ l) (take-append-le n part (post ++ more) le)
     ∙ ap (λ l. take from l ++ take n part) e

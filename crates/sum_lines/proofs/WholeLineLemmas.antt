@@ -11,11 +11,13 @@ pub EndsWith-append : (end : ℕ) (held piece : List ℕ) → EndsWith end piece
 EndsWith-append end held piece h = (held ++ h.0, ap (λ l. held ++ l) h.1 ∙ sym (append_assoc held h.0 (end ∷ [])))
 
 -- all of the text was handed on
-pub Appends-all : (a b : Option (List ℕ)) (text : List ℕ) (n : ℕ) → Appends a b (take n text) → length text ≤ n → Appends a b text
+pub Appends-all : (a b : Option (List ℕ)) (text : List ℕ) (n : ℕ) → Appends a b (take n text) → length text ≤ n
+    → Appends a b text
 Appends-all a b text n h all = rw (take_all n text all) at h
 
 -- only a shorter front of it was
-pub AppendsFront-short : (a b : Option (List ℕ)) (text : List ℕ) (n : ℕ) → Appends a b (take n text) → n < length text → AppendsFront a b text
+pub AppendsFront-short : (a b : Option (List ℕ)) (text : List ℕ) (n : ℕ) → Appends a b (take n text) → n < length text
+    → AppendsFront a b text
 AppendsFront-short a b text n h short =
     (take n text, drop n text, sym (take-append-drop n text), omega (arith, length-drop n text), h)
 
@@ -27,7 +29,8 @@ Appends-passed (Some x) None held front h = absurd h
 Appends-passed (Some x) (Some y) held front h = append-nil y ∙ h ∙ sym (append_assoc x held front)
 
 pub Appends-handed : (a b : Option (List ℕ)) (held now piece : List ℕ) (count n : ℕ)
-    → Appends a b (take n (held ++ take count piece)) → length held ≤ n → n ≤ length (held ++ take count piece) → now ≡ []
+    → Appends a b (take n (held ++ take count piece)) → length held ≤ n → n ≤ length (held ++ take count piece)
+    → now ≡ []
     → Appends (append_known a held) (append_known b now) (take (n - length held) piece)
 Appends-handed a b held now piece count n h low high none =
     let more = n - length held in

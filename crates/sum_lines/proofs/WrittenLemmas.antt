@@ -22,18 +22,14 @@ use Rattle.sum_lines.specs.declared.written.Mode.TheVariants as modes
 use Rattle.sum_lines.specs.Escape.{escape, escape_differs}
 use Rattle.sum_lines.specs.Lines as written
 use Rattle.sum_lines.specs.Shapes.{is_blank, mark, Width, Allows, Plain, Tagged}
-use Rattle.sum_lines.specs.Entries.{ignored, begins_standard, Decides, Spells, Spelled, kind_of, ByTag, ByTail, Entry, form_then, line_form, form}
+use Rattle.sum_lines.specs.Entries.{begins_standard, Decides, Spells, Spelled, kind_of, ByTag, ByTail, Entry, form_then, line_form, form}
 use Rattle.sum_lines.specs.Laws.{ReadBy, Writable, SpellsBack, ReadBack}
-use Rattle.sum_lines.proofs.TaggedLemmas.{Begins, tag-begins}
+use Rattle.sum_lines.proofs.TaggedLemmas.{tag-begins}
 use Rattle.sum_lines.proofs.PlainLemmas.{Digits, digits-of, has_len-some, apart}
-use Rattle.sum_lines.proofs.EntryLemmas.{one_entry, decides-form, decides-or, form-alone, form-append}
+use Rattle.sum_lines.proofs.EntryLemmas.{not_ignored, one_entry, decides-form, decides-or, form-alone, form-append}
 use Rattle.sum_lines.proofs.InlineLemmas.{Inline, inline, Inline-by_test, Inline-escape, Inline-hex, Inline-mark, Inline-tag, Inline-test, Inline-width, escape-some}
 
 -- ---- the parts of a written line
-
-mark-is : (b : Bool) → cond b (92 ∷ []) [] ≡ mark b
-mark-is true = refl
-mark-is false = refl
 
 -- what stands between the tag and the name
 record LineTag (kind : KindValue) : Type 0 where
@@ -72,7 +68,8 @@ line-tag Blake2b n h = elim (eqb_tells n 64) [
 
 -- a line that ends with a newline, without it
 abbrev pub front_of : Mode → KindValue → List ℕ → List ℕ → List ℕ
-front_of mode kind name digest = written.mark name ++ written.form_of mode kind (escape name) (encode_lower digest)
+front_of mode kind name digest =
+    mark (escape_differs name) ++ written.layout mode kind (escape name) (encode_lower digest)
 
 -- ---- what is written spells its name
 
@@ -83,10 +80,6 @@ spells-escape n false h = refl
 spells : (kind : KindValue) (name digest : List ℕ) → Writable kind name digest
     → Spells escape (escape_differs name) (escape name) name
 spells kind name digest w = record { no_nul = w.no_nul; is = spells-escape name (bytes_eq (escape name) name) refl }
-
-not_ignored : (e : Bool) (xs rest : List ℕ) → Begins xs → ignored (mark e ++ (xs ++ rest)) ≡ false
-not_ignored true xs rest b = refl
-not_ignored false xs rest b = ap (λ l. ignored (l ++ rest)) b.are ∙ b.no_hash
 
 -- the digits of a digest
 written-digits : (kind : KindValue) (name digest : List ℕ) → Writable kind name digest → Digits (encode_lower digest)
@@ -231,9 +224,11 @@ tagged-entry algos kind width name digest f fine is w = (
 )
 
 -- a tagged line is no plain one, and decides nothing
-tagged-mute : (algos : Algos) (line : List ℕ) (s : Spelled) → ByTag escape algos line s → line_form algos line ≡ Undecided
+tagged-mute : (algos : Algos) (line : List ℕ) (s : Spelled) → ByTag escape algos line s
+    → line_form algos line ≡ Undecided
 tagged-mute algos line s by = elim (decides-or algos line) [
-  | inl d ↦ absurd (apart algos algos line d.escaped by.escaped d.kind (kind_of s) d.digest s.digest d.tail by.raw d.plain by.tagged)
+  | inl d ↦ absurd (apart algos algos line d.escaped by.escaped d.kind
+      (kind_of s) d.digest s.digest d.tail by.raw d.plain by.tagged)
   | inr mute ↦ mute.0
 ]
 
@@ -295,36 +290,33 @@ plain-back x kind name digest before later w h in-line u =
 
 -- a plain line as it is written
 plain-text : (x : ℕ) (name digest : List ℕ)
-    → (written.mark name ++ (encode_lower digest ++ (32 ∷ x ∷ (escape name ++ []))))
+    → (mark (escape_differs name) ++ (encode_lower digest ++ (32 ∷ x ∷ (escape name ++ []))))
     ++ (10 ∷ []) ≡ plain_line x name digest ++ (10 ∷ [])
 plain-text x name digest =
-    ap (λ m. (m ++ (encode_lower digest ++ (32 ∷ x ∷ (escape name ++ [])))) ++ (10 ∷ []))
-    (mark-is (escape_differs name))
-    ∙ ap (λ n. (mark (escape_differs name) ++ (encode_lower digest ++ (32 ∷ x ∷ n))) ++ (10 ∷ []))
+    ap (λ n. (mark (escape_differs name) ++ (encode_lower digest ++ (32 ∷ x ∷ n))) ++ (10 ∷ []))
     (append-nil (escape name))
 
 plain-back-any : (algos : Algos) (x : ℕ) (kind : KindValue) (name digest : List ℕ) (before later : List (List ℕ))
     → algos ≡ One kind.algo → Writable kind name digest → (x == 32 || x == 42) ≡ true → inline x ≡ true
     → (form algos before ≡ Undecided) ⊎ (form algos before ≡ Standard)
     → SpellsBack algos before later
-    ((written.mark name ++ (encode_lower digest ++ (32 ∷ x ∷ (escape name ++ [])))) ++ (10 ∷ [])) kind name digest
+    ((mark (escape_differs name) ++ (encode_lower digest ++ (32 ∷ x ∷ (escape name ++ [])))) ++ (10 ∷ [])) kind name
+    digest
 plain-back-any algos x kind name digest before later is w h in-line =
     let T : List ℕ → Type 0 = λ t. SpellsBack (One kind.algo) before later t kind name digest in
     let A : Algos → Type 0 = λ a. (form a before ≡ Undecided) ⊎ (form a before ≡ Standard)
-    → SpellsBack a before later ((written.mark name ++ (encode_lower digest ++ (32 ∷ x ∷ (escape name ++ []))))
+    → SpellsBack a before later ((mark (escape_differs name) ++ (encode_lower digest ++ (32 ∷ x ∷ (escape name ++ []))))
     ++ (10 ∷ [])) kind name digest in
     subst A (sym is) (λ u. subst T (sym (plain-text x name digest))
     (plain-back x kind name digest before later w h in-line u))
 
 tagged-text : (kind : KindValue) (t : LineTag kind) (name digest : List ℕ)
-    → (written.mark name ++ (written.line_tag kind
+    → (mark (escape_differs name) ++ (written.line_tag kind
     ++ (32 ∷ 40 ∷ (escape name ++ (41 ∷ 32 ∷ 61 ∷ 32 ∷ (encode_lower digest ++ []))))))
     ++ (10 ∷ []) ≡ tagged_line kind t.width name digest ++ (10 ∷ [])
 tagged-text kind t name digest =
     let rest : List ℕ → List ℕ = λ ds. 32 ∷ 40 ∷ (escape name ++ (41 ∷ 32 ∷ 61 ∷ 32 ∷ ds)) in
-    ap (λ m. (m ++ (written.line_tag kind ++ rest (encode_lower digest ++ []))) ++ (10 ∷ []))
-    (mark-is (escape_differs name))
-    ∙ ap (λ l. (mark (escape_differs name) ++ (l ++ rest (encode_lower digest ++ []))) ++ (10 ∷ [])) t.is
+    ap (λ l. (mark (escape_differs name) ++ (l ++ rest (encode_lower digest ++ []))) ++ (10 ∷ [])) t.is
     ∙ ap (λ ds. (mark (escape_differs name) ++ ((tag kind.algo ++ t.width) ++ rest ds)) ++ (10 ∷ []))
     (append-nil (encode_lower digest))
     ∙ ap (λ l. (mark (escape_differs name) ++ l) ++ (10 ∷ []))
@@ -334,7 +326,7 @@ tagged-back : (algos : Algos) (kind : KindValue) (name digest : List ℕ) (befor
     → Allows algos kind.algo → Writable kind name digest
     → (form algos before ≡ Undecided) ⊎ (form algos before ≡ Standard)
     → SpellsBack algos before later
-    ((written.mark name ++ (written.line_tag kind
+    ((mark (escape_differs name) ++ (written.line_tag kind
     ++ (32 ∷ 40 ∷ (escape name ++ (41 ∷ 32 ∷ 61 ∷ 32 ∷ (encode_lower digest ++ [])))))) ++ (10 ∷ [])) kind name
     digest
 tagged-back algos kind name digest before later fine w u =

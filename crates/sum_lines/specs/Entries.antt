@@ -1,24 +1,27 @@
 -- What a manifest's line says: the form that plain lines give the whole list, and the entry that a line spells.
-use Rattle.std.specs.Prelude.{ℕ, ◌≡◌, ◌<◌, ◌⊎◌, ◌==◌, ◌||◌, Bool, true, false, List, [], ◌∷◌, length, IsTrue, Option, None, Some, if◌then◌else◌}
+use Rattle.std.specs.Prelude.{ℕ, ◌≡◌, ◌<◌, ◌⊎◌, ◌==◌, ◌||◌, Bool, false, List, [], ◌∷◌, length, IsTrue, option_map, unwrap_or, if◌then◌else◌}
 use Rattle.std.specs.List.{All}
 use Rattle.digest_kinds.specs.Kinds.{KindValue}
 use Rattle.digest_kinds.specs.declared.algo.Algo.{Algo}
 use Rattle.digest_kinds.specs.declared.algo.Algos.{Algos}
+use Rattle.sum_lines.specs.Profiles.{Profile, present}
 use Rattle.sum_lines.specs.Shapes.{Plain, Tagged}
-use Rattle.sum_lines.specs.Scanned.{Parts, plain_of}
+use Rattle.sum_lines.specs.Scanned.{plain_parts}
 use Rattle.sum_lines.specs.declared.line_reading.Form.{Form}
 use Rattle.sum_lines.specs.declared.line_reading.Form.TheVariants.{Undecided, Standard, Reversed}
 
--- a line that says nothing: it is empty, or `#` (35) stands first
+-- a line that says nothing: `#` (35) stands first, or it is empty, unless the profile holds that to be improper
+abbrev pub ignored_by : Profile → List ℕ → Bool
+ignored_by p [] = p.ignores_empty
+ignored_by p (b ∷ bs) = b == 35
+
 abbrev pub ignored : List ℕ → Bool
-ignored [] = true
-ignored (b ∷ bs) = b == 35
+ignored line = ignored_by present line
 
 -- two bytes at least, the first of them a space (32) or a star (42)
 abbrev pub begins_standard : List ℕ → Bool
-begins_standard [] = false
-begins_standard (b ∷ []) = false
 begins_standard (b ∷ c ∷ bs) = b == 32 || b == 42
+begins_standard tail = false
 
 abbrev pub form_of_tail : List ℕ → Form
 form_of_tail tail = if begins_standard tail then Standard else Reversed
@@ -77,19 +80,14 @@ pub record ByTail (escape : List ℕ → List ℕ) (algos : Algos) (form : Form)
 abbrev pub Entry : (List ℕ → List ℕ) → Algos → Form → List ℕ → Spelled → Type 0
 Entry escape algos form line s = (ignored line ≡ false) × (ByTag escape algos line s ⊎ ByTail escape algos form line s)
 
--- The form, computed: the first line that decides does. That this is the one form that the list has is the law
--- `one_form`.
+-- The form, computed; it need not be believed: that this is the one form that the list has is the law `one_form`. The
+-- first plain line decides it.
 abbrev pub form_then : Form → Form → Form
 form_then Undecided later = later
-form_then Standard later = Standard
-form_then Reversed later = Reversed
-
-abbrev pub form_of_parts : Option Parts → Form
-form_of_parts None = Undecided
-form_of_parts (Some p) = form_of_tail p.text
+form_then decided later = decided
 
 abbrev pub line_form : Algos → List ℕ → Form
-line_form algos line = if ignored line then Undecided else form_of_parts (plain_of algos line)
+line_form algos line = unwrap_or (option_map (λ p. form_of_tail p.text) (plain_parts algos line)) Undecided
 
 abbrev pub form : Algos → List (List ℕ) → Form
 form algos [] = Undecided

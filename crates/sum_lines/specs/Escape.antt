@@ -1,13 +1,19 @@
 -- The escape of a name: each byte by itself.
-use Rattle.std.specs.Prelude.{◌≡◌, ℕ, ◌==◌, Bool, not, List, [], ◌∷◌, flat_map, bytes_eq, codes, if◌then◌else◌}
+use Rattle.std.specs.Prelude.{◌≡◌, ℕ, ◌==◌, ◌&&◌, Bool, not, List, [], ◌∷◌, flat_map, bytes_eq, codes, if◌then◌else◌}
+use Rattle.sum_lines.specs.Profiles.{Profile, present}
 
--- a backslash (92) becomes `\\`, a newline (10) `\n`, a carriage return (13) `\r`; any other byte stays
-abbrev pub escape_of : ℕ → List ℕ
-escape_of b =
-    if b == 92 then codes "\\\\" else if b == 10 then codes "\\n" else if b == 13 then codes "\\r" else b ∷ []
+-- a backslash (92) becomes `\\`, a newline (10) `\n`, a carriage return (13) `\r`, unless the profile leaves it as it
+-- is; any other byte stays
+abbrev pub escape_of : Profile → ℕ → List ℕ
+escape_of p b =
+    if b == 92 then codes "\\\\" else if b == 10 then codes "\\n"
+    else if p.escapes_return && (b == 13) then codes "\\r" else b ∷ []
+
+abbrev pub escape_by : Profile → List ℕ → List ℕ
+escape_by p name = flat_map (escape_of p) name
 
 abbrev pub escape : List ℕ → List ℕ
-escape name = flat_map escape_of name
+escape name = escape_by present name
 
 -- whether the escaped name differs from the name
 abbrev pub escape_differs : List ℕ → Bool

@@ -1,5 +1,5 @@
 -- What the laws of the line grammar say.
-use Rattle.std.specs.Prelude.{ℕ, ◌≡◌, ◌≢◌, ◌<◌, ◌↔◌, ◌⊎◌, Bool, false, List, [], ◌∷◌, ◌++◌, length, codes, IsTrue}
+use Rattle.std.specs.Prelude.{ℕ, ◌≡◌, ◌≢◌, ◌<◌, ◌↔◌, ◌⊎◌, Bool, true, false, List, [], ◌∷◌, ◌++◌, length, codes, IsTrue}
 use Rattle.std.specs.List.{All}
 use Rattle.hex.specs.Hex.{IsBytes}
 use Rattle.digest_kinds.specs.Kinds.{KindValue, has_len}
@@ -10,10 +10,12 @@ use Rattle.sum_lines.specs.declared.line_reading.Form.{Form}
 use Rattle.sum_lines.specs.declared.line_reading.Form.TheVariants.{Undecided, Standard}
 use Rattle.sum_lines.specs.declared.written.Mode.{Mode}
 use Rattle.sum_lines.specs.declared.written.Mode.TheVariants.{Tag}
-use Rattle.sum_lines.specs.Escape.{escape}
+use Rattle.sum_lines.specs.Profiles.{Profile}
+use Rattle.sum_lines.specs.Escape.{escape, escape_by}
 use Rattle.sum_lines.specs.Lines.{line}
 use Rattle.sum_lines.specs.Shapes.{Plain, Tagged}
-use Rattle.sum_lines.specs.Entries.{Spelled, Entry, IsForm, form}
+use Rattle.sum_lines.specs.Entries.{Spelled, Entry, IsForm, ignored_by, form}
+use Rattle.sum_lines.specs.Says.{Nothing, Improper, Spells, says}
 
 -- a line spells at most one entry
 abbrev pub OneEntry : Type 0
@@ -28,6 +30,30 @@ Apart = (algos others : Algos) (line : List ℕ) (e f : Bool) (kind other : Kind
 -- a list of lines has one form, which is the computed one
 abbrev pub OneForm : Type 0
 OneForm = (algos : Algos) (lines : List (List ℕ)) (f : Form) → IsForm algos lines f ↔ (f ≡ form algos lines)
+
+-- what a line says, whichever the profile: nothing where it is ignored; otherwise its entry or, where it has none, that
+-- it is improper
+pub record SaysOf (p : Profile) (algos : Algos) (f : Form) (line : List ℕ) : Type 0 where
+  pub nothing : (says p algos f line ≡ Nothing) ↔ (ignored_by p line ≡ true)
+  pub spells : (s : Spelled) → (says p algos f line ≡ Spells s)
+      ↔ ((ignored_by p line ≡ false) × Entry (escape_by p) algos f line s)
+  pub improper : (says p algos f line ≡ Improper)
+      ↔ ((ignored_by p line ≡ false) × ((s : Spelled) → ¬ Entry (escape_by p) algos f line s))
+
+abbrev pub SaysIs : Type 0
+SaysIs = (p : Profile) (algos : Algos) (f : Form) (line : List ℕ) → SaysOf p algos f line
+
+-- what comes behind a line has no part in what it says
+abbrev pub SameSaid : Type 0
+SameSaid = (p : Profile) (algos : Algos) (before later others : List (List ℕ)) (line : List ℕ)
+    → says p algos (form algos (before ++ (line ∷ later))) line
+    ≡ says p algos (form algos (before ++ (line ∷ others))) line
+
+-- nor in the form behind a plain line
+abbrev pub SameForm : Type 0
+SameForm = (algos : Algos) (before later others : List (List ℕ)) (line : List ℕ)
+    → (e : Bool) (kind : KindValue) (d tail : List ℕ) → Plain algos line e kind d tail
+    → form algos (before ++ (line ∷ later)) ≡ form algos (before ++ (line ∷ others))
 
 -- who reads a line of that mode: the tool of its algorithm, and in tagged mode the one that takes any algorithm
 abbrev pub ReadBy : Algos → Mode → Algo → Type 0

@@ -1,12 +1,12 @@
+pub mod Profiles
 pub mod Escape
 pub mod Shapes
 pub mod Entries
 pub mod Scanned
+pub mod Says
 pub mod Laws
 pub mod Sinks
-pub mod ToldSinks
 pub mod WholeLines
-pub mod Parts
 pub mod Lines
-pub mod Found
 pub mod Readings
+pub mod joins

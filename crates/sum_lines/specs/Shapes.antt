@@ -1,7 +1,7 @@
 -- The two shapes of a manifest's line: how the whole line is put together from its parts. These are relations, and no
 -- reading from the front: a line has a shape where some parts join to it. In front of either may stand blanks and then
 -- one backslash, which says that the name is escaped.
-use Rattle.std.specs.Prelude.{ℕ, ◌≡◌, ◌*◌, ◌<◌, ◌⊎◌, ◌==◌, ◌||◌, ⊤, Bool, true, false, List, [], ◌∷◌, ◌++◌, length, codes, IsTrue, Ok}
+use Rattle.std.specs.Prelude.{ℕ, ◌≡◌, ◌*◌, ◌<◌, ◌⊎◌, ◌==◌, ◌||◌, ⊤, Bool, true, List, [], ◌∷◌, ◌++◌, length, codes, IsTrue, Ok, if◌then◌else◌}
 use Rattle.std.specs.List.{AllPass}
 use Rattle.std.specs.Fmt.{decimal}
 use Rattle.hex.specs.Hex.{decode_of}
@@ -15,14 +15,9 @@ use Rattle.digest_kinds.specs.declared.algo.Algos.TheVariants.{One, Any}
 abbrev pub is_blank : ℕ → Bool
 is_blank b = b == 32 || b == 9
 
--- the bytes, where they are there at all
-abbrev pub optional : Bool → List ℕ → List ℕ
-optional true bytes = bytes
-optional false bytes = []
-
--- the backslash, where the name is escaped
+-- the backslash before a line whose name is escaped
 abbrev pub mark : Bool → List ℕ
-mark e = optional e (codes "\\")
+mark e = if e then codes "\\" else []
 
 -- A plain line: digits, one blank, and a tail that isn't empty. The digits are hexadecimal, in any case, and spell
 -- a digest of a length that the one algorithm has. Where any algorithm may do, no line is plain.
@@ -38,6 +33,10 @@ pub record Plain (algos : Algos) (line : List ℕ) (e : Bool) (kind : KindValue)
   pub is_one_blank : is_blank blank ≡ true
   pub some : 0 < length tail
   pub whole : line ≡ blanks ++ (mark e ++ (digits ++ (blank ∷ tail)))
+
+-- the bytes, where they are there at all
+abbrev pub optional : Bool → List ℕ → List ℕ
+optional there bytes = if there then bytes else []
 
 -- What may stand between the tag and the name: nothing for the full length; for BLAKE2b a `-` and the number
 -- of bits, which are 8 to 512, in decimal

@@ -19,7 +19,8 @@ Offers (Some old) (Some new) pieces = new ≡ old ++ pieces
 
 -- known bytes grow by a front of the text, and a rest of it that isn't empty stays unwritten
 abbrev pub AppendsFront : Option (List ℕ) → Option (List ℕ) → List ℕ → Type 0
-AppendsFront old new text = (front : List ℕ) × (rest : List ℕ) × (text ≡ front ++ rest) × (0 < length rest) × Appends old new front
+AppendsFront old new text =
+    (front : List ℕ) × (rest : List ℕ) × (text ≡ front ++ rest) × (0 < length rest) × Appends old new front
 
 -- a call that writes the text: Ok, all of it was appended; a fault, a shorter front of it was, and the failures rose
 abbrev pub Writes : {S E : Type 0} → (S → Option (List ℕ)) → (S → ℕ) → S → S → List ℕ → Result (Unit {0}) E → Type 0

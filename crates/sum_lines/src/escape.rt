@@ -2,6 +2,7 @@
 ghost use Rattle.std.specs.Prelude.{◌≡◌, ◌≢◌, ◌↔◌, ◌+◌, ◌<◌, ◌≤◌, ◌++◌, ℕ, List, length, vec_len, take, drop};
 ghost use Rattle.std.specs.Prelude.{slice_index, is_some, true, IsTrue, IfSome, IfNone, MatchOption};
 ghost use Rattle.sum_lines.specs.Sinks.{Writes};
+ghost use Rattle.sum_lines.specs.Profiles.{present};
 ghost use Rattle.sum_lines.specs.Escape.{IsEscaped, escape, escape_of, escape_differs};
 
 use crate::sink::{Sink, SinkFault, put_all};
@@ -35,14 +36,14 @@ fn next_special(name: &[u8]) -> Option<usize>
     ensures within { IfSome result (λ at. at < length name.now) }
     ensures differs { is_some result ≡ escape_differs name.now }
     ensures cut { MatchOption result (escape name.now ≡ name.now) (λ at. escape name.now
-        ≡ take at name.now ++ (escape_of (slice_index name.now at) ++ escape (drop (at + 1) name.now))) }
+        ≡ take at name.now ++ (escape_of present (slice_index name.now at) ++ escape (drop (at + 1) name.now))) }
 {
     memchr3(b'\\', b'\n', b'\r', name)
 }
 
 // Writes the escape of one byte.
 fn put_escape<S: Sink>(sink: &mut S, byte: u8) -> Result<(), SinkFault>
-    ensures { Writes S.written S.failures sink.old sink.new (escape_of byte) result }
+    ensures { Writes S.written S.failures sink.old sink.new (escape_of present byte) result }
 {
     match byte {
         b'\\' => put_all(sink, b"\\\\"),
@@ -53,8 +54,8 @@ fn put_escape<S: Sink>(sink: &mut S, byte: u8) -> Result<(), SinkFault>
 }
 
 /// Unescapes the bytes of the line from that place on, which is at most its length. True: they were the escape of a
-/// name, and are now that name. False: they are the escape of no name; what stands before the place is as it was, what stands
-/// behind it is open, and the line isn't longer.
+/// name, and are now that name. False: they are the escape of no name; what stands before the place is as it was, what
+/// stands behind it is open, and the line isn't longer.
 pub fn unescape_in<A: Allocator>(line: &mut Vec<u8, A>, from: usize) -> bool
     requires { from ≤ vec_len line.old }
     ensures name { (n : List ℕ) → (drop from line.old.items ≡ escape n)
@@ -91,9 +92,9 @@ fn unescape(bytes: &mut [u8]) -> Option<usize>
 
 // The byte whose escape stands in front, and the length of its escape.
 fn first_escaped(bytes: &[u8]) -> Option<(u8, usize)>
-    ensures some { IfSome result (λ r. bytes.now ≡ escape_of r.0 ++ drop r.1 bytes.now) }
+    ensures some { IfSome result (λ r. bytes.now ≡ escape_of present r.0 ++ drop r.1 bytes.now) }
     ensures width { IfSome result (λ r. (0 < r.1) × (r.1 ≤ length bytes.now)) }
-    ensures none { IfNone result ((b : ℕ) (rest : List ℕ) → bytes.now ≢ escape_of b ++ rest) }
+    ensures none { IfNone result ((b : ℕ) (rest : List ℕ) → bytes.now ≢ escape_of present b ++ rest) }
 {
     match bytes {
         [b'\\', b'\\', ..] => Some((b'\\', 2)),

@@ -1,6 +1,6 @@
 //! Laws of the line grammar: what holds of its definitions, whatever the code does.
 
-ghost use Rattle.sum_lines.specs.Laws.{Apart, OneEntry, OneForm, ReadBack};
+ghost use Rattle.sum_lines.specs.Laws.{Apart, OneEntry, OneForm, ReadBack, SameForm, SameSaid, SaysIs};
 
 /// A line spells at most one entry, and no line is both plain and tagged.
 pub fn one_entry()
@@ -11,6 +11,18 @@ pub fn one_entry()
 /// A list of lines has one form.
 pub fn one_form()
     ensures { OneForm }
+{}
+
+/// What a line says, as it is computed, is what the line grammar has, whichever the profile: nothing exactly where the
+/// line is ignored, an entry exactly where the grammar has it, and something improper exactly where it has none.
+pub fn says_is()
+    ensures { SaysIs }
+{}
+
+/// What comes behind a line has no part in what it says nor, where the line is plain, in the form.
+pub fn same_said()
+    ensures says { SameSaid }
+    ensures form { SameForm }
 {}
 
 /// A line that was written, unless in zero style, spells the kind, the digest and the name that it was written for.

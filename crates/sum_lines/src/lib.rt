@@ -6,23 +6,17 @@ mod finish;
 mod from_write;
 pub mod laws;
 mod line_reading;
-#[cfg(test)]
-mod line_reading_tests;
 mod names;
 mod parts;
 mod plain;
 mod scanning;
 mod sink;
-#[cfg(test)]
-mod sink_tests;
 mod tagged;
+#[cfg(test)]
+mod tests;
 mod told_sink;
 mod whole_lines;
-#[cfg(test)]
-mod whole_lines_tests;
 mod written;
-#[cfg(test)]
-mod written_tests;
 
 pub use escape::{needs_escape, put_escaped, unescape_in};
 pub use finish::Finish;

@@ -2,7 +2,7 @@
 
 ghost use Rattle.std.specs.Prelude.{◌≡◌, ◌≤◌, if◌then◌else◌, length, vec_len};
 ghost use Rattle.sum_lines.specs.Entries.{begins_standard, form_of_tail, form_then, ignored};
-ghost use Rattle.sum_lines.specs.Found.{NamesEntry, NamesTail, text_of};
+ghost use Rattle.sum_lines.specs.joins.Found.{NamesEntry, NamesTail, text_of};
 ghost use Rattle.sum_lines.specs.Readings.{Reads, form_after};
 
 use crate::names::name_in;
@@ -43,6 +43,18 @@ pub enum Reading {
 /// Reads a line, without its end, in a manifest whose lines before it have this form, and answers the form with it.
 /// An entry's name, without its escape, is left in the line's vector. An ignored line is left as it is; what a bad one
 /// leaves is open. The vector never gets longer.
+///
+/// A line is ignored where it is empty or `#` stands first. Before any other may stand blanks (spaces and tabs) and
+/// then one backslash: the name is escaped behind it (`\\`, `\n`, `\r`). What follows is
+///
+/// - tagged, `TAG (NAME) = DIGITS`: an algorithm's tag, for BLAKE2b with `-` and a number of bits where the digest
+///   isn't full; a space or none; a name, which ends at the last parenthesis; and between blanks or none `=`;
+/// - or, where there is one algorithm, plain, `DIGITS TAIL`: one blank, and a tail that isn't empty. The first plain
+///   line decides the form of all. Where its tail begins with a space or `*` and goes on, that is `Standard`, and a
+///   name stands behind such a byte; else it is `Reversed`, and the tail is the name.
+///
+/// The digits are hexadecimal, in either case, and as many as the algorithm has, or the tag says. A name holds no NUL
+/// and isn't empty. Any other line is bad.
 pub fn read_line<A: Allocator>(algos: Algos, form: Form, line: &mut Vec<u8, A>) -> (Reading, Form)
     ensures form { result.1 ≡ form_after algos form line.old.items }
     ensures reads { Reads algos result.1 line.old.items line.new.items result.0 }

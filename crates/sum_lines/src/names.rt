@@ -4,7 +4,7 @@ ghost use Rattle.std.specs.Prelude.{◌≡◌, ◌≤◌, ◌<◌, ◌++◌, ◌
 ghost use Rattle.std.specs.Prelude.{take, true, vec_len};
 ghost use Rattle.std.specs.List.{All};
 ghost use Rattle.sum_lines.specs.Escape.{escape};
-ghost use Rattle.sum_lines.specs.Found.{Names};
+ghost use Rattle.sum_lines.specs.joins.Found.{Names};
 
 use crate::escape::unescape_in;
 use memchr::memchr;

@@ -4,9 +4,10 @@ ghost use Rattle.std.specs.Prelude.{◌≡◌, ◌≤◌, IfSome, if◌then◌el
 ghost use Rattle.std.specs.Option.{option_copied, option_map};
 ghost use Rattle.hex.specs.Hex.{decode_of};
 ghost use Rattle.digest_kinds.specs.Kinds.{has_len};
-ghost use Rattle.sum_lines.specs.Scanned.{after_while, plain_of, plain_as, sized, tail_of, unmarked};
+ghost use Rattle.sum_lines.specs.Scanned.{after_while, unmarked};
+ghost use Rattle.sum_lines.specs.joins.Steps.{plain_of, plain_as, sized, tail_of};
 ghost use Rattle.sum_lines.specs.Shapes.{is_blank};
-ghost use Rattle.sum_lines.specs.Found.{line_parts};
+ghost use Rattle.sum_lines.specs.joins.Found.{line_parts};
 
 use crate::scanning::LineParts;
 use digest_kinds::{Algo, Algos, Digest, Kind};

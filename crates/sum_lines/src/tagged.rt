@@ -5,17 +5,19 @@ ghost use Rattle.std.specs.List.{AllPass, prefix_len, take_while};
 ghost use Rattle.std.specs.Option.{option_copied, option_map};
 ghost use Rattle.hex.specs.Hex.{decode_of};
 ghost use Rattle.digest_kinds.specs.Kinds.{tag};
-ghost use Rattle.sum_lines.specs.Scanned.{after_while, algo_at, bits_at, blake2b_at, digest_at, is_digit, kind_at};
-ghost use Rattle.sum_lines.specs.Scanned.{opened_text, past, tagged_of, unmarked, width_at};
+ghost use Rattle.sum_lines.specs.Scanned.{after_while};
+ghost use Rattle.sum_lines.specs.joins.Steps.{algo_at, bits_at, blake2b_at, digest_at, is_digit, kind_at};
+ghost use Rattle.sum_lines.specs.Scanned.{unmarked};
+ghost use Rattle.sum_lines.specs.joins.Steps.{opened_text, past, tagged_of, width_at};
 ghost use Rattle.sum_lines.specs.Shapes.{is_blank};
-ghost use Rattle.sum_lines.specs.Found.{line_parts};
+ghost use Rattle.sum_lines.specs.joins.Found.{line_parts};
 
 use crate::scanning::{LineParts, past_text, skip_blanks, split_at_last, unspace};
 use digest_kinds::{Algo, Algos, Digest, Kind};
 
 /// Reads a tagged line of these algorithms, whose text stands behind its blanks and its mark. None where the line isn't
 /// tagged.
-#[tactic(auto, unfolding(crate::specs::Scanned::name_behind))]
+#[tactic(auto, unfolding(crate::specs::joins::Steps::name_behind))]
 pub(crate) fn tagged(algos: Algos, line: &[u8], escaped: bool, text: &[u8]) -> Option<LineParts>
     requires { (escaped, text.now) ≡ unmarked (after_while is_blank line.now) }
     ensures parts { option_map (line_parts line.now) result ≡ tagged_of algos line.now }
@@ -49,7 +51,7 @@ struct OpenedLine<'a> {
     inner: &'a [u8],
 }
 
-#[tactic(auto, unfolding(crate::specs::Scanned::opened_text))]
+#[tactic(auto, unfolding(crate::specs::joins::Steps::opened_text))]
 fn open_line(algos: Algos, escaped: bool, text: &[u8]) -> Option<OpenedLine<'_>>
     ensures { option_map (λ o. record { escaped = o.escaped; kind = o.kind; inner = o.inner.now }) result
         ≡ opened_text algos escaped text.now }

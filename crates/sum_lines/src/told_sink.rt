@@ -16,7 +16,7 @@ pub struct ToldSink<const N: usize> {
 }
 
 impl<const N: usize> ToldSink<N> {
-    ghost use Rattle.sum_lines.specs.ToldSinks.{bytes_of, room};
+    ghost use Rattle.sum_lines.specs.joins.ToldSinks.{bytes_of, room};
 
     /// An empty sink that takes `stop` bytes, or N where that is less, and then fails.
     pub fn new(stop: usize) -> Self
@@ -43,7 +43,7 @@ impl<const N: usize> ToldSink<N> {
 impl<const N: usize> Sink for ToldSink<N> {
     ghost use Rattle.std.specs.Io.KnownBytes.{WriteAppends};
     ghost use Rattle.sum_lines.specs.Sinks.{Takes, after_failure};
-    ghost use Rattle.sum_lines.specs.ToldSinks.{bytes_of, room};
+    ghost use Rattle.sum_lines.specs.joins.ToldSinks.{bytes_of, room};
 
     ghost written = { λ s. Some (bytes_of s) };
 

@@ -132,7 +132,8 @@ impl<S: Sink> Sink for WholeLines<S> {
             (append_known (S.written self.new.sink) self.new.held) result piece.now }
         ensures kept { OnOk result (S.failures self.new.sink ≡ S.failures self.old.sink) }
         ensures failed { OnErr result (S.failures self.new.sink ≡ after_failure (S.failures self.old.sink)) }
-        ensures lines { Holds self.old self.new piece.now result ⊎ HandsOnWith S.offered self.old self.new piece.now result }
+        ensures lines { Holds self.old self.new piece.now result
+            ⊎ HandsOnWith S.offered self.old self.new piece.now result }
         ensures ended { IfOk result (λ n. EndsWith self.old.end (take n piece.now) → self.new.held ≡ []) }
         ensures room { length self.new.held < LINE_ROOM }
         ensures end { self.new.end ≡ self.old.end }

@@ -27,10 +27,11 @@ pub struct Style {
     pub zero: bool,
 }
 
-ghost use Rattle.sum_lines.specs.Lines.{form_of, line, line_tag, mark};
+ghost use Rattle.sum_lines.specs.Lines.{layout, line, line_tag};
 ghost use Rattle.hex.specs.Hex.{encode_lower};
-ghost use Rattle.sum_lines.specs.Parts.{part_text};
-ghost use Rattle.sum_lines.specs.Escape.{escape};
+ghost use Rattle.sum_lines.specs.joins.PartTexts.{part_text};
+ghost use Rattle.sum_lines.specs.Escape.{escape, escape_differs};
+ghost use Rattle.sum_lines.specs.Shapes.{mark};
 
 /// Writes the line of a name and its digest, which has the kind's length. A fault where a write failed; a shorter front
 /// of the line is then written.
@@ -66,7 +67,7 @@ fn digits_of<'a>(digest: &Digest, buffer: &'a mut [u8; 128]) -> &'a [u8]
 
 // What stands before a line, and its name, escaped. A name that is its own escape is searched once.
 fn mark_and_name(name: &[u8]) -> (&'static [u8], Part<'_>)
-    ensures mark { result.0.now ≡ mark name.now }
+    ensures mark { result.0.now ≡ mark (escape_differs name.now) }
     ensures name { part_text result.1 ≡ escape name.now }
 {
     if needs_escape(name) {
@@ -85,7 +86,7 @@ fn put_form<'a, S: Sink>(
     digits: &'a [u8],
 ) -> Result<(), SinkFault>
     ensures { Writes S.written S.failures sink.old sink.new
-        (form_of mode kind (part_text name.entry) digits.now) result }
+        (layout mode kind (part_text name.entry) digits.now) result }
 {
     let digits = Part::Bytes(digits);
     match mode {

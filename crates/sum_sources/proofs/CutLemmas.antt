@@ -14,18 +14,25 @@ abbrev IsPlain : ℕ → Type 0
 IsPlain b = (b == 10) ≡ false
 
 -- a byte that is no newline goes to the first piece
-cut_plain : (b : ℕ) (bs : List ℕ) (ended : List (List ℕ)) (tail : List ℕ) → IsPlain b → CutsInto bs ended tail → IsCut (b ∷ bs)
+cut_plain : (b : ℕ) (bs : List ℕ) (ended : List (List ℕ)) (tail : List ℕ) → IsPlain b → CutsInto bs ended tail
+    → IsCut (b ∷ bs)
 cut_plain b bs [] tail plain c = (
   [],
   b ∷ tail,
-  record { bytes_are = ap (λ l. b ∷ l) c.bytes_are; pieces_plain = c.pieces_plain; tail_plain = All-cons IsPlain b tail plain c.tail_plain },
+  record {
+    bytes_are = ap (λ l. b ∷ l) c.bytes_are;
+    pieces_plain = c.pieces_plain;
+    tail_plain = All-cons IsPlain b tail
+        plain c.tail_plain;
+  },
 )
 cut_plain b bs (p ∷ ps) tail plain c = (
   (b ∷ p) ∷ ps,
   tail,
   record {
     bytes_are = ap (λ l. b ∷ l) c.bytes_are;
-    pieces_plain = All-cons NoNewline (b ∷ p) ps (All-cons IsPlain b p plain (All-head NoNewline p ps c.pieces_plain)) (All-tail NoNewline p ps c.pieces_plain);
+    pieces_plain = All-cons NoNewline (b ∷ p) ps (All-cons IsPlain b p plain (All-head NoNewline p ps c.pieces_plain))
+        (All-tail NoNewline p ps c.pieces_plain);
     tail_plain = c.tail_plain;
   },
 )

@@ -1,5 +1,7 @@
 -- What a read into the empty buffer makes of the content that is still to come.
-use Rattle.std.proofs.Common.{◌≡◌, ◌≢◌, ℕ, ◌+◌, ◌-◌, ◌^◌, ◌<◌, ◌≤◌, false, not, List, [], ◌++◌, length, take, drop, Option, None, Some, Ok, Err, refl, ap, sym, ◌∙◌, arith, length-append, nat_lt, nat_eq, inl, inr}
+use Rattle.std.proofs.Common.{◌≡◌, ◌≢◌, ℕ, ◌+◌, ◌-◌, ◌^◌, ◌<◌, ◌≤◌, false, not, List, [], ◌++◌, length, take, drop}
+use Rattle.std.proofs.Common.{Option, None, Some, Ok, Err, refl, ap, sym, ◌∙◌, arith, length-append, nat_lt, nat_eq}
+use Rattle.std.proofs.Common.{inl, inr}
 use Rattle.std.specs.Option.{option_map}
 use Rattle.std.proofs.lemmas.Bool.{cond-true, cond-false, lt-ltb, le-ltb, cases_lt}
 use Rattle.std.proofs.lemmas.Bool.Decides.{eqb_tells}
@@ -10,7 +12,7 @@ use Rattle.sum_sources.specs.declared.fault.Fault.TheVariants.{Other}
 use Rattle.sum_sources.specs.declared.fault.Ending.{Ending}
 use Rattle.sum_sources.specs.declared.fault.Ending.TheVariants.{Broken}
 use Rattle.sum_sources.specs.Contents.{Content, limit, WhereTold, ReadsFrom, ReadGives}
-use Rattle.sum_sources.specs.Standard.{nothing}
+use Rattle.sum_sources.specs.Standard.{empty_content}
 use Rattle.sum_sources.specs.joins.LineReading.{clip_to, behind, FillOf}
 use Rattle.sum_sources.proofs.ContentLemmas.{limit-value}
 
@@ -22,18 +24,23 @@ content-same c d bytes ending =
 clip_to-short : (n : ℕ) (c : Content) → length c.bytes < n → clip_to n c ≡ c
 clip_to-short n c short = cond-true (nat_lt (length c.bytes) n) c _ (lt-ltb _ _ short)
 
-clip_to-long : (n : ℕ) (c : Content) → n ≤ length c.bytes → clip_to n c ≡ record { bytes = take (n - 1) c.bytes; ending = Broken Other }
+clip_to-long : (n : ℕ) (c : Content) → n ≤ length c.bytes → clip_to n c ≡ record
+    { bytes = take (n - 1) c.bytes; ending = Broken Other }
 clip_to-long n c long = cond-false (nat_lt (length c.bytes) n) c _ (le-ltb _ _ long)
 
 -- bytes in front of a content may be clipped with it or before it
-clip_to-behind : (n k : ℕ) (front : List ℕ) (c : Content) → n ≡ length front + k → 0 < k → clip_to n (behind front c) ≡ behind front (clip_to k c)
+clip_to-behind : (n k : ℕ) (front : List ℕ) (c : Content) → n ≡ length front + k → 0 < k
+    → clip_to n (behind front c) ≡ behind front (clip_to k c)
 clip_to-behind n k front c sum some = elim (cases_lt (length c.bytes) k) [
   | inl short ↦
-      clip_to-short n (behind front c) (omega (arith, length-append front c.bytes)) ∙ ap (behind front) (sym (clip_to-short k c short))
+      clip_to-short n (behind front c) (omega (arith, length-append front c.bytes))
+      ∙ ap (behind front) (sym (clip_to-short k c short))
   | inr long ↦
-      let cut : take (n - 1) (front ++ c.bytes) ≡ front ++ take (k - 1) c.bytes = ap (λ j. take j (front ++ c.bytes)) (omega arith) ∙ take-append-add front c.bytes (k - 1) in
+      let cut : take (n - 1) (front ++ c.bytes) ≡ front ++ take (k - 1) c.bytes = ap (λ j. take j (front ++ c.bytes))
+      (omega arith) ∙ take-append-add front c.bytes (k - 1) in
       let broken : List ℕ → Content = λ l. record { bytes = l; ending = Broken Other } in
-      clip_to-long n (behind front c) (omega (arith, length-append front c.bytes)) ∙ ap broken cut ∙ ap (behind front) (sym (clip_to-long k c long))
+      clip_to-long n (behind front c) (omega (arith, length-append front c.bytes)) ∙ ap broken cut
+      ∙ ap (behind front) (sym (clip_to-long k c long))
 ]
 
 -- the buffer is empty where its places meet
@@ -41,7 +48,8 @@ pub none_buffered : (buf : List ℕ) (s e : ℕ) → s ≡ e → take (e - s) (d
 none_buffered buf s e same = ap (λ n. take n (drop s buf)) (let zero_left : e - s ≡ 0 = omega arith in zero_left)
 
 -- a read leaves what is still to come as it was
-stays : (c d : Content) (part : List ℕ) (n t u : ℕ) → ReadsFrom c d (Ok n) part → n ≤ length part → u ≡ t + n → u < 2 ^ 61
+stays : (c d : Content) (part : List ℕ) (n t u : ℕ) → ReadsFrom c d (Ok n) part → n ≤ length part → u ≡ t + n
+    → u < 2 ^ 61
     → behind (take n part) (clip_to (limit - u) d) ≡ behind [] (clip_to (limit - t) c)
 stays c d part n t u r few sum fits =
     let size : length (take n part) ≡ n = length-take-le n part few in
@@ -51,33 +59,41 @@ stays c d part n t u r few sum fits =
     rw split (sym (clip_to-behind (limit - t) (limit - u) (take n part) d rest some))
 
 -- at the end nothing is to come
-ends : (c d : Content) (part : List ℕ) (t : ℕ) → ReadsFrom c d (Ok 0) part → 0 < length part → t < 2 ^ 61 → behind [] (clip_to (limit - t) c) ≡ nothing
+ends : (c d : Content) (part : List ℕ) (t : ℕ) → ReadsFrom c d (Ok 0) part → 0 < length part → t < 2 ^ 61
+    → behind [] (clip_to (limit - t) c) ≡ empty_content
 ends c d part t r some fits =
     let end = r.2 refl some in
     let is : clip_to (limit - t) c ≡ c = clip_to-short (limit - t) c (rw (end.0, limit-value) (omega arith)) in
-    rw is (content-same (behind [] c) nothing end.0 end.1)
+    rw is (content-same (behind [] c) empty_content end.0 end.1)
 
-FillOf-read : (c d : Content) (part : List ℕ) (n t u : ℕ) → ReadsFrom c d (Ok n) part → n ≤ length part → 0 < length part → u ≡ t + n → u < 2 ^ 61
+FillOf-read : (c d : Content) (part : List ℕ) (n t u : ℕ) → ReadsFrom c d (Ok n) part → n ≤ length part
+    → 0 < length part → u ≡ t + n → u < 2 ^ 61
     → FillOf (behind [] (clip_to (limit - t) c)) (behind (take n part) (clip_to (limit - u) d)) (Ok (not (nat_eq n 0)))
 FillOf-read c d part n t u r few some sum fits = elim (eqb_tells n 0) [
   | inl same ↦ rw same.0 (stays c d part n t u r few sum fits, ends c d part t (rw same.1 at r) some (omega arith))
   | inr other ↦ rw other.0 (stays c d part n t u r few sum fits)
 ]
 
-pub filled : (x y : Option Content) (none part buf : List ℕ) (n t u : ℕ) → none ≡ [] → ReadGives x y (Ok n) part → n ≤ length part → 0 < length part → take n part ≡ buf → u ≡ t + n → u < 2 ^ 61
-    → WhereTold (option_map (λ c. behind none (clip_to (limit - t) c)) x) (option_map (λ c. behind buf (clip_to (limit - u) c)) y) (λ c d. FillOf c d (Ok (not (nat_eq n 0))))
+pub filled : (x y : Option Content) (none part buf : List ℕ) (n t u : ℕ) → none ≡ [] → ReadGives x y (Ok n) part
+    → n ≤ length part → 0 < length part → take n part ≡ buf → u ≡ t + n → u < 2 ^ 61
+    → WhereTold (option_map (λ c. behind none (clip_to (limit - t) c)) x)
+    (option_map (λ c. behind buf (clip_to (limit - u) c)) y) (λ c d. FillOf c d (Ok (not (nat_eq n 0))))
 filled None y none part buf n t u empty r few some is sum fits = tt
 filled (Some c) None none part buf n t u empty r few some is sum fits = absurd r
 filled (Some c) (Some d) none part buf n t u empty r few some is sum fits =
     rw (empty, sym is) (FillOf-read c d part n t u r few some sum fits)
 
 -- the end was found
-pub filled_end : (x y : Option Content) (none part : List ℕ) (t : ℕ) → none ≡ [] → ReadGives x y (Ok 0) part → 0 < length part → t < 2 ^ 61
-    → WhereTold (option_map (λ c. behind none (clip_to (limit - t) c)) x) (option_map (λ c. behind none (clip_to (limit - t) c)) y) (λ c d. FillOf c d (Ok false))
-filled_end x y none part t empty r some fits = filled x y none part none 0 t t empty r (omega arith) some (sym empty) (omega arith) fits
+pub filled_end : (x y : Option Content) (none part : List ℕ) (t : ℕ) → none ≡ [] → ReadGives x y (Ok 0) part
+    → 0 < length part → t < 2 ^ 61
+    → WhereTold (option_map (λ c. behind none (clip_to (limit - t) c)) x)
+    (option_map (λ c. behind none (clip_to (limit - t) c)) y) (λ c d. FillOf c d (Ok false))
+filled_end x y none part t empty r some fits =
+    filled x y none part none 0 t t empty r (omega arith) some (sym empty) (omega arith) fits
 
 -- a fault was found
-pub filled_fault : (x y : Option Content) (none part : List ℕ) (g : Content → Content) (f : Fault) (t : ℕ) → none ≡ [] → ReadGives x y (Err f) part → t < 2 ^ 61
+pub filled_fault : (x y : Option Content) (none part : List ℕ) (g : Content → Content) (f : Fault) (t : ℕ) → none ≡ []
+    → ReadGives x y (Err f) part → t < 2 ^ 61
     → WhereTold (option_map (λ c. behind none (clip_to (limit - t) c)) x) (option_map g y) (λ c d. FillOf c d (Err f))
 filled_fault None y none part g f t empty r fits = tt
 filled_fault (Some c) None none part g f t empty r fits = absurd r
@@ -86,12 +102,16 @@ filled_fault (Some c) (Some d) none part g f t empty r fits =
     rw (empty, is) (content-same (behind [] c) (record { bytes = []; ending = Broken f }) r.0 r.1)
 
 -- a byte was found past the limit
-pub filled_long : (x y : Option Content) (none part : List ℕ) (g : Content → Content) (n t : ℕ) → none ≡ [] → ReadGives x y (Ok n) part → n ≤ length part → n ≢ 0 → t ≡ 2 ^ 61 - 1
-    → WhereTold (option_map (λ c. behind none (clip_to (limit - t) c)) x) (option_map g y) (λ c d. FillOf c d (Err Other))
+pub filled_long : (x y : Option Content) (none part : List ℕ) (g : Content → Content) (n t : ℕ) → none ≡ []
+    → ReadGives x y (Ok n) part → n ≤ length part → n ≢ 0 → t ≡ 2 ^ 61 - 1
+    → WhereTold (option_map (λ c. behind none (clip_to (limit - t) c)) x) (option_map g y)
+    (λ c d. FillOf c d (Err Other))
 filled_long None y none part g n t empty r few some full = tt
 filled_long (Some c) None none part g n t empty r few some full = absurd r
 filled_long (Some c) (Some d) none part g n t empty r few some full =
-    let len : length c.bytes ≡ length (take n part) + length d.bytes = ap length r.0 ∙ length-append (take n part) d.bytes in
+    let len : length c.bytes ≡ length (take n part) + length d.bytes = ap length r.0
+    ∙ length-append (take n part) d.bytes in
     let one : limit - t ≡ 1 = rw limit-value (omega arith) in
-    let is : clip_to (limit - t) c ≡ record { bytes = []; ending = Broken Other } = rw one (clip_to-long 1 c (omega (arith, len, length-take-le n part few))) in
+    let is : clip_to (limit - t) c ≡ record { bytes = []; ending = Broken Other } = rw one
+    (clip_to-long 1 c (omega (arith, len, length-take-le n part few))) in
     rw (empty, is) refl

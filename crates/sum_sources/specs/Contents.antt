@@ -1,5 +1,6 @@
 -- What inputs hold: bytes and an ending, and what counts of them.
-use Rattle.std.specs.Prelude.{ℕ, ◌≡◌, ◌<◌, ◌-◌, ◌^◌, List, [], ◌++◌, take, length, Option, None, Some, Result, Ok, Err, ⊤, nat_lt, if◌then◌else◌}
+use Rattle.std.specs.Prelude.{ℕ, ◌≡◌, ◌<◌, ◌-◌, ◌^◌, List, [], ◌++◌, take, length, Option, None, Some, Result, Ok, Err}
+use Rattle.std.specs.Prelude.{⊤, nat_lt, if◌then◌else◌}
 use Rattle.digest_kinds.specs.Digests.{digest}
 use Rattle.digest_kinds.specs.Kinds.{KindValue}
 use Rattle.sum_sources.specs.declared.fault.Fault.{Fault}
@@ -12,11 +13,6 @@ pub record Content : Type 0 where
   pub bytes : List ℕ
   pub ending : Ending
 
--- an input in memory: what it has still to give, and the most bytes that one read gives
-pub record ToldContent : Type 0 where
-  pub content : Content
-  pub piece : ℕ
-
 -- an input of so many bytes or more is too long
 unfoldable pub limit : ℕ
 limit = 2 ^ 61
@@ -25,11 +21,11 @@ limit = 2 ^ 61
 abbrev pub clip : Content → Content
 clip c = if nat_lt (length c.bytes) limit then c else record { bytes = take (limit - 1) c.bytes; ending = Broken Other }
 
--- what holds between two contents, where they are told; what is told stays told
-abbrev pub WhereTold : Option Content → Option Content → (Content → Content → Type 0) → Type 0
+-- what holds between a value before and after, where it is told; what is told stays told
+abbrev pub WhereTold : {A : Type 0} → Option A → Option A → (A → A → Type 0) → Type 0
 WhereTold None new P = ⊤
-WhereTold (Some c) None P = ⊥
-WhereTold (Some c) (Some d) P = P c d
+WhereTold (Some a) None P = ⊥
+WhereTold (Some a) (Some b) P = P a b
 
 -- a read takes the first bytes; it finds the end only where no byte is left and the ending is whole, and a fault only
 -- where no byte is left and the ending is that fault

@@ -1,5 +1,6 @@
 pub mod Contents
 pub mod Faults
+pub mod InMemory
 pub mod ManifestLines
 pub mod Sources
 pub mod Standard

@@ -1,8 +1,6 @@
 -- What sources of files answer, and what they were asked.
-use Rattle.std.specs.Prelude.{ℕ, ◌≡◌, ◌+◌, ◌-◌, ◌^◌, min, List, [], ◌∷◌, ◌++◌, Option, None, Some, Result, Ok, Err, ⊤, if◌then◌else◌}
-use Rattle.std.specs.Str.{bytes_eq}
+use Rattle.std.specs.Prelude.{ℕ, ◌≡◌, ◌+◌, ◌-◌, ◌^◌, min, List, [], ◌∷◌, ◌++◌, Option, None, Some, Result, Ok, Err, ⊤}
 use Rattle.sum_sources.specs.declared.fault.Fault.{Fault}
-use Rattle.sum_sources.specs.declared.fault.Fault.TheVariants.{NotFound}
 use Rattle.sum_sources.specs.declared.source.OpenFault.{OpenFault}
 use Rattle.sum_sources.specs.declared.source.OpenFault.TheVariants as faults
 use Rattle.sum_sources.specs.Contents.{Content}
@@ -46,25 +44,3 @@ OpenGives content None new name r = ⊤
 OpenGives content (Some s) None name r = ⊥
 OpenGives content (Some s) (Some t) name r = (t.answer ≡ s.answer) × (t.asked ≡ asked_after s.asked name r)
     × Opens content (s.answer name) r
-
--- a name with the reply to it
-pub record Pair : Type 0 where
-  pub name : List ℕ
-  pub reply : Reply
-
--- the first pair with the name answers; a name without a pair is not found
-abbrev pub first_reply : List Pair → List ℕ → Reply
-first_reply [] name = Refused NotFound
-first_reply (p ∷ ps) name = if bytes_eq p.name name then p.reply else first_reply ps name
-
--- a source in memory: its pairs in the order in which they were added, the names asked, the most bytes that one read of
--- its files gives, and how often memory was refused
-pub record ToldFiles : Type 0 where
-  pub pairs : List Pair
-  pub asked : List (List ℕ)
-  pub piece : ℕ
-  pub refusals : ℕ
-
--- what it tells
-abbrev pub telling_of : ToldFiles → Telling
-telling_of s = record { answer = first_reply s.pairs; asked = s.asked }

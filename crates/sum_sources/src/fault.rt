@@ -2,6 +2,9 @@
 ghost use Rattle.std.specs.Prelude.{◌≡◌};
 ghost use Rattle.sum_sources.specs.Faults.{fault_text};
 
+use std::{error, fmt};
+use thiserror::Error;
+
 /// Why an input could not be opened or read to its end.
 #[derive(Clone, Copy, Debug, PartialEq, Eq)]
 pub enum Fault {
@@ -25,6 +28,23 @@ impl Fault {
         }
     }
 }
+
+impl fmt::Display for Fault {
+    ghost use Rattle.std.specs.Prelude.{Some};
+
+    ghost output = { λ fault. Some (fault_text fault) };
+
+    fn fmt<W: fmt::Write>(&self, f: &mut fmt::Formatter<W>) -> fmt::Result {
+        f.pad(self.text())
+    }
+}
+
+impl error::Error for Fault {}
+
+/// Memory was refused.
+#[derive(Clone, Copy, Debug, PartialEq, Eq, Error)]
+#[error("memory exhausted")]
+pub struct NoRoom;
 
 /// How an input ends after its last byte.
 #[derive(Clone, Copy, Debug, PartialEq, Eq)]

@@ -37,6 +37,13 @@ impl<R: Read> FromRead<R> {
     {
         FromRead { reader }
     }
+
+    /// The reader, as it is now.
+    pub fn into_inner(self) -> R
+        ensures { result ≡ self }
+    {
+        self.reader
+    }
 }
 
 impl<R: Read> Input for FromRead<R> {

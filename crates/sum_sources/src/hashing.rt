@@ -2,13 +2,10 @@
 ghost use Rattle.std.specs.Prelude.{◌≡◌, [], length, IfOk, IfSome};
 ghost use Rattle.sum_sources.specs.Contents.{clip, Hashes};
 
-use crate::{Fault, Input};
+use crate::{Fault, Input, PIECE};
 use digest_kinds::{Digest, Hasher, LIMIT};
 
-/// The most bytes that are read at once.
-pub const PIECE: usize = 8192;
-
-/// Reads `input` once, in order and to its end, in pieces of at most 8192 bytes, and answers the
+/// Reads `input` once, in order and to its end, in pieces of at most `PIECE` bytes, and answers the
 /// digest that `hasher` makes of its bytes, or the fault that the input ends by. An input of `LIMIT`
 /// bytes or more is `Fault::Other`. The hasher has to be a new one.
 pub fn hash_input<I: Input, H: Hasher + Drop>(input: &mut I, hasher: H) -> Result<Digest, Fault>

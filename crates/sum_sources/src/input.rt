@@ -4,6 +4,9 @@ ghost use Rattle.sum_sources.specs.Contents.{Content, ReadGives};
 
 use crate::Fault;
 
+/// The most bytes that are read at once.
+pub const PIECE: usize = 8192;
+
 /// An input: bytes to come, and then an end or a fault.
 pub trait Input {
     /// What is still to come, where the input tells it.

@@ -16,16 +16,16 @@ mod told;
 mod told_source;
 
 pub use closable::Closable;
-pub use fault::{Ending, Fault};
+pub use fault::{Ending, Fault, NoRoom};
 pub use files::Files;
 pub use from_read::FromRead;
-pub use hashing::{PIECE, hash_input, hash_input_over};
-pub use input::Input;
+pub use hashing::{hash_input, hash_input_over};
+pub use input::{Input, PIECE};
 pub use lines::{LineReader, LineStop, Next};
 pub use source::{OpenFault, Source};
 pub use standard::{Given, Stdin};
 pub use told::Told;
-pub use told_source::{Answer, NoRoom, ToldSource};
+pub use told_source::{Answer, ToldSource};
 
 #[cfg(test)]
 mod tests;

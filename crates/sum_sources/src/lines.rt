@@ -2,13 +2,16 @@
 ghost use Rattle.std.specs.Prelude.{◌≡◌, ◌≤◌, ◌<◌, ◌^◌, ◌+◌, ◌-◌, [], true, false, take, length};
 ghost use Rattle.std.specs.Prelude.{IfOk, IfSome, IsErr, OnOk, if◌then◌else◌};
 ghost use Rattle.std.specs.Str.Lines.{strip_carriage_return};
+ghost use Rattle.digest_kinds.specs.Limits.{LIMIT};
+ghost use Rattle.sum_sources.specs.declared.input.TheConstants.{PIECE};
 ghost use Rattle.sum_sources.specs.Contents.{ReadGives};
 ghost use Rattle.sum_sources.specs.joins.LineStates.{IsReading};
 
-use crate::{Fault, Input};
+use crate::{Fault, Input, PIECE};
 use digest_kinds::LIMIT;
 use memchr::memchr;
 use std::alloc::{AllocError, Allocator};
+use thiserror::Error;
 
 /// What there was to read.
 #[derive(Clone, Copy, Debug, PartialEq, Eq)]
@@ -19,12 +22,13 @@ pub enum Next {
     NoMore,
 }
 
-/// Why there is no next line.
-#[derive(Clone, Copy, Debug, PartialEq, Eq)]
+/// Why there is no next line: `Fault` where the input ended by that fault, after every line that a newline ended;
+/// `Memory` where there was no memory for the line.
+#[derive(Clone, Copy, Debug, PartialEq, Eq, Error)]
 pub enum LineStop {
-    /// The input ended by this fault. Every line that a newline ended was given.
+    #[error(transparent)]
     Fault(Fault),
-    /// There was no memory for the line.
+    #[error("memory exhausted")]
     Memory,
 }
 
@@ -35,22 +39,22 @@ enum State {
     Stopped(LineStop),
 }
 
-/// Reads an input line by line, at most 8192 bytes ahead.
+/// Reads an input line by line, at most [`PIECE`](crate::PIECE) bytes ahead.
 #[derive(Drop)]
 pub struct LineReader<I> {
     input: I,
     // What was read and isn't used yet is `buf[start..end]`.
-    buf: [u8; 8192],
+    buf: [u8; PIECE],
     start: usize,
     end: usize,
     taken: u64,
     lines: u64,
     state: State,
     ghost start_in: { start ≤ end },
-    ghost end_in: { end ≤ 8192 },
-    ghost few: { taken ≤ 2 ^ 61 },
+    ghost end_in: { end ≤ PIECE },
+    ghost few: { taken ≤ LIMIT },
     ghost each: { lines + (end - start) ≤ taken },
-    ghost going: { IsReading state → taken < 2 ^ 61 },
+    ghost going: { IsReading state → taken < LIMIT },
 }
 
 // Reads into the front of `buf`.
@@ -76,7 +80,8 @@ impl<I: Input> LineReader<I> {
     ghost use Rattle.sum_sources.specs.Contents.{WhereTold, clip};
     ghost use Rattle.sum_sources.specs.ManifestLines.{LineOf, lines_after};
     ghost use Rattle.sum_sources.specs.joins.LineReading.{buffered, ahead, FillOf, TakesPiece, PieceOf};
-    ghost use Rattle.sum_sources.specs.joins.LineReading.{coming, left, taken_of, used_of, count_of, answer_of, has_stopped};
+    ghost use Rattle.sum_sources.specs.joins.LineReading.{coming, left, bytes_taken, bytes_used, lines_given};
+    ghost use Rattle.sum_sources.specs.joins.LineReading.{answer_of, has_stopped};
 
     /// A reader of the lines of `input`. An input of `LIMIT` bytes or more counts as its first
     /// `LIMIT - 1` bytes and then `Fault::Other`.
@@ -84,13 +89,13 @@ impl<I: Input> LineReader<I> {
         ensures coming { coming I.content result ≡ option_map clip (I.content input) }
         ensures left { left I.content result ≡ I.content input }
         ensures going { answer_of result ≡ None }
-        ensures taken { taken_of result ≡ 0 }
-        ensures used { used_of result ≡ 0 }
-        ensures lines { count_of result ≡ 0 }
+        ensures taken { bytes_taken result ≡ 0 }
+        ensures used { bytes_used result ≡ 0 }
+        ensures lines { lines_given result ≡ 0 }
     {
         LineReader {
             input,
-            buf: [0; 8192],
+            buf: [0; PIECE],
             start: 0,
             end: 0,
             taken: 0,
@@ -101,29 +106,36 @@ impl<I: Input> LineReader<I> {
 
     /// How many bytes the input has given.
     pub fn taken(&self) -> u64
-        ensures value { result ≡ taken_of self.now }
-        ensures most { result ≤ 2 ^ 61 }
+        ensures value { result ≡ bytes_taken self.now }
+        ensures most { result ≤ LIMIT }
     {
         self.taken
     }
 
     /// How many lines were given.
     pub fn lines(&self) -> u64
-        ensures value { result ≡ count_of self.now }
-        ensures few { result ≤ taken_of self.now }
+        ensures value { result ≡ lines_given self.now }
+        ensures few { result ≤ bytes_taken self.now }
     {
         self.lines
+    }
+
+    /// The input, past the bytes that it has given; those that were read ahead of the last line are lost.
+    pub fn into_inner(self) -> I
+        ensures { I.content result ≡ left I.content self }
+    {
+        self.input
     }
 
     // Reads into the empty buffer. False means that the input has ended.
     fn fill(&mut self) -> Result<bool, Fault>
         requires empty { self.old.start ≡ self.old.end }
-        requires few { self.old.taken < 2 ^ 61 }
+        requires few { self.old.taken < LIMIT }
         ensures gives { WhereTold (ahead I.content self.old) (ahead I.content self.new) (λ c d. FillOf c d result) }
         ensures more { result ≡ Ok true → self.old.taken < self.new.taken }
         ensures none { result ≡ Ok false → self.new.start ≡ self.new.end }
-        ensures few { IfOk result (λ _. self.new.taken < 2 ^ 61) }
-        ensures used { IfOk result (λ _. used_of self.new ≡ used_of self.old) }
+        ensures few { IfOk result (λ _. self.new.taken < LIMIT) }
+        ensures used { IfOk result (λ _. bytes_used self.new ≡ bytes_used self.old) }
         ensures input { WhereTold (left I.content self.old) (left I.content self.new)
             (λ c d. self.new.taken + length d.bytes ≡ self.old.taken + length c.bytes) }
         ensures lines { self.new.lines ≡ self.old.lines }
@@ -140,7 +152,7 @@ impl<I: Input> LineReader<I> {
             self.taken += 1;
             return Err(Fault::Other);
         }
-        let size = room.min(8192) as usize;
+        let size = room.min(PIECE as u64) as usize;
         self.start = 0;
         self.end = 0;
         let n = read_front(&mut self.input, &mut self.buf, size)?;
@@ -156,8 +168,8 @@ impl<I: Input> LineReader<I> {
             TakesPiece ended (buffered self.old) (buffered self.new) line.old.items line.new.items) }
         ensures memory { IsErr result → 0 < length (buffered self.old) }
         ensures empty { result ≡ Ok false → self.new.start ≡ self.new.end }
-        ensures used { IfOk result (λ ended. used_of self.new + length line.old.items
-            ≡ used_of self.old + length line.new.items + (if ended then 1 else 0)) }
+        ensures used { IfOk result (λ ended. bytes_used self.new + length line.old.items
+            ≡ bytes_used self.old + length line.new.items + (if ended then 1 else 0)) }
         ensures input { self.new.input ≡ self.old.input }
         ensures taken { self.new.taken ≡ self.old.taken }
         ensures lines { self.new.lines ≡ self.old.lines }
@@ -189,12 +201,12 @@ impl<I: Input> LineReader<I> {
             (λ c d. PieceOf c d result line.new.items) }
         ensures memory { result ≡ Err LineStop.Memory
             → IfSome (ahead I.content self.old) (λ c. 0 < length c.bytes) }
-        ensures few { IfOk result (λ _. self.new.taken < 2 ^ 61) }
+        ensures few { IfOk result (λ _. self.new.taken < LIMIT) }
         ensures used { OnOk result (WhereTold (ahead I.content self.old) (coming I.content self.new)
-            (λ c d. used_of self.new + length d.bytes ≡ used_of self.old + length c.bytes)) }
+            (λ c d. bytes_used self.new + length d.bytes ≡ bytes_used self.old + length c.bytes)) }
         ensures input { WhereTold (left I.content self.old) (left I.content self.new)
             (λ c d. self.new.taken + length d.bytes ≡ self.old.taken + length c.bytes) }
-        ensures some { result ≡ Ok Next.Line → used_of self.old < used_of self.new }
+        ensures some { result ≡ Ok Next.Line → bytes_used self.old < bytes_used self.new }
         ensures lines { self.new.lines ≡ self.old.lines }
         ensures ended { result ≡ Ok Next.NoMore → self.new.state ≡ State.Ended }
         ensures going { OnOk result (has_stopped self.new ≡ false) }
@@ -231,14 +243,14 @@ impl<I: Input> LineReader<I> {
         ensures no_more { result ≡ Ok Next.NoMore → answer_of self.new ≡ Some result }
         ensures stop { IsErr result → answer_of self.new ≡ Some result }
         ensures going { OnOk result (has_stopped self.new ≡ false) }
-        ensures lines { count_of self.new ≡ lines_after (count_of self.old) result }
-        ensures few { count_of self.new ≤ taken_of self.new }
-        ensures most { taken_of self.new ≤ 2 ^ 61 }
+        ensures lines { lines_given self.new ≡ lines_after (lines_given self.old) result }
+        ensures few { lines_given self.new ≤ bytes_taken self.new }
+        ensures most { bytes_taken self.new ≤ LIMIT }
         ensures taken { WhereTold (left I.content self.old) (left I.content self.new)
-            (λ c d. taken_of self.new + length d.bytes ≡ taken_of self.old + length c.bytes) }
+            (λ c d. bytes_taken self.new + length d.bytes ≡ bytes_taken self.old + length c.bytes) }
         ensures used { OnOk result (WhereTold (coming I.content self.old) (coming I.content self.new)
-            (λ c d. used_of self.new + length d.bytes ≡ used_of self.old + length c.bytes)) }
-        ensures ahead { taken_of self.new ≤ used_of self.new + 8192 }
+            (λ c d. bytes_used self.new + length d.bytes ≡ bytes_used self.old + length c.bytes)) }
+        ensures ahead { bytes_taken self.new ≤ bytes_used self.new + PIECE }
     {
         match self.state {
             State::Ended => return Ok(Next::NoMore),

@@ -3,13 +3,14 @@ ghost use Rattle.std.specs.Prelude.{◌≡◌, ℕ, Option, None};
 ghost use Rattle.sum_sources.specs.Sources.{Telling, OpenGives, refusals_after};
 
 use crate::{Fault, Input};
+use thiserror::Error;
 
-/// Why a file could not be opened.
-#[derive(Clone, Copy, Debug, PartialEq, Eq)]
+/// Why a file could not be opened: by this `Fault`, or for want of `Memory`; then the file may be there.
+#[derive(Clone, Copy, Debug, PartialEq, Eq, Error)]
 pub enum OpenFault {
-    /// The file can't be opened, for this reason.
+    #[error(transparent)]
     Fault(Fault),
-    /// There was no memory for opening it. The file may be there.
+    #[error("memory exhausted")]
     Memory,
 }
 

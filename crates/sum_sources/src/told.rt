@@ -15,7 +15,7 @@ pub struct Told<'a> {
 
 impl<'a> Model for Told<'a> {
     ghost use Rattle.std.specs.Prelude.{◌≤◌};
-    ghost use Rattle.sum_sources.specs.Contents.{ToldContent};
+    ghost use Rattle.sum_sources.specs.InMemory.{ToldContent};
 
     ghost Value = { ToldContent };
 

@@ -1,10 +1,11 @@
 //! A source in memory.
 ghost use Rattle.std.specs.Prelude.{◌≡◌, ◌++◌, ◌∷◌, [], OnOk, OnErr, IfOk, Some, map, max, slice_get};
 ghost use Rattle.std.specs.Option.{option_map};
-ghost use Rattle.sum_sources.specs.Sources.{first_reply, telling_of, OpenGives, after_refusal, refusals_after};
+ghost use Rattle.sum_sources.specs.InMemory.{first_reply, telling_of};
+ghost use Rattle.sum_sources.specs.Sources.{OpenGives, after_refusal, refusals_after};
 ghost use Rattle.sum_sources.specs.joins.ToldPairs.{pair_of, reply_of};
 
-use crate::{Ending, Fault, Input, OpenFault, Source, Told};
+use crate::{Ending, Fault, Input, NoRoom, OpenFault, Source, Told};
 use std::alloc::Allocator;
 use std::marker::Model;
 
@@ -16,10 +17,6 @@ pub enum Answer<'a> {
     /// The file has these bytes and ends so.
     Content(&'a [u8], Ending),
 }
-
-/// Want of memory.
-#[derive(Clone, Copy, Debug, PartialEq, Eq)]
-pub struct NoRoom;
 
 #[derive(Drop)]
 struct StoredPair<'a, A: Allocator> {
@@ -39,7 +36,7 @@ pub struct ToldSource<'a, A: Allocator + Copy> {
 
 impl<'a, A: Allocator + Copy> Model for ToldSource<'a, A> {
     ghost use Rattle.std.specs.Prelude.{map};
-    ghost use Rattle.sum_sources.specs.Sources.{ToldFiles};
+    ghost use Rattle.sum_sources.specs.InMemory.{ToldFiles};
     ghost use Rattle.sum_sources.specs.joins.ToldPairs.{pair_of};
 
     ghost Value = { ToldFiles };
@@ -126,7 +123,7 @@ impl<'a, A: Allocator + Copy> Source for ToldSource<'a, A> {
     type File = Told<'a>;
 
     ghost use Rattle.std.specs.Prelude.{Some};
-    ghost use Rattle.sum_sources.specs.Sources.{telling_of};
+    ghost use Rattle.sum_sources.specs.InMemory.{telling_of};
 
     ghost told = { λ s. Some (telling_of s) };
 

@@ -31,7 +31,8 @@ last_part-none path h =
     let none : length path - suffix_len (λ x. not (x == 47)) path ≡ 0 = omega (arith, all) in
     ap (λ n. drop n path) none
 
-pub last_part-some : (path : List ℕ) (at : ℕ) → IsLastByte (is_byte 47) path (Some at) → last_part path ≡ drop (at + 1) path
+pub last_part-some : (path : List ℕ) (at : ℕ) → IsLastByte (is_byte 47) path (Some at) →
+    last_part path ≡ drop (at + 1) path
 last_part-some path at h =
     let high : at < length path = h.0.high in
     let behind : suffix_len (λ x. not (x == 47)) path ≡ length path - (at + 1) =
@@ -49,7 +50,8 @@ drop-at_none [] (suc p) h = refl
 drop-at_none (x ∷ xs) zero h = cc
 drop-at_none (x ∷ xs) (suc p) h = drop-at_none xs p h
 
-pub drop-at_some : {X : Type 0} (xs : List X) (p : ℕ) (x : X) → slice_get xs p ≡ Some x → drop p xs ≡ x ∷ drop (p + 1) xs
+pub drop-at_some : {X : Type 0} (xs : List X) (p : ℕ) (x : X) → slice_get xs p ≡ Some x →
+    drop p xs ≡ x ∷ drop (p + 1) xs
 drop-at_some [] p x h = cc
 drop-at_some (y ∷ ys) zero x h = let e : y ≡ x = cc in ap (λ z. z ∷ ys) e
 drop-at_some (y ∷ ys) (suc p) x h = let e : suc p + 1 ≡ suc (p + 1) = omega arith in rw e (drop-at_some ys p x h)
@@ -76,7 +78,8 @@ pub words-more : (told : Option (List Text)) (first place : ℕ) (words : List T
     → WordsUpTo told first (place + 1) (words ++ word ∷ [])
 words-more None first place words word w h text = tt
 words-more (Some all) first place words word w h text = (
-  w.0 ∙ ap (λ l. words ++ l) (drop-at_some all place word h) ∙ sym (append_assoc words (word ∷ []) (drop (place + 1) all)),
+  w.0 ∙ ap (λ l. words ++ l) (drop-at_some all place word h)
+      ∙ sym (append_assoc words (word ∷ []) (drop (place + 1) all)),
   rw (list_all-append is_utf8 words (word ∷ []), w.1, is_utf8-from_IsUtf8 word text) refl,
 )
 

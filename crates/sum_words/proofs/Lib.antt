@@ -3,7 +3,7 @@ mod CommandLineLemmas
 mod PieceLemmas
 mod OptionLemmas
 mod WordLemmas
-mod ReadingLemmas
+mod RequestLemmas
 mod TextLemmas
 mod Rows
-mod PlainLemmas
+mod PlainWordLemmas

@@ -5,7 +5,7 @@ use Rattle.std.proofs.lemmas.Str.{IsCharBoundary-end, IsCharBoundary-start, IsCh
 use Rattle.std.proofs.lemmas.List.{take-append-le, drop-append-le, get_or_append_left}
 use Rattle.std.proofs.lemmas.Bool.{cases_lt, ltb-true}
 use Rattle.std.proofs.Math.Seq.{drop-append_seam, take-length}
-use Rattle.sum_words.specs.joins.Pieces.{pieces, CutsAt}
+use Rattle.sum_words.specs.joins.Pieces.{texts_cut, CutsAt}
 
 -- a place at which a text may be cut stays one when valid text is added
 boundary_longer : (text word : List ℕ) (i : ℕ) → IsUtf8 word → IsCharBoundary text i → IsCharBoundary (text ++ word) i
@@ -28,22 +28,22 @@ CutsAt-push text word from (end ∷ ends) valid cuts =
     (cuts.0, boundary_longer text word end valid cuts.1, CutsAt-push text word end ends valid cuts.2)
 
 -- and is the last piece
-pub pieces-push : (text word : List ℕ) (from : ℕ) (ends : List ℕ) → CutsAt text from ends →
-    pieces (text ++ word) from (ends ++ length (text ++ word) ∷ []) ≡ pieces text from ends ++ word ∷ []
-pieces-push text word from [] cuts =
+pub texts_cut-push : (text word : List ℕ) (from : ℕ) (ends : List ℕ) → CutsAt text from ends →
+    texts_cut (text ++ word) from (ends ++ length (text ++ word) ∷ []) ≡ texts_cut text from ends ++ word ∷ []
+texts_cut-push text word from [] cuts =
     let rest : drop from (text ++ word) ≡ word = rw cuts (drop-append_seam text word) in
     let size : length (text ++ word) - from ≡ length word = omega (arith, cuts, length-append text word) in
     ap (λ w. w ∷ []) (rw (rest, size) (take-length word))
-pieces-push text word from (end ∷ ends) cuts =
+texts_cut-push text word from (end ∷ ends) cuts =
     let fits : from ≤ length text = omega (arith, cuts.0, cuts.1.0) in
     let first : take (end - from) (drop from (text ++ word)) ≡ take (end - from) (drop from text) =
     rw (drop-append-le from text word fits)
     (take-append-le (end - from) (drop from text) word (omega (arith, length-drop from text, cuts.1.0))) in
-    rw (first, pieces-push text word end ends cuts.2) refl
+    rw (first, texts_cut-push text word end ends cuts.2) refl
 
-pub pieces-length : (text : List ℕ) (from : ℕ) (ends : List ℕ) → length (pieces text from ends) ≡ length ends
-pieces-length text from [] = refl
-pieces-length text from (end ∷ ends) = ap suc (pieces-length text end ends)
+pub texts_cut-length : (text : List ℕ) (from : ℕ) (ends : List ℕ) → length (texts_cut text from ends) ≡ length ends
+texts_cut-length text from [] = refl
+texts_cut-length text from (end ∷ ends) = ap suc (texts_cut-length text end ends)
 
 -- where the piece at a place is cut out of the text
 pub record PieceAt (text : List ℕ) (words : List (List ℕ)) (i start end : ℕ) : Type 0 where
@@ -53,19 +53,19 @@ pub record PieceAt (text : List ℕ) (words : List (List ℕ)) (i start end : �
   pub piece : slice_get words i ≡ Some (take (end - start) (drop start text))
 
 piece_at : (text : List ℕ) (from : ℕ) (ends : List ℕ) (i d : ℕ) → CutsAt text from ends → IsCharBoundary text from →
-    i < length ends → PieceAt text (pieces text from ends) i (get_or (from ∷ ends) i 0) (get_or ends i d)
+    i < length ends → PieceAt text (texts_cut text from ends) i (get_or (from ∷ ends) i 0) (get_or ends i d)
 piece_at text from [] i d cuts here less = absurd (omega (arith, less))
 piece_at text from (end ∷ ends) zero d cuts here less =
     record { order = cuts.0; start_cuts = here; end_cuts = cuts.1; piece = refl }
 piece_at text from (end ∷ ends) (suc i) d cuts here less =
-    let p : PieceAt text (pieces text end ends) i (get_or (end ∷ ends) i 0) (get_or ends i d) =
+    let p : PieceAt text (texts_cut text end ends) i (get_or (end ∷ ends) i 0) (get_or ends i d) =
     piece_at text end ends i d cuts.2 cuts.1 (omega (arith, less)) in
     record { order = p.order; start_cuts = p.start_cuts; end_cuts = p.end_cuts; piece = p.piece }
 
 -- the same of the values that a body read
 pub piece_read : (text now : List ℕ) (ends read : List ℕ) (i start end : ℕ) → now ≡ text → read ≡ ends →
     start ≡ get_or (0 ∷ read) i 0 → true ≡ ltb i (length read) → end ≡ get_or read i end → CutsAt text 0 ends →
-    IsUtf8 text → PieceAt now (pieces text 0 ends) i start end
+    IsUtf8 text → PieceAt now (texts_cut text 0 ends) i start end
 piece_read text now ends read i start end text_is ends_is start_is inside end_is cuts valid =
     rw (text_is, start_is, end_is, ends_is)
     (piece_at text 0 ends i end cuts (IsCharBoundary-start text valid)

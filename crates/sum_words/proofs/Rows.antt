@@ -12,7 +12,7 @@ use Rattle.sum_words.specs.declared.tool.Tool.TheVariants.{Md5sum, Sha256sum, B2
 use Rattle.sum_words.specs.declared.reading.Request.{Request}
 use Rattle.sum_words.specs.declared.reading.Request.TheVariants.{Work, Help, Version}
 use Rattle.sum_words.specs.declared.reading.Job.TheVariants.{Generate, Check}
-use Rattle.sum_words.specs.Faults.{Fault, unknown_long, ambiguous_long, value_not_allowed, value_missing, unknown_short, length_invalid, length_not_bytes, tag_with_text, zero_with_check, tag_with_check, mode_with_check, ignore_without_check, status_without_check, warn_without_check, quiet_without_check, strict_without_check, check_needed}
+use Rattle.sum_words.specs.Faults.{Fault, unknown_long, ambiguous_long, value_not_allowed, value_missing, unknown_short, length_invalid, length_not_bytes, tag_with_text, zero_with_check, tag_with_check, mode_with_check, without_check, check_needed}
 use Rattle.sum_words.specs.Items.{Text, resolved, lettered}
 use Rattle.sum_words.specs.Request.{request}
 
@@ -64,7 +64,7 @@ option_faults_1 : request Sha256sum (codes "--st" ∷ codes "l" ∷ []) ≡ Err 
 unfolding chars encode resolved lettered
 option_faults_1 = refl
 
-option_faults_2 : request Sha256sum (codes "--str" ∷ codes "l" ∷ []) ≡ Err strict_without_check
+option_faults_2 : request Sha256sum (codes "--str" ∷ codes "l" ∷ []) ≡ Err (without_check (codes "strict"))
 unfolding chars encode resolved lettered
 option_faults_2 = refl
 
@@ -72,7 +72,8 @@ option_faults_3 : request Sha256sum (codes "-cq" ∷ codes "l" ∷ []) ≡ Err (
 unfolding chars encode resolved lettered
 option_faults_3 = refl
 
-option_faults_4 : request Md5sum (codes "--status" ∷ codes "--quiet" ∷ codes "a" ∷ []) ≡ Err quiet_without_check
+option_faults_4 : request Md5sum (codes "--status" ∷ codes "--quiet" ∷ codes "a" ∷ [])
+    ≡ Err (without_check (codes "quiet"))
 unfolding chars encode resolved lettered
 option_faults_4 = refl
 
@@ -183,16 +184,16 @@ unfolding chars encode resolved lettered
 order_of_faults_3 = refl
 
 order_of_faults_4 : request Md5sum (codes "--strict" ∷ codes "--ignore-missing" ∷ codes "a" ∷ [])
-    ≡ Err ignore_without_check
+    ≡ Err (without_check (codes "ignore-missing"))
 unfolding chars encode resolved lettered
 order_of_faults_4 = refl
 
 order_of_faults_5 : request Md5sum (codes "--quiet" ∷ codes "-w" ∷ codes "--status" ∷ codes "a" ∷ [])
-    ≡ Err status_without_check
+    ≡ Err (without_check (codes "status"))
 unfolding chars encode resolved lettered
 order_of_faults_5 = refl
 
-order_of_faults_6 : request Md5sum (codes "--status" ∷ codes "-w" ∷ codes "a" ∷ []) ≡ Err warn_without_check
+order_of_faults_6 : request Md5sum (codes "--status" ∷ codes "-w" ∷ codes "a" ∷ []) ≡ Err (without_check (codes "warn"))
 unfolding chars encode resolved lettered
 order_of_faults_6 = refl
 
@@ -214,7 +215,7 @@ anysum_words_3 : request Anysum (codes "-b" ∷ codes "m" ∷ []) ≡ Err check_
 unfolding chars encode resolved lettered
 anysum_words_3 = refl
 
-anysum_words_4 : request Anysum (codes "--quiet" ∷ codes "m" ∷ []) ≡ Err quiet_without_check
+anysum_words_4 : request Anysum (codes "--quiet" ∷ codes "m" ∷ []) ≡ Err (without_check (codes "quiet"))
 unfolding chars encode resolved lettered
 anysum_words_4 = refl
 

@@ -7,7 +7,8 @@ use Rattle.digest_kinds.specs.Kinds.{tag}
 use Rattle.sum_words.specs.declared.tool.Tool.{Tool}
 use Rattle.sum_words.specs.Tools.{name_of, algos_of}
 use Rattle.sum_words.specs.Items.{Text}
-use Rattle.sum_words.specs.Texts.{lines_of, version, help, first_options, last_options, length_help}
+use Rattle.sum_words.specs.Texts.{version, purpose, length_help}
+use Rattle.sum_words.specs.joins.Shown.{lines_of}
 
 -- the two lines of a fault
 lines_parts : (name colon front shown back hint end : Text) →
@@ -28,34 +29,41 @@ pub version_parts : (t : Tool) (name : Text) → name ≡ name_of t →
     name ++ (codes " (digests), profile 2\n" ++ []) ≡ version t
 version_parts t name name_is = ap (λ n. n ++ codes " (digests), profile 2\n") name_is
 
--- the help text, of a tool with one algorithm, and of one without
-tagged_parts : (a b c d e f g h i : Text) →
-    a ++ (b ++ (c ++ (d ++ (e ++ (f ++ (g ++ (h ++ (i ++ [])))))))) ≡ a ++ b ++ c ++ (d ++ e ++ f) ++ g ++ h ++ i
-tagged_parts a b c d e f g h i = simp (append_assoc, append-nil)
+-- the help text, of a tool with one algorithm, and of one without; its options stand before and behind that of b2sum
+abbrev help_of : Tool → Text → Text → Text
+help_of t first last =
+    codes "Usage: " ++ name_of t ++ codes " [OPTION]... [FILE]...\n"
+    ++ purpose (algos_of t) ++ codes " With no FILE, or when FILE is -, read standard input.\n"
+    ++ first ++ length_help t ++ last
 
-untagged_parts : (a b c d e f g : Text) →
-    a ++ (b ++ (c ++ (d ++ (e ++ (f ++ (g ++ [])))))) ≡ a ++ b ++ c ++ d ++ e ++ f ++ g
-untagged_parts a b c d e f g = simp (append_assoc, append-nil)
+tagged_parts : (a b c d e f g h i j : Text) →
+    a ++ (b ++ (c ++ (d ++ (e ++ (f ++ (g ++ (h ++ (i ++ (j ++ [])))))))))
+    ≡ a ++ b ++ c ++ (d ++ e ++ f) ++ g ++ h ++ i ++ j
+tagged_parts a b c d e f g h i j = simp (append_assoc, append-nil)
 
-pub tagged_help : (t : Tool) (algo : Algo) (name tagged first length last : Text) → name ≡ name_of t →
-    One algo ≡ algos_of t → tagged ≡ tag algo → first ≡ first_options → length ≡ length_help t → last ≡ last_options →
+untagged_parts : (a b c d e f g h : Text) →
+    a ++ (b ++ (c ++ (d ++ (e ++ (f ++ (g ++ (h ++ []))))))) ≡ a ++ b ++ c ++ d ++ e ++ f ++ g ++ h
+untagged_parts a b c d e f g h = simp (append_assoc, append-nil)
+
+pub tagged_help : (t : Tool) (algo : Algo) (name tagged first length last first' last' : Text) → name ≡ name_of t →
+    One algo ≡ algos_of t → tagged ≡ tag algo → first ≡ first' → length ≡ length_help t → last ≡ last' →
     codes "Usage: " ++ (name ++ (codes " [OPTION]... [FILE]...\n"
-    ++ (codes "Print or check " ++ (tagged
-    ++ (codes " checksums. With no FILE, or when FILE is -, read standard input.\n"
-    ++ (first ++ (length ++ (last ++ [])))))))) ≡ help t
-tagged_help t algo name tagged first length last name_is algo_is tag_is first_is length_is last_is =
+    ++ (codes "Print or check " ++ (tagged ++ (codes " checksums."
+    ++ (codes " With no FILE, or when FILE is -, read standard input.\n"
+    ++ (first ++ (length ++ (last ++ []))))))))) ≡ help_of t first' last'
+tagged_help t algo name tagged first length last first' last' name_is algo_is tag_is first_is length_is last_is =
     rw (name_is, tag_is, first_is, length_is, last_is, ← algo_is)
     (tagged_parts (codes "Usage: ") (name_of t) (codes " [OPTION]... [FILE]...\n") (codes "Print or check ")
-    (tag algo) (codes " checksums. With no FILE, or when FILE is -, read standard input.\n") first_options
-    (length_help t) last_options)
+    (tag algo) (codes " checksums.") (codes " With no FILE, or when FILE is -, read standard input.\n") first'
+    (length_help t) last')
 
-pub untagged_help : (t : Tool) (name first length last : Text) → name ≡ name_of t → Any ≡ algos_of t →
-    first ≡ first_options → length ≡ length_help t → last ≡ last_options →
-    codes "Usage: " ++ (name ++ (codes " [OPTION]... [FILE]...\n"
-    ++ (codes "Check checksums of tagged lines. With no FILE, or when FILE is -, read standard input.\n"
-    ++ (first ++ (length ++ (last ++ [])))))) ≡ help t
-untagged_help t name first length last name_is algos_is first_is length_is last_is =
+pub untagged_help : (t : Tool) (name first length last first' last' : Text) → name ≡ name_of t → Any ≡ algos_of t →
+    first ≡ first' → length ≡ length_help t → last ≡ last' →
+    codes "Usage: " ++ (name ++ (codes " [OPTION]... [FILE]...\n" ++ (codes "Check checksums of tagged lines."
+    ++ (codes " With no FILE, or when FILE is -, read standard input.\n"
+    ++ (first ++ (length ++ (last ++ []))))))) ≡ help_of t first' last'
+untagged_help t name first length last first' last' name_is algos_is first_is length_is last_is =
     rw (name_is, first_is, length_is, last_is, ← algos_is)
     (untagged_parts (codes "Usage: ") (name_of t) (codes " [OPTION]... [FILE]...\n")
-    (codes "Check checksums of tagged lines. With no FILE, or when FILE is -, read standard input.\n")
-    first_options (length_help t) last_options)
+    (codes "Check checksums of tagged lines.") (codes " With no FILE, or when FILE is -, read standard input.\n")
+    first' (length_help t) last')

@@ -34,6 +34,7 @@ named_by word r e tool = (
 )
 
 -- the tool that is called so, and no other, has this name
-pub named : (word : List ℕ) (r : Option Tool) → r ≡ tool_called word → (tool : Tool) → (r ≡ Some tool) ↔ (name_of tool ≡ word)
+pub named : (word : List ℕ) (r : Option Tool) → r ≡ tool_called word → (tool : Tool) →
+    (r ≡ Some tool) ↔ (name_of tool ≡ word)
 unfolding tool_called
 named word r e tool = named_by word r (sym e) tool

@@ -1,5 +1,5 @@
 -- Cuts of one word.
-use Rattle.std.proofs.Common.{◌≡◌, ◌≢◌, ℕ, ◌+◌, true, false, List, [], ◌∷◌, ◌++◌, codes, Result, length, drop, Option, None, Some, refl, ap, sym, ◌∙◌, zero, suc, slice_get, eqb, MatchOption}
+use Rattle.std.proofs.Common.{◌≡◌, ◌≢◌, ℕ, ◌+◌, true, false, List, [], ◌∷◌, ◌++◌, codes, length, drop, Option, None, Some, refl, ap, sym, ◌∙◌, zero, suc, slice_get, eqb, MatchOption}
 use denote.Ref.{Bor}
 use Rattle.std.specs.List.{starts_with}
 use Rattle.std.specs.Str.{chars, encode_utf8_all, IsUtf8}
@@ -8,13 +8,13 @@ use Rattle.std.specs.Str.Pattern.{FindsTextPrefix}
 use Rattle.std.proofs.lemmas.Str.Pattern.{starts_text}
 use Rattle.std.proofs.lemmas.Str.{chars-nil, chars_past_char, encodes-chars}
 use Rattle.std.proofs.lemmas.List.{nil_from_length}
-use Rattle.std.proofs.lemmas.Bool.{cond-false}
+use Rattle.std.proofs.lemmas.Bool.{cond-false, eqb-true}
+use Rattle.std.proofs.Math.Bool.{and-true}
 use Rattle.sum_words.specs.declared.tool.Tool.{Tool}
 use Rattle.sum_words.specs.declared.options.Flag.{Flag}
 use Rattle.sum_words.specs.declared.options.Flag.TheVariants as flags
-use Rattle.sum_words.specs.Faults.{Fault}
-use Rattle.sum_words.specs.Items.{Text, attached, a_value, says, length_value, option, takes_value, lettered, cluster, resolved, long, long_word, name_part, value_part}
-use Rattle.sum_words.specs.joins.Walk.{IsBehind, full_name}
+use Rattle.sum_words.specs.Items.{Text, attached, a_value, a_word, length_value, option, takes_value, lettered, cluster}
+use Rattle.sum_words.specs.joins.Walk.{IsBehind, is_cluster, full_name}
 
 -- what stands behind a front
 pub behind_front : (front text : List ℕ) (r : Option (Bor (List ℕ))) →
@@ -29,6 +29,32 @@ pub first_char : (bs now xs ys : List ℕ) (c : ℕ) → IsUtf8 bs → xs ≡ bs
     chars bs ≡ c ∷ chars now
 first_char bs now xs ys c valid same rest first = rw rest (chars_past_char bs ys c valid (sym same ∙ first))
 
+-- a dash alone, and one with letters behind it
+begins_with : (b : ℕ) (bs : List ℕ) → starts_with eqb (b ∷ bs) (codes "-") ≡ true → b ≡ 45
+begins_with b bs h = sym (eqb-true 45 b (sym (and-true (eqb 45 b)) ∙ h))
+
+dash_alone : (word rest : List ℕ) → IsBehind (codes "-") word rest → rest ≡ [] → is_cluster word ≡ false
+dash_alone [] rest h none = refl
+dash_alone (b ∷ bs) rest h none = rw (begins_with b bs h.0, sym h.1 ∙ none) refl
+
+some_letters : (bs : List ℕ) (c : ℕ) (cs : List ℕ) → chars bs ≡ c ∷ cs → is_cluster (45 ∷ bs) ≡ true
+some_letters [] c cs some = let none : [] ≡ c ∷ cs = sym chars-nil ∙ some in cc
+some_letters (b ∷ bs) c cs some = refl
+
+dash_and_letters : (word rest : List ℕ) (c : ℕ) (cs : List ℕ) → IsBehind (codes "-") word rest →
+    chars rest ≡ c ∷ cs → (is_cluster word ≡ true) × (chars (drop 1 word) ≡ c ∷ cs)
+dash_and_letters [] rest c cs h some = let no : false ≡ true = h.0 in cc
+dash_and_letters (b ∷ bs) rest c cs h some =
+    let letters : chars bs ≡ c ∷ cs = ap chars (sym h.1) ∙ some in
+    (rw (begins_with b bs h.0) (some_letters bs c cs letters), letters)
+
+pub letters_behind : (word rest : List ℕ) (r : Option (ℕ × Bor (List ℕ))) → IsBehind (codes "-") word rest →
+    MatchOption r ((rest ≡ []) × (chars rest ≡ [])) (λ p. chars rest ≡ p.0 ∷ chars p.1.now) →
+    MatchOption r (is_cluster word ≡ false)
+    (λ p. (is_cluster word ≡ true) × (chars (drop 1 word) ≡ p.0 ∷ chars p.1.now))
+letters_behind word rest None h none = dash_alone word rest h none.0
+letters_behind word rest (Some p) h some = dash_and_letters word rest p.0 (chars p.1.now) h some
+
 -- a word at a place of a list
 pub drop_at_get : (xs : List Text) (i : ℕ) (x : Text) → Some x ≡ slice_get xs i → drop i xs ≡ x ∷ drop (suc i) xs
 drop_at_get [] i x e = cc
@@ -42,15 +68,15 @@ drop_past_get (y ∷ ys) zero e = cc
 drop_past_get (y ∷ ys) (suc i) e = drop_past_get ys i e
 
 -- a value in its own word, and none
-pub no_value : (bs : List ℕ) → length bs ≡ 0 → attached (chars bs) ≡ record { items = []; next = a_value false }
+pub no_value : (bs : List ℕ) → length bs ≡ 0 → attached (chars bs) ≡ ([], a_value false)
 no_value bs e = rw (nil_from_length bs e, chars-nil) refl
 
-pub own_value : (bs : List ℕ) → IsUtf8 bs → length bs ≢ 0 → attached (chars bs) ≡ says (length_value bs)
+pub own_value : (bs : List ℕ) → IsUtf8 bs → length bs ≢ 0 → attached (chars bs) ≡ (length_value bs ∷ [], a_word)
 own_value bs valid some =
     let whole : encode_utf8_all (chars bs) ≡ bs = encodes-chars bs valid in
-    elim (chars bs) as (λ cs. encode_utf8_all cs ≡ bs → attached cs ≡ says (length_value bs)) [
+    elim (chars bs) as (λ cs. encode_utf8_all cs ≡ bs → attached cs ≡ (length_value bs ∷ [], a_word)) [
       | [] ↦ λ w. absurd (some (ap length (sym w)))
-      | c ∷ cs ↦ λ w. ap (λ v. says (length_value v)) w
+      | c ∷ cs ↦ λ w. ap (λ v. (length_value v ∷ [], a_word)) w
     ] whole
 
 -- length alone takes a value
@@ -71,21 +97,16 @@ takes_none flags.Length other = absurd (other refl)
 
 -- the letter of length, with no value in its word, and with one
 pub letter_alone : (t : Tool) (c : ℕ) (bs : Text) → Some (codes "length") ≡ lettered t c → length bs ≡ 0 →
-    cluster t (c ∷ chars bs) ≡ record { items = []; next = a_value false }
+    cluster t (c ∷ chars bs) ≡ ([], a_value false)
 letter_alone t c bs is none = rw (← is) (no_value bs none)
 
 pub letter_with_value : (t : Tool) (c : ℕ) (bs : Text) → IsUtf8 bs → Some (codes "length") ≡ lettered t c →
-    length bs ≢ 0 → cluster t (c ∷ chars bs) ≡ says (length_value bs)
+    length bs ≢ 0 → cluster t (c ∷ chars bs) ≡ (length_value bs ∷ [], a_word)
 letter_with_value t c bs valid is some = rw (← is) (own_value bs valid some)
 
 -- any other letter
 pub letter_of_flag : (t : Tool) (c : ℕ) (cs : List ℕ) (flag : Flag) → flag ≢ flags.Length →
     Some (full_name flag) ≡ lettered t c →
-    cluster t (c ∷ cs) ≡ record { items = option (full_name flag) ∷ (cluster t cs).items; next = (cluster t cs).next }
+    cluster t (c ∷ cs) ≡ (option (full_name flag) ∷ (cluster t cs).0, (cluster t cs).1)
 letter_of_flag t c cs flag other is = rw (← is)
     (cond-false (takes_value (full_name flag)) (attached cs) _ (takes_none flag other))
-
--- a long word, of the name and the value that were read
-pub long_reads : (t : Tool) (text name : Text) (value : Option Text) (r : Result Text Fault) → name ≡ name_part text →
-    value ≡ value_part text → r ≡ resolved t name → long_word t text ≡ long r value
-long_reads t text name value r a b e = rw (e, a, b) refl

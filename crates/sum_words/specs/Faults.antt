@@ -1,6 +1,5 @@
--- What may be wrong with the words of a command line, in the order in which faults count. Each holds what its text
--- shows: a long option's name as it was typed, an option's full name, whether an option was long, a character, or a
--- value.
+-- What may be wrong with the words of a command line. Each holds what its text shows: a long option's name as it was
+-- typed, an option's full name, whether an option was long, a character, or a value.
 use Rattle.std.specs.Prelude.{ℕ, Bool, List}
 
 pub data Fault : Type 0 where
@@ -15,9 +14,5 @@ pub data Fault : Type 0 where
   zero_with_check : Fault
   tag_with_check : Fault
   mode_with_check : Fault
-  ignore_without_check : Fault
-  status_without_check : Fault
-  warn_without_check : Fault
-  quiet_without_check : Fault
-  strict_without_check : Fault
+  without_check : List ℕ → Fault
   check_needed : Fault

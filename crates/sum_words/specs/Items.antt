@@ -1,7 +1,7 @@
 -- What the words of a command line say, one by one: options by their full names, length values, operands, and at most
 -- one fault, with which the list ends.
-use Rattle.std.specs.Prelude.{ℕ, ◌==◌, Bool, true, false, List, [], ◌∷◌, ◌++◌, map, drop, length, Option, None, Some, Result, Ok, Err, codes, if◌then◌else◌, eqb, nat_lt}
-use Rattle.std.specs.List.{filter, filter_map, list_any, starts_with, before_first, after_first, position_or_len}
+use Rattle.std.specs.Prelude.{ℕ, ◌+◌, ◌==◌, ◌&&◌, not, Bool, true, false, List, [], ◌∷◌, ◌++◌, map, drop, Option, None, Some, Result, Ok, Err, codes, if◌then◌else◌, eqb, option_map, filter, find, position}
+use Rattle.std.specs.List.{list_any, starts_with, before_first}
 use Rattle.std.specs.Str.{byte, bytes_eq, chars, encode_utf8_all}
 use Rattle.sum_words.specs.declared.tool.Tool.{Tool}
 use Rattle.sum_words.specs.declared.tool.Tool.TheVariants as tools
@@ -30,141 +30,104 @@ common =
     ∷ (codes "", codes "strict")
     ∷ (codes "w", codes "warn")
     ∷ (codes "", codes "help")
-    ∷ (codes "", codes "version")
-    ∷ []
+    ∷ (codes "", codes "version") ∷ []
 
 -- b2sum has one more, which alone takes a value
-abbrev pub own : Tool → List (Text × Text)
-own tools.B2sum = (codes "l", codes "length") ∷ []
-own t = []
-
 abbrev pub table : Tool → List (Text × Text)
-table t = common ++ own t
+table tools.B2sum = common ++ (codes "l", codes "length") ∷ []
+table t = common
 
 abbrev pub takes_value : Text → Bool
 takes_value full = bytes_eq full (codes "length")
 
--- how the word behind this one is read: as it stands, as a value (of a long option, or of a short one), as an operand
--- like all behind it, or not at all
+-- what a word says by itself, and how the next one is read: as it stands, as the value of an option (which was long,
+-- or not), or not at all
 pub data Next : Type 0 where
   a_word : Next
   a_value : Bool → Next
-  operands : Next
-  nothing : Next
+  no_word : Next
 
--- what a word says by itself, and how the next one is read
-pub record Read : Type 0 where
-  pub items : List Item
-  pub next : Next
-
-abbrev pub says : Item → Read
-says x = record { items = x ∷ []; next = a_word }
-
-abbrev pub stops : Fault → Read
-stops f = record { items = fault f ∷ []; next = nothing }
-
-abbrev pub wants_value : Bool → Read
-wants_value is_long = record { items = []; next = a_value is_long }
+abbrev pub Read : Type 0
+Read = List Item × Next
 
 -- A long option: its name goes up to the first '=', and a value stands behind that.
-abbrev pub is_equals : ℕ → Bool
-is_equals b = b == byte "="
-
 abbrev pub name_part : Text → Text
-name_part text = before_first is_equals text
+name_part text = before_first (λ b. b == byte "=") text
 
 abbrev pub value_part : Text → Option Text
-value_part text =
-    if nat_lt (position_or_len is_equals text) (length text) then Some (after_first is_equals text) else None
+value_part text = option_map (λ i. drop (i + 1) text) (position (λ b. b == byte "=") text)
 
--- the full names that a name may mean: itself, where it is one of them, or else those that it begins
-abbrev pub names : Tool → List Text
-names t = map (λ row. row.1) (table t)
+-- whether a name is among these
+abbrev pub has : Text → List Text → Bool
+has name names = list_any (bytes_eq name) names
 
-abbrev pub is_full : Text → Text → Bool
-is_full name full = bytes_eq full name
-
-abbrev pub is_begun_by : Text → Text → Bool
-is_begun_by name full = starts_with eqb full name
-
-abbrev pub meant : Text → List Text → List Text
-meant name fulls = if list_any (is_full name) fulls then name ∷ [] else filter (is_begun_by name) fulls
-
--- the one that it means
+-- the option that a name means: the one that has it in full, or else the only one that begins with it
 abbrev pub the_one : Text → List Text → Result Text Fault
 the_one name [] = Err (unknown_long name)
 the_one name (full ∷ []) = Ok full
-the_one name (one ∷ other ∷ more) = Err (ambiguous_long name)
+the_one name fulls = Err (ambiguous_long name)
 
 unfoldable pub resolved : Tool → Text → Result Text Fault
-resolved t name = the_one name (meant name (names t))
+resolved t name =
+    let fulls = map (λ row. row.1) (table t) in
+    if has name fulls then Ok name else the_one name (filter (λ full. starts_with eqb full name) fulls)
 
 abbrev pub long : Result Text Fault → Option Text → Read
-long (Err f) value = stops f
-long (Ok full) None = if takes_value full then wants_value true else says (option full)
-long (Ok full) (Some value) = if takes_value full then says (length_value value) else stops (value_not_allowed full)
+long (Err f) value = (fault f ∷ [], no_word)
+long (Ok full) None = if takes_value full then ([], a_value true) else (option full ∷ [], a_word)
+long (Ok full) (Some value) =
+    if takes_value full then (length_value value ∷ [], a_word) else (fault (value_not_allowed full) ∷ [], no_word)
 
--- A cluster: its characters are options one by one, and the rest of the word is a value where one takes it.
-abbrev pub is_letter : ℕ → Text → Bool
-is_letter c [] = false
-is_letter c (l ∷ ls) = c == l
-
--- the option of a letter
-abbrev pub short : List (Text × Text) → ℕ → Option Text
-short [] c = None
-short (row ∷ rows) c = if is_letter c row.0 then Some row.1 else short rows c
-
+-- A cluster: its characters are options one by one, by their letters. The rest of the word is a value where one takes
+-- it and something is left.
 unfoldable pub lettered : Tool → ℕ → Option Text
-lettered t c = short (table t) c
+lettered t c = option_map (λ row. row.1) (find (λ row. bytes_eq row.0 (c ∷ [])) (table t))
 
--- the value of a short option: the rest of its word, where that isn't empty
 abbrev pub attached : List ℕ → Read
-attached [] = wants_value false
-attached (c ∷ cs) = says (length_value (encode_utf8_all (c ∷ cs)))
+attached [] = ([], a_value false)
+attached cs = (length_value (encode_utf8_all cs) ∷ [], a_word)
 
-abbrev pub letter : ℕ → Option Text → List ℕ → Read → Read
-letter c None cs rest = stops (unknown_short c)
-letter c (Some full) cs rest =
-    if takes_value full then attached cs else record { items = option full ∷ rest.items; next = rest.next }
+abbrev pub letter_then : ℕ → Option Text → List ℕ → Read → Read
+letter_then c None cs rest = (fault (unknown_short c) ∷ [], no_word)
+letter_then c (Some full) cs rest = if takes_value full then attached cs else (option full ∷ rest.0, rest.1)
 
 abbrev pub cluster : Tool → List ℕ → Read
-cluster t [] = record { items = []; next = a_word }
-cluster t (c ∷ cs) = letter c (lettered t c) cs (cluster t cs)
+cluster t [] = ([], a_word)
+cluster t (c ∷ cs) = letter_then c (lettered t c) cs (cluster t cs)
 
--- A whole word: "--" ends the options, what else begins with "--" is a long option, what else begins with '-' is a
--- cluster, unless nothing stands behind the dash, and any other word is an operand.
-abbrev pub long_word : Tool → Text → Read
-long_word t text = long (resolved t (name_part text)) (value_part text)
-
-abbrev pub dash_word : Tool → Text → List ℕ → Read
-dash_word t word [] = says (operand word)
-dash_word t word (c ∷ cs) = cluster t (c ∷ cs)
-
+-- A word that begins with "--" is a long option, what else begins with '-' is a cluster, unless it is a dash alone, and
+-- any other word is an operand.
 abbrev pub read_word : Tool → Text → Read
 read_word t word =
-    if bytes_eq word (codes "--") then record { items = []; next = operands }
-    else (if starts_with eqb word (codes "--") then long_word t (drop 2 word)
-    else (if starts_with eqb word (codes "-") then dash_word t word (chars (drop 1 word))
-    else says (operand word)))
+    if starts_with eqb word (codes "--") then long (resolved t (name_part (drop 2 word))) (value_part (drop 2 word))
+    else if starts_with eqb word (codes "-") && not (bytes_eq word (codes "-")) then cluster t (chars (drop 1 word))
+    else (operand word ∷ [], a_word)
 
--- all words
+-- all words; those behind "--" are operands
 abbrev pub items_from : Tool → Next → List Text → List Item
-items_from t nothing words = []
-items_from t operands words = map operand words
+items_from t no_word words = []
 items_from t a_word [] = []
-items_from t a_word (w ∷ ws) = (read_word t w).items ++ items_from t (read_word t w).next ws
+items_from t a_word (w ∷ ws) =
+    if bytes_eq w (codes "--") then map operand ws
+    else (read_word t w).0 ++ items_from t (read_word t w).1 ws
 items_from t (a_value is_long) [] = fault (value_missing is_long) ∷ []
 items_from t (a_value is_long) (w ∷ ws) = length_value w ∷ items_from t a_word ws
 
 abbrev pub items : Tool → List Text → List Item
 items t words = items_from t a_word words
 
--- the operands among the items
-abbrev pub operand_of : Item → Option Text
-operand_of (option full) = None
-operand_of (length_value value) = None
-operand_of (operand word) = Some word
-operand_of (fault f) = None
+-- the full names of the options among the items, the length values, and the operands, each in their order
+abbrev pub options_of : List Item → List Text
+options_of [] = []
+options_of (option full ∷ xs) = full ∷ options_of xs
+options_of (x ∷ xs) = options_of xs
+
+abbrev pub values_of : List Item → List Text
+values_of [] = []
+values_of (length_value value ∷ xs) = value ∷ values_of xs
+values_of (x ∷ xs) = values_of xs
 
 abbrev pub operands_of : List Item → List Text
-operands_of xs = filter_map operand_of xs
+operands_of [] = []
+operands_of (operand word ∷ xs) = word ∷ operands_of xs
+operands_of (x ∷ xs) = operands_of xs

@@ -11,53 +11,46 @@ use Rattle.sum_words.specs.declared.tool.Tool.{Tool}
 use Rattle.sum_words.specs.declared.tool.Tool.TheVariants as tools
 use Rattle.sum_words.specs.Tools.{name_of, algos_of}
 use Rattle.sum_words.specs.Items.{Text}
-use Rattle.sum_words.specs.Faults.{Fault, unknown_long, ambiguous_long, value_not_allowed, value_missing, unknown_short, length_invalid, length_not_bytes, tag_with_text, zero_with_check, tag_with_check, mode_with_check, ignore_without_check, status_without_check, warn_without_check, quiet_without_check, strict_without_check, check_needed}
+use Rattle.sum_words.specs.Faults.{Fault, unknown_long, ambiguous_long, value_not_allowed, value_missing, unknown_short, length_invalid, length_not_bytes, tag_with_text, zero_with_check, tag_with_check, mode_with_check, without_check, check_needed}
 
--- a fault: what a text shows of the words is escaped as names are
-abbrev pub fault_text : Fault → Text
-fault_text (unknown_long name) = codes "unrecognized option '--" ++ escape name ++ codes "'"
-fault_text (ambiguous_long name) = codes "option '--" ++ escape name ++ codes "' is ambiguous"
-fault_text (value_not_allowed full) = codes "option '--" ++ full ++ codes "' doesn't allow an argument"
-fault_text (value_missing true) = codes "option '--length' requires an argument"
-fault_text (value_missing false) = codes "option requires an argument -- 'l'"
-fault_text (unknown_short c) = codes "invalid option -- '" ++ escape (encode_utf8 c) ++ codes "'"
-fault_text (length_invalid value) = codes "invalid length: '" ++ escape value ++ codes "'"
-fault_text (length_not_bytes value) = codes "length is not a multiple of 8: '" ++ escape value ++ codes "'"
-fault_text tag_with_text = codes "--tag does not support --text mode"
-fault_text zero_with_check = codes "the --zero option is not supported when verifying checksums"
-fault_text tag_with_check = codes "the --tag option is meaningless when verifying checksums"
-fault_text mode_with_check = codes "the --binary and --text options are meaningless when verifying checksums"
-fault_text ignore_without_check = codes "the --ignore-missing option is meaningful only when verifying checksums"
-fault_text status_without_check = codes "the --status option is meaningful only when verifying checksums"
-fault_text warn_without_check = codes "the --warn option is meaningful only when verifying checksums"
-fault_text quiet_without_check = codes "the --quiet option is meaningful only when verifying checksums"
-fault_text strict_without_check = codes "the --strict option is meaningful only when verifying checksums"
-fault_text check_needed = codes "--check is required"
-
-abbrev pub lines_of : Text → Text → Text
-lines_of name text = name ++ codes ": " ++ text ++ codes "\nTry '" ++ name ++ codes " --help' for more information.\n"
+-- a fault: what its text shows of the words is escaped as names are
+abbrev pub wording : Fault → Text
+wording (unknown_long name) = codes "unrecognized option '--" ++ escape name ++ codes "'"
+wording (ambiguous_long name) = codes "option '--" ++ escape name ++ codes "' is ambiguous"
+wording (value_not_allowed full) = codes "option '--" ++ full ++ codes "' doesn't allow an argument"
+wording (value_missing true) = codes "option '--length' requires an argument"
+wording (value_missing false) = codes "option requires an argument -- 'l'"
+wording (unknown_short c) = codes "invalid option -- '" ++ escape (encode_utf8 c) ++ codes "'"
+wording (length_invalid value) = codes "invalid length: '" ++ escape value ++ codes "'"
+wording (length_not_bytes value) = codes "length is not a multiple of 8: '" ++ escape value ++ codes "'"
+wording tag_with_text = codes "--tag does not support --text mode"
+wording zero_with_check = codes "the --zero option is not supported when verifying checksums"
+wording tag_with_check = codes "the --tag option is meaningless when verifying checksums"
+wording mode_with_check = codes "the --binary and --text options are meaningless when verifying checksums"
+wording (without_check full) = codes "the --" ++ full ++ codes " option is meaningful only when verifying checksums"
+wording check_needed = codes "--check is required"
 
 abbrev pub fault_lines : Tool → Fault → Text
-fault_lines t f = lines_of (name_of t) (fault_text f)
+fault_lines t f =
+    name_of t ++ codes ": " ++ wording f ++ codes "\nTry '" ++ name_of t ++ codes " --help' for more information.\n"
 
 -- help: what the tool is for, and its options
 abbrev pub purpose : Algos → Text
-purpose (One algo) =
-    codes "Print or check " ++ tag algo ++ codes " checksums. With no FILE, or when FILE is -, read standard input.\n"
-purpose Any = codes "Check checksums of tagged lines. With no FILE, or when FILE is -, read standard input.\n"
+purpose (One algo) = codes "Print or check " ++ tag algo ++ codes " checksums."
+purpose Any = codes "Check checksums of tagged lines."
 
 abbrev pub length_help : Tool → Text
 length_help tools.B2sum = codes "  -l, --length=BITS     digest length in bits, a multiple of 8, at most 512\n"
 length_help t = []
 
-abbrev pub first_options : Text
-first_options =
-    codes "  -b, --binary          mark each line as binary\n"
-    ++ codes "  -c, --check           read checksums from the FILEs and check them\n"
-
-abbrev pub last_options : Text
-last_options =
-    codes "      --tag             write lines of the tagged form\n"
+abbrev pub help : Tool → Text
+help t =
+    codes "Usage: " ++ name_of t ++ codes " [OPTION]... [FILE]...\n"
+    ++ purpose (algos_of t) ++ codes " With no FILE, or when FILE is -, read standard input.\n"
+    ++ (codes "  -b, --binary          mark each line as binary\n"
+    ++ codes "  -c, --check           read checksums from the FILEs and check them\n")
+    ++ length_help t
+    ++ (codes "      --tag             write lines of the tagged form\n"
     ++ codes "  -t, --text            mark each line as text (default)\n"
     ++ codes "  -z, --zero            end each line with NUL and escape no name\n"
     ++ codes "      --ignore-missing  with -c: neither fail nor report for missing files\n"
@@ -66,15 +59,7 @@ last_options =
     ++ codes "      --strict          with -c: fail for improperly formatted lines\n"
     ++ codes "  -w, --warn            with -c: name each improperly formatted line\n"
     ++ codes "      --help            print this text\n"
-    ++ codes "      --version         print the version\n"
-
-abbrev pub help : Tool → Text
-help t =
-    codes "Usage: " ++ name_of t ++ codes " [OPTION]... [FILE]...\n"
-    ++ purpose (algos_of t)
-    ++ first_options
-    ++ length_help t
-    ++ last_options
+    ++ codes "      --version         print the version\n")
 
 abbrev pub version : Tool → Text
 version t = name_of t ++ codes " (digests), profile 2\n"

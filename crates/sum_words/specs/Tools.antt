@@ -8,27 +8,22 @@ use Rattle.digest_kinds.specs.declared.algo.Algos.TheVariants.{One, Any}
 use Rattle.sum_words.specs.declared.tool.Tool.{Tool}
 use Rattle.sum_words.specs.declared.tool.Tool.TheVariants as tools
 
--- the name by which a tool is called
-abbrev pub name_of : Tool → List ℕ
-name_of tools.Md5sum = codes "md5sum"
-name_of tools.Sha1sum = codes "sha1sum"
-name_of tools.Sha224sum = codes "sha224sum"
-name_of tools.Sha256sum = codes "sha256sum"
-name_of tools.Sha384sum = codes "sha384sum"
-name_of tools.Sha512sum = codes "sha512sum"
-name_of tools.B2sum = codes "b2sum"
-name_of tools.Anysum = codes "anysum"
+-- each tool's name, and the algorithm whose digests it writes and checks; anysum checks those of any
+abbrev pub name_and_algos : Tool → List ℕ × Algos
+name_and_algos tools.Md5sum = (codes "md5sum", One Md5)
+name_and_algos tools.Sha1sum = (codes "sha1sum", One Sha1)
+name_and_algos tools.Sha224sum = (codes "sha224sum", One Sha224)
+name_and_algos tools.Sha256sum = (codes "sha256sum", One Sha256)
+name_and_algos tools.Sha384sum = (codes "sha384sum", One Sha384)
+name_and_algos tools.Sha512sum = (codes "sha512sum", One Sha512)
+name_and_algos tools.B2sum = (codes "b2sum", One Blake2b)
+name_and_algos tools.Anysum = (codes "anysum", Any)
 
--- the algorithm whose digests a tool writes and checks; anysum checks those of any
+abbrev pub name_of : Tool → List ℕ
+name_of t = (name_and_algos t).0
+
 abbrev pub algos_of : Tool → Algos
-algos_of tools.Md5sum = One Md5
-algos_of tools.Sha1sum = One Sha1
-algos_of tools.Sha224sum = One Sha224
-algos_of tools.Sha256sum = One Sha256
-algos_of tools.Sha384sum = One Sha384
-algos_of tools.Sha512sum = One Sha512
-algos_of tools.B2sum = One Blake2b
-algos_of tools.Anysum = Any
+algos_of t = (name_and_algos t).1
 
 -- the test by which a tool is looked for
 abbrev pub is_called : List ℕ → Tool → Bool

@@ -51,8 +51,8 @@ pub fn read_command_line<A: Allocator + Copy, G: Arguments>(
     }
 }
 
-// The argument at this place, `None` past the last. It is copied to the page, or where it is longer to the vector, which
-// grows for it.
+// The argument at this place, `None` past the last. It is copied to the page, or where it is longer to the vector,
+// which grows for it.
 fn argument<'a, A: Allocator, G: Arguments>(
     arguments: &G,
     place: usize,

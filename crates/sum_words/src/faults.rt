@@ -2,10 +2,10 @@
 //! doesn't know, and for a run that stopped.
 ghost use Rattle.std.specs.Prelude.{◌≡◌, ◌++◌};
 ghost use Rattle.sum_lines.specs.Sinks.{Writes};
-ghost use Rattle.sum_lines.specs.Parts.{part_text};
+ghost use Rattle.sum_lines.specs.joins.PartTexts.{part_text};
 ghost use Rattle.sum_words.specs.joins.Walk.{fault_of};
-ghost use Rattle.sum_words.specs.joins.Shown.{shown_text};
-ghost use Rattle.sum_words.specs.Texts.{fault_text, fault_lines, lines_of, unknown_tool, stop_text, stop_line};
+ghost use Rattle.sum_words.specs.joins.Shown.{shown_text, lines_of};
+ghost use Rattle.sum_words.specs.Texts.{wording, fault_lines, unknown_tool, stop_text, stop_line};
 
 use crate::tool::Tool;
 use sum_engine::Stop;
@@ -98,10 +98,12 @@ fn put_lines<'a, E: Sink>(
     put_parts(err, &[name, colon, front, shown, back, hint, name, end])
 }
 
+const NEEDS_CHECK: &str = " option is meaningful only when verifying checksums";
+
 // A fault's text: what stands before what it shows of the words, that, and what stands behind it.
 #[rattlefmt::skip]
 fn wording<'a>(fault: &WordFault<'a>) -> (&'static str, Shown<'a>, &'static str)
-    ensures { result.0.now ++ shown_text result.1 ++ result.2.now ≡ fault_text (fault_of fault.now) }
+    ensures { result.0.now ++ shown_text result.1 ++ result.2.now ≡ wording (fault_of fault.now) }
 {
     match *fault {
         WordFault::UnknownLong(name) => ("unrecognized option '--", Shown::Typed(name), "'"),
@@ -119,16 +121,11 @@ fn wording<'a>(fault: &WordFault<'a>) -> (&'static str, Shown<'a>, &'static str)
             ("the --tag option is meaningless when verifying checksums", Shown::Nothing, ""),
         WordFault::ModeWithCheck =>
             ("the --binary and --text options are meaningless when verifying checksums", Shown::Nothing, ""),
-        WordFault::IgnoreWithoutCheck =>
-            ("the --ignore-missing option is meaningful only when verifying checksums", Shown::Nothing, ""),
-        WordFault::StatusWithoutCheck =>
-            ("the --status option is meaningful only when verifying checksums", Shown::Nothing, ""),
-        WordFault::WarnWithoutCheck =>
-            ("the --warn option is meaningful only when verifying checksums", Shown::Nothing, ""),
-        WordFault::QuietWithoutCheck =>
-            ("the --quiet option is meaningful only when verifying checksums", Shown::Nothing, ""),
-        WordFault::StrictWithoutCheck =>
-            ("the --strict option is meaningful only when verifying checksums", Shown::Nothing, ""),
+        WordFault::IgnoreWithoutCheck => ("the --", Shown::FullName("ignore-missing"), NEEDS_CHECK),
+        WordFault::StatusWithoutCheck => ("the --", Shown::FullName("status"), NEEDS_CHECK),
+        WordFault::WarnWithoutCheck => ("the --", Shown::FullName("warn"), NEEDS_CHECK),
+        WordFault::QuietWithoutCheck => ("the --", Shown::FullName("quiet"), NEEDS_CHECK),
+        WordFault::StrictWithoutCheck => ("the --", Shown::FullName("strict"), NEEDS_CHECK),
         WordFault::CheckNeeded => ("--check is required", Shown::Nothing, ""),
     }
 }

@@ -1,11 +1,12 @@
 //! What the words say, item by item.
-ghost use Rattle.std.specs.Prelude.{◌≡◌, List, ℕ, [], ◌∷◌, Bool, MatchOption, drop, true, false, codes, eqb};
+ghost use Rattle.std.specs.Prelude.{◌≡◌, List, ℕ, [], ◌∷◌, MatchOption, drop, true, false, codes, eqb};
 ghost use Rattle.std.specs.Option.{option_copied};
 ghost use Rattle.std.specs.List.{starts_with};
 ghost use Rattle.std.specs.Str.{chars};
-ghost use Rattle.sum_words.specs.Items.{name_part, value_part, long_word, dash_word, read_word, cluster, operands_of};
-ghost use Rattle.sum_words.specs.Items.{items};
-ghost use Rattle.sum_words.specs.joins.Walk.{to_come, read_then, step_says, item_of, Takes, TakesWord, IsBehind};
+ghost use Rattle.sum_words.specs.Items.{a_word, name_part, value_part, long, resolved, read_word, cluster};
+ghost use Rattle.sum_words.specs.Items.{items, items_from, operands_of};
+ghost use Rattle.sum_words.specs.joins.Walk.{items_to_come, read_then, step_says, item_of, TakesFirst, TakesWord};
+ghost use Rattle.sum_words.specs.joins.Walk.{IsBehind, is_cluster};
 ghost use Rattle.sum_words.specs.declared.tool.Tool.{Tool};
 
 use crate::faults::WordFault;
@@ -38,7 +39,7 @@ pub struct Items<'a> {
 enum State<'a> {
     Word,
     Cluster(char, &'a str),
-    Operands,
+    OnlyOperands,
     Ended,
 }
 
@@ -48,17 +49,17 @@ enum State<'a> {
 enum Step<'a> {
     Say(Item<'a>, State<'a>),
     Value(bool),
-    Operands,
+    OnlyOperands,
 }
 
 impl<'a> Model for Items<'a> {
     ghost use Rattle.std.specs.Prelude.{List, drop};
     ghost use Rattle.sum_words.specs.Items.{Item};
-    ghost use Rattle.sum_words.specs.joins.Walk.{to_come};
+    ghost use Rattle.sum_words.specs.joins.Walk.{items_to_come};
 
     ghost Value = { List Item };
 
-    ghost view = { λ i. to_come i.tool i.state (drop i.at i.words) };
+    ghost view = { λ i. items_to_come i.tool i.state (drop i.at i.words) };
 }
 
 impl<'a> Items<'a> {
@@ -76,11 +77,11 @@ impl<'a> Items<'a> {
 
     /// Takes the first item that is left; `None` where none is left.
     pub fn next(&mut self) -> Option<Item<'a>>
-        ensures { Takes item_of self.old result self.new }
+        ensures { TakesFirst item_of self.old result self.new }
     {
         let step = match self.state {
             State::Ended => return None,
-            State::Operands => Step::Operands,
+            State::OnlyOperands => Step::OnlyOperands,
             State::Cluster(letter, rest) => letter_step(self.tool, letter, rest),
             State::Word => word_step(self.tool, take_word(&self.words, &mut self.at)?),
         };
@@ -105,8 +106,8 @@ fn say<'a>(
     state: &mut State<'a>,
     step: Step<'a>,
 ) -> Option<Item<'a>>
-    ensures { Takes item_of (step_says tool step.entry (drop at.old words.now))
-        result (to_come tool state.new (drop at.new words.now)) }
+    ensures { TakesFirst item_of (step_says tool step.entry (drop at.old words.now))
+        result (items_to_come tool state.new (drop at.new words.now)) }
 {
     match step {
         Step::Say(item, next) => {
@@ -123,8 +124,8 @@ fn say<'a>(
                 Some(Item::Fault(WordFault::ValueMissing(is_long)))
             }
         },
-        Step::Operands => {
-            *state = State::Operands;
+        Step::OnlyOperands => {
+            *state = State::OnlyOperands;
             Some(Item::Operand(take_word(words, at)?))
         }
     }
@@ -132,27 +133,15 @@ fn say<'a>(
 
 // What a whole word makes of reading.
 fn word_step<'a>(tool: Tool, word: &'a str) -> Step<'a>
-    ensures { (ws : List (List ℕ)) → step_says tool result ws
-        ≡ read_then tool (read_word tool word.now) ws }
+    ensures { (ws : List (List ℕ)) → step_says tool result ws ≡ items_from tool a_word (word.now ∷ ws) }
 {
     if word == "--" {
-        return Step::Operands;
+        return Step::OnlyOperands;
     }
     if let Some(text) = behind("--", word) {
         return long_step(tool, text);
     }
-    match behind("-", word) {
-        Some(letters) => dash_step(tool, word, letters),
-        None => Step::Say(Item::Operand(word), State::Word),
-    }
-}
-
-// What a word that begins with one dash makes of reading.
-fn dash_step<'a>(tool: Tool, word: &'a str, letters: &'a str) -> Step<'a>
-    ensures { (ws : List (List ℕ)) → step_says tool result ws
-        ≡ read_then tool (dash_word tool word.now (chars letters.now)) ws }
-{
-    match first(letters) {
+    match letters_of(word) {
         Some((letter, rest)) => letter_step(tool, letter, rest),
         None => Step::Say(Item::Operand(word), State::Word),
     }
@@ -161,7 +150,7 @@ fn dash_step<'a>(tool: Tool, word: &'a str, letters: &'a str) -> Step<'a>
 // What a long option makes of reading, its two dashes left out.
 fn long_step<'a>(tool: Tool, text: &'a str) -> Step<'a>
     ensures { (ws : List (List ℕ)) → step_says tool result ws
-        ≡ read_then tool (long_word tool text.now) ws }
+        ≡ read_then tool (long (resolved tool (name_part text.now)) (value_part text.now)) ws }
 {
     let (name, value) = name_and_value(text);
     let flag = match Flag::of_name(tool, name) {
@@ -199,7 +188,7 @@ fn letter_step<'a>(tool: Tool, letter: char, rest: &'a str) -> Step<'a>
 
 // How reading goes on with the rest of a cluster.
 fn rest_of_cluster(letters: &str) -> State<'_>
-    ensures { (t : Tool) (ws : List (List ℕ)) → to_come t result ws
+    ensures { (t : Tool) (ws : List (List ℕ)) → items_to_come t result ws
         ≡ read_then t (cluster t (chars letters.now)) ws }
 {
     match first(letters) {
@@ -208,9 +197,18 @@ fn rest_of_cluster(letters: &str) -> State<'_>
     }
 }
 
-// The first character of a text, and what stands behind it.
+// The letters of a cluster, the first and those behind it; `None` where the word is none.
+fn letters_of(word: &str) -> Option<(char, &str)>
+    ensures { MatchOption result (is_cluster word.now ≡ false)
+        (λ p. (is_cluster word.now ≡ true) × (chars (drop 1 word.now) ≡ p.0 ∷ chars p.1.now)) }
+{
+    first(behind("-", word)?)
+}
+
+// The first character of a text, and what stands behind it; `None` where it is empty.
 fn first(text: &str) -> Option<(char, &str)>
-    ensures { MatchOption result (chars text.now ≡ []) (λ p. chars text.now ≡ p.0 ∷ chars p.1.now) }
+    ensures { MatchOption result ((text.now ≡ []) × (chars text.now ≡ []))
+        (λ p. chars text.now ≡ p.0 ∷ chars p.1.now) }
 {
     let mut rest = text.chars();
     let letter = rest.next()?;
@@ -263,7 +261,7 @@ impl<'a> Operands<'a> {
 
     /// Takes the first operand that is left; `None` where none is left.
     pub fn next(&mut self) -> Option<&'a str>
-        ensures { Takes (λ word. word.now) self.old result self.new }
+        ensures { TakesFirst (λ word. word.now) self.old result self.new }
     {
         while let Some(item) = self.items.next() {
             if let Item::Operand(word) = item {

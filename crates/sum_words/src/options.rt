@@ -1,9 +1,10 @@
 //! The options of the tools, by name and by letter (coreutils manual, "md5sum invocation" and "b2sum invocation").
-ghost use Rattle.std.specs.Prelude.{◌≡◌, map};
+ghost use Rattle.std.specs.Prelude.{◌≡◌, map, eqb, find};
 ghost use Rattle.std.specs.Option.{option_map};
-ghost use Rattle.std.specs.List.{filter};
-ghost use Rattle.sum_words.specs.Items.{names, takes_value, lettered, the_one, resolved, is_begun_by};
-ghost use Rattle.sum_words.specs.joins.Walk.{full_name, named, resolution};
+ghost use Rattle.std.specs.List.{filter, starts_with};
+ghost use Rattle.std.specs.Str.{bytes_eq};
+ghost use Rattle.sum_words.specs.Items.{table, takes_value, lettered, the_one, resolved};
+ghost use Rattle.sum_words.specs.joins.Walk.{row_of, full_name, letter_text, has_letter, resolution};
 
 use crate::faults::WordFault;
 use crate::tool::Tool;
@@ -43,25 +44,34 @@ static FLAGS: [Flag; 13] = [
 ];
 
 impl Flag {
+    // The table of the options: the letter, where there is one, and the full name.
+    fn row(self) -> (Option<char>, &'static str)
+        ensures letter { letter_text result.0 ≡ (row_of self).0 }
+        ensures name { result.1.now ≡ full_name self }
+    {
+        match self {
+            Flag::Binary => (Some('b'), "binary"),
+            Flag::Check => (Some('c'), "check"),
+            Flag::Tag => (None, "tag"),
+            Flag::Text => (Some('t'), "text"),
+            Flag::Zero => (Some('z'), "zero"),
+            Flag::IgnoreMissing => (None, "ignore-missing"),
+            Flag::Quiet => (None, "quiet"),
+            Flag::Status => (None, "status"),
+            Flag::Strict => (None, "strict"),
+            Flag::Warn => (Some('w'), "warn"),
+            Flag::Help => (None, "help"),
+            Flag::Version => (None, "version"),
+            Flag::Length => (Some('l'), "length"),
+        }
+    }
+
     /// The full name, without the two dashes.
     pub fn name(self) -> &'static str
         ensures { result.now ≡ full_name self }
     {
-        match self {
-            Flag::Binary => "binary",
-            Flag::Check => "check",
-            Flag::Tag => "tag",
-            Flag::Text => "text",
-            Flag::Zero => "zero",
-            Flag::IgnoreMissing => "ignore-missing",
-            Flag::Quiet => "quiet",
-            Flag::Status => "status",
-            Flag::Strict => "strict",
-            Flag::Warn => "warn",
-            Flag::Help => "help",
-            Flag::Version => "version",
-            Flag::Length => "length",
-        }
+        let (_, name) = self.row();
+        name
     }
 
     /// Whether the option takes a value.
@@ -83,25 +93,16 @@ impl Flag {
     }
 
     /// The option that a letter means.
-    #[tactic(auto, unfolding(crate::specs::Items::lettered))]
     pub fn of_letter(tool: Tool, letter: char) -> Option<Flag>
         ensures { option_map full_name result ≡ lettered tool letter }
     {
-        match letter {
-            'b' => Some(Flag::Binary),
-            'c' => Some(Flag::Check),
-            't' => Some(Flag::Text),
-            'z' => Some(Flag::Zero),
-            'w' => Some(Flag::Warn),
-            'l' if matches!(tool, Tool::B2sum) => Some(Flag::Length),
-            _ => None,
-        }
+        first_lettered(flags(tool), letter)
     }
 }
 
 // The options of a tool.
 fn flags(tool: Tool) -> &'static [Flag]
-    ensures { map full_name result.now ≡ names tool }
+    ensures { map row_of result.now ≡ table tool }
 {
     match tool {
         Tool::B2sum => &FLAGS,
@@ -109,12 +110,31 @@ fn flags(tool: Tool) -> &'static [Flag]
     }
 }
 
-// The option that has this full name.
-fn first_named(flags: &[Flag], name: &str) -> Option<Flag>
-    ensures { option_map full_name result ≡ named name.now (map full_name flags.now) }
+// The option that has this letter.
+fn first_lettered(flags: &[Flag], letter: char) -> Option<Flag>
+    ensures { option_map row_of result ≡ find (has_letter letter) (map row_of flags.now) }
 {
     for flag in flags {
-        if flag.name() == name {
+        if has_letter(*flag, letter) {
+            return Some(*flag);
+        }
+    }
+    None
+}
+
+fn has_letter(flag: Flag, letter: char) -> bool
+    ensures { result ≡ has_letter letter (row_of flag) }
+{
+    let (own, _) = flag.row();
+    own == Some(letter)
+}
+
+// The option that has this full name.
+fn first_named(flags: &[Flag], name: &str) -> Option<Flag>
+    ensures { option_map full_name result ≡ find (bytes_eq name.now) (map full_name flags.now) }
+{
+    for flag in flags {
+        if name == flag.name() {
             return Some(*flag);
         }
     }
@@ -122,14 +142,15 @@ fn first_named(flags: &[Flag], name: &str) -> Option<Flag>
 }
 
 fn begins(flag: Flag, name: &str) -> bool
-    ensures { result ≡ is_begun_by name.now (full_name flag) }
+    ensures { result ≡ starts_with eqb (full_name flag) name.now }
 {
     flag.name().starts_with(name)
 }
 
 // The only option whose full name begins with this text.
 fn only_begun<'a>(flags: &[Flag], name: &'a str) -> Result<Flag, WordFault<'a>>
-    ensures { resolution result ≡ the_one name.now (filter (is_begun_by name.now) (map full_name flags.now)) }
+    ensures { resolution result ≡ the_one name.now
+        (filter (λ full. starts_with eqb full name.now) (map full_name flags.now)) }
 {
     let mut found = None;
     for flag in flags {

@@ -1,12 +1,11 @@
 //! What the words ask for.
-ghost use Rattle.std.specs.Prelude.{◌≡◌, ◌∷◌, [], None, Some, MatchResult};
-ghost use Rattle.std.specs.Option.{option_copied, option_map};
+ghost use Rattle.std.specs.Prelude.{◌≡◌, ◌∷◌, List, [], None, Some, MatchResult};
+ghost use Rattle.std.specs.Option.{option_copied, option_map, option_transpose};
 ghost use Rattle.std.specs.Str.{all_ascii_digits};
-ghost use Rattle.sum_words.specs.Items.{items, option};
+ghost use Rattle.sum_words.specs.Items.{Item as ItemSaid, items, option, options_of};
 ghost use Rattle.sum_words.specs.joins.Walk.{fault_of, full_name};
-ghost use Rattle.sum_words.specs.Request.{options, ends, first_of, holding, faults, length_kind, kind_asked, report_of};
-ghost use Rattle.sum_words.specs.Request.{mode_of, request};
-ghost use Rattle.sum_words.specs.joins.Reading.{chosen_of, after, answer_of, IsNumberOf};
+ghost use Rattle.sum_words.specs.Request.{ending, length_kind, mode_of, report_of, job_of, request};
+ghost use Rattle.sum_words.specs.joins.Reading.{IsChosenBy, first_fault, result_of, IsNumberOf};
 
 use crate::faults::WordFault;
 use crate::items::{Item, Items, Operands};
@@ -45,7 +44,7 @@ pub fn read_words<'a, A: Allocator>(
     tool: Tool,
     words: &'a Words<A>,
 ) -> Result<Request<'a>, WordFault<'a>>
-    ensures { answer_of result ≡ request tool words.now }
+    ensures { result_of result ≡ request tool words.now }
 {
     let chosen = match read_options(tool, words) {
         Ok(chosen) => chosen,
@@ -58,28 +57,9 @@ pub fn read_words<'a, A: Allocator>(
     if let Some(fault) = fault_of_options(&chosen) {
         return Err(fault);
     }
-    let operands = Operands::new(tool, words);
-    if chosen.check {
-        let settings = CheckSettings {
-            algo: tool.algos(),
-            report: report(&chosen),
-            strict: chosen.strict,
-            ignore_missing: chosen.ignore_missing,
-        };
-        return Ok(Request::Work(Job::Check(settings), operands));
-    }
-    match tool.algos() {
-        Algos::Any => Err(WordFault::CheckNeeded),
-        Algos::One(algo) => {
-            let settings = Settings {
-                kind: kind.unwrap_or(Kind::of(algo)),
-                style: Style {
-                    mode: mode(&chosen),
-                    zero: chosen.zero,
-                },
-            };
-            Ok(Request::Work(Job::Generate(settings), operands))
-        }
+    match asked_job(tool.algos(), kind, &chosen) {
+        Ok(job) => Ok(Request::Work(job, Operands::new(tool, words))),
+        Err(fault) => Err(fault),
     }
 }
 
@@ -103,9 +83,9 @@ fn read_options<'a, A: Allocator>(
     tool: Tool,
     words: &'a Words<A>,
 ) -> Result<Chosen<'a>, Result<Request<'a>, WordFault<'a>>>
-    ensures read { MatchResult result (λ c. chosen_of c ≡ options (items tool words.now))
-        (λ r. first_of ends (items tool words.now) ≡ Some (answer_of r)) }
-    ensures none { MatchResult result (λ _. first_of ends (items tool words.now) ≡ None) (λ _. Unit {0}) }
+    ensures read { MatchResult result (λ c. IsChosenBy c [] (items tool words.now))
+        (λ r. ending (items tool words.now) ≡ Some (result_of r)) }
+    ensures none { MatchResult result (λ _. ending (items tool words.now) ≡ None) (λ _. Unit {0}) }
 {
     let mut items = Items::new(tool, words);
     let mut chosen = Chosen {
@@ -136,7 +116,8 @@ fn read_options<'a, A: Allocator>(
 }
 
 fn with_flag(chosen: Chosen<'_>, flag: Flag) -> Chosen<'_>
-    ensures { chosen_of result ≡ after (chosen_of chosen.entry) (option (full_name flag) ∷ []) }
+    ensures { (rest all : List ItemSaid) → IsChosenBy chosen.entry (option (full_name flag) ∷ rest) all →
+        IsChosenBy result rest all }
 {
     let mut chosen = chosen;
     match flag {
@@ -166,7 +147,7 @@ fn with_flag(chosen: Chosen<'_>, flag: Flag) -> Chosen<'_>
 
 // The kind that the last length value asks for, if there is one.
 fn asked_kind(length: Option<&str>) -> Result<Option<Kind>, WordFault<'_>>
-    ensures { answer_of result ≡ kind_asked (option_copied length.entry) }
+    ensures { result_of result ≡ option_transpose (option_map length_kind (option_copied length.entry)) }
 {
     match length {
         None => Ok(None),
@@ -179,7 +160,7 @@ fn asked_kind(length: Option<&str>) -> Result<Option<Kind>, WordFault<'_>>
 
 // The kind that a length value asks for.
 fn length_kind(value: &str) -> Result<Kind, WordFault<'_>>
-    ensures { answer_of result ≡ length_kind value.now }
+    ensures { result_of result ≡ length_kind value.now }
 {
     let Some(bits) = number(value) else {
         return Err(WordFault::LengthInvalid(value));
@@ -214,7 +195,8 @@ fn all_digits(bytes: &[u8]) -> bool
 
 // The first fault of the options themselves, of which `--check` needs none and several need it.
 fn fault_of_options(chosen: &Chosen<'_>) -> Option<WordFault<'static>>
-    ensures { option_map fault_of result ≡ first_of holding (faults (chosen_of chosen.now)) }
+    ensures { (xs : List ItemSaid) → IsChosenBy chosen.now [] xs →
+        option_map fault_of result ≡ first_fault (options_of xs) }
 {
     if chosen.tag && matches!(chosen.mode, Some(Mode::Text)) {
         return Some(WordFault::TagWithText);
@@ -248,9 +230,38 @@ fn fault_of_options(chosen: &Chosen<'_>) -> Option<WordFault<'static>>
     }
 }
 
+// What is done with each operand, where none of these faults holds.
+fn asked_job(
+    algos: Algos,
+    kind: Option<Kind>,
+    chosen: &Chosen<'_>,
+) -> Result<Job, WordFault<'static>>
+    ensures { (xs : List ItemSaid) → IsChosenBy chosen.now [] xs →
+        result_of result ≡ job_of algos kind (options_of xs) }
+{
+    if chosen.check {
+        return Ok(Job::Check(CheckSettings {
+            algo: algos,
+            report: report(chosen),
+            strict: chosen.strict,
+            ignore_missing: chosen.ignore_missing,
+        }));
+    }
+    match algos {
+        Algos::Any => Err(WordFault::CheckNeeded),
+        Algos::One(algo) => Ok(Job::Generate(Settings {
+            kind: kind.unwrap_or(Kind::of(algo)),
+            style: Style {
+                mode: mode(chosen),
+                zero: chosen.zero,
+            },
+        })),
+    }
+}
+
 // The form of the lines that are written.
 fn mode(chosen: &Chosen<'_>) -> Mode
-    ensures { result ≡ mode_of (chosen_of chosen.now) }
+    ensures { (xs : List ItemSaid) → IsChosenBy chosen.now [] xs → result ≡ mode_of (options_of xs) }
 {
     if chosen.tag {
         return Mode::Tag;
@@ -263,7 +274,7 @@ fn mode(chosen: &Chosen<'_>) -> Mode
 
 // How much is reported.
 fn report(chosen: &Chosen<'_>) -> Report
-    ensures { result ≡ report_of (chosen_of chosen.now).report }
+    ensures { (xs : List ItemSaid) → IsChosenBy chosen.now [] xs → result ≡ report_of (options_of xs) }
 {
     chosen.report.unwrap_or(Report::All)
 }

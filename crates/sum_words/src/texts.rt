@@ -14,6 +14,7 @@ pub fn put_help<O: Sink>(out: &mut O, tool: Tool) -> Result<(), SinkFault>
     let usage = Part::Bytes(b"Usage: ");
     let name = Part::Bytes(tool.name().as_bytes());
     let operands = Part::Bytes(b" [OPTION]... [FILE]...\n");
+    let input = Part::Bytes(b" With no FILE, or when FILE is -, read standard input.\n");
     let first = Part::Bytes(FIRST_OPTIONS.as_bytes());
     let length = Part::Bytes(length_line(tool).as_bytes());
     let last = Part::Bytes(LAST_OPTIONS.as_bytes());
@@ -21,21 +22,20 @@ pub fn put_help<O: Sink>(out: &mut O, tool: Tool) -> Result<(), SinkFault>
         Algos::One(algo) => {
             let print = Part::Bytes(b"Print or check ");
             let tag = Part::Bytes(Kind::of(algo).tag().as_bytes());
-            let check = Part::Bytes(
-                b" checksums. With no FILE, or when FILE is -, read standard input.\n",
-            );
+            let check = Part::Bytes(b" checksums.");
             put_parts(
                 out,
                 &[
-                    usage, name, operands, print, tag, check, first, length, last,
+                    usage, name, operands, print, tag, check, input, first, length, last,
                 ],
             )
         }
         Algos::Any => {
-            let check = Part::Bytes(
-                b"Check checksums of tagged lines. With no FILE, or when FILE is -, read standard input.\n",
-            );
-            put_parts(out, &[usage, name, operands, check, first, length, last])
+            let check = Part::Bytes(b"Check checksums of tagged lines.");
+            put_parts(
+                out,
+                &[usage, name, operands, check, input, first, length, last],
+            )
         }
     }
 }

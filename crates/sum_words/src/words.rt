@@ -2,7 +2,7 @@
 ghost use Rattle.std.specs.Prelude.{◌≡◌, ◌<◌, [], ◌∷◌, ◌++◌, ◌+◌, ◌^◌, OnOk, OnErr, OnSome, length, slice_get};
 ghost use Rattle.std.specs.Prelude.{slice_index};
 ghost use Rattle.std.specs.Option.{option_copied};
-ghost use Rattle.sum_words.specs.joins.Pieces.{pieces, CutsAt};
+ghost use Rattle.sum_words.specs.joins.Pieces.{texts_cut, CutsAt};
 
 use std::alloc::Allocator;
 use std::marker::Model;
@@ -18,11 +18,11 @@ pub struct Words<A: Allocator> {
 impl<A: Allocator> Model for Words<A> {
     ghost use Rattle.std.specs.Prelude.{List, ℕ};
     ghost use Rattle.std.specs.String.{string_bytes};
-    ghost use Rattle.sum_words.specs.joins.Pieces.{pieces, CutsAt};
+    ghost use Rattle.sum_words.specs.joins.Pieces.{texts_cut, CutsAt};
 
     ghost Value = { List (List ℕ) };
 
-    ghost view = { λ w. pieces (string_bytes w.text) 0 w.ends.items };
+    ghost view = { λ w. texts_cut (string_bytes w.text) 0 w.ends.items };
 
     ghost invariant = { λ w. CutsAt (string_bytes w.text) 0 w.ends.items };
 }
@@ -83,11 +83,11 @@ pub struct LentWords<'a> {
 
 impl<'a> Model for LentWords<'a> {
     ghost use Rattle.std.specs.Prelude.{List, ℕ};
-    ghost use Rattle.sum_words.specs.joins.Pieces.{pieces, CutsAt};
+    ghost use Rattle.sum_words.specs.joins.Pieces.{texts_cut, CutsAt};
 
     ghost Value = { List (List ℕ) };
 
-    ghost view = { λ w. pieces w.text.now 0 w.ends.now };
+    ghost view = { λ w. texts_cut w.text.now 0 w.ends.now };
 
     ghost invariant = { λ w. CutsAt w.text.now 0 w.ends.now };
 }
@@ -105,7 +105,7 @@ impl<'a> LentWords<'a> {
 // The piece of the text at a place, `None` past the last.
 fn piece_at<'a>(text: &'a str, ends: &'a [usize], i: usize) -> Option<&'a str>
     requires { CutsAt text.now 0 ends.now }
-    ensures piece { option_copied result ≡ slice_get (pieces text.now 0 ends.now) i }
+    ensures piece { option_copied result ≡ slice_get (texts_cut text.now 0 ends.now) i }
     ensures within { OnSome result (i + 1 < 2 ^ 64) }
 {
     let end = *ends.get(i)?;

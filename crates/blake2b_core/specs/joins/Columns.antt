@@ -2,7 +2,9 @@
 -- working vector as four rows of four words.
 use Rattle.std.specs.Prelude.{ℕ, ◌+◌, ◌%◌, List, [], ◌∷◌, map, slice_index_or}
 use Rattle.std.specs.List.{range_with_len}
-use Rattle.blake2b_core.specs.Compression.{◌!◌, ◌⊻◌, mix}
+use Rattle.std.specs.Simd.{first_chunks}
+use Rattle.byteorder.specs.Endian.{little_number}
+use Rattle.blake2b_core.specs.Compression.{◌!◌, ◌⊻◌, sigma, mix}
 
 -- row i of v, and its word j
 abbrev pub row : List (List ℕ) → ℕ → List ℕ
@@ -20,6 +22,14 @@ words v =
 -- the words of a row, turned to the left by k places
 abbrev pub turned : List ℕ → ℕ → List ℕ
 turned row k = map (λ j. row ! ((j + k) % 4)) (range_with_len 0 4)
+
+-- the sixteen words of a block, each of eight bytes, the lowest first
+abbrev pub block_words : List ℕ → List ℕ
+block_words block = map (little_number 8) (first_chunks 8 16 block)
+
+-- the words of the block m in the order in which round r takes them
+unfoldable pub scheduled : List ℕ → ℕ → List ℕ
+scheduled m r = map (λ i. m ! (slice_index_or sigma (r % 10) [] ! i)) (range_with_len 0 16)
 
 -- G on the four columns and on the four diagonals of v
 unfoldable pub columns : List ℕ → List ℕ → List ℕ → List ℕ

@@ -1,6 +1,7 @@
 -- Joins `new`, `update` and `finish` of `Blake2b`: which message a state holds.
 use Rattle.std.specs.Prelude.{◌≡◌, ℕ, ◌+◌, ◌*◌, ◌<◌, List, [], length, take, drop, slice_index_or}
-use Rattle.blake2b_core.specs.Digest.{blocks, hash_after}
+use Rattle.blake2b_core.specs.Digest.{blocks}
+use Rattle.blake2b_core.specs.joins.Chaining.{hash_after}
 use Rattle.blake2b_core.specs.declared.pieces.Blake2b.{Blake2b}
 
 -- bs are the blocks of the message m from block k on

@@ -7,7 +7,8 @@ use Rattle.blake2b_core.specs.joins.Holding.{Holds as HoldsBlake2b, digest_len, 
 use Rattle.digest_kinds.specs.Kinds.{KindValue, blake2b_kind, full_kind}
 use Rattle.digest_kinds.specs.declared.algo.Algo.TheVariants as algos
 use Rattle.digest_kinds.specs.declared.any_hasher.AnyHasher.{AnyHasher}
-use Rattle.digest_kinds.specs.declared.any_hasher.AnyHasher.TheVariants.{Md5, Sha1, Sha224, Sha256, Sha384, Sha512, Blake2b}
+use Rattle.digest_kinds.specs.declared.any_hasher.AnyHasher.TheVariants.{Md5, Sha1, Sha224, Sha256, Sha384, Sha512}
+use Rattle.digest_kinds.specs.declared.any_hasher.AnyHasher.TheVariants.{Blake2b}
 
 -- the message that it holds
 abbrev pub Holds : AnyHasher → List ℕ → Type 0

@@ -1,5 +1,5 @@
 //! Checking manifests.
-use super::{PIECES, add_files, assert_asked, assert_broken, assert_rows, run_line, spelled};
+use super::{PIECES, add_files, assert_asked, assert_broken, assert_rows, run_line_on, spelled};
 use std::test::Fail;
 use sum_sources::{Answer, Ending, Fault, Told, ToldSource};
 
@@ -67,13 +67,9 @@ fn names_asked(rt: HostRuntime) -> Result<(), Fail> {
         let mut files = ToldSource::new(rt.alloc(), piece);
         add_files(&mut files)?;
         files.add(b"l", Answer::Content(manifest.as_bytes(), Ending::Whole))?;
-        run_line(
-            rt.alloc(),
-            "md5sum -c l",
-            Told::new(b"", Ending::Whole, piece),
-            &mut files,
-            (1024, 1024),
-        )?;
+        let input = Told::new(b"", Ending::Whole, piece);
+        let run = run_line_on(rt.alloc(), "md5sum -c l", input, files, (1024, 1024))?;
+        let (_, files) = run.ok_or("words")?;
         assert_asked(&rt, &files, &[b"l", b"a", b"x", b"e"])?;
     }
     Ok(())

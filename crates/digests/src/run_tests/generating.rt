@@ -1,5 +1,5 @@
 //! Hashing names.
-use super::{add_files, assert_asked, assert_broken, assert_rows, run_line};
+use super::{add_files, assert_asked, assert_broken, assert_rows, run_line, run_line_on};
 use std::test::Fail;
 use sum_engine::Stop;
 use sum_sources::{Ending, Fault, Told, ToldSource};
@@ -92,7 +92,8 @@ fn names_asked(rt: HostRuntime) -> Result<(), Fail> {
     let mut files = ToldSource::new(rt.alloc(), 8192);
     add_files(&mut files)?;
     let input = Told::new(b"", Ending::Whole, 8192);
-    run_line(rt.alloc(), "md5sum a x e", input, &mut files, (1024, 1024))?;
+    let run = run_line_on(rt.alloc(), "md5sum a x e", input, files, (1024, 1024))?;
+    let (_, files) = run.ok_or("words")?;
     assert_asked(&rt, &files, &[b"a", b"x", b"e"])
 }
 
@@ -129,7 +130,7 @@ fn stopped_outputs(rt: HostRuntime) -> Result<(), Fail> {
             rt.alloc(),
             line,
             Told::new(b"", Ending::Whole, 8192),
-            &mut files,
+            files,
             stops,
         )?;
         assert_eq!(rt;

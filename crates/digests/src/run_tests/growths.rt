@@ -7,7 +7,7 @@ use digest_kinds::{Algo, Algos};
 use std::alloc::{Allocator, Global};
 use std::process::Abort;
 use std::test::Fail;
-use sum_engine::{CheckSettings, Checker, Progress, Report, Stop};
+use sum_engine::{CheckSettings, Checker, Progress, Report, Stop, Streams};
 use sum_lines::ToldSink;
 use sum_sources::{Ending, Stdin, Told, ToldSource};
 
@@ -74,11 +74,11 @@ fn run_refused(
     let run = match add_all(&mut files, &[(b"a", b"abc"), (b"e", b""), (b"l", manifest)]) {
         Ok(()) => {
             let input = Told::new(b"abc", Ending::Whole, 8192);
-            run_line_on(&heap, line, input, &mut files, (1024, 1024))?
+            run_line_on(&heap, line, input, files, (1024, 1024))?
         }
         Err(_) => None,
     };
-    let Some(run) = run else {
+    let Some((run, files)) = run else {
         assert!(rt; heap.has_refused());
         return Ok(Turn::NoRoom);
     };
@@ -211,8 +211,12 @@ fn steps(
         assert!(rt; heap.has_refused());
         return Ok(None);
     }
-    let mut stdin = Stdin::new(Told::new(b"", Ending::Whole, 1));
-    let (mut out, mut err) = (ToldSink::<1024>::new(1024), ToldSink::<1024>::new(1024));
+    let mut streams = Streams {
+        stdin: Stdin::new(Told::new(b"", Ending::Whole, 1)),
+        source: files,
+        out: ToldSink::<1024>::new(1024),
+        err: ToldSink::<1024>::new(1024),
+    };
     let input = Told::new(manifest.as_bytes(), Ending::Whole, 8192);
     let mut checker = Checker::new(CHECK, "md5sum", b"l", false, input);
     let mut line = Vec::new(&heap);
@@ -220,15 +224,15 @@ fn steps(
     let mut answer = Ok(Progress::Going);
     for _ in 0..9 {
         let before = answer;
-        answer = checker.step(&mut line, &mut stdin, &mut files, &mut out, &mut err);
+        answer = checker.step(&mut line, &mut streams);
         if before != Ok(Progress::Going) {
             assert_eq!(rt; answer, before, "at growth {number}");
         } else if answer != Err(Stop::Memory) {
             lines = lines.saturating_add(1);
         }
         let there = AFTER_STEPS.get(lines..=lines).ok_or("lines")?;
-        let texts = (out.bytes(), err.bytes());
-        place_of(rt.alloc(), texts, &files, &["a", "x", "e"], there)?;
+        let texts = (streams.out.bytes(), streams.err.bytes());
+        place_of(rt.alloc(), texts, &streams.source, &["a", "x", "e"], there)?;
     }
     let refused = if heap.has_refused() {
         Err(Stop::Memory)

@@ -6,7 +6,7 @@ use std::alloc::Global;
 use std::ops::RangeInclusive;
 use std::process::Abort;
 use std::test::Fail;
-use sum_engine::Stop;
+use sum_engine::{Stop, Streams};
 use sum_lines::ToldSink;
 use sum_sources::{Answer, Ending, Fault, Stdin, Told, ToldSource};
 use sum_words::{Tool, Words};
@@ -31,7 +31,7 @@ fn assert_stopped(
     add_files(&mut files)?;
     files.add(b"l", Answer::Content(manifest.as_bytes(), Ending::Whole))?;
     let input = Told::new(b"", Ending::Whole, 8192);
-    let run = run_line(rt.alloc(), "md5sum -c l", input, &mut files, stops)?;
+    let run = run_line(rt.alloc(), "md5sum -c l", input, files, stops)?;
     assert_eq!(rt; run.answer, answer);
     assert!(rt; REPORTS.as_bytes().starts_with(run.out.bytes()));
     assert!(rt; WARNINGS.as_bytes().starts_with(run.err.bytes()));
@@ -48,8 +48,8 @@ fn assert_stopped(
     Ok(())
 }
 
-// The output that stops holds just these bytes, the other one all of the lines that were handled and none of later ones.
-// Only of the line of `x`, which both outputs tell of, it may hold a part.
+// The output that stops holds just these bytes, the other one all of the lines that were handled and none of later
+// ones. Only of the line of `x`, which both outputs tell of, it may hold a part.
 #[test]
 fn each_byte_the_last(rt: HostRuntime) -> Result<(), Fail> {
     for stop in 0..39 {
@@ -149,20 +149,16 @@ fn long_name(rt: HostRuntime) -> Result<(), Fail> {
     for piece in [1, 8192] {
         let mut files = ToldSource::new(rt.alloc(), piece);
         files.add(b"h", Answer::Content(manifest.as_bytes(), Ending::Whole))?;
-        let mut stdin = Stdin::new(Told::new(b"", Ending::Whole, piece));
-        let mut out = ToldSink::<100_100>::new(100_100);
-        let mut err = ToldSink::<100_100>::new(100_100);
-        let answer = run(
-            rt.alloc(),
-            Tool::Md5sum,
-            &words,
-            &mut stdin,
-            &mut files,
-            &mut out,
-            &mut err,
-        );
+        let mut streams = Streams {
+            stdin: Stdin::new(Told::new(b"", Ending::Whole, piece)),
+            source: files,
+            out: ToldSink::<100_100>::new(100_100),
+            err: ToldSink::<100_100>::new(100_100),
+        };
+        let answer = run(rt.alloc(), Tool::Md5sum, &words, &mut streams);
         assert_eq!(rt; answer, Ok(1));
-        assert!(rt; out.bytes() == report.as_bytes() && err.bytes() == warning.as_bytes());
+        assert!(rt; streams.out.bytes() == report.as_bytes());
+        assert!(rt; streams.err.bytes() == warning.as_bytes());
     }
     Ok(())
 }

@@ -8,6 +8,7 @@ use std::io;
 use std::io::{ErrorKind, Write};
 use std::process::Abort;
 use std::test::Fail;
+use sum_engine::Streams;
 use sum_lines::{FromWrite, Sink, ToldSink, WholeLines};
 use sum_sources::{Closable, Ending, Input, Stdin, Told, ToldSource};
 use sum_words::{Arguments, ToldArguments};
@@ -31,19 +32,16 @@ fn call<A: Allocator + Copy, I: Input + Drop>(
 ) -> Result<Ended, Fail> {
     let mut files = ToldSource::new(alloc, 100);
     add_files(&mut files)?;
-    let mut out = WholeLines::new(ToldSink::new(out_stop), b'\n');
-    let mut err = WholeLines::new(ToldSink::new(err_stop), b'\n');
-    let status = command(
-        heap,
-        &ToldArguments::new(arguments),
-        &mut Stdin::new(input),
-        &mut files,
-        &mut out,
-        &mut err,
-    );
+    let mut streams = Streams {
+        stdin: Stdin::new(input),
+        source: files,
+        out: WholeLines::new(ToldSink::new(out_stop), b'\n'),
+        err: WholeLines::new(ToldSink::new(err_stop), b'\n'),
+    };
+    let status = command(heap, &ToldArguments::new(arguments), &mut streams);
     Ok(Ended {
-        out: out.into_inner(),
-        err: err.into_inner(),
+        out: streams.out.into_inner(),
+        err: streams.err.into_inner(),
         status,
     })
 }
@@ -181,18 +179,19 @@ impl Write for LosesAll {
 fn output_that_is_not_kept(rt: HostRuntime) -> Result<(), Fail> {
     let mut files = ToldSource::new(rt.alloc(), 100);
     add_files(&mut files)?;
-    let mut out = WholeLines::new(FromWrite::new(LosesAll), b'\n');
-    let mut err = WholeLines::new(ToldSink::<64>::new(64), b'\n');
-    let status = command(
-        rt.alloc(),
-        &ToldArguments::new(&[b"md5sum".as_slice(), b"a"]),
-        &mut Stdin::new(Told::new(b"", Ending::Whole, 1)),
-        &mut files,
-        &mut out,
-        &mut err,
-    );
+    let mut streams = Streams {
+        stdin: Stdin::new(Told::new(b"", Ending::Whole, 1)),
+        source: files,
+        out: WholeLines::new(FromWrite::new(LosesAll), b'\n'),
+        err: WholeLines::new(ToldSink::<64>::new(64), b'\n'),
+    };
+    let arguments = [b"md5sum".as_slice(), b"a"];
+    let status = command(rt.alloc(), &ToldArguments::new(&arguments), &mut streams);
     assert_eq!(rt; status, 1);
-    assert_eq!(rt; err.sink().bytes(), b"md5sum: write error\n".as_slice());
+    assert_eq!(rt;
+        streams.err.sink().bytes(),
+        b"md5sum: write error\n".as_slice()
+    );
     Ok(())
 }
 
@@ -206,25 +205,27 @@ fn stopped_and_not_kept(rt: HostRuntime) -> Result<(), Fail> {
         let heap = Refusing::new(rt.alloc(), number);
         let mut files = ToldSource::new(rt.alloc(), 100);
         add_files(&mut files)?;
-        let mut out = WholeLines::new(FromWrite::new(LosesAll), b'\n');
-        let mut err = WholeLines::new(ToldSink::<64>::new(64), b'\n');
-        let status = command(
-            &heap,
-            &ToldArguments::new(&arguments),
-            &mut Stdin::new(Told::new(line.as_bytes(), Ending::Whole, 1)),
-            &mut files,
-            &mut out,
-            &mut err,
-        );
+        let mut streams = Streams {
+            stdin: Stdin::new(Told::new(line.as_bytes(), Ending::Whole, 1)),
+            source: files,
+            out: WholeLines::new(FromWrite::new(LosesAll), b'\n'),
+            err: WholeLines::new(ToldSink::<64>::new(64), b'\n'),
+        };
+        let status = command(&heap, &ToldArguments::new(&arguments), &mut streams);
         assert_eq!(rt; status, 1);
         if !heap.has_refused() {
-            assert_eq!(rt; err.sink().bytes(), b"md5sum: write error\n".as_slice());
+            assert_eq!(rt;
+                streams.err.sink().bytes(),
+                b"md5sum: write error\n".as_slice()
+            );
             assert!(rt; stopped);
             return Ok(());
         }
         let exhausted = b"md5sum: memory exhausted\n".as_slice();
-        stopped = err.sink().bytes() == exhausted;
-        assert!(rt; stopped || err.sink().bytes() == b"digests: words not read\n".as_slice());
+        stopped = streams.err.sink().bytes() == exhausted;
+        assert!(rt;
+            stopped || streams.err.sink().bytes() == b"digests: words not read\n".as_slice()
+        );
     }
     Err(Fail::from("no run was without a refusal"))
 }

@@ -8,22 +8,22 @@ use Rattle.sum_engine.specs.declared.asking.Asked.TheVariants as asked
 use Rattle.sum_engine.specs.Worlds.{World, after, read, reply}
 
 -- what came of a reply
-abbrev pub Comes : KindValue → Reply → Asked → Type 0
-Comes kind r (asked.Read d) = (c : Content) × (r ≡ Given c) × (read kind (Given c) ≡ Ok d)
-Comes kind r (asked.Refused f) = r ≡ Refused f
-Comes kind r (asked.Broken f) = (c : Content) × (r ≡ Given c) × (read kind (Given c) ≡ Err f)
+abbrev pub IsAsked : KindValue → Reply → Asked → Type 0
+IsAsked kind r (asked.Read d) = (c : Content) × (r ≡ Given c) × (read kind (Given c) ≡ Ok d)
+IsAsked kind r (asked.Refused f) = r ≡ Refused f
+IsAsked kind r (asked.Broken f) = (c : Content) × (r ≡ Given c) × (read kind (Given c) ≡ Err f)
 
 -- what was read of a content
-abbrev pub ComesOf : KindValue → Content → Asked → Type 0
-ComesOf kind c (asked.Read d) = read kind (Given c) ≡ Ok d
-ComesOf kind c (asked.Refused f) = ⊥
-ComesOf kind c (asked.Broken f) = read kind (Given c) ≡ Err f
+abbrev pub IsRead : KindValue → Content → Asked → Type 0
+IsRead kind c (asked.Read d) = read kind (Given c) ≡ Ok d
+IsRead kind c (asked.Refused f) = ⊥
+IsRead kind c (asked.Broken f) = read kind (Given c) ≡ Err f
 
 abbrev pub AskGives : KindValue → Option World → Option World → List ℕ → Option Asked → Type 0
 AskGives kind None v name r = ⊤
 AskGives kind (Some w) None name r = ⊥
 AskGives kind (Some w) (Some v) name None = v ≡ w
-AskGives kind (Some w) (Some v) name (Some a) = (v ≡ after w (name ∷ [])) × Comes kind (reply w name) a
+AskGives kind (Some w) (Some v) name (Some a) = (v ≡ after w (name ∷ [])) × IsAsked kind (reply w name) a
 
 -- a digest has the kind's length
 abbrev pub Sized : KindValue → Option Asked → Type 0

@@ -9,7 +9,7 @@ use Rattle.sum_engine.specs.declared.asking.Asked.TheVariants as asked
 use Rattle.sum_engine.specs.declared.verdict.Judgement.{Judgement}
 use Rattle.sum_engine.specs.declared.verdict.Verdict.{Verdict}
 use Rattle.sum_engine.specs.declared.verdict.Verdict.TheVariants.{Right, Wrong, Missing, Unread}
-use Rattle.sum_engine.specs.Grammar.{Said, Nothing, Improper, Spells}
+use Rattle.sum_lines.specs.Says.{Said, Nothing, Improper, Spells}
 use Rattle.sum_engine.specs.Worlds.{World, is_dash, after}
 use Rattle.sum_engine.specs.Verdicts.{Rules, judge, asks_by}
 

@@ -12,7 +12,7 @@ use Rattle.sum_engine.specs.declared.settings.CheckSettings.{CheckSettings}
 use Rattle.sum_engine.specs.declared.stop.Stop.{Stop}
 use Rattle.sum_engine.specs.Profiles.{lines_by}
 use Rattle.sum_engine.specs.Worlds.{is_dash}
-use Rattle.sum_engine.specs.Grammar.{says}
+use Rattle.sum_lines.specs.Says.{says}
 use Rattle.sum_engine.specs.Verdicts.{Rules}
 use Rattle.sum_engine.specs.joins.Judging.{said_asks}
 use Rattle.sum_engine.specs.Checking.{checked}

@@ -1,7 +1,7 @@
 -- Joins a checker's fields to where it stands.
 use Rattle.std.specs.Prelude.{ℕ, Bool, Option, None, Some, Result, Ok, Err}
 use Rattle.sum_sources.specs.Contents.{Content}
-use Rattle.sum_sources.specs.joins.LineReading.{coming, left, taken_of, used_of, count_of}
+use Rattle.sum_sources.specs.joins.LineReading.{coming, left, bytes_taken, bytes_used, lines_given}
 use Rattle.sum_engine.specs.declared.checker.Checker.{Checker}
 use Rattle.sum_engine.specs.declared.checker.State.{State}
 use Rattle.sum_engine.specs.declared.checker.State.TheVariants.{Running, Ended, Stopped}
@@ -20,7 +20,8 @@ rules_of_checker s = rules_in s.listing
 
 -- where it stands, where its manifest and the scene tell
 abbrev pub now_of : {I : Type 0} → (I → Option Content) → Checker I → Option Scene → Option Now
-now_of content s scene = now_by (coming content s.reader) (count_of s.reader) (used_of s.reader) s.form s.counts scene
+now_of content s scene =
+    now_by (coming content s.reader) (lines_given s.reader) (bytes_used s.reader) s.form s.counts scene
 
 -- what is still to come of its manifest
 abbrev pub to_come : {I : Type 0} → (I → Option Content) → Checker I → Option Content
@@ -36,13 +37,13 @@ left_of content s = left content s.reader
 
 -- the bytes that its input has given, those that the lines handled used, and the number of these lines
 abbrev pub given_of : {I : Type 0} → Checker I → ℕ
-given_of s = taken_of s.reader
+given_of s = bytes_taken s.reader
 
 abbrev pub handled_of : {I : Type 0} → Checker I → ℕ
-handled_of s = used_of s.reader
+handled_of s = bytes_used s.reader
 
 abbrev pub number_of : {I : Type 0} → Checker I → ℕ
-number_of s = count_of s.reader
+number_of s = lines_given s.reader
 
 -- the answer that every later step gives again, where there is one
 abbrev pub answer_at : State → Option (Result Progress Stop)

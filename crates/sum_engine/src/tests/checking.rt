@@ -1,5 +1,5 @@
 //! `check_one`.
-use crate::{CheckSettings, Report, check_one};
+use crate::{CheckSettings, Report, Streams, check_one};
 use digest_kinds::{Algo, Algos};
 use std::alloc::{Allocator, Global};
 use std::process::Abort;
@@ -28,6 +28,20 @@ pub(crate) const ALL: &[u8] = b"900150983cd24fb0d6963f7d28e17f72  a\n\
     900150983cd24fb0d6963f7d28e17f72 *x\n\
     900150983cd24fb0d6963f7d28e17f72  e\n";
 
+/// Streams of told values: what standard input gives, the files, and after how many bytes each output stops.
+pub(crate) fn told<'a, S>(
+    input: &'a [u8],
+    source: S,
+    (out, err): (usize, usize),
+) -> Streams<Told<'a>, S, ToldSink<1000>, ToldSink<1000>> {
+    Streams {
+        stdin: Stdin::new(Told::new(input, Ending::Whole, 1)),
+        source,
+        out: ToldSink::new(out),
+        err: ToldSink::new(err),
+    }
+}
+
 /// The files `a`, which holds `abc`, and the empty `e`; and a manifest `l`.
 pub(crate) fn files<'a, A: Allocator + Copy>(
     alloc: A,
@@ -41,31 +55,21 @@ pub(crate) fn files<'a, A: Allocator + Copy>(
     Ok(source)
 }
 
-// Checking the manifest answers so, and writes these texts.
-fn checks(
+// Checking the manifest answers so, and writes these texts. The source is given back.
+fn checks<'a>(
     rt: &(impl Abort + AllocGlobal),
     settings: CheckSettings,
     name: &[u8],
     input: &[u8],
-    source: &mut ToldSource<Global>,
+    source: ToldSource<'a, Global>,
     want: (bool, &str, &str),
-) {
-    let mut stdin = Stdin::new(Told::new(input, Ending::Whole, 1));
-    let mut out = ToldSink::<1000>::new(1000);
-    let mut err = ToldSink::<1000>::new(1000);
-    let good = check_one(
-        rt.alloc(),
-        settings,
-        "md5sum",
-        name,
-        &mut stdin,
-        source,
-        &mut out,
-        &mut err,
-    );
+) -> ToldSource<'a, Global> {
+    let mut streams = told(input, source, (1000, 1000));
+    let good = check_one(rt.alloc(), settings, "md5sum", name, &mut streams);
     assert!(rt; good == Ok(want.0));
-    assert_eq!(rt; out.bytes(), want.1.as_bytes());
-    assert_eq!(rt; err.bytes(), want.2.as_bytes());
+    assert_eq!(rt; streams.out.bytes(), want.1.as_bytes());
+    assert_eq!(rt; streams.err.bytes(), want.2.as_bytes());
+    streams.source
 }
 
 #[test]
@@ -74,9 +78,9 @@ fn all_verdicts(rt: HostRuntime) -> Result<(), Fail> {
         md5sum: WARNING: 1 line is improperly formatted\n\
         md5sum: WARNING: 1 listed file could not be read\n\
         md5sum: WARNING: 1 computed checksum did NOT match\n";
-    let mut source = files(rt.alloc(), ALL, Ending::Whole)?;
+    let source = files(rt.alloc(), ALL, Ending::Whole)?;
     let out = "a: OK\nx: FAILED open or read\ne: FAILED\n";
-    checks(&rt, CHECK, b"l", b"", &mut source, (false, out, warnings));
+    let source = checks(&rt, CHECK, b"l", b"", source, (false, out, warnings));
     for (i, name) in ["l", "a", "x", "e"].iter().enumerate() {
         assert_eq!(rt; source.asked_name(i).ok_or("not asked")?, name.as_bytes());
     }
@@ -84,23 +88,16 @@ fn all_verdicts(rt: HostRuntime) -> Result<(), Fail> {
     let mut settings = CHECK;
     settings.report = Report::Quiet;
     let out = "x: FAILED open or read\ne: FAILED\n";
-    checks(
-        &rt,
-        settings,
-        b"l",
-        b"",
-        &mut source,
-        (false, out, warnings),
-    );
+    let source = checks(&rt, settings, b"l", b"", source, (false, out, warnings));
     settings.report = Report::Status;
     let err = "md5sum: x: No such file or directory\n";
-    checks(&rt, settings, b"l", b"", &mut source, (false, "", err));
+    checks(&rt, settings, b"l", b"", source, (false, "", err));
     Ok(())
 }
 
 #[test]
 fn ignore_missing(rt: HostRuntime) -> Result<(), Fail> {
-    let mut source = files(rt.alloc(), ALL, Ending::Whole)?;
+    let source = files(rt.alloc(), ALL, Ending::Whole)?;
     let err = "md5sum: l: 3: improperly formatted MD5 checksum line\n\
         md5sum: WARNING: 1 line is improperly formatted\n\
         md5sum: WARNING: 1 computed checksum did NOT match\n";
@@ -109,11 +106,11 @@ fn ignore_missing(rt: HostRuntime) -> Result<(), Fail> {
         IGNORE_MISSING,
         b"l",
         b"",
-        &mut source,
+        source,
         (false, "a: OK\ne: FAILED\n", err),
     );
     let l2 = b"900150983cd24fb0d6963f7d28e17f72  x\n";
-    let mut source = files(rt.alloc(), l2, Ending::Whole)?;
+    let source = files(rt.alloc(), l2, Ending::Whole)?;
     let mut settings = CHECK;
     settings.ignore_missing = true;
     checks(
@@ -121,7 +118,7 @@ fn ignore_missing(rt: HostRuntime) -> Result<(), Fail> {
         settings,
         b"l",
         b"",
-        &mut source,
+        source,
         (false, "", "md5sum: l: no file was verified\n"),
     );
     Ok(())
@@ -130,13 +127,13 @@ fn ignore_missing(rt: HostRuntime) -> Result<(), Fail> {
 #[test]
 fn manifest_fails(rt: HostRuntime) -> Result<(), Fail> {
     let l4 = b"900150983cd24fb0d6963f7d28e17f72  a\n900150983cd24fb0d6963f7d28e17f72  a";
-    let mut source = files(rt.alloc(), l4, Ending::Broken(Fault::Other))?;
-    checks(
+    let source = files(rt.alloc(), l4, Ending::Broken(Fault::Other))?;
+    let source = checks(
         &rt,
         CHECK,
         b"l",
         b"",
-        &mut source,
+        source,
         (false, "a: OK\n", "md5sum: l: Input/output error\n"),
     );
     checks(
@@ -144,7 +141,7 @@ fn manifest_fails(rt: HostRuntime) -> Result<(), Fail> {
         CHECK,
         b"x",
         b"",
-        &mut source,
+        source,
         (false, "", "md5sum: x: No such file or directory\n"),
     );
     Ok(())
@@ -153,28 +150,28 @@ fn manifest_fails(rt: HostRuntime) -> Result<(), Fail> {
 #[test]
 fn stdin_listed(rt: HostRuntime) -> Result<(), Fail> {
     let l5 = b"900150983cd24fb0d6963f7d28e17f72  -\n";
-    let mut source = files(rt.alloc(), l5, Ending::Whole)?;
-    checks(&rt, CHECK, b"l", b"abc", &mut source, (true, "-: OK\n", ""));
+    let source = files(rt.alloc(), l5, Ending::Whole)?;
+    let source = checks(&rt, CHECK, b"l", b"abc", source, (true, "-: OK\n", ""));
     let err = "md5sum: standard input: no properly formatted checksum lines found\n";
-    checks(&rt, CHECK, b"-", l5, &mut source, (false, "", err));
+    checks(&rt, CHECK, b"-", l5, source, (false, "", err));
     Ok(())
 }
 
 #[test]
 fn no_last_newline(rt: HostRuntime) -> Result<(), Fail> {
     let l8 = b"900150983cd24fb0d6963f7d28e17f72  a";
-    let mut source = files(rt.alloc(), l8, Ending::Whole)?;
-    checks(&rt, CHECK, b"l", b"", &mut source, (true, "a: OK\n", ""));
+    let source = files(rt.alloc(), l8, Ending::Whole)?;
+    checks(&rt, CHECK, b"l", b"", source, (true, "a: OK\n", ""));
     Ok(())
 }
 
 #[test]
 fn nothing_to_check(rt: HostRuntime) -> Result<(), Fail> {
-    let mut source = files(rt.alloc(), b"", Ending::Whole)?;
+    let source = files(rt.alloc(), b"", Ending::Whole)?;
     let mut settings = CHECK;
     settings.report = Report::Status;
     let err = "md5sum: e: no properly formatted checksum lines found\n";
-    checks(&rt, settings, b"e", b"", &mut source, (false, "", err));
+    checks(&rt, settings, b"e", b"", source, (false, "", err));
     Ok(())
 }
 
@@ -192,6 +189,6 @@ fn escaped_names(rt: HostRuntime) -> Result<(), Fail> {
         md5sum: q\\\\x: No such file or directory\n\
         md5sum: WARNING: 2 lines are improperly formatted\n\
         md5sum: WARNING: 2 listed files could not be read\n";
-    checks(&rt, CHECK, b"l", b"", &mut source, (false, out, err));
+    checks(&rt, CHECK, b"l", b"", source, (false, out, err));
     Ok(())
 }

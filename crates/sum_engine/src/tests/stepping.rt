@@ -1,20 +1,17 @@
 //! `Checker::step`.
-use super::checking::{ALL, CHECK, files};
+use super::checking::{ALL, CHECK, files, told};
 use super::hashing::Refusing;
 use crate::{Checker, Progress, Stop, check_one};
 use linked_list_allocator::LocalHeap;
 use std::ops::RangeInclusive;
 use std::process::Abort;
 use std::test::Fail;
-use sum_lines::ToldSink;
-use sum_sources::{Ending, Stdin, Told};
+use sum_sources::{Ending, Told};
 
 #[test]
 fn step_by_step(rt: HostRuntime) -> Result<(), Fail> {
-    let mut source = files(rt.alloc(), ALL, Ending::Whole)?;
-    let mut stdin = Stdin::new(Told::new(b"", Ending::Whole, 1));
-    let mut out = ToldSink::<1000>::new(1000);
-    let mut err = ToldSink::<1000>::new(1000);
+    let source = files(rt.alloc(), ALL, Ending::Whole)?;
+    let mut streams = told(b"", source, (1000, 1000));
     let manifest = Told::new(ALL, Ending::Whole, 8192);
     let mut checker = Checker::new(CHECK, "md5sum", b"l", false, manifest);
     let mut line = Vec::new(rt.alloc());
@@ -26,22 +23,16 @@ fn step_by_step(rt: HostRuntime) -> Result<(), Fail> {
         "a: OK\nx: FAILED open or read\ne: FAILED\n",
     ];
     for text in after {
-        assert!(rt;
-            checker.step(&mut line, &mut stdin, &mut source, &mut out, &mut err)
-                == Ok(Progress::Going)
-        );
-        assert_eq!(rt; out.bytes(), text.as_bytes());
+        assert!(rt; checker.step(&mut line, &mut streams) == Ok(Progress::Going));
+        assert_eq!(rt; streams.out.bytes(), text.as_bytes());
     }
     let texts = "md5sum: x: No such file or directory\n\
         md5sum: WARNING: 1 line is improperly formatted\n\
         md5sum: WARNING: 1 listed file could not be read\n\
         md5sum: WARNING: 1 computed checksum did NOT match\n";
     for _ in 0..2 {
-        assert!(rt;
-            checker.step(&mut line, &mut stdin, &mut source, &mut out, &mut err)
-                == Ok(Progress::Ended(false))
-        );
-        assert_eq!(rt; err.bytes(), texts.as_bytes());
+        assert!(rt; checker.step(&mut line, &mut streams) == Ok(Progress::Ended(false)));
+        assert_eq!(rt; streams.err.bytes(), texts.as_bytes());
     }
     assert!(rt; checker.taken() == 116);
     Ok(())
@@ -56,18 +47,13 @@ fn reads_no_further(rt: HostRuntime) -> Result<(), Fail> {
         }
         manifest.push(b'\n')?;
     }
-    let mut source = files(rt.alloc(), b"", Ending::Whole)?;
-    let mut stdin = Stdin::new(Told::new(b"", Ending::Whole, 1));
-    let mut out = ToldSink::<100>::new(100);
-    let mut err = ToldSink::<100>::new(100);
+    let source = files(rt.alloc(), b"", Ending::Whole)?;
+    let mut streams = told(b"", source, (1000, 1000));
     let input = Told::new(&manifest, Ending::Whole, 8192);
     let mut checker = Checker::new(CHECK, "md5sum", b"l", false, input);
     let mut line = Vec::new(rt.alloc());
     for number in 1..=3 {
-        assert!(rt;
-            checker.step(&mut line, &mut stdin, &mut source, &mut out, &mut err)
-                == Ok(Progress::Going)
-        );
+        assert!(rt; checker.step(&mut line, &mut streams) == Ok(Progress::Going));
         assert!(rt; line.len() <= 6000, "line {number}");
         assert!(rt; number > 1 || checker.taken() <= 14193);
     }
@@ -76,10 +62,8 @@ fn reads_no_further(rt: HostRuntime) -> Result<(), Fail> {
 
 #[test]
 fn stops_for_good(rt: HostRuntime) {
-    let mut source = Refusing::new();
-    let mut stdin = Stdin::new(Told::new(b"", Ending::Whole, 1));
-    let mut out = ToldSink::<100>::new(100);
-    let mut err = ToldSink::<100>::new(100);
+    let source = Refusing::new();
+    let mut streams = told(b"", source, (1000, 1000));
     let mut checker = Checker::new(
         CHECK,
         "md5sum",
@@ -89,11 +73,8 @@ fn stops_for_good(rt: HostRuntime) {
     );
     let mut line = Vec::new(rt.alloc());
     for _ in 0..3 {
-        assert!(rt;
-            checker.step(&mut line, &mut stdin, &mut source, &mut out, &mut err)
-                == Err(Stop::Memory)
-        );
-        assert!(rt; out.bytes().is_empty() && err.bytes().is_empty());
+        assert!(rt; checker.step(&mut line, &mut streams) == Err(Stop::Memory));
+        assert!(rt; streams.out.bytes().is_empty() && streams.err.bytes().is_empty());
     }
 }
 
@@ -106,24 +87,17 @@ fn memory_refused(rt: HostRuntime) -> Result<(), Fail> {
     )?;
     let name = vec![in rt.alloc(); b'x'; 5000]?;
     manifest.extend_from_slice(&name)?;
-    let mut source = files(rt.alloc(), b"", Ending::Whole)?;
-    let mut stdin = Stdin::new(Told::new(b"", Ending::Whole, 1));
-    let mut out = ToldSink::<100>::new(100);
-    let mut err = ToldSink::<100>::new(100);
+    let source = files(rt.alloc(), b"", Ending::Whole)?;
+    let mut streams = told(b"", source, (1000, 1000));
     let input = Told::new(&manifest, Ending::Whole, 8192);
     let mut checker = Checker::new(CHECK, "md5sum", b"l3", false, input);
     let heap = LocalHeap::new(rt.alloc(), 256)?;
     let mut line = Vec::new(&heap);
-    assert!(rt;
-        checker.step(&mut line, &mut stdin, &mut source, &mut out, &mut err) == Ok(Progress::Going)
-    );
+    assert!(rt; checker.step(&mut line, &mut streams) == Ok(Progress::Going));
     for _ in 0..3 {
-        assert!(rt;
-            checker.step(&mut line, &mut stdin, &mut source, &mut out, &mut err)
-                == Err(Stop::Memory)
-        );
-        assert_eq!(rt; out.bytes(), b"a: OK\n".as_slice());
-        assert!(rt; err.bytes().is_empty());
+        assert!(rt; checker.step(&mut line, &mut streams) == Err(Stop::Memory));
+        assert_eq!(rt; streams.out.bytes(), b"a: OK\n".as_slice());
+        assert!(rt; streams.err.bytes().is_empty());
     }
     Ok(())
 }
@@ -135,44 +109,36 @@ const WARNINGS: &[u8] = b"md5sum: x: No such file or directory\n\
     md5sum: WARNING: 1 listed file could not be read\n\
     md5sum: WARNING: 1 computed checksum did NOT match\n";
 
-// `check_one` of all verdicts with outputs that stop so answers this, and leaves fronts of both texts, of so many bytes.
+// `check_one` of all verdicts with outputs that stop so answers this, and leaves fronts of both texts, of so many
+// bytes.
 fn stops_at(
     rt: &(impl Abort + AllocGlobal),
     stops: (usize, usize),
     want: Result<bool, Stop>,
     (in_out, in_err): (RangeInclusive<usize>, RangeInclusive<usize>),
 ) -> Result<(), Fail> {
-    let mut source = files(rt.alloc(), ALL, Ending::Whole)?;
-    let mut stdin = Stdin::new(Told::new(b"", Ending::Whole, 1));
-    let mut out = ToldSink::<1000>::new(stops.0);
-    let mut err = ToldSink::<1000>::new(stops.1);
-    let good = check_one(
-        rt.alloc(),
-        CHECK,
-        "md5sum",
-        b"l",
-        &mut stdin,
-        &mut source,
-        &mut out,
-        &mut err,
-    );
+    let source = files(rt.alloc(), ALL, Ending::Whole)?;
+    let mut streams = told(b"", source, stops);
+    let good = check_one(rt.alloc(), CHECK, "md5sum", b"l", &mut streams);
     assert!(rt; good == want);
-    assert!(rt; REPORTS.starts_with(out.bytes()) && WARNINGS.starts_with(err.bytes()));
     assert!(rt;
-        in_out.contains(&out.bytes().len()),
+        REPORTS.starts_with(streams.out.bytes()) && WARNINGS.starts_with(streams.err.bytes())
+    );
+    assert!(rt;
+        in_out.contains(&streams.out.bytes().len()),
         "standard output at {}",
         stops.0
     );
     assert!(rt;
-        in_err.contains(&err.bytes().len()),
+        in_err.contains(&streams.err.bytes().len()),
         "standard error at {}",
         stops.1
     );
     Ok(())
 }
 
-// The output that stops holds just these bytes, the other one all of the lines that were handled and none of later ones.
-// Only of the line of `x`, which both outputs tell of, it may hold a part.
+// The output that stops holds just these bytes, the other one all of the lines that were handled and none of later
+// ones. Only of the line of `x`, which both outputs tell of, it may hold a part.
 #[test]
 fn each_byte_the_last(rt: HostRuntime) -> Result<(), Fail> {
     for stop in 0..39 {

@@ -1,6 +1,7 @@
 -- Joins the line reader's fields to what contracts see of it (what is still to come, what it counts, what it answers
 -- again), and its steps to one another.
-use Rattle.std.specs.Prelude.{Bool, true, false, ℕ, ◌≡◌, ◌<◌, ◌-◌, List, [], ◌∷◌, ◌++◌, take, drop, length, Option, None, Some, Result, Ok, Err, ⊤, ◌⊎◌, nat_lt, if◌then◌else◌}
+use Rattle.std.specs.Prelude.{Bool, true, false, ℕ, ◌≡◌, ◌<◌, ◌-◌, List, [], ◌∷◌, ◌++◌, take, drop, length, Option}
+use Rattle.std.specs.Prelude.{None, Some, Result, Ok, Err, ⊤, ◌⊎◌, nat_lt, if◌then◌else◌}
 use Rattle.std.specs.Option.{option_map}
 use Rattle.sum_sources.specs.declared.fault.Fault.{Fault}
 use Rattle.sum_sources.specs.declared.fault.Fault.TheVariants.{Other}
@@ -14,21 +15,21 @@ use Rattle.sum_sources.specs.declared.lines.LineStop.{LineStop}
 use Rattle.sum_sources.specs.declared.lines.LineStop.TheVariants as stops
 use Rattle.sum_sources.specs.Contents.{Content, limit}
 use Rattle.sum_sources.specs.ManifestLines.{NoNewline}
-use Rattle.sum_sources.specs.Standard.{nothing}
+use Rattle.sum_sources.specs.Standard.{empty_content}
 
 -- bytes that were read but not yet handed out
 abbrev pub buffered : {I : Type 0} → LineReader I → List ℕ
 buffered s = take (s.end - s.start) (drop s.start s.buf)
 
 -- the bytes that the input has given, and those of them that lines have used, newlines included; and the lines answered
-abbrev pub taken_of : {I : Type 0} → LineReader I → ℕ
-taken_of s = s.taken
+abbrev pub bytes_taken : {I : Type 0} → LineReader I → ℕ
+bytes_taken s = s.taken
 
-abbrev pub used_of : {I : Type 0} → LineReader I → ℕ
-used_of s = s.taken - (s.end - s.start)
+abbrev pub bytes_used : {I : Type 0} → LineReader I → ℕ
+bytes_used s = s.taken - (s.end - s.start)
 
-abbrev pub count_of : {I : Type 0} → LineReader I → ℕ
-count_of s = s.lines
+abbrev pub lines_given : {I : Type 0} → LineReader I → ℕ
+lines_given s = s.lines
 
 -- what its input has still to give
 abbrev pub left : {I : Type 0} → (I → Option Content) → LineReader I → Option Content
@@ -48,7 +49,7 @@ ahead content s = option_map (λ c. behind (buffered s) (clip_to (limit - s.take
 
 abbrev pub at_state : State → Option Content → Option Content
 at_state Reading c = c
-at_state Ended c = option_map (λ _. nothing) c
+at_state Ended c = option_map (λ _. empty_content) c
 at_state (Stopped (stops.Fault f)) c = option_map (λ _. record { bytes = []; ending = Broken f }) c
 at_state (Stopped stops.Memory) c = c
 
@@ -77,7 +78,7 @@ has_stopped s = is_stop (answer_of s)
 -- filling the empty buffer: what is still to come stays, and is nothing where the end was found
 abbrev pub FillOf : Content → Content → Result Bool Fault → Type 0
 FillOf c d (Ok true) = d ≡ c
-FillOf c d (Ok false) = (d ≡ c) × (c ≡ nothing)
+FillOf c d (Ok false) = (d ≡ c) × (c ≡ empty_content)
 FillOf c d (Err f) = c ≡ record { bytes = []; ending = Broken f }
 
 -- a piece went from the front of the buffer to the line's end: up to a newline, which went too, or the whole buffer
@@ -92,11 +93,11 @@ EndsPiece c d piece = (c.bytes ≡ piece ++ (10 ∷ d.bytes)) × (d.ending ≡ c
 
 -- the piece is all that there was, and nothing is still to come
 abbrev pub IsLastPiece : Content → Content → List ℕ → Type 0
-IsLastPiece c d piece = (c.bytes ≡ piece) × (c.ending ≡ Whole) × (0 < length piece) × (d ≡ nothing)
+IsLastPiece c d piece = (c.bytes ≡ piece) × (c.ending ≡ Whole) × (0 < length piece) × (d ≡ empty_content)
 
 -- what reading on answers, in bytes: a piece that a newline ended, or the last one; or that no piece is left
 abbrev pub PieceOf : Content → Content → Result Next LineStop → List ℕ → Type 0
 PieceOf c d (Ok Line) piece = NoNewline piece × (EndsPiece c d piece ⊎ IsLastPiece c d piece)
-PieceOf c d (Ok NoMore) piece = c ≡ nothing
+PieceOf c d (Ok NoMore) piece = c ≡ empty_content
 PieceOf c d (Err (stops.Fault f)) piece = NoNewline piece × (c.bytes ≡ piece) × (c.ending ≡ Broken f)
 PieceOf c d (Err stops.Memory) piece = ⊤

@@ -2,7 +2,8 @@
 use Rattle.sum_sources.specs.declared.told_source.Answer.{Answer}
 use Rattle.sum_sources.specs.declared.told_source.Answer.TheVariants as answers
 use Rattle.sum_sources.specs.declared.told_source.StoredPair.{StoredPair}
-use Rattle.sum_sources.specs.Sources.{Reply, Refused, Given, Pair}
+use Rattle.sum_sources.specs.InMemory.{Pair}
+use Rattle.sum_sources.specs.Sources.{Reply, Refused, Given}
 
 abbrev pub reply_of : Answer → Reply
 reply_of (answers.Fault f) = Refused f

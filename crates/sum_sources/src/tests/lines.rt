@@ -148,3 +148,16 @@ fn memory_refused(rt: HostRuntime) -> Result<(), Fail> {
     assert!(rt; reader.lines() == 1);
     Ok(())
 }
+
+// What was read ahead is lost, and the rest still comes.
+#[test]
+fn input_given_back(rt: HostRuntime) {
+    let mut line = Vec::new(rt.alloc());
+    let mut reader = LineReader::new(Told::new(b"one\ntwo\nthree", Ending::Whole, 6));
+    gives(&rt, &mut reader, &mut line, b"one");
+    assert!(rt; reader.taken() == 6);
+    let mut buf = [0; 8];
+    let mut input = reader.into_inner();
+    assert!(rt; input.read(&mut buf) == Ok(6));
+    assert!(rt; buf.starts_with(b"o\nthre"));
+}

@@ -1,5 +1,5 @@
 //! Inputs over readers, and the answers of told inputs.
-use crate::{Ending, Fault, FromRead, Given, Input, Stdin, Told};
+use crate::{Ending, Fault, FromRead, Given, Input, LineStop, NoRoom, OpenFault, Stdin, Told};
 use std::io::{self, ErrorKind, Read};
 use std::test::Fail;
 
@@ -93,10 +93,38 @@ fn nothing_yet(rt: HostRuntime) {
 }
 
 #[test]
-fn texts_of_faults(rt: HostRuntime) {
-    assert_eq!(rt; Fault::NotFound.text(), "No such file or directory");
-    assert_eq!(rt; Fault::Denied.text(), "Permission denied");
-    assert_eq!(rt; Fault::Other.text(), "Input/output error");
+fn texts_of_faults(rt: HostRuntime) -> Result<(), Fail> {
+    for (fault, text) in [
+        (Fault::NotFound, "No such file or directory"),
+        (Fault::Denied, "Permission denied"),
+        (Fault::Other, "Input/output error"),
+    ] {
+        assert_eq!(rt; fault.text(), text);
+        assert_eq!(rt; format!(in rt.alloc(); "{fault}")?.as_str(), text);
+        let opening = OpenFault::Fault(fault);
+        assert_eq!(rt; format!(in rt.alloc(); "{opening}")?.as_str(), text);
+        let reading = LineStop::Fault(fault);
+        assert_eq!(rt; format!(in rt.alloc(); "{reading}")?.as_str(), text);
+    }
+    let (opening, reading, adding) = (OpenFault::Memory, LineStop::Memory, NoRoom);
+    let texts = format!(in rt.alloc(); "{opening}, {reading}, {adding}")?;
+    assert_eq!(rt;
+        texts.as_str(),
+        "memory exhausted, memory exhausted, memory exhausted"
+    );
+    Ok(())
+}
+
+#[test]
+fn reader_given_back(rt: HostRuntime) -> Result<(), Fail> {
+    let mut buf = [0; 4];
+    let mut input = FromRead::new(LateByte { is_there: false });
+    assert!(rt; input.read(&mut buf) == Err(Fault::Other));
+    let mut reader = input.into_inner();
+    assert!(rt; reader.is_there);
+    assert!(rt; reader.read(&mut buf).ok() == Some(1));
+    assert_eq!(rt; buf, [7, 0, 0, 0]);
+    Ok(())
 }
 
 // Two bytes a read, a piece of 0 counting as 1.

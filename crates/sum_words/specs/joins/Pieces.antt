@@ -2,10 +2,10 @@
 use Rattle.std.specs.Prelude.{ℕ, ◌≡◌, ◌≤◌, ◌-◌, List, [], ◌∷◌, take, drop, length}
 use Rattle.std.specs.Str.{IsCharBoundary}
 
--- the pieces of a text that end at these places, the first of them from here on
-abbrev pub pieces : List ℕ → ℕ → List ℕ → List (List ℕ)
-pieces text from [] = []
-pieces text from (end ∷ ends) = take (end - from) (drop from text) ∷ pieces text end ends
+-- the texts that a text is cut into, which end at these places, the first of them from here on
+abbrev pub texts_cut : List ℕ → ℕ → List ℕ → List (List ℕ)
+texts_cut text from [] = []
+texts_cut text from (end ∷ ends) = take (end - from) (drop from text) ∷ texts_cut text end ends
 
 -- the places go up to the text's end, and no character lies over one of them
 abbrev pub CutsAt : List ℕ → ℕ → List ℕ → Type 0

@@ -1,6 +1,8 @@
--- Joins the reader of the words to the request: the options that its running values say, and its answers.
-use Rattle.std.specs.Prelude.{ℕ, ◌≡◌, ◌≤◌, ◌^◌, ◌||◌, true, List, [], Option, None, Some, Result, Ok, Err, codes}
-use Rattle.std.specs.Option.{option_map, option_copied}
+-- Joins the reader of the words to the request: what its running values say, and its answers.
+use Rattle.std.specs.Prelude.{ℕ, ◌≡◌, ◌≤◌, ◌^◌, ◌||◌, ◌&&◌, not, true, Bool, List, [], ◌∷◌, Option, None, Some, Result, Ok, Err, codes, filter, find, option_map}
+use Rattle.std.specs.List.{last_or}
+use Rattle.std.specs.Option.{option_copied}
+use Rattle.std.specs.Str.{bytes_eq, all_ascii_digits}
 use Rattle.std.specs.Str.Parse.{digits_value}
 use Rattle.sum_lines.specs.declared.written.Mode.{Mode}
 use Rattle.sum_lines.specs.declared.written.Mode.TheVariants as modes
@@ -9,9 +11,9 @@ use Rattle.sum_engine.specs.declared.settings.Report.TheVariants as reports
 use Rattle.sum_words.specs.declared.faults.WordFault.{WordFault}
 use Rattle.sum_words.specs.declared.reading.Chosen.{Chosen}
 use Rattle.sum_words.specs.Faults.{Fault}
-use Rattle.sum_words.specs.Items.{Text, Item}
+use Rattle.sum_words.specs.Items.{Text, Item, has, options_of, values_of}
 use Rattle.sum_words.specs.joins.Walk.{fault_of}
-use Rattle.sum_words.specs.Request.{Options, or_else, last_of, among, mode_names, report_names, value_of, has, is_number}
+use Rattle.sum_words.specs.Request.{faults}
 
 -- the names of the options that set these
 abbrev pub mode_name : Mode → Text
@@ -25,42 +27,45 @@ report_name reports.Quiet = codes "quiet"
 report_name reports.Warn = codes "warn"
 report_name reports.Status = codes "status"
 
--- what the options read so far say
-abbrev pub chosen_of : Chosen → Options
-chosen_of c = record {
-  mode = option_map mode_name c.mode;
-  report = option_map report_name c.report;
-  length = option_copied c.length;
-  binary = c.binary;
-  check = c.check;
-  tag = c.tag;
-  text = c.text;
-  zero = c.zero;
-  ignore_missing = c.ignore_missing;
-  strict = c.strict;
-}
+-- an option that sets a mode, or a report, is the last of these; or one of earlier ones, where there is none
+abbrev pub mode_after : Option Text → List Text → Option Text
+mode_after earlier given =
+    last_or earlier (filter (λ name. has name (codes "binary" ∷ codes "text" ∷ codes "tag" ∷ [])) given)
 
--- what they say with these items too
-abbrev pub after : Options → List Item → Options
-after o xs = record {
-  mode = or_else (last_of (among mode_names) xs) o.mode;
-  report = or_else (last_of (among report_names) xs) o.report;
-  length = or_else (last_of value_of xs) o.length;
-  binary = has (codes "binary") xs || o.binary;
-  check = has (codes "check") xs || o.check;
-  tag = has (codes "tag") xs || o.tag;
-  text = has (codes "text") xs || o.text;
-  zero = has (codes "zero") xs || o.zero;
-  ignore_missing = has (codes "ignore-missing") xs || o.ignore_missing;
-  strict = has (codes "strict") xs || o.strict;
-}
+abbrev pub report_after : Option Text → List Text → Option Text
+report_after earlier given =
+    last_or earlier (filter (λ name. has name (codes "status" ∷ codes "warn" ∷ codes "quiet" ∷ [])) given)
+
+-- an option was there earlier, or is in the rest, exactly where it is among all
+abbrev pub IsThere : Text → Bool → List Item → List Item → Type 0
+IsThere name earlier rest all = (has name (options_of rest) || earlier) ≡ has name (options_of all)
+
+-- the running values and the rest, which is still to be read, say what all items say
+pub record IsChosenBy (c : Chosen) (rest all : List Item) : Type 0 where
+  pub mode : mode_after (option_map mode_name c.mode) (options_of rest) ≡ mode_after None (options_of all)
+  pub report : report_after (option_map report_name c.report) (options_of rest) ≡ report_after None (options_of all)
+  pub length : last_or (option_copied c.length) (values_of rest) ≡ last_or None (values_of all)
+  pub binary : IsThere (codes "binary") c.binary rest all
+  pub check : IsThere (codes "check") c.check rest all
+  pub tag : IsThere (codes "tag") c.tag rest all
+  pub text : IsThere (codes "text") c.text rest all
+  pub zero : IsThere (codes "zero") c.zero rest all
+  pub ignore_missing : IsThere (codes "ignore-missing") c.ignore_missing rest all
+  pub strict : IsThere (codes "strict") c.strict rest all
+
+-- the first fault of the options that holds
+abbrev pub first_fault : List Text → Option Fault
+first_fault given = option_map (λ row. row.1) (find (λ row. row.0) (faults given))
 
 -- an answer whose fault is the program's value
-abbrev pub answer_of : {X : Type 0} → Result X WordFault → Result X Fault
-answer_of (Ok x) = Ok x
-answer_of (Err f) = Err (fault_of f)
+abbrev pub result_of : {X : Type 0} → Result X WordFault → Result X Fault
+result_of (Ok x) = Ok x
+result_of (Err f) = Err (fault_of f)
 
--- the number that a text writes, where a u64 holds it
+-- whether a text is a number, one or more digits, and which, where a u64 holds it
+abbrev pub is_number : Text → Bool
+is_number value = not (bytes_eq value []) && all_ascii_digits value
+
 abbrev pub IsNumberOf : Text → Option ℕ → Type 0
 IsNumberOf value None = is_number value ≡ true → 2 ^ 64 ≤ digits_value 10 value
 IsNumberOf value (Some n) = (is_number value ≡ true) × (n ≡ digits_value 10 value)

@@ -1,36 +1,47 @@
 -- Joins the walker over the words to the list of items: what its values say, and what is still to come where it stands.
-use Rattle.std.specs.Prelude.{◌≡◌, eqb, drop, length, true, List, [], ◌∷◌, ◌++◌, Option, None, Some, Result, Ok, Err, codes, if◌then◌else◌}
+use Rattle.std.specs.Prelude.{◌≡◌, ◌&&◌, not, ℕ, eqb, drop, length, true, Bool, map, List, [], ◌∷◌, ◌++◌, Option, None, Some, Result, Ok, Err, codes}
 use Rattle.std.specs.List.{starts_with}
-use Rattle.std.specs.Str.{chars}
+use Rattle.std.specs.Str.{bytes_eq, chars}
 use Rattle.sum_words.specs.declared.tool.Tool.{Tool}
 use Rattle.sum_words.specs.declared.options.Flag.{Flag}
 use Rattle.sum_words.specs.declared.options.Flag.TheVariants as flags
 use Rattle.sum_words.specs.declared.faults.WordFault.{WordFault}
 use Rattle.sum_words.specs.declared.faults.WordFault.TheVariants as words
-use Rattle.sum_words.specs.Faults.{Fault, unknown_long, ambiguous_long, value_not_allowed, value_missing, unknown_short, length_invalid, length_not_bytes, tag_with_text, zero_with_check, tag_with_check, mode_with_check, ignore_without_check, status_without_check, warn_without_check, quiet_without_check, strict_without_check, check_needed}
+use Rattle.sum_words.specs.Faults.{Fault, unknown_long, ambiguous_long, value_not_allowed, value_missing, unknown_short, length_invalid, length_not_bytes, tag_with_text, zero_with_check, tag_with_check, mode_with_check, without_check, check_needed}
 use Rattle.sum_words.specs.declared.items.Item.{Item as WordItem}
 use Rattle.sum_words.specs.declared.items.Item.TheVariants as says
 use Rattle.sum_words.specs.declared.items.State.{State}
 use Rattle.sum_words.specs.declared.items.State.TheVariants as states
 use Rattle.sum_words.specs.declared.items.Step.{Step}
 use Rattle.sum_words.specs.declared.items.Step.TheVariants as steps
-use Rattle.sum_words.specs.Items.{Text, Item, option, length_value, operand, fault, is_full, Read, a_word, a_value, operands, nothing, cluster, items_from}
+use Rattle.sum_words.specs.Items.{Text, Item, option, length_value, operand, fault, Read, a_word, a_value, no_word, cluster, items_from}
 
--- an option's full name
+-- an option's row in the table
+abbrev pub row_of : Flag → Text × Text
+row_of flags.Binary = (codes "b", codes "binary")
+row_of flags.Check = (codes "c", codes "check")
+row_of flags.Tag = (codes "", codes "tag")
+row_of flags.Text = (codes "t", codes "text")
+row_of flags.Zero = (codes "z", codes "zero")
+row_of flags.IgnoreMissing = (codes "", codes "ignore-missing")
+row_of flags.Quiet = (codes "", codes "quiet")
+row_of flags.Status = (codes "", codes "status")
+row_of flags.Strict = (codes "", codes "strict")
+row_of flags.Warn = (codes "w", codes "warn")
+row_of flags.Help = (codes "", codes "help")
+row_of flags.Version = (codes "", codes "version")
+row_of flags.Length = (codes "l", codes "length")
+
 abbrev pub full_name : Flag → Text
-full_name flags.Binary = codes "binary"
-full_name flags.Check = codes "check"
-full_name flags.Tag = codes "tag"
-full_name flags.Text = codes "text"
-full_name flags.Zero = codes "zero"
-full_name flags.IgnoreMissing = codes "ignore-missing"
-full_name flags.Quiet = codes "quiet"
-full_name flags.Status = codes "status"
-full_name flags.Strict = codes "strict"
-full_name flags.Warn = codes "warn"
-full_name flags.Help = codes "help"
-full_name flags.Version = codes "version"
-full_name flags.Length = codes "length"
+full_name flag = (row_of flag).1
+
+-- a letter as a text, where there is one
+abbrev pub letter_text : Option ℕ → Text
+letter_text None = []
+letter_text (Some c) = c ∷ []
+
+abbrev pub has_letter : ℕ → Text × Text → Bool
+has_letter c row = bytes_eq row.0 (c ∷ [])
 
 -- the fault that the program's value says
 abbrev pub fault_of : WordFault → Fault
@@ -45,22 +56,17 @@ fault_of words.TagWithText = tag_with_text
 fault_of words.ZeroWithCheck = zero_with_check
 fault_of words.TagWithCheck = tag_with_check
 fault_of words.ModeWithCheck = mode_with_check
-fault_of words.IgnoreWithoutCheck = ignore_without_check
-fault_of words.StatusWithoutCheck = status_without_check
-fault_of words.WarnWithoutCheck = warn_without_check
-fault_of words.QuietWithoutCheck = quiet_without_check
-fault_of words.StrictWithoutCheck = strict_without_check
+fault_of words.IgnoreWithoutCheck = without_check (codes "ignore-missing")
+fault_of words.StatusWithoutCheck = without_check (codes "status")
+fault_of words.WarnWithoutCheck = without_check (codes "warn")
+fault_of words.QuietWithoutCheck = without_check (codes "quiet")
+fault_of words.StrictWithoutCheck = without_check (codes "strict")
 fault_of words.CheckNeeded = check_needed
 
 -- the full name, or the fault, to which a long name was resolved
 abbrev pub resolution : Result Flag WordFault → Result Text Fault
 resolution (Ok flag) = Ok (full_name flag)
 resolution (Err f) = Err (fault_of f)
-
--- the name itself, if it is one of these
-abbrev pub named : Text → List Text → Option Text
-named name [] = None
-named name (full ∷ fulls) = if is_full name full then Some full else named name fulls
 
 -- the item that the program's value says
 abbrev pub item_of : WordItem → Item
@@ -71,30 +77,34 @@ item_of (says.Fault f) = fault (fault_of f)
 
 -- what a word says, and then the words behind it
 abbrev pub read_then : Tool → Read → List Text → List Item
-read_then t r words = r.items ++ items_from t r.next words
+read_then t r words = r.0 ++ items_from t r.1 words
 
 -- the items still to come where the walker stands, before these words
-abbrev pub to_come : Tool → State → List Text → List Item
-to_come t states.Word words = items_from t a_word words
-to_come t (states.Cluster c rest) words = read_then t (cluster t (c ∷ chars rest.now)) words
-to_come t states.Operands words = items_from t operands words
-to_come t states.Ended words = items_from t nothing words
+abbrev pub items_to_come : Tool → State → List Text → List Item
+items_to_come t states.Word words = items_from t a_word words
+items_to_come t (states.Cluster c rest) words = read_then t (cluster t (c ∷ chars rest.now)) words
+items_to_come t states.OnlyOperands words = map operand words
+items_to_come t states.Ended words = items_from t no_word words
 
 -- the items that a step makes of these words
 abbrev pub step_says : Tool → Step → List Text → List Item
-step_says t (steps.Say x state) words = item_of x ∷ to_come t state words
+step_says t (steps.Say x state) words = item_of x ∷ items_to_come t state words
 step_says t (steps.Value is_long) words = items_from t (a_value is_long) words
-step_says t steps.Operands words = items_from t operands words
+step_says t steps.OnlyOperands words = map operand words
 
 -- the first member was taken, or there is none
 abbrev pub TakesWord : List Text → Option Text → List Text → Type 0
 TakesWord old None new = (old ≡ []) × (new ≡ [])
 TakesWord old (Some w) new = old ≡ w ∷ new
 
-abbrev pub Takes : {X Y : Type 0} → (X → Y) → List Y → Option X → List Y → Type 0
-Takes f old None new = (old ≡ []) × (new ≡ [])
-Takes f old (Some x) new = old ≡ f x ∷ new
+abbrev pub TakesFirst : {X Y : Type 0} → (X → Y) → List Y → Option X → List Y → Type 0
+TakesFirst f old None new = (old ≡ []) × (new ≡ [])
+TakesFirst f old (Some x) new = old ≡ f x ∷ new
 
 -- what stands behind a front of a word
 abbrev pub IsBehind : Text → Text → Text → Type 0
 IsBehind front word rest = (starts_with eqb word front ≡ true) × (rest ≡ drop (length front) word)
+
+-- whether a word that doesn't begin with two dashes is a cluster
+abbrev pub is_cluster : Text → Bool
+is_cluster word = starts_with eqb word (codes "-") && not (bytes_eq word (codes "-"))

@@ -1,5 +1,6 @@
 use Rattle.std.proofs.Common.{◌≡◌, ℕ, ◌+◌, ◌*◌, List}
-use Rattle.blake2b_core.specs.Digest.{blocks, hash_after}
+use Rattle.blake2b_core.specs.Digest.{blocks}
+use Rattle.blake2b_core.specs.joins.Chaining.{hash_after}
 use Rattle.blake2b_core.specs.joins.Holding.{AreBlocksFrom}
 use Rattle.blake2b_core.proofs.whole.chained.Given as goal
 

@@ -1,7 +1,7 @@
 use Rattle.std.proofs.Common.{refl}
 use Rattle.std.specs.Prelude.{Some}
 use Rattle.sum_words.specs.CommandLines.{call}
-use Rattle.digests.proofs.RunLemmas.{asked-is}
+use Rattle.digests.proofs.OperandLemmas.{asked-is}
 use Rattle.digests.proofs.ProgramLemmas.{ends}
 use Rattle.digests.proofs.command.perform.Goals as goal
 

@@ -1,4 +1,4 @@
-use Rattle.digests.proofs.WrittenLemmas.{joined_is_good}
+use Rattle.digests.proofs.WrittenIsGood.{joined_is_good}
 use Rattle.digests.proofs.laws.joined_is_good.Goals as goal
 
 pub returns : goal.returns

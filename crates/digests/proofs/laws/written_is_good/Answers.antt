@@ -1,4 +1,4 @@
-use Rattle.digests.proofs.WrittenLemmas.{written_is_good}
+use Rattle.digests.proofs.WrittenIsGood.{written_is_good}
 use Rattle.digests.proofs.laws.written_is_good.Goals as goal
 
 pub returns : goal.returns

@@ -1,5 +1,5 @@
 use Rattle.std.proofs.Common.{refl}
-use Rattle.digests.proofs.RunLemmas.{asked-is, refused-is}
+use Rattle.digests.proofs.OperandLemmas.{asked-is, refused-is}
 use Rattle.digests.proofs.run.run.Goals as goal
 
 pub returns-clause-gives : goal.returns-clause-gives

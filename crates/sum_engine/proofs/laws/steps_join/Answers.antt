@@ -1,4 +1,4 @@
-use Rattle.sum_engine.proofs.RunLemmas.{steps_join, steps_end, steps_cut}
+use Rattle.sum_engine.proofs.JoinLemmas.{steps_join, steps_end, steps_cut}
 use Rattle.sum_engine.proofs.laws.steps_join.Goals as goal
 
 pub returns-clause-join : goal.returns-clause-join

@@ -21,7 +21,8 @@ returns-in-Err-clause-gives g c =
     let last = c.step.new.self in
     let so_far = c.lines.invariant in
     let gives = rw so_far.rules at (c.in-Err.ensures.gives so_far.going) in
-    along_stop _ _ _ _ _ _ here.form here.counts _ _ _ _ last.form last.counts _ _ c.in-Err.stop _ _ _ so_far.along gives so_far.refusals (c.in-Err.ensures.wants so_far.going)
+    along_stop _ _ _ _ _ _ here.form here.counts _ _ _ _ last.form last.counts _ _ c.in-Err.stop _ _ _ so_far.along
+    gives so_far.refusals (c.in-Err.ensures.wants so_far.going)
 
 pub returns-in-Ok-Ended-clause-gives : goal.returns-in-Ok-Ended-clause-gives
 returns-in-Ok-Ended-clause-gives g c =

@@ -13,5 +13,11 @@ returns-in-Some-clause-gives g c =
     let within = rw c.in-Entry.is at c.requires in
     let s : Spelled = record { algo = kind.algo; digest = c.in-Entry.digest; name = name } in
     let dash : c.args.listing.now.from_stdin && is_dash name ≡ false =
-    elim c.else-listing.branch [ else-listing-via-then-listing+else-eq w ↦ search rules | else-listing-via-else-listing w ↦ search rules ] in
-    rw c.in-Entry.is (judged_entry (rules_in c.args.listing.now) _ _ kind s c.in-Some.asked _ (ap (λ n. record { algo = kind.algo; len = n }) (sym within.2)) dash c.in-Some.ensures.gives c.compare-verdict.ensures refl)
+    elim c.else-listing.branch [
+      | else-listing-via-then-listing+else-eq w ↦ search rules
+      | else-listing-via-else-listing
+          w ↦ search rules
+    ] in
+    rw c.in-Entry.is (judged_entry (rules_in c.args.listing.now) _ _ kind s c.in-Some.asked _
+    (ap (λ n. record { algo = kind.algo; len = n }) (sym within.2)) dash c.in-Some.ensures.gives
+    c.compare-verdict.ensures refl)

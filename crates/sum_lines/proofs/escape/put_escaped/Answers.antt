@@ -12,7 +12,8 @@ returns-in_err-put_all g c =
 
 pub returns-in_err-put_escape : goal.returns-in_err-put_escape
 returns-in_err-put_escape g c =
-    let failed = err_from_is_err_and c.from_residual-in_err-put_escape.result c.from_residual-in_err-put_escape.ensures.1 in
+    let failed = err_from_is_err_and c.from_residual-in_err-put_escape.result
+    c.from_residual-in_err-put_escape.ensures.1 in
     let cut = escape-parts _ _ _ _ c.split_at.ensures.front c.split_at.ensures.back c.in-Some.ensures.cut in
     let plain = Left-step _ _ _ _ _ _ _ _ _ _ c.loop-at.invariant cut c.in_ok-put_all.ensures in
     rw failed.1 (Left-stop _ _ _ _ _ _ _ _ _ _ plain refl c.in_err-put_escape.ensures)
@@ -25,4 +26,5 @@ loop-at-preserved g c =
 
 pub returns : goal.returns
 returns g c =
-    Left-last _ _ _ _ _ _ _ _ c.put_all-2.result (rw c.in_default.ensures.cut at c.loop-at.invariant) c.put_all-2.ensures
+    Left-last _ _ _ _ _ _ _ _ c.put_all-2.result (rw c.in_default.ensures.cut at c.loop-at.invariant)
+    c.put_all-2.ensures

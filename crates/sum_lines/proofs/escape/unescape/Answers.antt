@@ -10,7 +10,8 @@ returns-in_err-byte-clause-none c =
 
 pub overflow_add-read : goal.overflow_add-read
 overflow_add-read c =
-    let fits = Half-fits _ _ _ _ c.in_ok-byte.width c.loop-read.invariant (rw (take_rest c.loop-read.bytes c.loop-read.read) at c.in_ok-byte.ensures.width.1) in
+    let fits = Half-fits _ _ _ _ c.in_ok-byte.width c.loop-read.invariant
+    (rw (take_rest c.loop-read.bytes c.loop-read.read) at c.in_ok-byte.ensures.width.1) in
     search (rules, fits)
 
 pub loop-read-preserved : goal.loop-read-preserved

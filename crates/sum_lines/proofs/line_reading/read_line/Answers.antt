@@ -1,14 +1,18 @@
-use Rattle.std.proofs.Common.{◌≡◌, false, sym, ◌∙◌}
+use Rattle.std.proofs.Common.{◌≡◌, true, false, sym, ◌∙◌}
 use Rattle.sum_lines.specs.Entries.{ignored}
-use Rattle.sum_lines.proofs.ReadingLemmas.{form-tagged, reads-tagged, reads-none, reads-plain}
+use Rattle.sum_lines.proofs.ReadingLemmas.{form-ignored, form-other, form-plain, form-tagged, reads-tagged, reads-none, reads-plain}
 use Rattle.sum_lines.proofs.line_reading.read_line.Goals as goal
+
+pub returns-then-is_ignored-clause-form : goal.returns-then-is_ignored-clause-form
+returns-then-is_ignored-clause-form g c =
+    let mute : ignored c.args.line.now.items ≡ true =
+    rw c.deref.ensures.value at (sym c.is_ignored.ensures ∙ c.if-is_ignored.true) in
+    form-ignored c.args.algos c.args.form c.args.line.now.items mute
 
 pub returns-in-Some-clause-form : goal.returns-in-Some-clause-form
 returns-in-Some-clause-form g c =
-    let heard : ignored c.args.line.now.items ≡ false =
-    rw c.deref.ensures.value at (sym c.is_ignored.ensures ∙ c.if-is_ignored.false) in
     let parts = rw c.deref-3.ensures.value at c.in-Some.ensures.parts in
-    form-tagged c.args.algos c.args.form c.args.line.now.items _ parts heard
+    form-tagged c.args.algos c.args.form c.args.line.now.items _ parts
 
 pub returns-in-Some-clause-reads : goal.returns-in-Some-clause-reads
 returns-in-Some-clause-reads g c =
@@ -17,6 +21,17 @@ returns-in-Some-clause-reads g c =
     let parts = rw c.deref-3.ensures.value at c.in-Some.ensures.parts in
     reads-tagged c.args.algos c.args.form c.args.line.now.items _ c.in-Some.found c.read_name.result heard parts
     c.read_name.ensures.names
+
+pub returns-in-Some-plain-clause-form : goal.returns-in-Some-plain-clause-form
+returns-in-Some-plain-clause-form g c =
+    let parts = rw c.deref-in_default.ensures.value at c.in-Some-plain.ensures.parts in
+    form-plain c.args.algos c.args.form c.read_tail.result.1 c.args.line.now.items c.in-Some-plain.found parts
+    c.read_tail.ensures.form
+
+pub returns-in_default-plain-clause-form : goal.returns-in_default-plain-clause-form
+returns-in_default-plain-clause-form g c =
+    let parts = rw c.deref-in_default.ensures.value at c.in_default-plain.ensures.parts in
+    form-other c.args.algos c.args.form c.args.line.now.items (sym parts)
 
 pub returns-in-Some-plain-clause-reads : goal.returns-in-Some-plain-clause-reads
 returns-in-Some-plain-clause-reads g c =

@@ -38,7 +38,8 @@ returns-in_err-digest-clause-parts c = rw c.from_residual-in_err-digest.ensures
     (λ p at found.
     let cut = searched-some c.args.algo c.args.text.now p at c.min.result c.in_ok-at.at found c.min.ensures
     c.in_ok-at.ensures in
-    let digits = decoded-digits (take c.in_ok-at.at c.args.text.now) p.digest cut.spelled (has_len-some c.args.algo (length p.digest) cut.has)
+    let digits = decoded-digits (take c.in_ok-at.at c.args.text.now) p.digest cut.spelled
+    (has_len-some c.args.algo (length p.digest) cut.has)
     (has_len-most c.args.algo (length p.digest) cut.has) in
     let bad = c.in_err-digest.ensures.found.1 digits in cc))
 

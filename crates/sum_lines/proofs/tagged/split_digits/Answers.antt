@@ -1,6 +1,6 @@
 use Rattle.std.proofs.Common.{ℕ, List, sym, subst, ap, take, ◌∙◌}
 use Rattle.std.specs.List.{AllPass}
-use Rattle.sum_lines.specs.Scanned.{is_digit}
+use Rattle.sum_lines.specs.joins.Steps.{is_digit}
 use Rattle.sum_lines.proofs.FrontLemmas.{front-passes}
 use Rattle.sum_lines.proofs.tagged.split_digits.Goals as goal
 

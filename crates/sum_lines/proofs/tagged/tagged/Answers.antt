@@ -4,14 +4,16 @@ use Rattle.sum_lines.proofs.tagged.tagged.Goals as goal
 
 pub overflow_sub-start : goal.overflow_sub-start
 overflow_sub-start c =
-    let opened = c.in-Some.ensures ∙ opened-line c.args.algos c.args.line.now c.args.text.now c.args.escaped c.requires in
+    let opened = c.in-Some.ensures ∙ opened-line c.args.algos c.args.line.now c.args.text.now c.args.escaped
+    c.requires in
     let ends = opened-ends c.args.algos c.args.line.now _ opened in
     (name-range c.args.line.now ends.0 c.in-Some.opened.inner.now c.in_ok-raw.raw.now c.in_ok-raw.behind_name.now
     ends.1 c.in_ok-raw.ensures).0
 
 pub returns-clause-range : goal.returns-clause-range
 returns-clause-range c =
-    let opened = c.in-Some.ensures ∙ opened-line c.args.algos c.args.line.now c.args.text.now c.args.escaped c.requires in
+    let opened = c.in-Some.ensures ∙ opened-line c.args.algos c.args.line.now c.args.text.now c.args.escaped
+    c.requires in
     let ends = opened-ends c.args.algos c.args.line.now _ opened in
     let range = name-range c.args.line.now ends.0 c.in-Some.opened.inner.now c.in_ok-raw.raw.now
     c.in_ok-raw.behind_name.now ends.1 c.in_ok-raw.ensures in
@@ -19,7 +21,8 @@ returns-clause-range c =
 
 pub returns-clause-parts : goal.returns-clause-parts
 returns-clause-parts c =
-    let opened = c.in-Some.ensures ∙ opened-line c.args.algos c.args.line.now c.args.text.now c.args.escaped c.requires in
+    let opened = c.in-Some.ensures ∙ opened-line c.args.algos c.args.line.now c.args.text.now c.args.escaped
+    c.requires in
     let ends = opened-ends c.args.algos c.args.line.now _ opened in
     let range = name-range c.args.line.now ends.0 c.in-Some.opened.inner.now c.in_ok-raw.raw.now
     c.in_ok-raw.behind_name.now ends.1 c.in_ok-raw.ensures in

@@ -11,6 +11,7 @@ returns c =
     let buffer = c.args.buffer.now in
     let size : kept ≤ length (drop front buffer) = omega (arith, length-drop front buffer) in
     let pasted = ap (λ n. take n c.copy_within.new.self) (sym (zero-add kept))
-    ∙ ap (take (0 + kept)) c.copy_within.ensures.after ∙ take-paste buffer 0 (drop front buffer) kept (omega arith) size in
+    ∙ ap (take (0 + kept)) c.copy_within.ensures.after ∙ take-paste buffer 0 (drop front buffer) kept
+    (omega arith) size in
     let sum : front + kept ≡ held = omega arith in
     pasted ∙ sym (drop-take front kept buffer) ∙ ap (λ n. drop front (take n buffer)) sum

@@ -18,7 +18,8 @@ loop-taken-preserved g c =
       within = omega (arith, takes.0, size);
       bytes = rw (take-add taken count text) (Appends-trans _ _ _ _ _ c.loop-taken.invariant.bytes bytes);
       kept = c.in-Ok.ensures.kept ∙ c.loop-taken.invariant.kept;
-      offers = rw (sym (drop-drop count taken text)) (Offered-more _ _ _ _ _ count c.loop-taken.invariant.offers offers (takes.1 (omega (arith, size))) takes.0);
+      offers = rw (sym (drop-drop count taken text)) (Offered-more _ _ _ _ _ count c.loop-taken.invariant.offers offers
+          (takes.1 (omega (arith, size))) takes.0);
     }
 
 pub returns-in-Err-clause-offers : goal.returns-in-Err-clause-offers
@@ -27,4 +28,5 @@ returns-in-Err-clause-offers g c =
 
 pub returns-clause-offers : goal.returns-clause-offers
 returns-clause-offers g c =
-    Offered-enough _ _ _ _ c.loop-taken.invariant.offers (omega (arith, length-drop c.loop-taken.taken c.args.bytes.now))
+    Offered-enough _ _ _ _ c.loop-taken.invariant.offers (omega
+    (arith, length-drop c.loop-taken.taken c.args.bytes.now))

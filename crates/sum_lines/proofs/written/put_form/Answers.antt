@@ -9,4 +9,5 @@ returns-in_err-put_tag-in-Tag g c =
     rw (failed.1, c.in-Tag.is) (Ends-at_first _ _ _ _ _ _ _ c.in_err-put_tag-in-Tag.ensures refl)
 
 pub returns-in_ok-put_tag-in-Tag : goal.returns-in_ok-put_tag-in-Tag
-returns-in_ok-put_tag-in-Tag g c = rw c.in-Tag.is (Ends-then _ _ _ _ _ _ _ _ _ _ c.in_ok-put_tag-in-Tag.ensures c.put_parts-in-Tag.ensures refl)
+returns-in_ok-put_tag-in-Tag g c =
+    rw c.in-Tag.is (Ends-then _ _ _ _ _ _ _ _ _ _ c.in_ok-put_tag-in-Tag.ensures c.put_parts-in-Tag.ensures refl)

@@ -9,29 +9,35 @@ returns-in_err-read-clause-gives g c =
     let held = c.loop-one.invariant.held in
     let few : length held.0 < 2 ^ 61 = rw (sym (g.met.H.Hasher.counts _ _ held.1)) c.loop-one.invariant.few in
     let fault = err_from_is_err_and c.from_residual.result c.from_residual.ensures.1 in
-    rw (fault.1, fault.2) (Hashes-fault _ _ _ held.0 [] (g.H.Hasher.kind_of c.args.hasher) _ held.2 c.in_err-read.ensures.bytes few)
+    rw (fault.1, fault.2) (Hashes-fault _ _ _ held.0 [] (g.H.Hasher.kind_of c.args.hasher) _ held.2
+    c.in_err-read.ensures.bytes few)
 
 pub returns-in-0-clause-gives : goal.returns-in-0-clause-gives
 returns-in-0-clause-gives g c =
     let held = c.loop-one.invariant.held in
     let few : length held.0 < 2 ^ 61 = rw (sym (g.met.H.Hasher.counts _ _ held.1)) c.loop-one.invariant.few in
-    Hashes-whole _ _ _ held.0 _ (g.H.Hasher.kind_of c.args.hasher) _ held.2 (rw c.in-0.is at c.in_ok-read.ensures.bytes) (search rules) few (c.finish.ensures.value held.0 held.1 ∙ ap (λ k. digest k held.0) c.loop-one.invariant.kind)
+    Hashes-whole _ _ _ held.0 _ (g.H.Hasher.kind_of c.args.hasher) _ held.2 (rw c.in-0.is at c.in_ok-read.ensures.bytes)
+    (search rules) few (c.finish.ensures.value held.0 held.1 ∙ ap (λ k. digest k held.0) c.loop-one.invariant.kind)
 
 pub returns-in_default-clause-gives : goal.returns-in_default-clause-gives
 returns-in_default-clause-gives g c =
     let held = c.loop-one.invariant.held in
     let count = g.met.H.Hasher.counts _ _ held.1 in
-    Hashes-long _ _ _ held.0 _ (g.H.Hasher.kind_of c.args.hasher) _ held.2 c.in_ok-read.ensures.bytes (search rules) c.in_ok-read.ensures.count (omega arith)
+    Hashes-long _ _ _ held.0 _ (g.H.Hasher.kind_of c.args.hasher) _ held.2 c.in_ok-read.ensures.bytes
+    (search rules) c.in_ok-read.ensures.count (omega arith)
 
 pub returns-in_err-n-clause-gives : goal.returns-in_err-n-clause-gives
 returns-in_err-n-clause-gives g c =
     let held = c.loop-one.invariant.held in
     let few : length held.0 < 2 ^ 61 = rw (sym (g.met.H.Hasher.counts _ _ held.1)) c.loop-one.invariant.few in
     let fault = err_from_is_err_and c.from_residual-in_err-n.result c.from_residual-in_err-n.ensures.1 in
-    rw (fault.1, fault.2) (Hashes-fault _ _ _ held.0 [] (g.H.Hasher.kind_of c.args.hasher) _ held.2 c.in_err-n.ensures.bytes few)
+    rw (fault.1, fault.2) (Hashes-fault _ _ _ held.0 [] (g.H.Hasher.kind_of c.args.hasher) _ held.2
+    c.in_err-n.ensures.bytes few)
 
 pub returns-then-n-eq0-clause-gives : goal.returns-then-n-eq0-clause-gives
 returns-then-n-eq0-clause-gives g c =
     let held = c.loop-one.invariant.held in
     let few : length held.0 < 2 ^ 61 = rw (sym (g.met.H.Hasher.counts _ _ held.1)) c.loop-one.invariant.few in
-    Hashes-whole _ _ _ held.0 _ (g.H.Hasher.kind_of c.args.hasher) _ held.2 (rw c.if-n-eq0.true at c.in_ok-n.ensures.bytes) (search rules) few (c.finish-then-n-eq0.ensures.value held.0 held.1 ∙ ap (λ k. digest k held.0) c.loop-one.invariant.kind)
+    Hashes-whole _ _ _ held.0 _ (g.H.Hasher.kind_of c.args.hasher) _ held.2
+    (rw c.if-n-eq0.true at c.in_ok-n.ensures.bytes) (search rules) few
+    (c.finish-then-n-eq0.ensures.value held.0 held.1 ∙ ap (λ k. digest k held.0) c.loop-one.invariant.kind)

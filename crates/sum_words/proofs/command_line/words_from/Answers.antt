@@ -8,8 +8,10 @@ pub places-preserved : goal.places-preserved
 places-preserved g c =
     let word = rw c.in-Some.is at c.in_ok-word.ensures in
     rw (c.in-Ok-add.ensures.ok, c.in-Ok.ensures.cases.0)
-    (words-more _ c.args.first c.places.place c.places.words c.in-Some.word.now c.places.invariant word c.in-Ok.ensures.cases.1)
+    (words-more _ c.args.first c.places.place c.places.words c.in-Some.word.now c.places.invariant word
+    c.in-Ok.ensures.cases.1)
 
 pub returns-in_default : goal.returns-in_default
 returns-in_default g c =
-    words-all _ c.args.first c.places.place c.places.words c.places.invariant (rw c.in_default.is at c.in_ok-word.ensures)
+    words-all _ c.args.first c.places.place c.places.words c.places.invariant
+    (rw c.in_default.is at c.in_ok-word.ensures)

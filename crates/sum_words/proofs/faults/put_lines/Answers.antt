@@ -1,6 +1,6 @@
 use Rattle.std.proofs.Common.{List, ℕ, subst}
 use Rattle.sum_lines.specs.Sinks.{Writes}
-use Rattle.sum_lines.specs.Parts.{part_text}
+use Rattle.sum_lines.specs.joins.PartTexts.{part_text}
 use Rattle.sum_words.proofs.TextLemmas.{fault_parts}
 use Rattle.sum_words.proofs.faults.put_lines.Goals as goal
 

@@ -1,4 +1,4 @@
-use Rattle.sum_words.proofs.PlainLemmas.{plain_words, words_behind}
+use Rattle.sum_words.proofs.PlainWordLemmas.{plain_words, words_behind}
 use Rattle.sum_words.proofs.laws.plain_words_are_operands.Goals as goal
 
 pub returns-clause-plain : goal.returns-clause-plain

@@ -1,6 +1,6 @@
 use Rattle.std.proofs.Common.{sym, ◌∙◌, ap}
 use Rattle.std.specs.Str.{all_ascii_digits}
-use Rattle.sum_words.proofs.ReadingLemmas.{number_parsed, no_number}
+use Rattle.sum_words.proofs.RequestLemmas.{number_parsed, no_number}
 use Rattle.sum_words.proofs.reading.number.Goals as goal
 
 pub returns-then-not-all_digits : goal.returns-then-not-all_digits

@@ -1,7 +1,7 @@
 use Rattle.std.proofs.Common.{◌≤◌, length, sym, refl}
 use Rattle.std.proofs.lemmas.Option.{slice_get_past}
-use Rattle.sum_words.specs.joins.Pieces.{pieces}
-use Rattle.sum_words.proofs.PieceLemmas.{piece_read, pieces-length}
+use Rattle.sum_words.specs.joins.Pieces.{texts_cut}
+use Rattle.sum_words.proofs.PieceLemmas.{piece_read, texts_cut-length}
 use Rattle.sum_words.proofs.words.piece_at.Goals as goal
 
 pub returns-in_err-end-clause-piece : goal.returns-in_err-end-clause-piece
@@ -9,7 +9,8 @@ returns-in_err-end-clause-piece c =
     let ends = c.args.ends.now in
     let past : length ends ≤ c.args.i = c.in_err-end.ensures.lookup.3 in
     rw c.from_residual.ensures
-    (sym (slice_get_past (pieces c.args.text.now 0 ends) c.args.i (rw (pieces-length c.args.text.now 0 ends) past)))
+    (sym (slice_get_past (texts_cut c.args.text.now 0 ends) c.args.i
+    (rw (texts_cut-length c.args.text.now 0 ends) past)))
 
 pub range-requires : goal.range-requires
 range-requires c =

@@ -8,7 +8,8 @@ use Rattle.digest_kinds.proofs.algo.Algo.of_tag_prefix.Goals as goal
 searched : (c : goal.After-copied) → c.copied.result ≡ find (begins c.args.bytes.now) all
 searched c =
     c.copied.ensures
-    ∙ find_from_yields_List (begins c.args.bytes.now) _ _ c.find.result c.find.ensures.ran (YieldsList-from_slice all cc) (λ x b q k. search (rules, tests))
+    ∙ find_from_yields_List (begins c.args.bytes.now) _ _ c.find.result c.find.ensures.ran
+    (YieldsList-from_slice all cc) (λ x b q k. search (rules, tests))
 
 pub returns-clause-tagged : goal.returns-clause-tagged
 returns-clause-tagged c = rw (searched c) (IfSome-find-begins c.args.bytes.now all)

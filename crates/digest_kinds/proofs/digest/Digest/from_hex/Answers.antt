@@ -5,11 +5,13 @@ use Rattle.digest_kinds.proofs.digest.Digest.from_hex.Goals as goal
 
 pub returns-in_err-ok-clause-found : goal.returns-in_err-ok-clause-found
 returns-in_err-ok-clause-found c =
-    let ok = IsOk-decoded c.args.text.now _ _ _ (grind (arith, common_steps)) (grind (arith, common_steps)) (grind (arith, common_steps)) c.decode_to_slice.ensures.value in
+    let ok = IsOk-decoded c.args.text.now _ _ _ (grind (arith, common_steps)) (grind (arith, common_steps))
+    (grind (arith, common_steps)) c.decode_to_slice.ensures.value in
     let none = rw c.in_err-ok.was at c.ok.ensures.variant in
     rw c.from_residual.ensures (λ s. cc s, λ d. none ∙ ok.1 d)
 
 pub returns-clause-found : goal.returns-clause-found
 returns-clause-found c =
-    let ok = IsOk-decoded c.args.text.now _ _ _ (grind (arith, common_steps)) (grind (arith, common_steps)) (grind (arith, common_steps)) c.decode_to_slice.ensures.value in
+    let ok = IsOk-decoded c.args.text.now _ _ _ (grind (arith, common_steps)) (grind (arith, common_steps))
+    (grind (arith, common_steps)) c.decode_to_slice.ensures.value in
     (λ _. ok.0 (sym c.ok.ensures.variant ∙ rw c.in_ok-ok.was refl), λ _. refl)

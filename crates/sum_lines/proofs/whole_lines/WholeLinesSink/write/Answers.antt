@@ -10,10 +10,12 @@ returns-then-not-is_whole-clause-ended g c =
 
 pub returns-in-Ok-clause-bytes : goal.returns-in-Ok-clause-bytes
 returns-in-Ok-clause-bytes g c =
-    let size : length (take c.self.inside.len c.self.inside.buffer) ≡ c.self.inside.len = omega (arith, length-take c.self.inside.len c.self.inside.buffer) in
+    let size : length (take c.self.inside.len c.self.inside.buffer) ≡ c.self.inside.len = omega
+    (arith, length-take c.self.inside.len c.self.inside.buffer) in
     let enough = rw c.put_in-count.ensures.bytes at c.in-Ok.ensures.enough in
     let bytes = rw c.put_in-count.ensures.bytes at c.in-Ok.ensures.bytes in
-    rw (← c.self.view_is) (rw size at (Appends-handed _ _ _ _ _ _ _ bytes (omega (arith, enough)) enough.1 (none_held c.self.inside.len c.put_in-count.new.buffer)))
+    rw (← c.self.view_is) (rw size at (Appends-handed _ _ _ _ _ _ _ bytes (omega (arith, enough)) enough.1
+    (none_held c.self.inside.len c.put_in-count.new.buffer)))
 
 pub returns-in-Ok-clause-lines : goal.returns-in-Ok-clause-lines
 returns-in-Ok-clause-lines g c =
@@ -21,7 +23,14 @@ returns-in-Ok-clause-lines g c =
     let offers = rw c.put_in-count.ensures.bytes at c.in-Ok.ensures.offers in
     let count = c.put_in-count.result in
     let cut = sym (take-append-drop count c.args.piece.now) in
-    rw (← c.self.view_is) (inr (take count c.args.piece.now, drop count c.args.piece.now, cut, whole refl, offers, none_held c.self.inside.len c.put_in-count.new.buffer))
+    rw (← c.self.view_is) (inr (
+      take count c.args.piece.now,
+      drop count c.args.piece.now,
+      cut,
+      whole refl,
+      offers,
+      none_held c.self.inside.len c.put_in-count.new.buffer,
+    ))
 
 pub returns-in-Err-clause-lines : goal.returns-in-Err-clause-lines
 returns-in-Err-clause-lines g c =
@@ -30,4 +39,11 @@ returns-in-Err-clause-lines g c =
     let count = c.put_in-count.result in
     let cut = sym (take-append-drop count c.args.piece.now) in
     let held = rw c.put_in-count.ensures.front at c.drop_front.ensures in
-    rw (← c.self.view_is) (inr (take count c.args.piece.now, drop count c.args.piece.now, cut, whole refl, offers, held_back _ _ c.in-Err.taken held))
+    rw (← c.self.view_is) (inr (
+      take count c.args.piece.now,
+      drop count c.args.piece.now,
+      cut,
+      whole refl,
+      offers,
+      held_back _ _ c.in-Err.taken held,
+    ))

@@ -8,20 +8,26 @@ use Rattle.sum_sources.proofs.lines.LineReader.fill.Goals as goal
 pub returns-in_err-n-clause-gives : goal.returns-in_err-n-clause-gives
 returns-in_err-n-clause-gives g c =
     let fault = err_from_is_err_and c.from_residual.result c.from_residual.ensures.1 in
-    rw (fault.1, fault.2) (filled_fault _ _ (buffered c.args.self.now) [] _ _ c.args.self.now.taken (none_buffered c.args.self.now.buf c.args.self.now.start c.args.self.now.end c.requires.empty) c.in_err-n.ensures.bytes (omega arith))
+    rw (fault.1, fault.2) (filled_fault _ _ (buffered c.args.self.now) [] _ _ c.args.self.now.taken
+    (none_buffered c.args.self.now.buf c.args.self.now.start c.args.self.now.end c.requires.empty)
+    c.in_err-n.ensures.bytes (omega arith))
 
 pub returns-then-n-eq0-clause-gives : goal.returns-then-n-eq0-clause-gives
 returns-then-n-eq0-clause-gives g c =
-    filled_end _ _ _ _ c.args.self.now.taken (none_buffered c.args.self.now.buf c.args.self.now.start c.args.self.now.end c.requires.empty) (rw c.if-n-eq0.true at c.in_ok-n.ensures.bytes) (search rules) (omega arith)
+    filled_end _ _ _ _ c.args.self.now.taken (none_buffered c.args.self.now.buf c.args.self.now.start
+    c.args.self.now.end c.requires.empty) (rw c.if-n-eq0.true at c.in_ok-n.ensures.bytes) (search rules) (omega arith)
 
 pub returns-then-room-eq0-clause-gives : goal.returns-then-room-eq0-clause-gives
 returns-then-room-eq0-clause-gives g c =
-    filled_long _ _ _ _ _ _ c.args.self.now.taken (none_buffered c.args.self.now.buf c.args.self.now.start c.args.self.now.end c.requires.empty) c.in_ok-n.ensures.bytes (search rules) (search rules) (omega arith)
+    filled_long _ _ _ _ _ _ c.args.self.now.taken (none_buffered c.args.self.now.buf c.args.self.now.start
+    c.args.self.now.end c.requires.empty) c.in_ok-n.ensures.bytes (search rules) (search rules) (omega arith)
 
 pub returns-in_err-n-2-clause-gives : goal.returns-in_err-n-2-clause-gives
 returns-in_err-n-2-clause-gives g c =
     let fault = err_from_is_err_and c.from_residual-in_err-n-2.result c.from_residual-in_err-n-2.ensures.1 in
-    rw (fault.1, fault.2) (filled_fault _ _ (buffered c.args.self.now) [] _ _ c.args.self.now.taken (none_buffered c.args.self.now.buf c.args.self.now.start c.args.self.now.end c.requires.empty) c.in_err-n-2.ensures.bytes (omega arith))
+    rw (fault.1, fault.2) (filled_fault _ _ (buffered c.args.self.now) [] _ _ c.args.self.now.taken
+    (none_buffered c.args.self.now.buf c.args.self.now.start c.args.self.now.end c.requires.empty)
+    c.in_err-n-2.ensures.bytes (omega arith))
 
 pub returns-clause-gives : goal.returns-clause-gives
 returns-clause-gives g c =
@@ -30,4 +36,6 @@ returns-clause-gives g c =
     let size : c.min-size.result ≤ length c.read_front-2.new.buf = search rules in
     let part : length (take c.min-size.result c.read_front-2.new.buf) ≡ c.min-size.result = length-take-le _ _ size in
     let all : c.in_ok-n-2.n ≡ c.in_ok-n-2.n - 0 = omega arith in
-    filled _ _ _ _ _ c.in_ok-n-2.n c.args.self.now.taken _ (none_buffered c.args.self.now.buf c.args.self.now.start c.args.self.now.end c.requires.empty) c.in_ok-n-2.ensures.bytes (omega arith) (omega arith) (take-take _ _ _ fits ∙ ap (λ (k : ℕ). take k c.read_front-2.new.buf) all) refl (omega arith)
+    filled _ _ _ _ _ c.in_ok-n-2.n c.args.self.now.taken _ (none_buffered c.args.self.now.buf c.args.self.now.start
+    c.args.self.now.end c.requires.empty) c.in_ok-n-2.ensures.bytes (omega arith) (omega arith)
+    (take-take _ _ _ fits ∙ ap (λ (k : ℕ). take k c.read_front-2.new.buf) all) refl (omega arith)

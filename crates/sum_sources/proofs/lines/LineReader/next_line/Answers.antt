@@ -11,12 +11,16 @@ returns-in-Stopped-clause-gives g c = gives_stopped _ _ _ _ c.in-Stopped.is
 
 pub returns-in-Ok-Line-clause-gives : goal.returns-in-Ok-Line-clause-gives
 returns-in-Ok-Line-clause-gives g c =
-    gives_line _ (ahead g.I.Input.content c.args.self.now) _ c.read_on-result.result _ _ c.in-Reading.is (search rules) c.drop_return.ensures c.read_on-result.ensures.piece
+    gives_line _ (ahead g.I.Input.content c.args.self.now) _ c.read_on-result.result _ _ c.in-Reading.is
+    (search rules) c.drop_return.ensures c.read_on-result.ensures.piece
 
 pub returns-in-Ok-NoMore-clause-gives : goal.returns-in-Ok-NoMore-clause-gives
 returns-in-Ok-NoMore-clause-gives g c =
-    gives_no_more _ (ahead g.I.Input.content c.args.self.now) _ c.read_on-result.result _ _ c.in-Reading.is (search rules) c.read_on-result.ensures.piece
+    gives_no_more _ (ahead g.I.Input.content c.args.self.now) _ c.read_on-result.result _ _ c.in-Reading.is
+    (search rules) c.read_on-result.ensures.piece
 
 pub returns-in-Err-clause-gives : goal.returns-in-Err-clause-gives
 returns-in-Err-clause-gives g c =
-    gives_stop _ c.read_on-result.new.self.state (ahead g.I.Input.content c.args.self.now) (ahead g.I.Input.content c.read_on-result.new.self) c.read_on-result.result c.in-Err.stop _ c.read_on-result.new.line.items c.in-Reading.is c.in-Err.is c.read_on-result.ensures.piece
+    gives_stop _ c.read_on-result.new.self.state (ahead g.I.Input.content c.args.self.now)
+    (ahead g.I.Input.content c.read_on-result.new.self) c.read_on-result.result c.in-Err.stop _
+    c.read_on-result.new.line.items c.in-Reading.is c.in-Err.is c.read_on-result.ensures.piece

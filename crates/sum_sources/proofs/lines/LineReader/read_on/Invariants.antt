@@ -1,6 +1,6 @@
 use Rattle.std.proofs.Common.{◌≡◌, length, ◌^◌, ◌-◌, ◌+◌}
 use Rattle.sum_sources.specs.Contents.{WhereTold}
-use Rattle.sum_sources.specs.joins.LineReading.{ahead, left, used_of}
+use Rattle.sum_sources.specs.joins.LineReading.{ahead, left, bytes_used}
 use Rattle.sum_sources.specs.ManifestLines.{NoNewline}
 use Rattle.sum_sources.proofs.ReadOnLemmas.{Came}
 use Rattle.sum_sources.proofs.lines.LineReader.read_on.Given as goal
@@ -9,8 +9,9 @@ abbrev pub invariant-loop-self : goal.invariant-loop-self
 invariant-loop-self g l = record {
   came : WhereTold (ahead g.I.Input.content l.fn.self) (ahead g.I.Input.content l.self) (λ c d. Came c d l.line.items);
   plain : NoNewline l.line.items;
-  input : WhereTold (left g.I.Input.content l.fn.self) (left g.I.Input.content l.self) (λ c d. l.self.taken + length d.bytes ≡ l.fn.self.taken + length c.bytes);
-  used : used_of l.self ≡ used_of l.fn.self + length l.line.items;
+  input : WhereTold (left g.I.Input.content l.fn.self) (left g.I.Input.content l.self)
+      (λ c d. l.self.taken + length d.bytes ≡ l.fn.self.taken + length c.bytes);
+  used : bytes_used l.self ≡ bytes_used l.fn.self + length l.line.items;
   lines : l.self.lines ≡ l.fn.self.lines;
   state : l.self.state ≡ l.fn.self.state;
 }

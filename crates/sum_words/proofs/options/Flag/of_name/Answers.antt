@@ -1,20 +1,22 @@
-use Rattle.std.proofs.Common.{sym, ◌∙◌, ap}
-use Rattle.std.specs.List.{filter}
-use Rattle.sum_words.specs.Items.{the_one, names, is_begun_by, resolved}
-use Rattle.sum_words.specs.joins.Walk.{named}
-use Rattle.sum_words.proofs.OptionLemmas.{meant_in_full, meant_by_front}
+use Rattle.std.proofs.Common.{find, sym, ◌∙◌, ap, map, eqb}
+use Rattle.std.specs.List.{filter, starts_with}
+use Rattle.sum_words.specs.Items.{table, the_one, resolved}
+use Rattle.std.specs.Str.{bytes_eq}
+use Rattle.sum_words.proofs.OptionLemmas.{meant_in_full, meant_by_front, names_of}
 use Rattle.sum_words.proofs.options.Flag.of_name.Goals as goal
 
 pub returns-in-Some : goal.returns-in-Some
 unfolding resolved
 returns-in-Some c =
     let name = c.args.name.now in
-    meant_in_full name c.in-Some.flag (names c.args.tool) (c.in-Some.ensures ∙ ap (named name) c.flags-flags.ensures)
+    meant_in_full name c.in-Some.flag (map (λ row. row.1) (table c.args.tool))
+    (c.in-Some.ensures ∙ ap (find (bytes_eq name)) (names_of c.flags-flags.result.now _ c.flags-flags.ensures))
 
 pub returns-in-None : goal.returns-in-None
 unfolding resolved
 returns-in-None c =
     let name = c.args.name.now in
-    let fulls = names c.args.tool in
-    c.only_begun.ensures ∙ ap (λ ns. the_one name (filter (is_begun_by name) ns)) c.flags-flags.ensures
-    ∙ sym (ap (the_one name) (meant_by_front name fulls (c.in-None.ensures ∙ ap (named name) c.flags-flags.ensures)))
+    let fulls = map (λ row. row.1) (table c.args.tool) in
+    let same = names_of c.flags-flags.result.now _ c.flags-flags.ensures in
+    c.only_begun.ensures ∙ ap (λ ns. the_one name (filter (λ full. starts_with eqb full name) ns)) same
+    ∙ sym (meant_by_front name fulls (c.in-None.ensures ∙ ap (find (bytes_eq name)) same))

@@ -1,7 +1,7 @@
 use Rattle.std.proofs.Common.{◌≡◌, ◌++◌, length, sym, ap}
 use Rattle.std.specs.String.{string_bytes}
 use Rattle.std.proofs.lemmas.Str.{IsCharBoundary-at_seam}
-use Rattle.sum_words.proofs.PieceLemmas.{CutsAt-push, pieces-push}
+use Rattle.sum_words.proofs.PieceLemmas.{CutsAt-push, texts_cut-push}
 use Rattle.sum_words.proofs.words.Words.add.Goals as goal
 
 pub truncate-requires : goal.truncate-requires
@@ -21,4 +21,4 @@ invariant_of-self-in-Ok-push g c =
 pub returns-clause-ok : goal.returns-clause-ok
 returns-clause-ok g c =
     rw (c.in-Ok-push.ensures.items, c.as_str.ensures.value, c.in-Ok.ensures.bytes, ← c.self.view_is)
-    (pieces-push _ _ 0 _ c.self.invariant)
+    (texts_cut-push _ _ 0 _ c.self.invariant)

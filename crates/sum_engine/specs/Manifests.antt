@@ -1,6 +1,6 @@
 -- What a checker's steps come to: a whole manifest.
 use Rattle.std.specs.Prelude.{ℕ, zero, suc, ◌≡◌, ◌+◌, ◌⊎◌, Bool, List, ◌++◌, take, drop, length, flat_map, Option, None, Some, Result, Ok, Err, ⊤}
-use Rattle.sum_sources.specs.Contents.{Content}
+use Rattle.sum_sources.specs.Contents.{Content, WhereTold}
 use Rattle.sum_sources.specs.Sources.{after_refusal}
 use Rattle.sum_sources.specs.ManifestLines.{past_lines}
 use Rattle.sum_engine.specs.declared.settings.CheckSettings.{CheckSettings}
@@ -16,23 +16,21 @@ use Rattle.sum_engine.specs.Places.{WantsAt, PlaceOf}
 use Rattle.sum_engine.specs.Steps.{Now, Handles, Ends, start, next_out, next_err, next_asks}
 
 -- a new checker that was run to its end, on a manifest that was asked as the first thing
-abbrev pub RunOf : Rules → Content → ℕ → ℕ → Scene → Scene → Result Bool Stop → Type 0
-RunOf r c n m a b (Ok x) = (x ≡ good r c.ending (counts (all_verdicts r a.world c)))
+abbrev pub ManifestOf : Rules → Content → ℕ → ℕ → Scene → Scene → Result Bool Stop → Type 0
+ManifestOf r c n m a b (Ok x) = (x ≡ good r c.ending (counts (all_verdicts r a.world c)))
     × Does a b (flat_map (out_of r) (all_verdicts r a.world c))
     (flat_map (err_of r) (all_verdicts r a.world c) ++ end_text r c.ending (counts (all_verdicts r a.world c)))
     (flat_map asks_of (all_verdicts r a.world c))
-RunOf r c n m a b (Err Write) = CutOff a b (flat_map (out_of r) (all_verdicts r a.world c))
+ManifestOf r c n m a b (Err Write) = CutOff a b (flat_map (out_of r) (all_verdicts r a.world c))
     (flat_map (err_of r) (all_verdicts r a.world c) ++ end_text r c.ending (counts (all_verdicts r a.world c)))
     (flat_map asks_of (all_verdicts r a.world c))
-RunOf r c n m a b (Err Memory) = (k : ℕ) × Does a b (flat_map (out_of r) (take k (all_verdicts r a.world c)))
+ManifestOf r c n m a b (Err Memory) = (k : ℕ) × Does a b (flat_map (out_of r) (take k (all_verdicts r a.world c)))
     (flat_map (err_of r) (take k (all_verdicts r a.world c))) (flat_map asks_of (take k (all_verdicts r a.world c)))
     × WantsAt n m k c
 
-abbrev pub RunGives : Rules → Option Content → ℕ → ℕ → Option Scene → Option Scene → Result Bool Stop → Type 0
-RunGives r None n m a b x = ⊤
-RunGives r (Some c) n m None b x = ⊤
-RunGives r (Some c) n m (Some a) None x = ⊥
-RunGives r (Some c) n m (Some a) (Some b) x = RunOf r c n m a b x
+abbrev pub ManifestGives : Rules → Option Content → ℕ → ℕ → Option Scene → Option Scene → Result Bool Stop → Type 0
+ManifestGives r None n m a b x = ⊤
+ManifestGives r (Some c) n m a b x = WhereTold a b (λ a b. ManifestOf r c n m a b x)
 
 -- what checking one manifest does: all of its outcome; on a write fault a front of it; on want of memory all of it up
 -- to a place

@@ -10,13 +10,13 @@ use Rattle.sum_lines.specs.Entries.{form, form_then}
 use Rattle.sum_engine.specs.Worlds.{World}
 use Rattle.sum_engine.specs.Verdicts.{Rules, Judged, asks_of, verdicts, all_verdicts, judge}
 use Rattle.sum_engine.specs.Profiles.{lines_by}
-use Rattle.sum_engine.specs.Grammar.{says}
+use Rattle.sum_lines.specs.Says.{says}
 use Rattle.sum_engine.specs.Worlds.{after}
 use Rattle.sum_engine.specs.Reports.{out_of, err_of, counts, counted, end_text, good}
 use Rattle.sum_engine.specs.Scenes.{Scene, Does, Cut}
 use Rattle.sum_engine.specs.Steps.{Now, Handles, Ends, next_judged, next_out, next_err, next_asks, rest_verdicts, start}
 use Rattle.sum_sources.specs.ManifestLines.{past_lines}
-use Rattle.sum_engine.specs.Runs.{HandledTimes, StepsJoin, StepsEnd, StepsCut}
+use Rattle.sum_engine.specs.Manifests.{HandledTimes, StepsJoin, StepsEnd, StepsCut}
 use Rattle.sum_engine.specs.Scenes.{CutOff}
 use Rattle.sum_engine.proofs.SceneLemmas.{does_nothing, does_both, cut_after}
 use Rattle.sum_engine.proofs.RestLemmas.{rest_head, rest_none, rest_on, past_next, past_ending}
@@ -64,81 +64,116 @@ drop_next zero xs ys y h = ap (drop 1) h
 drop_next (suc k) [] ys y h = cc
 drop_next (suc k) (x ∷ xs) ys y h = drop_next k xs ys y h
 
-pub did_more : (r : Rules) (c : Content) (s : Scene) (b d : Now) (v : List ℕ) (js : List Judged) → Did r c s b js → (h : Handles r b d v)
+pub did_more : (r : Rules) (c : Content) (s : Scene) (b d : Now) (v : List ℕ) (js : List Judged) → Did r c s b js
+    → (h : Handles r b d v)
     → Did r c s d (js ++ next_judged r b h.line ∷ [])
 did_more r c s b d v js p h =
     let j = next_judged r b h.line in
     let more = one_more js j in
     record {
-      verdicts = p.verdicts ∙ ap (λ l. js ++ l) (rest_on r b d v h) ∙ sym (append_assoc js (j ∷ []) (rest_verdicts r d));
+      verdicts = p.verdicts ∙ ap (λ l. js ++ l) (rest_on r b d v h)
+          ∙ sym (append_assoc js (j ∷ []) (rest_verdicts r d));
       rest = h.rest ∙ ap past_line p.rest ∙ past_next (length js) c ∙ ap (λ n. past_lines n c) (sym more);
-      lines = sym (drop_next (length js) (lines_by r.profile c) (lines_by r.profile d.rest) h.line (sym p.lines ∙ h.lines)) ∙ ap (λ n. drop n (lines_by r.profile c)) (sym more);
+      lines = sym (drop_next (length js) (lines_by r.profile c) (lines_by r.profile d.rest) h.line
+          (sym p.lines ∙ h.lines)) ∙ ap (λ n. drop n (lines_by r.profile c)) (sym more);
       number = omega (arith, h.number, p.number, more);
       used = h.used ∙ p.used;
       counts = h.counts ∙ ap (λ x. counted x j.verdict) p.counts ∙ sym (counts_more js j);
-      done = rw (flat_one (out_of r) js j, flat_one (err_of r) js j, flat_one asks_of js j) (does_both s b.scene d.scene _ _ _ _ _ _ p.done h.done);
+      done = rw (flat_one (out_of r) js j, flat_one (err_of r) js j, flat_one asks_of js j)
+          (does_both s b.scene d.scene _ _ _ _ _ _ p.done h.done);
     }
 
 -- no line is left
-pub all_done : (r : Rules) (c : Content) (s : Scene) (b : Now) (js : List Judged) → Did r c s b js → lines_by r.profile b.rest ≡ [] → all_verdicts r s.world c ≡ js
+pub all_done : (r : Rules) (c : Content) (s : Scene) (b : Now) (js : List Judged) → Did r c s b js
+    → lines_by r.profile b.rest ≡ [] → all_verdicts r s.world c ≡ js
 all_done r c s b js p none = p.verdicts ∙ ap (λ l. js ++ l) (rest_none r b none) ∙ append-nil js
 
-ending_is : (r : Rules) (c : Content) (s : Scene) (b : Now) (js : List Judged) → Did r c s b js → b.rest.ending ≡ c.ending
+ending_is : (r : Rules) (c : Content) (s : Scene) (b : Now) (js : List Judged) → Did r c s b js
+    → b.rest.ending ≡ c.ending
 ending_is r c s b js p = ap (λ (x : Content). x.ending) p.rest ∙ past_ending (length js) c
 
-pub did_end : (r : Rules) (c : Content) (s : Scene) (b z : Now) (js : List Judged) (x : Bool) → Did r c s b js → Ends r b z x →
+pub did_end : (r : Rules) (c : Content) (s : Scene) (b z : Now) (js : List Judged) (x : Bool) → Did r c s b js
+    → Ends r b z x →
     let vs = all_verdicts r s.world c in
-    (x ≡ good r c.ending (counts vs)) × Does s z.scene (outs r vs) (errs r vs ++ end_text r c.ending (counts vs)) (asks vs)
+    (x ≡ good r c.ending (counts vs)) × Does s z.scene (outs r vs) (errs r vs ++ end_text r c.ending (counts vs))
+    (asks vs)
 did_end r c s b z js x p h =
     let all = all_done r c s b js p h.lines in
     let ending = ending_is r c s b js p in
-    let text : end_text r b.rest.ending b.counts ≡ end_text r c.ending (counts js) = ap (λ e. end_text r e b.counts) ending ∙ ap (end_text r c.ending) p.counts in
+    let text : end_text r b.rest.ending b.counts ≡ end_text r c.ending (counts js) = ap
+    (λ e. end_text r e b.counts) ending ∙ ap (end_text r c.ending) p.counts in
     let both = does_both s b.scene z.scene _ _ _ _ _ _ p.done h.done in
     let does : Does s z.scene (outs r js) (errs r js ++ end_text r c.ending (counts js)) (asks js) =
     subst (λ (t : List ℕ). Does s z.scene (outs r js) (errs r js ++ t) (asks js)) text
-    (subst (λ (t : List ℕ). Does s z.scene t (errs r js ++ end_text r b.rest.ending b.counts) (asks js)) (append-nil (outs r js))
-    (subst (λ (q : List (List ℕ)). Does s z.scene (outs r js ++ []) (errs r js ++ end_text r b.rest.ending b.counts) q) (append-nil (asks js)) both)) in
+    (subst (λ (t : List ℕ). Does s z.scene t (errs r js ++ end_text r b.rest.ending b.counts) (asks js))
+    (append-nil (outs r js))
+    (subst (λ (q : List (List ℕ)). Does s z.scene (outs r js ++ []) (errs r js ++ end_text r b.rest.ending b.counts) q)
+    (append-nil (asks js)) both)) in
     rw all (h.answer ∙ ap (λ e. good r e b.counts) ending ∙ ap (good r c.ending) p.counts, does)
 
 -- what the next step writes and asks begins what is left to write and to ask
 abbrev NextIn : Rules → Now → List ℕ → List (List ℕ) → Type 0
 NextIn r b end ls = (o : List ℕ) × (e : List ℕ) × (q : List (List ℕ))
-    × (outs r (rest_verdicts r b) ≡ next_out r b ls ++ o) × (errs r (rest_verdicts r b) ++ end ≡ next_err r b ls ++ e) × (asks (rest_verdicts r b) ≡ next_asks r b ls ++ q)
+    × (outs r (rest_verdicts r b) ≡ next_out r b ls ++ o) × (errs r (rest_verdicts r b) ++ end ≡ next_err r b ls ++ e)
+    × (asks (rest_verdicts r b) ≡ next_asks r b ls ++ q)
 
-next_in : (r : Rules) (b : Now) (end : List ℕ) (ls : List (List ℕ)) → lines_by r.profile b.rest ≡ ls → (lines_by r.profile b.rest ≡ [] → end ≡ end_text r b.rest.ending b.counts) → NextIn r b end ls
+next_in : (r : Rules) (b : Now) (end : List ℕ) (ls : List (List ℕ)) → lines_by r.profile b.rest ≡ ls
+    → (lines_by r.profile b.rest ≡ [] → end ≡ end_text r b.rest.ending b.counts) → NextIn r b end ls
 next_in r b end [] h is =
-    let none = rest_none r b h in
-    ([], [], [], ap (outs r) none, ap (λ l. errs r l ++ end) none ∙ is h ∙ sym (append-nil (end_text r b.rest.ending b.counts)), ap asks none)
+    let none = rest_none r b h in (
+      [],
+      [],
+      [],
+      ap (outs r) none,
+      ap (λ l. errs r l ++ end) none ∙ is h
+          ∙ sym (append-nil (end_text r b.rest.ending b.counts)),
+      ap asks none,
+    )
 next_in r b end (l ∷ ls) h is =
     let head = rest_head r b l ls h in
     let j = next_judged r b l in
-    let more = verdicts r (form_then b.form (form r.settings.algo (l ∷ ls))) (after b.scene.world (asks_of j)) (b.number + 1) ls in
-    (outs r more, errs r more ++ end, asks more, ap (outs r) head, ap (λ x. errs r x ++ end) head ∙ append_assoc (err_of r j) (errs r more) end, ap asks head)
+    let more = verdicts r (form_then b.form (form r.settings.algo (l ∷ ls))) (after b.scene.world (asks_of j))
+    (b.number + 1) ls in (
+      outs r more,
+      errs r more ++ end,
+      asks more,
+      ap (outs r) head,
+      ap (λ x. errs r x ++ end) head
+          ∙ append_assoc (err_of r j) (errs r more) end,
+      ap asks head,
+    )
 
 pub did_cut : (r : Rules) (c : Content) (s : Scene) (b : Now) (z : Scene) (js : List Judged) → Did r c s b js
-    → Cut b.scene z (next_out r b (lines_by r.profile b.rest)) (next_err r b (lines_by r.profile b.rest)) (next_asks r b (lines_by r.profile b.rest)) →
+    → Cut b.scene z (next_out r b (lines_by r.profile b.rest)) (next_err r b (lines_by r.profile b.rest))
+    (next_asks r b (lines_by r.profile b.rest)) →
     let vs = all_verdicts r s.world c in CutOff s z (outs r vs) (errs r vs ++ end_text r c.ending (counts vs)) (asks vs)
 did_cut r c s b z js p h =
     let vs = all_verdicts r s.world c in
     let end = end_text r c.ending (counts vs) in
     let last : lines_by r.profile b.rest ≡ [] → end ≡ end_text r b.rest.ending b.counts = λ none.
-    ap (λ l. end_text r c.ending (counts l)) (all_done r c s b js p none) ∙ ap (end_text r c.ending) (sym p.counts) ∙ ap (λ e. end_text r e b.counts) (sym (ending_is r c s b js p)) in
+    ap (λ l. end_text r c.ending (counts l)) (all_done r c s b js p none) ∙ ap (end_text r c.ending) (sym p.counts)
+    ∙ ap (λ e. end_text r e b.counts) (sym (ending_is r c s b js p)) in
     let ls = lines_by r.profile b.rest in
     let n = next_in r b end ls refl last in
     let left = rest_verdicts r b in
-    let out : outs r vs ≡ outs r js ++ (next_out r b ls ++ n.0) = ap (outs r) p.verdicts ∙ flat_map-append (out_of r) js left ∙ ap (λ l. outs r js ++ l) n.3 in
+    let out : outs r vs ≡ outs r js ++ (next_out r b ls ++ n.0) = ap (outs r) p.verdicts
+    ∙ flat_map-append (out_of r) js left ∙ ap (λ l. outs r js ++ l) n.3 in
     let err : errs r vs ++ end ≡ errs r js ++ (next_err r b ls ++ n.1) =
-    ap (λ l. l ++ end) (ap (errs r) p.verdicts ∙ flat_map-append (err_of r) js left) ∙ append_assoc (errs r js) (errs r left) end ∙ ap (λ l. errs r js ++ l) n.4 in
+    ap (λ l. l ++ end) (ap (errs r) p.verdicts ∙ flat_map-append (err_of r) js left)
+    ∙ append_assoc (errs r js) (errs r left) end ∙ ap (λ l. errs r js ++ l) n.4 in
     let asked : asks vs ≡ (asks js ++ next_asks r b ls) ++ n.2 =
-    ap asks p.verdicts ∙ flat_map-append asks_of js left ∙ ap (λ l. asks js ++ l) n.5 ∙ sym (append_assoc (asks js) (next_asks r b ls) n.2) in
+    ap asks p.verdicts ∙ flat_map-append asks_of js left ∙ ap (λ l. asks js ++ l) n.5
+    ∙ sym (append_assoc (asks js) (next_asks r b ls) n.2) in
     (asks js ++ next_asks r b ls, n.2, asked, cut_after s b.scene z _ _ _ _ _ _ _ _ _ _ p.done h out err)
 
 -- the lines handled are the first so many
-pub did_some : (r : Rules) (c : Content) (s : Scene) (b : Now) (js : List Judged) → Did r c s b js → take (length js) (all_verdicts r s.world c) ≡ js
+pub did_some : (r : Rules) (c : Content) (s : Scene) (b : Now) (js : List Judged) → Did r c s b js
+    → take (length js) (all_verdicts r s.world c) ≡ js
 did_some r c s b js p = ap (take (length js)) p.verdicts ∙ take_at js (rest_verdicts r b) (length js) refl
 
 -- so many lines
-pub did_times : (r : Rules) (c : Content) (s : Scene) (a b : Now) (js : List Judged) (k : ℕ) → Did r c s a js → HandledTimes r a b k
+pub did_times : (r : Rules) (c : Content) (s : Scene) (a b : Now) (js : List Judged) (k : ℕ) → Did r c s a js
+    → HandledTimes r a b k
     → (all : List Judged) × Did r c s b all × (length all ≡ length js + k)
 did_times r c s a b js zero p h = (js, subst (λ (x : Now). Did r c s x js) (sym h) p, omega arith)
 did_times r c s a b js (suc k) p h =
@@ -151,7 +186,8 @@ steps_join r c s b k h =
     let d = did_times r c s (start c s) b [] k (did_none r c s) h in
     let p = d.1 in
     let len : length d.0 ≡ k = omega (arith, d.2) in
-    let cut : take k (all_verdicts r s.world c) ≡ d.0 = ap (λ n. take n (all_verdicts r s.world c)) (sym len) ∙ did_some r c s b d.0 p in
+    let cut : take k (all_verdicts r s.world c) ≡ d.0 = ap (λ n. take n (all_verdicts r s.world c)) (sym len)
+    ∙ did_some r c s b d.0 p in
     let rest : b.rest ≡ past_lines k c = p.rest ∙ ap (λ n. past_lines n c) len in
     record {
       rest = rest;
@@ -161,16 +197,19 @@ steps_join r c s b k h =
       done = rw cut p.done;
     }
 
-length_verdicts : (r : Rules) (f : Form) (w : World) (n : ℕ) (ls : List (List ℕ)) → length (verdicts r f w n ls) ≡ length ls
+length_verdicts : (r : Rules) (f : Form) (w : World) (n : ℕ) (ls : List (List ℕ))
+    → length (verdicts r f w n ls) ≡ length ls
 length_verdicts r f w n [] = refl
-length_verdicts r f w n (l ∷ ls) = ap suc (length_verdicts r f (after w (asks_of (judge r w (n + 1) (says r.profile r.settings.algo f l)))) (n + 1) ls)
+length_verdicts r f w n (l ∷ ls) =
+    ap suc (length_verdicts r f (after w (asks_of (judge r w (n + 1) (says r.profile r.settings.algo f l)))) (n + 1) ls)
 
 pub steps_end : StepsEnd
 steps_end r c s b z k x h e =
     let d = did_times r c s (start c s) b [] k (did_none r c s) h in
     let all = all_done r c s b d.0 d.1 e.lines in
     let end = did_end r c s b z d.0 x d.1 e in
-    let len : length (all_verdicts r s.world c) ≡ length (lines_by r.profile c) = length_verdicts r (form r.settings.algo (lines_by r.profile c)) s.world 0 (lines_by r.profile c) in
+    let len : length (all_verdicts r s.world c) ≡ length (lines_by r.profile c) = length_verdicts r
+    (form r.settings.algo (lines_by r.profile c)) s.world 0 (lines_by r.profile c) in
     (omega (arith, d.2, ap length all, len), end.0, end.1)
 
 pub steps_cut : StepsCut

@@ -1,0 +1,44 @@
+//! Digests and their digits.
+use crate::Digest;
+use std::test::Fail;
+
+#[test]
+fn digits(rt: HostRuntime) {
+    for text in [b"".as_slice(), b"0", b"0g", b"0aF", &[b'0'; 130]] {
+        assert!(rt; Digest::from_hex(text).is_none());
+    }
+    match (
+        Digest::from_hex(b"0aFf"),
+        Digest::from_hex(b"0AFF"),
+        Digest::from_hex(b"0aFe"),
+    ) {
+        (Some(digest), Some(upper), Some(other)) => {
+            assert_eq!(rt; digest.as_slice(), [10, 255].as_slice());
+            assert!(rt; digest.same(&upper));
+            assert!(rt; !digest.same(&other));
+        }
+        _ => assert!(rt; false),
+    }
+    assert!(rt; Digest::from_hex(&[b'0'; 128]).is_some());
+}
+
+#[test]
+fn shown(rt: HostRuntime) -> Result<(), Fail> {
+    let digest = Digest::from_hex(b"0AfF").ok_or("no digest")?;
+    let text = format!(in rt.alloc(); "{digest}")?;
+    assert_eq!(rt; text.as_str(), "0aff");
+    let text = format!(in rt.alloc(); "{digest:>6}")?;
+    assert_eq!(rt; text.as_str(), "  0aff");
+    Ok(())
+}
+
+#[test]
+fn compared(rt: HostRuntime) -> Result<(), Fail> {
+    let digest = Digest::from_hex(b"0aff").ok_or("no digest")?;
+    let copy = digest.clone()?;
+    assert_eq!(rt; copy, digest);
+    for text in [b"0afe".as_slice(), b"0a", b"0aff00"] {
+        assert_ne!(rt; Digest::from_hex(text).ok_or("no digest")?, digest);
+    }
+    Ok(())
+}

@@ -1,0 +1,73 @@
+-- What comes behind a line has no part in what it says.
+use Rattle.std.proofs.Common.{◌≡◌, ℕ, Bool, true, false, cond, List, ◌∷◌, ◌++◌, Option, None, Some, refl, ap, sym, ◌∙◌}
+use Rattle.digest_kinds.specs.declared.algo.Algos.{Algos}
+use Rattle.sum_lines.specs.declared.line_reading.Form.{Form}
+use Rattle.sum_lines.specs.declared.line_reading.Form.TheVariants.{Undecided, Standard, Reversed}
+use Rattle.sum_lines.specs.Profiles.{Profile}
+use Rattle.sum_lines.specs.Entries.{form, form_then, line_form, form_of_tail, ignored_by, begins_standard}
+use Rattle.sum_lines.specs.Scanned.{◌>>=◌, Parts, tagged_parts, plain_parts}
+use Rattle.sum_lines.specs.Says.{with_raw, spelled, entry_of, Nothing, says}
+use Rattle.sum_lines.specs.Laws.{SameSaid, SameForm}
+use Rattle.sum_lines.proofs.ScannedLemmas.{plain-found}
+use Rattle.sum_lines.proofs.EntryLemmas.{form_of_parts, form-append}
+use Rattle.sum_lines.proofs.SaysLemmas.{entry_by, said_of}
+
+-- the form so far, then a line's, then that of the rest
+pub form_on : (f x g : Form) → form_then f (form_then x g) ≡ form_then (form_then f x) g
+form_on Undecided x g = refl
+form_on Standard x g = refl
+form_on Reversed x g = refl
+
+-- what is decided stays
+pub decided : (f : Form) (b : Bool) (g : Form)
+    → form_then (form_then f (cond b Standard Reversed)) g ≡ form_then f (cond b Standard Reversed)
+decided Undecided true g = refl
+decided Undecided false g = refl
+decided Standard b g = refl
+decided Reversed b g = refl
+
+entry_stays : (p : Profile) (f g : Form) (t q : Option Parts)
+    → entry_by p (form_then (form_then f (form_of_parts q)) g) t q ≡ entry_by p (form_then f (form_of_parts q)) t q
+entry_stays p f g (Some t) q = refl
+entry_stays p f g None None = refl
+entry_stays p f g None (Some q) = ap (λ x. with_raw x q >>= spelled p) (decided f (begins_standard q.text) g)
+
+-- no later line changes what a line says
+pub said_stays : (p : Profile) (algos : Algos) (f g : Form) (line : List ℕ)
+    → says p algos (form_then (form_then f (line_form algos line)) g) line
+    ≡ says p algos (form_then f (line_form algos line)) line
+unfolding entry_of
+said_stays p algos f g line =
+    ap (λ o. cond (ignored_by p line) Nothing (said_of o))
+    (entry_stays p f g (tagged_parts algos line) (plain_parts algos line))
+
+-- the form of all lines, at a line
+form_at : (algos : Algos) (before later : List (List ℕ)) (line : List ℕ) → form algos (before ++ (line ∷ later))
+    ≡ form_then (form_then (form algos before) (line_form algos line)) (form algos later)
+form_at algos before later line =
+    form-append algos before (line ∷ later) ∙ form_on (form algos before) (line_form algos line) (form algos later)
+
+said_alone : (p : Profile) (algos : Algos) (before later : List (List ℕ)) (line : List ℕ)
+    → says p algos (form algos (before ++ (line ∷ later))) line
+    ≡ says p algos (form_then (form algos before) (line_form algos line)) line
+said_alone p algos before later line =
+    ap (λ f. says p algos f line) (form_at algos before later line)
+    ∙ said_stays p algos (form algos before) (form algos later) line
+
+pub same_said : SameSaid
+same_said p algos before later others line =
+    said_alone p algos before later line ∙ sym (said_alone p algos before others line)
+
+form_alone : (algos : Algos) (before later : List (List ℕ)) (line tail : List ℕ)
+    → line_form algos line ≡ form_of_tail tail
+    → form algos (before ++ (line ∷ later)) ≡ form_then (form algos before) (form_of_tail tail)
+form_alone algos before later line tail own =
+    form_at algos before later line
+    ∙ ap (λ x. form_then (form_then (form algos before) x) (form algos later)) own
+    ∙ decided (form algos before) (begins_standard tail) (form algos later)
+
+pub same_form : SameForm
+same_form algos before later others line e kind d tail plain =
+    let p : Parts = record { escaped = e; kind = kind; digest = d; text = tail } in
+    let own : line_form algos line ≡ form_of_tail tail = ap form_of_parts (plain-found algos line p plain) in
+    form_alone algos before later line tail own ∙ sym (form_alone algos before others line tail own)

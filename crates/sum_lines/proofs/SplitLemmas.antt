@@ -1,0 +1,184 @@
+-- Texts in front, the last parenthesis, and the first of what some elements give.
+use Rattle.std.proofs.Common.{ℕ, zero, suc, ◌≡◌, ◌+◌, ◌<◌, ◌≤◌, Bool, true, false, ◌==◌, List, [], ◌∷◌, ◌++◌, length, take, drop, map, Option, None, Some, refl, ap, sym, ◌∙◌, arith, ◌⊎◌, inl, inr, subst, append_assoc, get_or}
+use Rattle.std.specs.Prelude.{filter_map, flat_map, slice_get}
+use Rattle.std.specs.Option.{option_or, option_map}
+use Rattle.std.specs.List.{AllPass, range_with_len, cons_option}
+use Rattle.std.specs.Path.{rsplit_once, rfind_below}
+use Rattle.std.proofs.lemmas.Bool.{cases_Bool, cond-true, cond-false, eqb-true, eq-eqb, ne_eqb, not-true}
+use Rattle.std.proofs.lemmas.Bool.Decides.{eqb_tells}
+use Rattle.std.proofs.lemmas.List.{take-append-drop, drop_more, get_or-append-add, take_at, drop_at, length-append}
+use Rattle.std.proofs.lemmas.List.Elements.{All-get_or}
+use Rattle.sum_lines.specs.Shapes.{optional}
+use Rattle.sum_lines.specs.Scanned.{behind}
+use Rattle.sum_lines.specs.joins.Steps.{past}
+use Rattle.sum_lines.proofs.FrontLemmas.{isn't, past-some, past-front}
+
+-- ---- a text in front
+
+behind-past : (xs ys : List ℕ) → behind xs ys ≡ past xs ys
+behind-past [] ys = refl
+behind-past (x ∷ xs) [] = refl
+behind-past (x ∷ xs) (y ∷ ys) = elim (eqb_tells y x) [
+  | inl same ↦ rw (same.1, eq-eqb x x refl) (behind-past xs ys)
+  | inr other ↦ rw (ne_eqb x y (λ e. other.1 (sym e)), other.0) refl
+]
+
+pub behind-some : (xs ys zs : List ℕ) → behind xs ys ≡ Some zs → ys ≡ xs ++ zs
+behind-some xs ys zs h = past-some xs ys zs (sym (behind-past xs ys) ∙ h)
+
+pub behind-front : (xs ys : List ℕ) → behind xs (xs ++ ys) ≡ Some ys
+behind-front xs ys = behind-past xs (xs ++ ys) ∙ past-front xs ys
+
+pub opened-some : (s inner : List ℕ) → option_or (behind (32 ∷ 40 ∷ []) s) (behind (40 ∷ []) s) ≡ Some inner
+    → (gap : Bool) × (s ≡ optional gap (32 ∷ []) ++ (40 ∷ inner))
+opened-some s inner h = go (behind (32 ∷ 40 ∷ []) s) refl h
+  where
+    go : (o : Option (List ℕ)) → behind (32 ∷ 40 ∷ []) s ≡ o → option_or o (behind (40 ∷ []) s) ≡ Some inner
+        → (gap : Bool) × (s ≡ optional gap (32 ∷ []) ++ (40 ∷ inner))
+    go (Some t) e k = (true, behind-some (32 ∷ 40 ∷ []) s inner (e ∙ k))
+    go None e k = (false, behind-some (40 ∷ []) s inner k)
+
+pub opened-at : (gap : Bool) (inner : List ℕ) → let s = optional gap (32 ∷ []) ++ (40 ∷ inner) in
+    option_or (behind (32 ∷ 40 ∷ []) s) (behind (40 ∷ []) s) ≡ Some inner
+opened-at true inner = refl
+opened-at false inner = refl
+
+-- ---- the last parenthesis
+
+rfind-some : (c : ℕ) (s : List ℕ) (n k : ℕ) → n ≤ length s → rfind_below c s n ≡ Some k
+    → (k < length s) × (get_or s k 0 ≡ c)
+rfind-some c s zero k le h = cc
+rfind-some c s (suc n) k le h = elim (cases_Bool (get_or s n 0 == c)) [
+  | inl here ↦
+      let same : n ≡ k = some-same n k (rw here at h) in
+      (omega (arith, le, same), ap (λ i. get_or s i 0) (sym same) ∙ eqb-true (get_or s n 0) c here)
+  | inr other ↦ rfind-some c s n k (omega (arith, le)) (rw other at h)
+]
+  where
+    some-same : (x y : ℕ) → Some x ≡ Some y → x ≡ y
+    some-same x y e = cc
+
+pub rsplit-some : (c : ℕ) (s : List ℕ) (p : List ℕ × List ℕ) → rsplit_once c s ≡ Some p → s ≡ p.0 ++ (c ∷ p.1)
+unfolding rsplit_once
+rsplit-some c s p h = go (rfind_below c s (length s)) refl h
+  where
+    pair-same : (x y : List ℕ × List ℕ) → Some x ≡ Some y → x ≡ y
+    pair-same x y e = cc
+
+    go : (o : Option ℕ) → rfind_below c s (length s) ≡ o
+        → option_map (λ i. (take i s, drop (i + 1) s)) o ≡ Some p → s ≡ p.0 ++ (c ∷ p.1)
+    go None e k = cc
+    go (Some i) e k =
+        let at = rfind-some c s (length s) i (omega arith) e in
+        sym (take-append-drop i s)
+        ∙ ap (λ l. take i s ++ l) (drop_more s i 0 at.0 ∙ ap (λ x. x ∷ drop (i + 1) s) at.1)
+        ∙ ap (λ (q : List ℕ × List ℕ). q.0 ++ (c ∷ q.1)) (pair-same (take i s, drop (i + 1) s) p k)
+
+-- behind it stands no other
+rfind-at : (c : ℕ) (xs ys : List ℕ) (j : ℕ) → j ≤ length ys → AllPass (isn't c) ys
+    → rfind_below c (xs ++ (c ∷ ys)) (length xs + 1 + j) ≡ Some (length xs)
+rfind-at c xs ys zero le all =
+    let s : List ℕ = xs ++ (c ∷ ys) in
+    let at : get_or s (length xs) 0 ≡ c = ap (λ i. get_or s i 0) (omega arith) ∙ get_or-append-add xs (c ∷ ys) 0 0 in
+    let n : length xs + 1 + 0 ≡ suc (length xs) = omega arith in
+    ap (rfind_below c s) n ∙ cond-true (get_or s (length xs) 0 == c) _ _ (eq-eqb (get_or s (length xs) 0) c at)
+rfind-at c xs ys (suc j) le all =
+    let s : List ℕ = xs ++ (c ∷ ys) in
+    let n : length xs + 1 + suc j ≡ suc (length xs + 1 + j) = omega arith in
+    let at : get_or s (length xs + 1 + j) 0 ≡ get_or ys j 0 =
+    ap (λ i. get_or s i 0) (omega arith) ∙ get_or-append-add xs (c ∷ ys) (suc j) 0 in
+    let other : (get_or s (length xs + 1 + j) 0 == c) ≡ false =
+    rw at (not-true (get_or ys j 0 == c) (All-get_or (λ x. isn't c x ≡ true) ys j 0 (omega (arith, le)) all)) in
+    ap (rfind_below c s) n ∙ cond-false (get_or s (length xs + 1 + j) 0 == c) _ _ other
+    ∙ rfind-at c xs ys j (omega (arith, le)) all
+
+pub rsplit-at : (c : ℕ) (xs ys : List ℕ) → AllPass (isn't c) ys → rsplit_once c (xs ++ (c ∷ ys)) ≡ Some (xs, ys)
+unfolding rsplit_once
+rsplit-at c xs ys all =
+    let s : List ℕ = xs ++ (c ∷ ys) in
+    let n : length s ≡ length xs + 1 + length ys = length-append xs (c ∷ ys) ∙ omega arith in
+    let found = ap (rfind_below c s) n ∙ rfind-at c xs ys (length ys) (omega arith) all in
+    let front : take (length xs) s ≡ xs = take_at xs (c ∷ ys) (length xs) refl in
+    let rest : drop (length xs + 1) s ≡ ys =
+    ap (drop (length xs + 1)) (sym (append_assoc xs (c ∷ []) ys))
+    ∙ drop_at (xs ++ (c ∷ [])) ys (length xs + 1) (length-append xs (c ∷ [])) in
+    rw found (ap (λ l. Some (l, drop (length xs + 1) s)) front ∙ ap (λ l. Some (xs, l)) rest)
+
+-- ---- the first of what some elements give
+
+-- it is an element of the list
+abbrev pub Among : {X : Type 0} → X → List X → Type 0
+Among x [] = ⊥
+Among x (y ∷ ys) = (x ≡ y) ⊎ Among x ys
+
+pub first-of : {X Y : Type 0} (h : X → Option Y) (xs : List X) (y : Y) → slice_get (filter_map h xs) 0 ≡ Some y
+    → (x : X) × Among x xs × (h x ≡ Some y)
+first-of h [] y e = cc
+first-of {X} {Y} h (x ∷ xs) y e = go (h x) refl e (λ k. first-of h xs y k)
+  where
+    go : (o : Option Y) → h x ≡ o → slice_get (cons_option o (filter_map h xs)) 0 ≡ Some y
+        → (slice_get (filter_map h xs) 0 ≡ Some y → (z : X) × Among z xs × (h z ≡ Some y))
+        → (z : X) × Among z (x ∷ xs) × (h z ≡ Some y)
+    go (Some z) is k more = (x, inl refl, is ∙ k)
+    go None is k more = let m = more k in (m.0, inr m.1, m.2)
+
+pub some-first : {X Y : Type 0} (h : X → Option Y) (x : X) (xs : List X) (y : Y) → Among x xs → h x ≡ Some y
+    → (z : Y) × (slice_get (filter_map h xs) 0 ≡ Some z)
+some-first h x [] y a e = absurd a
+some-first h x (w ∷ ws) y (inl is) e =
+    (y, ap (λ o. slice_get (cons_option o (filter_map h ws)) 0) (ap h (sym is) ∙ e))
+some-first {X} {Y} h x (w ∷ ws) y (inr a) e = go (h w) (some-first h x ws y a e)
+  where
+    go : (o : Option Y) → (z : Y) × (slice_get (filter_map h ws) 0 ≡ Some z)
+        → (z : Y) × (slice_get (cons_option o (filter_map h ws)) 0 ≡ Some z)
+    go (Some z) more = (z, refl)
+    go None more = more
+
+among-left : {X : Type 0} (x : X) (xs ys : List X) → Among x xs → Among x (xs ++ ys)
+among-left x [] ys a = absurd a
+among-left x (w ∷ ws) ys (inl is) = inl is
+among-left x (w ∷ ws) ys (inr a) = inr (among-left x ws ys a)
+
+among-right : {X : Type 0} (x : X) (xs ys : List X) → Among x ys → Among x (xs ++ ys)
+among-right x [] ys a = a
+among-right x (w ∷ ws) ys a = inr (among-right x ws ys a)
+
+among-either : {X : Type 0} (x : X) (xs ys : List X) → Among x (xs ++ ys) → Among x xs ⊎ Among x ys
+among-either x [] ys a = inr a
+among-either x (w ∷ ws) ys (inl is) = inl (inl is)
+among-either x (w ∷ ws) ys (inr a) = elim (among-either x ws ys a) [
+  | inl here ↦ inl (inr here)
+  | inr later ↦ inr later
+]
+
+pub among-flat : {X Y : Type 0} (f : X → List Y) (x : X) (y : Y) (xs : List X) → Among x xs → Among y (f x)
+    → Among y (flat_map f xs)
+among-flat f x y [] a b = absurd a
+among-flat {X} {Y} f x y (w ∷ ws) (inl is) b =
+    let P : X → Type 0 = λ v. Among y (f v) in among-left y (f w) (flat_map f ws) (subst P is b)
+among-flat f x y (w ∷ ws) (inr a) b = among-right y (f w) (flat_map f ws) (among-flat f x y ws a b)
+
+pub flat-among : {X Y : Type 0} (f : X → List Y) (y : Y) (xs : List X) → Among y (flat_map f xs)
+    → (x : X) × Among y (f x)
+flat-among f y [] a = absurd a
+flat-among f y (w ∷ ws) a = elim (among-either y (f w) (flat_map f ws) a) [
+  | inl here ↦ (w, here)
+  | inr later ↦ flat-among f y ws later
+]
+
+pub range-among : {Y : Type 0} (f : ℕ → Y) (y : Y) (a n : ℕ) → Among y (map f (range_with_len a n))
+    → (i : ℕ) × (a ≤ i) × (i < a + n) × (y ≡ f i)
+range-among f y a zero h = absurd h
+range-among f y a (suc n) (inl is) = (a, omega arith, omega arith, is)
+range-among f y a (suc n) (inr h) =
+    let more = range-among f y (a + 1) n h in (more.0, omega (arith, more.1), omega (arith, more.2), more.3)
+
+pub among-range : {Y : Type 0} (f : ℕ → Y) (i a n : ℕ) → a ≤ i → i < a + n → Among (f i) (map f (range_with_len a n))
+among-range f i a zero low high = absurd (omega (arith, low, high))
+among-range f i a (suc n) low high = elim (eqb_tells i a) [
+  | inl same ↦ inl (ap f same.1)
+  | inr other ↦ inr (among-range f i (a + 1) n (above i a low other.1) (omega (arith, high)))
+]
+  where
+    above : (i a : ℕ) → a ≤ i → (i ≡ a → ⊥) → a + 1 ≤ i
+    above i a low other = omega (arith, low, other)

@@ -1,0 +1,96 @@
+-- The name whose escape some bytes are, computed.
+use Rattle.std.proofs.Common.{◌≡◌, ℕ, suc, ◌<◌, ◌==◌, ◌&&◌, Bool, true, false, cond, List, [], ◌∷◌, ◌++◌, Some, refl, ap, sym, ◌∙◌, inl, inr, arith}
+use Rattle.std.specs.List.{All, list_all}
+use Rattle.std.specs.Prelude.{nat_lt, slice_index_or, bytes_eq}
+use Rattle.std.proofs.lemmas.Bool.{lt-ltb, ltb-true, and_parts, eqb-true, false≢true, cases_Bool, cond-true}
+use Rattle.std.proofs.lemmas.Bool.Decides.{eqb_tells}
+use Rattle.std.proofs.lemmas.Option.{cond_some}
+use Rattle.std.proofs.lemmas.List.Folds.{list_all_at}
+use Rattle.std.proofs.lemmas.Slice.Eq.{bytes_eq-Decides}
+use Rattle.sum_lines.specs.Profiles.{Profile}
+use Rattle.sum_lines.specs.Escape.{escape_of, escape_by}
+use Rattle.sum_lines.specs.Entries.{Spells}
+use Rattle.sum_lines.specs.Says.{unescaped, unescape, spelled}
+use Rattle.sum_lines.specs.Entries.{Spelled}
+use Rattle.sum_lines.specs.Scanned.{Parts}
+use Rattle.sum_lines.proofs.FrontLemmas.{bind_some}
+
+-- a byte that stands for itself
+plain-first : (b : ℕ) (rest : List ℕ) → (b == 92) ≡ false → unescaped (b ∷ rest) ≡ b ∷ unescaped rest
+plain-first b [] h = refl
+plain-first b (c ∷ cs) h = rw h refl
+
+-- unescaping what is escaped gives the name
+pub unescaped-escape : (p : Profile) (n : List ℕ) → unescaped (escape_by p n) ≡ n
+unescaped-escape p [] = refl
+unescaped-escape p (b ∷ bs) = elim (eqb_tells b 92) [
+  | inl same ↦ rw same.1 (ap (λ l. 92 ∷ l) (unescaped-escape p bs))
+  | inr backslash ↦ elim (eqb_tells b 10) [
+    | inl same ↦ rw same.1 (ap (λ l. 10 ∷ l) (unescaped-escape p bs))
+    | inr newline ↦ elim (cases_Bool (p.escapes_return && (b == 13))) [
+      | inl return ↦
+          let is : b ≡ 13 = eqb-true b 13 (and_parts p.escapes_return (b == 13) return).1 in
+          let one : escape_of p b ≡ 92 ∷ 114 ∷ [] = rw (backslash.0, newline.0, return) refl in
+          ap (λ l. unescaped (l ++ escape_by p bs)) one ∙ ap (λ l. 13 ∷ l) (unescaped-escape p bs)
+          ∙ ap (λ x. x ∷ bs) (sym is)
+      | inr return ↦
+          let one : escape_of p b ≡ b ∷ [] = rw (backslash.0, newline.0, return) refl in
+          ap (λ l. unescaped (l ++ escape_by p bs)) one ∙ plain-first b (escape_by p bs) backslash.0
+          ∙ ap (λ l. b ∷ l) (unescaped-escape p bs)
+    ]
+  ]
+]
+
+pub unescape-escape : (p : Profile) (n : List ℕ) → unescape p (escape_by p n) ≡ Some n
+unescape-escape p n =
+    let is = unescaped-escape p n in
+    rw is (cond-true (bytes_eq (escape_by p n) (escape_by p n)) (Some n) _
+    ((bytes_eq-Decides (escape_by p n) (escape_by p n)).1 refl))
+
+pub escape-unescape : (p : Profile) (raw n : List ℕ) → unescape p raw ≡ Some n → raw ≡ escape_by p n
+escape-unescape p raw n h =
+    let e = cond_some (bytes_eq (escape_by p (unescaped raw)) raw) (unescaped raw) n h in
+    sym ((bytes_eq-Decides (escape_by p (unescaped raw)) raw).0 e.0) ∙ ap (escape_by p) e.1
+
+-- ---- no NUL
+
+all-of : (xs : List ℕ) → All (λ b. 0 < b) xs → list_all (nat_lt 0) xs ≡ true
+all-of [] h = refl
+all-of (x ∷ xs) h =
+    let first : 0 < x = h 0 x (omega arith) in
+    rw (lt-ltb 0 x first, all-of xs (λ k d lt. h (suc k) d (omega arith))) refl
+
+not-false : (b : Bool) → (b ≡ false → ⊥) → b ≡ true
+not-false true h = refl
+not-false false h = absurd (h refl)
+
+of-all : (xs : List ℕ) → list_all (nat_lt 0) xs ≡ true → All (λ b. 0 < b) xs
+of-all xs h = λ k d lt. ltb-true 0 (slice_index_or xs k d)
+    (not-false (nat_lt 0 (slice_index_or xs k d))
+    (λ e. false≢true (sym (list_all_at (nat_lt 0) xs k d lt e) ∙ h)))
+
+-- ---- the entry of a line's parts
+
+unescape-if : (p : Profile) (e : Bool) (raw n : List ℕ) → raw ≡ cond e (escape_by p n) n
+    → cond e (unescape p raw) (Some raw) ≡ Some n
+unescape-if p true raw n h = ap (unescape p) h ∙ unescape-escape p n
+unescape-if p false raw n h = ap Some h
+
+escape-if : (p : Profile) (e : Bool) (raw n : List ℕ) → cond e (unescape p raw) (Some raw) ≡ Some n
+    → raw ≡ cond e (escape_by p n) n
+escape-if p true raw n h = escape-unescape p raw n h
+escape-if p false raw n h = cc
+
+abbrev pub entry : Parts → List ℕ → Spelled
+entry t n = record { algo = t.kind.algo; digest = t.digest; name = n }
+
+pub spelled-is : (p : Profile) (t : Parts) (n : List ℕ) → Spells (escape_by p) t.escaped t.text n
+    → spelled p t ≡ Some (entry t n)
+spelled-is p t n s = rw (unescape-if p t.escaped t.text n s.is, all-of n s.no_nul) refl
+
+pub is-spelled : (p : Profile) (t : Parts) (s : Spelled) → spelled p t ≡ Some s
+    → (n : List ℕ) × Spells (escape_by p) t.escaped t.text n × (entry t n ≡ s)
+is-spelled p t s h =
+    let n = bind_some (cond t.escaped (unescape p t.text) (Some t.text)) _ s h in
+    let e = cond_some (list_all (nat_lt 0) n.0) (entry t n.0) s n.2 in
+    (n.0, record { no_nul = of-all n.0 e.0; is = escape-if p t.escaped t.text n.0 n.1 }, e.1)

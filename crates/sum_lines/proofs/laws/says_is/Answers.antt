@@ -1,0 +1,5 @@
+use Rattle.sum_lines.proofs.SaysLemmas.{says_is}
+use Rattle.sum_lines.proofs.laws.says_is.Goals as goal
+
+pub returns : goal.returns
+returns c = says_is
