@@ -1,4 +1,4 @@
 pub mod CompressionLemmas
-pub mod DigestLemmas
+pub mod BlockLemmas
 pub mod HeldLemmas
 pub mod ColumnLemmas

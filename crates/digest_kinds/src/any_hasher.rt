@@ -50,15 +50,15 @@ impl AnyHasher {
 }
 
 impl Hasher for AnyHasher {
-    ghost use Rattle.digest_kinds.specs.joins.AnyHasherState.{Holds, kind_of, taken_of, counted};
+    ghost use Rattle.digest_kinds.specs.joins.AnyHasherState.{HasherHolds, hasher_kind, taken_of, taken_of-length};
 
-    ghost holds = { Holds };
+    ghost holds = { HasherHolds };
 
-    ghost kind_of = { kind_of };
+    ghost kind_of = { hasher_kind };
 
     ghost taken_of = { taken_of };
 
-    ghost counts = { counted };
+    ghost counts = { taken_of-length };
 
     fn kind(&self) -> Kind {
         match self {

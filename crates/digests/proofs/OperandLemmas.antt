@@ -7,7 +7,7 @@ use Rattle.sum_engine.specs.declared.stop.Stop.{Stop}
 use Rattle.sum_engine.specs.declared.stop.Stop.TheVariants.{Memory, Write}
 use Rattle.sum_engine.specs.Worlds.{World, reply, after}
 use Rattle.sum_engine.specs.Outcomes.{Outcome}
-use Rattle.sum_engine.specs.Scenes.{Scene, scene_by, Generates, refusals_after}
+use Rattle.sum_engine.specs.Scenes.{Scene, scene_by, Generates, refusals_over}
 use Rattle.sum_engine.specs.declared.settings.Settings.{Settings}
 use Rattle.sum_engine.specs.declared.settings.CheckSettings.{CheckSettings}
 use Rattle.sum_engine.specs.Generation.{generated}
@@ -188,7 +188,7 @@ asked-is t n m asked same s u r r' is told h =
 
 -- a name that is hashed is done as a whole or not at all
 pub one-generates : (settings : Settings) (tool name : Text) (s t : Option Scene) (n m : ℕ) (r : Result Bool Stop)
-    → Generates (λ w. generated settings tool w name) s t r → m ≡ refusals_after n r
+    → Generates (λ w. generated settings tool w name) s t r → m ≡ refusals_over n r
     → OneGives n m (one_of (jobs.Generate settings) tool) (part_of (jobs.Generate settings) tool) name s t r
 one-generates settings tool name None t n m r h k = tt
 one-generates settings tool name (Some a) None n m r h k = absurd h
@@ -197,7 +197,7 @@ one-generates settings tool name (Some a) (Some b) n m (Err Write) h k =
     let asks : List Text = (generated settings tool a.world name).asks in (asks, [], sym (append-nil asks), h)
 one-generates settings tool name (Some a) (Some b) n m (Err Memory) h k = (0, rw h (does_nothing a), k)
 
-pub generates-refused : (settings : Settings) (n m : ℕ) (r : Result Bool Stop) → m ≡ refusals_after n r
+pub generates-refused : (settings : Settings) (n m : ℕ) (r : Result Bool Stop) → m ≡ refusals_over n r
     → RefusalsOf (Refused (jobs.Generate settings)) n m r
 generates-refused settings n m (Ok good) h = h
 generates-refused settings n m (Err Write) h = h
@@ -246,7 +246,7 @@ reached-with one part names s t good this old new is list r = rw (is, ← list) 
 pub job-generates : (job : Job) (settings : Settings) (tool tool' name : Text) (s t : Option Scene) (n m : ℕ)
     (r : Result Bool Stop)
     → job ≡ jobs.Generate settings → tool' ≡ tool → Generates (λ w. generated settings tool' w name) s t r
-    → m ≡ refusals_after n r
+    → m ≡ refusals_over n r
     → OneGives n m (one_of job tool) (part_of job tool) name s t r
 job-generates job settings tool tool' name s t n m r is called h k =
     let P : Job → Type 0 = λ j. OneGives n m (one_of j tool) (part_of j tool) name s t r in
@@ -263,7 +263,7 @@ job-checks job settings tool tool' name s t n m r is called h =
     subst P (sym is) (one-checks settings tool name s t n m r (subst Q called h))
 
 pub job-generates-refused : (job : Job) (settings : Settings) (n m : ℕ) (r : Result Bool Stop)
-    → job ≡ jobs.Generate settings → m ≡ refusals_after n r
+    → job ≡ jobs.Generate settings → m ≡ refusals_over n r
     → RefusalsOf (Refused job) n m r
 job-generates-refused job settings n m r is h =
     let P : Job → Type 0 = λ j. RefusalsOf (Refused j) n m r in subst P (sym is) (generates-refused settings n m r h)

@@ -25,7 +25,7 @@ use Rattle.sum_lines.proofs.WrittenLemmas.{front_of, read_back}
 use Rattle.sum_sources.specs.declared.fault.Ending.TheVariants.{Whole}
 use Rattle.sum_sources.specs.Contents.{Content, limit}
 use Rattle.sum_sources.specs.Sources.{Reply, Given}
-use Rattle.sum_sources.specs.ManifestLines.{NoNewline, joined, lines, pieces}
+use Rattle.sum_sources.specs.ManifestLines.{NoNewline, rejoined, lines, pieces}
 use Rattle.sum_sources.proofs.ContentLemmas.{limit-value, clip-short}
 use Rattle.sum_sources.proofs.CutLemmas.{pieces-joined}
 use Rattle.sum_engine.specs.declared.settings.CheckSettings.{CheckSettings}
@@ -166,8 +166,8 @@ lines-are : (algos : Algos) (answer : List ℕ → Reply) (is : List Item) → A
     → lines (whole is) ≡ map front is
 lines-are algos answer is all =
     let make : List ℕ → Content = λ bytes. record { bytes = bytes; ending = Whole } in
-    let bytes : flat_map text_of is ≡ joined (map front is) [] = texts is ∙ sym (append-nil _) in
-    let cut : pieces (make (joined (map front is) [])) ≡ map front is ++ [] =
+    let bytes : flat_map text_of is ≡ rejoined (map front is) [] = texts is ∙ sym (append-nil _) in
+    let cut : pieces (make (rejoined (map front is) [])) ≡ map front is ++ [] =
     pieces-joined Whole (map front is) [] (no-newlines algos answer is all) (All-nil (λ b. (b == 10) ≡ false)) in
     ap (map strip_carriage_return) (ap (λ b. pieces (make b)) bytes ∙ cut ∙ append-nil (map front is))
     ∙ strips algos answer is all

@@ -69,10 +69,10 @@ abbrev pub Generates : (World → Outcome) → Option Scene → Option Scene →
 Generates outcome a b r = WhereTold a b (λ a b. OutcomeOf (outcome a.world) a b r)
 
 -- a source's refusals over a call that answers want of memory only where the source was refused it
-abbrev pub refusals_after : {A : Type 0} → ℕ → Result A Stop → ℕ
-refusals_after n (Ok a) = n
-refusals_after n (Err Write) = n
-refusals_after n (Err Memory) = after_refusal n
+abbrev pub refusals_over : {A : Type 0} → ℕ → Result A Stop → ℕ
+refusals_over n (Ok a) = n
+refusals_over n (Err Write) = n
+refusals_over n (Err Memory) = after_refusal n
 
 -- no write failed; one of the two outputs had a write that failed
 abbrev pub Kept : ℕ → ℕ → ℕ → ℕ → Type 0

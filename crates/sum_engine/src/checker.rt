@@ -46,7 +46,7 @@ impl<'a, I: Input> Checker<'a, I> {
     ghost use Rattle.std.specs.Option.{option_map};
     ghost use Rattle.sum_sources.specs.Contents.{WhereTold, clip};
     ghost use Rattle.sum_lines.specs.Entries.{form_then, line_form};
-    ghost use Rattle.sum_engine.specs.Scenes.{Scene, scene, Failures, refusals_after};
+    ghost use Rattle.sum_engine.specs.Scenes.{Scene, scene, Failures, refusals_over};
     ghost use Rattle.sum_engine.specs.Steps.{now_by, StepGives, HandleGives, Wants};
     ghost use Rattle.sum_engine.specs.joins.Views.{rules_of_checker, now_of, to_come, stdin_of};
     ghost use Rattle.sum_engine.specs.joins.Views.{left_of, given_of, handled_of, number_of};
@@ -54,7 +54,7 @@ impl<'a, I: Input> Checker<'a, I> {
     ghost use Rattle.sum_engine.specs.joins.Judging.{said_asks};
     ghost use Rattle.sum_engine.specs.joins.Taking.{StdinOf, stdin_by};
     ghost use Rattle.sum_engine.specs.Worlds.{is_dash};
-    ghost use Rattle.sum_engine.specs.joins.Views.{answer_of};
+    ghost use Rattle.sum_engine.specs.joins.Views.{checker_answer};
 
     /// A checker of the manifest that `input` gives. Its diagnostics begin with `tool`, as with `md5sum`, and call the
     /// manifest `shown`; `from_stdin` says whether it came from standard input, where a line that names `-` is
@@ -76,7 +76,7 @@ impl<'a, I: Input> Checker<'a, I> {
         } }
         ensures now { (s : Option Scene) → now_of I.content result s
             ≡ now_by (option_map clip (I.content input)) 0 0 Form.Undecided no_counts s }
-        ensures going { answer_of result ≡ None }
+        ensures going { checker_answer result ≡ None }
         ensures given { given_of result ≡ 0 }
         ensures left { left_of I.content result ≡ I.content input }
         ensures stdin { (taken : Bool) → stdin_of I.content result taken
@@ -117,21 +117,21 @@ impl<'a, I: Input> Checker<'a, I> {
         line: &mut Vec<u8, A>,
         streams: &mut Streams<J, S, O, E>,
     ) -> Result<Progress, Stop>
-        ensures gives { answer_of self.old ≡ None → StepGives (rules_of_checker self.old)
+        ensures gives { checker_answer self.old ≡ None → StepGives (rules_of_checker self.old)
             (now_of I.content self.old
             (scene J.content S.told O.written E.written streams.old))
             (now_of I.content self.new
             (scene J.content S.told O.written E.written streams.new))
             line.new.items result }
-        ensures again { IfSome (answer_of self.old) (λ r. (result ≡ r) × (self.new ≡ self.old)
+        ensures again { IfSome (checker_answer self.old) (λ r. (result ≡ r) × (self.new ≡ self.old)
             × (streams.new.out ≡ streams.old.out) × (streams.new.err ≡ streams.old.err)
             × (streams.new.source ≡ streams.old.source) × (streams.new.stdin ≡ streams.old.stdin)) }
-        ensures wants { answer_of self.old ≡ None
+        ensures wants { checker_answer self.old ≡ None
             → Wants (S.refusals streams.old.source) (S.refusals streams.new.source)
             (to_come I.content self.old) result }
-        ensures failures { answer_of self.old ≡ None
+        ensures failures { checker_answer self.old ≡ None
             → Failures O.failures E.failures streams.old streams.new result }
-        ensures stdin { answer_of self.old ≡ None
+        ensures stdin { checker_answer self.old ≡ None
             → StdinOf (stdin_of I.content self.old (is_none streams.old.stdin))
             (stdin_of I.content self.new (is_none streams.new.stdin)) (is_none streams.new.stdin) result }
         ensures kept { OnOk result (is_none streams.old.stdin ≡ true → is_none streams.new.stdin ≡ true) }
@@ -140,9 +140,9 @@ impl<'a, I: Input> Checker<'a, I> {
         ensures taken { WhereTold (left_of I.content self.old) (left_of I.content self.new)
             (λ c d. given_of self.new + length d.bytes ≡ given_of self.old + length c.bytes) }
         ensures ahead { OnOk result (given_of self.new ≤ handled_of self.new + PIECE) }
-        ensures going { result ≡ Ok Progress.Going → answer_of self.new ≡ None }
-        ensures ended { IfOk result (λ p. (p ≡ Progress.Going) ⊎ (answer_of self.new ≡ Some result)) }
-        ensures stopped { IsErr result → answer_of self.new ≡ Some result }
+        ensures going { result ≡ Ok Progress.Going → checker_answer self.new ≡ None }
+        ensures ended { IfOk result (λ p. (p ≡ Progress.Going) ⊎ (checker_answer self.new ≡ Some result)) }
+        ensures stopped { IsErr result → checker_answer self.new ≡ Some result }
         ensures rules { rules_of_checker self.new ≡ rules_of_checker self.old }
         ensures number { result ≡ Ok Progress.Going → number_of self.new ≡ number_of self.old + 1 }
         ensures few { number_of self.new ≤ LIMIT }
@@ -238,7 +238,7 @@ impl<'a, I: Input> Checker<'a, I> {
         ensures form { self.new.form
             ≡ form_then self.old.form (line_form self.old.listing.settings.algo line.old.items) }
         ensures held { length line.new.items ≤ length line.old.items }
-        ensures refusals { S.refusals streams.new.source ≡ refusals_after (S.refusals streams.old.source) result }
+        ensures refusals { S.refusals streams.new.source ≡ refusals_over (S.refusals streams.old.source) result }
         ensures failures { Failures O.failures E.failures streams.old streams.new result }
         ensures asked { OnOk result (is_none streams.new.stdin ≡ is_none streams.old.stdin || list_any is_dash
             (said_asks (rules_of_checker self.old) (says present self.old.listing.settings.algo

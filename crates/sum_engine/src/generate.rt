@@ -2,7 +2,7 @@
 ghost use Rattle.std.specs.Prelude.{◌≡◌, ◌||◌, Err, OnOk, is_none};
 ghost use Rattle.sum_engine.specs.Worlds.{is_dash};
 ghost use Rattle.sum_engine.specs.Generation.{generated};
-ghost use Rattle.sum_engine.specs.Scenes.{scene, Generates, refusals_after, Failures};
+ghost use Rattle.sum_engine.specs.Scenes.{scene, Generates, refusals_over, Failures};
 
 use crate::asking::{Asked, ask};
 use crate::report::put_fault_line;
@@ -26,7 +26,7 @@ pub fn generate_one<I: Input + Drop, S: Source, O: Sink, E: Sink>(
     ensures gives { Generates (λ w. generated settings.now tool.now w name.now)
         (scene I.content S.told O.written E.written streams.old)
         (scene I.content S.told O.written E.written streams.new) result }
-    ensures refusals { S.refusals streams.new.source ≡ refusals_after (S.refusals streams.old.source) result }
+    ensures refusals { S.refusals streams.new.source ≡ refusals_over (S.refusals streams.old.source) result }
     ensures failures { Failures O.failures E.failures streams.old streams.new result }
     ensures taken { OnOk result (is_none streams.new.stdin ≡ is_none streams.old.stdin || is_dash name.now) }
     ensures untouched { result ≡ Err Stop.Memory

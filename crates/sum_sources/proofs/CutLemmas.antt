@@ -4,7 +4,7 @@ use Rattle.std.specs.List.{All, flat_map}
 use Rattle.std.proofs.lemmas.Bool.Decides.{eqb_tells}
 use Rattle.std.proofs.lemmas.List.Elements.{All-nil, All-cons, All-head, All-tail}
 use Rattle.sum_sources.specs.declared.fault.Ending.{Ending}
-use Rattle.sum_sources.specs.ManifestLines.{CutsInto, NoNewline, joined, last_line, pieces}
+use Rattle.sum_sources.specs.ManifestLines.{CutsInto, NoNewline, rejoined, last_line, pieces}
 use Rattle.sum_sources.proofs.LineLemmas.{pieces-newline, pieces-last}
 
 abbrev IsCut : List ℕ → Type 0
@@ -55,15 +55,15 @@ pub cut : (bytes : List ℕ) → (ended : List (List ℕ)) × (tail : List ℕ) 
 cut [] = ([], [], record { bytes_are = refl; pieces_plain = All-nil NoNewline; tail_plain = All-nil IsPlain })
 cut (b ∷ bs) = cut_more b bs (cut bs)
 
-joined-cons : (p : List ℕ) (ps : List (List ℕ)) (tail : List ℕ) → joined (p ∷ ps) tail ≡ p ++ (10 ∷ joined ps tail)
-joined-cons p ps tail =
+rejoined-cons : (p : List ℕ) (ps : List (List ℕ)) (tail : List ℕ) → rejoined (p ∷ ps) tail ≡ p ++ (10 ∷ rejoined ps tail)
+rejoined-cons p ps tail =
     let ended : List ℕ = flat_map (λ piece. piece ++ 10 ∷ []) ps in
     ap (λ l. l ++ tail) (append_assoc p (10 ∷ []) ended) ∙ append_assoc p (10 ∷ ended) tail
 
 pub pieces-joined : (ending : Ending) (ended : List (List ℕ)) (tail : List ℕ) → All NoNewline ended → NoNewline tail
-    → pieces (record { bytes = joined ended tail; ending = ending }) ≡ ended ++ last_line ending tail
+    → pieces (record { bytes = rejoined ended tail; ending = ending }) ≡ ended ++ last_line ending tail
 pieces-joined ending [] tail plain none = pieces-last ending tail none
 pieces-joined ending (p ∷ ps) tail plain none =
-    ap (λ l. pieces (record { bytes = l; ending = ending })) (joined-cons p ps tail)
-    ∙ pieces-newline ending p (joined ps tail) (All-head NoNewline p ps plain)
+    ap (λ l. pieces (record { bytes = l; ending = ending })) (rejoined-cons p ps tail)
+    ∙ pieces-newline ending p (rejoined ps tail) (All-head NoNewline p ps plain)
     ∙ ap (λ ls. p ∷ ls) (pieces-joined ending ps tail (All-tail NoNewline p ps plain) none)

@@ -13,7 +13,7 @@ use Rattle.sum_sources.specs.declared.fault.Ending.{Ending}
 use Rattle.sum_sources.specs.declared.fault.Ending.TheVariants.{Broken}
 use Rattle.sum_sources.specs.Contents.{Content, limit, WhereTold, ReadsFrom, ReadGives}
 use Rattle.sum_sources.specs.Standard.{empty_content}
-use Rattle.sum_sources.specs.joins.LineReading.{clip_to, behind, FillOf}
+use Rattle.sum_sources.specs.joins.LineReading.{clip_to, with_front, FillOf}
 use Rattle.sum_sources.proofs.ContentLemmas.{limit-value}
 
 pub content-same : (c d : Content) → c.bytes ≡ d.bytes → c.ending ≡ d.ending → c ≡ d
@@ -30,17 +30,17 @@ clip_to-long n c long = cond-false (nat_lt (length c.bytes) n) c _ (le-ltb _ _ l
 
 -- bytes in front of a content may be clipped with it or before it
 clip_to-behind : (n k : ℕ) (front : List ℕ) (c : Content) → n ≡ length front + k → 0 < k
-    → clip_to n (behind front c) ≡ behind front (clip_to k c)
+    → clip_to n (with_front front c) ≡ with_front front (clip_to k c)
 clip_to-behind n k front c sum some = elim (cases_lt (length c.bytes) k) [
   | inl short ↦
-      clip_to-short n (behind front c) (omega (arith, length-append front c.bytes))
-      ∙ ap (behind front) (sym (clip_to-short k c short))
+      clip_to-short n (with_front front c) (omega (arith, length-append front c.bytes))
+      ∙ ap (with_front front) (sym (clip_to-short k c short))
   | inr long ↦
       let cut : take (n - 1) (front ++ c.bytes) ≡ front ++ take (k - 1) c.bytes = ap (λ j. take j (front ++ c.bytes))
       (omega arith) ∙ take-append-add front c.bytes (k - 1) in
       let broken : List ℕ → Content = λ l. record { bytes = l; ending = Broken Other } in
-      clip_to-long n (behind front c) (omega (arith, length-append front c.bytes)) ∙ ap broken cut
-      ∙ ap (behind front) (sym (clip_to-long k c long))
+      clip_to-long n (with_front front c) (omega (arith, length-append front c.bytes)) ∙ ap broken cut
+      ∙ ap (with_front front) (sym (clip_to-long k c long))
 ]
 
 -- the buffer is empty where its places meet
@@ -50,25 +50,25 @@ none_buffered buf s e same = ap (λ n. take n (drop s buf)) (let zero_left : e -
 -- a read leaves what is still to come as it was
 stays : (c d : Content) (part : List ℕ) (n t u : ℕ) → ReadsFrom c d (Ok n) part → n ≤ length part → u ≡ t + n
     → u < 2 ^ 61
-    → behind (take n part) (clip_to (limit - u) d) ≡ behind [] (clip_to (limit - t) c)
+    → with_front (take n part) (clip_to (limit - u) d) ≡ with_front [] (clip_to (limit - t) c)
 stays c d part n t u r few sum fits =
     let size : length (take n part) ≡ n = length-take-le n part few in
-    let split : c ≡ behind (take n part) d = content-same c (behind (take n part) d) r.0 (sym r.1) in
+    let split : c ≡ with_front (take n part) d = content-same c (with_front (take n part) d) r.0 (sym r.1) in
     let rest : limit - t ≡ length (take n part) + (limit - u) = rw limit-value (omega arith) in
     let some : 0 < limit - u = rw limit-value (omega arith) in
     rw split (sym (clip_to-behind (limit - t) (limit - u) (take n part) d rest some))
 
 -- at the end nothing is to come
 ends : (c d : Content) (part : List ℕ) (t : ℕ) → ReadsFrom c d (Ok 0) part → 0 < length part → t < 2 ^ 61
-    → behind [] (clip_to (limit - t) c) ≡ empty_content
+    → with_front [] (clip_to (limit - t) c) ≡ empty_content
 ends c d part t r some fits =
     let end = r.2 refl some in
     let is : clip_to (limit - t) c ≡ c = clip_to-short (limit - t) c (rw (end.0, limit-value) (omega arith)) in
-    rw is (content-same (behind [] c) empty_content end.0 end.1)
+    rw is (content-same (with_front [] c) empty_content end.0 end.1)
 
 FillOf-read : (c d : Content) (part : List ℕ) (n t u : ℕ) → ReadsFrom c d (Ok n) part → n ≤ length part
     → 0 < length part → u ≡ t + n → u < 2 ^ 61
-    → FillOf (behind [] (clip_to (limit - t) c)) (behind (take n part) (clip_to (limit - u) d)) (Ok (not (nat_eq n 0)))
+    → FillOf (with_front [] (clip_to (limit - t) c)) (with_front (take n part) (clip_to (limit - u) d)) (Ok (not (nat_eq n 0)))
 FillOf-read c d part n t u r few some sum fits = elim (eqb_tells n 0) [
   | inl same ↦ rw same.0 (stays c d part n t u r few sum fits, ends c d part t (rw same.1 at r) some (omega arith))
   | inr other ↦ rw other.0 (stays c d part n t u r few sum fits)
@@ -76,8 +76,8 @@ FillOf-read c d part n t u r few some sum fits = elim (eqb_tells n 0) [
 
 pub filled : (x y : Option Content) (none part buf : List ℕ) (n t u : ℕ) → none ≡ [] → ReadGives x y (Ok n) part
     → n ≤ length part → 0 < length part → take n part ≡ buf → u ≡ t + n → u < 2 ^ 61
-    → WhereTold (option_map (λ c. behind none (clip_to (limit - t) c)) x)
-    (option_map (λ c. behind buf (clip_to (limit - u) c)) y) (λ c d. FillOf c d (Ok (not (nat_eq n 0))))
+    → WhereTold (option_map (λ c. with_front none (clip_to (limit - t) c)) x)
+    (option_map (λ c. with_front buf (clip_to (limit - u) c)) y) (λ c d. FillOf c d (Ok (not (nat_eq n 0))))
 filled None y none part buf n t u empty r few some is sum fits = tt
 filled (Some c) None none part buf n t u empty r few some is sum fits = absurd r
 filled (Some c) (Some d) none part buf n t u empty r few some is sum fits =
@@ -86,25 +86,25 @@ filled (Some c) (Some d) none part buf n t u empty r few some is sum fits =
 -- the end was found
 pub filled_end : (x y : Option Content) (none part : List ℕ) (t : ℕ) → none ≡ [] → ReadGives x y (Ok 0) part
     → 0 < length part → t < 2 ^ 61
-    → WhereTold (option_map (λ c. behind none (clip_to (limit - t) c)) x)
-    (option_map (λ c. behind none (clip_to (limit - t) c)) y) (λ c d. FillOf c d (Ok false))
+    → WhereTold (option_map (λ c. with_front none (clip_to (limit - t) c)) x)
+    (option_map (λ c. with_front none (clip_to (limit - t) c)) y) (λ c d. FillOf c d (Ok false))
 filled_end x y none part t empty r some fits =
     filled x y none part none 0 t t empty r (omega arith) some (sym empty) (omega arith) fits
 
 -- a fault was found
 pub filled_fault : (x y : Option Content) (none part : List ℕ) (g : Content → Content) (f : Fault) (t : ℕ) → none ≡ []
     → ReadGives x y (Err f) part → t < 2 ^ 61
-    → WhereTold (option_map (λ c. behind none (clip_to (limit - t) c)) x) (option_map g y) (λ c d. FillOf c d (Err f))
+    → WhereTold (option_map (λ c. with_front none (clip_to (limit - t) c)) x) (option_map g y) (λ c d. FillOf c d (Err f))
 filled_fault None y none part g f t empty r fits = tt
 filled_fault (Some c) None none part g f t empty r fits = absurd r
 filled_fault (Some c) (Some d) none part g f t empty r fits =
     let is : clip_to (limit - t) c ≡ c = clip_to-short (limit - t) c (rw (r.0, limit-value) (omega arith)) in
-    rw (empty, is) (content-same (behind [] c) (record { bytes = []; ending = Broken f }) r.0 r.1)
+    rw (empty, is) (content-same (with_front [] c) (record { bytes = []; ending = Broken f }) r.0 r.1)
 
 -- a byte was found past the limit
 pub filled_long : (x y : Option Content) (none part : List ℕ) (g : Content → Content) (n t : ℕ) → none ≡ []
     → ReadGives x y (Ok n) part → n ≤ length part → n ≢ 0 → t ≡ 2 ^ 61 - 1
-    → WhereTold (option_map (λ c. behind none (clip_to (limit - t) c)) x) (option_map g y)
+    → WhereTold (option_map (λ c. with_front none (clip_to (limit - t) c)) x) (option_map g y)
     (λ c d. FillOf c d (Err Other))
 filled_long None y none part g n t empty r few some full = tt
 filled_long (Some c) None none part g n t empty r few some full = absurd r

@@ -14,7 +14,7 @@ use Rattle.sum_sources.specs.declared.lines.Next.TheVariants.{Line, NoMore}
 use Rattle.sum_sources.specs.declared.lines.LineStop.TheVariants as stops
 use Rattle.sum_sources.specs.Contents.{Content, WhereTold}
 use Rattle.sum_sources.specs.Standard.{empty_content}
-use Rattle.sum_sources.specs.joins.LineReading.{behind, clip_to, at_state, FillOf, TakesPiece, EndsPiece, PieceOf}
+use Rattle.sum_sources.specs.joins.LineReading.{with_front, clip_to, at_state, FillOf, TakesPiece, EndsPiece, PieceOf}
 use Rattle.sum_sources.specs.ManifestLines.{NoNewline}
 use Rattle.sum_sources.proofs.FillLemmas.{content-same}
 use Rattle.sum_sources.proofs.ToldLemmas.{WhereTold-map, WhereTold-then}
@@ -29,9 +29,9 @@ Came-nil (Some c) = (refl, refl)
 
 -- a piece without a newline joins the line
 pub Came-piece : (old x : Option Content) (k : ℕ) (b b' line line' : List ℕ)
-    → WhereTold old (option_map (λ c. behind b (clip_to k c)) x) (λ c d. Came c d line)
+    → WhereTold old (option_map (λ c. with_front b (clip_to k c)) x) (λ c d. Came c d line)
     → TakesPiece false b b' line line'
-    → WhereTold old (option_map (λ c. behind b' (clip_to k c)) x) (λ c d. Came c d line')
+    → WhereTold old (option_map (λ c. with_front b' (clip_to k c)) x) (λ c d. Came c d line')
 Came-piece None x k b b' line line' h p = tt
 Came-piece (Some c) None k b b' line line' h p = h
 Came-piece (Some c) (Some d) k b b' line line' h p =
@@ -39,9 +39,9 @@ Came-piece (Some c) (Some d) k b b' line line' h p =
 
 -- a newline ends the line
 pub Came-newline : (old x : Option Content) (k : ℕ) (b b' line line' : List ℕ)
-    → WhereTold old (option_map (λ c. behind b (clip_to k c)) x) (λ c d. Came c d line)
+    → WhereTold old (option_map (λ c. with_front b (clip_to k c)) x) (λ c d. Came c d line)
     → TakesPiece true b b' line line'
-    → WhereTold old (option_map (λ c. behind b' (clip_to k c)) x) (λ c d. EndsPiece c d line')
+    → WhereTold old (option_map (λ c. with_front b' (clip_to k c)) x) (λ c d. EndsPiece c d line')
 Came-newline None x k b b' line line' h p = tt
 Came-newline (Some c) None k b b' line line' h p = h
 Came-newline (Some c) (Some d) k b b' line line' h p =
@@ -135,7 +135,7 @@ PieceOf-memory s (Some c) None f g line line' h = absurd h
 PieceOf-memory s (Some c) (Some d) f g line line' h = WhereTold-state s (Some c) (Some (g d)) (λ _. ⊤) tt
 
 pub bytes_left : (old x : Option Content) (k : ℕ) (b line : List ℕ)
-    → WhereTold old (option_map (λ c. behind b (clip_to k c)) x) (λ c d. Came c d line) → 0 < length b
+    → WhereTold old (option_map (λ c. with_front b (clip_to k c)) x) (λ c d. Came c d line) → 0 < length b
     → IfSome old (λ c. 0 < length c.bytes)
 bytes_left None x k b line h some = tt
 bytes_left (Some c) None k b line h some = absurd h

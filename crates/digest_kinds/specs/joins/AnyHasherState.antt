@@ -11,24 +11,24 @@ use Rattle.digest_kinds.specs.declared.any_hasher.AnyHasher.TheVariants.{Md5, Sh
 use Rattle.digest_kinds.specs.declared.any_hasher.AnyHasher.TheVariants.{Blake2b}
 
 -- the message that it holds
-abbrev pub Holds : AnyHasher → List ℕ → Type 0
-Holds (Md5 h) m = HoldsMd5 h.inner m × (h.taken ≡ length m)
-Holds (Sha1 h) m = HoldsSha1 h.inner m × (h.taken ≡ length m)
-Holds (Sha224 h) m = Holds224 h.inner m × (h.taken ≡ length m)
-Holds (Sha256 h) m = Holds256 h.inner m × (h.taken ≡ length m)
-Holds (Sha384 h) m = Holds384 h.inner m × (h.taken ≡ length m)
-Holds (Sha512 h) m = Holds512 h.inner m × (h.taken ≡ length m)
-Holds (Blake2b h) m = HoldsBlake2b h m
+abbrev pub HasherHolds : AnyHasher → List ℕ → Type 0
+HasherHolds (Md5 h) m = HoldsMd5 h.inner m × (h.taken ≡ length m)
+HasherHolds (Sha1 h) m = HoldsSha1 h.inner m × (h.taken ≡ length m)
+HasherHolds (Sha224 h) m = Holds224 h.inner m × (h.taken ≡ length m)
+HasherHolds (Sha256 h) m = Holds256 h.inner m × (h.taken ≡ length m)
+HasherHolds (Sha384 h) m = Holds384 h.inner m × (h.taken ≡ length m)
+HasherHolds (Sha512 h) m = Holds512 h.inner m × (h.taken ≡ length m)
+HasherHolds (Blake2b h) m = HoldsBlake2b h m
 
 -- the kind of its digest
-abbrev pub kind_of : AnyHasher → KindValue
-kind_of (Md5 h) = full_kind algos.Md5
-kind_of (Sha1 h) = full_kind algos.Sha1
-kind_of (Sha224 h) = full_kind algos.Sha224
-kind_of (Sha256 h) = full_kind algos.Sha256
-kind_of (Sha384 h) = full_kind algos.Sha384
-kind_of (Sha512 h) = full_kind algos.Sha512
-kind_of (Blake2b h) = blake2b_kind (digest_len h)
+abbrev pub hasher_kind : AnyHasher → KindValue
+hasher_kind (Md5 h) = full_kind algos.Md5
+hasher_kind (Sha1 h) = full_kind algos.Sha1
+hasher_kind (Sha224 h) = full_kind algos.Sha224
+hasher_kind (Sha256 h) = full_kind algos.Sha256
+hasher_kind (Sha384 h) = full_kind algos.Sha384
+hasher_kind (Sha512 h) = full_kind algos.Sha512
+hasher_kind (Blake2b h) = blake2b_kind (digest_len h)
 
 -- how many bytes it has taken
 abbrev pub taken_of : AnyHasher → ℕ
@@ -41,11 +41,11 @@ taken_of (Sha512 h) = h.taken
 taken_of (Blake2b h) = taken_blake2b h
 
 -- it has taken as many bytes as its message has
-pub counted : (h : AnyHasher) (m : List ℕ) → Holds h m → taken_of h ≡ length m
-counted (Md5 h) m held = held.1
-counted (Sha1 h) m held = held.1
-counted (Sha224 h) m held = held.1
-counted (Sha256 h) m held = held.1
-counted (Sha384 h) m held = held.1
-counted (Sha512 h) m held = held.1
-counted (Blake2b h) m held = held.so_far.taken
+pub taken_of-length : (h : AnyHasher) (m : List ℕ) → HasherHolds h m → taken_of h ≡ length m
+taken_of-length (Md5 h) m held = held.1
+taken_of-length (Sha1 h) m held = held.1
+taken_of-length (Sha224 h) m held = held.1
+taken_of-length (Sha256 h) m held = held.1
+taken_of-length (Sha384 h) m held = held.1
+taken_of-length (Sha512 h) m held = held.1
+taken_of-length (Blake2b h) m held = held.so_far.taken

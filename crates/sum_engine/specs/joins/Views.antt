@@ -46,10 +46,10 @@ abbrev pub number_of : {I : Type 0} → Checker I → ℕ
 number_of s = lines_given s.reader
 
 -- the answer that every later step gives again, where there is one
-abbrev pub answer_at : State → Option (Result Progress Stop)
-answer_at Running = None
-answer_at (Ended good) = Some (Ok (progress.Ended good))
-answer_at (Stopped stop) = Some (Err stop)
+abbrev pub state_answer : State → Option (Result Progress Stop)
+state_answer Running = None
+state_answer (Ended good) = Some (Ok (progress.Ended good))
+state_answer (Stopped stop) = Some (Err stop)
 
-abbrev pub answer_of : {I : Type 0} → Checker I → Option (Result Progress Stop)
-answer_of s = answer_at s.state
+abbrev pub checker_answer : {I : Type 0} → Checker I → Option (Result Progress Stop)
+checker_answer s = state_answer s.state

@@ -40,12 +40,12 @@ abbrev pub clip_to : ℕ → Content → Content
 clip_to n c = if nat_lt (length c.bytes) n then c else record { bytes = take (n - 1) c.bytes; ending = Broken Other }
 
 -- a content with these bytes in front
-abbrev pub behind : List ℕ → Content → Content
-behind front c = record { bytes = front ++ c.bytes; ending = c.ending }
+abbrev pub with_front : List ℕ → Content → Content
+with_front front c = record { bytes = front ++ c.bytes; ending = c.ending }
 
 -- what is still to come while reading
 abbrev pub ahead : {I : Type 0} → (I → Option Content) → LineReader I → Option Content
-ahead content s = option_map (λ c. behind (buffered s) (clip_to (limit - s.taken) c)) (content s.input)
+ahead content s = option_map (λ c. with_front (buffered s) (clip_to (limit - s.taken) c)) (content s.input)
 
 abbrev pub at_state : State → Option Content → Option Content
 at_state Reading c = c

@@ -5,7 +5,7 @@ use Rattle.std.proofs.lemmas.List.{take-append-drop, take-take, drop-take, take_
 use Rattle.std.proofs.lemmas.List.{length-take-le, length-drop}
 use Rattle.std.specs.Simd.{first_chunks}
 use Rattle.blake2b_core.specs.Digest.{blocks}
-use Rattle.blake2b_core.proofs.DigestLemmas.{block_count, padded}
+use Rattle.blake2b_core.proofs.BlockLemmas.{block_count, padded}
 use Rattle.blake2b_core.proofs.CompressionLemmas.{length-first_chunks, get_or-first_chunks}
 use Rattle.blake2b_core.proofs.laws.blocks.Goals as goal
 

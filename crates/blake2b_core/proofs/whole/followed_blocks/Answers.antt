@@ -1,7 +1,7 @@
 use Rattle.std.proofs.Common.{◌≡◌, ℕ, ◌-◌, ◌*◌, ◌/◌, ◌≤◌, length, take, ap, ◌∙◌, arith}
 use Rattle.std.proofs.lemmas.List.{length-take-le}
 use Rattle.std.specs.Simd.{first_chunks}
-use Rattle.blake2b_core.proofs.DigestLemmas.{first_chunks-take}
+use Rattle.blake2b_core.proofs.BlockLemmas.{first_chunks-take}
 use Rattle.blake2b_core.proofs.whole.followed_blocks.Goals as goal
 
 pub returns-clause-value : goal.returns-clause-value

@@ -4,7 +4,7 @@ use Rattle.sum_sources.specs.Contents.{clip}
 use Rattle.sum_engine.specs.Scenes.{scene}
 use Rattle.sum_lines.specs.declared.line_reading.Form.TheVariants.{Undecided}
 use Rattle.sum_engine.specs.joins.Taking.{stdin_by}
-use Rattle.sum_engine.specs.joins.Views.{rules_of_checker, stdin_of, now_of, answer_of, number_of}
+use Rattle.sum_engine.specs.joins.Views.{rules_of_checker, stdin_of, now_of, checker_answer, number_of}
 use Rattle.sum_engine.specs.joins.Listings.{rules_in}
 use Rattle.sum_engine.proofs.ManifestLemmas.{Along}
 use Rattle.sum_engine.proofs.TakingLemmas.{Steady}
@@ -18,7 +18,7 @@ invariant-lines g l =
     record {
       along : Along r (option_map clip (g.I.Input.content l.fn.input)) first (now_of g.I.Input.content l.checker here);
       rules : rules_of_checker l.checker ≡ r;
-      going : answer_of l.checker ≡ None;
+      going : checker_answer l.checker ≡ None;
       refusals : g.S.Source.refusals l.streams.source ≡ g.S.Source.refusals l.fn.streams.source;
       out : g.O.Sink.failures l.streams.out ≡ g.O.Sink.failures l.fn.streams.out;
       err : g.E.Sink.failures l.streams.err ≡ g.E.Sink.failures l.fn.streams.err;

@@ -1,5 +1,5 @@
 use Rattle.std.proofs.Common.{◌≡◌, ◌+◌, ◌*◌, length, take, ◌∙◌, arith}
-use Rattle.blake2b_core.proofs.DigestLemmas.{IsLast, blake2b-from}
+use Rattle.blake2b_core.proofs.BlockLemmas.{IsLast, blake2b-from}
 use Rattle.blake2b_core.proofs.HeldLemmas.{some_held}
 use Rattle.blake2b_core.proofs.pieces.Blake2b.finish.Goals as goal
 

@@ -1,5 +1,5 @@
 use Rattle.std.proofs.Common.{◌≡◌, ◌+◌, ◌*◌, ◌≤◌, length, sym, ◌∙◌, arith, length-append, rules}
-use Rattle.blake2b_core.proofs.DigestLemmas.{hash_after-append}
+use Rattle.blake2b_core.proofs.BlockLemmas.{hash_after-append}
 use Rattle.blake2b_core.proofs.HeldLemmas.{held-more}
 use Rattle.blake2b_core.proofs.pieces.Blake2b.hold.Goals as goal
 
