@@ -41,8 +41,7 @@ are_blocks m k count fits i below =
     let place : i < count = omega (arith, length-first_chunks 128 count (drop (128 * k) m)) in
     let at : 128 * k + 128 * i ≡ 128 * (k + i) = omega arith in
     get_or-first_chunks 128 count (drop (128 * k) m) i [] place
-    ∙ ap (take 128) (drop-drop (128 * i) (128 * k) m ∙ ap (λ j. drop j m) at)
-    ∙ sym (whole_block m (k + i) (omega arith))
+    ∙ rw (drop-drop (128 * i) (128 * k) m, at) (sym (whole_block m (k + i) (omega arith)))
 
 -- whole chunks don't change when what follows them is cut off
 pub first_chunks-take : (n k : ℕ) (xs : List ℕ) (j : ℕ) → n * k ≤ j → first_chunks n k (take j xs) ≡ first_chunks n k xs
@@ -52,8 +51,8 @@ first_chunks-take n (suc k) xs j fits =
     let here : n ≤ j = omega arith in
     let split : n + (j - n) ≡ j = omega arith in
     let front : take n (take j xs) ≡ take n xs = take-take n j xs here in
-    let back : drop n (take j xs) ≡ take (j - n) (drop n xs) = ap (λ i. drop n (take i xs)) (sym split)
-    ∙ drop-take n (j - n) xs in
+    let back : drop n (take j xs) ≡ take (j - n) (drop n xs) =
+    ap (λ i. drop n (take i xs)) (sym split) ∙ drop-take n (j - n) xs in
     rw (front, back, first_chunks-take n k (drop n xs) (j - n) (omega arith)) refl
 
 -- the last block of a message is the one that begins at byte 128 * k
@@ -62,16 +61,23 @@ pub record IsLast (m : List ℕ) (k : ℕ) : Type 0 where
   pub ends : length m ≤ 128 * (k + 1)
   pub some : 0 < k → 128 * k < length m
 
+-- the last block is the one before the count
 block_count-last : (m : List ℕ) (k : ℕ) → IsLast m k → block_count (length m) ≡ k + 1
 block_count-last m zero l = let e = l.ends in omega arith
 block_count-last m (suc k) l = let s = l.some (omega arith) in let e = l.ends in omega arith
 
+-- the blocks of a message, counted
 length-blocks : (m : List ℕ) → length (blocks m) ≡ block_count (length m)
 unfolding blocks
 length-blocks m = length-first_chunks 128 (block_count (length m)) (padded m)
 
+-- the bytes from block k on, filled up with zeros
+abbrev filled_from : List ℕ → ℕ → List ℕ
+filled_from m k = drop (128 * k) m ++ replicate (128 - length (drop (128 * k) m)) 0
+
+-- so is the last block
 last_block : (m : List ℕ) (k : ℕ) → IsLast m k
-    → slice_index_or (blocks m) k [] ≡ drop (128 * k) m ++ replicate (128 - length (drop (128 * k) m)) 0
+    → slice_index_or (blocks m) k [] ≡ filled_from m k
 unfolding blocks
 last_block m k l =
     let starts : 128 * k ≤ length m = l.starts in
@@ -100,26 +106,30 @@ unfolding hash_after
 hash_after-append n m x zero fits = refl
 hash_after-append n m x (suc k) fits =
     let before = hash_after-append n m x k (omega arith) in
+    let within : 128 * k ≤ length m = omega arith in
     let longer : 128 * (k + 1) ≤ length (m ++ x) = omega (arith, length-append m x) in
     let here : 128 * (k + 1) ≤ length m = omega arith in
     let long : 128 ≤ length (drop (128 * k) m) = omega (arith, length-drop (128 * k) m) in
     let block : slice_index_or (blocks (m ++ x)) k [] ≡ slice_index_or (blocks m) k [] =
-    whole_block (m ++ x) k longer ∙ ap (take 128) (drop-append-le (128 * k) m x (omega arith))
-    ∙ take-append-le 128 (drop (128 * k) m) x long ∙ sym (whole_block m k here) in
+    whole_block (m ++ x) k longer
+    ∙ rw drop-append-le (take-append-le 128 (drop (128 * k) m) x long)
+    ∙ sym (whole_block m k here) in
     rw (before, block) refl
 
 -- a full block that bytes follow
-pub hash_after-full : (n : ℕ) (h held m : List ℕ) (k used t : ℕ) → length held ≡ 128 → used ≡ 128 → t ≡ length m
-    → 128 * k + used ≡ length m
+pub hash_after-full : {h : List ℕ} {used t : ℕ} (n : ℕ) (held m : List ℕ) (k : ℕ)
+    → length held ≡ 128 → used ≡ 128 → t ≡ length m → 128 * k + used ≡ length m
     → h ≡ hash_after n (blocks m) k → take used held ≡ drop (128 * k) m
     → compress h held t false ≡ hash_after n (blocks m) (k + 1)
-hash_after-full n h held m k used t size full counted here hash rest =
+hash_after-full {used = used} {t = t} n held m k size full counted here hash rest =
     let block : slice_index_or (blocks m) k [] ≡ held =
-    whole_block m k (omega arith) ∙ take_all 128 (drop (128 * k) m) (omega (arith, length-drop (128 * k) m))
+    whole_block m k (omega arith)
+    ∙ take_all 128 (drop (128 * k) m) (omega (arith, length-drop (128 * k) m))
     ∙ sym rest ∙ take_all used held (omega arith) in
     let total : t ≡ 128 * (k + 1) = omega arith in
     rw (hash_after-more n (blocks m) k, block, hash, total) refl
 
+-- a range with one more number
 range-more : (a n j : ℕ) → a + n ≡ j → range_with_len a (suc n) ≡ range_with_len a n ++ j ∷ []
 range-more a zero j at = let here : a ≡ j = omega arith in rw here refl
 range-more a (suc n) j at = ap (λ l. a ∷ l) (range-more (a + 1) n j (omega arith))
@@ -135,11 +145,10 @@ hash_after-is n d (suc k) =
     let split = fold-append step (initial n) (range_with_len 0 k) (k ∷ []) in
     rw (range-more 0 k k (omega arith), split, hash_after-is n d k) refl
 
-blake2b-last : (n : ℕ) (m : List ℕ) (k : ℕ) → IsLast m k →
-    blake2b n m ≡ take n
-    (flat_map (little_bytes 8)
-    (compress (hash_after n (blocks m) k)
-    (drop (128 * k) m ++ replicate (128 - length (drop (128 * k) m)) 0) (length m) true))
+-- the digest, by the last block
+blake2b-last : (n : ℕ) (m : List ℕ) (k : ℕ) → IsLast m k
+    → blake2b n m
+    ≡ take n (flat_map (little_bytes 8) (compress (hash_after n (blocks m) k) (filled_from m k) (length m) true))
 unfolding blake2b
 blake2b-last n m k l =
     let count : length (blocks m) ≡ block_count (length m) = length-blocks m in
@@ -147,8 +156,7 @@ blake2b-last n m k l =
     rw (number, hash_after-is n (blocks m) k, last_block m k l) refl
 
 -- the digest, from the hash before the last block and that block's bytes
-pub blake2b-from : (n : ℕ) (m : List ℕ) (k : ℕ) (h last bytes : List ℕ) (t : ℕ) → IsLast m k
-    → h ≡ hash_after n (blocks m) k
+pub blake2b-from : {m h last bytes : List ℕ} {k t : ℕ} (n : ℕ) → IsLast m k → h ≡ hash_after n (blocks m) k
     → last ≡ bytes ++ replicate (128 - length bytes) 0 → bytes ≡ drop (128 * k) m → t ≡ length m
     → take n (flat_map (little_bytes 8) (compress h last t true)) ≡ blake2b n m
-blake2b-from n m k h last bytes t l hash filled rest total = rw (hash, filled, rest, total) (sym (blake2b-last n m k l))
+blake2b-from {m = m} {k = k} n l hash filled rest total = rw (hash, filled, rest, total) (sym (blake2b-last n m k l))

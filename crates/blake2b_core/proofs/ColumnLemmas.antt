@@ -27,6 +27,7 @@ Rotates k a b = (j : ℕ) → j < 4
     (zip2 (λ x n. x * 2 ^ n % 2 ^ 64) (zip2 bit_xor a b) ((64 - k) ∷ (64 - k) ∷ (64 - k) ∷ (64 - k) ∷ [])) ! j
     ≡ (a ! j ⊻ b ! j) ⋙ k
 
+-- so it is for rows of four words
 pub shifts_rotate : (k : ℕ) → 0 < k → k < 64 → (a : List ℕ) → length a ≡ 4 → (b : List ℕ) → length b ≡ 4 → Rotates k a b
 shifts_rotate k low high =
     let right : k % 64 ≡ k = omega arith in
@@ -45,6 +46,7 @@ column v j = word v 0 j ∷ word v 1 j ∷ word v 2 j ∷ word v 3 j ∷ []
 abbrev Mixes : List (List ℕ) → List (List ℕ) → List ℕ → List ℕ → Type 0
 Mixes r v x y = (j : ℕ) → j < 4 → column r j ≡ mix (column v j) 0 1 2 3 (x ! j) (y ! j)
 
+-- equal rows have equal words
 at : (xs ys : List ℕ) → xs ≡ ys → (i : ℕ) → xs ! i ≡ ys ! i
 at xs ys e i = ap (λ l. l ! i) e
 
@@ -58,15 +60,16 @@ columns-rows r v x y mixes =
     let c3 = at (column r 3) _ (mixes 3 (omega arith)) in
     rw (c0 0, c0 1, c0 2, c0 3, c1 0, c1 1, c1 2, c1 3, c2 0, c2 1, c2 2, c2 3, c3 0, c3 1, c3 2, c3 3) refl
 
--- four diagonals, as the columns of rows of which all but the second are turned against it, and turned back
-pub diagonals-rows : (v : List (List ℕ)) (x y a c d x' y' : List ℕ) (r : List (List ℕ)) (a' c' d' : List ℕ)
+-- four diagonals, as the columns of rows of which all but the second are turned against it (a, c and d), and turned
+-- back (a', c' and d')
+pub diagonals-rows : {a c d x' y' a' c' d' : List ℕ} (v r : List (List ℕ)) (x y : List ℕ)
     → a ≡ turned (row v 0) 3 → c ≡ turned (row v 2) 1 → d ≡ turned (row v 3) 2 → x' ≡ turned x 3 → y' ≡ turned y 3
     → words r ≡ columns (words (a ∷ row v 1 ∷ c ∷ d ∷ [])) x' y'
     → a' ≡ turned (row r 0) 1 → c' ≡ turned (row r 2) 3 → d' ≡ turned (row r 3) 2
     → words (a' ∷ row r 1 ∷ c' ∷ d' ∷ []) ≡ diagonals (words v) x y
 unfolding mix columns diagonals
-diagonals-rows v x y a c d x' y' r a' c' d' ea ec ed ex ey mixed ea' ec' ed' =
+diagonals-rows v r x y a_is c_is d_is x_is y_is mixed a_back c_back d_back =
     let w = at (words r) _ mixed in
-    rw (ea', ec', ed')
+    rw (a_back, c_back, d_back)
     (rw (w 0, w 1, w 2, w 3, w 4, w 5, w 6, w 7, w 8, w 9, w 10, w 11, w 12, w 13, w 14, w 15)
-    (rw (ea, ec, ed, ex, ey) refl))
+    (rw (a_is, c_is, d_is, x_is, y_is) refl))

@@ -26,25 +26,27 @@ unfolding scheduled
 picked-row m r k size below row = pick_l_left 0 m m 16 (sigma_row k) size below ∙ rw row refl
 
 -- the working vector before the first round, written out
-pub start-is : (h : List ℕ) (t : ℕ) (last : Bool) → length h ≡ 8 →
-    start h t last ≡ h ! 0 ∷ h ! 1 ∷ h ! 2 ∷ h ! 3 ∷ h ! 4 ∷ h ! 5 ∷ h ! 6 ∷ h ! 7 ∷ iv ! 0 ∷ iv ! 1 ∷ iv ! 2 ∷ iv ! 3
+pub start-is : (h : List ℕ) (t : ℕ) (last : Bool) → length h ≡ 8
+    → start h t last ≡ h ! 0 ∷ h ! 1 ∷ h ! 2 ∷ h ! 3 ∷ h ! 4 ∷ h ! 5 ∷ h ! 6 ∷ h ! 7 ∷ iv ! 0 ∷ iv ! 1 ∷ iv ! 2 ∷ iv ! 3
     ∷ (iv ! 4 ⊻ t % 2 ^ 64) ∷ (iv ! 5 ⊻ t / 2 ^ 64) ∷ (if last then bit_not w64 (iv ! 6) else iv ! 6) ∷ iv ! 7 ∷ []
 unfolding start
 start-is (a ∷ b ∷ c ∷ d ∷ e ∷ f ∷ g ∷ h ∷ []) t true size = refl
 start-is (a ∷ b ∷ c ∷ d ∷ e ∷ f ∷ g ∷ h ∷ []) t false size = refl
 start-is _ t last size = absurd (omega arith)
 
+-- there are as many chunks as were asked for
 pub length-first_chunks : {X : Type 0} (n k : ℕ) (xs : List X) → length (first_chunks n k xs) ≡ k
 length-first_chunks n zero xs = refl
 length-first_chunks n (suc k) xs = ap suc (length-first_chunks n k (drop n xs))
 
+-- the chunk at a place
 pub get_or-first_chunks : {X : Type 0} (n k : ℕ) (xs : List X) (i : ℕ) (d : List X) → i < k
     → get_or (first_chunks n k xs) i d ≡ take n (drop (n * i) xs)
 get_or-first_chunks n zero xs i d h = absurd (omega arith)
-get_or-first_chunks n (suc k) xs zero d h = let e : n * 0 ≡ 0 = omega arith in rw e refl
+get_or-first_chunks n (suc k) xs zero d h = let none : n * 0 ≡ 0 = omega arith in rw none refl
 get_or-first_chunks n (suc k) xs (suc i) d h =
-    let e : n + n * i ≡ n * suc i = omega arith in
-    get_or-first_chunks n k (drop n xs) i d (omega arith) ∙ ap (take n) (drop-drop (n * i) n xs ∙ ap (λ j. drop j xs) e)
+    let place : n * suc i ≡ n + n * i = omega arith in
+    rw (place, ← drop-drop (n * i) n xs) (get_or-first_chunks n k (drop n xs) i d (omega arith))
 
 -- a number of eight bytes is the number in the first eight
 little_number-take : (xs : List ℕ) → 8 ≤ length xs → little_number 8 (take 8 xs) ≡ little_number 8 xs

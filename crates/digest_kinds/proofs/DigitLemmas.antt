@@ -6,17 +6,17 @@ use Rattle.std.proofs.lemmas.Bool.Decides.{Decides-by_and, Decides-ltb}
 use Rattle.std.proofs.lemmas.Str.{IsUtf8-from_ascii}
 use Rattle.std.proofs.lemmas.Str.Ascii.{IsAscii-from_all}
 use Rattle.std.specs.Str.{IsAscii, IsUtf8}
-use Rattle.hex.specs.Hex.{decode_of, decode_sized, encode_lower, lower_digits}
+use Rattle.hex.specs.Hex.{decode_sized, encode_lower, lower_digits}
 use Rattle.hex.specs.declared.error.FromHexError.{FromHexError}
-use Rattle.hex.proofs.HexLemmas.{IsAscii-encode_with, IsOk-decode_sized, IsOk-written, decode_of-ok}
+use Rattle.hex.proofs.HexLemmas.{IsAscii-encode_with, IsOk-decode_sized, IsOk-written}
 use Rattle.digest_kinds.specs.Digits.{IsDigits}
 
 -- decoding into room for half as many bytes, 1 to 64, goes well exactly where the text is digits of a digest
-pub IsOk-decoded : (text : List ℕ) (n : ℕ) (r : Result Unit FromHexError) (out : List ℕ)
+pub IsOk-decoded : {n : ℕ} (text : List ℕ) (r : Result Unit FromHexError) (out : List ℕ)
     → n ≡ length text / 2 → 1 ≤ n → n ≤ 64
     → MatchResult (decode_sized text n) (λ bytes. (r ≡ Ok tt) × (out ≡ bytes)) (λ e. r ≡ Err e)
     → IsOk r ↔ IsDigits text
-IsOk-decoded text n r out half low high written =
+IsOk-decoded {n = n} text r out half low high written =
     let sized = IsOk-decode_sized text n in
     let same = IsOk-written (decode_sized text n) r out written in (
       λ ok.
@@ -25,17 +25,12 @@ IsOk-decoded text n r out half low high written =
       λ d. same.1 (sized.1 (omega (arith, d.even), d.digits)),
     )
 
--- what decodes to 1 to 64 bytes is digits of a digest
-pub IsDigits-decode_of : (text bytes : List ℕ) → decode_of text ≡ Ok bytes → 1 ≤ length bytes → length bytes ≤ 64
-    → IsDigits text
-IsDigits-decode_of text bytes h low high =
-    let ok = decode_of-ok text bytes h in
-    record { some = omega (arith, ok.2); few = omega (arith, ok.2); even = ok.0; digits = ok.1 }
-
+-- whether all are ASCII, as a test that computes
 abbrev all_ascii : List ℕ → Bool
 all_ascii [] = true
 all_ascii (b ∷ bs) = ltb b 128 && all_ascii bs
 
+-- the digits are ASCII
 IsAscii-lower_digits : IsAscii lower_digits
 IsAscii-lower_digits =
     let below = λ (b : ℕ). Decides-ltb b 128 in

@@ -27,6 +27,7 @@ find-begins Sha384 rest = refl
 find-begins Sha512 rest = refl
 find-begins Blake2b rest = refl
 
+-- a tag that the test finds in front is in front
 BeginsWithTag-begins : (bytes : List ℕ) (a : Algo) → begins bytes a ≡ true → BeginsWithTag bytes a
 BeginsWithTag-begins bytes a h =
     (drop (length (tag a)) bytes, (starts_is Decides-eqb bytes (tag a) true (sym h)).0 refl)
@@ -36,10 +37,8 @@ pub IfSome-find-begins : (bytes : List ℕ) (algos : List Algo)
     → IfSome (find (begins bytes) algos) (λ a. BeginsWithTag bytes a)
 IfSome-find-begins bytes [] = tt
 IfSome-find-begins bytes (a ∷ algos) =
-    let Begun : Bool → Type 0 =
-    λ b. begins bytes a ≡ b → IfSome (cond b (Some a) (find (begins bytes) algos)) (λ x. BeginsWithTag bytes x) in
-    let at_test : (b : Bool) → Begun b = λ b. elim b as Begun [
-      | true ↦ λ h. BeginsWithTag-begins bytes a h
+    elim (begins bytes a) as (λ b. begins bytes a ≡ b
+    → IfSome (cond b (Some a) (find (begins bytes) algos)) (λ x. BeginsWithTag bytes x)) [
+      | true ↦ λ here. BeginsWithTag-begins bytes a here
       | false ↦ λ _. IfSome-find-begins bytes algos
-    ]
-    in at_test (begins bytes a) refl
+    ] refl

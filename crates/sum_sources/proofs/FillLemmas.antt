@@ -1,6 +1,6 @@
 -- What a read into the empty buffer makes of the content that is still to come.
 use Rattle.std.proofs.Common.{◌≡◌, ◌≢◌, ℕ, ◌+◌, ◌-◌, ◌^◌, ◌<◌, ◌≤◌, false, not, List, [], ◌++◌, length, take, drop}
-use Rattle.std.proofs.Common.{Option, None, Some, Ok, Err, refl, ap, sym, ◌∙◌, arith, length-append, nat_lt, nat_eq}
+use Rattle.std.proofs.Common.{Option, None, Some, Result, Ok, Err, refl, ap, sym, ◌∙◌, arith, length-append, nat_lt, nat_eq}
 use Rattle.std.proofs.Common.{inl, inr}
 use Rattle.std.specs.Option.{option_map}
 use Rattle.std.proofs.lemmas.Bool.{cond-true, cond-false, lt-ltb, le-ltb, cases_lt}
@@ -16,16 +16,19 @@ use Rattle.sum_sources.specs.Standard.{empty_content}
 use Rattle.sum_sources.specs.joins.LineReading.{clip_to, with_front, FillOf}
 use Rattle.sum_sources.proofs.ContentLemmas.{limit-value}
 
+-- contents with the same bytes and the same ending are the same
 pub content-same : (c d : Content) → c.bytes ≡ d.bytes → c.ending ≡ d.ending → c ≡ d
 content-same c d bytes ending =
     let make : List ℕ → Ending → Content = λ l e. record { bytes = l; ending = e } in
     ap (λ l. make l c.ending) bytes ∙ ap (make d.bytes) ending
 
+-- a content of fewer than n bytes stays whole
 clip_to-short : (n : ℕ) (c : Content) → length c.bytes < n → clip_to n c ≡ c
 clip_to-short n c short = cond-true (nat_lt (length c.bytes) n) c _ (lt-ltb _ _ short)
 
-clip_to-long : (n : ℕ) (c : Content) → n ≤ length c.bytes → clip_to n c ≡ record
-    { bytes = take (n - 1) c.bytes; ending = Broken Other }
+-- a longer one is cut
+clip_to-long : (n : ℕ) (c : Content) → n ≤ length c.bytes
+    → clip_to n c ≡ record { bytes = take (n - 1) c.bytes; ending = Broken Other }
 clip_to-long n c long = cond-false (nat_lt (length c.bytes) n) c _ (le-ltb _ _ long)
 
 -- bytes in front of a content may be clipped with it or before it
@@ -36,16 +39,22 @@ clip_to-behind n k front c sum some = elim (cases_lt (length c.bytes) k) [
       clip_to-short n (with_front front c) (omega (arith, length-append front c.bytes))
       ∙ ap (with_front front) (sym (clip_to-short k c short))
   | inr long ↦
-      let cut : take (n - 1) (front ++ c.bytes) ≡ front ++ take (k - 1) c.bytes = ap (λ j. take j (front ++ c.bytes))
-      (omega arith) ∙ take-append-add front c.bytes (k - 1) in
-      let broken : List ℕ → Content = λ l. record { bytes = l; ending = Broken Other } in
-      clip_to-long n (with_front front c) (omega (arith, length-append front c.bytes)) ∙ ap broken cut
-      ∙ ap (with_front front) (sym (clip_to-long k c long))
+      let size : n - 1 ≡ length front + (k - 1) = omega arith in
+      let cut : take (n - 1) (front ++ c.bytes) ≡ front ++ take (k - 1) c.bytes =
+      rw size (take-append-add front c.bytes (k - 1)) in
+      let longer : n ≤ length (front ++ c.bytes) = omega (arith, length-append front c.bytes) in
+      rw (clip_to-long n (with_front front c) longer, clip_to-long k c long, cut) refl
 ]
 
 -- the buffer is empty where its places meet
-pub none_buffered : (buf : List ℕ) (s e : ℕ) → s ≡ e → take (e - s) (drop s buf) ≡ []
-none_buffered buf s e same = ap (λ n. take n (drop s buf)) (let zero_left : e - s ≡ 0 = omega arith in zero_left)
+pub none_buffered : (buf : List ℕ) {s e : ℕ} → s ≡ e → take (e - s) (drop s buf) ≡ []
+none_buffered buf {s = s} {e = e} same = let zero_left : e - s ≡ 0 = omega arith in rw zero_left refl
+
+-- a read into the empty buffer of a reader that has taken t bytes
+pub record Refill (x y : Option Content) (none part : List ℕ) (r : Result ℕ Fault) (t : ℕ) : Type 0 where
+  pub empty : none ≡ []
+  pub gives : ReadGives x y r part
+  pub few : t < 2 ^ 61
 
 -- a read leaves what is still to come as it was
 stays : (c d : Content) (part : List ℕ) (n t u : ℕ) → ReadsFrom c d (Ok n) part → n ≤ length part → u ≡ t + n
@@ -66,52 +75,55 @@ ends c d part t r some fits =
     let is : clip_to (limit - t) c ≡ c = clip_to-short (limit - t) c (rw (end.0, limit-value) (omega arith)) in
     rw is (content-same (with_front [] c) empty_content end.0 end.1)
 
+-- what such a read means for what is still to come
 FillOf-read : (c d : Content) (part : List ℕ) (n t u : ℕ) → ReadsFrom c d (Ok n) part → n ≤ length part
     → 0 < length part → u ≡ t + n → u < 2 ^ 61
-    → FillOf (with_front [] (clip_to (limit - t) c)) (with_front (take n part) (clip_to (limit - u) d)) (Ok (not (nat_eq n 0)))
+    → FillOf (with_front [] (clip_to (limit - t) c)) (with_front (take n part) (clip_to (limit - u) d))
+    (Ok (not (nat_eq n 0)))
 FillOf-read c d part n t u r few some sum fits = elim (eqb_tells n 0) [
   | inl same ↦ rw same.0 (stays c d part n t u r few sum fits, ends c d part t (rw same.1 at r) some (omega arith))
   | inr other ↦ rw other.0 (stays c d part n t u r few sum fits)
 ]
 
-pub filled : (x y : Option Content) (none part buf : List ℕ) (n t u : ℕ) → none ≡ [] → ReadGives x y (Ok n) part
+-- what is still to come: these bytes, and then what an input gives of which t bytes are taken
+abbrev pub to_come : List ℕ → ℕ → Option Content → Option Content
+to_come front t x = option_map (λ c. with_front front (clip_to (limit - t) c)) x
+
+-- so many bytes were read, or the end was found
+pub filled : {x y : Option Content} {none part : List ℕ} {n t : ℕ} (buf : List ℕ) (u : ℕ)
+    → Refill x y none part (Ok n) t
     → n ≤ length part → 0 < length part → take n part ≡ buf → u ≡ t + n → u < 2 ^ 61
-    → WhereTold (option_map (λ c. with_front none (clip_to (limit - t) c)) x)
-    (option_map (λ c. with_front buf (clip_to (limit - u) c)) y) (λ c d. FillOf c d (Ok (not (nat_eq n 0))))
-filled None y none part buf n t u empty r few some is sum fits = tt
-filled (Some c) None none part buf n t u empty r few some is sum fits = absurd r
-filled (Some c) (Some d) none part buf n t u empty r few some is sum fits =
-    rw (empty, sym is) (FillOf-read c d part n t u r few some sum fits)
+    → WhereTold (to_come none t x) (to_come buf u y) (λ c d. FillOf c d (Ok (not (nat_eq n 0))))
+filled {x = None} buf u r few some is sum fits = tt
+filled {x = Some c} {y = None} buf u r few some is sum fits = absurd r.gives
+filled {x = Some c} {y = Some d} {part = part} {n = n} {t = t} buf u r few some is sum fits =
+    rw (r.empty, sym is) (FillOf-read c d part n t u r.gives few some sum fits)
 
 -- the end was found
-pub filled_end : (x y : Option Content) (none part : List ℕ) (t : ℕ) → none ≡ [] → ReadGives x y (Ok 0) part
-    → 0 < length part → t < 2 ^ 61
-    → WhereTold (option_map (λ c. with_front none (clip_to (limit - t) c)) x)
-    (option_map (λ c. with_front none (clip_to (limit - t) c)) y) (λ c d. FillOf c d (Ok false))
-filled_end x y none part t empty r some fits =
-    filled x y none part none 0 t t empty r (omega arith) some (sym empty) (omega arith) fits
+pub filled_end : {x y : Option Content} {none part : List ℕ} {t : ℕ}
+    → Refill x y none part (Ok 0) t → 0 < length part
+    → WhereTold (to_come none t x) (to_come none t y) (λ c d. FillOf c d (Ok false))
+filled_end {none = none} {t = t} r some = filled none t r (omega arith) some (sym r.empty) (omega arith) r.few
 
 -- a fault was found
-pub filled_fault : (x y : Option Content) (none part : List ℕ) (g : Content → Content) (f : Fault) (t : ℕ) → none ≡ []
-    → ReadGives x y (Err f) part → t < 2 ^ 61
-    → WhereTold (option_map (λ c. with_front none (clip_to (limit - t) c)) x) (option_map g y) (λ c d. FillOf c d (Err f))
-filled_fault None y none part g f t empty r fits = tt
-filled_fault (Some c) None none part g f t empty r fits = absurd r
-filled_fault (Some c) (Some d) none part g f t empty r fits =
-    let is : clip_to (limit - t) c ≡ c = clip_to-short (limit - t) c (rw (r.0, limit-value) (omega arith)) in
-    rw (empty, is) (content-same (with_front [] c) (record { bytes = []; ending = Broken f }) r.0 r.1)
+pub filled_fault : {x y : Option Content} {none : List ℕ} {f : Fault} {t : ℕ} (g : Content → Content)
+    → Refill x y none [] (Err f) t
+    → WhereTold (to_come none t x) (option_map g y) (λ c d. FillOf c d (Err f))
+filled_fault {x = None} g r = tt
+filled_fault {x = Some c} {y = None} g r = absurd r.gives
+filled_fault {x = Some c} {y = Some d} {f = f} {t = t} g r =
+    let is : clip_to (limit - t) c ≡ c = clip_to-short (limit - t) c (rw (r.gives.0, limit-value) (omega arith)) in
+    rw (r.empty, is) (content-same (with_front [] c) (record { bytes = []; ending = Broken f }) r.gives.0 r.gives.1)
 
 -- a byte was found past the limit
-pub filled_long : (x y : Option Content) (none part : List ℕ) (g : Content → Content) (n t : ℕ) → none ≡ []
-    → ReadGives x y (Ok n) part → n ≤ length part → n ≢ 0 → t ≡ 2 ^ 61 - 1
-    → WhereTold (option_map (λ c. with_front none (clip_to (limit - t) c)) x) (option_map g y)
-    (λ c d. FillOf c d (Err Other))
-filled_long None y none part g n t empty r few some full = tt
-filled_long (Some c) None none part g n t empty r few some full = absurd r
-filled_long (Some c) (Some d) none part g n t empty r few some full =
-    let len : length c.bytes ≡ length (take n part) + length d.bytes = ap length r.0
-    ∙ length-append (take n part) d.bytes in
+pub filled_long : {x y : Option Content} {none part : List ℕ} {n t : ℕ} (g : Content → Content)
+    → Refill x y none part (Ok n) t → n ≤ length part → n ≢ 0 → t ≡ 2 ^ 61 - 1
+    → WhereTold (to_come none t x) (option_map g y) (λ c d. FillOf c d (Err Other))
+filled_long {x = None} g r few some full = tt
+filled_long {x = Some c} {y = None} g r few some full = absurd r.gives
+filled_long {x = Some c} {y = Some d} {part = part} {n = n} {t = t} g r few some full =
+    let size : length c.bytes ≡ length (take n part) + length d.bytes =
+    ap length r.gives.0 ∙ length-append (take n part) d.bytes in
     let one : limit - t ≡ 1 = rw limit-value (omega arith) in
-    let is : clip_to (limit - t) c ≡ record { bytes = []; ending = Broken Other } = rw one
-    (clip_to-long 1 c (omega (arith, len, length-take-le n part few))) in
-    rw (empty, is) refl
+    let long : 1 ≤ length c.bytes = omega (arith, size, length-take-le n part few) in
+    rw (r.empty, one, clip_to-long 1 c long) refl

@@ -30,115 +30,124 @@ line_pieces-cons : (e : Ending) (piece : List ℕ) (more : List (List ℕ)) → 
 line_pieces-cons e piece [] some = absurd (omega arith)
 line_pieces-cons e piece (next ∷ more) some = refl
 
--- the first piece, up to a newline
+-- a newline ends the first piece
 pub pieces-newline : (e : Ending) (piece rest : List ℕ) → NoNewline piece
-    → pieces (record { bytes = piece ++ (10 ∷ rest); ending = e }) ≡ piece ∷ pieces
-    (record { bytes = rest; ending = e })
+    → pieces (record { bytes = piece ++ (10 ∷ rest); ending = e })
+    ≡ piece ∷ pieces (record { bytes = rest; ending = e })
 unfolding pieces
 pieces-newline e piece rest none =
     let newline : ℕ → Bool = λ b. b == 10 in
     let some : 0 < length (slice_split newline rest) = omega (arith, length-slice_split newline rest) in
-    ap (line_pieces e) (slice_split_at newline piece 10 rest none refl)
-    ∙ line_pieces-cons e piece (slice_split newline rest) some
+    rw (slice_split_at newline piece 10 rest none refl) (line_pieces-cons e piece (slice_split newline rest) some)
 
--- the last piece
+-- bytes without a newline are the last piece
 pub pieces-last : (e : Ending) (piece : List ℕ) → NoNewline piece
     → pieces (record { bytes = piece; ending = e }) ≡ last_line e piece
 unfolding pieces
 pieces-last e piece none = ap (line_pieces e) (slice_split_none (λ b. b == 10) piece none)
 
--- a newline stands at the end of the piece before it
-newline_after : (piece rest : List ℕ) → NoNewline piece → position_or_len (λ b. b == 10)
-    (piece ++ (10 ∷ rest)) ≡ length piece
+-- the first newline stands where the piece before it ends
+newline_after : (piece rest : List ℕ) → NoNewline piece
+    → position_or_len (λ b. b == 10) (piece ++ (10 ∷ rest)) ≡ length piece
 newline_after piece rest none =
     let all : List ℕ = piece ++ (10 ∷ rest) in
     position_or_len_is (λ b. b == 10) all (length piece) 0 (omega (arith, length-append piece (10 ∷ rest)))
     (λ k low. ap (λ b. b == 10) (get_or_append_left piece (10 ∷ rest) 0 k low) ∙ none k 0 low)
     (λ _. ap (λ b. b == 10) (get_or-append_seam piece 10 rest 0))
 
-pub after_newline : (piece rest : List ℕ) → NoNewline piece → after_first (λ b. b == 10) (piece ++ (10 ∷ rest)) ≡ rest
+-- what stands past the first newline
+after_newline : (piece rest : List ℕ) → NoNewline piece
+    → after_first (λ b. b == 10) (piece ++ (10 ∷ rest)) ≡ rest
 after_newline piece rest none =
-    ap (λ n. drop (n + 1) (piece ++ (10 ∷ rest))) (newline_after piece rest none)
-    ∙ ap (drop (length piece + 1)) (sym (append_assoc piece (10 ∷ []) rest))
-    ∙ drop_at (piece ++ 10 ∷ []) rest (length piece + 1) (length-append piece (10 ∷ []))
+    rw (newline_after piece rest none, ← append_assoc piece (10 ∷ []) rest)
+    (drop_at (piece ++ 10 ∷ []) rest (length piece + 1) (length-append piece (10 ∷ [])))
 
+-- nothing stands past a newline that isn't there
 nothing_after : (piece : List ℕ) → NoNewline piece → after_first (λ b. b == 10) piece ≡ []
 nothing_after piece none =
-    let is : position_or_len (λ b. b == 10) piece ≡ length piece = position_or_len_is (λ b. b == 10) piece
-    (length piece) 0 (omega arith) (λ k low. none k 0 low) (λ low. absurd (omega arith)) in
+    let is : position_or_len (λ b. b == 10) piece ≡ length piece =
+    position_or_len_is (λ b. b == 10) piece (length piece) 0 (omega arith)
+    (λ k low. none k 0 low) (λ low. absurd (omega arith)) in
     nil_from_length (drop (position_or_len (λ b. b == 10) piece + 1) piece)
     (omega (arith, is, length-drop (position_or_len (λ b. b == 10) piece + 1) piece))
 
+-- no bytes, no newline
 none_in_nil : NoNewline []
 none_in_nil k d low = absurd (omega arith)
 
+-- the empty content has no lines
 lines_of_empty : lines empty_content ≡ []
 lines_of_empty = ap (map strip_carriage_return) (pieces-last Whole [] none_in_nil)
 
+-- a piece that a newline ended is the first line
 LineOf-ended : (c d : Content) (piece : List ℕ) → NoNewline piece → EndsPiece c d piece
     → (lines c ≡ strip_carriage_return piece ∷ lines d) × (d ≡ past_line c)
 LineOf-ended c d piece none is =
-    let all : c ≡ record { bytes = piece ++ (10 ∷ d.bytes); ending = d.ending } = content-same c
-    (record { bytes = piece ++ (10 ∷ d.bytes); ending = d.ending }) is.0 (sym is.1) in (
+    let past : after_first (λ b. b == 10) c.bytes ≡ d.bytes = rw is.0 (after_newline piece d.bytes none) in
+    let all : c ≡ record { bytes = piece ++ (10 ∷ d.bytes); ending = d.ending } =
+    content-same c (record { bytes = piece ++ (10 ∷ d.bytes); ending = d.ending }) is.0 (sym is.1) in (
       ap lines all ∙ ap (map strip_carriage_return) (pieces-newline d.ending piece d.bytes none),
-      content-same d (past_line c) (sym (ap (after_first (λ b. b == 10)) is.0 ∙ after_newline piece d.bytes none)) is.1,
+      content-same d (past_line c) (sym past) is.1,
     )
 
+-- a last piece that isn't empty is a line
 last_line-some : (piece : List ℕ) → 0 < length piece → last_line Whole piece ≡ piece ∷ []
 last_line-some [] some = absurd (omega arith)
 last_line-some (b ∷ bs) some = refl
 
+-- the last piece is the only line left
 LineOf-last : (c d : Content) (piece : List ℕ) → NoNewline piece → IsLastPiece c d piece
     → (lines c ≡ strip_carriage_return piece ∷ lines d) × (d ≡ past_line c)
 LineOf-last c d piece none is =
-    let all : c ≡ record { bytes = piece; ending = Whole } = content-same c
-    (record { bytes = piece; ending = Whole }) is.0 is.1 in
-    let one : lines c ≡ strip_carriage_return piece ∷ [] = ap lines all
-    ∙ ap (map strip_carriage_return) (pieces-last Whole piece none ∙ last_line-some piece is.2) in (
-      one ∙ ap (λ ls. strip_carriage_return piece ∷ ls) (sym (ap lines is.3 ∙ lines_of_empty)),
-      is.3 ∙ sym (content-same (past_line c) empty_content (ap (after_first (λ b. b == 10)) is.0
-          ∙ nothing_after piece none) is.1),
+    let past : after_first (λ b. b == 10) c.bytes ≡ [] = rw is.0 (nothing_after piece none) in
+    let all : c ≡ record { bytes = piece; ending = Whole } =
+    content-same c (record { bytes = piece; ending = Whole }) is.0 is.1 in
+    let one : lines c ≡ strip_carriage_return piece ∷ [] =
+    ap lines all ∙ ap (map strip_carriage_return) (pieces-last Whole piece none ∙ last_line-some piece is.2) in (
+      rw (is.3, lines_of_empty) one,
+      is.3 ∙ sym (content-same (past_line c) empty_content past is.1),
     )
 
 -- a piece, without its carriage return, is the line
-pub LineOf-line : (c d : Content) (piece : List ℕ) → PieceOf c d (Ok Line) piece
+LineOf-line : (c d : Content) (piece : List ℕ) → PieceOf c d (Ok Line) piece
     → LineOf c d (Ok Line) (strip_carriage_return piece)
 LineOf-line c d piece (none, inl ended) = LineOf-ended c d piece none ended
 LineOf-line c d piece (none, inr last) = LineOf-last c d piece none last
 
-pub LineOf-no_more : (c d : Content) (line piece : List ℕ) → PieceOf c d (Ok NoMore) piece → LineOf c d (Ok NoMore) line
+-- where nothing is left, there is no line
+LineOf-no_more : (c d : Content) (line piece : List ℕ)
+    → PieceOf c d (Ok NoMore) piece → LineOf c d (Ok NoMore) line
 LineOf-no_more c d line piece is = (ap lines is ∙ lines_of_empty, ap (λ (x : Content). x.ending) is)
 
-pub LineOf-fault : (c d : Content) (f : Fault) (line piece : List ℕ) → PieceOf c d (Err (stops.Fault f)) piece
-    → LineOf c d (Err (stops.Fault f)) line
+-- a fault leaves no line, whatever stands before it
+LineOf-fault : (c d : Content) (f : Fault) (line piece : List ℕ)
+    → PieceOf c d (Err (stops.Fault f)) piece → LineOf c d (Err (stops.Fault f)) line
 LineOf-fault c d f line piece is =
-    let all : c ≡ record { bytes = piece; ending = Broken f } = content-same c
-    (record { bytes = piece; ending = Broken f }) is.1 is.2 in
+    let all : c ≡ record { bytes = piece; ending = Broken f } =
+    content-same c (record { bytes = piece; ending = Broken f }) is.1 is.2 in
     (ap lines all ∙ ap (map strip_carriage_return) (pieces-last (Broken f) piece is.0), is.2)
 
--- the same where contents are told, for a reader that was reading
-pub gives_line : (s : State) (x y : Option Content) (r : Result Next LineStop) (piece line : List ℕ)
+-- a line, where contents are told, of a reader that was reading
+pub gives_line : {s : State} {r : Result Next LineStop} {line : List ℕ} (x y : Option Content) (piece : List ℕ)
     → s ≡ states.Reading → r ≡ Ok Line → line ≡ strip_carriage_return piece → WhereTold x y (λ c d. PieceOf c d r piece)
     → WhereTold (at_state s x) y (λ c d. LineOf c d r line)
-gives_line s x y r piece line reading is dropped h =
-    rw (reading, is, dropped) (WhereTold-map x y (λ c d. PieceOf c d (Ok Line) piece)
-    (λ c d. LineOf c d (Ok Line) (strip_carriage_return piece)) (λ c d. LineOf-line c d piece) (rw is at h))
+gives_line x y piece reading is dropped h =
+    rw (reading, is, dropped) (WhereTold-map x y (λ c d. LineOf-line c d piece) (rw is at h))
 
-pub gives_no_more : (s : State) (x y : Option Content) (r : Result Next LineStop) (piece line : List ℕ)
-    → s ≡ states.Reading → r ≡ Ok NoMore → WhereTold x y (λ c d. PieceOf c d r piece)
+-- that no line is left
+pub gives_no_more : {s : State} {r : Result Next LineStop} (x y : Option Content) (line : List ℕ)
+    → s ≡ states.Reading → r ≡ Ok NoMore → WhereTold x y (λ c d. PieceOf c d r line)
     → WhereTold (at_state s x) y (λ c d. LineOf c d r line)
-gives_no_more s x y r piece line reading is h =
-    rw (reading, is) (WhereTold-map x y (λ c d. PieceOf c d (Ok NoMore) piece) (λ c d. LineOf c d (Ok NoMore) line)
-    (λ c d. LineOf-no_more c d line piece) (rw is at h))
+gives_no_more x y line reading is h =
+    rw (reading, is) (WhereTold-map x y (λ c d. LineOf-no_more c d line line) (rw is at h))
 
-gives_error : (x y : Option Content) (e : LineStop) (piece line : List ℕ)
-    → WhereTold x y (λ c d. PieceOf c d (Err e) piece) → WhereTold x y (λ c d. LineOf c d (Err e) line)
-gives_error x y (stops.Fault f) piece line h =
-    WhereTold-map x y (λ c d. PieceOf c d (Err (stops.Fault f)) piece) (λ c d. LineOf c d (Err (stops.Fault f)) line)
-    (λ c d. LineOf-fault c d f line piece) h
-gives_error x y stops.Memory piece line h = h
+-- a stop, by a fault or for want of memory
+gives_error : (x y : Option Content) (e : LineStop) (line : List ℕ)
+    → WhereTold x y (λ c d. PieceOf c d (Err e) line) → WhereTold x y (λ c d. LineOf c d (Err e) line)
+gives_error x y (stops.Fault f) line h = WhereTold-map x y (λ c d. LineOf-fault c d f line line) h
+gives_error x y stops.Memory line h = h
 
--- a stop leaves told what was told
+-- a stop leaves told what was told, and the content to come doesn't matter
 stop_told : (s : State) (x y : Option Content) (e : LineStop) (line : List ℕ)
     → WhereTold x (at_state s y) (λ c d. LineOf c d (Err e) line)
     → WhereTold x (at_state (states.Stopped e) y) (λ c d. LineOf c d (Err e) line)
@@ -154,22 +163,25 @@ stop_told (states.Stopped (stops.Fault g)) (Some c) (Some d) (stops.Fault f) lin
 stop_told (states.Stopped stops.Memory) (Some c) (Some d) (stops.Fault f) line h = h
 stop_told s (Some c) (Some d) stops.Memory line h = tt
 
-pub gives_stop : (s t : State) (x y : Option Content) (r : Result Next LineStop) (e : LineStop) (piece line : List ℕ)
-    → s ≡ states.Reading → r ≡ Err e → WhereTold x (at_state t y) (λ c d. PieceOf c d r piece)
+-- a stop of a reader that was reading
+pub gives_stop : {s : State} {r : Result Next LineStop} {e : LineStop} (t : State) (x y : Option Content)
+    (line : List ℕ)
+    → s ≡ states.Reading → r ≡ Err e → WhereTold x (at_state t y) (λ c d. PieceOf c d r line)
     → WhereTold (at_state s x) (at_state (states.Stopped e) y) (λ c d. LineOf c d r line)
-gives_stop s t x y r e piece line reading is h =
-    rw (reading, is) (stop_told t x y e line (gives_error x (at_state t y) e piece line (rw is at h)))
+gives_stop {e = e} t x y line reading is h =
+    rw (reading, is) (stop_told t x y e line (gives_error x (at_state t y) e line (rw is at h)))
 
--- what was answered before is answered again
-pub gives_ended : (s : State) (c : Option Content) (line : List ℕ) → s ≡ states.Ended
+-- the end was answered before, and is answered again
+pub gives_ended : {s : State} (c : Option Content) (line : List ℕ) → s ≡ states.Ended
     → WhereTold (at_state s c) (at_state s c) (λ c d. LineOf c d (Ok NoMore) line)
-gives_ended s None line is = rw is tt
-gives_ended s (Some c) line is = rw is (lines_of_empty, refl)
+gives_ended None line is = rw is tt
+gives_ended (Some c) line is = rw is (lines_of_empty, refl)
 
-pub gives_stopped : (s : State) (c : Option Content) (e : LineStop) (line : List ℕ) → s ≡ states.Stopped e
+-- so is a stop
+pub gives_stopped : {s : State} {e : LineStop} (c : Option Content) (line : List ℕ) → s ≡ states.Stopped e
     → WhereTold (at_state s c) (at_state s c) (λ c d. LineOf c d (Err e) line)
-gives_stopped s None (stops.Fault f) line is = rw is tt
-gives_stopped s None stops.Memory line is = rw is tt
-gives_stopped s (Some c) (stops.Fault f) line is =
+gives_stopped {e = stops.Fault f} None line is = rw is tt
+gives_stopped {e = stops.Memory} None line is = rw is tt
+gives_stopped {e = stops.Fault f} (Some c) line is =
     rw is (ap (map strip_carriage_return) (pieces-last (Broken f) [] none_in_nil), refl)
-gives_stopped s (Some c) stops.Memory line is = rw is tt
+gives_stopped {e = stops.Memory} (Some c) line is = rw is tt

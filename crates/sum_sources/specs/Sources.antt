@@ -1,9 +1,9 @@
 -- What sources of files answer, and what they were asked.
-use Rattle.std.specs.Prelude.{ℕ, ◌≡◌, ◌+◌, ◌-◌, ◌^◌, min, List, [], ◌∷◌, ◌++◌, Option, None, Some, Result, Ok, Err, ⊤}
+use Rattle.std.specs.Prelude.{ℕ, ◌≡◌, ◌+◌, ◌-◌, ◌^◌, min, List, [], ◌∷◌, ◌++◌, Option, Some, Result, Ok, Err, ⊤}
 use Rattle.sum_sources.specs.declared.fault.Fault.{Fault}
 use Rattle.sum_sources.specs.declared.source.OpenFault.{OpenFault}
 use Rattle.sum_sources.specs.declared.source.OpenFault.TheVariants as faults
-use Rattle.sum_sources.specs.Contents.{Content}
+use Rattle.sum_sources.specs.Contents.{Content, WhereTold}
 
 -- what a source has for a name
 pub data Reply : Type 0 where
@@ -40,7 +40,5 @@ Opens content reply (Err faults.Memory) = ⊤
 -- what opening a name does, where a source tells: its replies stay the same
 abbrev pub OpenGives :
     {F : Type 0} → (F → Option Content) → Option Telling → Option Telling → List ℕ → Result F OpenFault → Type 0
-OpenGives content None new name r = ⊤
-OpenGives content (Some s) None name r = ⊥
-OpenGives content (Some s) (Some t) name r = (t.answer ≡ s.answer) × (t.asked ≡ asked_after s.asked name r)
-    × Opens content (s.answer name) r
+OpenGives content old new name r = WhereTold old new (λ s t. (t.answer ≡ s.answer)
+    × (t.asked ≡ asked_after s.asked name r) × Opens content (s.answer name) r)

@@ -7,9 +7,9 @@ use Rattle.sum_words.specs.declared.tool.Tool.{Tool}
 use Rattle.sum_words.specs.Items.{Text, operand, items}
 use Rattle.sum_words.specs.PlainWords.{is_plain, PlainWordsAreOperands, WordsBehindAreOperands}
 
--- a word that begins with another character
-no_dash : (t : Tool) (b : ℕ) (bs : Text) (more : List Text) → eqb b 45 ≡ false → eqb 45 b ≡ false →
-    items t ((b ∷ bs) ∷ more) ≡ operand (b ∷ bs) ∷ items t more
+-- a word that begins with another character is an operand
+no_dash : (t : Tool) (b : ℕ) (bs : Text) (more : List Text) → eqb b 45 ≡ false → eqb 45 b ≡ false
+    → items t ((b ∷ bs) ∷ more) ≡ operand (b ∷ bs) ∷ items t more
 no_dash t b bs more here there = rw (here, there) refl
 
 -- a word that begins with a dash is plain only if it is a dash alone
@@ -17,23 +17,27 @@ plain_dash : (bs : Text) → is_plain (45 ∷ bs) ≡ true → bs ≡ []
 plain_dash [] h = refl
 plain_dash (c ∷ cs) h = cc
 
-dash_alone : (t : Tool) (bs : Text) (more : List Text) → bs ≡ [] →
-    items t ((45 ∷ bs) ∷ more) ≡ operand (45 ∷ bs) ∷ items t more
+-- a dash alone is an operand
+dash_alone : (t : Tool) (bs : Text) (more : List Text) → bs ≡ []
+    → items t ((45 ∷ bs) ∷ more) ≡ operand (45 ∷ bs) ∷ items t more
 dash_alone t bs more h = rw h refl
 
-plain_word : (t : Tool) (word : Text) (more : List Text) → is_plain word ≡ true →
-    items t (word ∷ more) ≡ operand word ∷ items t more
+-- a plain word is one
+plain_word : (t : Tool) (word : Text) (more : List Text) → is_plain word ≡ true
+    → items t (word ∷ more) ≡ operand word ∷ items t more
 plain_word t [] more h = refl
 plain_word t (b ∷ bs) more h = elim (eqb_tells b 45) [
   | inl dash ↦ rw dash.1 (dash_alone t bs more (plain_dash bs (rw dash.1 at h)))
   | inr other ↦ no_dash t b bs more other.0 (ne_eqb 45 b (λ e. other.1 (sym e)))
 ]
 
+-- plain words are operands, whatever follows them
 pub plain_words : PlainWordsAreOperands
 plain_words t [] more h = refl
 plain_words t (word ∷ words) more h =
     plain_word t word (words ++ more) (All-head (λ w. is_plain w ≡ true) word words h)
     ∙ ap (λ xs. operand word ∷ xs) (plain_words t words more (All-tail (λ w. is_plain w ≡ true) word words h))
 
+-- so are the words behind two dashes
 pub words_behind : WordsBehindAreOperands
 words_behind t words = refl

@@ -1,5 +1,5 @@
 -- The options read so far, and the number of a length value.
-use Rattle.std.proofs.Common.{◌≡◌, ◌≢◌, ℕ, ◌<◌, ◌^◌, Bool, true, false, ◌||◌, List, [], ◌∷◌, length, Option, None, Some, Result, Ok, Err, find, refl, sym, ◌∙◌, ap, arith, inl, inr}
+use Rattle.std.proofs.Common.{◌≡◌, ◌≢◌, ℕ, ◌<◌, ◌^◌, Bool, true, false, List, [], ◌∷◌, length, Option, None, Some, Result, Ok, Err, find, refl, sym, ap, arith, inl, inr}
 use Rattle.std.specs.List.{last_or}
 use Rattle.std.specs.Option.{option_map, option_map_or, option_transpose}
 use Rattle.std.specs.Result.{result_ok, result_map_both, OkIff}
@@ -20,17 +20,9 @@ use Rattle.sum_words.specs.joins.Walk.{full_name}
 use Rattle.sum_words.specs.Request.{length_kind, faults, job_of, kind_asked, ending, request}
 use Rattle.sum_words.specs.joins.Reading.{first_fault, is_number, IsNumberOf}
 
-pub or-false : (p : Bool) → (p || false) ≡ p
-or-false true = refl
-or-false false = refl
-
-pub or-true : (p : Bool) → (p || true) ≡ true
-or-true true = refl
-or-true false = refl
-
 -- an option that doesn't end the matter
-pub ending_not : (flag : Flag) (rest : List Item) → flag ≢ flags.Help → flag ≢ flags.Version →
-    ending (option (full_name flag) ∷ rest) ≡ ending rest
+pub ending_not : (flag : Flag) (rest : List Item) → flag ≢ flags.Help → flag ≢ flags.Version
+    → ending (option (full_name flag) ∷ rest) ≡ ending rest
 ending_not flags.Binary rest help version = refl
 ending_not flags.Check rest help version = refl
 ending_not flags.Tag rest help version = refl
@@ -45,36 +37,41 @@ ending_not flags.Length rest help version = refl
 ending_not flags.Help rest help version = absurd (help refl)
 ending_not flags.Version rest help version = absurd (version refl)
 
--- the request, where no item decides it: the first fault that holds, or else the work
-row_fault : (row : Option (Bool × Fault)) (r : Result Job Fault) (f : Fault) → option_map (λ p. p.1) row ≡ Some f →
-    option_map_or (λ p. Err p.1) row r ≡ Err f
-row_fault None r f h = cc
-row_fault (Some p) r f h = let same : p.1 ≡ f = cc in ap Err same
+-- the row that was found gives its fault
+row_fault : {f : Fault} (row : Option (Bool × Fault)) (r : Result Job Fault) → option_map (λ p. p.1) row ≡ Some f
+    → option_map_or (λ p. Err p.1) row r ≡ Err f
+row_fault None r h = cc
+row_fault {f = f} (Some p) r h = let same : p.1 ≡ f = cc in ap Err same
 
-row_none : (row : Option (Bool × Fault)) (r : Result Job Fault) → option_map (λ p. p.1) row ≡ None →
-    option_map_or (λ p. Err p.1) row r ≡ r
+-- where none was found, the job stays
+row_none : (row : Option (Bool × Fault)) (r : Result Job Fault) → option_map (λ p. p.1) row ≡ None
+    → option_map_or (λ p. Err p.1) row r ≡ r
 row_none None r h = refl
 row_none (Some p) r h = cc
 
-pub request_fault : (t : Tool) (words : List Text) (kind : Option KindValue) (f : Fault) →
-    ending (items t words) ≡ None → kind_asked (values_of (items t words)) ≡ Ok kind →
-    first_fault (options_of (items t words)) ≡ Some f → request t words ≡ Err f
-request_fault t words kind f none is holds =
+-- where no item decides the request, it is the first fault of the options that holds
+pub request_fault : {kind : Option KindValue} {f : Fault} (t : Tool) (words : List Text)
+    → ending (items t words) ≡ None → kind_asked (values_of (items t words)) ≡ Ok kind
+    → first_fault (options_of (items t words)) ≡ Some f → request t words ≡ Err f
+request_fault {kind = kind} t words none is holds =
     let given = options_of (items t words) in
-    rw (none, is, row_fault (find (λ p. p.0) (faults given)) (job_of (algos_of t) kind given) f holds) refl
+    rw (none, is, row_fault (find (λ p. p.0) (faults given)) (job_of (algos_of t) kind given) holds) refl
 
-pub request_work : (t : Tool) (words : List Text) (kind : Option KindValue) (r : Result Job Fault) →
-    ending (items t words) ≡ None → kind_asked (values_of (items t words)) ≡ Ok kind →
-    first_fault (options_of (items t words)) ≡ None → r ≡ job_of (algos_of t) kind (options_of (items t words)) →
-    request t words ≡ result_map_both (λ job. Work job (operands_of (items t words))) (λ f. f) r
-request_work t words kind r none is holds job =
+-- and where none of these holds, the work
+pub request_work : {kind : Option KindValue} {r : Result Job Fault} (t : Tool) (words : List Text)
+    → ending (items t words) ≡ None → kind_asked (values_of (items t words)) ≡ Ok kind
+    → first_fault (options_of (items t words)) ≡ None → r ≡ job_of (algos_of t) kind (options_of (items t words))
+    → request t words ≡ result_map_both (λ job. Work job (operands_of (items t words))) (λ f. f) r
+request_work {kind = kind} t words none is holds job =
     let given = options_of (items t words) in
     rw (none, is, row_none (find (λ p. p.0) (faults given)) (job_of (algos_of t) kind given) holds, ← job) refl
 
-pub kind_read : (value : Option Text) (values : List Text) (kind : Option KindValue) → value ≡ last_or None values →
-    Ok kind ≡ option_transpose (option_map length_kind value) → kind_asked values ≡ Ok kind
-kind_read value values kind last is = ap (λ o. option_transpose (option_map length_kind o)) (sym last) ∙ sym is
+-- the kind that the last length value asks for was read
+pub kind_read : {value : Option Text} {kind : Option KindValue} (values : List Text) → value ≡ last_or None values
+    → Ok kind ≡ option_transpose (option_map length_kind value) → kind_asked values ≡ Ok kind
+kind_read values last is = rw (← last) (sym is)
 
+-- what is not there in any way is absent
 pub not_some : {X : Type 0} (o : Option X) → ((x : X) → o ≡ Some x → ⊥) → o ≡ None
 not_some None h = refl
 not_some (Some x) h = absurd (h x refl)
@@ -83,27 +80,32 @@ not_some (Some x) h = absurd (h x refl)
 numerals : IsNumeralModel (λ ds. all_ascii_digits ds ≡ true) (digits_value 10)
 numerals = numerals_by_value _ tells_all_ascii_digits
 
+-- a number has digits
 some_digits : (value : Text) → is_number value ≡ true → 0 < length value
 some_digits [] h = cc
 some_digits (b ∷ bs) h = omega arith
 
+-- one or more digits are a number
 number_if : (value : Text) → 0 < length value → all_ascii_digits value ≡ true → is_number value ≡ true
 number_if [] some digits = absurd (omega arith)
 number_if (b ∷ bs) some digits = digits
 
-number_told : {E : Type 0} (value : Text) (r : Result ℕ E) →
-    OkIff r ((0 < length value) × (digits_value 10 value < 2 ^ 64)) (digits_value 10 value) →
-    all_ascii_digits value ≡ true → IsNumberOf value (result_ok r)
+-- what parsing answers for digits is the number, or it is too large
+number_told : {E : Type 0} (value : Text) (r : Result ℕ E)
+    → OkIff r ((0 < length value) × (digits_value 10 value < 2 ^ 64)) (digits_value 10 value)
+    → all_ascii_digits value ≡ true → IsNumberOf value (result_ok r)
 number_told value (Ok n) h digits = (number_if value h.0.0 digits, h.1)
 number_told value (Err e) h digits = λ number. elim (cases_lt (digits_value 10 value) (2 ^ 64)) [
   | inl small ↦ absurd (h (some_digits value number, small))
   | inr large ↦ large
 ]
 
-pub number_parsed : {E : Type 0} (value : Text) (r : Result ℕ E) → ParsesUnsigned 64 10 value r →
-    all_ascii_digits value ≡ true → IsNumberOf value (result_ok r)
+-- the same by the contract of parsing
+pub number_parsed : {E : Type 0} (value : Text) (r : Result ℕ E) → ParsesUnsigned 64 10 value r
+    → all_ascii_digits value ≡ true → IsNumberOf value (result_ok r)
 number_parsed value r h digits = number_told value r (parse_digits numerals 64 value r h digits) digits
 
+-- a text with another character is no number
 pub no_number : (value : Text) → all_ascii_digits value ≡ false → IsNumberOf value None
 no_number [] other number = cc
 no_number (b ∷ bs) other number = cc

@@ -26,15 +26,16 @@ found_passes test (y ∷ ys) x h =
       | false ↦ λ _ later. found_passes test ys x later
     ] refl h
 
-named_by : (word : List ℕ) (r : Option Tool) → find (is_called word) all_tools ≡ r → (tool : Tool) →
-    (r ≡ Some tool) ↔ (name_of tool ≡ word)
+-- so a tool is found by a word exactly where the word is its name
+named_by : (word : List ℕ) (r : Option Tool) → find (is_called word) all_tools ≡ r → (tool : Tool)
+    → (r ≡ Some tool) ↔ (name_of tool ≡ word)
 named_by word r e tool = (
   λ h. (bytes_eq-Decides (name_of tool) word).0 (found_passes (is_called word) all_tools tool (e ∙ h)),
   λ h. sym e ∙ (rw (← h) (found_by_name tool)),
 )
 
 -- the tool that is called so, and no other, has this name
-pub named : (word : List ℕ) (r : Option Tool) → r ≡ tool_called word → (tool : Tool) →
-    (r ≡ Some tool) ↔ (name_of tool ≡ word)
+pub named : (word : List ℕ) (r : Option Tool) → r ≡ tool_called word → (tool : Tool)
+    → (r ≡ Some tool) ↔ (name_of tool ≡ word)
 unfolding tool_called
 named word r e tool = named_by word r (sym e) tool

@@ -3,6 +3,7 @@ use Rattle.blake2b_core.specs.Compression.{mix}
 use Rattle.blake2b_core.proofs.ColumnLemmas.{columns-rows}
 use Rattle.blake2b_core.proofs.columns.mixed_columns.Goals as goal
 
+-- each step of G, on all four columns at once
 pub returns : goal.returns
 unfolding mix
 returns c =

@@ -4,6 +4,7 @@ use Rattle.blake2b_core.specs.Compression.{compress, round, start}
 use Rattle.blake2b_core.specs.joins.Columns.{block_words, fed_forward, words}
 use Rattle.blake2b_core.proofs.compression.advance.Goals as goal
 
+-- twelve rounds, and the new state
 pub returns : goal.returns
 unfolding compress
 returns c =

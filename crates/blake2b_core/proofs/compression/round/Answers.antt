@@ -3,6 +3,7 @@ use Rattle.blake2b_core.specs.joins.Columns.{columns, diagonals, scheduled}
 use Rattle.blake2b_core.specs.Compression.{round}
 use Rattle.blake2b_core.proofs.compression.round.Goals as goal
 
+-- the columns, and then the diagonals
 pub returns : goal.returns
 unfolding round columns diagonals scheduled
 returns c = rw (c.mixed_diagonals.ensures, c.mixed_columns-v.ensures, c.scheduled-m.ensures) refl

@@ -4,6 +4,7 @@ use Rattle.blake2b_core.proofs.compression.scheduled.Goals.{in-0, in-1, in-2, in
 use Rattle.blake2b_core.proofs.compression.scheduled.Goals.{in-6, in-7, in-8, in_default}
 use Rattle.blake2b_core.proofs.compression.scheduled.Goals as goal
 
+-- each row of SIGMA in turn
 pub returns : goal.returns
 returns c =
     elim c.match-r-rem10.branch [

@@ -19,6 +19,7 @@ concat-first_chunks n (suc k) xs =
     ap (λ l. take n xs ++ l) (concat-first_chunks n k (drop n xs))
     ∙ rw (front, drop-take n (n * k) xs) at parts ∙ ap (λ j. take j xs) product
 
+-- the blocks are chunks of the message and its zeros
 pub returns : goal.returns
 unfolding blocks
 returns c = λ m.

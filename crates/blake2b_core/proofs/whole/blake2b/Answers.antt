@@ -6,6 +6,7 @@ use Rattle.blake2b_core.specs.joins.Holding.{AreBlocksFrom}
 use Rattle.blake2b_core.proofs.BlockLemmas.{IsLast, are_blocks, blake2b-from}
 use Rattle.blake2b_core.proofs.whole.blake2b.Goals as goal
 
+-- the blocks before the last, and then that
 pub returns-clause-digest : goal.returns-clause-digest
 unfolding hash_after
 returns-clause-digest c =
@@ -22,5 +23,4 @@ returns-clause-digest c =
     let from : 0 + length front ≡ length front = omega arith in
     let hash = c.chained-h.ensures n m 0 refl are c.initial.ensures ∙ ap (hash_after n (blocks m)) from in
     rw (c.of_state.ensures.value, c.compress-h.ensures)
-    (blake2b-from n m (length front) c.chained-h.result c.zero_filled-last.result _
-    (length m) last hash c.zero_filled-last.ensures (take_rest m (128 * length front)) refl)
+    (blake2b-from n last hash c.zero_filled-last.ensures (take_rest m (128 * length front)) refl)

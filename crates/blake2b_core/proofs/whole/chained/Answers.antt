@@ -4,6 +4,7 @@ use Rattle.blake2b_core.specs.joins.Chaining.{hash_after}
 use Rattle.blake2b_core.proofs.BlockLemmas.{hash_after-more}
 use Rattle.blake2b_core.proofs.whole.chained.Goals as goal
 
+-- one more block
 pub loop-block-preserved : goal.loop-block-preserved
 loop-block-preserved c = record {
   counted = omega arith;

@@ -4,6 +4,7 @@ use Rattle.blake2b_core.specs.joins.Chaining.{hash_after}
 use Rattle.blake2b_core.specs.joins.Holding.{AreBlocksFrom}
 use Rattle.blake2b_core.proofs.whole.chained.Given as goal
 
+-- the blocks so far were compressed, whatever message they begin at block k of
 abbrev pub invariant-loop-block : goal.invariant-loop-block
 invariant-loop-block l = record {
   counted : l.taken ≡ l.before + 128 * l.block-index;

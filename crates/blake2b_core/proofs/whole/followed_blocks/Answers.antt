@@ -4,6 +4,7 @@ use Rattle.std.specs.Simd.{first_chunks}
 use Rattle.blake2b_core.proofs.BlockLemmas.{first_chunks-take}
 use Rattle.blake2b_core.proofs.whole.followed_blocks.Goals as goal
 
+-- the whole blocks that bytes follow
 pub returns-clause-value : goal.returns-clause-value
 returns-clause-value c =
     let bytes = c.args.bytes.now in

@@ -1,5 +1,6 @@
 use Rattle.sum_words.specs.joins.Arguments.{WordsUpTo}
 use Rattle.sum_words.proofs.command_line.words_from.Given as goal
 
+-- the words before the place were read
 abbrev pub invariant-places : goal.invariant-places
 invariant-places g l = WordsUpTo (g.G.Arguments.told l.arguments) l.first l.place l.words

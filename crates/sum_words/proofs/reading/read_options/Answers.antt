@@ -1,11 +1,11 @@
-use Rattle.std.proofs.Common.{◌≡◌, sym, ◌∙◌, ap, ◌∷◌, subst, List}
-use Rattle.sum_words.specs.Items.{Item, items, option}
+use Rattle.std.proofs.Common.{◌≡◌, sym, ◌∙◌, ap, ◌∷◌}
+use Rattle.sum_words.specs.Items.{items, option}
 use Rattle.sum_words.specs.joins.Walk.{full_name, item_of}
 use Rattle.sum_words.specs.Request.{ending}
-use Rattle.sum_words.specs.joins.Reading.{IsChosenBy}
 use Rattle.sum_words.proofs.RequestLemmas.{ending_not}
 use Rattle.sum_words.proofs.reading.read_options.Goals as goal
 
+-- an option that isn't help or version is kept, and doesn't end the matter
 pub loop-item-preserved-in_default-flag : goal.loop-item-preserved-in_default-flag
 loop-item-preserved-in_default-flag g c =
     let one = option (full_name c.in-Flag.flag) in
@@ -13,8 +13,7 @@ loop-item-preserved-in_default-flag g c =
     let all = items c.args.tool c.args.words.now in
     let taken : c.loop-item.items ≡ one ∷ rest = c.in-Some.ensures ∙ ap (λ i. item_of i ∷ rest) c.in-Flag.is in
     record {
-      says = c.with_flag-chosen.ensures rest all
-          (subst (λ (xs : List Item). IsChosenBy c.loop-item.chosen xs all) taken c.loop-item.invariant.says);
+      says = c.with_flag-chosen.ensures rest all (rw taken at c.loop-item.invariant.says);
       ending = sym (ending_not c.in-Flag.flag rest c.in_default-flag.not-Help c.in_default-flag.not-Version)
           ∙ ap ending (sym taken) ∙ c.loop-item.invariant.ending;
     }

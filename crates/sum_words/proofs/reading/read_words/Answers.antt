@@ -1,4 +1,4 @@
-use Rattle.std.proofs.Common.{◌∙◌, sym, ap, Ok, Err}
+use Rattle.std.proofs.Common.{◌∙◌, sym, ap, Ok}
 use Rattle.std.specs.Option.{option_map}
 use Rattle.sum_words.specs.Items.{items, options_of, values_of}
 use Rattle.sum_words.specs.joins.Walk.{fault_of}
@@ -7,33 +7,35 @@ use Rattle.sum_words.specs.declared.reading.Request.TheVariants.{Work}
 use Rattle.sum_words.proofs.RequestLemmas.{request_fault, request_work, kind_read, not_some}
 use Rattle.sum_words.proofs.reading.read_words.Goals as goal
 
+-- one of the options' faults holds
 pub returns-in-Some : goal.returns-in-Some
 returns-in-Some g c =
     let xs = items c.args.tool c.args.words.now in
     let says = c.in-Ok.ensures.read in
-    let kind = kind_read _ (values_of xs) c.in-Ok-asked_kind.kind says.length c.in-Ok-asked_kind.ensures in
-    sym (request_fault c.args.tool c.args.words.now c.in-Ok-asked_kind.kind (fault_of c.in-Some.fault)
-    c.in-Ok.ensures.none kind (sym (c.in-Some.ensures xs says)))
+    let kind = kind_read (values_of xs) says.length c.in-Ok-asked_kind.ensures in
+    sym (request_fault c.args.tool c.args.words.now c.in-Ok.ensures.none kind (sym (c.in-Some.ensures xs says)))
 
+-- none holds, and there is a job
 pub returns-in-Ok-asked_job : goal.returns-in-Ok-asked_job
 returns-in-Ok-asked_job g c =
     let xs = items c.args.tool c.args.words.now in
     let says = c.in-Ok.ensures.read in
-    let kind = kind_read _ (values_of xs) c.in-Ok-asked_kind.kind says.length c.in-Ok-asked_kind.ensures in
-    let none = not_some c.fault_of_options.result c.in_default.not-Some in
+    let kind = kind_read (values_of xs) says.length c.in-Ok-asked_kind.ensures in
+    let none = sym (c.fault_of_options.ensures xs says)
+    ∙ ap (option_map fault_of) (not_some c.fault_of_options.result c.in_default.not-Some) in
     let job = c.in-Ok-asked_job.ensures xs says
     ∙ ap (λ a. job_of a c.in-Ok-asked_kind.kind (options_of xs)) c.algos.ensures in
     ap (λ os. Ok (Work c.in-Ok-asked_job.job os)) c.new.ensures
-    ∙ sym (request_work c.args.tool c.args.words.now c.in-Ok-asked_kind.kind (Ok c.in-Ok-asked_job.job)
-    c.in-Ok.ensures.none kind (sym (c.fault_of_options.ensures xs says) ∙ ap (option_map fault_of) none) job)
+    ∙ sym (request_work c.args.tool c.args.words.now c.in-Ok.ensures.none kind none job)
 
+-- none holds, but there is no job
 pub returns-in-Err-asked_job : goal.returns-in-Err-asked_job
 returns-in-Err-asked_job g c =
     let xs = items c.args.tool c.args.words.now in
     let says = c.in-Ok.ensures.read in
-    let kind = kind_read _ (values_of xs) c.in-Ok-asked_kind.kind says.length c.in-Ok-asked_kind.ensures in
-    let none = not_some c.fault_of_options.result c.in_default.not-Some in
+    let kind = kind_read (values_of xs) says.length c.in-Ok-asked_kind.ensures in
+    let none = sym (c.fault_of_options.ensures xs says)
+    ∙ ap (option_map fault_of) (not_some c.fault_of_options.result c.in_default.not-Some) in
     let job = c.in-Err-asked_job.ensures xs says
     ∙ ap (λ a. job_of a c.in-Ok-asked_kind.kind (options_of xs)) c.algos.ensures in
-    sym (request_work c.args.tool c.args.words.now c.in-Ok-asked_kind.kind (Err (fault_of c.in-Err-asked_job.fault))
-    c.in-Ok.ensures.none kind (sym (c.fault_of_options.ensures xs says) ∙ ap (option_map fault_of) none) job)
+    sym (request_work c.args.tool c.args.words.now c.in-Ok.ensures.none kind none job)

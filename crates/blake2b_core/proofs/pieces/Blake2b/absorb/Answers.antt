@@ -7,9 +7,9 @@ use Rattle.blake2b_core.proofs.BlockLemmas.{are_blocks, first_chunks-take, hash_
 use Rattle.blake2b_core.proofs.pieces.Blake2b.absorb.Goals as goal
 
 -- whole blocks that stand at the front of a piece are the next blocks of the message with them
-next_blocks : (m piece : List ℕ) (k count : ℕ) (bs : List (List ℕ)) → 128 * k ≡ length m → 128 * count ≤ length piece
+next_blocks : {bs : List (List ℕ)} (m piece : List ℕ) (k count : ℕ) → 128 * k ≡ length m → 128 * count ≤ length piece
     → bs ≡ first_chunks 128 count piece → AreBlocksFrom (m ++ take (128 * count) piece) k bs
-next_blocks m piece k count bs whole fits are =
+next_blocks {bs = bs} m piece k count whole fits are =
     let front : List ℕ = take (128 * count) piece in
     let size : length front ≡ 128 * count = length-take-le (128 * count) piece fits in
     let all : 128 * (k + count) ≤ length (m ++ front) = omega (arith, length-append m front) in
@@ -18,6 +18,7 @@ next_blocks m piece k count bs whole fits are =
     ∙ first_chunks-take 128 count piece (128 * count) (omega arith) ∙ sym are in
     subst (AreBlocksFrom (m ++ front) k) same (are_blocks (m ++ front) k count all)
 
+-- the blocks are compressed, and nothing is held
 pub returns-clause-holds : goal.returns-clause-holds
 returns-clause-holds c = λ m held.
     let s = c.args.self.now in
@@ -37,7 +38,7 @@ returns-clause-holds c = λ m held.
       done = held.done + length bs;
       count = omega arith;
       hash = c.chained-self.ensures s.len (m ++ front) held.done (whole ∙ sym held.taken)
-          (next_blocks m piece held.done (length bs) bs whole fits are) hash;
+          (next_blocks m piece held.done (length bs) whole fits are) hash;
       rest = held.rest ∙ drop_all (128 * held.done) m (omega arith)
           ∙ sym (drop_all (128 * (held.done + length bs)) (m ++ front) (omega arith));
     }

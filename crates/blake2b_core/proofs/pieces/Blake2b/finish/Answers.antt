@@ -1,8 +1,9 @@
-use Rattle.std.proofs.Common.{◌≡◌, ◌+◌, ◌*◌, length, take, ◌∙◌, arith}
+use Rattle.std.proofs.Common.{◌≡◌, ◌+◌, ◌*◌, length, ◌∙◌, arith}
 use Rattle.blake2b_core.proofs.BlockLemmas.{IsLast, blake2b-from}
 use Rattle.blake2b_core.proofs.HeldLemmas.{some_held}
 use Rattle.blake2b_core.proofs.pieces.Blake2b.finish.Goals as goal
 
+-- what is held is the last block
 pub returns-clause-digest : goal.returns-clause-digest
 returns-clause-digest c = λ m held.
     let s = c.args.self in
@@ -12,5 +13,4 @@ returns-clause-digest c = λ m held.
     record { starts = omega arith; ends = omega arith; some = some_held m done s.used counted held.none_held } in
     let total = c.from.ensures ∙ held.so_far.taken in
     rw (c.of_state.ensures.value, c.compress-h.ensures)
-    (blake2b-from s.len m done s.h c.zero_filled-last.result
-    (take s.used s.held) c.from.result last held.so_far.hash c.zero_filled-last.ensures held.so_far.rest total)
+    (blake2b-from s.len last held.so_far.hash c.zero_filled-last.ensures held.so_far.rest total)

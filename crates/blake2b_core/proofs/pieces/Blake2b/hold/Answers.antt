@@ -3,6 +3,7 @@ use Rattle.blake2b_core.proofs.BlockLemmas.{hash_after-append}
 use Rattle.blake2b_core.proofs.HeldLemmas.{held-more}
 use Rattle.blake2b_core.proofs.pieces.Blake2b.hold.Goals as goal
 
+-- the bytes are held behind the others, and the blocks stay
 pub returns-clause-holds : goal.returns-clause-holds
 returns-clause-holds c = λ m held.
     let s = c.args.self.now in
@@ -15,6 +16,5 @@ returns-clause-holds c = λ m held.
       done = held.done;
       count = omega (arith, length-append m bytes);
       hash = held.hash ∙ sym (hash_after-append s.len m bytes held.done within);
-      rest = held-more s.used _ s.held _ bytes m
-          (128 * held.done) room c.copy_from_slice.ensures.after within held.rest;
+      rest = held-more s.used _ (128 * held.done) s.held m room c.copy_from_slice.ensures.after within held.rest;
     }

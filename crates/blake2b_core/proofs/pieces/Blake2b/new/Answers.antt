@@ -2,6 +2,7 @@ use Rattle.std.proofs.Common.{refl}
 use Rattle.blake2b_core.specs.joins.Chaining.{hash_after}
 use Rattle.blake2b_core.proofs.pieces.Blake2b.new.Goals as goal
 
+-- a new state holds the empty message
 pub returns-clause-holds : goal.returns-clause-holds
 unfolding hash_after
 returns-clause-holds c = record {

@@ -4,6 +4,7 @@ use Rattle.blake2b_core.specs.joins.Holding.{HoldsSoFar}
 use Rattle.blake2b_core.proofs.HeldLemmas.{three_parts, none_left}
 use Rattle.blake2b_core.proofs.pieces.Blake2b.update.Goals as goal
 
+-- the piece goes in three parts: what fills the block that is held, whole blocks, and the rest, which is held
 pub returns-clause-holds : goal.returns-clause-holds
 returns-clause-holds c = λ m held.
     let piece = c.args.piece.now in
@@ -17,15 +18,14 @@ returns-clause-holds c = λ m held.
     let absorbed = c.absorb-absorbed.ensures.holds (m ++ take a piece) filled in
     let all = c.hold.ensures.holds ((m ++ take a piece) ++ take b rest) absorbed in
     record {
-      so_far = subst (HoldsSoFar c.hold.new.self) (three_parts m piece rest last a b behind end) all;
+      so_far = subst (HoldsSoFar c.hold.new.self) (three_parts m piece a b behind end) all;
       none_held = λ none.
           let rest_size : length rest ≡ length piece - a = omega (arith, ap length behind, length-drop a piece) in
           let last_size : length last ≡ length rest - b = omega (arith, ap length end, length-drop b rest) in
           let used : c.hold.new.self.used ≡ c.absorb-absorbed.new.self.used + length last = c.hold.ensures.used in
           let no_piece : length piece ≡ 0 =
-          none_left (length piece)
-          (length rest) a b rest_size c.fill-filled.ensures.some_left c.absorb-absorbed.ensures.some_left
-          (omega arith) in
+          none_left (length piece) a b rest_size c.fill-filled.ensures.some_left
+          c.absorb-absorbed.ensures.some_left (omega arith) in
           let kept = c.fill-filled.ensures.none no_piece in
           let none_before : c.args.self.now.used ≡ 0 = omega (arith, kept.1) in
           let no_message = ap length (held.none_held none_before) in

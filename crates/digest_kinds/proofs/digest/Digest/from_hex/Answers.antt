@@ -1,17 +1,25 @@
-use Rattle.std.proofs.Common.{refl, sym, ◌∙◌, arith}
+use Rattle.std.proofs.Common.{refl, sym, ◌∙◌, ◌↔◌, IsOk, arith}
 use Rattle.std.proofs.lemmas.Grind.{common_steps}
+use Rattle.digest_kinds.specs.Digits.{IsDigits}
 use Rattle.digest_kinds.proofs.DigitLemmas.{IsOk-decoded}
 use Rattle.digest_kinds.proofs.digest.Digest.from_hex.Goals as goal
+use Rattle.digest_kinds.proofs.digest.Digest.from_hex.Goals.{After-decode_to_slice}
 
+-- the text is decoded exactly where it is digits of a digest
+decoded : (c : After-decode_to_slice) → IsOk c.decode_to_slice.result ↔ IsDigits c.args.text.now
+decoded c =
+    IsOk-decoded c.args.text.now _ _ (grind (arith, common_steps)) (grind (arith, common_steps))
+    (grind (arith, common_steps)) c.decode_to_slice.ensures.value
+
+-- it isn't
 pub returns-in_err-ok-clause-found : goal.returns-in_err-ok-clause-found
 returns-in_err-ok-clause-found c =
-    let ok = IsOk-decoded c.args.text.now _ _ _ (grind (arith, common_steps)) (grind (arith, common_steps))
-    (grind (arith, common_steps)) c.decode_to_slice.ensures.value in
+    let ok = decoded (goal.at.returns-in_err-ok-clause-found c).After-decode_to_slice in
     let none = rw c.in_err-ok.was at c.ok.ensures.variant in
     rw c.from_residual.ensures (λ s. cc s, λ d. none ∙ ok.1 d)
 
+-- it is
 pub returns-clause-found : goal.returns-clause-found
 returns-clause-found c =
-    let ok = IsOk-decoded c.args.text.now _ _ _ (grind (arith, common_steps)) (grind (arith, common_steps))
-    (grind (arith, common_steps)) c.decode_to_slice.ensures.value in
+    let ok = decoded (goal.at.returns-clause-found c).After-decode_to_slice in
     (λ _. ok.0 (sym c.ok.ensures.variant ∙ rw c.in_ok-ok.was refl), λ _. refl)

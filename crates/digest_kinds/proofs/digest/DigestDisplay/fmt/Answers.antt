@@ -5,6 +5,7 @@ use Rattle.hex.proofs.HexLemmas.{length-encode_with}
 use Rattle.digest_kinds.proofs.DigitLemmas.{IsUtf8-encode_lower}
 use Rattle.digest_kinds.proofs.digest.DigestDisplay.fmt.Goals as goal
 
+-- the digits are a text, so the last branch isn't reached
 pub unreachable-requires : goal.unreachable-requires
 unreachable-requires g c =
     let bytes = c.args.self.now in

@@ -1,34 +1,48 @@
-use Rattle.std.proofs.Common.{rules, ◌≡◌, ◌≤◌, ◌<◌, ◌-◌, ℕ, [], length, take, arith, ap, refl, ◌∙◌}
+use Rattle.std.proofs.Common.{rules, ◌≡◌, ◌≤◌, ◌<◌, ◌-◌, ℕ, length, take, arith, ap, refl, ◌∙◌}
 use Rattle.std.proofs.lemmas.Result.{err_from_is_err_and}
 use Rattle.std.proofs.lemmas.List.{length-take-le, take-take}
-use Rattle.sum_sources.specs.joins.LineReading.{buffered}
 use Rattle.sum_sources.proofs.FillLemmas.{filled, filled_end, filled_fault, filled_long, none_buffered}
 use Rattle.sum_sources.proofs.lines.LineReader.fill.Goals as goal
 
+-- the one byte left to read was a fault
 pub returns-in_err-n-clause-gives : goal.returns-in_err-n-clause-gives
 returns-in_err-n-clause-gives g c =
     let fault = err_from_is_err_and c.from_residual.result c.from_residual.ensures.1 in
-    rw (fault.1, fault.2) (filled_fault _ _ (buffered c.args.self.now) [] _ _ c.args.self.now.taken
-    (none_buffered c.args.self.now.buf c.args.self.now.start c.args.self.now.end c.requires.empty)
-    c.in_err-n.ensures.bytes (omega arith))
+    rw (fault.1, fault.2) (filled_fault _ (record {
+      empty = none_buffered c.args.self.now.buf c.requires.empty;
+      gives = c.in_err-n.ensures.bytes;
+      few = omega arith;
+    }))
 
+-- it was the end
 pub returns-then-n-eq0-clause-gives : goal.returns-then-n-eq0-clause-gives
 returns-then-n-eq0-clause-gives g c =
-    filled_end _ _ _ _ c.args.self.now.taken (none_buffered c.args.self.now.buf c.args.self.now.start
-    c.args.self.now.end c.requires.empty) (rw c.if-n-eq0.true at c.in_ok-n.ensures.bytes) (search rules) (omega arith)
+    filled_end (record {
+      empty = none_buffered c.args.self.now.buf c.requires.empty;
+      gives = rw c.if-n-eq0.true at c.in_ok-n.ensures.bytes;
+      few = omega arith;
+    }) (search rules)
 
+-- it was a byte past the limit
 pub returns-then-room-eq0-clause-gives : goal.returns-then-room-eq0-clause-gives
 returns-then-room-eq0-clause-gives g c =
-    filled_long _ _ _ _ _ _ c.args.self.now.taken (none_buffered c.args.self.now.buf c.args.self.now.start
-    c.args.self.now.end c.requires.empty) c.in_ok-n.ensures.bytes (search rules) (search rules) (omega arith)
+    filled_long _ (record {
+      empty = none_buffered c.args.self.now.buf c.requires.empty;
+      gives = c.in_ok-n.ensures.bytes;
+      few = omega arith;
+    }) (search rules) (search rules) (omega arith)
 
+-- the read into the buffer found a fault
 pub returns-in_err-n-2-clause-gives : goal.returns-in_err-n-2-clause-gives
 returns-in_err-n-2-clause-gives g c =
     let fault = err_from_is_err_and c.from_residual-in_err-n-2.result c.from_residual-in_err-n-2.ensures.1 in
-    rw (fault.1, fault.2) (filled_fault _ _ (buffered c.args.self.now) [] _ _ c.args.self.now.taken
-    (none_buffered c.args.self.now.buf c.args.self.now.start c.args.self.now.end c.requires.empty)
-    c.in_err-n-2.ensures.bytes (omega arith))
+    rw (fault.1, fault.2) (filled_fault _ (record {
+      empty = none_buffered c.args.self.now.buf c.requires.empty;
+      gives = c.in_err-n-2.ensures.bytes;
+      few = omega arith;
+    }))
 
+-- the read into the buffer gave bytes, or found the end
 pub returns-clause-gives : goal.returns-clause-gives
 returns-clause-gives g c =
     let room : 0 < c.min-size.result = search rules in
@@ -36,6 +50,10 @@ returns-clause-gives g c =
     let size : c.min-size.result ≤ length c.read_front-2.new.buf = search rules in
     let part : length (take c.min-size.result c.read_front-2.new.buf) ≡ c.min-size.result = length-take-le _ _ size in
     let all : c.in_ok-n-2.n ≡ c.in_ok-n-2.n - 0 = omega arith in
-    filled _ _ _ _ _ c.in_ok-n-2.n c.args.self.now.taken _ (none_buffered c.args.self.now.buf c.args.self.now.start
-    c.args.self.now.end c.requires.empty) c.in_ok-n-2.ensures.bytes (omega arith) (omega arith)
-    (take-take _ _ _ fits ∙ ap (λ (k : ℕ). take k c.read_front-2.new.buf) all) refl (omega arith)
+    let same = take-take c.in_ok-n-2.n _ c.read_front-2.new.buf fits
+    ∙ ap (λ (k : ℕ). take k c.read_front-2.new.buf) all in
+    filled _ _ (record {
+      empty = none_buffered c.args.self.now.buf c.requires.empty;
+      gives = c.in_ok-n-2.ensures.bytes;
+      few = omega arith;
+    }) (omega arith) (omega arith) same refl (omega arith)

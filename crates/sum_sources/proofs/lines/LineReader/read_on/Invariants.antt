@@ -5,6 +5,7 @@ use Rattle.sum_sources.specs.ManifestLines.{NoNewline}
 use Rattle.sum_sources.proofs.ReadOnLemmas.{Came}
 use Rattle.sum_sources.proofs.lines.LineReader.read_on.Given as goal
 
+-- what came of the line so far, and the sums that stay
 abbrev pub invariant-loop-self : goal.invariant-loop-self
 invariant-loop-self g l = record {
   came : WhereTold (ahead g.I.Input.content l.fn.self) (ahead g.I.Input.content l.self) (λ c d. Came c d l.line.items);
@@ -16,5 +17,6 @@ invariant-loop-self g l = record {
   state : l.self.state ≡ l.fn.self.state;
 }
 
+-- the bytes that may still come
 abbrev pub decreases-loop-self : goal.decreases-loop-self
 decreases-loop-self g l = 2 ^ 61 - l.self.taken

@@ -3,5 +3,6 @@ use Rattle.sum_words.specs.Tools.{tool_called}
 use Rattle.sum_words.proofs.ToolLemmas.{named}
 use Rattle.sum_words.proofs.tool.Tool.from_word.Goals as goal
 
+-- the tool of this name, and no other
 pub returns : goal.returns
 returns c = named c.args.word.now c.of_name.result (c.of_name.ensures ∙ ap tool_called c.as_bytes.ensures.value)
