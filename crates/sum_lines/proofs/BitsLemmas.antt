@@ -1,5 +1,5 @@
 -- The bits that a BLAKE2b tag may carry: the digits that the code takes are those of `decimal`.
-use Rattle.std.proofs.Common.{ℕ, ◌≡◌, ◌≢◌, ◌+◌, ◌-◌, ◌*◌, ◌/◌, ◌%◌, ◌<◌, ◌≤◌, true, false, ◌==◌, nat_le, nat_lt, List, [], ◌∷◌, ◌++◌, length, Some, refl, ap, sym, ◌∙◌, arith, length-append, inl, inr, subst}
+use Rattle.std.proofs.Common.{ℕ, ◌≡◌, ◌≢◌, ◌+◌, ◌-◌, ◌*◌, ◌/◌, ◌%◌, ◌<◌, ◌≤◌, true, false, ◌==◌, nat_le, nat_lt, List, [], ◌∷◌, ◌++◌, length, Some, refl, ap, sym, ◌∙◌, arith, length-append, inl, inr}
 use Rattle.std.specs.Fmt.{decimal}
 use Rattle.std.proofs.lemmas.Fmt.{decimal_digit, decimal_step}
 use Rattle.std.proofs.lemmas.Option.{cond_some}
@@ -14,6 +14,7 @@ use Rattle.sum_lines.specs.joins.Steps.{is_digit, number_after, bits_fit, kind_a
 digit-range : (d : ℕ) → is_digit d ≡ true → (48 ≤ d) × (d ≤ 57)
 digit-range d h = let k = and_parts (nat_le 48 d) (nat_le d 57) h in (leb-true 48 d k.0, leb-true d 57 k.1)
 
+-- a number below ten has a digit
 digit-of : (n : ℕ) → n < 10 → is_digit (48 + n) ≡ true
 digit-of n lt = rw (le-leb 48 (48 + n) (omega arith), le-leb (48 + n) 57 (omega arith)) refl
 
@@ -27,6 +28,7 @@ decimal-more n d some few h =
     sym (step ∙ ap (λ k. decimal k ++ ((48 + (n * 10 + (d - 48)) % 10) ∷ [])) front
     ∙ ap (λ k. decimal n ++ (k ∷ [])) last)
 
+-- the text of a number of one digit
 decimal-one : (d : ℕ) → is_digit d ≡ true → decimal (0 * 10 + (d - 48)) ≡ d ∷ []
 decimal-one d h =
     let r = digit-range d h in
@@ -60,10 +62,12 @@ digits-decimal d (b ∷ c ∷ []) all nz few =
     ∙ decimal-more ((0 * 10 + (d - 48)) * 10 + (b - 48)) c (omega arith) (omega arith) three
 digits-decimal d (b ∷ c ∷ e ∷ ds) all nz few = absurd (omega arith)
 
+-- the number of digits behind digits
 number_after-append : (n : ℕ) (xs ys : List ℕ) → number_after n (xs ++ ys) ≡ number_after (number_after n xs) ys
 number_after-append n [] ys = refl
 number_after-append n (x ∷ xs) ys = number_after-append (n * 10 + (x - 48)) xs ys
 
+-- more digits make no smaller number
 number-grows : (n : ℕ) (ds : List ℕ) → n ≤ number_after n ds
 number-grows n [] = omega arith
 number-grows n (d ∷ ds) = let h = number-grows (n * 10 + (d - 48)) ds in omega arith
@@ -87,9 +91,7 @@ kind_at-some (d ∷ ds) kind all h =
     let low : 0 < d - 48 = omega arith in
     let some : 0 < v = omega arith in
     let eight : v ≡ 8 * (v / 8) = omega arith in
-    let P : KindValue → Type 0 = λ x. (x.algo ≡ Blake2b) × (d ∷ ds ≡ decimal (8 * x.len)) × (0 < x.len)
-    × (x.len ≤ 64) in
-    subst P k.1 (refl, digits-decimal d ds all nz few ∙ ap decimal eight, omega arith, omega arith)
+    rw (← k.1) (refl, digits-decimal d ds all nz few ∙ ap decimal eight, omega arith, omega arith)
 
 -- a decimal text of up to n digits
 pub record Short (n : ℕ) (text : List ℕ) (v : ℕ) : Type 0 where
@@ -104,14 +106,14 @@ pub record Short (n : ℕ) (text : List ℕ) (v : ℕ) : Type 0 where
 abbrev Digit : ℕ → Type 0
 Digit x = is_digit x ≡ true
 
+-- a number of one digit
 short-one : (n v : ℕ) → 0 < n → 0 < v → v < 10 → Short n (decimal v) v
 short-one n v room some lt =
     record {
       first = 48 + v;
       more = [];
       are = decimal_digit v lt;
-      digits =
-          All-cons Digit (48 + v) [] (digit-of v lt) (All-nil Digit);
+      digits = All-cons Digit (48 + v) [] (digit-of v lt) (All-nil Digit);
       no_zero = (λ e. omega arith);
       few = omega arith;
       value = omega arith;
@@ -124,14 +126,16 @@ short-more n v q r parts lt low high s =
     let front : v / 10 ≡ q = omega arith in
     let last : v % 10 ≡ r = omega arith in
     let is : decimal v ≡ (s.first ∷ s.more) ++ ((48 + r) ∷ []) =
-    decimal_step v low (omega arith) ∙ ap (λ k. decimal k ++ ((48 + v % 10) ∷ [])) front
-    ∙ ap (λ k. decimal q ++ ((48 + k) ∷ [])) last ∙ ap (λ l. l ++ ((48 + r) ∷ [])) s.are in
+    decimal_step v low (omega arith)
+    ∙ ap (λ k. decimal k ++ ((48 + v % 10) ∷ [])) front
+    ∙ ap (λ k. decimal q ++ ((48 + k) ∷ [])) last
+    ∙ ap (λ l. l ++ ((48 + r) ∷ [])) s.are in
     let all : AllPass is_digit ((s.first ∷ s.more) ++ ((48 + r) ∷ [])) =
     All-append Digit (s.first ∷ s.more) ((48 + r) ∷ []) s.digits
     (All-cons Digit (48 + r) [] (digit-of r lt) (All-nil Digit)) in
     let long : length (s.more ++ ((48 + r) ∷ [])) ≡ length s.more + 1 = length-append s.more ((48 + r) ∷ []) in
-    let val : number_after 0 ((s.first ∷ s.more) ++ ((48 + r) ∷ [])) ≡ number_after
-    (number_after 0 (s.first ∷ s.more)) ((48 + r) ∷ []) =
+    let value : number_after 0 ((s.first ∷ s.more) ++ ((48 + r) ∷ []))
+    ≡ number_after (number_after 0 (s.first ∷ s.more)) ((48 + r) ∷ []) =
     number_after-append 0 (s.first ∷ s.more) ((48 + r) ∷ []) in
     let was = s.value in
     let room = s.few in
@@ -141,11 +145,11 @@ short-more n v q r parts lt low high s =
       are = is;
       digits = all;
       no_zero = s.no_zero;
-      few =
-          omega arith;
-      value = val ∙ ap (λ k. number_after k ((48 + r) ∷ [])) was ∙ omega arith;
+      few = omega arith;
+      value = value ∙ ap (λ k. number_after k ((48 + r) ∷ [])) was ∙ omega arith;
     }
 
+-- every number below a thousand has such a text
 short : (v : ℕ) → 0 < v → v < 1000 → Short 3 (decimal v) v
 short v some lt = elim (cases_lt v 10) [
   | inl one ↦ short-one 3 v (omega arith) some one
@@ -159,6 +163,7 @@ short v some lt = elim (cases_lt v 10) [
   ]
 ]
 
+-- such digits pass the test for a number of bits
 fits : (d : ℕ) (ds : List ℕ) (len : ℕ) → d ≢ 48 → length ds < 3 → number_after 0 (d ∷ ds) ≡ 8 * len → len ≤ 64
     → bits_fit (d ∷ ds) ≡ true
 fits d ds len nz few is most =
@@ -168,6 +173,7 @@ fits d ds len nz few is most =
     let whole : 8 * len % 8 ≡ 0 = omega arith in
     rw (zero, short, is, whole, high) refl
 
+-- what passes it gives the kind of that length
 kind_at-fits : (ds : List ℕ) (len : ℕ) → bits_fit ds ≡ true → number_after 0 ds ≡ 8 * len
     → kind_at ds ≡ Some (record { algo = Blake2b; len = len })
 kind_at-fits ds len fit is =
@@ -182,8 +188,8 @@ decimal-kind_at len some most =
     ap kind_at s.are ∙ kind_at-fits (s.first ∷ s.more) len (fits s.first s.more len s.no_zero s.few s.value most)
     s.value
 
+-- and its bytes are digits
 pub decimal-digits : (len : ℕ) → 0 < len → len ≤ 64 → AllPass is_digit (decimal (8 * len))
 decimal-digits len some most =
     let s = short (8 * len) (omega arith) (omega arith) in
-    let P : List ℕ → Type 0 = AllPass is_digit in
-    subst P (sym s.are) s.digits
+    rw s.are s.digits

@@ -9,14 +9,12 @@ use Rattle.sum_lines.specs.Scanned.{◌>>=◌, Parts, tagged_parts, plain_parts}
 use Rattle.sum_lines.specs.Says.{with_raw, spelled, entry_of, Nothing, says}
 use Rattle.sum_lines.specs.Laws.{SameSaid, SameForm}
 use Rattle.sum_lines.proofs.ScannedLemmas.{plain-found}
-use Rattle.sum_lines.proofs.EntryLemmas.{form_of_parts, form-append}
+use Rattle.sum_lines.proofs.EntryLemmas.{form_of_parts, form_then-again, form-append}
 use Rattle.sum_lines.proofs.SaysLemmas.{entry_by, said_of}
 
 -- the form so far, then a line's, then that of the rest
 pub form_on : (f x g : Form) → form_then f (form_then x g) ≡ form_then (form_then f x) g
-form_on Undecided x g = refl
-form_on Standard x g = refl
-form_on Reversed x g = refl
+form_on f x g = sym (form_then-again f x g)
 
 -- what is decided stays
 pub decided : (f : Form) (b : Bool) (g : Form)
@@ -26,6 +24,7 @@ decided Undecided false g = refl
 decided Standard b g = refl
 decided Reversed b g = refl
 
+-- so later lines leave the entry as it is
 entry_stays : (p : Profile) (f g : Form) (t q : Option Parts)
     → entry_by p (form_then (form_then f (form_of_parts q)) g) t q ≡ entry_by p (form_then f (form_of_parts q)) t q
 entry_stays p f g (Some t) q = refl
@@ -47,6 +46,7 @@ form_at : (algos : Algos) (before later : List (List ℕ)) (line : List ℕ) →
 form_at algos before later line =
     form-append algos before (line ∷ later) ∙ form_on (form algos before) (line_form algos line) (form algos later)
 
+-- what a line says is said of it and of the lines before it
 said_alone : (p : Profile) (algos : Algos) (before later : List (List ℕ)) (line : List ℕ)
     → says p algos (form algos (before ++ (line ∷ later))) line
     ≡ says p algos (form_then (form algos before) (line_form algos line)) line
@@ -54,10 +54,12 @@ said_alone p algos before later line =
     ap (λ f. says p algos f line) (form_at algos before later line)
     ∙ said_stays p algos (form algos before) (form algos later) line
 
+-- so lines behind it may be others
 pub same_said : SameSaid
 same_said p algos before later others line =
     said_alone p algos before later line ∙ sym (said_alone p algos before others line)
 
+-- a plain line's form is that of the lines up to it
 form_alone : (algos : Algos) (before later : List (List ℕ)) (line tail : List ℕ)
     → line_form algos line ≡ form_of_tail tail
     → form algos (before ++ (line ∷ later)) ≡ form_then (form algos before) (form_of_tail tail)
@@ -66,8 +68,9 @@ form_alone algos before later line tail own =
     ∙ ap (λ x. form_then (form_then (form algos before) x) (form algos later)) own
     ∙ decided (form algos before) (begins_standard tail) (form algos later)
 
+-- and lines behind it may be others
 pub same_form : SameForm
 same_form algos before later others line e kind d tail plain =
     let p : Parts = record { escaped = e; kind = kind; digest = d; text = tail } in
-    let own : line_form algos line ≡ form_of_tail tail = ap form_of_parts (plain-found algos line p plain) in
+    let own : line_form algos line ≡ form_of_tail tail = ap form_of_parts (plain-found p plain) in
     form_alone algos before later line tail own ∙ sym (form_alone algos before others line tail own)

@@ -43,6 +43,7 @@ Leaves-some text (piece ∷ more) rest h small = (
   rw h.0 (AreRests-from_leaves piece h.1.0 more rest h.1.1 h.1.2),
 )
 
+-- offers of nothing, and offers behind offers
 pub Offers-nil : (a : Option (List (List ℕ))) → Offers a a []
 Offers-nil None = tt
 Offers-nil (Some x) = sym (append-nil x)
@@ -55,32 +56,35 @@ Offers-trans (Some x) (Some y) None xs ys p q = absurd q
 Offers-trans (Some x) (Some y) (Some z) xs ys p q = q ∙ ap (λ l. l ++ ys) p ∙ append_assoc x xs ys
 
 -- of this text these pieces were offered, and the rest is left
-abbrev pub Offered : Option (List (List ℕ)) → Option (List (List ℕ)) → List ℕ → List ℕ → Type 0
-Offered a b text rest = (pieces : List (List ℕ)) × Offers a b pieces × Leaves text pieces rest
+pub record Offered (a b : Option (List (List ℕ))) (text rest : List ℕ) : Type 0 where
+  pub pieces : List (List ℕ)
+  pub offers : Offers a b pieces
+  pub leaves : Leaves text pieces rest
 
+-- nothing was offered yet
 pub Offered-none : (a : Option (List (List ℕ))) (text : List ℕ) → Offered a a text text
-Offered-none a text = ([], Offers-nil a, refl)
+Offered-none a text = record { pieces = []; offers = Offers-nil a; leaves = refl }
 
 -- the rest was offered, and some of it taken
-pub Offered-more : (a b c : Option (List (List ℕ))) (text rest : List ℕ) (n : ℕ)
+pub Offered-more : {a b c : Option (List (List ℕ))} {text rest : List ℕ} (n : ℕ)
     → Offered a b text rest → Offers b c (rest ∷ []) → 0 < n → n ≤ length rest → Offered a c text (drop n rest)
-Offered-more a b c text rest n h w some within = (
-  h.0 ++ rest ∷ [],
-  Offers-trans a b c h.0 (rest ∷ []) h.1 w,
-  Leaves-more text h.0 rest (drop n rest) h.2
-      (take n rest, omega (arith, length-take n rest), sym (take-append-drop n rest)),
-)
+Offered-more {a} {b} {c} {text} {rest} n h offer some within = record {
+  pieces = h.pieces ++ rest ∷ [];
+  offers = Offers-trans a b c h.pieces (rest ∷ []) h.offers offer;
+  leaves = Leaves-more text h.pieces rest (drop n rest) h.leaves
+      (take n rest, omega (arith, length-take n rest), sym (take-append-drop n rest));
+}
 
 -- the rest was offered, and that was the last offer
-pub Offered-last : (a b c : Option (List (List ℕ))) (text rest : List ℕ)
+pub Offered-last : {a b : Option (List (List ℕ))} {text rest : List ℕ} (c : Option (List (List ℕ)))
     → Offered a b text rest → Offers b c (rest ∷ []) → HandsOn a c text
-Offered-last a b c text rest h w =
-    let last = Leaves-last text h.0 rest h.2 in
-    (last.0, rw last.1 at (Offers-trans a b c h.0 (rest ∷ []) h.1 w), last.2)
+Offered-last {a} {b} {text} {rest} c h offer =
+    let last = Leaves-last text h.pieces rest h.leaves in
+    (last.0, rw last.1 at (Offers-trans a b c h.pieces (rest ∷ []) h.offers offer), last.2)
 
 -- enough was taken
-pub Offered-enough : (a b : Option (List (List ℕ))) (text rest : List ℕ)
+pub Offered-enough : {a b : Option (List (List ℕ))} {text rest : List ℕ}
     → Offered a b text rest → length rest < length text → HandsOn a b text
-Offered-enough a b text rest h small =
-    let first = Leaves-some text h.0 rest h.2 small in
-    (first.0, rw first.1 at h.1, first.2)
+Offered-enough {text = text} {rest = rest} h small =
+    let first = Leaves-some text h.pieces rest h.leaves small in
+    (first.0, rw first.1 at h.offers, first.2)

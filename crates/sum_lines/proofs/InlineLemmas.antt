@@ -1,5 +1,5 @@
 -- A written line holds no newline and no carriage return before its end.
-use Rattle.std.proofs.Common.{ℕ, ◌≡◌, ◌≢◌, ◌*◌, ◌<◌, not, Bool, true, false, ◌==◌, ◌||◌, nat_le, List, [], ◌∷◌, ◌++◌, length, refl, ap, sym, arith, inl, inr, subst}
+use Rattle.std.proofs.Common.{ℕ, ◌≡◌, ◌≢◌, ◌*◌, ◌<◌, not, Bool, true, false, ◌==◌, ◌||◌, nat_le, List, [], ◌∷◌, ◌++◌, length, refl, ap, arith, inl, inr}
 use Rattle.std.specs.List.{All, list_all}
 use Rattle.std.proofs.lemmas.List.Sums.{AllPass-from_list_all}
 use Rattle.std.specs.Fmt.{decimal}
@@ -22,18 +22,21 @@ Inline b = (b ≢ 10) × (b ≢ 13)
 abbrev pub inline : ℕ → Bool
 inline b = not (b == 10 || b == 13)
 
+-- a byte, or a list of bytes, for which a test can tell
 pub Inline-test : (b : ℕ) → inline b ≡ true → Inline b
 Inline-test b h = (λ e. let bad = rw e at h in cc, λ e. let bad = rw e at h in cc)
 
 pub Inline-by_test : (xs : List ℕ) → list_all inline xs ≡ true → All Inline xs
 Inline-by_test xs h = All-weaker (λ b. inline b ≡ true) Inline Inline-test xs (AllPass-from_list_all inline xs h)
 
+-- digits, hexadecimal and decimal
 pub Inline-hex : (b : ℕ) → is_hex_digit b ≡ true → Inline b
 Inline-hex b h = (λ e. let bad = rw e at h in cc, λ e. let bad = rw e at h in cc)
 
 pub Inline-digit : (b : ℕ) → is_digit b ≡ true → Inline b
 Inline-digit b h = (λ e. let bad = rw e at h in cc, λ e. let bad = rw e at h in cc)
 
+-- each tag
 pub Inline-tag : (a : Algo) → All Inline (tag a)
 Inline-tag Md5 = Inline-by_test (tag Md5) refl
 Inline-tag Sha1 = Inline-by_test (tag Sha1) refl
@@ -43,17 +46,18 @@ Inline-tag Sha384 = Inline-by_test (tag Sha384) refl
 Inline-tag Sha512 = Inline-by_test (tag Sha512) refl
 Inline-tag Blake2b = Inline-by_test (tag Blake2b) refl
 
+-- the backslash before the line
 pub Inline-mark : (b : Bool) → All Inline (mark b)
 Inline-mark true = Inline-by_test (mark true) refl
 Inline-mark false = Inline-by_test (mark false) refl
 
+-- what may stand between the tag and the name
 pub Inline-width : (kind : KindValue) (w : List ℕ) → Width kind w → All Inline w
-Inline-width kind w (inl h) = let P : List ℕ → Type 0 = All Inline in subst P (sym h.0) (All-nil Inline)
-Inline-width kind w (inr h) =
-    let P : List ℕ → Type 0 = All Inline in
-    let range = and_parts (nat_le 1 kind.len) (nat_le kind.len 64) h.2 in
+Inline-width kind w (inl none) = rw none.0 (All-nil Inline)
+Inline-width kind w (inr bits) =
+    let range = and_parts (nat_le 1 kind.len) (nat_le kind.len 64) bits.2 in
     let digits = decimal-digits kind.len (leb-true 1 kind.len range.0) (leb-true kind.len 64 range.1) in
-    subst P (sym h.0) (All-cons Inline 45 (decimal (8 * kind.len)) (Inline-test 45 refl)
+    rw bits.0 (All-cons Inline 45 (decimal (8 * kind.len)) (Inline-test 45 refl)
     (All-weaker (λ b. is_digit b ≡ true) Inline Inline-digit (decimal (8 * kind.len)) digits))
 
 -- bytes of which there is one
@@ -69,11 +73,13 @@ record Escaped (xs : List ℕ) : Type 0 where
   are : xs ≡ first ∷ more
   one_line : All Inline xs
 
+-- bytes that are given one by one
 escaped-by : (xs : List ℕ) (first : ℕ) (more : List ℕ) → xs ≡ first ∷ more → list_all inline (first ∷ more) ≡ true
     → Escaped xs
-escaped-by xs first more e h = let P : List ℕ → Type 0 = All Inline in
-    record { first = first; more = more; are = e; one_line = subst P (sym e) (Inline-by_test (first ∷ more) h) }
+escaped-by xs first more e h =
+    record { first = first; more = more; are = e; one_line = rw e (Inline-by_test (first ∷ more) h) }
 
+-- each byte's escape
 escape_of-some : (x : ℕ) → Escaped (escape_of present x)
 escape_of-some x = elim (eqb_tells x 92) [
   | inl same ↦ escaped-by (escape_of present x) 92 (92 ∷ []) (rw same.0 refl) refl
@@ -86,6 +92,7 @@ escape_of-some x = elim (eqb_tells x 92) [
   ]
 ]
 
+-- so an escaped name holds none, and is empty only if the name is
 pub Inline-escape : (name : List ℕ) → All Inline (escape name)
 Inline-escape [] = All-nil Inline
 Inline-escape (x ∷ xs) =

@@ -1,9 +1,7 @@
 -- A line that joins from the parts of a plain line is read as these parts, and no other line is read. No line is both
 -- plain and tagged, and either gives its parts once.
-use Rattle.std.proofs.Common.{ℕ, zero, suc, ◌≡◌, ◌*◌, ◌<◌, ◌≤◌, Bool, true, false, ◌==◌, List, [], ◌∷◌, ◌++◌, length, None, Some, Result, Ok, Err, refl, ap, sym, ◌∙◌, arith, inl, inr, subst}
+use Rattle.std.proofs.Common.{ℕ, zero, suc, ◌≡◌, ◌*◌, ◌<◌, ◌≤◌, Bool, true, false, ◌==◌, List, [], ◌∷◌, ◌++◌, length, Some, Result, Ok, Err, refl, ap, sym, ◌∙◌, arith, inl, inr}
 use Rattle.std.specs.List.{AllPass, take_while}
-use Rattle.std.proofs.lemmas.Bool.{cond-true}
-use Rattle.std.proofs.lemmas.Bool.Decides.{eqb_tells}
 use Rattle.std.proofs.lemmas.Option.{cond_some}
 use Rattle.std.proofs.lemmas.List.Elements.{All-head, All-tail}
 use Rattle.hex.specs.Hex.{decode_of, is_hex_digit}
@@ -14,12 +12,19 @@ use Rattle.digest_kinds.specs.declared.algo.Algo.{Algo}
 use Rattle.digest_kinds.specs.declared.algo.Algo.TheVariants.{Md5, Sha1, Sha224, Sha256, Sha384, Sha512, Blake2b}
 use Rattle.digest_kinds.specs.declared.algo.Algos.{Algos}
 use Rattle.digest_kinds.specs.declared.algo.Algos.TheVariants.{One, Any}
-use Rattle.sum_lines.specs.Shapes.{is_blank, mark, Plain, Tagged}
+use Rattle.sum_lines.specs.Shapes.{is_blank, Plain, Tagged}
 use Rattle.sum_lines.specs.Scanned.{Parts, after_while, unmarked}
-use Rattle.sum_lines.specs.joins.Steps.{sized, tail_of, plain_behind, plain_as, plain_of}
+use Rattle.sum_lines.specs.joins.Steps.{sized, tail_of, plain_behind, plain_of}
 use Rattle.sum_lines.proofs.FrontLemmas.{bind_some, front-passes, front-and-rest, front-at, rest-at, unmarked-is}
-use Rattle.sum_lines.proofs.TaggedParts.{same_parts}
 use Rattle.sum_lines.proofs.TaggedLemmas.{Begins, unmarked-front, hex-no_blank, tagged-front}
+use Rattle.std.proofs.lemmas.Bool.{cases_Bool}
+use Rattle.std.proofs.lemmas.Option.{same_Some}
+use Rattle.sum_lines.proofs.TaggedParts.{IsTagged}
+use Rattle.sum_lines.proofs.TaggedLemmas.{begins-by, passes-other, behind_tag, tagged_is_read}
+
+-- the parts are those of a plain line
+abbrev pub IsPlain : Algos → List ℕ → Parts → Type 0
+IsPlain algos line p = Plain algos line p.escaped p.kind p.digest p.text
 
 -- ---- what is read joins to the line
 
@@ -30,88 +35,84 @@ pub record Sized (a : Algo) (r : Result (List ℕ) FromHexError) (k : KindValue 
   pub spelled : r ≡ Ok k.1
   pub has : has_len a k.0.len ≡ true
 
+-- digits that give a kind and a digest spell them
 sized-some : (a : Algo) (r : Result (List ℕ) FromHexError) (k : KindValue × List ℕ) → sized a r ≡ Some k → Sized a r k
 sized-some a (Ok d) k h =
     let e = cond_some (has_len a (length d)) (record { algo = a; len = length d }, d) k h in
-    let P : KindValue × List ℕ → Type 0 = Sized a (Ok d) in
-    subst P e.1 (record { is_algo = refl; size = refl; spelled = refl; has = e.0 })
+    rw (← e.1) (record { is_algo = refl; size = refl; spelled = refl; has = e.0 })
 sized-some a (Err e) k h = cc
 
-pub tail_of-some : (s tail : List ℕ) → tail_of s ≡ Some tail → (b : ℕ) × (is_blank b ≡ true) × (s ≡ b ∷ tail)
-    × (0 < length tail)
+-- a tail stands behind one blank, and isn't empty
+pub tail_of-some : (s tail : List ℕ) → tail_of s ≡ Some tail
+    → (b : ℕ) × (is_blank b ≡ true) × (s ≡ b ∷ tail) × (0 < length tail)
 tail_of-some [] tail h = cc
 tail_of-some (b ∷ []) tail h = cc
 tail_of-some (b ∷ x ∷ xs) tail h = let e = cond_some (is_blank b) (x ∷ xs) tail h in
     (b, e.0, ap (λ l. b ∷ l) e.1, rw (← e.1) (omega arith))
 
+-- what is found of a text, its backslash taken off: the digits spell the kind and the digest, and a tail follows
 pub record Found (a : Algo) (e : Bool) (s : List ℕ) (p : Parts) : Type 0 where
   pub escaped : p.escaped ≡ e
   pub sized : Sized a (decode_of (take_while is_hex_digit s)) (p.kind, p.digest)
   pub tail : tail_of (after_while is_hex_digit s) ≡ Some p.text
 
-pub plain_behind-some : (a : Algo) (e : Bool) (s : List ℕ) (p : Parts) → plain_behind a e s ≡ Some p → Found a e s p
+pub plain_behind-some : {a : Algo} {e : Bool} {s : List ℕ} {p : Parts} → plain_behind a e s ≡ Some p → Found a e s p
 unfolding plain_behind
-plain_behind-some a e s p h =
-    let d = bind_some _ _ _ h in
-    let t = bind_some _ _ _ d.2 in
-    let is : record { escaped = e; kind = d.0.0; digest = d.0.1; text = t.0 } ≡ p = same_parts _ p t.2 in
-    let P : Parts → Type 0 = Found a e s in
-    subst P is (record { escaped = refl; sized = sized-some a _ d.0 d.1; tail = t.1 })
+plain_behind-some {a} {e} {s} {p} h =
+    let digest = bind_some (sized a (decode_of (take_while is_hex_digit s))) _ h in
+    let tail = bind_some (tail_of (after_while is_hex_digit s)) _ digest.2 in
+    let is : record { escaped = e; kind = digest.0.0; digest = digest.0.1; text = tail.0 } ≡ p =
+    same_Some {A = Parts} _ _ tail.2 in
+    rw (← is) (record { escaped = refl; sized = sized-some a _ digest.0 digest.1; tail = tail.1 })
 
-read_is_plain_as : (a : Algo) (line : List ℕ) (p : Parts) → plain_as a line ≡ Some p
-    → Plain (One a) line p.escaped p.kind p.digest p.text
-read_is_plain_as a line p h =
-    let u : Bool × List ℕ = unmarked (after_while is_blank line) in
-    let f = plain_behind-some a u.0 u.1 p h in
-    let d = f.sized in
-    let t = tail_of-some _ p.text f.tail in
+-- with the line's blanks and its backslash it joins to a plain line
+found-joins : (a : Algo) (line : List ℕ) (p : Parts)
+    → Found a (unmarked (after_while is_blank line)).0 (unmarked (after_while is_blank line)).1 p
+    → IsPlain (One a) line p
+found-joins a line p found =
+    let text : List ℕ = (unmarked (after_while is_blank line)).1 in
+    let tail = tail_of-some (after_while is_hex_digit text) p.text found.tail in
+    let digest = found.sized in
     record {
       blanks = take_while is_blank line;
-      digits = take_while is_hex_digit u.1;
-      blank = t.0;
-      one = ap One (sym d.is_algo);
-      has = ap (λ x. has_len x p.kind.len) d.is_algo ∙ d.has;
+      digits = take_while is_hex_digit text;
+      blank = tail.0;
+      one = ap One (sym digest.is_algo);
+      has = rw digest.is_algo digest.has;
       are_blanks = front-passes is_blank line;
-      spelled = d.spelled;
-      size = d.size;
-      is_one_blank = t.1;
-      some = t.3;
-      whole = front-and-rest is_blank line
-          ∙ ap (λ l. take_while is_blank line ++ l) (unmarked-is (after_while is_blank line)
-          ∙ ap (λ l. mark u.0 ++ l) (front-and-rest is_hex_digit u.1
-          ∙ ap (λ l. take_while is_hex_digit u.1 ++ l) t.2))
-          ∙ ap (λ m. take_while is_blank line ++ (mark m ++ (take_while is_hex_digit u.1 ++ (t.0 ∷ p.text))))
-          (sym f.escaped);
+      spelled = digest.spelled;
+      size = digest.size;
+      is_one_blank = tail.1;
+      some = tail.3;
+      whole = rw (
+        found.escaped,
+        ← tail.2,
+        ← front-and-rest is_hex_digit text,
+        ← unmarked-is (after_while is_blank line),
+      ) (front-and-rest is_blank line);
     }
 
-pub read_is_plain : (algos : Algos) (line : List ℕ) (p : Parts) → plain_of algos line ≡ Some p
-    → Plain algos line p.escaped p.kind p.digest p.text
-read_is_plain (One a) line p h = read_is_plain_as a line p h
-read_is_plain Any line p h = cc
+-- so a line that is read as plain is plain
+pub read_is_plain : {algos : Algos} {line : List ℕ} {p : Parts} → plain_of algos line ≡ Some p → IsPlain algos line p
+read_is_plain {algos = One a} {line} {p} h = found-joins a line p (plain_behind-some h)
+read_is_plain {algos = Any} h = cc
 
 -- ---- what joins to the line is read
 
+-- a digit is no backslash and no `#`, and a blank no digit
 hex-no_mark : (x : ℕ) → is_hex_digit x ≡ true → (x == 92) ≡ false
-hex-no_mark x h = elim (eqb_tells x 92) [
-  | inl same ↦ let bad = rw same.1 at h in cc
-  | inr other ↦ other.0
-]
+hex-no_mark x h = passes-other is_hex_digit 92 x h refl
 
 hex-no_hash : (x : ℕ) → is_hex_digit x ≡ true → (x == 35) ≡ false
-hex-no_hash x h = elim (eqb_tells x 35) [
-  | inl same ↦ let bad = rw same.1 at h in cc
-  | inr other ↦ other.0
-]
+hex-no_hash x h = passes-other is_hex_digit 35 x h refl
 
 pub blank-no_hex : (b : ℕ) → is_blank b ≡ true → is_hex_digit b ≡ false
-blank-no_hex b h = elim (eqb_tells b 32) [
-  | inl same ↦ rw same.1 refl
-  | inr other ↦ elim (eqb_tells b 9) [
-    | inl same ↦ rw same.1 refl
-    | inr another ↦ let p = rw (other.0, another.0) at h in cc
-  ]
+blank-no_hex b h = elim (cases_Bool (is_hex_digit b)) [
+  | inl hex ↦ let no = hex-no_blank b hex in cc
+  | inr other ↦ other
 ]
 
+-- no algorithm has digests without a byte
 no_none : (a : Algo) → has_len a 0 ≡ true → ⊥
 no_none Md5 h = cc
 no_none Sha1 h = cc
@@ -128,12 +129,13 @@ has_len-some a (suc n) h = omega arith
 abbrev Hex : ℕ → Type 0
 Hex x = is_hex_digit x ≡ true
 
--- the digits of a digest
+-- the digits of a digest: two at least, and a line may begin with them
 pub record Digits (ds : List ℕ) : Type 0 where
   pub are : AllPass is_hex_digit ds
   pub two : 2 ≤ length ds
   pub begins : Begins ds
 
+-- what decodes to a digest is such digits
 pub digits-of : (ds d : List ℕ) → decode_of ds ≡ Ok d → 0 < length d → Digits ds
 digits-of [] d h lt = let k = decode_of-ok [] d h in absurd (let e = k.2 in omega arith)
 digits-of (x ∷ xs) d h lt =
@@ -143,67 +145,48 @@ digits-of (x ∷ xs) d h lt =
     record {
       are = k.1;
       two = omega arith;
-      begins =
-          record {
-            first = x;
-            more = xs;
-            are = refl;
-            no_blank = hex-no_blank x first;
-            no_mark = hex-no_mark x first;
-            no_hash = hex-no_hash x first;
-          };
+      begins = begins-by x xs (hex-no_blank x first) (hex-no_mark x first) (hex-no_hash x first);
     }
 
-pub plain-digits : (algos : Algos) (line : List ℕ) (e : Bool) (kind : KindValue) (d tail : List ℕ)
-    → (p : Plain algos line e kind d tail) → Digits p.digits
-plain-digits algos line e kind d tail p = let some = has_len-some kind.algo kind.len p.has in let size = p.size in
-    digits-of p.digits d p.spelled (omega arith)
-
-pub plain-front : (algos : Algos) (line : List ℕ) (e : Bool) (kind : KindValue) (d tail : List ℕ)
-    → (p : Plain algos line e kind d tail) → unmarked (after_while is_blank line) ≡ (e, p.digits ++ (p.blank ∷ tail))
-plain-front algos line e kind d tail p =
-    let ds = plain-digits algos line e kind d tail p in
-    ap (λ l. unmarked (after_while is_blank l)) p.whole
-    ∙ unmarked-front p.blanks e p.digits (p.blank ∷ tail) p.are_blanks ds.begins
-
-sized-ok : (a : Algo) (ds d : List ℕ) → decode_of ds ≡ Ok d → has_len a (length d) ≡ true
-    → sized a (decode_of ds) ≡ Some (record { algo = a; len = length d }, d)
-sized-ok a ds d h size =
-    rw h (cond-true (has_len a (length d)) (Some (record { algo = a; len = length d }, d)) None size)
-
+-- a tail behind one blank is found
 pub tail_of-at : (b : ℕ) (tail : List ℕ) → is_blank b ≡ true → 0 < length tail → tail_of (b ∷ tail) ≡ Some tail
 tail_of-at b [] h lt = absurd (omega arith)
-tail_of-at b (x ∷ xs) h lt = cond-true (is_blank b) (Some (x ∷ xs)) None h
+tail_of-at b (x ∷ xs) h lt = rw h refl
 
-plain_behind-of : (a : Algo) (e : Bool) (ds d : List ℕ) (b : ℕ) (tail : List ℕ) → AllPass is_hex_digit ds
-    → decode_of ds ≡ Ok d → has_len a (length d) ≡ true → is_blank b ≡ true → 0 < length tail
-    → plain_behind a e (ds ++ (b ∷ tail)) ≡ Some
-    (record { escaped = e; kind = record { algo = a; len = length d }; digest = d; text = tail })
-unfolding plain_behind
-plain_behind-of a e ds d b tail all h size hb lt =
-    let digits : take_while is_hex_digit (ds ++ (b ∷ tail)) ≡ ds =
-    front-at is_hex_digit ds b tail all (blank-no_hex b hb) in
-    let rest : after_while is_hex_digit (ds ++ (b ∷ tail)) ≡ b ∷ tail =
-    rest-at is_hex_digit ds b tail all (blank-no_hex b hb) in
-    rw (digits, rest, sized-ok a ds d h size, tail_of-at b tail hb lt) refl
+module _ {algos : Algos} {line : List ℕ} {e : Bool} {kind : KindValue} {d tail : List ℕ}
+    (t : Plain algos line e kind d tail) where
+  -- the digits of a plain line are those of a digest
+  pub plain-digits : Digits t.digits
+  plain-digits =
+      let some = has_len-some kind.algo kind.len t.has in
+      let size = t.size in
+      digits-of t.digits d t.spelled (omega arith)
 
-pub plain_is_read : (algos : Algos) (line : List ℕ) (p : Parts) → Plain algos line p.escaped p.kind p.digest p.text
-    → plain_of algos line ≡ Some p
-plain_is_read algos line p t =
-    let ds = plain-digits algos line p.escaped p.kind p.digest p.text t in
-    let make : ℕ → Parts = λ n. record {
-      escaped = p.escaped;
-      kind = record { algo = p.kind.algo; len = n };
-      digest =
-          p.digest;
-      text = p.text;
-    } in
-    ap (λ x. plain_of x line) t.one
-    ∙ ap (λ (x : Bool × List ℕ). plain_behind p.kind.algo x.0 x.1)
-    (plain-front algos line p.escaped p.kind p.digest p.text t)
-    ∙ plain_behind-of p.kind.algo p.escaped t.digits p.digest t.blank p.text ds.are t.spelled
-    (ap (has_len p.kind.algo) t.size ∙ t.has) t.is_one_blank t.some
-    ∙ ap (λ n. Some (make n)) t.size
+  -- its blanks and its backslash are passed over
+  pub plain-front : unmarked (after_while is_blank line) ≡ (e, t.digits ++ (t.blank ∷ tail))
+  plain-front =
+      let digits = plain-digits in
+      ap (λ l. unmarked (after_while is_blank l)) t.whole
+      ∙ unmarked-front t.blanks e t.digits (t.blank ∷ tail) t.are_blanks digits.begins
+
+module _ {algos : Algos} {line : List ℕ} (p : Parts) (t : IsPlain algos line p) where
+  -- the digits, the blank and the tail are read
+  behind-read : plain_behind p.kind.algo p.escaped (t.digits ++ (t.blank ∷ p.text)) ≡ Some p
+  unfolding plain_behind
+  behind-read =
+      let ds = plain-digits t in
+      let stop = blank-no_hex t.blank t.is_one_blank in
+      rw (
+        front-at is_hex_digit t.digits t.blank p.text ds.are stop,
+        rest-at is_hex_digit t.digits t.blank p.text ds.are stop,
+        t.spelled,
+        t.size,
+        t.has,
+        tail_of-at t.blank p.text t.is_one_blank t.some,
+      ) refl
+
+  pub plain_is_read : plain_of algos line ≡ Some p
+  plain_is_read = rw (t.one, plain-front t) behind-read
 
 -- ---- one shape, once
 
@@ -218,21 +201,27 @@ no_digits Sha384 x y xs rest h k e = let same : x ≡ 83 = cc in let bad = rw sa
 no_digits Sha512 x y xs rest h k e = let same : x ≡ 83 = cc in let bad = rw same at h in cc
 no_digits Blake2b x y xs rest h k e = let same : y ≡ 76 = cc in let bad = rw same at k in cc
 
+-- so a plain line's digits begin none
 no_front : (a : Algo) (ds s rest : List ℕ) → AllPass is_hex_digit ds → 2 ≤ length ds → ds ++ s ≡ tag a ++ rest → ⊥
 no_front a [] s rest all two e = absurd (omega arith)
 no_front a (x ∷ []) s rest all two e = absurd (omega arith)
 no_front a (x ∷ y ∷ xs) s rest all two e =
     no_digits a x y (xs ++ s) rest (All-head Hex x (y ∷ xs) all) (All-head Hex y xs (All-tail Hex x (y ∷ xs) all)) e
 
-pub apart : (algos others : Algos) (line : List ℕ) (e f : Bool) (kind other : KindValue) (d c tail raw : List ℕ)
+-- no line is both plain and tagged
+pub apart : {algos others : Algos} {line : List ℕ} {e f : Bool} {kind other : KindValue} {d c tail raw : List ℕ}
     → Plain algos line e kind d tail → Tagged others line f other c raw → ⊥
-apart algos others line e f kind other d c tail raw p t =
-    let ds = plain-digits algos line e kind d tail p in
-    let front = tagged-front others line f other c raw t in
-    let same : (e, p.digits ++ (p.blank ∷ tail)) ≡ (f, tag other.algo ++ front.0) =
-    sym (plain-front algos line e kind d tail p) ∙ front.1 in
-    no_front other.algo p.digits (p.blank ∷ tail) front.0 ds.are ds.two (ap (λ (x : Bool × List ℕ). x.1) same)
+apart {e = e} {f = f} {other = other} {tail = tail} p t =
+    let digits = plain-digits p in
+    let same : (e, p.digits ++ (p.blank ∷ tail)) ≡ (f, tag other.algo ++ behind_tag t) =
+    sym (plain-front p) ∙ tagged-front t in
+    no_front other.algo p.digits (p.blank ∷ tail) (behind_tag t) digits.are digits.two
+    (ap (λ (x : Bool × List ℕ). x.1) same)
 
-pub plain-once : (algos : Algos) (line : List ℕ) (p q : Parts) → Plain algos line p.escaped p.kind p.digest p.text
-    → Plain algos line q.escaped q.kind q.digest q.text → p ≡ q
-plain-once algos line p q s t = same_parts p q (sym (plain_is_read algos line p s) ∙ plain_is_read algos line q t)
+-- a line of either shape gives its parts once
+pub plain-once : {algos : Algos} {line : List ℕ} (p q : Parts) → IsPlain algos line p → IsPlain algos line q → p ≡ q
+plain-once p q s t = same_Some p q (sym (plain_is_read p s) ∙ plain_is_read q t)
+
+pub tagged-once : {algos : Algos} {line : List ℕ} (p q : Parts) → IsTagged algos line p → IsTagged algos line q
+    → p ≡ q
+tagged-once p q s t = same_Some p q (sym (tagged_is_read p s) ∙ tagged_is_read q t)

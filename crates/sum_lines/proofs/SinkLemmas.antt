@@ -1,5 +1,5 @@
--- What stands written after several pieces: lemmas for every call that writes a text piece after piece.
--- `a`, `b`, `c` are the told bytes before, between and after, and `i`, `j`, `k` the failures.
+-- A text that is written piece after piece: what stands written once a piece was written, or has failed.
+-- `a`, `b`, `c` are the bytes that the sink tells before, between and after, and `i`, `j`, `k` its failures.
 use Rattle.std.proofs.Common.{ℕ, ◌≡◌, ◌-◌, List, [], ◌++◌, length, take, drop, Option, Result, Ok, Err, MatchResult, refl, ap, sym, ◌∙◌, append_assoc, append-nil, take-append-drop, length-append, arith}
 use Rattle.std.proofs.lemmas.List.{take_rest}
 use Rattle.std.specs.Io.KnownBytes.{Appends}
@@ -7,39 +7,44 @@ use Rattle.std.proofs.KnownBytes.{Appends-nil, Appends-trans}
 use Rattle.sum_lines.specs.Sinks.{AppendsFront, after_failure}
 
 -- of this text all but the rest has been written, and no write failed
-abbrev pub Left : Option (List ℕ) → Option (List ℕ) → ℕ → ℕ → List ℕ → List ℕ → Type 0
-Left a b i j text rest = (front : List ℕ) × (text ≡ front ++ rest) × Appends a b front × (j ≡ i)
+pub record Left (a b : Option (List ℕ)) (i j : ℕ) (text rest : List ℕ) : Type 0 where
+  pub front : List ℕ
+  pub cut : text ≡ front ++ rest
+  pub bytes : Appends a b front
+  pub kept : j ≡ i
 
-pub Left-all : (a : Option (List ℕ)) (i : ℕ) (text : List ℕ) → Left a a i i text text
-Left-all a i text = ([], refl, Appends-nil a, refl)
+-- before the first piece, all of the text is left
+pub Left-all : {a : Option (List ℕ)} {i : ℕ} {text : List ℕ} → Left a a i i text text
+Left-all {a} = record { front = []; cut = refl; bytes = Appends-nil a; kept = refl }
 
--- one more piece was written
-pub Left-step : (a b c : Option (List ℕ)) (i j k : ℕ) (text rest piece more : List ℕ)
+-- a piece of the rest was written
+pub Left-step : {a b c : Option (List ℕ)} {i j k : ℕ} {text rest more : List ℕ} (piece : List ℕ)
     → Left a b i j text rest → rest ≡ piece ++ more → Appends b c piece × (k ≡ j) → Left a c i k text more
-Left-step a b c i j k text rest piece more h e w = (
-  h.0 ++ piece,
-  h.1 ∙ ap (λ l. h.0 ++ l) e ∙ sym (append_assoc h.0 piece more),
-  Appends-trans a b c h.0 piece h.2 w.0,
-  w.1 ∙ h.3,
-)
+Left-step {a} {b} {c} {more = more} piece left cut written = record {
+  front = left.front ++ piece;
+  cut = left.cut ∙ ap (λ l. left.front ++ l) cut ∙ sym (append_assoc left.front piece more);
+  bytes = Appends-trans a b c left.front piece left.bytes written.0;
+  kept = written.1 ∙ left.kept;
+}
 
--- a piece failed
-pub Left-stop : (a b c : Option (List ℕ)) (i j k : ℕ) (text rest piece more : List ℕ)
+-- a piece of the rest failed: a shorter front of the whole text was written
+pub Left-stop : {a b : Option (List ℕ)} {i j k : ℕ} {text rest piece : List ℕ} (c : Option (List ℕ)) (more : List ℕ)
     → Left a b i j text rest → rest ≡ piece ++ more → AppendsFront b c piece × (k ≡ after_failure j)
     → AppendsFront a c text × (k ≡ after_failure i)
-Left-stop a b c i j k text rest piece more h e w =
-    let front = w.0.0 in
-    let unwritten = w.0.1 in
-    let cut : rest ≡ front ++ (unwritten ++ more) =
-    e ∙ ap (λ l. l ++ more) w.0.2 ∙ append_assoc front unwritten more in (
+Left-stop {a} {b} {rest = rest} c more left cut failed =
+    let front = failed.0.0 in
+    let unwritten = failed.0.1 in
+    let later : List ℕ = unwritten ++ more in
+    let whole : rest ≡ front ++ later =
+    cut ∙ ap (λ l. l ++ more) failed.0.2 ∙ append_assoc front unwritten more in (
       (
-        h.0 ++ front,
-        unwritten ++ more,
-        h.1 ∙ ap (λ l. h.0 ++ l) cut ∙ sym (append_assoc h.0 front (unwritten ++ more)),
-        omega (arith, w.0.3, length-append unwritten more),
-        Appends-trans a b c h.0 front h.2 w.0.4,
+        left.front ++ front,
+        later,
+        left.cut ∙ ap (λ l. left.front ++ l) whole ∙ sym (append_assoc left.front front later),
+        omega (arith, failed.0.3, length-append unwritten more),
+        Appends-trans a b c left.front front left.bytes failed.0.4,
       ),
-      w.1 ∙ ap after_failure h.3,
+      failed.1 ∙ ap after_failure left.kept,
     )
 
 -- what a call that writes all of a text answers, over plain values
@@ -47,36 +52,13 @@ abbrev pub Ends : {E : Type 0} → Option (List ℕ) → Option (List ℕ) → �
 Ends a b i j text r =
     MatchResult r (λ _. Appends a b text × (j ≡ i)) (λ _. AppendsFront a b text × (j ≡ after_failure i))
 
--- the last piece
-pub Left-last : {E : Type 0} (a b c : Option (List ℕ)) (i j k : ℕ) (text rest : List ℕ) (r : Result (Unit {0}) E)
-    → Left a b i j text rest → Ends b c j k rest r → Ends a c i k text r
-Left-last a b c i j k text rest (Ok u) h w = (rw h.1 (Appends-trans a b c h.0 rest h.2 w.0), w.1 ∙ h.3)
-Left-last a b c i j k text rest (Err e) h w = Left-stop a b c i j k text rest rest [] h (sym (append-nil rest)) w
+-- the last piece is all of the rest: its call answers for the whole text
+pub Left-last : {E : Type 0} {a b : Option (List ℕ)} {i j : ℕ} {text rest : List ℕ} (c : Option (List ℕ)) (k : ℕ)
+    (r : Result (Unit {0}) E) → Left a b i j text rest → Ends b c j k rest r → Ends a c i k text r
+Left-last {a = a} {b = b} {rest = rest} c k (Ok u) left last =
+    (rw left.cut (Appends-trans a b c left.front rest left.bytes last.0), last.1 ∙ left.kept)
+Left-last {rest = rest} c k (Err e) left last = Left-stop c [] left (sym (append-nil rest)) last
 
--- a piece, and then a call that writes the rest of the text
-pub Ends-then : {E : Type 0} (a b c : Option (List ℕ)) (i j k : ℕ) (text x y : List ℕ) (r : Result (Unit {0}) E)
-    → Appends a b x × (j ≡ i) → Ends b c j k y r → text ≡ x ++ y → Ends a c i k text r
-Ends-then a b c i j k text x y r h w e = Left-last a b c i j k text y r (x, e, h.0, h.1) w
-
--- the first piece failed
-pub Ends-at_first : (a b : Option (List ℕ)) (i j : ℕ) (text x y : List ℕ)
-    → AppendsFront a b x × (j ≡ after_failure i) → text ≡ x ++ y → AppendsFront a b text × (j ≡ after_failure i)
-Ends-at_first a b i j text x y w e = Left-stop a a b i i j text text x y (Left-all a i text) e w
-
--- two pieces, and then a call that writes the rest of the text
-pub Ends-three : {E : Type 0} (a b c d : Option (List ℕ)) (i j k l : ℕ) (text x y z : List ℕ) (r : Result (Unit {0}) E)
-    → Appends a b x × (j ≡ i) → Appends b c y × (k ≡ j) → Ends c d k l z r → text ≡ x ++ y ++ z → Ends a d i l text r
-Ends-three a b c d i j k l text x y z r h w v e =
-    Left-last a c d i k l text z r
-    (Left-step a b c i j k text (y ++ z) y z (x, e ∙ append_assoc x y z, h.0, h.1) refl w) v
-
--- the second piece failed
-pub Ends-at_second : (a b c : Option (List ℕ)) (i j k : ℕ) (text x y z : List ℕ)
-    → Appends a b x × (j ≡ i) → AppendsFront b c y × (k ≡ after_failure j) → text ≡ x ++ y ++ z
-    → AppendsFront a c text × (k ≡ after_failure i)
-Ends-at_second a b c i j k text x y z h w e =
-    Left-stop a b c i j k text (y ++ z) y z (x, e ∙ append_assoc x y z, h.0, h.1) refl w
-
--- a list at a place
+-- a rest is what a write takes of it, and what is left behind that
 pub cut_at : (rest : List ℕ) (n : ℕ) → rest ≡ take n rest ++ take (length rest - n) (drop n rest)
-cut_at rest n = sym (take-append-drop n rest) ∙ ap (λ l. take n rest ++ l) (sym (take_rest rest n))
+cut_at rest n = rw (take_rest rest n) (sym (take-append-drop n rest))

@@ -1,5 +1,5 @@
 -- Texts in front, the last parenthesis, and the first of what some elements give.
-use Rattle.std.proofs.Common.{ℕ, zero, suc, ◌≡◌, ◌+◌, ◌<◌, ◌≤◌, Bool, true, false, ◌==◌, List, [], ◌∷◌, ◌++◌, length, take, drop, map, Option, None, Some, refl, ap, sym, ◌∙◌, arith, ◌⊎◌, inl, inr, subst, append_assoc, get_or}
+use Rattle.std.proofs.Common.{ℕ, zero, suc, ◌≡◌, ◌+◌, ◌<◌, ◌≤◌, Bool, true, false, ◌==◌, List, [], ◌∷◌, ◌++◌, length, take, drop, map, Option, None, Some, refl, ap, sym, ◌∙◌, arith, ◌⊎◌, inl, inr, append_assoc, get_or}
 use Rattle.std.specs.Prelude.{filter_map, flat_map, slice_get}
 use Rattle.std.specs.Option.{option_or, option_map}
 use Rattle.std.specs.List.{AllPass, range_with_len, cons_option}
@@ -8,6 +8,7 @@ use Rattle.std.proofs.lemmas.Bool.{cases_Bool, cond-true, cond-false, eqb-true, 
 use Rattle.std.proofs.lemmas.Bool.Decides.{eqb_tells}
 use Rattle.std.proofs.lemmas.List.{take-append-drop, drop_more, get_or-append-add, take_at, drop_at, length-append}
 use Rattle.std.proofs.lemmas.List.Elements.{All-get_or}
+use Rattle.std.proofs.lemmas.Option.{same_Some}
 use Rattle.sum_lines.specs.Shapes.{optional}
 use Rattle.sum_lines.specs.Scanned.{behind}
 use Rattle.sum_lines.specs.joins.Steps.{past}
@@ -15,6 +16,7 @@ use Rattle.sum_lines.proofs.FrontLemmas.{isn't, past-some, past-front}
 
 -- ---- a text in front
 
+-- both ways to pass over a text are one
 behind-past : (xs ys : List ℕ) → behind xs ys ≡ past xs ys
 behind-past [] ys = refl
 behind-past (x ∷ xs) [] = refl
@@ -23,12 +25,14 @@ behind-past (x ∷ xs) (y ∷ ys) = elim (eqb_tells y x) [
   | inr other ↦ rw (ne_eqb x y (λ e. other.1 (sym e)), other.0) refl
 ]
 
+-- what is left of a text stood behind what was passed over
 pub behind-some : (xs ys zs : List ℕ) → behind xs ys ≡ Some zs → ys ≡ xs ++ zs
 behind-some xs ys zs h = past-some xs ys zs (sym (behind-past xs ys) ∙ h)
 
 pub behind-front : (xs ys : List ℕ) → behind xs (xs ++ ys) ≡ Some ys
 behind-front xs ys = behind-past xs (xs ++ ys) ∙ past-front xs ys
 
+-- the parenthesis is found, with a space before it or without
 pub opened-some : (s inner : List ℕ) → option_or (behind (32 ∷ 40 ∷ []) s) (behind (40 ∷ []) s) ≡ Some inner
     → (gap : Bool) × (s ≡ optional gap (32 ∷ []) ++ (40 ∷ inner))
 opened-some s inner h = go (behind (32 ∷ 40 ∷ []) s) refl h
@@ -45,34 +49,29 @@ opened-at false inner = refl
 
 -- ---- the last parenthesis
 
+-- a search from the end stops at such a byte
 rfind-some : (c : ℕ) (s : List ℕ) (n k : ℕ) → n ≤ length s → rfind_below c s n ≡ Some k
     → (k < length s) × (get_or s k 0 ≡ c)
 rfind-some c s zero k le h = cc
 rfind-some c s (suc n) k le h = elim (cases_Bool (get_or s n 0 == c)) [
   | inl here ↦
-      let same : n ≡ k = some-same n k (rw here at h) in
-      (omega (arith, le, same), ap (λ i. get_or s i 0) (sym same) ∙ eqb-true (get_or s n 0) c here)
+      let same : n ≡ k = same_Some n k (rw here at h) in
+      (omega (arith, le, same), rw (← same) (eqb-true (get_or s n 0) c here))
   | inr other ↦ rfind-some c s n k (omega (arith, le)) (rw other at h)
 ]
-  where
-    some-same : (x y : ℕ) → Some x ≡ Some y → x ≡ y
-    some-same x y e = cc
 
+-- what is split joins again, with that byte between
 pub rsplit-some : (c : ℕ) (s : List ℕ) (p : List ℕ × List ℕ) → rsplit_once c s ≡ Some p → s ≡ p.0 ++ (c ∷ p.1)
 unfolding rsplit_once
 rsplit-some c s p h = go (rfind_below c s (length s)) refl h
   where
-    pair-same : (x y : List ℕ × List ℕ) → Some x ≡ Some y → x ≡ y
-    pair-same x y e = cc
-
     go : (o : Option ℕ) → rfind_below c s (length s) ≡ o
         → option_map (λ i. (take i s, drop (i + 1) s)) o ≡ Some p → s ≡ p.0 ++ (c ∷ p.1)
     go None e k = cc
     go (Some i) e k =
         let at = rfind-some c s (length s) i (omega arith) e in
-        sym (take-append-drop i s)
-        ∙ ap (λ l. take i s ++ l) (drop_more s i 0 at.0 ∙ ap (λ x. x ∷ drop (i + 1) s) at.1)
-        ∙ ap (λ (q : List ℕ × List ℕ). q.0 ++ (c ∷ q.1)) (pair-same (take i s, drop (i + 1) s) p k)
+        rw (← same_Some (take i s, drop (i + 1) s) p k) (sym (take-append-drop i s)
+        ∙ ap (λ l. take i s ++ l) (drop_more s i 0 at.0 ∙ ap (λ x. x ∷ drop (i + 1) s) at.1))
 
 -- behind it stands no other
 rfind-at : (c : ℕ) (xs ys : List ℕ) (j : ℕ) → j ≤ length ys → AllPass (isn't c) ys
@@ -92,6 +91,7 @@ rfind-at c xs ys (suc j) le all =
     ap (rfind_below c s) n ∙ cond-false (get_or s (length xs + 1 + j) 0 == c) _ _ other
     ∙ rfind-at c xs ys j (omega (arith, le)) all
 
+-- so a text is split there
 pub rsplit-at : (c : ℕ) (xs ys : List ℕ) → AllPass (isn't c) ys → rsplit_once c (xs ++ (c ∷ ys)) ≡ Some (xs, ys)
 unfolding rsplit_once
 rsplit-at c xs ys all =
@@ -102,7 +102,7 @@ rsplit-at c xs ys all =
     let rest : drop (length xs + 1) s ≡ ys =
     ap (drop (length xs + 1)) (sym (append_assoc xs (c ∷ []) ys))
     ∙ drop_at (xs ++ (c ∷ [])) ys (length xs + 1) (length-append xs (c ∷ [])) in
-    rw found (ap (λ l. Some (l, drop (length xs + 1) s)) front ∙ ap (λ l. Some (xs, l)) rest)
+    rw (found, front, rest) refl
 
 -- ---- the first of what some elements give
 
@@ -111,6 +111,7 @@ abbrev pub Among : {X : Type 0} → X → List X → Type 0
 Among x [] = ⊥
 Among x (y ∷ ys) = (x ≡ y) ⊎ Among x ys
 
+-- it is given by some element
 pub first-of : {X Y : Type 0} (h : X → Option Y) (xs : List X) (y : Y) → slice_get (filter_map h xs) 0 ≡ Some y
     → (x : X) × Among x xs × (h x ≡ Some y)
 first-of h [] y e = cc
@@ -122,6 +123,7 @@ first-of {X} {Y} h (x ∷ xs) y e = go (h x) refl e (λ k. first-of h xs y k)
     go (Some z) is k more = (x, inl refl, is ∙ k)
     go None is k more = let m = more k in (m.0, inr m.1, m.2)
 
+-- where an element gives something, so does the list
 pub some-first : {X Y : Type 0} (h : X → Option Y) (x : X) (xs : List X) (y : Y) → Among x xs → h x ≡ Some y
     → (z : Y) × (slice_get (filter_map h xs) 0 ≡ Some z)
 some-first h x [] y a e = absurd a
@@ -134,6 +136,7 @@ some-first {X} {Y} h x (w ∷ ws) y (inr a) e = go (h w) (some-first h x ws y a 
     go (Some z) more = (z, refl)
     go None more = more
 
+-- the elements of two lists are those of either
 among-left : {X : Type 0} (x : X) (xs ys : List X) → Among x xs → Among x (xs ++ ys)
 among-left x [] ys a = absurd a
 among-left x (w ∷ ws) ys (inl is) = inl is
@@ -151,11 +154,12 @@ among-either x (w ∷ ws) ys (inr a) = elim (among-either x ws ys a) [
   | inr later ↦ inr later
 ]
 
+-- what an element gives is among all that is given, and nothing else is
 pub among-flat : {X Y : Type 0} (f : X → List Y) (x : X) (y : Y) (xs : List X) → Among x xs → Among y (f x)
     → Among y (flat_map f xs)
 among-flat f x y [] a b = absurd a
 among-flat {X} {Y} f x y (w ∷ ws) (inl is) b =
-    let P : X → Type 0 = λ v. Among y (f v) in among-left y (f w) (flat_map f ws) (subst P is b)
+    among-left y (f w) (flat_map f ws) (rw is at b)
 among-flat f x y (w ∷ ws) (inr a) b = among-right y (f w) (flat_map f ws) (among-flat f x y ws a b)
 
 pub flat-among : {X Y : Type 0} (f : X → List Y) (y : Y) (xs : List X) → Among y (flat_map f xs)
@@ -166,6 +170,7 @@ flat-among f y (w ∷ ws) a = elim (among-either y (f w) (flat_map f ws) a) [
   | inr later ↦ flat-among f y ws later
 ]
 
+-- what is given by a range of numbers is given by a number in it
 pub range-among : {Y : Type 0} (f : ℕ → Y) (y : Y) (a n : ℕ) → Among y (map f (range_with_len a n))
     → (i : ℕ) × (a ≤ i) × (i < a + n) × (y ≡ f i)
 range-among f y a zero h = absurd h
@@ -173,6 +178,7 @@ range-among f y a (suc n) (inl is) = (a, omega arith, omega arith, is)
 range-among f y a (suc n) (inr h) =
     let more = range-among f y (a + 1) n h in (more.0, omega (arith, more.1), omega (arith, more.2), more.3)
 
+-- and what such a number gives is among that
 pub among-range : {Y : Type 0} (f : ℕ → Y) (i a n : ℕ) → a ≤ i → i < a + n → Among (f i) (map f (range_with_len a n))
 among-range f i a zero low high = absurd (omega (arith, low, high))
 among-range f i a (suc n) low high = elim (eqb_tells i a) [

@@ -1,5 +1,5 @@
 -- What is read of a tagged line joins to the line.
-use Rattle.std.proofs.Common.{ℕ, ◌≡◌, ◌<◌, Bool, true, ◌==◌, List, [], ◌∷◌, ◌++◌, length, Some, Result, Ok, Err, refl, ap, sym, ◌∙◌, inl, inr, subst}
+use Rattle.std.proofs.Common.{ℕ, ◌≡◌, ◌<◌, Bool, true, ◌==◌, List, [], ◌∷◌, ◌++◌, length, Some, Result, Ok, Err, refl, ap, inl, inr}
 use Rattle.std.specs.List.{AllPass, take_while}
 use Rattle.std.proofs.lemmas.Bool.{eqb-true, and_from, le-leb}
 use Rattle.std.proofs.lemmas.Bool.Decides.{eqb_tells}
@@ -11,19 +11,23 @@ use Rattle.digest_kinds.specs.declared.algo.Algo.{Algo}
 use Rattle.digest_kinds.specs.declared.algo.Algo.TheVariants.{Md5, Sha1, Sha224, Sha256, Sha384, Sha512, Blake2b}
 use Rattle.digest_kinds.specs.declared.algo.Algos.{Algos}
 use Rattle.digest_kinds.specs.declared.algo.Algos.TheVariants.{One, Any}
-use Rattle.sum_lines.specs.Shapes.{is_blank, mark, optional, Width, Allows, Tagged}
+use Rattle.sum_lines.specs.Shapes.{is_blank, optional, Width, Allows, Tagged}
 use Rattle.sum_lines.specs.Scanned.{Parts, after_while, unmarked}
-use Rattle.sum_lines.specs.joins.Steps.{past, unspaced, algo_at, digest_at, is_digit, kind_at, bits_at, blake2b_at, width_at, digest_behind, Opened, opened_text, opened_of, name_behind, tagged_of}
+use Rattle.sum_lines.specs.joins.Steps.{past, split_last, some_of, unspaced, algo_at, digest_at, is_digit, kind_at, bits_at, blake2b_at, width_at, digest_behind, Opened, opened_text, opened_of, name_behind, tagged_of}
 use Rattle.sum_lines.proofs.FrontLemmas.{bind_some, front-passes, front-and-rest, unmarked-is, unspaced-is, past-some, split_last-some, some_of-is}
 use Rattle.sum_lines.proofs.BitsLemmas.{kind_at-some}
+use Rattle.std.proofs.lemmas.Option.{same_Some}
 
-digest_at-some : (n : ℕ) (r : Result (List ℕ) FromHexError) (d : List ℕ) → digest_at n r ≡ Some d → (r ≡ Ok d)
-    × (length d ≡ n)
+-- ---- behind the closing parenthesis
+
+-- digits that are read as a digest spell it, and it has the length that was asked for
+digest_at-some : (n : ℕ) (r : Result (List ℕ) FromHexError) (d : List ℕ) → digest_at n r ≡ Some d
+    → (r ≡ Ok d) × (length d ≡ n)
 digest_at-some n (Ok x) d h = let e = cond_some (length x == n) x d h in
-    (ap Ok e.1, ap length (sym e.1) ∙ eqb-true (length x) n e.0)
+    rw (← e.1) (refl, eqb-true (length x) n e.0)
 digest_at-some n (Err e) d h = cc
 
--- what stands behind the closing parenthesis
+-- what stands there is `=` between blanks, and the digits
 record Behind (n : ℕ) (s d : List ℕ) : Type 0 where
   before : List ℕ
   after : List ℕ
@@ -34,60 +38,59 @@ record Behind (n : ℕ) (s d : List ℕ) : Type 0 where
   size : length d ≡ n
   whole : s ≡ before ++ (61 ∷ (after ++ digits))
 
-digest_behind-some : (n : ℕ) (s d : List ℕ) → digest_behind n s ≡ Some d → Behind n s d
-digest_behind-some n s d h =
-    let t = bind_some (past (61 ∷ []) (after_while is_blank s))
-    (λ t. digest_at n (decode_of (after_while is_blank t))) d h in
-    let e = digest_at-some n (decode_of (after_while is_blank t.0)) d t.2 in
-    let eq : after_while is_blank s ≡ 61 ∷ t.0 = past-some (61 ∷ []) (after_while is_blank s) t.0 t.1 in
+-- what is read there joins to it
+digest_behind-some : {n : ℕ} {s d : List ℕ} → digest_behind n s ≡ Some d → Behind n s d
+digest_behind-some {n} {s} {d} h =
+    let rest = bind_some (past (61 ∷ []) (after_while is_blank s)) _ h in
+    let digest = digest_at-some n _ d rest.2 in
+    let sign : after_while is_blank s ≡ 61 ∷ rest.0 = past-some (61 ∷ []) _ rest.0 rest.1 in
     record {
       before = take_while is_blank s;
-      after = take_while is_blank t.0;
-      digits = after_while is_blank t.0;
+      after = take_while is_blank rest.0;
+      digits = after_while is_blank rest.0;
       before_blanks = front-passes is_blank s;
-      after_blanks = front-passes is_blank t.0;
-      spelled = e.0;
-      size = e.1;
-      whole = front-and-rest is_blank s
-          ∙ ap (λ l. take_while is_blank s ++ l) (eq ∙ ap (λ l. 61 ∷ l) (front-and-rest is_blank t.0));
+      after_blanks = front-passes is_blank rest.0;
+      spelled = digest.0;
+      size = digest.1;
+      whole = rw (← front-and-rest is_blank rest.0, ← sign) (front-and-rest is_blank s);
     }
 
--- what stood between the tag and the name
+-- ---- between the tag and the name
+
+-- what stands behind an algorithm's tag is a width of its kinds, and what is left
 pub record Wide (a : Algo) (s : List ℕ) (w : KindValue × List ℕ) : Type 0 where
   pub is_algo : w.0.algo ≡ a
   pub width : List ℕ
   pub is_width : Width w.0 width
   pub whole : s ≡ width ++ w.1
 
-same_width : (a b : KindValue × List ℕ) → Some a ≡ Some b → a ≡ b
-same_width a b h = cc
-
+-- nothing, for the full length
 wide-none : (a : Algo) (s : List ℕ) (w : KindValue × List ℕ) → Some (full_kind a, s) ≡ Some w → Wide a s w
 wide-none a s w h =
-    let P : KindValue × List ℕ → Type 0 = Wide a s in
-    subst P (same_width _ _ h) (record { is_algo = refl; width = []; is_width = inl (refl, refl); whole = refl })
+    rw (← same_Some _ _ h) (record { is_algo = refl; width = []; is_width = inl (refl, refl); whole = refl })
 
+-- the bits of BLAKE2b
 wide-bits : (s : List ℕ) (w : KindValue × List ℕ) → bits_at s ≡ Some w → Wide Blake2b (45 ∷ s) w
 wide-bits s w h =
-    let k = bind_some (kind_at (take_while is_digit s)) (λ kind. Some (kind, after_while is_digit s)) w h in
-    let b = kind_at-some (take_while is_digit s) k.0 (front-passes is_digit s) k.1 in
-    let P : KindValue × List ℕ → Type 0 = Wide Blake2b (45 ∷ s) in
-    let has : has_len Blake2b k.0.len ≡ true = and_from _ _ (le-leb 1 k.0.len b.2) (le-leb k.0.len 64 b.3) in
-    subst P (same_width _ _ k.2) (record {
-      is_algo = b.0;
+    let k = bind_some (kind_at (take_while is_digit s)) _ h in
+    let bits = kind_at-some (take_while is_digit s) k.0 (front-passes is_digit s) k.1 in
+    let has : has_len Blake2b k.0.len ≡ true = and_from _ _ (le-leb 1 k.0.len bits.2) (le-leb k.0.len 64 bits.3) in
+    rw (← same_Some _ _ k.2) (record {
+      is_algo = bits.0;
       width = 45 ∷ take_while is_digit s;
-      is_width = inr (ap (λ l. 45 ∷ l) b.1, b.0, has);
+      is_width = inr (ap (λ l. 45 ∷ l) bits.1, bits.0, has);
       whole = ap (λ l. 45 ∷ l) (front-and-rest is_digit s);
     })
 
+-- either of them, as a `-` follows BLAKE2b's tag or not
 wide-blake2b : (s : List ℕ) (w : KindValue × List ℕ) → blake2b_at s ≡ Some w → Wide Blake2b s w
 wide-blake2b [] w h = wide-none Blake2b [] w h
 wide-blake2b (b ∷ bs) w h = elim (eqb_tells b 45) [
-  | inl same ↦ let P : List ℕ → Type 0 = λ s. Wide Blake2b s w in
-      subst P (ap (λ x. x ∷ bs) (sym same.1)) (wide-bits bs w (rw same.0 at h))
+  | inl same ↦ rw same.1 (wide-bits bs w (rw same.0 at h))
   | inr other ↦ wide-none Blake2b (b ∷ bs) w (rw other.0 at h)
 ]
 
+-- so what is read behind a tag is a width of its kinds
 pub width_at-some : (a : Algo) (s : List ℕ) (w : KindValue × List ℕ) → width_at a s ≡ Some w → Wide a s w
 width_at-some Md5 s w h = wide-none Md5 s w h
 width_at-some Sha1 s w h = wide-none Sha1 s w h
@@ -97,7 +100,9 @@ width_at-some Sha384 s w h = wide-none Sha384 s w h
 width_at-some Sha512 s w h = wide-none Sha512 s w h
 width_at-some Blake2b s w h = wide-blake2b s w h
 
--- a line up to its opening parenthesis
+-- ---- up to the opening parenthesis
+
+-- what was opened joins to the text that it was read of
 pub record Front (algos : Algos) (e : Bool) (s : List ℕ) (o : Opened) : Type 0 where
   pub escaped : o.escaped ≡ e
   pub allowed : Allows algos o.kind.algo
@@ -106,45 +111,36 @@ pub record Front (algos : Algos) (e : Bool) (s : List ℕ) (o : Opened) : Type 0
   pub is_width : Width o.kind width
   pub whole : s ≡ tag o.kind.algo ++ (width ++ (optional gap (32 ∷ []) ++ (40 ∷ o.inner)))
 
-same_opened : (a b : Opened) → Some a ≡ Some b → a ≡ b
-same_opened a b h = cc
-
 -- the algorithm that is looked for is allowed
 algo_at-allowed : (algos : Algos) (s : List ℕ) (a : Algo) → algo_at algos s ≡ Some a → Allows algos a
 algo_at-allowed (One b) s a h = cc
 algo_at-allowed Any s a h = tt
 
-opened_text-some : (algos : Algos) (e : Bool) (s : List ℕ) (o : Opened) → opened_text algos e s ≡ Some o
+-- the tag, the width and the parenthesis were read one behind the other
+pub opened_text-some : {algos : Algos} {e : Bool} {s : List ℕ} {o : Opened} → opened_text algos e s ≡ Some o
     → Front algos e s o
 unfolding opened_text
-opened_text-some algos e s o h =
-    let a = bind_some _ _ _ h in
-    let t = bind_some _ _ _ a.2 in
-    let w = bind_some _ _ _ t.2 in
-    let i = bind_some _ _ _ w.2 in
-    let is : record { escaped = e; kind = w.0.0; inner = i.0 } ≡ o = same_opened _ _ i.2 in
-    let wide = width_at-some a.0 t.0 w.0 w.1 in
-    let g = unspaced-is w.0.1 in
-    let A : Algo → Type 0 = Allows algos in
-    let P : Opened → Type 0 = Front algos e s in
-    subst P is (record {
+opened_text-some {algos} {e} {s} {o} h =
+    let algo = bind_some (algo_at algos s) _ h in
+    let rest = bind_some (past (tag algo.0) s) _ algo.2 in
+    let width = bind_some (width_at algo.0 rest.0) _ rest.2 in
+    let inner = bind_some (past (40 ∷ []) (unspaced width.0.1)) _ width.2 in
+    let is : record { escaped = e; kind = width.0.0; inner = inner.0 } ≡ o = same_Some _ _ inner.2 in
+    let wide = width_at-some algo.0 rest.0 width.0 width.1 in
+    let gap = unspaced-is width.0.1 in
+    rw (← is) (record {
       escaped = refl;
-      allowed = subst A (sym wide.is_algo) (algo_at-allowed algos s a.0 a.1);
+      allowed = rw wide.is_algo (algo_at-allowed algos s algo.0 algo.1);
       width = wide.width;
-      gap = g.0;
+      gap = gap.0;
       is_width = wide.is_width;
-      whole = past-some (tag a.0) s t.0 t.1 ∙ ap (λ x. tag x ++ t.0) (sym wide.is_algo)
-          ∙ ap (λ l. tag w.0.0.algo ++ l) (wide.whole
-          ∙ ap (λ l. wide.width ++ l) (g.1
-          ∙ ap (λ l. optional g.0 (32 ∷ []) ++ l) (past-some (40 ∷ []) (unspaced w.0.1) i.0 i.1)));
+      whole = rw (wide.is_algo, ← past-some (40 ∷ []) (unspaced width.0.1) inner.0 inner.1, ← gap.1, ← wide.whole)
+          (past-some (tag algo.0) s rest.0 rest.1);
     })
 
-pub opened_of-some : (algos : Algos) (line : List ℕ) (o : Opened) → opened_of algos line ≡ Some o
-    → Front algos (unmarked (after_while is_blank line)).0 (unmarked (after_while is_blank line)).1 o
-opened_of-some algos line o h =
-    opened_text-some algos (unmarked (after_while is_blank line)).0 (unmarked (after_while is_blank line)).1 o h
+-- ---- the whole line
 
--- what stands behind the opening parenthesis
+-- what stands behind the opening parenthesis: a name, and what is behind the closing one
 record Named (o : Opened) (p : Parts) : Type 0 where
   escaped : p.escaped ≡ o.escaped
   is_kind : p.kind ≡ o.kind
@@ -153,40 +149,35 @@ record Named (o : Opened) (p : Parts) : Type 0 where
   behind : Behind o.kind.len rest p.digest
   whole : o.inner ≡ p.text ++ (41 ∷ rest)
 
-pub same_parts : (a b : Parts) → Some a ≡ Some b → a ≡ b
-same_parts a b h = cc
-
-name_behind-some : (o : Opened) (p : Parts) → name_behind o ≡ Some p → Named o p
+-- what is read behind it joins to it
+name_behind-some : {o : Opened} {p : Parts} → name_behind o ≡ Some p → Named o p
 unfolding name_behind
-name_behind-some o p h =
-    let q = bind_some _ _ _ h in
-    let r = bind_some _ _ _ q.2 in
-    let d = bind_some _ _ _ r.2 in
-    let is : record { escaped = o.escaped; kind = o.kind; digest = d.0; text = r.0 } ≡ p = same_parts _ _ d.2 in
-    let raw = some_of-is q.0.0 r.0 r.1 in
-    let P : Parts → Type 0 = Named o in
-    subst P is (record {
+name_behind-some {o} {p} h =
+    let split = bind_some (split_last 41 o.inner) _ h in
+    let raw = bind_some (some_of split.0.0) _ split.2 in
+    let digest = bind_some (digest_behind o.kind.len split.0.1) _ raw.2 in
+    let is : record { escaped = o.escaped; kind = o.kind; digest = digest.0; text = raw.0 } ≡ p =
+    same_Some _ _ digest.2 in
+    let is_raw = some_of-is split.0.0 raw.0 raw.1 in
+    rw (← is) (record {
       escaped = refl;
       is_kind = refl;
-      some = raw.0;
-      rest = q.0.1;
-      behind = digest_behind-some o.kind.len q.0.1 d.0 d.1;
-      whole = split_last-some 41 o.inner q.0 q.1 ∙ ap (λ l. l ++ (41 ∷ q.0.1)) raw.1;
+      some = is_raw.0;
+      rest = split.0.1;
+      behind = digest_behind-some digest.1;
+      whole = rw (← is_raw.1) (split_last-some 41 o.inner split.0 split.1);
     })
 
-pub read_is_tagged : (algos : Algos) (line : List ℕ) (p : Parts) → tagged_of algos line ≡ Some p
-    → Tagged algos line p.escaped p.kind p.digest p.text
-read_is_tagged algos line p h =
-    let u : Bool × List ℕ = unmarked (after_while is_blank line) in
-    let found = bind_some (opened_of algos line) name_behind p h in
-    let o : Opened = found.0 in
-    let front = opened_of-some algos line o found.1 in
-    let named = name_behind-some o p found.2 in
+-- the parts are those of a tagged line
+abbrev pub IsTagged : Algos → List ℕ → Parts → Type 0
+IsTagged algos line p = Tagged algos line p.escaped p.kind p.digest p.text
+
+-- such a front and such a name join to a tagged line
+named-tagged : {algos : Algos} {o : Opened} {p : Parts} (line : List ℕ)
+    → Front algos (unmarked (after_while is_blank line)).0 (unmarked (after_while is_blank line)).1 o → Named o p
+    → IsTagged algos line p
+named-tagged line front named =
     let behind = named.behind in
-    let A : KindValue → Type 0 = λ k. Allows algos k.algo in
-    let W : KindValue → Type 0 = λ k. Width k front.width in
-    let inner : o.inner ≡ p.text ++ (41 ∷ (behind.before ++ (61 ∷ (behind.after ++ behind.digits)))) = named.whole
-    ∙ ap (λ l. p.text ++ (41 ∷ l)) behind.whole in
     record {
       blanks = take_while is_blank line;
       width = front.width;
@@ -194,24 +185,28 @@ read_is_tagged algos line p h =
       before = behind.before;
       after = behind.after;
       digits = behind.digits;
-      allowed = subst A (sym named.is_kind) front.allowed;
+      allowed = rw named.is_kind front.allowed;
       are_blanks = front-passes is_blank line;
-      is_width = subst W (sym named.is_kind) front.is_width;
+      is_width = rw named.is_kind front.is_width;
       some = named.some;
       before_blanks = behind.before_blanks;
       after_blanks = behind.after_blanks;
       spelled = behind.spelled;
-      size = behind.size ∙ ap (λ (k : KindValue). k.len) (sym named.is_kind);
-      whole = front-and-rest is_blank line
-          ∙ ap (λ l. take_while is_blank line ++ l) (unmarked-is (after_while is_blank line)
-          ∙ ap (λ l. mark u.0 ++ l) front.whole)
-          ∙ ap (λ m. take_while is_blank line
-          ++ (mark m ++ (tag o.kind.algo ++ (front.width ++ (optional front.gap (32 ∷ []) ++ (40 ∷ o.inner))))))
-          (sym (named.escaped ∙ front.escaped))
-          ∙ ap (λ (k : KindValue). take_while is_blank line
-          ++ (mark p.escaped ++ (tag k.algo
-          ++ (front.width ++ (optional front.gap (32 ∷ []) ++ (40 ∷ o.inner)))))) (sym named.is_kind)
-          ∙ ap (λ l. take_while is_blank line
-          ++ (mark p.escaped ++ (tag p.kind.algo
-          ++ (front.width ++ (optional front.gap (32 ∷ []) ++ (40 ∷ l)))))) inner;
+      size = rw named.is_kind behind.size;
+      whole = rw (
+        ← behind.whole,
+        ← named.whole,
+        named.is_kind,
+        named.escaped,
+        front.escaped,
+        ← front.whole,
+        ← unmarked-is (after_while is_blank line),
+      ) (front-and-rest is_blank line);
     }
+
+-- so a line that is read as tagged is tagged
+pub read_is_tagged : {algos : Algos} {line : List ℕ} {p : Parts} → tagged_of algos line ≡ Some p
+    → IsTagged algos line p
+read_is_tagged {algos} {line} h =
+    let opened = bind_some (opened_of algos line) name_behind h in
+    named-tagged line (opened_text-some opened.1) (name_behind-some opened.2)

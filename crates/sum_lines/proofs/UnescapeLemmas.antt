@@ -4,6 +4,7 @@ use Rattle.std.proofs.lemmas.Bool.Decides.{eqb_tells}
 use Rattle.std.proofs.lemmas.List.{append_cancel_left, append-nil, take_rest, length-take-le, drop-drop, take-take, take-append-le, take_more_set, drop-set-lt}
 use Rattle.std.proofs.lemmas.Grind.{flat_map-append}
 use Rattle.std.proofs.Math.Seq.{take-append-add}
+use Rattle.std.proofs.lemmas.Option.{none-some, same_Some}
 use Rattle.sum_lines.specs.Profiles.{present}
 use Rattle.sum_lines.specs.Escape.{escape_of, escape, IsEscaped}
 
@@ -18,6 +19,7 @@ abbrev pub first : List ℕ → Option (ℕ × List ℕ)
 first [] = None
 first (b ∷ bs) = cond (b == 92) (behind bs) (cond (b == 10) None (cond (b == 13) None (Some (b, bs))))
 
+-- a byte's own escape is found so
 pub first-escape : (b : ℕ) (rest : List ℕ) → first (escape_of present b ++ rest) ≡ Some (b, rest)
 first-escape b rest = elim (eqb_tells b 92) [
   | inl same ↦ rw same.1 refl
@@ -30,21 +32,16 @@ first-escape b rest = elim (eqb_tells b 92) [
   ]
 ]
 
-some_same : (p q : ℕ × List ℕ) → Some p ≡ Some q → p ≡ q
-some_same p q h = cc
-
-none_some : {X : Type 0} (x : X) → None ≡ Some x → ⊥
-none_some x h = cc
-
--- two escapes with the same bytes
-pub escape_of-apart : (a b : ℕ) (xs ys : List ℕ) → escape_of present a ++ xs ≡ escape_of present b ++ ys → (a ≡ b)
-    × (xs ≡ ys)
+-- two escapes with the same bytes are of one byte
+pub escape_of-apart : (a b : ℕ) (xs ys : List ℕ) → escape_of present a ++ xs ≡ escape_of present b ++ ys
+    → (a ≡ b) × (xs ≡ ys)
 escape_of-apart a b xs ys h =
-    let same = some_same (a, xs) (b, ys) (sym (first-escape a xs) ∙ ap first h ∙ first-escape b ys) in
+    let same = same_Some (a, xs) (b, ys) (sym (first-escape a xs) ∙ ap first h ∙ first-escape b ys) in
     (ap (λ p. p.0) same, ap (λ p. p.1) same)
 
+-- and none is empty
 pub escape_of-some : (b : ℕ) (rest : List ℕ) → [] ≡ escape_of present b ++ rest → ⊥
-escape_of-some b rest h = none_some (b, rest) (ap first h ∙ first-escape b rest)
+escape_of-some b rest h = none-some (b, rest) (ap first h ∙ first-escape b rest)
 
 -- what follows the escape of a in the escape of a name is the escape of what follows a in it
 pub escape-rest : (a n rest : List ℕ) → escape a ++ rest ≡ escape n → (m : List ℕ) × (n ≡ a ++ m) × (rest ≡ escape m)
@@ -74,18 +71,18 @@ pub record Half (start bytes : List ℕ) (read write : ℕ) : Type 0 where
   pub whole : escape (take write bytes) ++ drop read bytes ≡ start
 
 -- one more byte was read and written
-pub Half-more : (start bytes : List ℕ) (read write b width : ℕ) → Half start bytes read write
+pub Half-more : {start bytes : List ℕ} {read write : ℕ} (b width : ℕ) → Half start bytes read write
     → drop read bytes ≡ escape_of present b ++ drop width (drop read bytes) → 0 < width
     → width ≤ length (drop read bytes)
     → Half start (set bytes write b) (read + width) (write + 1)
-Half-more start bytes read write b width h here some fits =
+Half-more {bytes = bytes} {read = read} {write = write} b width h here some fits =
     let next = read + width in
     let rest = drop next bytes in
     let within : next ≤ length bytes = omega (arith, fits, h.within, length-drop read bytes) in
-    let follows : drop width (drop read bytes) ≡ rest = drop-drop width read bytes
-    ∙ ap (λ n. drop n bytes) (omega arith) in
-    let now : take (write + 1) (set bytes write b) ≡ take write bytes ++ b ∷ [] = take_more_set bytes write b
-    (omega (arith, h.behind)) in
+    let follows : drop width (drop read bytes) ≡ rest =
+    drop-drop width read bytes ∙ ap (λ n. drop n bytes) (omega arith) in
+    let now : take (write + 1) (set bytes write b) ≡ take write bytes ++ b ∷ [] =
+    take_more_set bytes write b (omega (arith, h.behind)) in
     let after : drop next (set bytes write b) ≡ rest = drop-set-lt next bytes write b (omega (arith, h.behind)) in
     let written : escape (take write bytes ++ b ∷ []) ≡ escape (take write bytes) ++ escape_of present b =
     flat_map-append (escape_of present) (take write bytes) (b ∷ [])
@@ -102,14 +99,14 @@ Half-more start bytes read write b width h here some fits =
     }
 
 -- what was read is within the bytes
-pub Half-fits : (start bytes : List ℕ) (read write width : ℕ) → Half start bytes read write
+pub Half-fits : {start bytes : List ℕ} {read write : ℕ} (width : ℕ) → Half start bytes read write
     → width ≤ length (drop read bytes) → read + width ≤ length start
-Half-fits start bytes read write width h fits = omega (arith, fits, h.within, h.size, length-drop read bytes)
+Half-fits {bytes = bytes} {read = read} width h fits = omega (arith, fits, h.within, h.size, length-drop read bytes)
 
 -- a rest that no escape begins
-pub Half-refused : (start bytes : List ℕ) (read write : ℕ) → Half start bytes read write → read < length bytes
+pub Half-refused : {start bytes : List ℕ} {read write : ℕ} → Half start bytes read write → read < length bytes
     → ((b : ℕ) (rest : List ℕ) → drop read bytes ≢ escape_of present b ++ rest) → ¬ IsEscaped start
-Half-refused start bytes read write h some none = λ e.
+Half-refused {bytes = bytes} {read = read} {write = write} h some none = λ e.
     let rest = escape-rest (take write bytes) e.0 (drop read bytes) (h.whole ∙ e.1) in
     elim rest.0 as (λ m. drop read bytes ≡ escape m → ⊥) [
       | [] ↦ λ is. omega (arith, length-drop read bytes, ap length is)
@@ -127,10 +124,10 @@ in_place line new from name e is n = (
 )
 
 -- a list cut at a place behind the part that was written into it
-pub cut_behind : (len from n : ℕ) (line d part post more : List ℕ) → d ≡ line → from + n ≤ len → from ≤ length line
-    → n ≤ length part
+pub cut_behind : {line d : List ℕ} (len from n : ℕ) (part post more : List ℕ) → d ≡ line → from + n ≤ len
+    → from ≤ length line → n ≤ length part
     → take (from + n) (take len (take from d ++ (part ++ post) ++ more)) ≡ take from line ++ take n part
-cut_behind len from n line d part post more e fits low le =
+cut_behind {d = d} len from n part post more e fits low le =
     let f : List ℕ = take from d in
     let size : length f ≡ from = length-take-le from d (rw e low) in
     take-take (from + n) len (f ++ (part ++ post) ++ more) fits

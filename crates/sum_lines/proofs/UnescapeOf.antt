@@ -2,7 +2,7 @@
 use Rattle.std.proofs.Common.{◌≡◌, ℕ, suc, ◌<◌, ◌==◌, ◌&&◌, Bool, true, false, cond, List, [], ◌∷◌, ◌++◌, Some, refl, ap, sym, ◌∙◌, inl, inr, arith}
 use Rattle.std.specs.List.{All, list_all}
 use Rattle.std.specs.Prelude.{nat_lt, slice_index_or, bytes_eq}
-use Rattle.std.proofs.lemmas.Bool.{lt-ltb, ltb-true, and_parts, eqb-true, false≢true, cases_Bool, cond-true}
+use Rattle.std.proofs.lemmas.Bool.{lt-ltb, ltb-true, and_parts, eqb-true, false≢true, cases_Bool}
 use Rattle.std.proofs.lemmas.Bool.Decides.{eqb_tells}
 use Rattle.std.proofs.lemmas.Option.{cond_some}
 use Rattle.std.proofs.lemmas.List.Folds.{list_all_at}
@@ -41,12 +41,13 @@ unescaped-escape p (b ∷ bs) = elim (eqb_tells b 92) [
   ]
 ]
 
+-- so a name is read back from its escape
 pub unescape-escape : (p : Profile) (n : List ℕ) → unescape p (escape_by p n) ≡ Some n
 unescape-escape p n =
-    let is = unescaped-escape p n in
-    rw is (cond-true (bytes_eq (escape_by p n) (escape_by p n)) (Some n) _
-    ((bytes_eq-Decides (escape_by p n) (escape_by p n)).1 refl))
+    let same = (bytes_eq-Decides (escape_by p n) (escape_by p n)).1 refl in
+    rw (unescaped-escape p n, same) refl
 
+-- and what is read as a name is its escape
 pub escape-unescape : (p : Profile) (raw n : List ℕ) → unescape p raw ≡ Some n → raw ≡ escape_by p n
 escape-unescape p raw n h =
     let e = cond_some (bytes_eq (escape_by p (unescaped raw)) raw) (unescaped raw) n h in
@@ -54,16 +55,19 @@ escape-unescape p raw n h =
 
 -- ---- no NUL
 
+-- a name without NUL passes the test for it
 all-of : (xs : List ℕ) → All (λ b. 0 < b) xs → list_all (nat_lt 0) xs ≡ true
 all-of [] h = refl
 all-of (x ∷ xs) h =
     let first : 0 < x = h 0 x (omega arith) in
     rw (lt-ltb 0 x first, all-of xs (λ k d lt. h (suc k) d (omega arith))) refl
 
+-- what isn't false is true
 not-false : (b : Bool) → (b ≡ false → ⊥) → b ≡ true
 not-false true h = refl
 not-false false h = absurd (h refl)
 
+-- and what passes it holds none
 of-all : (xs : List ℕ) → list_all (nat_lt 0) xs ≡ true → All (λ b. 0 < b) xs
 of-all xs h = λ k d lt. ltb-true 0 (slice_index_or xs k d)
     (not-false (nat_lt 0 (slice_index_or xs k d))
@@ -71,6 +75,7 @@ of-all xs h = λ k d lt. ltb-true 0 (slice_index_or xs k d)
 
 -- ---- the entry of a line's parts
 
+-- a raw name is read as the name that it spells, and only as that
 unescape-if : (p : Profile) (e : Bool) (raw n : List ℕ) → raw ≡ cond e (escape_by p n) n
     → cond e (unescape p raw) (Some raw) ≡ Some n
 unescape-if p true raw n h = ap (unescape p) h ∙ unescape-escape p n
@@ -84,6 +89,7 @@ escape-if p false raw n h = cc
 abbrev pub entry : Parts → List ℕ → Spelled
 entry t n = record { algo = t.kind.algo; digest = t.digest; name = n }
 
+-- so parts whose raw name spells a name spell an entry, and only such parts do
 pub spelled-is : (p : Profile) (t : Parts) (n : List ℕ) → Spells (escape_by p) t.escaped t.text n
     → spelled p t ≡ Some (entry t n)
 spelled-is p t n s = rw (unescape-if p t.escaped t.text n s.is, all-of n s.no_nul) refl
@@ -91,6 +97,6 @@ spelled-is p t n s = rw (unescape-if p t.escaped t.text n s.is, all-of n s.no_nu
 pub is-spelled : (p : Profile) (t : Parts) (s : Spelled) → spelled p t ≡ Some s
     → (n : List ℕ) × Spells (escape_by p) t.escaped t.text n × (entry t n ≡ s)
 is-spelled p t s h =
-    let n = bind_some (cond t.escaped (unescape p t.text) (Some t.text)) _ s h in
+    let n = bind_some (cond t.escaped (unescape p t.text) (Some t.text)) _ h in
     let e = cond_some (list_all (nat_lt 0) n.0) (entry t n.0) s n.2 in
     (n.0, record { no_nul = of-all n.0 e.0; is = escape-if p t.escaped t.text n.0 n.1 }, e.1)

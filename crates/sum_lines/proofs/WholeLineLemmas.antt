@@ -7,8 +7,9 @@ use Rattle.std.specs.Io.KnownBytes.{Appends, append_known}
 use Rattle.sum_lines.specs.Sinks.{AppendsFront}
 use Rattle.sum_lines.specs.WholeLines.{EndsWith}
 
-pub EndsWith-append : (end : ℕ) (held piece : List ℕ) → EndsWith end piece → EndsWith end (held ++ piece)
-EndsWith-append end held piece h = (held ++ h.0, ap (λ l. held ++ l) h.1 ∙ sym (append_assoc held h.0 (end ∷ [])))
+-- what ends with the byte ends with it behind what was held too
+pub EndsWith-append : {piece : List ℕ} (end : ℕ) (held : List ℕ) → EndsWith end piece → EndsWith end (held ++ piece)
+EndsWith-append end held h = (held ++ h.0, ap (λ l. held ++ l) h.1 ∙ sym (append_assoc held h.0 (end ∷ [])))
 
 -- all of the text was handed on
 pub Appends-all : (a b : Option (List ℕ)) (text : List ℕ) (n : ℕ) → Appends a b (take n text) → length text ≤ n
@@ -16,9 +17,9 @@ pub Appends-all : (a b : Option (List ℕ)) (text : List ℕ) (n : ℕ) → Appe
 Appends-all a b text n h all = rw (take_all n text all) at h
 
 -- only a shorter front of it was
-pub AppendsFront-short : (a b : Option (List ℕ)) (text : List ℕ) (n : ℕ) → Appends a b (take n text) → n < length text
+pub AppendsFront-short : {text : List ℕ} (a b : Option (List ℕ)) (n : ℕ) → Appends a b (take n text) → n < length text
     → AppendsFront a b text
-AppendsFront-short a b text n h short =
+AppendsFront-short {text} a b n h short =
     (take n text, drop n text, sym (take-append-drop n text), omega (arith, length-drop n text), h)
 
 -- what was held was handed on, and a front of a piece behind it
@@ -28,15 +29,17 @@ Appends-passed None b held front h = tt
 Appends-passed (Some x) None held front h = absurd h
 Appends-passed (Some x) (Some y) held front h = append-nil y ∙ h ∙ sym (append_assoc x held front)
 
-pub Appends-handed : (a b : Option (List ℕ)) (held now piece : List ℕ) (count n : ℕ)
+-- so a front of the piece was appended to what the sink tells and what is held, of which nothing is left
+pub Appends-handed : {now : List ℕ} (a b : Option (List ℕ)) (held piece : List ℕ) (count n : ℕ)
     → Appends a b (take n (held ++ take count piece)) → length held ≤ n → n ≤ length (held ++ take count piece)
     → now ≡ []
     → Appends (append_known a held) (append_known b now) (take (n - length held) piece)
-Appends-handed a b held now piece count n h low high none =
+Appends-handed a b held piece count n h low high none =
     let more = n - length held in
     let within : more ≤ count = omega (arith, length-append held (take count piece), length-take count piece) in
     let split : take n (held ++ take count piece) ≡ held ++ take more piece =
-    ap (λ k. take k (held ++ take count piece)) (omega arith) ∙ take-append-add held (take count piece) more
+    ap (λ k. take k (held ++ take count piece)) (omega arith)
+    ∙ take-append-add held (take count piece) more
     ∙ ap (λ l. held ++ l) (take-take more count piece within) in
     rw none (Appends-passed a b held (take more piece) (rw split at h))
 
@@ -45,5 +48,5 @@ pub none_held : (n : ℕ) (buffer : List ℕ) → take (n - n) buffer ≡ []
 none_held n buffer = ap (λ k. take k buffer) (sub_self n)
 
 -- what is held still is a back of what was held
-pub held_back : (old new : List ℕ) (n : ℕ) → new ≡ drop n old → (front : List ℕ) × (old ≡ front ++ new)
-held_back old new n e = (take n old, rw e (sym (take-append-drop n old)))
+pub held_back : {new : List ℕ} (old : List ℕ) (n : ℕ) → new ≡ drop n old → (front : List ℕ) × (old ≡ front ++ new)
+held_back old n e = (take n old, rw e (sym (take-append-drop n old)))

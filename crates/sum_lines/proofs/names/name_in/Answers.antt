@@ -1,24 +1,23 @@
-use Rattle.std.proofs.Common.{◌≡◌, true, false, take, drop, length, ◌-◌}
+use Rattle.std.proofs.Common.{true, false}
 use Rattle.sum_lines.proofs.NameLemmas.{Left, names-kept, names-refused, rest_here}
 use Rattle.sum_lines.proofs.names.name_in.Goals as goal
 
+-- the raw name was replaced by its name
 pub returns-then-unspell-clause-names : goal.returns-then-unspell-clause-names
 returns-then-unspell-clause-names g c =
-    let rest : take (length c.deref.result.now - c.args.start) (drop c.args.start c.deref.result.now) ≡ drop
-    c.args.start c.unspell.new.line.items =
-    rest_here c.deref.result.now c.unspell.new.line.items c.args.start c.deref.ensures.value in
+    let rest = rest_here c.deref.result.now c.unspell.new.line.items c.args.start c.deref.ensures.value in
     let left : Left c.args.escaped c.args.line.now.items c.truncate.new.self.items c.unspell.new.line.items
     c.args.start c.args.stop true =
     record {
       le = c.requires.ordered;
       fits = c.requires.within;
       cut_is = c.truncate.ensures.items;
-      name =
-          rw c.if-unspell.true at c.unspell.ensures.name;
+      name = rw c.if-unspell.true at c.unspell.ensures.name;
       front = c.unspell.ensures.front;
     } in
-    names-kept _ _ _ _ _ _ c.has_nul.result left (rw rest at c.has_nul.ensures.no) (rw rest at c.has_nul.ensures.yes)
+    names-kept c.has_nul.result left (rw rest at c.has_nul.ensures.no) (rw rest at c.has_nul.ensures.yes)
 
+-- it is no name's escape
 pub returns-else-unspell-clause-names : goal.returns-else-unspell-clause-names
 returns-else-unspell-clause-names g c =
     let left : Left c.args.escaped c.args.line.now.items c.truncate.new.self.items c.unspell.new.line.items
@@ -27,8 +26,7 @@ returns-else-unspell-clause-names g c =
       le = c.requires.ordered;
       fits = c.requires.within;
       cut_is = c.truncate.ensures.items;
-      name =
-          rw c.if-unspell.false at c.unspell.ensures.name;
+      name = rw c.if-unspell.false at c.unspell.ensures.name;
       front = c.unspell.ensures.front;
     } in
-    rw c.if-unspell.false (names-refused _ _ _ _ _ _ left)
+    rw c.if-unspell.false (names-refused left)

@@ -5,13 +5,15 @@ use Rattle.sum_lines.specs.joins.PartTexts.{parts_text}
 use Rattle.sum_lines.proofs.SinkLemmas.{Left-step, Left-stop}
 use Rattle.sum_lines.proofs.parts.put_parts.Goals as goal
 
+-- a part failed
 pub returns-in_err-put_part : goal.returns-in_err-put_part
 returns-in_err-put_part g c =
     let failed = err_from_is_err_and c.from_residual.result c.from_residual.ensures.1 in
     let cut = at_drop_more parts_text c.args.parts.now c.loop-part.part-index _ (omega arith) in
-    rw failed.1 (Left-stop _ _ _ _ _ _ _ _ _ _ c.loop-part.invariant cut c.in_err-put_part.ensures)
+    rw failed.1 (Left-stop _ _ c.loop-part.invariant cut c.in_err-put_part.ensures)
 
+-- a part was written
 pub loop-part-preserved : goal.loop-part-preserved
 loop-part-preserved g c =
     let cut = at_drop_more parts_text c.args.parts.now c.loop-part.part-index _ (omega arith) in
-    Left-step _ _ _ _ _ _ _ _ _ _ c.loop-part.invariant cut c.in_ok-put_part.ensures
+    Left-step _ c.loop-part.invariant cut c.in_ok-put_part.ensures

@@ -4,6 +4,7 @@ use Rattle.sum_lines.specs.joins.Steps.{is_digit}
 use Rattle.sum_lines.proofs.FrontLemmas.{front-passes}
 use Rattle.sum_lines.proofs.tagged.split_digits.Goals as goal
 
+-- what is split off in front is digits
 pub returns-clause-are : goal.returns-clause-are
 returns-clause-are c =
     let P : List ℕ → Type 0 = AllPass is_digit in

@@ -3,6 +3,7 @@ use Rattle.std.proofs.lemmas.List.{drop-take}
 use Rattle.std.proofs.lemmas.List.Edits.{take-paste}
 use Rattle.sum_lines.proofs.whole_lines.drop_front.Goals as goal
 
+-- what is kept is moved to the front of the buffer
 pub returns : goal.returns
 returns c =
     let front = c.args.front in
