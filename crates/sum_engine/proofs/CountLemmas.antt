@@ -8,6 +8,7 @@ use Rattle.sum_engine.specs.declared.verdict.Verdict.TheVariants.{Ignored, Bad, 
 use Rattle.sum_engine.specs.Verdicts.{Judged}
 use Rattle.sum_engine.specs.Reports.{counts, counted, is_right, is_wrong, is_missing, is_unread, is_bad}
 
+-- one verdict more, counted by a test
 count_more : (q : Judged → Bool) (done : List Judged) (j : Judged)
     → sum_by (λ i. cond (q i) 1 0) (done ++ j ∷ []) ≡ sum_by (λ i. cond (q i) 1 0) done + cond (q j) 1 0
 count_more q done j =
@@ -17,10 +18,15 @@ count_more q done j =
     let none : sum_by f [] ≡ 0 = refl in
     omega (arith, all, one, none)
 
-same_counts : (a b c d e a' b' c' d' e' : ℕ) → a ≡ a' → b ≡ b' → c ≡ c' → d ≡ d' → e ≡ e'
-    → let x : Counts = record { right = a; wrong = b; missing = c; unread = d; bad = e } in
-    x ≡ record { right = a'; wrong = b'; missing = c'; unread = d'; bad = e' }
-same_counts a b c d e a' b' c' d' e' p q r s t = rw (p, q, r, s, t) refl
+-- counts are the same that are the same one by one
+same_counts : (x y : Counts) → x.right ≡ y.right → x.wrong ≡ y.wrong → x.missing ≡ y.missing → x.unread ≡ y.unread
+    → x.bad ≡ y.bad → x ≡ y
+same_counts x y right wrong missing unread bad =
+    let make : ℕ → ℕ → ℕ → ℕ → ℕ → Counts =
+    λ a b c d e. record { right = a; wrong = b; missing = c; unread = d; bad = e } in
+    let same : make x.right x.wrong x.missing x.unread x.bad ≡ make y.right y.wrong y.missing y.unread y.bad =
+    rw (right, wrong, missing, unread, bad) refl in
+    same
 
 -- one more, by whether the verdict is of each kind
 abbrev plus : Counts → Verdict → Counts
@@ -32,21 +38,26 @@ plus c v = record {
   bad = c.bad + cond (is_bad v) 1 0;
 }
 
+-- that is counting the verdict
 plus_is : (v : Verdict) (c : Counts) → plus c v ≡ counted c v
 plus_is Ignored c =
-    same_counts _ _ _ _ _ _ _ _ _ _ (omega arith) (omega arith) (omega arith) (omega arith) (omega arith)
-plus_is Bad c = same_counts _ _ _ _ _ _ _ _ _ _ (omega arith) (omega arith) (omega arith) (omega arith) refl
-plus_is Right c = same_counts _ _ _ _ _ _ _ _ _ _ refl (omega arith) (omega arith) (omega arith) (omega arith)
-plus_is Wrong c = same_counts _ _ _ _ _ _ _ _ _ _ (omega arith) refl (omega arith) (omega arith) (omega arith)
-plus_is Missing c = same_counts _ _ _ _ _ _ _ _ _ _ (omega arith) (omega arith) refl (omega arith) (omega arith)
-plus_is (Unread f) c = same_counts _ _ _ _ _ _ _ _ _ _ (omega arith) (omega arith) (omega arith) refl (omega arith)
+    same_counts (plus c Ignored) c (omega arith) (omega arith) (omega arith) (omega arith) (omega arith)
+plus_is Bad c =
+    same_counts (plus c Bad) (counted c Bad) (omega arith) (omega arith) (omega arith) (omega arith) refl
+plus_is Right c =
+    same_counts (plus c Right) (counted c Right) refl (omega arith) (omega arith) (omega arith) (omega arith)
+plus_is Wrong c =
+    same_counts (plus c Wrong) (counted c Wrong) (omega arith) refl (omega arith) (omega arith) (omega arith)
+plus_is Missing c =
+    same_counts (plus c Missing) (counted c Missing) (omega arith) (omega arith) refl (omega arith) (omega arith)
+plus_is (Unread f) c =
+    same_counts (plus c (Unread f)) (counted c (Unread f)) (omega arith) (omega arith) (omega arith) refl (omega arith)
 
 -- the counts of one line more
 pub counts_more : (done : List Judged) (j : Judged) → counts (done ++ j ∷ []) ≡ counted (counts done) j.verdict
 counts_more done j =
-    let all : counts (done ++ j ∷ []) ≡ plus (counts done) j.verdict =
-    same_counts _ _ _ _ _ _ _ _ _ _ (count_more (λ i. is_right i.verdict) done j)
-    (count_more (λ i. is_wrong i.verdict) done j)
-    (count_more (λ i. is_missing i.verdict) done j) (count_more (λ i. is_unread i.verdict) done j)
-    (count_more (λ i. is_bad i.verdict) done j) in
-    all ∙ plus_is j.verdict (counts done)
+    let all = counts (done ++ j ∷ []) in
+    same_counts all (plus (counts done) j.verdict) (count_more (λ i. is_right i.verdict) done j)
+    (count_more (λ i. is_wrong i.verdict) done j) (count_more (λ i. is_missing i.verdict) done j)
+    (count_more (λ i. is_unread i.verdict) done j) (count_more (λ i. is_bad i.verdict) done j)
+    ∙ plus_is j.verdict (counts done)

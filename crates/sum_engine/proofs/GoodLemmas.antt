@@ -1,33 +1,23 @@
 -- A manifest of lines that were written for whole files is good.
-use Rattle.std.proofs.Common.{◌≡◌, ◌≢◌, ◌==◌, ℕ, suc, ◌+◌, ◌-◌, ◌<◌, Bool, true, false, not, cond, List, [], ◌∷◌, ◌++◌, length, map, refl, ap, sym, ◌∙◌, subst, append_assoc, arith, ◌⊎◌, inl, inr, IsTrue, Ok}
-use Rattle.std.specs.Prelude.{◌&&◌, ◌||◌, flat_map, slice_index}
+use Rattle.std.proofs.Common.{◌≡◌, ◌==◌, ℕ, suc, ◌+◌, ◌<◌, Bool, true, false, not, cond, List, [], ◌∷◌, ◌++◌, length, map, refl, ap, sym, ◌∙◌, subst, append_assoc, arith, inl, Ok}
+use Rattle.std.specs.Prelude.{◌&&◌, ◌||◌, flat_map}
 use Rattle.std.specs.List.{All, sum_by}
-use Rattle.std.specs.Str.Lines.{strip_carriage_return}
 use Rattle.std.specs.Prelude.{codes}
-use Rattle.std.proofs.lemmas.Bool.{cond-false, cases_lt, ne_eqb}
-use Rattle.std.proofs.lemmas.Bool.Decides.{eqb_tells}
-use Rattle.std.proofs.lemmas.List.{append-nil, append_cancel_right, get_or_past}
-use Rattle.std.proofs.lemmas.List.Elements.{All-nil, All-cons, All-head, All-tail, All-weaker, All-get_or}
+use Rattle.std.proofs.lemmas.Bool.{cond-false, ne_eqb}
+use Rattle.std.proofs.lemmas.List.Elements.{All-head, All-tail}
 use Rattle.std.proofs.lemmas.List.Sums.{sum_by-cons}
 use Rattle.std.proofs.lemmas.Slice.Eq.{bytes_eq-Decides}
-use Rattle.digest_kinds.specs.Kinds.{KindValue, has_len}
+use Rattle.digest_kinds.specs.Kinds.{KindValue}
 use Rattle.digest_kinds.specs.Digests.{digest}
 use Rattle.digest_kinds.specs.declared.algo.Algos.{Algos}
-use Rattle.digest_kinds.proofs.DigestLemmas.{length-digest, IsBytes-digest}
+use Rattle.digest_kinds.proofs.DigestLemmas.{length-digest}
 use Rattle.sum_lines.specs.declared.line_reading.Form.{Form}
-use Rattle.sum_lines.specs.declared.line_reading.Form.TheVariants.{Undecided, Standard}
-use Rattle.sum_lines.specs.declared.written.Mode.{Mode}
 use Rattle.sum_lines.specs.Escape.{escape}
-use Rattle.sum_lines.specs.Lines.{line}
-use Rattle.sum_lines.specs.Entries.{Spelled, kind_of, Entry, form}
-use Rattle.sum_lines.specs.Laws.{ReadBy, Writable}
-use Rattle.sum_lines.proofs.WrittenLemmas.{front_of, read_back}
+use Rattle.sum_lines.specs.Entries.{kind_of, Entry, form}
 use Rattle.sum_sources.specs.declared.fault.Ending.TheVariants.{Whole}
 use Rattle.sum_sources.specs.Contents.{Content, limit}
 use Rattle.sum_sources.specs.Sources.{Reply, Given}
-use Rattle.sum_sources.specs.ManifestLines.{NoNewline, rejoined, lines, pieces}
 use Rattle.sum_sources.proofs.ContentLemmas.{limit-value, clip-short}
-use Rattle.sum_sources.proofs.CutLemmas.{pieces-joined}
 use Rattle.sum_engine.specs.declared.settings.CheckSettings.{CheckSettings}
 use Rattle.sum_engine.specs.declared.settings.Report.{Report}
 use Rattle.sum_engine.specs.declared.settings.Report.TheVariants as reports
@@ -43,153 +33,30 @@ use Rattle.sum_engine.specs.Reports.{out_of, err_of, right_line, is_right, is_wr
 use Rattle.sum_engine.specs.Checking.{rules_of, checked_content, checked_by, checked}
 use Rattle.sum_lines.proofs.SaysLemmas.{says_is}
 use Rattle.sum_engine.proofs.StepLemmas.{now}
-
--- ---- what is written
-
--- a name whose line is written: its form, its kind, and the bytes of its file
-pub record Item : Type 0 where
-  pub mode : Mode
-  pub kind : KindValue
-  pub name : List ℕ
-  pub bytes : List ℕ
-
-abbrev pub text_of : Item → List ℕ
-text_of i = line (record { mode = i.mode; zero = false }) i.kind i.name (digest i.kind i.bytes)
-
--- it is read back, and its file still has these bytes
-pub record Listed (algos : Algos) (answer : List ℕ → Reply) (i : Item) : Type 0 where
-  pub read_by : ReadBy algos i.mode i.kind.algo
-  pub has : IsTrue (has_len i.kind.algo i.kind.len)
-  pub some : 0 < length i.name
-  pub no_nul : All (λ b. 0 < b) i.name
-  pub no_dash : is_dash i.name ≡ false
-  pub content : answer i.name ≡ Given (record { bytes = i.bytes; ending = Whole })
-  pub fits : length i.bytes < limit
-
--- the line without its newline
-abbrev front : Item → List ℕ
-front i = front_of i.mode i.kind i.name (digest i.kind i.bytes)
-
-text-front : (i : Item) → text_of i ≡ front i ++ (10 ∷ [])
-text-front i = refl
-
-abbrev spelled : Item → Spelled
-spelled i = record { algo = i.kind.algo; digest = digest i.kind i.bytes; name = i.name }
-
-writable : (algos : Algos) (answer : List ℕ → Reply) (i : Item) → Listed algos answer i
-    → Writable i.kind i.name (digest i.kind i.bytes)
-writable algos answer i h = record {
-  some = h.some;
-  no_nul = h.no_nul;
-  bytes = IsBytes-digest i.kind i.bytes;
-  size = length-digest i.kind i.bytes h.has;
-  has = h.has;
-}
-
--- ---- each line is read back
-
--- the form of these lines is Undecided or Standard
-abbrev Steady : Algos → List (List ℕ) → Type 0
-Steady algos ls = (form algos ls ≡ Undecided) ⊎ (form algos ls ≡ Standard)
-
-abbrev Plainly : List ℕ → Type 0
-Plainly l = All (λ b. (b ≢ 10) × (b ≢ 13)) l
-
-abbrev Back : Algos → List (List ℕ) → List (List ℕ) → Spelled → List ℕ → Type 0
-Back algos before later s l =
-    Plainly l × Entry escape algos (form algos (before ++ (l ∷ later))) l s × Steady algos (before ++ (l ∷ []))
-
-back : (algos : Algos) (answer : List ℕ → Reply) (before later : List (List ℕ)) (i : Item) → Listed algos answer i
-    → Steady algos before → Back algos before later (spelled i) (front i)
-back algos answer before later i h u =
-    let s = read_back algos i.mode i.kind i.name (digest i.kind i.bytes) before later h.read_by
-    (writable algos answer i h) u in
-    let same : s.front ≡ front i =
-    append_cancel_right s.front (front i) (10 ∷ []) (sym s.whole ∙ text-front i) in
-    subst (Back algos before later (spelled i)) same (s.one_line, (s.spells (spelled i)).1 refl, s.keeps)
-
--- ---- the lines of the whole text
-
-no-newline : (b : ℕ) → (b ≢ 10) × (b ≢ 13) → (b == 10) ≡ false
-no-newline b h = elim (eqb_tells b 10) [
-  | inl same ↦ absurd (h.0 same.1)
-  | inr other ↦ other.0
-]
-
-no-return : (b : ℕ) → (b ≢ 10) × (b ≢ 13) → (b == 13) ≡ false
-no-return b h = elim (eqb_tells b 13) [
-  | inl same ↦ absurd (h.1 same.1)
-  | inr other ↦ other.0
-]
-
-plainly : (algos : Algos) (answer : List ℕ → Reply) (i : Item) → Listed algos answer i → Plainly (front i)
-plainly algos answer i h = let b = back algos answer [] [] i h (inl refl) in b.0
-
-abbrev NoReturn : ℕ → Type 0
-NoReturn b = (b == 13) ≡ false
-
-last-kept : (l : List ℕ) → All NoReturn l → (slice_index l (length l - 1) == 13) ≡ false
-last-kept l all = elim (cases_lt (length l - 1) (length l)) [
-  | inl within ↦ All-get_or NoReturn l (length l - 1) 0 within all
-  | inr past ↦ rw (get_or_past l (length l - 1) 0 past) refl
-]
-
-strip-kept : (l : List ℕ) → Plainly l → strip_carriage_return l ≡ l
-strip-kept l all =
-    cond-false (slice_index l (length l - 1) == 13) _ l
-    (last-kept l (All-weaker (λ b. (b ≢ 10) × (b ≢ 13)) NoReturn no-return l all))
-
-texts : (is : List Item) → flat_map text_of is ≡ flat_map (λ l. l ++ 10 ∷ []) (map front is)
-texts [] = refl
-texts (i ∷ is) = ap (λ t. text_of i ++ t) (texts is)
-
-no-newlines : (algos : Algos) (answer : List ℕ → Reply) (is : List Item) → All (Listed algos answer) is
-    → All NoNewline (map front is)
-no-newlines algos answer [] all = All-nil NoNewline
-no-newlines algos answer (i ∷ is) all = All-cons NoNewline (front i) (map front is)
-    (All-weaker (λ b. (b ≢ 10) × (b ≢ 13)) (λ b. (b == 10) ≡ false) no-newline (front i)
-    (plainly algos answer i (All-head (Listed algos answer) i is all)))
-    (no-newlines algos answer is (All-tail (Listed algos answer) i is all))
-
-strips : (algos : Algos) (answer : List ℕ → Reply) (is : List Item) → All (Listed algos answer) is
-    → map strip_carriage_return (map front is) ≡ map front is
-strips algos answer [] all = refl
-strips algos answer (i ∷ is) all =
-    ap (λ l. l ∷ map strip_carriage_return (map front is))
-    (strip-kept (front i) (plainly algos answer i (All-head (Listed algos answer) i is all)))
-    ∙ ap (λ ls. front i ∷ ls) (strips algos answer is (All-tail (Listed algos answer) i is all))
-
-abbrev whole : List Item → Content
-whole is = record { bytes = flat_map text_of is; ending = Whole }
-
-lines-are : (algos : Algos) (answer : List ℕ → Reply) (is : List Item) → All (Listed algos answer) is
-    → lines (whole is) ≡ map front is
-lines-are algos answer is all =
-    let make : List ℕ → Content = λ bytes. record { bytes = bytes; ending = Whole } in
-    let bytes : flat_map text_of is ≡ rejoined (map front is) [] = texts is ∙ sym (append-nil _) in
-    let cut : pieces (make (rejoined (map front is) [])) ≡ map front is ++ [] =
-    pieces-joined Whole (map front is) [] (no-newlines algos answer is all) (All-nil (λ b. (b == 10) ≡ false)) in
-    ap (map strip_carriage_return) (ap (λ b. pieces (make b)) bytes ∙ cut ∙ append-nil (map front is))
-    ∙ strips algos answer is all
+use Rattle.sum_engine.proofs.ListedLemmas.{Item, text_of, Listed, front, spelled, Steady, back, whole, lines-are}
 
 -- ---- each verdict is Right
 
+-- the name's file is given whole
 reply-is : (algos : Algos) (w : World) (i : Item) → Listed algos w.answer i
     → reply w i.name ≡ Given (record { bytes = i.bytes; ending = Whole })
 reply-is algos w i h = cond-false (is_dash i.name) (Given w.input) (w.answer i.name) h.no_dash ∙ h.content
 
+-- none of the other verdicts applies
 neither : (a b : Bool) (v : Verdict) → cond (a && false) Bad (cond (b && false) Missing v) ≡ v
 neither true true v = refl
 neither true false v = refl
 neither false true v = refl
 neither false false v = refl
 
+-- the kind that the line spells is the item's
 same-kind : (algos : Algos) (answer : List ℕ → Reply) (i : Item) → Listed algos answer i
     → kind_of (spelled i) ≡ i.kind
 same-kind algos answer i h =
     let make : ℕ → KindValue = λ n. record { algo = i.kind.algo; len = n } in
     ap make (length-digest i.kind i.bytes h.has)
 
+-- a digest is right against itself, and so is that of the file
 against-itself : (d : List ℕ) → against d (Ok d) ≡ Right
 against-itself d = rw ((bytes_eq-Decides d d).1 refl) refl
 
@@ -203,6 +70,7 @@ against-right algos answer i h =
     (clip-short c (subst (λ n. length i.bytes < n) limit-value h.fits))
     ∙ ap (λ k. against d (Ok (digest k i.bytes))) (same-kind algos answer i h) ∙ against-itself d
 
+-- so the verdict is Right
 verdict-right : (r : Rules) (w : World) (i : Item) → Listed r.settings.algo w.answer i
     → verdict_of r w (spelled i) ≡ Right
 verdict-right r w i h =
@@ -215,6 +83,7 @@ verdict-right r w i h =
     (reply-is r.settings.algo w i h)
     ∙ neither r.from_stdin missing _ ∙ against-right r.settings.algo w.answer i h
 
+-- the verdicts of items, numbered from n + 1
 abbrev right : ℕ → Item → Judged
 right n i = record { number = n; verdict = Right; name = i.name }
 
@@ -222,6 +91,7 @@ abbrev rights : ℕ → List Item → List Judged
 rights n [] = []
 rights n (i ∷ is) = right (n + 1) i ∷ rights (n + 1) is
 
+-- a written line is judged so
 judged : (r : Rules) (w : World) (n : ℕ) (f : Form) (i : Item) → Listed r.settings.algo w.answer i
     → Entry escape r.settings.algo f (front i) (spelled i)
     → judge r w n (says present r.settings.algo f (front i)) ≡ right n i
@@ -232,6 +102,7 @@ judged r w n f i h e =
     let make : Verdict → Judged = λ v. record { number = n; verdict = v; name = i.name } in
     ap (judge r w n) spells ∙ ap make (verdict-right r w i h)
 
+-- and all of them, each in the world that those before it leave
 right-verdicts : (r : Rules) (answer : List ℕ → Reply) (before : List (List ℕ)) (is : List Item) (w : World) (n : ℕ)
     → w.answer ≡ answer → Steady r.settings.algo before → All (Listed r.settings.algo answer) is
     → verdicts (now r) (form r.settings.algo (before ++ map front is)) w n (map front is) ≡ rights n is
@@ -254,15 +125,17 @@ right-verdicts r answer before (i ∷ is) w n e u all =
 
 -- ---- what is reported, and the end
 
-outs : (r : Rules) (n : ℕ) (is : List Item)
+-- what is reported: each name right, and nothing on the second output
+rights-out : (r : Rules) (n : ℕ) (is : List Item)
     → flat_map (out_of (now r)) (rights n is) ≡ flat_map (λ (i : Item). right_line r.settings.report i.name) is
-outs r n [] = refl
-outs r n (i ∷ is) = ap (λ t. right_line r.settings.report i.name ++ t) (outs r (n + 1) is)
+rights-out r n [] = refl
+rights-out r n (i ∷ is) = ap (λ t. right_line r.settings.report i.name ++ t) (rights-out r (n + 1) is)
 
-errs : (r : Rules) (n : ℕ) (is : List Item) → flat_map (err_of r) (rights n is) ≡ []
-errs r n [] = refl
-errs r n (i ∷ is) = errs r (n + 1) is
+rights-err : (r : Rules) (n : ℕ) (is : List Item) → flat_map (err_of r) (rights n is) ≡ []
+rights-err r n [] = refl
+rights-err r n (i ∷ is) = rights-err r (n + 1) is
 
+-- counted: as many are right as there are items, and none is anything else
 abbrev tick : Bool → ℕ
 tick b = cond b 1 0
 
@@ -282,9 +155,11 @@ count-none q n (i ∷ is) h =
     let no : tick (q Right) ≡ 0 = ap tick h in
     let rest = count-none q (n + 1) is h in omega (arith, more, no, rest)
 
+-- the counts of k right lines
 abbrev right_counts : ℕ → Counts
 right_counts k = record { right = k; wrong = 0; missing = 0; unread = 0; bad = 0 }
 
+-- so many they are
 counts-are : (n : ℕ) (is : List Item) → counts (rights n is) ≡ right_counts (length is)
 counts-are n is = rw (
   count-all is_right n is refl,
@@ -294,6 +169,7 @@ counts-are n is = rw (
   count-none is_bad n is refl,
 ) refl
 
+-- a summary has nothing to say of them
 not-zero : (k : ℕ) → (suc k == 0) ≡ false
 not-zero k = ne_eqb (suc k) 0 (λ e. omega (arith, e))
 
@@ -316,6 +192,7 @@ no-summary r k =
     ∙ ap (λ b. unless_status r.settings.report (cond (r.settings.ignore_missing && b) text [])) (not-zero k)
     ∙ ap (unless_status r.settings.report) (no-warning r.settings.ignore_missing text) ∙ silent r.settings.report
 
+-- and the list is good
 strictly : (b : Bool) → (not b || true) ≡ true
 strictly true = refl
 strictly false = refl
@@ -326,17 +203,20 @@ is-good r k =
 
 -- ---- the whole manifest
 
+-- what checking such a manifest comes to
 pub record Found (check : CheckSettings) (tool : List ℕ) (w : World) (manifest : List ℕ) (is : List Item) : Type 0 where
   pub good : (checked check tool w manifest).good ≡ true
   pub out : (checked check tool w manifest).out ≡ flat_map (λ (i : Item). right_line check.report i.name) is
   pub err : (checked check tool w manifest).err ≡ []
 
+-- the verdicts of its lines
 all-right : (r : Rules) (w : World) (is : List Item) → All (Listed r.settings.algo w.answer) is
     → all_verdicts (now r) w (whole is) ≡ rights 0 is
 all-right r w is all =
     ap (λ ls. verdicts (now r) (form r.settings.algo ls) w 0 ls) (lines-are r.settings.algo w.answer is all)
     ∙ right-verdicts r w.answer [] is w 0 refl (inl refl) all
 
+-- what checking it comes to, by these verdicts
 checked-is : (check : CheckSettings) (tool manifest : List ℕ) (w : World) (is : List Item)
     → All (Listed check.algo w.answer) is → length (flat_map text_of is) < limit → reply w manifest ≡ Given (whole is)
     → checked check tool w manifest ≡ checked_content (rules_of check tool manifest) manifest (whole is) (rights 0 is)
@@ -348,6 +228,7 @@ checked-is check tool manifest w is all fits given =
     (clip-short (whole is) (subst (λ n. length (flat_map text_of is) < n) limit-value fits))
     ∙ ap (checked_content r manifest (whole is)) (all-right r next is all)
 
+-- a manifest with at least one line is good, and each of its names is reported as right
 pub manifest_good : (check : CheckSettings) (tool manifest : List ℕ) (w : World) (is : List Item)
     → All (Listed check.algo w.answer) is → 0 < length is → length (flat_map text_of is) < limit
     → reply w manifest ≡ Given (whole is) → Found check tool w manifest is
@@ -358,9 +239,9 @@ manifest_good check tool manifest w (i ∷ is) all some fits given =
     let c : counts (rights 0 (i ∷ is)) ≡ right_counts (suc (length is)) = counts-are 0 (i ∷ is) in
     record {
       good = ap (λ (o : Outcome). o.good) here ∙ ap (good r Whole) c ∙ is-good r (length is);
-      out = ap (λ (o : Outcome). o.out) here ∙ outs r 0 (i ∷ is);
+      out = ap (λ (o : Outcome). o.out) here ∙ rights-out r 0 (i ∷ is);
       err =
           ap (λ (o : Outcome). o.err) here
-          ∙ ap (λ t. t ++ summary r (counts (rights 0 (i ∷ is)))) (errs r 0 (i ∷ is))
+          ∙ ap (λ t. t ++ summary r (counts (rights 0 (i ∷ is)))) (rights-err r 0 (i ∷ is))
           ∙ ap (summary r) c ∙ no-summary r (length is);
     }

@@ -26,6 +26,7 @@ use Rattle.sum_engine.proofs.CountLemmas.{counts_more}
 abbrev pub outs : Rules → List Judged → List ℕ
 outs r js = flat_map (out_of r) js
 
+-- their reports on the second output, and the names that they ask
 abbrev pub errs : Rules → List Judged → List ℕ
 errs r js = flat_map (err_of r) js
 
@@ -42,6 +43,7 @@ pub record Did (r : Rules) (c : Content) (s : Scene) (b : Now) (js : List Judged
   pub counts : b.counts ≡ counts js
   pub done : Does s b.scene (outs r js) (errs r js) (asks js)
 
+-- it begins with none
 pub did_none : (r : Rules) (c : Content) (s : Scene) → Did r c s (start c s) []
 did_none r c s = record {
   verdicts = refl;
@@ -53,6 +55,7 @@ did_none r c s = record {
   done = does_nothing s;
 }
 
+-- one more at the end of a list
 flat_one : {X A : Type 0} (f : X → List A) (xs : List X) (x : X) → flat_map f (xs ++ x ∷ []) ≡ flat_map f xs ++ f x
 flat_one f xs x = flat_map-append f xs (x ∷ []) ∙ ap (λ l. flat_map f xs ++ l) (append-nil (f x))
 
@@ -64,10 +67,10 @@ drop_next zero xs ys y h = ap (drop 1) h
 drop_next (suc k) [] ys y h = cc
 drop_next (suc k) (x ∷ xs) ys y h = drop_next k xs ys y h
 
-pub did_more : (r : Rules) (c : Content) (s : Scene) (b d : Now) (v : List ℕ) (js : List Judged) → Did r c s b js
-    → (h : Handles r b d v)
-    → Did r c s d (js ++ next_judged r b h.line ∷ [])
-did_more r c s b d v js p h =
+-- after one more line its verdict comes behind them
+pub did_more : {r : Rules} {c : Content} {s : Scene} {b d : Now} {v : List ℕ} {js : List Judged} → Did r c s b js
+    → (h : Handles r b d v) → Did r c s d (js ++ next_judged r b h.line ∷ [])
+did_more {r} {c} {s} {b} {d} {v} {js} p h =
     let j = next_judged r b h.line in
     let more = one_more js j in
     record {
@@ -80,36 +83,35 @@ did_more r c s b d v js p h =
       used = h.used ∙ p.used;
       counts = h.counts ∙ ap (λ x. counted x j.verdict) p.counts ∙ sym (counts_more js j);
       done = rw (flat_one (out_of r) js j, flat_one (err_of r) js j, flat_one asks_of js j)
-          (does_both s b.scene d.scene _ _ _ _ _ _ p.done h.done);
+          (does_both p.done h.done);
     }
 
--- no line is left
-pub all_done : (r : Rules) (c : Content) (s : Scene) (b : Now) (js : List Judged) → Did r c s b js
+-- once no line is left, they are all
+all_done : {r : Rules} {c : Content} {s : Scene} {b : Now} {js : List Judged} → Did r c s b js
     → lines_by r.profile b.rest ≡ [] → all_verdicts r s.world c ≡ js
-all_done r c s b js p none = p.verdicts ∙ ap (λ l. js ++ l) (rest_none r b none) ∙ append-nil js
+all_done {r} {c} {s} {b} {js} p none = p.verdicts ∙ ap (λ l. js ++ l) (rest_none r b none) ∙ append-nil js
 
-ending_is : (r : Rules) (c : Content) (s : Scene) (b : Now) (js : List Judged) → Did r c s b js
+-- the end to come is the manifest's
+ending_is : {r : Rules} {c : Content} {s : Scene} {b : Now} {js : List Judged} → Did r c s b js
     → b.rest.ending ≡ c.ending
-ending_is r c s b js p = ap (λ (x : Content). x.ending) p.rest ∙ past_ending (length js) c
+ending_is {c = c} {js = js} p = ap (λ (x : Content). x.ending) p.rest ∙ past_ending (length js) c
 
-pub did_end : (r : Rules) (c : Content) (s : Scene) (b z : Now) (js : List Judged) (x : Bool) → Did r c s b js
+-- the end leaves all that the manifest comes to
+pub did_end : {r : Rules} {c : Content} {s : Scene} {b z : Now} {js : List Judged} {x : Bool} → Did r c s b js
     → Ends r b z x →
     let vs = all_verdicts r s.world c in
-    (x ≡ good r c.ending (counts vs)) × Does s z.scene (outs r vs) (errs r vs ++ end_text r c.ending (counts vs))
-    (asks vs)
-did_end r c s b z js x p h =
-    let all = all_done r c s b js p h.lines in
-    let ending = ending_is r c s b js p in
-    let text : end_text r b.rest.ending b.counts ≡ end_text r c.ending (counts js) = ap
-    (λ e. end_text r e b.counts) ending ∙ ap (end_text r c.ending) p.counts in
-    let both = does_both s b.scene z.scene _ _ _ _ _ _ p.done h.done in
-    let does : Does s z.scene (outs r js) (errs r js ++ end_text r c.ending (counts js)) (asks js) =
-    subst (λ (t : List ℕ). Does s z.scene (outs r js) (errs r js ++ t) (asks js)) text
-    (subst (λ (t : List ℕ). Does s z.scene t (errs r js ++ end_text r b.rest.ending b.counts) (asks js))
-    (append-nil (outs r js))
-    (subst (λ (q : List (List ℕ)). Does s z.scene (outs r js ++ []) (errs r js ++ end_text r b.rest.ending b.counts) q)
-    (append-nil (asks js)) both)) in
-    rw all (h.answer ∙ ap (λ e. good r e b.counts) ending ∙ ap (good r c.ending) p.counts, does)
+    (x ≡ good r c.ending (counts vs))
+    × Does s z.scene (outs r vs) (errs r vs ++ end_text r c.ending (counts vs)) (asks vs)
+did_end {r} {c} {s} {b} {z} {js} p h =
+    let ending = ending_is p in
+    let text : end_text r b.rest.ending b.counts ≡ end_text r c.ending (counts js) =
+    ap (λ e. end_text r e b.counts) ending ∙ ap (end_text r c.ending) p.counts in
+    let both : Does s z.scene (outs r js ++ []) (errs r js ++ end_text r b.rest.ending b.counts) (asks js ++ []) =
+    does_both p.done h.done in
+    rw (all_done p h.lines) (
+      h.answer ∙ ap (λ e. good r e b.counts) ending ∙ ap (good r c.ending) p.counts,
+      rw (append-nil (outs r js), append-nil (asks js), text) at both,
+    )
 
 -- what the next step writes and asks begins what is left to write and to ask
 abbrev NextIn : Rules → Now → List ℕ → List (List ℕ) → Type 0
@@ -117,6 +119,7 @@ NextIn r b end ls = (o : List ℕ) × (e : List ℕ) × (q : List (List ℕ))
     × (outs r (rest_verdicts r b) ≡ next_out r b ls ++ o) × (errs r (rest_verdicts r b) ++ end ≡ next_err r b ls ++ e)
     × (asks (rest_verdicts r b) ≡ next_asks r b ls ++ q)
 
+-- whether there is a next line or not
 next_in : (r : Rules) (b : Now) (end : List ℕ) (ls : List (List ℕ)) → lines_by r.profile b.rest ≡ ls
     → (lines_by r.profile b.rest ≡ [] → end ≡ end_text r b.rest.ending b.counts) → NextIn r b end ls
 next_in r b end [] h is =
@@ -143,51 +146,52 @@ next_in r b end (l ∷ ls) h is =
       ap asks head,
     )
 
-pub did_cut : (r : Rules) (c : Content) (s : Scene) (b : Now) (z : Scene) (js : List Judged) → Did r c s b js
-    → Cut b.scene z (next_out r b (lines_by r.profile b.rest)) (next_err r b (lines_by r.profile b.rest))
-    (next_asks r b (lines_by r.profile b.rest)) →
+-- a step that was cut off leaves fronts of all that
+pub did_cut : {r : Rules} {c : Content} {s : Scene} {b : Now} {z : Scene} {js : List Judged} → Did r c s b js
+    → (let ls = lines_by r.profile b.rest in Cut b.scene z (next_out r b ls) (next_err r b ls) (next_asks r b ls)) →
     let vs = all_verdicts r s.world c in CutOff s z (outs r vs) (errs r vs ++ end_text r c.ending (counts vs)) (asks vs)
-did_cut r c s b z js p h =
+did_cut {r} {c} {s} {b} {z} {js} p h =
     let vs = all_verdicts r s.world c in
     let end = end_text r c.ending (counts vs) in
     let last : lines_by r.profile b.rest ≡ [] → end ≡ end_text r b.rest.ending b.counts = λ none.
-    ap (λ l. end_text r c.ending (counts l)) (all_done r c s b js p none) ∙ ap (end_text r c.ending) (sym p.counts)
-    ∙ ap (λ e. end_text r e b.counts) (sym (ending_is r c s b js p)) in
+    rw (all_done p none, p.counts, ending_is p) refl in
     let ls = lines_by r.profile b.rest in
     let n = next_in r b end ls refl last in
     let left = rest_verdicts r b in
-    let out : outs r vs ≡ outs r js ++ (next_out r b ls ++ n.0) = ap (outs r) p.verdicts
-    ∙ flat_map-append (out_of r) js left ∙ ap (λ l. outs r js ++ l) n.3 in
+    let out : outs r vs ≡ outs r js ++ (next_out r b ls ++ n.0) =
+    ap (outs r) p.verdicts ∙ flat_map-append (out_of r) js left ∙ ap (λ l. outs r js ++ l) n.3 in
     let err : errs r vs ++ end ≡ errs r js ++ (next_err r b ls ++ n.1) =
     ap (λ l. l ++ end) (ap (errs r) p.verdicts ∙ flat_map-append (err_of r) js left)
     ∙ append_assoc (errs r js) (errs r left) end ∙ ap (λ l. errs r js ++ l) n.4 in
     let asked : asks vs ≡ (asks js ++ next_asks r b ls) ++ n.2 =
     ap asks p.verdicts ∙ flat_map-append asks_of js left ∙ ap (λ l. asks js ++ l) n.5
     ∙ sym (append_assoc (asks js) (next_asks r b ls) n.2) in
-    (asks js ++ next_asks r b ls, n.2, asked, cut_after s b.scene z _ _ _ _ _ _ _ _ _ _ p.done h out err)
+    (asks js ++ next_asks r b ls, n.2, asked, cut_after n.0 n.1 p.done h out err)
 
--- the lines handled are the first so many
-pub did_some : (r : Rules) (c : Content) (s : Scene) (b : Now) (js : List Judged) → Did r c s b js
+-- they are the first so many of all
+pub did_some : {r : Rules} {c : Content} {s : Scene} {b : Now} {js : List Judged} → Did r c s b js
     → take (length js) (all_verdicts r s.world c) ≡ js
-did_some r c s b js p = ap (take (length js)) p.verdicts ∙ take_at js (rest_verdicts r b) (length js) refl
+did_some {r} {b = b} {js = js} p = ap (take (length js)) p.verdicts ∙ take_at js (rest_verdicts r b) (length js) refl
 
--- so many lines
-pub did_times : (r : Rules) (c : Content) (s : Scene) (a b : Now) (js : List Judged) (k : ℕ) → Did r c s a js
-    → HandledTimes r a b k
-    → (all : List Judged) × Did r c s b all × (length all ≡ length js + k)
+-- after so many lines there are as many more
+did_times : (r : Rules) (c : Content) (s : Scene) (a b : Now) (js : List Judged) (k : ℕ) → Did r c s a js
+    → HandledTimes r a b k → (all : List Judged) × Did r c s b all × (length all ≡ length js + k)
 did_times r c s a b js zero p h = (js, subst (λ (x : Now). Did r c s x js) (sym h) p, omega arith)
 did_times r c s a b js (suc k) p h =
     let j = next_judged r a h.2.line in
-    let more = did_times r c s h.0 b (js ++ j ∷ []) k (did_more r c s a h.0 h.1 js p h.2) h.3 in
+    let more = did_times r c s h.0 b (js ++ j ∷ []) k (did_more p h.2) h.3 in
     (more.0, more.1, omega (arith, more.2, one_more js j))
 
+-- ---- the laws of steps
+
+-- so many lines handled one after another leave the first so many reports
 pub steps_join : StepsJoin
 steps_join r c s b k h =
     let d = did_times r c s (start c s) b [] k (did_none r c s) h in
     let p = d.1 in
     let len : length d.0 ≡ k = omega (arith, d.2) in
-    let cut : take k (all_verdicts r s.world c) ≡ d.0 = ap (λ n. take n (all_verdicts r s.world c)) (sym len)
-    ∙ did_some r c s b d.0 p in
+    let cut : take k (all_verdicts r s.world c) ≡ d.0 =
+    ap (λ n. take n (all_verdicts r s.world c)) (sym len) ∙ did_some p in
     let rest : b.rest ≡ past_lines k c = p.rest ∙ ap (λ n. past_lines n c) len in
     record {
       rest = rest;
@@ -197,22 +201,23 @@ steps_join r c s b k h =
       done = rw cut p.done;
     }
 
+-- there are as many verdicts as lines
 length_verdicts : (r : Rules) (f : Form) (w : World) (n : ℕ) (ls : List (List ℕ))
     → length (verdicts r f w n ls) ≡ length ls
 length_verdicts r f w n [] = refl
 length_verdicts r f w n (l ∷ ls) =
     ap suc (length_verdicts r f (after w (asks_of (judge r w (n + 1) (says r.profile r.settings.algo f l)))) (n + 1) ls)
 
+-- the step that ends comes after all lines, and then all is written
 pub steps_end : StepsEnd
 steps_end r c s b z k x h e =
     let d = did_times r c s (start c s) b [] k (did_none r c s) h in
-    let all = all_done r c s b d.0 d.1 e.lines in
-    let end = did_end r c s b z d.0 x d.1 e in
-    let len : length (all_verdicts r s.world c) ≡ length (lines_by r.profile c) = length_verdicts r
-    (form r.settings.algo (lines_by r.profile c)) s.world 0 (lines_by r.profile c) in
-    (omega (arith, d.2, ap length all, len), end.0, end.1)
+    let end = did_end d.1 e in
+    let ls = lines_by r.profile c in
+    let len : length (all_verdicts r s.world c) ≡ length ls =
+    length_verdicts r (form r.settings.algo ls) s.world 0 ls in
+    (omega (arith, d.2, ap length (all_done d.1 e.lines), len), end.0, end.1)
 
+-- a step that was cut off leaves fronts
 pub steps_cut : StepsCut
-steps_cut r c s b z k h e =
-    let d = did_times r c s (start c s) b [] k (did_none r c s) h in
-    did_cut r c s b z.scene d.0 d.1 e
+steps_cut r c s b z k h e = did_cut (did_times r c s (start c s) b [] k (did_none r c s) h).1 e

@@ -10,6 +10,8 @@ pub mod JoinLemmas
 pub mod ManifestLemmas
 pub mod SaidLemmas
 pub mod SameFront
+pub mod ReturnLemmas
+pub mod ListedLemmas
 pub mod GoodLemmas
 pub mod OldNames
 pub mod OldVerdicts

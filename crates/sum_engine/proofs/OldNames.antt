@@ -15,9 +15,7 @@ use Rattle.sum_lines.specs.Entries as entries
 use Rattle.sum_lines.specs.Says.{Said, Nothing, Improper, Spells, says}
 use Rattle.sum_lines.proofs.SaysLemmas.{says_is}
 use Rattle.sum_engine.specs.OldVerdicts.{older, NoReturn, HasEscapedReturn, NoEscapedReturn}
-
-abbrev pub NotReturn : ℕ → Type 0
-NotReturn b = b ≢ 13
+use Rattle.sum_engine.proofs.ReturnLemmas.{NotReturn}
 
 -- ---- parts of what has no carriage return
 
@@ -32,6 +30,7 @@ all_right P (x ∷ xs) ys h = all_right P xs ys (All-tail P x (xs ++ ys) h)
 
 -- ---- the escape
 
+-- versions differ in the escape of a carriage return alone
 byte_same : (b : ℕ) → b ≢ 13 → escape_of older b ≡ escape_of present b
 byte_same b free = elim (eqb_tells b 13) [
   | inl same ↦ absurd (free same.1)
@@ -78,6 +77,7 @@ present_clean (b ∷ bs) none =
 abbrev CleanRaw : Bool → List ℕ → Type 0
 CleanRaw e raw = NoReturn raw × (e ≡ true → HasEscapedReturn raw → ⊥)
 
+-- a name that is spelled without one has none, by either escape
 present_name : (e : Bool) (raw name : List ℕ) → CleanRaw e raw → entries.Spells escape e raw name → NoReturn name
 present_name true raw name h s = present_clean name (subst (λ l. HasEscapedReturn l → ⊥) s.is (h.1 refl))
 present_name false raw name h s = subst NoReturn s.is h.0
@@ -87,6 +87,7 @@ older_name : (e : Bool) (raw name : List ℕ) → CleanRaw e raw → entries.Spe
 older_name true raw name h s = older_clean name (subst NoReturn s.is h.0)
 older_name false raw name h s = subst NoReturn s.is h.0
 
+-- a name without one is spelled alike by both escapes
 as_older : (e : Bool) (raw name : List ℕ) → NoReturn name → entries.Spells escape e raw name
     → entries.Spells (escape_by older) e raw name
 as_older e raw name free s =
@@ -99,6 +100,7 @@ as_present e raw name free s =
 
 -- ---- the raw name
 
+-- a blank or a star isn't escaped
 standard_first : (b : ℕ) → (b == 32 || b == 42) ≡ true → escape_of present b ≡ b ∷ []
 standard_first b h = elim (eqb_tells b 32) [
   | inl same ↦ rw same.1 refl
@@ -130,6 +132,7 @@ tagged_text algos line e kind d raw t free =
     (all_right NotReturn t.width _ (all_right NotReturn (tag kind.algo) _ (all_right NotReturn (mark e) _
     (all_right NotReturn t.blanks _ whole))))))
 
+-- the text behind a plain line's mark has none where the line has none
 plain_text : (algos : Algos) (line : List ℕ) (e : Bool) (kind : KindValue) (d tail : List ℕ)
     → Plain algos line e kind d tail → NoReturn line → NoReturn tail
 plain_text algos line e kind d tail t free =
@@ -137,6 +140,7 @@ plain_text algos line e kind d tail t free =
     All-tail NotReturn t.blank tail (all_right NotReturn t.digits (t.blank ∷ tail) (all_right NotReturn (mark e) _
     (all_right NotReturn t.blanks _ whole)))
 
+-- what an entry spells has none where its line has none: a tagged line, and a plain one
 tag_clean : (E : List ℕ → List ℕ) (algos : Algos) (line : List ℕ) (s : Spelled) → NoReturn line
     → NoEscapedReturn algos line → (t : ByTag E algos line s) → CleanRaw t.escaped t.raw
 tag_clean E algos line s free none t = (
@@ -155,6 +159,7 @@ tail_clean E algos f line s free none t = raw_clean f t.escaped t.tail t.raw (
 
 -- ---- the entry
 
+-- an entry by the present profile is one by the older, and the other way round
 entry_older : (algos : Algos) (f : Form) (line : List ℕ) (s : Spelled) → NoReturn line → NoEscapedReturn algos line
     → Entry escape algos f line s → NoReturn s.name × Entry (escape_by older) algos f line s
 entry_older algos f line s free none (i, inl t) =
@@ -200,6 +205,7 @@ entry_present algos f line s free none (i, inr t) =
 
 -- ---- what a line says
 
+-- what a line says names no carriage return
 abbrev pub CleanSaid : Said → Type 0
 CleanSaid Nothing = Unit {0}
 CleanSaid Improper = Unit {0}
@@ -210,6 +216,7 @@ ignored_same : (line : List ℕ) (q : Bool) → 0 < length line → ignored_by p
 ignored_same [] q some h = absurd (omega (arith, some))
 ignored_same (b ∷ bs) q some h = h
 
+-- a line without one says the same under both profiles, and names none
 pub says_same : (algos : Algos) (f : Form) (line : List ℕ) → NoReturn line → NoEscapedReturn algos line
     → 0 < length line → (says older algos f line ≡ says present algos f line) × CleanSaid (says present algos f line)
 says_same algos f line free none some = go (says present algos f line) refl

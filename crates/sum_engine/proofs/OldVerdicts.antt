@@ -1,12 +1,8 @@
 -- A manifest of the time of older versions is checked alike under both profiles.
-use Rattle.std.proofs.Common.{◌≡◌, ◌≢◌, ℕ, ◌+◌, ◌-◌, ◌<◌, ◌==◌, Bool, true, false, not, cond, List, [], ◌∷◌, ◌++◌, length, map, refl, ap, sym, ◌∙◌, inl, inr, subst, codes}
-use Rattle.std.specs.Prelude.{bytes_eq, slice_index, flat_map}
+use Rattle.std.proofs.Common.{◌≡◌, ◌≢◌, ℕ, ◌+◌, ◌<◌, ◌==◌, Bool, true, false, not, cond, List, [], ◌∷◌, ◌++◌, length, map, refl, ap, sym, ◌∙◌, subst, codes}
+use Rattle.std.specs.Prelude.{bytes_eq, flat_map}
 use Rattle.std.specs.List.{All, concat, slice_split, onto_first}
-use Rattle.std.specs.Str.Lines.{strip_carriage_return}
-use Rattle.std.proofs.lemmas.Bool.{cond-false, cases_lt}
-use Rattle.std.proofs.lemmas.Bool.Decides.{eqb_tells}
-use Rattle.std.proofs.lemmas.List.{get_or_past}
-use Rattle.std.proofs.lemmas.List.Elements.{All-nil, All-cons, All-head, All-tail, All-get_or, All-weaker}
+use Rattle.std.proofs.lemmas.List.Elements.{All-nil, All-cons, All-head, All-tail}
 use Rattle.digest_kinds.specs.declared.algo.Algos.{Algos}
 use Rattle.sum_sources.specs.declared.fault.Ending.{Ending}
 use Rattle.sum_sources.specs.declared.fault.Ending.TheVariants.{Whole, Broken}
@@ -32,10 +28,12 @@ use Rattle.sum_engine.specs.Reports.{name_line, said_of, hides, out_of, err_by, 
 use Rattle.sum_engine.specs.Checking.{checked_content}
 use Rattle.sum_engine.specs.OldVerdicts.{under, NoReturn, NoEscapedReturn, Old, SameChecks, OldVerdicts, OldOutcomes, OlderDiffers}
 use Rattle.sum_lines.proofs.SaysLemmas.{says_is}
-use Rattle.sum_engine.proofs.OldNames.{NotReturn, same_escape, CleanSaid, says_same}
+use Rattle.sum_engine.proofs.OldNames.{same_escape, CleanSaid, says_same}
+use Rattle.sum_engine.proofs.ReturnLemmas.{NotReturn, strips-kept}
 
 -- ---- the lines
 
+-- cutting a text without one gives pieces without one
 first_clean : (b : ℕ) (ls : List (List ℕ)) → b ≢ 13 → All NoReturn ls → All NoReturn (onto_first b ls)
 first_clean b [] free all =
     All-cons NoReturn (b ∷ []) [] (All-cons NotReturn b [] free (All-nil NotReturn)) (All-nil NoReturn)
@@ -53,6 +51,7 @@ split_clean (b ∷ bs) free =
     either_clean (b == 10) b (slice_split (λ b. b == 10) bs) (All-head NotReturn b bs free)
     (split_clean bs (All-tail NotReturn b bs free))
 
+-- nor has the last line one, nor any line of a content
 last_clean : (e : Ending) (piece : List ℕ) → NoReturn piece → All NoReturn (last_line e piece)
 last_clean Whole [] free = All-nil NoReturn
 last_clean Whole (b ∷ bs) free = All-cons NoReturn (b ∷ bs) [] free (All-nil NoReturn)
@@ -69,35 +68,13 @@ pieces_clean : (c : Content) → NoReturn c.bytes → All NoReturn (pieces c)
 unfolding pieces
 pieces_clean c free = lines_clean c.ending (slice_split (λ b. b == 10) c.bytes) (split_clean c.bytes free)
 
-abbrev Kept : ℕ → Type 0
-Kept b = (b == 13) ≡ false
-
-not_return : (b : ℕ) → b ≢ 13 → Kept b
-not_return b free = elim (eqb_tells b 13) [
-  | inl same ↦ absurd (free same.1)
-  | inr other ↦ other.0
-]
-
-last_kept : (l : List ℕ) → All Kept l → (slice_index l (length l - 1) == 13) ≡ false
-last_kept l all = elim (cases_lt (length l - 1) (length l)) [
-  | inl within ↦ All-get_or Kept l (length l - 1) 0 within all
-  | inr past ↦ rw (get_or_past l (length l - 1) 0 past) refl
-]
-
-strips : (ls : List (List ℕ)) → All NoReturn ls → ls ≡ map strip_carriage_return ls
-strips [] all = refl
-strips (l ∷ ls) all =
-    let kept : strip_carriage_return l ≡ l =
-    cond-false (slice_index l (length l - 1) == 13) _ l
-    (last_kept l (All-weaker NotReturn Kept not_return l (All-head NoReturn l ls all))) in
-    ap (λ x. x ∷ ls) (sym kept)
-    ∙ ap (λ xs. strip_carriage_return l ∷ xs) (strips ls (All-tail NoReturn l ls all))
-
+-- so the lines are the same
 lines_same : (c : Content) → NoReturn c.bytes → lines_by older c ≡ lines_by present c
-lines_same c free = strips (pieces c) (pieces_clean c free)
+lines_same c free = sym (strips-kept (pieces c) (pieces_clean c free))
 
 -- ---- the verdicts
 
+-- a line that says the same is judged alike
 judge_same : (r : Rules) (w : World) (n : ℕ) (x : Said) → judge (under older r) w n x ≡ judge (under present r) w n x
 judge_same r w n Nothing = refl
 judge_same r w n Improper = refl
@@ -107,6 +84,7 @@ judge_same r w n (Spells s) = refl
 abbrev CleanName : Judged → Type 0
 CleanName j = NoReturn j.name
 
+-- and what is judged names none
 judged_clean : (r : Rules) (w : World) (n : ℕ) (x : Said) → CleanSaid x → CleanName (judge r w n x)
 judged_clean r w n Nothing h = All-nil NotReturn
 judged_clean r w n Improper h = All-nil NotReturn
@@ -118,6 +96,7 @@ pub record Alike (algos : Algos) (line : List ℕ) : Type 0 where
   pub no_escape : NoEscapedReturn algos line
   pub some : 0 < length line
 
+-- the verdicts are the same
 verdicts_same : (r : Rules) (f : Form) (w : World) (n : ℕ) (ls : List (List ℕ)) → All (Alike r.settings.algo) ls
     → (verdicts (under older r) f w n ls ≡ verdicts (under present r) f w n ls)
     × All CleanName (verdicts (under present r) f w n ls)
@@ -139,6 +118,7 @@ verdicts_same r f w n (l ∷ ls) all =
 
 -- ---- what is written
 
+-- reports that name no carriage return are the same
 name_line_same : (name text : List ℕ) → NoReturn name → name_line older name text ≡ name_line present name text
 name_line_same name text free =
     ap (λ e. concat (mark (not (bytes_eq e name)) ∷ e ∷ codes ": " ∷ text ∷ codes "\n" ∷ []))
@@ -152,6 +132,7 @@ said_same Wrong name free = name_line_same name (codes "FAILED") free
 said_same Missing name free = refl
 said_same (Unread f) name free = name_line_same name (codes "FAILED open or read") free
 
+-- and so is all that is reported
 outs_same : (r : Rules) (js : List Judged) → All CleanName js
     → map (out_of (under older r)) js ≡ map (out_of (under present r)) js
 outs_same r [] all = refl
@@ -161,6 +142,7 @@ outs_same r (j ∷ js) all =
     ap (λ t. t ∷ map (out_of (under older r)) js) one
     ∙ ap (λ ts. out_of (under present r) j ∷ ts) (outs_same r js (All-tail CleanName j js all))
 
+-- the line of a fault, and what a line of the manifest adds to the second output
 fault_same : (tool name : List ℕ) (f : Fault) → NoReturn name
     → fault_line older tool name f ≡ fault_line present tool name f
 fault_same tool name f free = rw (same_escape name free) refl
@@ -174,6 +156,7 @@ err_same r n Wrong name own free = refl
 err_same r n Missing name own free = refl
 err_same r n (Unread f) name own free = fault_same r.tool name f free
 
+-- all that is written there
 errs_same : (r : Rules) (js : List Judged) → NoReturn r.shown → All CleanName js
     → map (err_of (under older r)) js ≡ map (err_of (under present r)) js
 errs_same r [] own all = refl
@@ -182,6 +165,7 @@ errs_same r (j ∷ js) own all =
     (err_same r j.number j.verdict j.name own (All-head CleanName j js all))
     ∙ ap (λ ts. err_of (under present r) j ∷ ts) (errs_same r js own (All-tail CleanName j js all))
 
+-- the summary, and whether the manifest is good
 end_same : (r : Rules) (e : Ending) (c : Counts) → NoReturn r.shown
     → end_text (under older r) e c ≡ end_text (under present r) e c
 end_same r Whole c own = rw (same_escape r.shown own) refl
@@ -193,10 +177,12 @@ good_same r (Broken f) c = refl
 
 -- ---- the law
 
+-- each line is alike
 alike : (algos : Algos) (ls : List (List ℕ)) → All NoReturn ls → All (NoEscapedReturn algos) ls
     → All (λ line. 0 < length line) ls → All (Alike algos) ls
 alike algos ls a b c = λ k d lt. record { no_byte = a k d lt; no_escape = b k d lt; some = c k d lt }
 
+-- the verdicts and reports of such a manifest are the same under both profiles
 pub old_verdicts : OldVerdicts
 old_verdicts r w c h =
     let old = under older r in
@@ -220,6 +206,7 @@ old_verdicts r w c h =
 
 -- ---- all that checking comes to
 
+-- texts joined by their list
 joined : {X : Type 0} (f : X → List ℕ) (xs : List X) → flat_map f xs ≡ concat (map f xs)
 joined f [] = refl
 joined f (x ∷ xs) = ap (λ l. f x ++ l) (joined f xs)
@@ -228,6 +215,7 @@ joined f (x ∷ xs) = ap (λ l. f x ++ l) (joined f xs)
 together : (f g : Judged → List ℕ) (js ks : List Judged) → map f js ≡ map g ks → flat_map f js ≡ flat_map g ks
 together f g js ks h = joined f js ∙ ap concat h ∙ sym (joined g ks)
 
+-- outcomes are the same that are the same part by part
 outcome_same : (a b : Outcome) → a.out ≡ b.out → a.err ≡ b.err → a.asks ≡ b.asks → a.good ≡ b.good → a ≡ b
 outcome_same a b o e q g =
     let make : List ℕ → List ℕ → List (List ℕ) → Bool → Outcome =
@@ -235,6 +223,7 @@ outcome_same a b o e q g =
     ap (λ w. make w a.err a.asks a.good) o ∙ ap (λ x. make b.out x a.asks a.good) e
     ∙ ap (λ y. make b.out b.err y a.good) q ∙ ap (make b.out b.err b.asks) g
 
+-- what such a content comes to is the same
 content_same : (r : Rules) (name : List ℕ) (w : World) (c : Content) → Old r c
     → checked_content (under older r) name c (all_verdicts (under older r) w c)
     ≡ checked_content (under present r) name c (all_verdicts (under present r) w c)
@@ -250,6 +239,7 @@ content_same r name w c h =
     (ap (λ l. l ++ end_text old c.ending (counts js)) errs ∙ ap (λ l. flat_map (err_of new) ks ++ l) s.end)
     (ap (λ x. name ∷ flat_map asks_of x) s.verdicts) s.good
 
+-- so is what its name comes to
 pub old_outcomes : OldOutcomes
 old_outcomes r name w (Refused f) own h =
     ap (λ (l : List ℕ). record { out = []; err = l; asks = name ∷ []; good = false }) (fault_same r.tool r.shown f own)
@@ -257,10 +247,12 @@ old_outcomes r name w (Given c) own h = content_same r name w (clip c) (h c refl
 
 -- ---- where the profiles differ
 
+-- an empty line is improper to older versions
 empty_line : (algos : Algos) (f : Form) → says older algos f [] ≡ Improper
 empty_line algos f =
     let is = says_is older algos f [] in is.improper.1 (refl, λ s e. let bad = e.0 in cc)
 
+-- the profiles do differ: a name with a carriage return, and an empty line
 pub older_differs : OlderDiffers
 unfolding pieces
 older_differs = (refl, refl, empty_line)

@@ -35,6 +35,7 @@ rest_head r a l ls h =
     ap (judge r w (n + 1)) (says_now r a l ls) in
     start ∙ ap (λ (j : Judged). j ∷ verdicts r f (after w (asks_of j)) (n + 1) ls) one
 
+-- no line is left, so no verdict
 pub rest_none : (r : Rules) (a : Now) → lines_by r.profile a.rest ≡ [] → rest_verdicts r a ≡ []
 rest_none r a h = ap (λ x. verdicts r (form_then a.form (form r.settings.algo x)) a.scene.world a.number x) h
 
@@ -59,6 +60,7 @@ pub past_next : (k : ℕ) (c : Content) → past_line (past_lines k c) ≡ past_
 past_next zero c = refl
 past_next (suc k) c = past_next k (past_line c)
 
+-- they end as the whole does
 pub past_ending : (k : ℕ) (c : Content) → (past_lines k c).ending ≡ c.ending
 past_ending zero c = refl
 past_ending (suc k) c = past_ending k (past_line c)

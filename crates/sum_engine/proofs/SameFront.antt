@@ -13,10 +13,11 @@ use Rattle.sum_lines.proofs.FormLemmas.{form_on, said_stays}
 abbrev running : Rules → World → ℕ → Form → List (List ℕ) → List Judged
 running r w n f [] = []
 running r w n f (l ∷ ls) =
-    judge r w (n + 1) (says r.profile r.settings.algo (form_then f (line_form r.settings.algo l)) l)
-    ∷ running r (after w (asks_of (judge r w (n + 1) (says r.profile r.settings.algo
-    (form_then f (line_form r.settings.algo l)) l)))) (n + 1) (form_then f (line_form r.settings.algo l)) ls
+    let here = form_then f (line_form r.settings.algo l) in
+    let j = judge r w (n + 1) (says r.profile r.settings.algo here l) in
+    j ∷ running r (after w (asks_of j)) (n + 1) here ls
 
+-- the verdicts of the first lines are these, whatever comes behind
 fronts : (r : Rules) (w : World) (n : ℕ) (f : Form) (front later : List (List ℕ)) →
     take (length front) (verdicts r (form_then f (form r.settings.algo (front ++ later))) w n
     (front ++ later)) ≡ running r w n f front
@@ -36,6 +37,7 @@ fronts r w n f (l ∷ ls) later =
 abbrev renamed : Rules → List ℕ → Rules
 renamed r other = record r { shown = other }
 
+-- nor has it in the judgement of one line
 judge_renamed : (r : Rules) (other : List ℕ) (w : World) (n : ℕ) (x : Said)
     → judge r w n x ≡ judge (renamed r other) w n x
 judge_renamed r other w n Nothing = refl
@@ -52,6 +54,7 @@ running_renamed r other w n f (l ∷ ls) =
     (judge_renamed r other w (n + 1) (says r.profile r.settings.algo here l))
     ∙ ap (λ xs. j ∷ xs) (running_renamed r other (after w (asks_of j)) (n + 1) here ls)
 
+-- so the first verdicts don't depend on the lines behind, nor on the manifest's name
 pub same_verdicts : SameVerdicts
 same_verdicts r other w front later others =
     fronts r w 0 Undecided front later ∙ running_renamed r other w 0 Undecided front

@@ -1,5 +1,5 @@
 -- One step of a checker, by what its parts did.
-use Rattle.std.proofs.Common.{◌≡◌, ℕ, ◌+◌, ◌≤◌, ◌||◌, Bool, List, [], length, Option, None, Some, Ok, Err, refl, ap, sym, ◌∙◌}
+use Rattle.std.proofs.Common.{◌≡◌, ℕ, ◌+◌, ◌≤◌, ◌||◌, List, [], length, Option, None, Some, Ok, Err}
 use Rattle.std.specs.List.{list_any}
 use Rattle.std.specs.Io.KnownBytes.{Appends}
 use Rattle.sum_sources.specs.declared.fault.Fault.{Fault}
@@ -7,122 +7,163 @@ use Rattle.sum_sources.specs.declared.lines.Next.TheVariants.{Line, NoMore}
 use Rattle.sum_sources.specs.declared.lines.LineStop.TheVariants as line_stops
 use Rattle.sum_sources.specs.Contents.{Content, WhereTold}
 use Rattle.sum_sources.specs.ManifestLines.{LineOf}
-use Rattle.sum_lines.specs.declared.line_reading.Form.{Form}
 use Rattle.sum_lines.specs.Entries.{form_then, line_form}
-use Rattle.sum_lines.specs.Sinks.{AppendsFront}
 use Rattle.sum_engine.specs.declared.progress.Progress.TheVariants.{Going}
 use Rattle.sum_engine.specs.declared.stop.Stop.{Stop}
 use Rattle.sum_engine.specs.declared.stop.Stop.TheVariants.{Memory, Write}
 use Rattle.sum_engine.specs.declared.summary.Counts.{Counts}
 use Rattle.sum_engine.specs.declared.verdict.Judgement.{Judgement}
-use Rattle.sum_engine.specs.Worlds.{World, is_dash}
+use Rattle.sum_engine.specs.Worlds.{is_dash}
 use Rattle.sum_lines.specs.Profiles.{present}
 use Rattle.sum_engine.specs.Generation.{fault_line}
 use Rattle.sum_lines.specs.Says.{Said, says}
-use Rattle.sum_engine.specs.Verdicts.{Rules, judge}
+use Rattle.sum_engine.specs.Verdicts.{Rules}
 use Rattle.sum_engine.specs.Reports.{out_by, err_by, counted, summary}
-use Rattle.sum_engine.specs.Scenes.{Scene, scene_by, AppendsUpTo}
+use Rattle.sum_engine.specs.Scenes.{Scene, Cut, AppendsUpTo}
 use Rattle.sum_engine.specs.joins.Judging.{JudgeGives, judgement_asks}
-use Rattle.sum_engine.specs.Steps.{now_by, StepGives, HandleGives}
-use Rattle.sum_engine.proofs.WorldLemmas.{after-none}
-use Rattle.sum_engine.proofs.SceneLemmas.{none_yet, front_of}
+use Rattle.sum_engine.specs.Steps.{Now, now_by, StepGives, HandleGives}
+use Rattle.sum_sources.proofs.ToldLemmas.{WhereTold-both}
+use Rattle.sum_engine.proofs.SceneLemmas.{Seen, seen, seen-told}
+use Rattle.sum_lines.specs.declared.line_reading.Form.{Form}
+use Rattle.sum_engine.specs.declared.checker.Checker.{Checker}
+use Rattle.sum_sources.specs.joins.LineReading.{coming, bytes_used, lines_given}
 
--- the line's number, verdict and name, as the definitions have them
-judged_as : (r : Rules) (f : Form) (line : List ℕ) (n : ℕ) (w : World) (x : Said) (j : Judgement) →
-    ((m : ℕ) → judge r w m x ≡ record { number = m; verdict = j.verdict; name = j.name.now })
-    → x ≡ says r.profile r.settings.algo f line
-    → judge r w n (says r.profile r.settings.algo f line) ≡ record
-    { number = n; verdict = j.verdict; name = j.name.now }
-judged_as r f line n w x j h is = ap (judge r w n) (sym is) ∙ h n
+-- ---- one line was handled
 
-pub handled : {A : Type 0} (r : Rules) (f : Form) (line : List ℕ) (n : ℕ) (c d : Counts) (w v : Option World)
-    (t t' : Bool) (o o' e e' : Option (List ℕ)) (x : Said) (j : Judgement) (u : A) →
-    JudgeGives r w v x (Some j) → x ≡ says r.profile r.settings.algo f line
-    → t' ≡ t || list_any is_dash (judgement_asks j) → d ≡ counted c j.verdict
-    → Appends o o' (out_by r.profile r.settings.report j.verdict j.name.now)
-    → Appends e e' (err_by r n j.verdict j.name.now)
-    → HandleGives r f line n c d (scene_by w t o e) (scene_by v t' o' e') (Ok u)
-handled r f line n c d None v t t' o o' e e' x j u h is taken count out err = tt
-handled r f line n c d (Some w) None t t' o o' e e' x j u h is taken count out err = absurd h
-handled r f line n c d (Some w) (Some v) t t' o o' e e' x j u h is taken count out err =
-    rw (judged_as r f line n w x j h.0 is) (count, record { world = h.1; taken = taken; out = out; err = err })
+-- its report was written, it was counted, and its name was asked
+pub handled : (r : Rules) (said : Said) (n : ℕ) (c d : Counts) (a b : Seen) (j : Judgement)
+    → JudgeGives r a.world b.world said (Some j) → b.taken ≡ a.taken || list_any is_dash (judgement_asks j)
+    → d ≡ counted c j.verdict → Appends a.out b.out (out_by r.profile r.settings.report j.verdict j.name.now)
+    → Appends a.err b.err (err_by r n j.verdict j.name.now)
+    → HandleGives {A = Unit {0}} r said n c d (seen a) (seen b) (Ok tt)
+handled r said n c d a b j h taken count out err = seen-told a b _ h (λ w v judged.
+    rw (judged.0 n) (count, record { world = judged.1; taken = taken; out = out; err = err }))
 
-pub handling_cut : (A : Type 0) (r : Rules) (f : Form) (line : List ℕ) (n : ℕ) (c d : Counts) (w v : Option World)
-    (t t' : Bool) (o o' e e' : Option (List ℕ)) (x : Said) (j : Judgement) →
-    JudgeGives r w v x (Some j) → x ≡ says r.profile r.settings.algo f line
-    → AppendsUpTo o o' (out_by r.profile r.settings.report j.verdict j.name.now)
-    → AppendsUpTo e e' (err_by r n j.verdict j.name.now)
-    → HandleGives {A = A} r f line n c d (scene_by w t o e) (scene_by v t' o' e') (Err Write)
-handling_cut A r f line n c d None v t t' o o' e e' x j h is out err = tt
-handling_cut A r f line n c d (Some w) None t t' o o' e e' x j h is out err = absurd h
-handling_cut A r f line n c d (Some w) (Some v) t t' o o' e e' x j h is out err =
-    rw (judged_as r f line n w x j h.0 is) (record { world = h.1; out = out; err = err })
+-- fronts of its report were written
+pub handling_cut : (r : Rules) (said : Said) (n : ℕ) (c d : Counts) (a b : Seen) (j : Judgement)
+    → JudgeGives r a.world b.world said (Some j)
+    → AppendsUpTo a.out b.out (out_by r.profile r.settings.report j.verdict j.name.now)
+    → AppendsUpTo a.err b.err (err_by r n j.verdict j.name.now)
+    → HandleGives {A = Unit {0}} r said n c d (seen a) (seen b) (Err Write)
+handling_cut r said n c d a b j h out err = seen-told a b _ h (λ w v judged.
+    rw (judged.0 n) (record { world = judged.1; out = out; err = err }))
+
+-- ---- where a checker stands
+
+-- a place whose content or scene may not tell
+pub record Standing : Type 0 where
+  pub rest : Option Content
+  pub number : ℕ
+  pub used : ℕ
+  pub form : Form
+  pub counts : Counts
+  pub scene : Option Scene
+
+abbrev pub stands : Standing → Option Now
+stands a = now_by a.rest a.number a.used a.form a.counts a.scene
+
+-- that of a checker, at a scene
+abbrev pub standing_of : {I : Type 0} → (I → Option Content) → Checker I → Option Scene → Standing
+standing_of content s scene = record {
+  rest = coming content s.reader;
+  number = lines_given s.reader;
+  used = bytes_used s.reader;
+  form = s.form;
+  counts = s.counts;
+  scene = scene;
+}
+
+-- the place, once its content and its scene are known
+abbrev pub stands_at : Standing → Content → Scene → Now
+stands_at a c s =
+    record { rest = c; number = a.number; used = a.used; form = a.form; counts = a.counts; scene = s }
+
+-- the next, by contents and scenes themselves
+stands_by : (x y : Option Content) (s t : Option Scene) (a b : Standing) {P : Content → Content → Type 0}
+    {Q : Scene → Scene → Type 0} (R : Now → Now → Type 0) → WhereTold x y P → WhereTold s t Q
+    → ((c d : Content) (s t : Scene) → P c d → Q s t → R (stands_at a c s) (stands_at b d t))
+    → WhereTold (stands (record a { rest = x; scene = s })) (stands (record b { rest = y; scene = t })) R
+stands_by None y s t a b R h k f = tt
+stands_by (Some c) y None t a b R h k f = tt
+stands_by (Some c) None (Some s) t a b R h k f = absurd h
+stands_by (Some c) (Some d) (Some s) None a b R h k f = absurd k
+stands_by (Some c) (Some d) (Some s) (Some t) a b R h k f = f c d s t h k
+
+-- what follows of two places from what holds of their contents and of their scenes, where these tell
+pub stands-told : (a b : Standing) {P : Content → Content → Type 0} {Q : Scene → Scene → Type 0}
+    (R : Now → Now → Type 0) → WhereTold a.rest b.rest P → WhereTold a.scene b.scene Q
+    → ((c d : Content) (s t : Scene) → P c d → Q s t → R (stands_at a c s) (stands_at b d t))
+    → WhereTold (stands a) (stands b) R
+stands-told a b R h k f = stands_by a.rest b.rest a.scene b.scene a b R h k f
+
+-- the next likewise
+scene_by_stands : (d : Option Content) (z : Option Scene) (a : Now) (s : Scene) (b : Standing)
+    (P : Now → Now → Type 0) (R : Scene → Scene → Type 0)
+    → WhereTold (Some a) (stands (record b { rest = d; scene = z })) P
+    → ((d : Content) (z : Scene) → P a (stands_at b d z) → R s z) → WhereTold (Some s) z R
+scene_by_stands None z a s b P R h f = absurd h
+scene_by_stands (Some d) None a s b P R h f = absurd h
+scene_by_stands (Some d) (Some z) a s b P R h f = f d z h
+
+-- what follows of the scene alone
+pub stands-scene : (a : Now) (s : Scene) (b : Standing) (P : Now → Now → Type 0) (R : Scene → Scene → Type 0)
+    → WhereTold (Some a) (stands b) P → ((d : Content) (z : Scene) → P a (stands_at b d z) → R s z)
+    → WhereTold (Some s) b.scene R
+stands-scene a s b P R h f = scene_by_stands b.rest b.scene a s b P R h f
+
+-- ---- a step, by what the reader answered
 
 -- the same rules at the present profile
 abbrev pub now : Rules → Rules
 now r = record { profile = present; settings = r.settings; tool = r.tool; shown = r.shown; from_stdin = r.from_stdin }
 
--- a step, by what the reader answered: a line was handled
-pub step_line : {A : Type 0} (r : Rules) (cc dd : Option Content) (f : Form) (n m u v : ℕ) (c d : Counts)
-    (a b : Option Scene) (line held : List ℕ) (x : A) →
-    WhereTold cc dd (λ c d. LineOf c d (Ok Line) line) → WhereTold cc dd
-    (λ c d. v + length d.bytes ≡ u + length c.bytes) → m ≡ n + 1 → length held ≤ length line
-    → HandleGives (now r) (form_then f (line_form r.settings.algo line)) line m c d a b (Ok x)
-    → StepGives (now r) (now_by cc n u f c a) (now_by dd m v (form_then f (line_form r.settings.algo line)) d b) held
-    (Ok Going)
-step_line r None dd f n m u v c d a b line held x g used is few h = tt
-step_line r (Some p) dd f n m u v c d None b line held x g used is few h = tt
-step_line r (Some p) None f n m u v c d (Some a) b line held x g used is few h = absurd g
-step_line r (Some p) (Some q) f n m u v c d (Some a) None line held x g used is few h = absurd h
-step_line r (Some p) (Some q) f n m u v c d (Some a) (Some b) line held x g used is few h =
-    let done = rw is at h in
-    record {
+-- what a line says, read at that place
+abbrev said_at : Rules → Standing → List ℕ → Said
+said_at r a line = says present r.settings.algo (form_then a.form (line_form r.settings.algo line)) line
+
+-- a line, which was handled
+pub step_line : (r : Rules) (a b : Standing) (line held : List ℕ)
+    → WhereTold a.rest b.rest (λ c d. LineOf c d (Ok Line) line)
+    → WhereTold a.rest b.rest (λ c d. b.used + length d.bytes ≡ a.used + length c.bytes)
+    → b.number ≡ a.number + 1 → b.form ≡ form_then a.form (line_form r.settings.algo line)
+    → length held ≤ length line
+    → HandleGives {A = Unit {0}} (now r) (said_at r a line) b.number a.counts b.counts a.scene b.scene (Ok tt)
+    → StepGives (now r) (stands a) (stands b) held (Ok Going)
+step_line r a b line held came used number form few h =
+    let Took : Content → Content → Type 0 =
+    λ c d. LineOf c d (Ok Line) line × (b.used + length d.bytes ≡ a.used + length c.bytes) in
+    let took = WhereTold-both a.rest b.rest {R = Took} (λ c d came used. (came, used)) came used in
+    stands-told a b {P = Took} _ took h (λ c d s t took done. let done' = rw number at done in record {
       line = line;
-      lines = g.0;
-      rest = g.1;
-      used = used;
-      number = is;
-      form = refl;
-      counts = done.0;
-      done =
-          done.1;
+      lines = took.0.0;
+      rest = took.0.1;
+      used = took.1;
+      number = number;
+      form = form;
+      counts = done'.0;
+      done = done'.1;
       held = few;
-    }
+    })
 
--- a line was not handled to its end
-pub step_line_stop : (A : Type 0) (r : Rules) (cc dd : Option Content) (f : Form) (n m u v : ℕ) (c d : Counts)
-    (a b : Option Scene) (line held : List ℕ) (stop : Stop) →
-    WhereTold cc dd (λ c d. LineOf c d (Ok Line) line) → m ≡ n + 1
-    → HandleGives {A = A} (now r) (form_then f (line_form r.settings.algo line)) line m c d a b (Err stop)
-    → StepGives (now r) (now_by cc n u f c a) (now_by dd m v (form_then f (line_form r.settings.algo line)) d b) held
-    (Err stop)
-step_line_stop A r None dd f n m u v c d a b line held stop g is h = tt
-step_line_stop A r (Some p) dd f n m u v c d None b line held stop g is h = tt
-step_line_stop A r (Some p) None f n m u v c d (Some a) b line held stop g is h = absurd g
-step_line_stop A r (Some p) (Some q) f n m u v c d (Some a) None line held stop g is h = absurd h
-step_line_stop A r (Some p) (Some q) f n m u v c d (Some a) (Some b) line held Write g is h =
-    let done = rw is at h in rw g.0 done
-step_line_stop A r (Some p) (Some q) f n m u v c d (Some a) (Some b) line held Memory g is h = h
+-- a line, whose handling stopped
+pub step_line_stop : (r : Rules) (a b : Standing) (line held : List ℕ) (stop : Stop)
+    → WhereTold a.rest b.rest (λ c d. LineOf c d (Ok Line) line) → b.number ≡ a.number + 1
+    → HandleGives {A = Unit {0}} (now r) (said_at r a line) b.number a.counts b.counts a.scene b.scene (Err stop)
+    → StepGives (now r) (stands a) (stands b) held (Err stop)
+step_line_stop r a b line held Write came number h = stands-told a b _ came h (λ c d s t took cut.
+    let cut' = rw number at cut in rw took.0 cut')
+step_line_stop r a b line held Memory came number h = stands-told a b _ came h (λ c d s t took same. same)
 
--- the summary was cut off
-pub step_end_cut : (r : Rules) (cc dd : Option Content) (f : Form) (n m u v : ℕ) (c : Counts) (w : Option World)
-    (t : Bool) (o e e' : Option (List ℕ)) (line held : List ℕ) →
-    WhereTold cc dd (λ c d. LineOf c d (Ok NoMore) line) → AppendsFront e e' (summary (now r) c)
-    → StepGives (now r) (now_by cc n u f c (scene_by w t o e)) (now_by dd m v f c (scene_by w t o e')) held (Err Write)
-step_end_cut r None dd f n m u v c w t o e e' line held g h = tt
-step_end_cut r (Some p) dd f n m u v c None t o e e' line held g h = tt
-step_end_cut r (Some p) None f n m u v c (Some w) t o e e' line held g h = absurd g
-step_end_cut r (Some p) (Some q) f n m u v c (Some w) t o e e' line held g h =
-    rw (g.0, g.1) (record { world = after-none w; out = none_yet o []; err = front_of e e' _ h })
+-- the end, whose summary was cut off
+pub step_end_cut : (r : Rules) (a b : Standing) (line held : List ℕ)
+    → WhereTold a.rest b.rest (λ c d. LineOf c d (Ok NoMore) line)
+    → WhereTold a.scene b.scene (λ s t. Cut s t [] (summary (now r) a.counts) [])
+    → StepGives (now r) (stands a) (stands b) held (Err Write)
+step_end_cut r a b line held came h = stands-told a b _ came h (λ c d s t took cut. rw (took.0, took.1) cut)
 
--- the line of the manifest's fault was cut off
-pub step_fault_cut : (r : Rules) (cc dd : Option Content) (f : Form) (n m u v : ℕ) (c : Counts) (w : Option World)
-    (t : Bool) (o e e' : Option (List ℕ)) (line held : List ℕ) (x : Fault) →
-    WhereTold cc dd (λ c d. LineOf c d (Err (line_stops.Fault x)) line)
-    → AppendsFront e e' (fault_line present r.tool r.shown x)
-    → StepGives (now r) (now_by cc n u f c (scene_by w t o e)) (now_by dd m v f c (scene_by w t o e')) held (Err Write)
-step_fault_cut r None dd f n m u v c w t o e e' line held x g h = tt
-step_fault_cut r (Some p) dd f n m u v c None t o e e' line held x g h = tt
-step_fault_cut r (Some p) None f n m u v c (Some w) t o e e' line held x g h = absurd g
-step_fault_cut r (Some p) (Some q) f n m u v c (Some w) t o e e' line held x g h =
-    rw (g.0, g.1) (record { world = after-none w; out = none_yet o []; err = front_of e e' _ h })
+-- a fault of the manifest, whose line was cut off
+pub step_fault_cut : (r : Rules) (a b : Standing) (line held : List ℕ) (f : Fault)
+    → WhereTold a.rest b.rest (λ c d. LineOf c d (Err (line_stops.Fault f)) line)
+    → WhereTold a.scene b.scene (λ s t. Cut s t [] (fault_line present r.tool r.shown f) [])
+    → StepGives (now r) (stands a) (stands b) held (Err Write)
+step_fault_cut r a b line held f came h = stands-told a b _ came h (λ c d s t took cut. rw (took.0, took.1) cut)

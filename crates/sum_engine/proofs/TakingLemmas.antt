@@ -5,6 +5,7 @@ use Rattle.std.specs.List.{list_any}
 use Rattle.std.specs.Option.{option_map}
 use Rattle.std.proofs.lemmas.Bool.{false≢true}
 use Rattle.std.proofs.lemmas.List.Folds.{list_any-append}
+use Rattle.std.proofs.Math.Bool.{or_assoc}
 use Rattle.sum_sources.specs.declared.fault.Fault.{Fault}
 use Rattle.sum_sources.specs.declared.lines.Next.TheVariants.{Line}
 use Rattle.sum_sources.specs.Contents.{Content, WhereTold, clip}
@@ -29,6 +30,7 @@ use Rattle.sum_lines.proofs.FormLemmas.{form_on, said_stays}
 
 -- ---- the names that lines ask
 
+-- whichever of two verdicts it is
 asks_if : (b : Bool) (x y : Verdict) (name : List ℕ) (q : List (List ℕ)) → asks_by y name ≡ q
     → asks_by (cond b x y) name ≡ cond b (asks_by x name) q
 asks_if true x y name q h = refl
@@ -38,6 +40,7 @@ same_if : {X : Type 0} (b : Bool) (x : X) → cond b x x ≡ x
 same_if true x = refl
 same_if false x = refl
 
+-- an entry that is compared asks its name
 against_asks : (d name : List ℕ) (x : Result (List ℕ) Fault) → asks_by (against d x) name ≡ name ∷ []
 against_asks d name (Ok found) = asks_if _ Right Wrong name (name ∷ []) refl ∙ same_if _ (name ∷ [])
 against_asks d name (Err f) = refl
@@ -55,6 +58,7 @@ judge_asks r w n (Spells s) =
     ∙ same_if missing (name ∷ []) in
     asks_if (r.from_stdin && is_dash name) Bad (cond missing Missing found) name (name ∷ []) asked
 
+-- the names that the lines of a manifest ask
 pub verdicts_ask : (r : Rules) (f : Form) (w : World) (n : ℕ) (ls : List (List ℕ))
     → flat_map asks_of (verdicts r f w n ls) ≡ lines_ask r f ls
 verdicts_ask r f w n [] = refl
@@ -65,10 +69,6 @@ verdicts_ask r f w n (l ∷ ls) =
     ∙ ap (λ q. said_asks r x ++ q) (verdicts_ask r f (after w (asks_of j)) (n + 1) ls)
 
 -- ---- one step
-
-or_more : (a b c : Bool) → (a || b) || c ≡ a || (b || c)
-or_more true b c = refl
-or_more false b c = refl
 
 -- the first line to come, and the others
 asks_next : (r : Rules) (f : Form) (c d : Content) (l : List ℕ) → lines c ≡ l ∷ lines d
@@ -87,6 +87,7 @@ asks_next r f c d l is =
     (said_stays present algo f (form algo ls) l)
     ∙ list_any-append is_dash first (lines_ask (now r) all ls)
 
+-- a line was read and handled
 line_by : (r : Rules) (x y : Option Content) (f : Form) (line : List ℕ) (t t' : Bool)
     → WhereTold x y (λ c d. LineOf c d (Ok Line) line)
     → t' ≡ t || list_any is_dash
@@ -99,20 +100,20 @@ line_by r (Some c) (Some d) f line t t' h is =
     let here = form_then f (line_form r.settings.algo line) in
     let more = asks_stdin (now r) here d in
     let first = list_any is_dash (said_asks (now r) (says present r.settings.algo here line)) in
-    ap (λ b. Some (b || more)) is ∙ ap Some (or_more t first more ∙ ap (λ b. t || b) (sym (asks_next r f c d line h.0)))
+    ap (λ b. Some (b || more)) is
+    ∙ ap Some (or_assoc t first more ∙ ap (λ b. t || b) (sym (asks_next r f c d line h.0)))
 
--- a line was read and handled; the rules stayed, and the form is one line on
+-- the same, by what the checker says of itself then: its rules stayed, its manifest is the reader's, and its form is
+-- one line on
 pub stdin_line : (r s : Rules) (x y z : Option Content) (f g : Form) (line : List ℕ) (t t' : Bool) → s ≡ now r → z ≡ y
     → g ≡ form_then f (line_form r.settings.algo line) → WhereTold x y (λ c d. LineOf c d (Ok Line) line)
     → t' ≡ t || list_any is_dash
     (said_asks (now r) (says present r.settings.algo (form_then f (line_form r.settings.algo line)) line))
     → StdinOf (stdin_by (now r) f x t) (stdin_by s g z t') t' (Ok Going)
 stdin_line r s x y z f g line t t' rules same on h is =
-    let Q : Option Bool → Type 0 = λ o. StdinOf (stdin_by (now r) f x t) o t' (Ok Going) in
-    let all : stdin_by s g z t' ≡ stdin_by (now r) (form_then f (line_form r.settings.algo line)) y t' =
-    ap (λ v. stdin_by v g z t') rules ∙ ap (λ v. stdin_by (now r) v z t') on
-    ∙ ap (λ v. stdin_by (now r) (form_then f (line_form r.settings.algo line)) v t') same in
-    subst Q (sym all) (line_by r x y f line t t' h is)
+    let here : stdin_by s g z t' ≡ stdin_by (now r) (form_then f (line_form r.settings.algo line)) y t' =
+    rw (rules, on, same) refl in
+    subst (λ o. StdinOf (stdin_by (now r) f x t) o t' (Ok Going)) (sym here) (line_by r x y f line t t' h is)
 
 -- ---- a whole manifest
 
@@ -121,6 +122,7 @@ abbrev pub Steady : Option Bool → Option Bool → Type 0
 Steady None here = Unit {0}
 Steady (Some b) here = here ≡ Some b
 
+-- so it is at the beginning, after each step, and at the end
 pub steady_start : (r s : Rules) (x : Option Content) (t : Bool) (here : Option Bool) → s ≡ r
     → here ≡ stdin_by s Undecided x t → Steady (stdin_by r Undecided x t) here
 steady_start r s None t here rules is = tt
@@ -143,6 +145,7 @@ abbrev file_rules : CheckSettings → List ℕ → List ℕ → Bool → Rules
 file_rules settings tool name b =
     record { profile = present; settings = settings; tool = tool; shown = name; from_stdin = b }
 
+-- whether a file's lines ask standard input is whether checking it does
 file_asks : (settings : CheckSettings) (tool name : List ℕ) (w : World) (c : Content) → is_dash name ≡ false
     → w.answer name ≡ Given c
     → asks_stdin (file_rules settings tool name false) Undecided (clip c) ≡ list_any is_dash
@@ -162,10 +165,12 @@ file_asks settings tool name w c d is =
     let other : list_any is_dash (lines_ask r f ls) ≡ by (is_dash name) = refl in
     sym (all ∙ ap (λ b. b || list_any is_dash (flat_map asks_of (verdicts r f v 0 ls))) d ∙ asks ∙ other ∙ ap by d)
 
+-- a name that is not `-` takes nothing
 or_no : (a b : Bool) → b ≡ false → a || b ≡ true → a ≡ true
 or_no true b d h = refl
 or_no false b d h = absurd (false≢true (sym d ∙ h))
 
+-- so standard input is taken exactly where checking that file asks it
 file_taken : {F : Type 0} (content : F → Option Content) (settings : CheckSettings) (tool name : List ℕ)
     (s t : Option Telling) (file : F) (before taken : Bool) → is_dash name ≡ false
     → OpenGives content s t name (Ok file) → (before ≡ true → taken ≡ true)

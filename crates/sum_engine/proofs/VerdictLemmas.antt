@@ -1,31 +1,33 @@
 -- The verdict of an entry, by what came of asking its name.
-use Rattle.std.proofs.Common.{◌≡◌, ℕ, ◌&&◌, Bool, true, false, cond, List, [], ◌∷◌, Option, None, Some, Result, Ok, Err, refl, ap, sym, ◌∙◌}
+use Rattle.std.proofs.Common.{◌≡◌, ℕ, ◌&&◌, Bool, true, false, cond, List, [], ◌∷◌, Option, Some, Result, Ok, Err, refl, ap, ◌∙◌}
 use Rattle.std.specs.Str.{bytes_eq}
 use Rattle.digest_kinds.specs.Kinds.{KindValue}
 use Rattle.sum_sources.specs.declared.fault.Fault.{Fault}
 use Rattle.sum_sources.specs.declared.fault.Fault.TheVariants.{NotFound, Denied, Other}
-use Rattle.sum_sources.specs.Contents.{Content}
+use Rattle.sum_sources.specs.Contents.{Content, WhereTold}
 use Rattle.sum_sources.specs.Sources.{Reply, Refused, Given}
 use Rattle.sum_lines.specs.Entries.{Spelled, kind_of}
 use Rattle.sum_engine.specs.declared.asking.Asked.{Asked}
 use Rattle.sum_engine.specs.declared.asking.Asked.TheVariants as asked
-use Rattle.sum_engine.specs.declared.verdict.Judgement.{Judgement}
 use Rattle.sum_engine.specs.declared.verdict.Verdict.{Verdict}
 use Rattle.sum_engine.specs.declared.verdict.Verdict.TheVariants.{Bad, Right, Wrong, Missing, Unread}
-use Rattle.sum_engine.specs.Worlds.{World, is_dash, reply, read, after}
+use Rattle.sum_engine.specs.Worlds.{World, is_dash, reply, read}
 use Rattle.sum_lines.specs.Says.{Spells}
-use Rattle.sum_engine.specs.Verdicts.{Rules, Judged, verdict_of, not_found, against, asks_by}
+use Rattle.sum_engine.specs.Verdicts.{Rules, verdict_of, not_found, against, asks_by}
+use Rattle.sum_sources.proofs.ToldLemmas.{WhereTold-map}
 use Rattle.sum_engine.specs.joins.Asking.{AskGives, IsAsked}
-use Rattle.sum_engine.specs.joins.Judging.{JudgeGives, compared}
+use Rattle.sum_engine.specs.joins.Judging.{IsJudged, compared}
 
 -- a reply against the line's digest
 abbrev verdict_by : Bool → KindValue → List ℕ → Reply → Verdict
 verdict_by ignore kind d r = cond (ignore && not_found r) Missing (against d (read kind r))
 
+-- a file that was given isn't missing
 never : (b : Bool) → b && false ≡ false
 never true = refl
 never false = refl
 
+-- a file that is not there, and one that is
 no_file : (ignore : Bool) (d : List ℕ) (kind : KindValue) → verdict_by ignore kind d
     (Refused NotFound) ≡ compared ignore d (asked.Refused NotFound)
 no_file true d kind = refl
@@ -36,6 +38,7 @@ given_by : (ignore : Bool) (kind : KindValue) (d : List ℕ) (c : Content) (x : 
 given_by ignore kind d c x h =
     ap (λ b. cond b Missing (against d (read kind (Given c)))) (never ignore) ∙ ap (against d) h
 
+-- the verdict by a reply is the verdict by what came of asking
 by_asked : (ignore : Bool) (kind : KindValue) (d : List ℕ) (r : Reply) (a : Asked) → IsAsked kind r a
     → verdict_by ignore kind d r ≡ compared ignore d a
 by_asked ignore kind d r (asked.Read x) h = ap (verdict_by ignore kind d) h.1 ∙ given_by ignore kind d h.0 (Ok x) h.2
@@ -46,6 +49,7 @@ by_asked ignore kind d r (asked.Refused Denied) h =
 by_asked ignore kind d r (asked.Refused Other) h =
     ap (verdict_by ignore kind d) h ∙ ap (λ b. cond b Missing (Unread Other)) (never ignore)
 
+-- whatever the verdict, the name was asked
 asks_either : (b : Bool) (x y : Verdict) (name : List ℕ) → asks_by x name ≡ name ∷ [] → asks_by y name ≡ name ∷ []
     → asks_by (cond b x y) name ≡ name ∷ []
 asks_either true x y name h k = h
@@ -59,22 +63,19 @@ asks_compared ignore d (asked.Refused Denied) name = refl
 asks_compared ignore d (asked.Refused Other) name = refl
 asks_compared ignore d (asked.Broken f) name = refl
 
+-- so is the verdict of an entry
 verdict_is : (r : Rules) (w : World) (s : Spelled) (a : Asked) → r.from_stdin && is_dash s.name ≡ false
     → IsAsked (kind_of s) (reply w s.name) a → verdict_of r w s ≡ compared r.settings.ignore_missing s.digest a
 verdict_is r w s a dash h =
     ap (λ b. cond b Bad (verdict_by r.settings.ignore_missing (kind_of s) s.digest (reply w s.name))) dash
     ∙ by_asked r.settings.ignore_missing (kind_of s) s.digest (reply w s.name) a h
 
-pub judged_entry : (r : Rules) (w v : Option World) (kind : KindValue) (s : Spelled) (a : Asked) (j : Judgement)
-    → kind ≡ kind_of s → r.from_stdin && is_dash s.name ≡ false
-    → AskGives kind w v s.name (Some a) → j.verdict ≡ compared r.settings.ignore_missing s.digest a
-    → j.name.now ≡ s.name → JudgeGives r w v (Spells s) (Some j)
-judged_entry r None v kind s a j is dash h verdict name = tt
-judged_entry r (Some w) None kind s a j is dash h verdict name = absurd h
-judged_entry r (Some w) (Some v) kind s a j is dash h verdict name =
-    let comes : IsAsked (kind_of s) (reply w s.name) a = rw is at h.1 in
-    let mk : ℕ → Verdict → List ℕ → Judged = λ n x y. record { number = n; verdict = x; name = y } in (
-      λ n. ap (λ x. mk n x s.name) (verdict_is r w s a dash comes ∙ sym verdict) ∙ ap (mk n j.verdict) (sym name),
-      h.0 ∙ ap (after w) (sym (ap (λ x. asks_by x j.name.now) verdict
-          ∙ asks_compared r.settings.ignore_missing s.digest a j.name.now ∙ ap (λ n. n ∷ []) name)),
-    )
+-- an entry's judgement, by what came of asking its name
+pub judged_entry : (r : Rules) (w v : Option World) (s : Spelled) (a : Asked) (verdict : Verdict) (name : List ℕ)
+    → r.from_stdin && is_dash s.name ≡ false → AskGives (kind_of s) w v s.name (Some a)
+    → verdict ≡ compared r.settings.ignore_missing s.digest a → name ≡ s.name
+    → WhereTold w v (λ w v. IsJudged r w v (Spells s) verdict name)
+judged_entry r w v s a verdict name dash h is same = WhereTold-map w v (λ w v asked. (
+  λ n. rw (is, same, verdict_is r w s a dash asked.1) refl,
+  rw (is, same, asks_compared r.settings.ignore_missing s.digest a s.name) asked.0,
+)) h

@@ -1,5 +1,5 @@
 -- What a checker's steps come to: a whole manifest.
-use Rattle.std.specs.Prelude.{ℕ, zero, suc, ◌≡◌, ◌+◌, ◌⊎◌, Bool, List, ◌++◌, take, drop, length, flat_map, Option, None, Some, Result, Ok, Err, ⊤}
+use Rattle.std.specs.Prelude.{ℕ, zero, suc, ◌≡◌, ◌+◌, ◌⊎◌, Bool, List, ◌++◌, take, drop, length, flat_map, Option, Result, Ok, Err, IfSome}
 use Rattle.sum_sources.specs.Contents.{Content, WhereTold}
 use Rattle.sum_sources.specs.Sources.{after_refusal}
 use Rattle.sum_sources.specs.ManifestLines.{past_lines}
@@ -29,8 +29,7 @@ ManifestOf r c n m a b (Err Memory) = (k : ℕ) × Does a b (flat_map (out_of r)
     × WantsAt n m k c
 
 abbrev pub ManifestGives : Rules → Option Content → ℕ → ℕ → Option Scene → Option Scene → Result Bool Stop → Type 0
-ManifestGives r None n m a b x = ⊤
-ManifestGives r (Some c) n m a b x = WhereTold a b (λ a b. ManifestOf r c n m a b x)
+ManifestGives r c n m a b x = IfSome c (λ c. WhereTold a b (λ a b. ManifestOf r c n m a b x))
 
 -- what checking one manifest does: all of its outcome; on a write fault a front of it; on want of memory all of it up
 -- to a place
@@ -45,9 +44,7 @@ CheckOf settings tool name n m a b (Err Memory) = (k : ℕ)
 
 abbrev pub CheckGives : CheckSettings → List ℕ → List ℕ → ℕ → ℕ → Option Scene → Option Scene → Result Bool Stop
     → Type 0
-CheckGives settings tool name n m None b x = ⊤
-CheckGives settings tool name n m (Some a) None x = ⊥
-CheckGives settings tool name n m (Some a) (Some b) x = CheckOf settings tool name n m a b x
+CheckGives settings tool name n m a b x = WhereTold a b (λ a b. CheckOf settings tool name n m a b x)
 
 -- only want of memory changes what the source was refused, by one
 abbrev pub RefusedOnMemory : {A : Type 0} → ℕ → ℕ → Result A Stop → Type 0

@@ -1,6 +1,6 @@
 -- Where a checker stands in its manifest, and what each of its steps does there.
-use Rattle.std.specs.Prelude.{ℕ, ◌≡◌, ◌+◌, ◌≤◌, ◌⊎◌, ◌<◌, Bool, List, [], ◌∷◌, length, Option, None, Some, Result, Ok, Err, IfSome, ⊤}
-use Rattle.sum_sources.specs.Contents.{Content}
+use Rattle.std.specs.Prelude.{ℕ, ◌≡◌, ◌+◌, ◌≤◌, ◌⊎◌, ◌<◌, Bool, List, [], ◌∷◌, length, Option, None, Some, Result, Ok, Err, IfSome}
+use Rattle.sum_sources.specs.Contents.{Content, WhereTold}
 use Rattle.sum_sources.specs.Sources.{after_refusal}
 use Rattle.sum_sources.specs.ManifestLines.{past_line}
 use Rattle.sum_lines.specs.declared.line_reading.Form.{Form}
@@ -12,7 +12,7 @@ use Rattle.sum_engine.specs.declared.stop.Stop.{Stop}
 use Rattle.sum_engine.specs.declared.stop.Stop.TheVariants.{Memory, Write}
 use Rattle.sum_engine.specs.declared.summary.Counts.{Counts}
 use Rattle.sum_engine.specs.Profiles.{lines_by}
-use Rattle.sum_lines.specs.Says.{says}
+use Rattle.sum_lines.specs.Says.{Said, says}
 use Rattle.sum_engine.specs.Verdicts.{Rules, Judged, judge, asks_of, verdicts}
 use Rattle.sum_engine.specs.Reports.{out_of, err_of, end_text, good, counted, no_counts}
 use Rattle.sum_engine.specs.Scenes.{Scene, Does, Cut}
@@ -80,9 +80,7 @@ StepOf r a b held (Err Memory) = b.scene ≡ a.scene
 
 -- what a step does, where the manifest and the scene tell
 abbrev pub StepGives : Rules → Option Now → Option Now → List ℕ → Result Progress Stop → Type 0
-StepGives r None b held x = ⊤
-StepGives r (Some a) None held x = ⊥
-StepGives r (Some a) (Some b) held x = StepOf r a b held x
+StepGives r a b held x = WhereTold a b (λ a b. StepOf r a b held x)
 
 -- what is still to be found
 abbrev pub rest_verdicts : Rules → Now → List Judged
@@ -94,18 +92,16 @@ rest_verdicts r a =
 abbrev pub start : Content → Scene → Now
 start c s = record { rest = c; number = 0; used = 0; form = Undecided; counts = no_counts; scene = s }
 
--- a line was handled that has this verdict
+-- a line was handled that has this verdict; c and d are the counts before and after
 abbrev pub HandleOf : {A : Type 0} → Rules → Judged → Counts → Counts → Scene → Scene → Result A Stop → Type 0
 HandleOf r j c d a b (Ok u) = (d ≡ counted c j.verdict) × Does a b (out_of r j) (err_of r j) (asks_of j)
 HandleOf r j c d a b (Err Write) = Cut a b (out_of r j) (err_of r j) (asks_of j)
 HandleOf r j c d a b (Err Memory) = b ≡ a
 
-abbrev pub HandleGives : {A : Type 0} → Rules → Form → List ℕ → ℕ → Counts → Counts → Option Scene → Option Scene
+-- the n-th line was handled, which says that, where the scene tells
+abbrev pub HandleGives : {A : Type 0} → Rules → Said → ℕ → Counts → Counts → Option Scene → Option Scene
     → Result A Stop → Type 0
-HandleGives r f line n c d None b x = ⊤
-HandleGives r f line n c d (Some a) None x = ⊥
-HandleGives r f line n c d (Some a) (Some b) x =
-    HandleOf r (judge r a.world n (says r.profile r.settings.algo f line)) c d a b x
+HandleGives r said n c d a b x = WhereTold a b (λ a b. HandleOf r (judge r a.world n said) c d a b x)
 
 -- a step's want of memory: the source was refused it, or bytes of the manifest were still to come
 abbrev pub Wants : ℕ → ℕ → Option Content → Result Progress Stop → Type 0

@@ -231,7 +231,8 @@ impl<'a, I: Input> Checker<'a, I> {
         requires room { total self.old.counts < lines_given self.old.reader }
         requires few { lines_given self.old.reader ≤ LIMIT }
         ensures gives { HandleGives (rules_of_checker self.old)
-            (form_then self.old.form (line_form self.old.listing.settings.algo line.old.items)) line.old.items
+            (says present self.old.listing.settings.algo
+            (form_then self.old.form (line_form self.old.listing.settings.algo line.old.items)) line.old.items)
             (lines_given self.old.reader) self.old.counts self.new.counts
             (scene J.content S.told O.written E.written streams.old)
             (scene J.content S.told O.written E.written streams.new) result }

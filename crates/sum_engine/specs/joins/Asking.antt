@@ -1,7 +1,7 @@
 -- Joins asking one name to the world.
 use Rattle.std.specs.Prelude.{ℕ, ◌≡◌, List, [], ◌∷◌, length, Option, None, Some, Ok, Err, ⊤}
 use Rattle.digest_kinds.specs.Kinds.{KindValue}
-use Rattle.sum_sources.specs.Contents.{Content}
+use Rattle.sum_sources.specs.Contents.{Content, WhereTold}
 use Rattle.sum_sources.specs.Sources.{Reply, Refused, Given}
 use Rattle.sum_engine.specs.declared.asking.Asked.{Asked}
 use Rattle.sum_engine.specs.declared.asking.Asked.TheVariants as asked
@@ -19,11 +19,13 @@ IsRead kind c (asked.Read d) = read kind (Given c) ≡ Ok d
 IsRead kind c (asked.Refused f) = ⊥
 IsRead kind c (asked.Broken f) = read kind (Given c) ≡ Err f
 
+-- the name was asked, and this came of it; without memory it wasn't asked
+abbrev pub AskOf : KindValue → World → World → List ℕ → Option Asked → Type 0
+AskOf kind w v name None = v ≡ w
+AskOf kind w v name (Some a) = (v ≡ after w (name ∷ [])) × IsAsked kind (reply w name) a
+
 abbrev pub AskGives : KindValue → Option World → Option World → List ℕ → Option Asked → Type 0
-AskGives kind None v name r = ⊤
-AskGives kind (Some w) None name r = ⊥
-AskGives kind (Some w) (Some v) name None = v ≡ w
-AskGives kind (Some w) (Some v) name (Some a) = (v ≡ after w (name ∷ [])) × IsAsked kind (reply w name) a
+AskGives kind w v name r = WhereTold w v (λ w v. AskOf kind w v name r)
 
 -- a digest has the kind's length
 abbrev pub Sized : KindValue → Option Asked → Type 0

@@ -2,6 +2,7 @@
 use Rattle.std.specs.Prelude.{ℕ, ◌≡◌, ◌≤◌, ◌&&◌, Bool, List, [], ◌∷◌, length, slice_range, Option, None, Some, ⊤, if◌then◌else◌}
 use Rattle.std.specs.Str.{bytes_eq}
 use Rattle.sum_sources.specs.declared.fault.Fault.TheVariants.{NotFound, Denied, Other}
+use Rattle.sum_sources.specs.Contents.{WhereTold}
 use Rattle.sum_lines.specs.declared.line_reading.Reading.{Reading}
 use Rattle.sum_lines.specs.declared.line_reading.Reading.TheVariants as readings
 use Rattle.sum_engine.specs.declared.asking.Asked.{Asked}
@@ -43,11 +44,14 @@ compared ignore d (asked.Refused Denied) = Unread Denied
 compared ignore d (asked.Refused Other) = Unread Other
 compared ignore d (asked.Broken f) = Unread f
 
--- a line that says this has this judgement, whatever its number, and its name was asked
+-- a line that says this has this verdict and name, whatever its number, and the name was asked where that asks it
+abbrev pub IsJudged : Rules → World → World → Said → Verdict → List ℕ → Type 0
+IsJudged r w v x verdict name = ((n : ℕ) → judge r w n x ≡ record { number = n; verdict = verdict; name = name })
+    × (v ≡ after w (asks_by verdict name))
+
+abbrev pub JudgeOf : Rules → World → World → Said → Option Judgement → Type 0
+JudgeOf r w v x None = v ≡ w
+JudgeOf r w v x (Some j) = IsJudged r w v x j.verdict j.name.now
+
 abbrev pub JudgeGives : Rules → Option World → Option World → Said → Option Judgement → Type 0
-JudgeGives r None v x j = ⊤
-JudgeGives r (Some w) None x j = ⊥
-JudgeGives r (Some w) (Some v) x None = v ≡ w
-JudgeGives r (Some w) (Some v) x (Some j) =
-    ((n : ℕ) → judge r w n x ≡ record { number = n; verdict = j.verdict; name = j.name.now })
-    × (v ≡ after w (judgement_asks j))
+JudgeGives r w v x j = WhereTold w v (λ w v. JudgeOf r w v x j)

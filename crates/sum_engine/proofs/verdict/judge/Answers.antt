@@ -1,4 +1,4 @@
-use Rattle.std.proofs.Common.{◌≡◌, ◌&&◌, false, slice_range, ap, sym, refl, rules}
+use Rattle.std.proofs.Common.{◌≡◌, ◌&&◌, false, slice_range, refl, rules}
 use Rattle.sum_lines.specs.Entries.{Spelled}
 use Rattle.sum_engine.specs.Worlds.{is_dash}
 use Rattle.sum_engine.specs.joins.Listings.{rules_in}
@@ -18,6 +18,5 @@ returns-in-Some-clause-gives g c =
       | else-listing-via-else-listing
           w ↦ search rules
     ] in
-    rw c.in-Entry.is (judged_entry (rules_in c.args.listing.now) _ _ kind s c.in-Some.asked _
-    (ap (λ n. record { algo = kind.algo; len = n }) (sym within.2)) dash c.in-Some.ensures.gives
-    c.compare-verdict.ensures refl)
+    rw c.in-Entry.is (judged_entry (rules_in c.args.listing.now) _ _ s c.in-Some.asked _ _ dash
+    (rw (← within.2) at c.in-Some.ensures.gives) c.compare-verdict.ensures refl)
