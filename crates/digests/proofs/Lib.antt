@@ -1,3 +1,5 @@
+mod Outputs
+mod TextLemmas
 mod OperandLemmas
 mod EndingLemmas
 mod ProgramLemmas

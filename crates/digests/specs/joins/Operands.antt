@@ -1,5 +1,6 @@
 -- Joins the calls of a run to the headline: what each did to the world and the outputs.
-use Rattle.std.specs.Prelude.{ℕ, ◌≡◌, ◌+◌, Bool, List, Option, None, Some, Result, Ok, Err, ⊤}
+use Rattle.std.specs.Prelude.{ℕ, ◌≡◌, ◌+◌, Bool, List, Option, Result, Ok, Err}
+use Rattle.sum_sources.specs.Contents.{WhereTold}
 use Rattle.sum_engine.specs.declared.stop.Stop.{Stop}
 use Rattle.sum_engine.specs.declared.stop.Stop.TheVariants.{Memory, Write}
 use Rattle.sum_engine.specs.Worlds.{World, reply, after}
@@ -18,9 +19,8 @@ OneOf n m name o part a b (Err Memory) = (k : ℕ) × Comes (part k) a b × Plac
 
 abbrev pub OneGives : ℕ → ℕ → (World → Text → Outcome) → (World → Text → ℕ → Outcome) → Text → Option Scene
     → Option Scene → Result Bool Stop → Type 0
-OneGives n m one part name None b r = ⊤
-OneGives n m one part name (Some a) None r = ⊥
-OneGives n m one part name (Some a) (Some b) r = OneOf n m name (one a.world name) (part a.world name) a b r
+OneGives n m one part name a b r =
+    WhereTold a b (λ a b. OneOf n m name (one a.world name) (part a.world name) a b r)
 
 -- the operands before the rest came to `done`, and there are j of them
 pub record Stands (one : World → Text → Outcome) (part : World → Text → ℕ → Outcome) (w : World) (names : List Text)
@@ -32,10 +32,8 @@ pub record Stands (one : World → Text → Outcome) (part : World → Text → 
 -- the operands before the rest came about, and were good or not
 abbrev pub Reached : (World → Text → Outcome) → (World → Text → ℕ → Outcome) → List Text → Option Scene → Option Scene
     → Bool → List Text → Type 0
-Reached one part names None b good rest = ⊤
-Reached one part names (Some a) None good rest = ⊥
-Reached one part names (Some a) (Some b) good rest =
-    (done : Outcome) × (j : ℕ) × Stands one part a.world names done j rest × Comes done a b × (good ≡ done.good)
+Reached one part names a b good rest = WhereTold a b (λ a b.
+    (done : Outcome) × (j : ℕ) × Stands one part a.world names done j rest × Comes done a b × (good ≡ done.good))
 
 -- the end of a run that wrote one text
 abbrev pub once_written : {U E : Type 0} → Result U E → ℕ → Result ℕ Stop

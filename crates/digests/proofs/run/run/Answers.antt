@@ -1,9 +1,9 @@
-use Rattle.std.proofs.Common.{refl}
-use Rattle.digests.proofs.OperandLemmas.{asked-is, refused-is}
 use Rattle.digests.proofs.run.run.Goals as goal
 
+-- what was read of the words is what they ask for
 pub returns-clause-gives : goal.returns-clause-gives
-returns-clause-gives g c = asked-is c.args.tool _ _ _ _ _ _ _ _ c.read_words.ensures refl c.answer.ensures.gives
+returns-clause-gives g c = rw c.read_words.ensures at c.answer.ensures.gives
 
+-- and so of the refusals
 pub returns-clause-refusals : goal.returns-clause-refusals
-returns-clause-refusals g c = refused-is _ _ _ _ _ c.read_words.ensures c.answer.ensures.refusals
+returns-clause-refusals g c = rw c.read_words.ensures at c.answer.ensures.refusals
