@@ -1,5 +1,5 @@
 mod Outputs
-mod TextLemmas
+mod OneTextLemmas
 mod OperandLemmas
 mod EndingLemmas
 mod ProgramLemmas

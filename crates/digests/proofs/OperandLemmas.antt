@@ -55,8 +55,8 @@ pub record Operands : Type 0 where
   pub names : List Text
 
 -- the operands of a job
-abbrev pub operands_of : Job → Text → List Text → Operands
-operands_of job tool names = record { one = one_of job tool; part = part_of job tool; names = or_dash names }
+abbrev pub job_operands : Job → Text → List Text → Operands
+job_operands job tool names = record { one = one_of job tool; part = part_of job tool; names = or_dash names }
 
 -- what a run over all of them gives, where these places want memory
 abbrev pub AllGives : Operands → (World → ℕ → ℕ → Type 0) → Option Scene → Option Scene → Result ℕ Stop → Type 0

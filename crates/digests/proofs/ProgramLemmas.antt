@@ -17,7 +17,7 @@ use Rattle.digests.specs.Program.{outcome_of, place_in, WantsMemory, stop_told, 
 use Rattle.digests.specs.joins.Operands.{once_written}
 use Rattle.digests.specs.joins.Endings.{CutsOff}
 use Rattle.digests.proofs.Outputs.{Output, Prints, front-up_to, front-front, up_to-whole, Appends-nothing, fails-more}
-use Rattle.digests.proofs.TextLemmas.{OneText, GivesAtOnce, said_on_err}
+use Rattle.digests.proofs.OneTextLemmas.{OneText, GivesAtOnce, said_on_err}
 use Rattle.digests.proofs.EndingLemmas.{Outputs, EndsRun, SomeFailed}
 
 -- the program at one moment: the world, where that is told, whether standard input was taken, and both outputs

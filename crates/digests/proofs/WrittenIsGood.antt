@@ -18,7 +18,7 @@ use Rattle.sum_engine.specs.declared.settings.Report.{Report}
 use Rattle.sum_engine.specs.Worlds.{World, reply, after, read}
 use Rattle.sum_engine.specs.Generation.{generated}
 use Rattle.sum_engine.specs.Reports.{right_line}
-use Rattle.sum_engine.proofs.ListedLemmas.{Item, text_of, Listed}
+use Rattle.sum_engine.proofs.ListedLemmas.{Item, written_text, Listed}
 use Rattle.sum_engine.proofs.GoodLemmas.{manifest_good}
 use Rattle.sum_words.specs.Items.{Text}
 use Rattle.digests.specs.Meaning.{all_of}
@@ -49,13 +49,13 @@ read-is w s name h =
 
 -- so one line is written for it
 line-is : (w : World) (s : Settings) (tool name : Text) → s.style.zero ≡ false → Listable w.answer name
-    → (generated s tool w name).out ≡ text_of (item w.answer s name)
+    → (generated s tool w name).out ≡ written_text (item w.answer s name)
 line-is w s tool name newlines h = rw (read-is w s name h, newlines) refl
 
 -- and for all names their lines, one behind the other; what a name answers doesn't depend on what was asked before
 lines-are : (s : Settings) (tool : Text) (names : List Text) (w : World)
     → s.style.zero ≡ false → All (Listable w.answer) names
-    → (all_of (generated s tool) w names).out ≡ flat_map text_of (map (item w.answer s) names)
+    → (all_of (generated s tool) w names).out ≡ flat_map written_text (map (item w.answer s) names)
 lines-are s tool [] w newlines all = refl
 lines-are s tool (name ∷ names) w newlines all =
     let next : World = after w (generated s tool w name).asks in
@@ -107,7 +107,7 @@ record Spells (report : Report) (xs : List Item) (names : List Text) : Type 0 wh
 -- a manifest that holds them is good
 lines-good : (check : CheckSettings) (tool manifest : Text) (v : World) (xs : List Item) (names : List Text)
     (text : Text)
-    → All (Listed check.algo v.answer) xs → Spells check.report xs names → flat_map text_of xs ≡ text
+    → All (Listed check.algo v.answer) xs → Spells check.report xs names → flat_map written_text xs ≡ text
     → 0 < length names → length text < limit
     → reply v manifest ≡ Given (record { bytes = text; ending = Whole })
     → IsGood check tool v manifest names
@@ -119,7 +119,7 @@ lines-good check tool manifest v xs names text all s same some fits given =
 
 -- what it wrote is its lines
 run-text : (algos : Algos) (w v : World) (g : Written) → Checkable algos w v g
-    → flat_map text_of (items w.answer g) ≡ written w g
+    → flat_map written_text (items w.answer g) ≡ written w g
 run-text algos w v g c = sym (lines-are g.settings g.tool g.names w c.newlines c.listable)
 
 -- what checking writes of it has one line for each name
@@ -148,7 +148,7 @@ runs-listed algos w v (g ∷ gs) all =
 
 -- what they wrote is their lines
 runs-text : (algos : Algos) (w v : World) (gs : List Written) → All (Checkable algos w v) gs
-    → flat_map text_of (flat_map (items w.answer) gs) ≡ flat_map (written w) gs
+    → flat_map written_text (flat_map (items w.answer) gs) ≡ flat_map (written w) gs
 runs-text algos w v [] all = refl
 runs-text algos w v (g ∷ gs) all =
     let first = run-text algos w v g (All-head (Checkable algos w v) g gs all) in

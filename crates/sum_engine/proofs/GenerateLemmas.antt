@@ -13,7 +13,7 @@ use Rattle.sum_lines.specs.Profiles.{present}
 use Rattle.sum_engine.specs.Generation.{generated, fault_line}
 use Rattle.sum_engine.specs.Scenes.{Generates}
 use Rattle.sum_engine.specs.joins.Asking.{AskGives, IsAsked}
-use Rattle.sum_engine.proofs.SceneLemmas.{Seen, seen, none_yet, front_of, seen-told}
+use Rattle.sum_engine.proofs.SceneLemmas.{Seen, seen, none_yet, up_to-front, seen-told}
 
 -- the name was read
 read_is : (kind : KindValue) (w : World) (name d : List ℕ) → IsAsked kind (reply w name) (asked.Read d)
@@ -27,7 +27,7 @@ pub line_cut : (settings : Settings) (tool name d : List ℕ) (a b : Seen) → b
     → Generates (λ w. generated settings tool w name) (seen a) (seen b) (Err Write)
 line_cut settings tool name d a b same h front = seen-told a b _ h (λ w v asked.
     rw (read_is settings.kind w name d asked.1, same)
-    (record { world = asked.0; out = front_of a.out b.out _ front; err = none_yet a.err [] }))
+    (record { world = asked.0; out = up_to-front a.out b.out _ front; err = none_yet a.err [] }))
 
 -- the name could not be opened, or not be read
 abbrev pub Fails : Asked → Fault → Type 0
@@ -49,4 +49,4 @@ pub fault_cut : (settings : Settings) (tool name : List ℕ) (x : Asked) (f : Fa
     → Generates (λ w. generated settings tool w name) (seen a) (seen b) (Err Write)
 fault_cut settings tool name x f a b same h fails front = seen-told a b _ h (λ w v asked.
     rw (fails_is settings.kind w name x f asked.1 fails, same)
-    (record { world = asked.0; out = none_yet a.out []; err = front_of a.err b.err _ front }))
+    (record { world = asked.0; out = none_yet a.out []; err = up_to-front a.err b.err _ front }))

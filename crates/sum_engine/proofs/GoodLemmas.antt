@@ -33,7 +33,7 @@ use Rattle.sum_engine.specs.Reports.{out_of, err_of, right_line, is_right, is_wr
 use Rattle.sum_engine.specs.Checking.{rules_of, checked_content, checked_by, checked}
 use Rattle.sum_lines.proofs.SaysLemmas.{says_is}
 use Rattle.sum_engine.proofs.StepLemmas.{now}
-use Rattle.sum_engine.proofs.ListedLemmas.{Item, text_of, Listed, front, spelled, Steady, back, whole, lines-are}
+use Rattle.sum_engine.proofs.ListedLemmas.{Item, written_text, Listed, front, spelled_for, ReadableSoFar, back, whole, lines-are}
 
 -- ---- each verdict is Right
 
@@ -51,7 +51,7 @@ neither false false v = refl
 
 -- the kind that the line spells is the item's
 same-kind : (algos : Algos) (answer : List ℕ → Reply) (i : Item) → Listed algos answer i
-    → kind_of (spelled i) ≡ i.kind
+    → kind_of (spelled_for i) ≡ i.kind
 same-kind algos answer i h =
     let make : ℕ → KindValue = λ n. record { algo = i.kind.algo; len = n } in
     ap make (length-digest i.kind i.bytes h.has)
@@ -61,20 +61,20 @@ against-itself : (d : List ℕ) → against d (Ok d) ≡ Right
 against-itself d = rw ((bytes_eq-Decides d d).1 refl) refl
 
 against-right : (algos : Algos) (answer : List ℕ → Reply) (i : Item) → Listed algos answer i
-    → against (digest i.kind i.bytes) (read (kind_of (spelled i)) (Given (record { bytes = i.bytes; ending = Whole })))
-    ≡ Right
+    → let file = Given (record { bytes = i.bytes; ending = Whole }) in
+    against (digest i.kind i.bytes) (read (kind_of (spelled_for i)) file) ≡ Right
 against-right algos answer i h =
     let c : Content = record { bytes = i.bytes; ending = Whole } in
     let d : List ℕ = digest i.kind i.bytes in
-    ap (λ (x : Content). against d (ended x.ending (digest (kind_of (spelled i)) x.bytes)))
+    ap (λ (x : Content). against d (ended x.ending (digest (kind_of (spelled_for i)) x.bytes)))
     (clip-short c (subst (λ n. length i.bytes < n) limit-value h.fits))
     ∙ ap (λ k. against d (Ok (digest k i.bytes))) (same-kind algos answer i h) ∙ against-itself d
 
 -- so the verdict is Right
 verdict-right : (r : Rules) (w : World) (i : Item) → Listed r.settings.algo w.answer i
-    → verdict_of r w (spelled i) ≡ Right
+    → verdict_of r w (spelled_for i) ≡ Right
 verdict-right r w i h =
-    let k : KindValue = kind_of (spelled i) in
+    let k : KindValue = kind_of (spelled_for i) in
     let d : List ℕ = digest i.kind i.bytes in
     let missing : Bool = r.settings.ignore_missing in
     ap (λ b. cond (r.from_stdin && b) Bad (cond (missing && not_found (reply w i.name)) Missing
@@ -93,18 +93,18 @@ rights n (i ∷ is) = right (n + 1) i ∷ rights (n + 1) is
 
 -- a written line is judged so
 judged : (r : Rules) (w : World) (n : ℕ) (f : Form) (i : Item) → Listed r.settings.algo w.answer i
-    → Entry escape r.settings.algo f (front i) (spelled i)
+    → Entry escape r.settings.algo f (front i) (spelled_for i)
     → judge r w n (says present r.settings.algo f (front i)) ≡ right n i
 judged r w n f i h e =
     let algos : Algos = r.settings.algo in
-    let spells : says present algos f (front i) ≡ Spells (spelled i) =
-    (let is = says_is present algos f (front i) in (is.spells (spelled i)).1 (e.0, e)) in
+    let spells : says present algos f (front i) ≡ Spells (spelled_for i) =
+    (let is = says_is present algos f (front i) in (is.spells (spelled_for i)).1 (e.0, e)) in
     let make : Verdict → Judged = λ v. record { number = n; verdict = v; name = i.name } in
     ap (judge r w n) spells ∙ ap make (verdict-right r w i h)
 
 -- and all of them, each in the world that those before it leave
 right-verdicts : (r : Rules) (answer : List ℕ → Reply) (before : List (List ℕ)) (is : List Item) (w : World) (n : ℕ)
-    → w.answer ≡ answer → Steady r.settings.algo before → All (Listed r.settings.algo answer) is
+    → w.answer ≡ answer → ReadableSoFar r.settings.algo before → All (Listed r.settings.algo answer) is
     → verdicts (now r) (form r.settings.algo (before ++ map front is)) w n (map front is) ≡ rights n is
 right-verdicts r answer before [] w n e u all = refl
 right-verdicts r answer before (i ∷ is) w n e u all =
@@ -218,19 +218,20 @@ all-right r w is all =
 
 -- what checking it comes to, by these verdicts
 checked-is : (check : CheckSettings) (tool manifest : List ℕ) (w : World) (is : List Item)
-    → All (Listed check.algo w.answer) is → length (flat_map text_of is) < limit → reply w manifest ≡ Given (whole is)
+    → All (Listed check.algo w.answer) is → length (flat_map written_text is) < limit
+    → reply w manifest ≡ Given (whole is)
     → checked check tool w manifest ≡ checked_content (rules_of check tool manifest) manifest (whole is) (rights 0 is)
 checked-is check tool manifest w is all fits given =
     let r : Rules = rules_of check tool manifest in
     let next : World = after w (manifest ∷ []) in
     ap (checked_by r manifest next) given
     ∙ ap (λ c. checked_content r manifest c (all_verdicts r next c))
-    (clip-short (whole is) (subst (λ n. length (flat_map text_of is) < n) limit-value fits))
+    (clip-short (whole is) (subst (λ n. length (flat_map written_text is) < n) limit-value fits))
     ∙ ap (checked_content r manifest (whole is)) (all-right r next is all)
 
 -- a manifest with at least one line is good, and each of its names is reported as right
 pub manifest_good : (check : CheckSettings) (tool manifest : List ℕ) (w : World) (is : List Item)
-    → All (Listed check.algo w.answer) is → 0 < length is → length (flat_map text_of is) < limit
+    → All (Listed check.algo w.answer) is → 0 < length is → length (flat_map written_text is) < limit
     → reply w manifest ≡ Given (whole is) → Found check tool w manifest is
 manifest_good check tool manifest w [] all some fits given = absurd (omega arith)
 manifest_good check tool manifest w (i ∷ is) all some fits given =

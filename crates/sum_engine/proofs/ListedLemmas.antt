@@ -36,8 +36,8 @@ pub record Item : Type 0 where
   pub bytes : List ℕ
 
 -- its line, with the newline
-abbrev pub text_of : Item → List ℕ
-text_of i = line (record { mode = i.mode; zero = false }) i.kind i.name (digest i.kind i.bytes)
+abbrev pub written_text : Item → List ℕ
+written_text i = line (record { mode = i.mode; zero = false }) i.kind i.name (digest i.kind i.bytes)
 
 -- it is read back, and its file still has these bytes
 pub record Listed (algos : Algos) (answer : List ℕ → Reply) (i : Item) : Type 0 where
@@ -54,12 +54,12 @@ abbrev pub front : Item → List ℕ
 front i = front_of i.mode i.kind i.name (digest i.kind i.bytes)
 
 -- the newline is the last byte
-text-front : (i : Item) → text_of i ≡ front i ++ (10 ∷ [])
+text-front : (i : Item) → written_text i ≡ front i ++ (10 ∷ [])
 text-front i = refl
 
 -- what the line spells
-abbrev pub spelled : Item → Spelled
-spelled i = record { algo = i.kind.algo; digest = digest i.kind i.bytes; name = i.name }
+abbrev pub spelled_for : Item → Spelled
+spelled_for i = record { algo = i.kind.algo; digest = digest i.kind i.bytes; name = i.name }
 
 -- it can be written so that it is read back
 writable : (algos : Algos) (answer : List ℕ → Reply) (i : Item) → Listed algos answer i
@@ -75,8 +75,8 @@ writable algos answer i h = record {
 -- ---- each line is read back
 
 -- the form of these lines is Undecided or Standard
-abbrev pub Steady : Algos → List (List ℕ) → Type 0
-Steady algos ls = (form algos ls ≡ Undecided) ⊎ (form algos ls ≡ Standard)
+abbrev pub ReadableSoFar : Algos → List (List ℕ) → Type 0
+ReadableSoFar algos ls = (form algos ls ≡ Undecided) ⊎ (form algos ls ≡ Standard)
 
 -- no byte ends a line, or would be taken from the end of one
 abbrev pub Plainly : List ℕ → Type 0
@@ -85,17 +85,17 @@ Plainly l = All (λ b. (b ≢ 10) × (b ≢ 13)) l
 -- a line between others is read as s, and leaves the form plain enough for the next
 abbrev pub Back : Algos → List (List ℕ) → List (List ℕ) → Spelled → List ℕ → Type 0
 Back algos before later s l =
-    Plainly l × Entry escape algos (form algos (before ++ (l ∷ later))) l s × Steady algos (before ++ (l ∷ []))
+    Plainly l × Entry escape algos (form algos (before ++ (l ∷ later))) l s × ReadableSoFar algos (before ++ (l ∷ []))
 
 -- so is each item's
 pub back : (algos : Algos) (answer : List ℕ → Reply) (before later : List (List ℕ)) (i : Item) → Listed algos answer i
-    → Steady algos before → Back algos before later (spelled i) (front i)
+    → ReadableSoFar algos before → Back algos before later (spelled_for i) (front i)
 back algos answer before later i h u =
     let s = read_back algos i.mode i.kind i.name (digest i.kind i.bytes) before later h.read_by
     (writable algos answer i h) u in
     let same : s.front ≡ front i =
     append_cancel_right s.front (front i) (10 ∷ []) (sym s.whole ∙ text-front i) in
-    subst (Back algos before later (spelled i)) same (s.one_line, (s.spells (spelled i)).1 refl, s.keeps)
+    subst (Back algos before later (spelled_for i)) same (s.one_line, (s.spells (spelled_for i)).1 refl, s.keeps)
 
 -- ---- the lines of the whole text
 
@@ -110,9 +110,9 @@ plainly : (algos : Algos) (answer : List ℕ → Reply) (i : Item) → Listed al
 plainly algos answer i h = let b = back algos answer [] [] i h (inl refl) in b.0
 
 -- the text is the lines, each with a newline
-texts : (is : List Item) → flat_map text_of is ≡ flat_map (λ l. l ++ 10 ∷ []) (map front is)
+texts : (is : List Item) → flat_map written_text is ≡ flat_map (λ l. l ++ 10 ∷ []) (map front is)
 texts [] = refl
-texts (i ∷ is) = ap (λ t. text_of i ++ t) (texts is)
+texts (i ∷ is) = ap (λ t. written_text i ++ t) (texts is)
 
 -- no line holds a newline, nor a carriage return
 no-newlines : (algos : Algos) (answer : List ℕ → Reply) (is : List Item) → All (Listed algos answer) is
@@ -133,14 +133,14 @@ no-returns algos answer (i ∷ is) all = All-cons NoReturn (front i) (map front 
 
 -- the file that the text is
 abbrev pub whole : List Item → Content
-whole is = record { bytes = flat_map text_of is; ending = Whole }
+whole is = record { bytes = flat_map written_text is; ending = Whole }
 
 -- its lines are the written ones
 pub lines-are : (algos : Algos) (answer : List ℕ → Reply) (is : List Item) → All (Listed algos answer) is
     → lines (whole is) ≡ map front is
 lines-are algos answer is all =
     let make : List ℕ → Content = λ bytes. record { bytes = bytes; ending = Whole } in
-    let bytes : flat_map text_of is ≡ rejoined (map front is) [] = texts is ∙ sym (append-nil _) in
+    let bytes : flat_map written_text is ≡ rejoined (map front is) [] = texts is ∙ sym (append-nil _) in
     let cut : pieces (make (rejoined (map front is) [])) ≡ map front is ++ [] =
     pieces-joined Whole (map front is) [] (no-newlines algos answer is all) (All-nil (λ b. (b == 10) ≡ false)) in
     ap (map strip_carriage_return) (ap (λ b. pieces (make b)) bytes ∙ cut ∙ append-nil (map front is))

@@ -26,7 +26,7 @@ use Rattle.sum_sources.specs.ManifestLines.{past_lines}
 use Rattle.sum_engine.specs.Manifests.{ManifestOf, ManifestGives, CheckOf, CheckGives}
 use Rattle.sum_engine.specs.Places.{WantsAt}
 use Rattle.sum_engine.proofs.WorldLemmas.{dash_asked, name_asked}
-use Rattle.sum_engine.proofs.SceneLemmas.{Seen, none_yet, front_of, does_both, cut_behind, seen_at}
+use Rattle.sum_engine.proofs.SceneLemmas.{Seen, none_yet, up_to-front, does_both, cut_behind, seen_at}
 use Rattle.sum_engine.proofs.JoinLemmas.{Did, did_none, did_more, did_end, did_cut, did_some}
 use Rattle.sum_sources.proofs.ToldLemmas.{WhereTold-map}
 use Rattle.sum_engine.proofs.StepLemmas.{Standing, stands, stands_at, stands-scene}
@@ -124,8 +124,8 @@ pub rules_of_call-file : (k : Call) → is_dash k.name ≡ false → rules_shown
 rules_of_call-file k dash = rw dash refl
 
 -- the name was asked, which has that content, and nothing else was done
-abbrev pub Opened : List ℕ → Option Content → Scene → Scene → Type 0
-Opened name c a b = (d : Content) × (c ≡ Some d) × (reply a.world name ≡ Given d) × Does a b [] [] (name ∷ [])
+abbrev pub IsOpened : List ℕ → Option Content → Scene → Scene → Type 0
+IsOpened name c a b = (d : Content) × (c ≡ Some d) × (reply a.world name ≡ Given d) × Does a b [] [] (name ∷ [])
 
 -- after that, what the checker does is what the call does
 opened : (k : Call) (c : Content) (m l : ℕ) (a asked b : Scene) (x : Result Bool Stop)
@@ -143,7 +143,7 @@ opened k c m l a asked b (Err Memory) is does h =
 
 -- the same, where source, standard input and manifest tell
 check_by : (k : Call) (c : Option Content) (a asked b : Option Scene) (m l : ℕ) (x : Result Bool Stop)
-    → WhereTold a asked (Opened k.name c) → ManifestGives (rules_of_call k) (option_map clip c) m l asked b x
+    → WhereTold a asked (IsOpened k.name c) → ManifestGives (rules_of_call k) (option_map clip c) m l asked b x
     → CheckGives k.settings k.tool k.name m l a b x
 check_by k c None asked b m l x h run = tt
 check_by k c (Some a) None b m l x h run = absurd h
@@ -155,7 +155,7 @@ check_by k c (Some a) (Some asked) (Some b) m l x h run =
 
 -- the same, whose checker has these rules
 pub check_gives : (k : Call) (r : Rules) (c : Option Content) (a asked b : Option Scene) (n m l : ℕ)
-    (x : Result Bool Stop) → r ≡ rules_of_call k → n ≡ m → WhereTold a asked (Opened k.name c)
+    (x : Result Bool Stop) → r ≡ rules_of_call k → n ≡ m → WhereTold a asked (IsOpened k.name c)
     → ManifestGives r (option_map clip c) n l asked b x → CheckGives k.settings k.tool k.name m l a b x
 check_gives k r c a asked b n m l x rules is h run =
     let P : Rules → Type 0 = λ r. ManifestGives r (option_map clip c) n l asked b x in
@@ -183,7 +183,7 @@ told_at a s input = scene_by (world_by s input) a.taken a.out a.err
 
 -- the manifest is standard input, which is taken then
 pub dash_opened : (name : List ℕ) (s : Option Telling) (c : Option Content) (a : Seen) → is_dash name ≡ true
-    → WhereTold (told_at a s c) (told_at (record a { taken = true }) s (Some empty_content)) (Opened name c)
+    → WhereTold (told_at a s c) (told_at (record a { taken = true }) s (Some empty_content)) (IsOpened name c)
 dash_opened name None c a dash = tt
 dash_opened name (Some s) None a dash = tt
 dash_opened name (Some s) (Some c) a dash =
@@ -198,7 +198,7 @@ dash_opened name (Some s) (Some c) a dash =
 -- the manifest is a file
 pub file_opened : {F : Type 0} (content : F → Option Content) (name : List ℕ) (s t : Option Telling)
     (input : Option Content) (file : F) (a : Seen) → is_dash name ≡ false → OpenGives content s t name (Ok file)
-    → WhereTold (told_at a s input) (told_at a t input) (Opened name (content file))
+    → WhereTold (told_at a s input) (told_at a t input) (IsOpened name (content file))
 file_opened content name None t input file a dash h = tt
 file_opened content name (Some s) t None file a dash h = tt
 file_opened content name (Some s) None (Some i) file a dash h = absurd h
@@ -225,7 +225,7 @@ refused content name (Some s) (Some t) (Some i) f a err text dash h cut = (
   record {
     world = name_asked s.answer t.answer s.asked t.asked i name dash h.0 h.1;
     out = none_yet a.out [];
-    err = front_of a.err err text cut;
+    err = up_to-front a.err err text cut;
   },
 )
 

@@ -22,8 +22,8 @@ pub none_yet : (a : Option (List ℕ)) (x : List ℕ) → AppendsUpTo a a x
 none_yet a x = ([], x, refl, Appends-nil a)
 
 -- a front that may be the whole is what a failed write leaves of it
-pub front_of : (a b : Option (List ℕ)) (x : List ℕ) → AppendsFront a b x → AppendsUpTo a b x
-front_of a b x h = (h.0, h.1, h.2, h.4)
+pub up_to-front : (a b : Option (List ℕ)) (x : List ℕ) → AppendsFront a b x → AppendsUpTo a b x
+up_to-front a b x h = (h.0, h.1, h.2, h.4)
 
 -- all of x, and then a front of y, is a front of what begins with x and y
 upto_after : (a b c : Option (List ℕ)) (x y z text : List ℕ) → Appends a b x → AppendsUpTo b c y
@@ -125,5 +125,5 @@ err_cut a err text h = seen-told a (record a { err = err }) _ (same_world a.worl
     (λ w v same. record {
       world = same ∙ after-none w;
       out = none_yet a.out [];
-      err = front_of a.err err text h;
+      err = up_to-front a.err err text h;
     })

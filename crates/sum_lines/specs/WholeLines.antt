@@ -31,10 +31,10 @@ abbrev pub HandsOn : Option (List (List ℕ)) → Option (List (List ℕ)) → L
 HandsOn old new text = (rests : List (List ℕ)) × Offers old new (text ∷ rests) × AreRests text rests
 
 -- as much of the piece as there is room for is held, and the sink below stays as it was
-abbrev pub HoldsFront : {S E : Type 0} → Lines S → Lines S → List ℕ → Result ℕ E → Type 0
-HoldsFront old new piece (Ok n) = (new.sink ≡ old.sink) × (new.held ≡ old.held ++ take n piece)
+abbrev pub HoldsWhatFits : {S E : Type 0} → Lines S → Lines S → List ℕ → Result ℕ E → Type 0
+HoldsWhatFits old new piece (Ok n) = (new.sink ≡ old.sink) × (new.held ≡ old.held ++ take n piece)
     × (n ≡ min (length piece) (LINE_ROOM - length old.held))
-HoldsFront old new piece (Err e) = ⊥
+HoldsWhatFits old new piece (Err e) = ⊥
 
 -- what is held once a text was handed on: nothing; after a fault, what was held but for a front of it
 abbrev pub HeldAfter : {E : Type 0} → List ℕ → List ℕ → Result ℕ E → Type 0

@@ -116,7 +116,7 @@ impl<S: Finish> WholeLines<S> {
 }
 
 impl<S: Sink> Sink for WholeLines<S> {
-    ghost use Rattle.sum_lines.specs.WholeLines.{EndsWith, HoldsFront, HandsOnWith};
+    ghost use Rattle.sum_lines.specs.WholeLines.{EndsWith, HoldsWhatFits, HandsOnWith};
 
     ghost written = { λ s. append_known (S.written s.sink) s.held };
 
@@ -132,7 +132,7 @@ impl<S: Sink> Sink for WholeLines<S> {
             (append_known (S.written self.new.sink) self.new.held) result piece.now }
         ensures kept { OnOk result (S.failures self.new.sink ≡ S.failures self.old.sink) }
         ensures failed { OnErr result (S.failures self.new.sink ≡ after_failure (S.failures self.old.sink)) }
-        ensures lines { HoldsFront self.old self.new piece.now result
+        ensures lines { HoldsWhatFits self.old self.new piece.now result
             ⊎ HandsOnWith S.offered self.old self.new piece.now result }
         ensures ended { IfOk result (λ n. EndsWith self.old.end (take n piece.now) → self.new.held ≡ []) }
         ensures room { length self.new.held < LINE_ROOM }

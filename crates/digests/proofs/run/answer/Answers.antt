@@ -1,5 +1,5 @@
 use Rattle.sum_words.specs.joins.Reading.{result_of}
-use Rattle.digests.proofs.TextLemmas.{said_on_out, said_on_err, said-refused}
+use Rattle.digests.proofs.OneTextLemmas.{said_on_out, said_on_err, said-refused}
 use Rattle.digests.proofs.run.answer.Goals as goal
 
 -- a fault is told on standard error

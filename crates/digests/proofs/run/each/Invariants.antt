@@ -1,13 +1,13 @@
 use Rattle.std.proofs.Common.{◌≡◌, ◌∷◌, length}
 use Rattle.sum_engine.specs.Scenes.{scene}
 use Rattle.sum_words.specs.Tools.{name_of}
-use Rattle.digests.proofs.OperandLemmas.{operands_of, HasReached}
+use Rattle.digests.proofs.OperandLemmas.{job_operands, HasReached}
 use Rattle.digests.proofs.run.each.Given as goal
 
 -- the operands before this one came about; the source was refused nothing, and no write failed
 abbrev pub invariant-operands : goal.invariant-operands
 invariant-operands g l = record {
-  reached : HasReached (operands_of l.job (name_of l.tool) l.fn.operands)
+  reached : HasReached (job_operands l.job (name_of l.tool) l.fn.operands)
       (scene g.I.Input.content g.S.Source.told g.O.Sink.written g.E.Sink.written l.fn.streams)
       (scene g.I.Input.content g.S.Source.told g.O.Sink.written g.E.Sink.written l.streams)
       l.good (l.name ∷ l.operands);

@@ -7,7 +7,7 @@ use Rattle.sum_engine.specs.Scenes.{Scene, scene_by}
 use Rattle.sum_engine.specs.Outcomes.{Outcome}
 use Rattle.sum_engine.specs.declared.stop.Stop.{Stop}
 use Rattle.sum_engine.proofs.WorldLemmas.{after-none}
-use Rattle.sum_engine.proofs.SceneLemmas.{none_yet, front_of}
+use Rattle.sum_engine.proofs.SceneLemmas.{none_yet, up_to-front}
 use Rattle.sum_words.specs.Items.{Text}
 use Rattle.sum_words.specs.Faults.{Fault}
 use Rattle.sum_words.specs.declared.reading.Request.{Request}
@@ -50,7 +50,7 @@ said_on_out (Some w) x (Err f) h = (
   refl,
   record {
     world = after-none w;
-    out = front_of x.before.written x.after.written x.text h.0;
+    out = up_to-front x.before.written x.after.written x.text h.0;
     err = none_yet x.other [];
   },
 )
@@ -69,7 +69,7 @@ said_on_err (Some w) x (Err f) h = (
   record {
     world = after-none w;
     out = none_yet x.other [];
-    err = front_of x.before.written x.after.written x.text h.0;
+    err = up_to-front x.before.written x.after.written x.text h.0;
   },
 )
 
