@@ -1,28 +1,21 @@
 -- What is known of an algorithm and of a kind, which is an algorithm with its digest's length.
 use Rattle.std.specs.Prelude.{ℕ, ◌==◌, ◌&&◌, nat_le, Bool, List, codes}
-use Rattle.md5.specs.Md5.{md5}
-use Rattle.sha1.specs.Sha1.{sha1}
-use Rattle.sha2.specs.Sha256.{sha224, sha256}
-use Rattle.sha2.specs.Sha512.{sha384, sha512}
-use Rattle.blake2b_core.specs.Digest.{blake2b}
 use Rattle.digest_kinds.specs.declared.algo.Algo.{Algo}
 use Rattle.digest_kinds.specs.declared.algo.Algo.TheVariants.{Md5, Sha1, Sha224, Sha256, Sha384, Sha512, Blake2b}
 
--- an algorithm: the bytes of its full digest, the tag by which a line names it, and its digest of n bytes of a message
+-- an algorithm: the bytes of its full digest, and the tag by which a line names it
 pub record Known : Type 0 where
   pub full : ℕ
   pub tag : List ℕ
-  pub digest : ℕ → List ℕ → List ℕ
 
--- each algorithm; BLAKE2b alone has digests of more than one length
 abbrev pub about : Algo → Known
-about Md5 = record { full = 16; tag = codes "MD5"; digest = λ n m. md5 m }
-about Sha1 = record { full = 20; tag = codes "SHA1"; digest = λ n m. sha1 m }
-about Sha224 = record { full = 28; tag = codes "SHA224"; digest = λ n m. sha224 m }
-about Sha256 = record { full = 32; tag = codes "SHA256"; digest = λ n m. sha256 m }
-about Sha384 = record { full = 48; tag = codes "SHA384"; digest = λ n m. sha384 m }
-about Sha512 = record { full = 64; tag = codes "SHA512"; digest = λ n m. sha512 m }
-about Blake2b = record { full = 64; tag = codes "BLAKE2b"; digest = λ n m. blake2b n m }
+about Md5 = record { full = 16; tag = codes "MD5" }
+about Sha1 = record { full = 20; tag = codes "SHA1" }
+about Sha224 = record { full = 28; tag = codes "SHA224" }
+about Sha256 = record { full = 32; tag = codes "SHA256" }
+about Sha384 = record { full = 48; tag = codes "SHA384" }
+about Sha512 = record { full = 64; tag = codes "SHA512" }
+about Blake2b = record { full = 64; tag = codes "BLAKE2b" }
 
 abbrev pub full : Algo → ℕ
 full a = (about a).full
