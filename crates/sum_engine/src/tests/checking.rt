@@ -14,13 +14,6 @@ pub(crate) const CHECK: CheckSettings = CheckSettings {
     ignore_missing: false,
 };
 
-const IGNORE_MISSING: CheckSettings = CheckSettings {
-    algo: Algos::One(Algo::Md5),
-    report: Report::Warn,
-    strict: true,
-    ignore_missing: true,
-};
-
 /// A manifest in which every verdict comes.
 pub(crate) const ALL: &[u8] = b"900150983cd24fb0d6963f7d28e17f72  a\n\
     #c\n\
@@ -28,48 +21,68 @@ pub(crate) const ALL: &[u8] = b"900150983cd24fb0d6963f7d28e17f72  a\n\
     900150983cd24fb0d6963f7d28e17f72 *x\n\
     900150983cd24fb0d6963f7d28e17f72  e\n";
 
-/// Streams of told values: what standard input gives, the files, and after how many bytes each output stops.
+/// Streams of told values: what standard input gives, and the files.
 pub(crate) fn told<'a, S>(
     input: &'a [u8],
     source: S,
-    (out, err): (usize, usize),
 ) -> Streams<Told<'a>, S, ToldSink<1000>, ToldSink<1000>> {
     Streams {
         stdin: Stdin::new(Told::new(input, Ending::Whole, 1)),
         source,
-        out: ToldSink::new(out),
-        err: ToldSink::new(err),
+        out: ToldSink::new(1000),
+        err: ToldSink::new(1000),
     }
 }
 
-/// The files `a`, which holds `abc`, and the empty `e`; and a manifest `l`.
+/// The files `a`, which holds `abc`, and the empty `e`; and a manifest `l`. A read gives at most so many bytes.
 pub(crate) fn files<'a, A: Allocator + Copy>(
     alloc: A,
+    piece: usize,
     manifest: &'a [u8],
     ending: Ending,
 ) -> Result<ToldSource<'a, A>, NoRoom> {
-    let mut source = ToldSource::new(alloc, 8192);
+    let mut source = ToldSource::new(alloc, piece);
     source.add(b"a", Answer::Content(b"abc", Ending::Whole))?;
     source.add(b"e", Answer::Content(b"", Ending::Whole))?;
     source.add(b"l", Answer::Content(manifest, ending))?;
     Ok(source)
 }
 
-// Checking the manifest answers so, and writes these texts. The source is given back.
-fn checks<'a>(
+// Checking the manifest of this name by this tool, where `l` holds this, answers so and writes these texts, in whatever
+// pieces it is read.
+fn checks(
     rt: &(impl Abort + AllocGlobal),
-    settings: CheckSettings,
+    (tool, settings): (&str, CheckSettings),
     name: &[u8],
-    input: &[u8],
-    source: ToldSource<'a, Global>,
+    l: &[u8],
+    ending: Ending,
     want: (bool, &str, &str),
-) -> ToldSource<'a, Global> {
-    let mut streams = told(input, source, (1000, 1000));
-    let good = check_one(rt.alloc(), settings, "md5sum", name, &mut streams);
-    assert!(rt; good == Ok(want.0));
-    assert_eq!(rt; streams.out.bytes(), want.1.as_bytes());
-    assert_eq!(rt; streams.err.bytes(), want.2.as_bytes());
-    streams.source
+) -> Result<(), Fail> {
+    for piece in [1, 100, 8192] {
+        let mut source = files(rt.alloc(), piece, l, ending)?;
+        source.add(b"q\\\nz", Answer::Content(b"abc", Ending::Whole))?;
+        // A manifest on standard input lists standard input itself.
+        let input = if name == b"-".as_slice() {
+            l
+        } else {
+            b"abc".as_slice()
+        };
+        let mut streams = told(input, source);
+        let good = check_one(rt.alloc(), settings, tool, name, &mut streams);
+        assert!(rt; good == Ok(want.0));
+        assert_eq!(rt; streams.out.bytes(), want.1.as_bytes());
+        assert_eq!(rt; streams.err.bytes(), want.2.as_bytes());
+    }
+    Ok(())
+}
+
+// The same of a whole `l` by md5sum with the settings that write everything.
+fn md5sum_checks(
+    rt: &(impl Abort + AllocGlobal),
+    l: &[u8],
+    want: (bool, &str, &str),
+) -> Result<(), Fail> {
+    checks(rt, ("md5sum", CHECK), b"l", l, Ending::Whole, want)
 }
 
 #[test]
@@ -78,100 +91,128 @@ fn all_verdicts(rt: HostRuntime) -> Result<(), Fail> {
         md5sum: WARNING: 1 line is improperly formatted\n\
         md5sum: WARNING: 1 listed file could not be read\n\
         md5sum: WARNING: 1 computed checksum did NOT match\n";
-    let source = files(rt.alloc(), ALL, Ending::Whole)?;
     let out = "a: OK\nx: FAILED open or read\ne: FAILED\n";
-    let source = checks(&rt, CHECK, b"l", b"", source, (false, out, warnings));
-    for (i, name) in ["l", "a", "x", "e"].iter().enumerate() {
-        assert_eq!(rt; source.asked_name(i).ok_or("not asked")?, name.as_bytes());
-    }
-    assert!(rt; source.asked_name(4).is_none());
+    md5sum_checks(&rt, ALL, (false, out, warnings))?;
     let mut settings = CHECK;
     settings.report = Report::Quiet;
-    let out = "x: FAILED open or read\ne: FAILED\n";
-    let source = checks(&rt, settings, b"l", b"", source, (false, out, warnings));
+    let want = (false, "x: FAILED open or read\ne: FAILED\n", warnings);
+    checks(&rt, ("md5sum", settings), b"l", ALL, Ending::Whole, want)?;
     settings.report = Report::Status;
-    let err = "md5sum: x: No such file or directory\n";
-    checks(&rt, settings, b"l", b"", source, (false, "", err));
+    let want = (false, "", "md5sum: x: No such file or directory\n");
+    checks(&rt, ("md5sum", settings), b"l", ALL, Ending::Whole, want)
+}
+
+// The manifest and each name that a line lists, and no name of a line that is ignored or bad.
+#[test]
+fn names_asked(rt: HostRuntime) -> Result<(), Fail> {
+    let mut streams = told(b"", files(rt.alloc(), 8192, ALL, Ending::Whole)?);
+    assert!(rt; check_one(rt.alloc(), CHECK, "md5sum", b"l", &mut streams) == Ok(false));
+    for (i, name) in ["l", "a", "x", "e"].iter().enumerate() {
+        assert_eq!(rt;
+            streams.source.asked_name(i).ok_or("not asked")?,
+            name.as_bytes()
+        );
+    }
+    assert!(rt; streams.source.asked_name(4).is_none());
     Ok(())
 }
 
 #[test]
 fn ignore_missing(rt: HostRuntime) -> Result<(), Fail> {
-    let source = files(rt.alloc(), ALL, Ending::Whole)?;
+    let mut settings = CHECK;
+    settings.ignore_missing = true;
+    let l2 = b"900150983cd24fb0d6963f7d28e17f72  x\n";
+    let want = (false, "", "md5sum: l: no file was verified\n");
+    checks(&rt, ("md5sum", settings), b"l", l2, Ending::Whole, want)?;
+    settings.report = Report::Warn;
+    settings.strict = true;
     let err = "md5sum: l: 3: improperly formatted MD5 checksum line\n\
         md5sum: WARNING: 1 line is improperly formatted\n\
         md5sum: WARNING: 1 computed checksum did NOT match\n";
-    checks(
-        &rt,
-        IGNORE_MISSING,
-        b"l",
-        b"",
-        source,
-        (false, "a: OK\ne: FAILED\n", err),
-    );
-    let l2 = b"900150983cd24fb0d6963f7d28e17f72  x\n";
-    let source = files(rt.alloc(), l2, Ending::Whole)?;
-    let mut settings = CHECK;
-    settings.ignore_missing = true;
-    checks(
-        &rt,
-        settings,
-        b"l",
-        b"",
-        source,
-        (false, "", "md5sum: l: no file was verified\n"),
-    );
-    Ok(())
+    let want = (false, "a: OK\ne: FAILED\n", err);
+    checks(&rt, ("md5sum", settings), b"l", ALL, Ending::Whole, want)
 }
 
 #[test]
 fn manifest_fails(rt: HostRuntime) -> Result<(), Fail> {
     let l4 = b"900150983cd24fb0d6963f7d28e17f72  a\n900150983cd24fb0d6963f7d28e17f72  a";
-    let source = files(rt.alloc(), l4, Ending::Broken(Fault::Other))?;
-    let source = checks(
-        &rt,
-        CHECK,
-        b"l",
-        b"",
-        source,
-        (false, "a: OK\n", "md5sum: l: Input/output error\n"),
-    );
-    checks(
-        &rt,
-        CHECK,
-        b"x",
-        b"",
-        source,
-        (false, "", "md5sum: x: No such file or directory\n"),
-    );
-    Ok(())
+    let ending = Ending::Broken(Fault::Other);
+    let want = (false, "a: OK\n", "md5sum: l: Input/output error\n");
+    checks(&rt, ("md5sum", CHECK), b"l", l4, ending, want)?;
+    let want = (false, "", "md5sum: x: No such file or directory\n");
+    checks(&rt, ("md5sum", CHECK), b"x", b"", Ending::Whole, want)
 }
 
 #[test]
 fn stdin_listed(rt: HostRuntime) -> Result<(), Fail> {
     let l5 = b"900150983cd24fb0d6963f7d28e17f72  -\n";
-    let source = files(rt.alloc(), l5, Ending::Whole)?;
-    let source = checks(&rt, CHECK, b"l", b"abc", source, (true, "-: OK\n", ""));
+    md5sum_checks(&rt, l5, (true, "-: OK\n", ""))?;
     let err = "md5sum: standard input: no properly formatted checksum lines found\n";
-    checks(&rt, CHECK, b"-", l5, source, (false, "", err));
-    Ok(())
+    let want = (false, "", err);
+    checks(&rt, ("md5sum", CHECK), b"-", l5, Ending::Whole, want)
 }
 
 #[test]
 fn no_last_newline(rt: HostRuntime) -> Result<(), Fail> {
     let l8 = b"900150983cd24fb0d6963f7d28e17f72  a";
-    let source = files(rt.alloc(), l8, Ending::Whole)?;
-    checks(&rt, CHECK, b"l", b"", source, (true, "a: OK\n", ""));
-    Ok(())
+    md5sum_checks(&rt, l8, (true, "a: OK\n", ""))
 }
 
 #[test]
 fn nothing_to_check(rt: HostRuntime) -> Result<(), Fail> {
-    let source = files(rt.alloc(), b"", Ending::Whole)?;
     let mut settings = CHECK;
-    settings.report = Report::Status;
-    let err = "md5sum: e: no properly formatted checksum lines found\n";
-    checks(&rt, settings, b"e", b"", source, (false, "", err));
+    for report in [Report::All, Report::Status] {
+        settings.report = report;
+        let err = "md5sum: e: no properly formatted checksum lines found\n";
+        let want = (false, "", err);
+        checks(&rt, ("md5sum", settings), b"e", b"", Ending::Whole, want)?;
+    }
+    Ok(())
+}
+
+#[test]
+fn plurals(rt: HostRuntime) -> Result<(), Fail> {
+    let l10 = b"900150983cd24fb0d6963f7d28e17f72  x\n\
+        900150983cd24fb0d6963f7d28e17f72  x\n\
+        d41d8cd98f00b204e9800998ecf8427e  a\n\
+        d41d8cd98f00b204e9800998ecf8427e  a\n\
+        junk\n\
+        junk\n";
+    let out = "x: FAILED open or read\nx: FAILED open or read\na: FAILED\na: FAILED\n";
+    let err = "md5sum: x: No such file or directory\n\
+        md5sum: x: No such file or directory\n\
+        md5sum: WARNING: 2 lines are improperly formatted\n\
+        md5sum: WARNING: 2 listed files could not be read\n\
+        md5sum: WARNING: 2 computed checksums did NOT match\n";
+    md5sum_checks(&rt, l10, (false, out, err))
+}
+
+#[test]
+fn forms(rt: HostRuntime) -> Result<(), Fail> {
+    let upper = b"900150983CD24FB0D6963F7D28E17F72  a\n";
+    md5sum_checks(&rt, upper, (true, "a: OK\n", ""))?;
+    let spaced = b"MD5(a)= 900150983cd24fb0d6963f7d28e17f72\n";
+    md5sum_checks(&rt, spaced, (true, "a: OK\n", ""))?;
+    let reversed = b"900150983cd24fb0d6963f7d28e17f72 a\n900150983cd24fb0d6963f7d28e17f72  a\n";
+    let out = "a: OK\n a: FAILED open or read\n";
+    let err = "md5sum:  a: No such file or directory\n\
+        md5sum: WARNING: 1 listed file could not be read\n";
+    md5sum_checks(&rt, reversed, (false, out, err))?;
+    let standard = b"900150983cd24fb0d6963f7d28e17f72  a\n900150983cd24fb0d6963f7d28e17f72 a\n";
+    let mut settings = CHECK;
+    for strict in [false, true] {
+        settings.strict = strict;
+        let err = "md5sum: WARNING: 1 line is improperly formatted\n";
+        let want = (!strict, "a: OK\n", err);
+        checks(
+            &rt,
+            ("md5sum", settings),
+            b"l",
+            standard,
+            Ending::Whole,
+            want,
+        )?;
+    }
     Ok(())
 }
 
@@ -182,13 +223,68 @@ fn escaped_names(rt: HostRuntime) -> Result<(), Fail> {
         \\900150983cd24fb0d6963f7d28e17f72  q\\\n\
         \\900150983cd24fb0d6963f7d28e17f72  a\\r\n\
         900150983cd24fb0d6963f7d28e17f72  q\\x\n";
-    let mut source = files(rt.alloc(), l6, Ending::Whole)?;
-    source.add(b"q\\\nz", Answer::Content(b"abc", Ending::Whole))?;
     let out = "\\q\\\\\\nz: OK\n\\a\\r: FAILED open or read\n\\q\\\\x: FAILED open or read\n";
     let err = "md5sum: a\\r: No such file or directory\n\
         md5sum: q\\\\x: No such file or directory\n\
         md5sum: WARNING: 2 lines are improperly formatted\n\
         md5sum: WARNING: 2 listed files could not be read\n";
-    checks(&rt, CHECK, b"l", b"", source, (false, out, err));
-    Ok(())
+    md5sum_checks(&rt, l6, (false, out, err))
+}
+
+#[test]
+fn returns_and_empty_lines(rt: HostRuntime) -> Result<(), Fail> {
+    let l11 = b"900150983cd24fb0d6963f7d28e17f72  a\r\n\n\r\njunk\r\n";
+    let mut settings = CHECK;
+    settings.report = Report::Warn;
+    let err = "md5sum: l: 4: improperly formatted MD5 checksum line\n\
+        md5sum: WARNING: 1 line is improperly formatted\n";
+    let want = (true, "a: OK\n", err);
+    checks(&rt, ("md5sum", settings), b"l", l11, Ending::Whole, want)?;
+    let l12 = b"900150983cd24fb0d6963f7d28e17f72  a\r\r\n";
+    let err = "md5sum: a\\r: No such file or directory\n\
+        md5sum: WARNING: 1 listed file could not be read\n";
+    md5sum_checks(&rt, l12, (false, "\\a\\r: FAILED open or read\n", err))
+}
+
+#[test]
+fn blake2b(rt: HostRuntime) -> Result<(), Fail> {
+    let l7 = b"0e5751c026e543b2e8ab2eb06099daa1d1e5df47778f7787faab45cdf12fe3a8  e\n\
+        BLAKE2b-256 (e) = 0e5751c026e543b2e8ab2eb06099daa1d1e5df47778f7787faab45cdf12fe3a8\n\
+        0e5 e\n\
+        BLAKE2b-256 (e) = 0e5751c026e543b2e8ab2eb06099daa1d1e5df47778f7787faab45cdf12fe3\n";
+    let mut settings = CHECK;
+    settings.algo = Algos::One(Algo::Blake2b);
+    let err = "b2sum: WARNING: 2 lines are improperly formatted\n";
+    let want = (true, "e: OK\ne: OK\n", err);
+    checks(&rt, ("b2sum", settings), b"l", l7, Ending::Whole, want)
+}
+
+#[test]
+fn mixed_tags(rt: HostRuntime) -> Result<(), Fail> {
+    let m = b"MD5 (a) = 900150983cd24fb0d6963f7d28e17f72\n\
+        SHA256 (a) = ba7816bf8f01cfea414140de5dae2223b00361a396177a9cb410ff61f20015ad\n\
+        BLAKE2b-256 (e) = 0e5751c026e543b2e8ab2eb06099daa1d1e5df47778f7787faab45cdf12fe3a8\n\
+        900150983cd24fb0d6963f7d28e17f72  a\n\
+        SHA256 (e) = d41d8cd98f00b204e9800998ecf8427e\n";
+    let out = "a: OK\na: OK\ne: OK\n";
+    let mut settings = CHECK;
+    settings.algo = Algos::Any;
+    for strict in [false, true] {
+        settings.strict = strict;
+        let err = "anysum: WARNING: 2 lines are improperly formatted\n";
+        let want = (!strict, out, err);
+        checks(&rt, ("anysum", settings), b"l", m, Ending::Whole, want)?;
+    }
+    settings.strict = false;
+    settings.report = Report::Warn;
+    let err = "anysum: l: 4: improperly formatted tagged checksum line\n\
+        anysum: l: 5: improperly formatted tagged checksum line\n\
+        anysum: WARNING: 2 lines are improperly formatted\n";
+    let want = (true, out, err);
+    checks(&rt, ("anysum", settings), b"l", m, Ending::Whole, want)?;
+    settings.report = Report::All;
+    let plain = b"900150983cd24fb0d6963f7d28e17f72  a\n";
+    let err = "anysum: standard input: no properly formatted checksum lines found\n";
+    let want = (false, "", err);
+    checks(&rt, ("anysum", settings), b"-", plain, Ending::Whole, want)
 }

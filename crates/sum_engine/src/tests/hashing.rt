@@ -15,16 +15,12 @@ const BINARY: Style = Style {
     zero: false,
 };
 
-// Streams over this input and these files; standard output stops after so many bytes.
-fn told<'a, S>(
-    input: Told<'a>,
-    source: S,
-    stop: usize,
-) -> Streams<Told<'a>, S, ToldSink<200>, ToldSink<200>> {
+// Streams over this input and these files.
+fn told<'a, S>(input: Told<'a>, source: S) -> Streams<Told<'a>, S, ToldSink<200>, ToldSink<200>> {
     Streams {
         stdin: Stdin::new(input),
         source,
-        out: ToldSink::new(stop),
+        out: ToldSink::new(200),
         err: ToldSink::new(200),
     }
 }
@@ -34,7 +30,7 @@ fn files(rt: HostRuntime) -> Result<(), Fail> {
     let mut source = ToldSource::new(rt.alloc(), 8192);
     source.add(b"a", Answer::Content(b"abc", Ending::Whole))?;
     source.add(b"e", Answer::Content(b"", Ending::Whole))?;
-    let mut streams = told(Told::new(b"", Ending::Whole, 1), source, 200);
+    let mut streams = told(Told::new(b"", Ending::Whole, 1), source);
     let kind = Kind::of(Algo::Md5);
     for (style, name) in [(TEXT, "a"), (TEXT, "e"), (BINARY, "a")] {
         let settings = Settings { kind, style };
@@ -56,11 +52,7 @@ fn faults(rt: HostRuntime) -> Result<(), Fail> {
         b"f",
         Answer::Content(&content, Ending::Broken(Fault::Other)),
     )?;
-    let mut streams = told(
-        Told::new(b"abc", Ending::Broken(Fault::Other), 1),
-        source,
-        200,
-    );
+    let mut streams = told(Told::new(b"abc", Ending::Broken(Fault::Other), 1), source);
     let settings = Settings {
         kind: Kind::of(Algo::Md5),
         style: TEXT,
@@ -80,7 +72,7 @@ fn faults(rt: HostRuntime) -> Result<(), Fail> {
 #[test]
 fn stdin_twice(rt: HostRuntime) -> Result<(), Fail> {
     let source = ToldSource::new(rt.alloc(), 8192);
-    let mut streams = told(Told::new(b"abc", Ending::Whole, 1), source, 200);
+    let mut streams = told(Told::new(b"abc", Ending::Whole, 1), source);
     let settings = Settings {
         kind: Kind::of(Algo::Md5),
         style: TEXT,
@@ -91,20 +83,6 @@ fn stdin_twice(rt: HostRuntime) -> Result<(), Fail> {
     let lines = "900150983cd24fb0d6963f7d28e17f72  -\nd41d8cd98f00b204e9800998ecf8427e  -\n";
     assert_eq!(rt; streams.out.bytes(), lines.as_bytes());
     assert!(rt; streams.source.asked_name(0).is_none());
-    Ok(())
-}
-
-#[test]
-fn output_stops(rt: HostRuntime) -> Result<(), Fail> {
-    let mut source = ToldSource::new(rt.alloc(), 8192);
-    source.add(b"a", Answer::Content(b"abc", Ending::Whole))?;
-    let mut streams = told(Told::new(b"", Ending::Whole, 1), source, 10);
-    let settings = Settings {
-        kind: Kind::of(Algo::Md5),
-        style: TEXT,
-    };
-    assert!(rt; generate_one(&settings, "md5sum", b"a", &mut streams) == Err(Stop::Write));
-    assert_eq!(rt; streams.out.bytes(), "900150983c".as_bytes());
     Ok(())
 }
 
@@ -134,7 +112,7 @@ impl Source for Refusing {
 #[test]
 fn memory_refused(rt: HostRuntime) {
     let source = Refusing::new();
-    let mut streams = told(Told::new(b"", Ending::Whole, 1), source, 200);
+    let mut streams = told(Told::new(b"", Ending::Whole, 1), source);
     let settings = Settings {
         kind: Kind::of(Algo::Md5),
         style: TEXT,

@@ -1,17 +1,15 @@
 //! `Checker::step`.
 use super::checking::{ALL, CHECK, files, told};
 use super::hashing::Refusing;
-use crate::{Checker, Progress, Stop, check_one};
+use crate::{Checker, Progress, Stop};
 use linked_list_allocator::LocalHeap;
-use std::ops::RangeInclusive;
-use std::process::Abort;
 use std::test::Fail;
 use sum_sources::{Ending, Told};
 
 #[test]
 fn step_by_step(rt: HostRuntime) -> Result<(), Fail> {
-    let source = files(rt.alloc(), ALL, Ending::Whole)?;
-    let mut streams = told(b"", source, (1000, 1000));
+    let source = files(rt.alloc(), 8192, ALL, Ending::Whole)?;
+    let mut streams = told(b"", source);
     let manifest = Told::new(ALL, Ending::Whole, 8192);
     let mut checker = Checker::new(CHECK, "md5sum", b"l", false, manifest);
     let mut line = Vec::new(rt.alloc());
@@ -47,8 +45,8 @@ fn reads_no_further(rt: HostRuntime) -> Result<(), Fail> {
         }
         manifest.push(b'\n')?;
     }
-    let source = files(rt.alloc(), b"", Ending::Whole)?;
-    let mut streams = told(b"", source, (1000, 1000));
+    let source = files(rt.alloc(), 8192, b"", Ending::Whole)?;
+    let mut streams = told(b"", source);
     let input = Told::new(&manifest, Ending::Whole, 8192);
     let mut checker = Checker::new(CHECK, "md5sum", b"l", false, input);
     let mut line = Vec::new(rt.alloc());
@@ -63,7 +61,7 @@ fn reads_no_further(rt: HostRuntime) -> Result<(), Fail> {
 #[test]
 fn stops_for_good(rt: HostRuntime) {
     let source = Refusing::new();
-    let mut streams = told(b"", source, (1000, 1000));
+    let mut streams = told(b"", source);
     let mut checker = Checker::new(
         CHECK,
         "md5sum",
@@ -87,8 +85,8 @@ fn memory_refused(rt: HostRuntime) -> Result<(), Fail> {
     )?;
     let name = vec![in rt.alloc(); b'x'; 5000]?;
     manifest.extend_from_slice(&name)?;
-    let source = files(rt.alloc(), b"", Ending::Whole)?;
-    let mut streams = told(b"", source, (1000, 1000));
+    let source = files(rt.alloc(), 8192, b"", Ending::Whole)?;
+    let mut streams = told(b"", source);
     let input = Told::new(&manifest, Ending::Whole, 8192);
     let mut checker = Checker::new(CHECK, "md5sum", b"l3", false, input);
     let heap = LocalHeap::new(rt.alloc(), 256)?;
@@ -100,60 +98,4 @@ fn memory_refused(rt: HostRuntime) -> Result<(), Fail> {
         assert!(rt; streams.err.bytes().is_empty());
     }
     Ok(())
-}
-
-const REPORTS: &[u8] = b"a: OK\nx: FAILED open or read\ne: FAILED\n";
-
-const WARNINGS: &[u8] = b"md5sum: x: No such file or directory\n\
-    md5sum: WARNING: 1 line is improperly formatted\n\
-    md5sum: WARNING: 1 listed file could not be read\n\
-    md5sum: WARNING: 1 computed checksum did NOT match\n";
-
-// `check_one` of all verdicts with outputs that stop so answers this, and leaves fronts of both texts, of so many
-// bytes.
-fn stops_at(
-    rt: &(impl Abort + AllocGlobal),
-    stops: (usize, usize),
-    want: Result<bool, Stop>,
-    (in_out, in_err): (RangeInclusive<usize>, RangeInclusive<usize>),
-) -> Result<(), Fail> {
-    let source = files(rt.alloc(), ALL, Ending::Whole)?;
-    let mut streams = told(b"", source, stops);
-    let good = check_one(rt.alloc(), CHECK, "md5sum", b"l", &mut streams);
-    assert!(rt; good == want);
-    assert!(rt;
-        REPORTS.starts_with(streams.out.bytes()) && WARNINGS.starts_with(streams.err.bytes())
-    );
-    assert!(rt;
-        in_out.contains(&streams.out.bytes().len()),
-        "standard output at {}",
-        stops.0
-    );
-    assert!(rt;
-        in_err.contains(&streams.err.bytes().len()),
-        "standard error at {}",
-        stops.1
-    );
-    Ok(())
-}
-
-// The output that stops holds just these bytes, the other one all of the lines that were handled and none of later
-// ones. Only of the line of `x`, which both outputs tell of, it may hold a part.
-#[test]
-fn each_byte_the_last(rt: HostRuntime) -> Result<(), Fail> {
-    for stop in 0..39 {
-        let err = if stop < 6 {
-            0..=0
-        } else if stop < 29 {
-            0..=37
-        } else {
-            37..=37
-        };
-        stops_at(&rt, (stop, 1000), Err(Stop::Write), (stop..=stop, err))?;
-    }
-    for stop in 0..185 {
-        let out = if stop < 37 { 6..=29 } else { 39..=39 };
-        stops_at(&rt, (1000, stop), Err(Stop::Write), (out, stop..=stop))?;
-    }
-    stops_at(&rt, (39, 185), Ok(false), (39..=39, 185..=185))
 }
