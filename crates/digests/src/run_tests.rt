@@ -26,12 +26,6 @@ const SHA256_OF_ABC: &str = "ba7816bf8f01cfea414140de5dae2223b00361a396177a9cb41
 const BLAKE2B_256_OF_NOTHING: &str =
     "0e5751c026e543b2e8ab2eb06099daa1d1e5df47778f7787faab45cdf12fe3a8";
 
-// The last but one of the digests, without its last two digits.
-const CUT_SHORT: &str = "0e5751c026e543b2e8ab2eb06099daa1d1e5df47778f7787faab45cdf12fe3";
-
-const BLAKE2B_OF_NOTHING: &str = "786a02f742015903c6c6fd852552d272912f4740e15847618a86e217f71f5419\
-                                  d25e1031afee585313896444934eb04b903a685b1448b755d56f701afe9be2ce";
-
 // How many bytes a read gives at most.
 const PIECES: [usize; 3] = [1, 100, 8192];
 
@@ -45,9 +39,7 @@ fn spelled(alloc: Global, text: &str) -> Result<String, Fail> {
                 Some('M') => MD5_OF_ABC,
                 Some('E') => MD5_OF_NOTHING,
                 Some('S') => SHA256_OF_ABC,
-                Some('B') => BLAKE2B_256_OF_NOTHING,
-                Some('C') => CUT_SHORT,
-                _ => BLAKE2B_OF_NOTHING,
+                _ => BLAKE2B_256_OF_NOTHING,
             })?;
         }
         all.push_str(rest.as_str())?;
@@ -68,10 +60,9 @@ fn add_all<'a, A: Allocator + Copy>(
 
 // Adds the files of most rows. There is no `x`.
 fn add_files<A: Allocator + Copy>(files: &mut ToldSource<A>) -> Result<(), NoRoom> {
-    let all: [(&[u8], &[u8]); 5] = [
+    let all: [(&[u8], &[u8]); 4] = [
         (b"a", b"abc"),
         (b"e", b""),
-        (b"-b", b"abc"),
         (b"q\\\nz", b"abc"),
         (b"a\rb", b"abc"),
     ];
@@ -202,14 +193,5 @@ fn assert_broken(
         )?;
         assert_as(rt, &run, row)?;
     }
-    Ok(())
-}
-
-// That these names and no others were asked.
-fn assert_asked(rt: &impl Abort, files: &ToldSource<Global>, names: &[&[u8]]) -> Result<(), Fail> {
-    for (i, name) in names.iter().enumerate() {
-        assert_eq!(rt; files.asked_name(i).ok_or("asked")?, *name);
-    }
-    assert!(rt; files.asked_name(names.len()).is_none());
     Ok(())
 }
