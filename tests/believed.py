@@ -2,232 +2,179 @@
 """What a reader has to believe: the definitions that the contract of a function reaches, by their names.
 
     tests/believed.py            prints, for the headline, the program and each law, the files and their lines
-    tests/believed.py --names    the definitions too
+    tests/believed.py --names    the definitions' names too
+    tests/believed.py --text     prints the definitions themselves, each behind those that it stands on
     tests/believed.py --write    makes the tables of docs/PROMISES.md anew
+
+What a contract says of a value is said in words that others give a meaning: the clauses of the traits that bound the
+function's parameters, and the models through which it sees their types. So their definitions count too.
 
 A definition is counted with the comment above it and without blank lines. What the toolchain's own libraries define,
 and the types that the code declares, are not counted."""
 
-import glob
+import hashlib
 import os
 import re
+import signal
 import sys
+from typing import NamedTuple
 
-TOP = os.path.dirname(os.path.dirname(os.path.realpath(__file__)))
+sys.dont_write_bytecode = True
+
+from contracts import Code  # noqa: E402  (nothing is to be left beside these files)
+from definitions import TOP, Specs  # noqa: E402
+
 PROMISES = os.path.join(TOP, "docs", "PROMISES.md")
-START = re.compile(r"(?:abbrev|unfoldable|infixl|infixr|pub)\b")
-NAMED = re.compile(r"(?:(?:abbrev|unfoldable|irreducible)\s+)?(?:pub\s+)?(?:(record|data)\s+)?([^\s:({]+)")
-TOKEN = re.compile(r">>=|[^\s(){}\[\];,.:=|λ→×⊎]+")
+# What is believed besides the laws, in the order of the page: a function's crate and name, and what the page calls it.
+CLAIMS = [("digests", "run", "The headline"), ("digests", "command", "The program")]
+HASHES = """\
+Where a *hash* changed, there is something new to believe: it is the front of the SHA-256 of the text of a row's
+definitions, without comments and with white space folded.""".replace("\n", " ")
+MARKS = "<!-- made by tests/believed.py: what stands below -->\n", "\n<!-- and above this line -->"
 
 
-def import_of(line):
-    """The names that a `use` line brings in, each with the module that it comes from and its name there."""
-    said = re.match(r"(?:pub\s+)?use\s+([\w.-]+)(?:\.\{(.*)\}|\s+as\s+(\S+))?\s*;?$", line)
-    if not said:
-        return
-    module, names, alias = said.groups()
-    if alias:
-        yield alias, module, None
-    for name in (names or "").split(","):
-        name, _, other = name.strip().partition(" as ")
-        if name:
-            yield (other or name).strip(), module, name
+class Claim(NamedTuple):
+    """A function whose contract is believed, with what the page calls it: what gives its words a meaning, the
+    definitions that it reaches, and those of them that no claim before it reaches, by their files."""
+
+    function: str
+    crate: str
+    title: str
+    behind: list
+    reached: set
+    files: dict
 
 
-class Definition:
-    """A definition of `specs/`: its lines, and the names that it refers to."""
-
-    def __init__(self, module, kind, name, lines):
-        self.module, self.kind, self.name = module, kind, name
-        self.size = len(lines)
-        self.text = "\n".join(re.sub(r"--.*", "", re.sub(r'"(?:\\.|[^"\\])*"', '""', line)) for line in lines)
-
-    def constructors(self):
-        """The constructors of a type."""
-        return re.findall(r"^  (?:pub )?(\S+) :", self.text, re.MULTILINE) if self.kind == "data" else []
-
-    def bound(self):
-        """The names that stand for themselves here: those of patterns and binders."""
-        names = set(re.findall(r"\((\S+(?: \S+)*?) :", self.text))
-        names = {name for group in names for name in group.split()}
-        for group in re.findall(r"λ ([^.]*)\.", self.text):
-            names.update(TOKEN.findall(group))
-        names.update(re.findall(r"\blet (\S+)", self.text))
-        for line in self.text.split("\n"):
-            if line.startswith(self.name + " ") and "=" in line:
-                names.update(TOKEN.findall(line.split("=")[0])[1:])
-        return names - {self.name}
+def cited(specs, item):
+    """The definitions that the clauses of an item name."""
+    def find(name):
+        module, there = item.uses.get(name, (None, None))
+        return specs.find(module, there) if there else (None, False)
+    return {found for clause in item.clauses for found in specs.named(" " + clause, find, item.uses, item.bound)}
 
 
-class Module:
-    """A file of `specs/`."""
+def in_files(specs, definitions, place):
+    """The definitions by their files, each file behind those that it stands on, and else as their places say. In a file
+    its own order is such an order: the toolchain lets a definition use only what stands above it, or in other files."""
+    files, order = {}, {}
+    for module in specs.modules.values():
+        for definition in module.definitions.values():
+            if definition in definitions:
+                files.setdefault(definition.file, []).append(definition)
 
-    def __init__(self, path):
-        parts = os.path.relpath(path, os.path.join(TOP, "crates"))[: -len(".antt")].split(os.sep)
-        self.crate, self.file = parts[0], "/".join(parts[2:])
-        self.name = ".".join(["Rattle", *parts])
-        self.imports, self.definitions = {}, {}
-        with open(path, encoding="utf-8") as it:
-            self.read(it.read().split("\n"))
+    def put(file, above):
+        if file in above:
+            raise ValueError(f"these files stand on each other: {above}")
+        needs = {it.file for definition in files[file] for it in specs.meant(definition) & definitions}
+        for need in sorted(needs - {file} - order.keys(), key=place):
+            put(need, [*above, file])
+        order[file] = files[file]
 
-    def read(self, lines):
-        comment, block = [], []
-        for line in [*lines, ""]:
-            if re.match(r"(pub )?use ", line):
-                self.imports.update((name, (module, there)) for name, module, there in import_of(line))
-            starts = bool(START.match(line)) and not line.startswith(("pub use", "use"))
-            if block and (not line.strip() or starts or line.startswith("--")):
-                self.add(comment, block)
-                comment, block = [], []
-            if not line.strip():
-                comment = []
-            elif line.startswith("--"):
-                comment.append(line)
-            elif starts or block:
-                block.append(line)
-
-    def add(self, comment, block):
-        first = block[0]
-        if first.startswith(("infixl", "infixr")):
-            return
-        kind, name = NAMED.match(first).groups()
-        self.definitions[name] = Definition(self, kind, name, comment + block)
+    for file in sorted(files, key=place):
+        put(file, [])
+    return order
 
 
-class Specs:
-    """All definitions of the repository."""
-
-    def __init__(self):
-        paths = sorted(glob.glob(os.path.join(TOP, "crates", "*", "specs", "**", "*.antt"), recursive=True))
-        self.modules = {it.name: it for it in map(Module, paths)}
-        self.owners = {}
-        for module in self.modules.values():
-            for definition in module.definitions.values():
-                for name in definition.constructors():
-                    self.owners[module.name, name] = definition
-
-    def find(self, module, name):
-        """The definition of that name in a module, or that of the type whose constructor it is."""
-        there = self.modules.get(module)
-        if not there:
-            return None
-        spellings = (name, f"◌{name}◌", f"{name}◌", f"◌{name}")
-        for spelled in spellings:
-            if spelled in there.definitions:
-                return there.definitions[spelled]
-        if (module, name) in self.owners:
-            return self.owners[module, name]
-        for spelled in spellings:
-            if spelled in there.imports and there.imports[spelled][1]:
-                return self.find(*there.imports[spelled])
-        return None
-
-    def meant(self, definition):
-        """The definitions that this one refers to."""
-        module, bound = definition.module, definition.bound()
-        for token in set(TOKEN.findall(definition.text)):
-            found = self.find(module.name, token)
-            if found and found is not definition and (token not in bound or found.kind == "data"):
-                yield found
-
-    def reached(self, first):
-        """All definitions that these reach."""
-        seen, left = set(), list(first)
-        while left:
-            definition = left.pop()
-            if definition not in seen:
-                seen.add(definition)
-                left.extend(self.meant(definition))
-        return seen
-
-    def of_contract(self, crate, file, function):
-        """The definitions that the contract of a function names."""
-        with open(os.path.join(TOP, "crates", crate, "src", file), encoding="utf-8") as it:
-            text = it.read()
-        imports = {}
-        for line in re.findall(r"ghost (use [^;]*;)", text):
-            imports.update((name, (module, there)) for name, module, there in import_of(line))
-        begin = re.search(rf"^pub fn {function}\b", text, re.MULTILINE).start()
-        contract = text[begin : re.compile(r"^(\{|\{\})", re.MULTILINE).search(text, begin).start()]
-        contract = "".join(re.findall(r"ensures.*?\{(.*?)\}(?=\s*(?:ensures|$))", contract, re.DOTALL))
-        for token in set(TOKEN.findall(contract)):
-            if token in imports and imports[token][1]:
-                found = self.find(*imports[token])
-                if found:
-                    yield found
+def place_by(page):
+    """Where a file stands: as the page has it, and else by its crate and its name."""
+    with open(os.path.join(TOP, "crates.txt"), encoding="utf-8") as it:
+        crates = re.findall(r"^(\w+):", it.read(), re.MULTILINE)
+    known = {file: place for place, file in enumerate(rows_of(page))}
+    return lambda file: (known.get(file, len(known)), crates.index(file[0]), file[1])
 
 
-# What is believed, in the order of the page: the title of its table, and the function whose contract it is.
-CLAIMS = [
-    ("run", "digests", "run.rt", "run"),
-    ("command", "digests", "command.rt", "command"),
-]
-
-
-def laws():
-    """Each law: a function of a module `laws`, with its crate."""
-    for path in sorted(glob.glob(os.path.join(TOP, "crates", "*", "src", "laws.rt"))):
-        crate = path.split(os.sep)[-3]
-        with open(path, encoding="utf-8") as it:
-            for name in re.findall(r"^pub fn (\w+)", it.read(), re.MULTILINE):
-                yield name, crate, "laws.rt", name
-
-
-def sizes(definitions):
-    """The files of these definitions, each with how many there are and their lines."""
-    files = {}
-    for definition in definitions:
-        key = definition.module.crate, definition.module.file
-        number, size = files.get(key, (0, 0))
-        files[key] = number + 1, size + definition.size
-    return files
-
-
-def claims():
-    """For the headline, the program and each law in turn: what it reaches, and of that what those before it didn't."""
-    specs, before = Specs(), set()
-    for title, *where in [*CLAIMS, *laws()]:
-        reached = specs.reached(specs.of_contract(*where))
-        yield title, where[0], reached, reached - before
-        if title in ("run", "command"):
+def claims(page, specs=None):
+    """The headline, the program and each law in turn."""
+    specs, code, before, place = specs or Specs(), Code(), set(), place_by(page)
+    listed = [(code.function(crate, name), title) for crate, name, title in CLAIMS]
+    for function, title in listed + [(law, None) for law in code.laws()]:
+        behind = code.behind(function)
+        reached = specs.reached(found for item in behind for found in cited(specs, item))
+        yield Claim(function.name, function.crate, title, behind[1:], reached, in_files(specs, reached - before, place))
+        if title:
             before |= reached
 
 
-def rows_of(text):
+def in_order(page, specs):
+    """All that is believed, in the order in which it can be read: the files of the headline, of the program and of all
+    laws, with what each of the three is."""
+    every, laws = list(claims(page, specs)), set()
+    for claim in every:
+        if claim.title:
+            yield f"{claim.title} ({claim.function} of {claim.crate})", claim.files
+        else:
+            laws.update(*claim.files.values())
+    yield "The laws, besides what stands above", in_files(specs, laws, place_by(page))
+
+
+def text_of(page):
+    """The definitions themselves, behind what their files say of themselves."""
+    specs = Specs()
+    for title, files in in_order(page, specs):
+        yield f"-- ======== {title}: {counted(sum(files.values(), []))}"
+        for (crate, file), definitions in files.items():
+            yield "\n".join(["", f"-- ---- {crate} {file}: {counted(definitions)}", *definitions[0].module.head])
+            for definition in definitions:
+                yield "\n".join(["", *definition.lines])
+        yield ""
+
+
+def lines_of(definitions):
+    return sum(it.size for it in definitions)
+
+
+def counted(definitions):
+    return f"{len(definitions)} definition{'s' * (len(definitions) != 1)}, {lines_of(definitions):,} lines"
+
+
+def hash_of(definitions):
+    """Changes with the text of the definitions, but for comments and white space."""
+    return hashlib.sha256("\n".join(it.said for it in definitions).encode()).hexdigest()[:8]
+
+
+def rows_of(page):
     """The rows of the page's tables: what each file says, in the page's order."""
-    rows = re.findall(r"^\| `(\w+)` `([\w/]+)` \| (.*?) \| \d+ \| \d+ \|$", text, re.MULTILINE)
+    rows = re.findall(r"^\| `(\w+)` `([\w/]+)` \| (.*?) \| \d+ \| \d+ \|", page, re.MULTILINE)
     return {(crate, file): says for crate, file, says in rows}
 
 
-def counted(reached):
-    return f"{len(reached)} definitions, {sum(it.size for it in reached):,} lines"
+def meaning_of(claim):
+    """The traits and the models that give the words of a claim's contract a meaning."""
+    means = []
+    for kind, what in (("trait", "the clauses of"), ("Model", "the views of")):
+        names = [f"`{it.name}`" for it in claim.behind if it.kind == kind]
+        listed = " and ".join([", ".join(names[:-1]), *names[-1:]] if names[1:] else names)
+        means += [f"{what} {listed}"] if names else []
+    return ", with " + " and ".join(means) if means else ""
 
 
-def tables(text):
-    """The part of the page between its two marks, as it has to be; what files say is taken from the page's text."""
-    says, lines, of_laws = rows_of(text), [], []
-    crates = [line.split(":")[0] for line in open(os.path.join(TOP, "crates.txt"), encoding="utf-8") if ": " in line]
-    known = {key: place for place, key in enumerate(says)}
-    for title, crate, reached, new in claims():
-        files = sizes(new)
-        order = sorted(files, key=lambda it: (it not in known, known.get(it), crates.index(it[0]), it[1]))
-        if title in TITLES:
-            lines += ["", TITLES[title].format(counted(reached)), "", "| definitions | what they say | how many | lines |",
-                      "|---|---|---|---|"]
-            lines += [f"| `{it[0]}` `{it[1]}` | {says.get(it, '?')} | {files[it][0]} | {files[it][1]} |" for it in order]
-        else:
-            names = ", ".join(f"`{file}` of `{owner}` ({files[owner, file][1]})" for owner, file in order)
-            of_laws.append(f"| `{title}` of `{crate}` | {counted(reached)} | {names} |")
-    head = ["", "**The laws** reach these, of which so many lines stand in neither table:", "",
-            "| law | in all | besides the tables (lines) |", "|---|---|---|"]
-    return "\n".join([*lines[1:], *head, *of_laws])
+def head_of(claim):
+    what = f"`{claim.function}` of `{claim.crate}`{meaning_of(claim)}"
+    return f"**{claim.title}** ({what}) reaches {counted(claim.reached)}"
 
 
-TITLES = {
-    "run": "**The headline** (`run` of `digests`) reaches {}:",
-    "command": "**The program** (`command` of `digests`) reaches {}; besides those above:",
-}
-MARKS = "<!-- made by tests/believed.py: what stands below -->\n", "\n<!-- and above this line -->"
+def table_of(claim, says):
+    """The table of a claim, a row a file; `?` where the page doesn't tell what the file says."""
+    yield from ["", "| definitions | what they say | how many | lines | hash |", "|---|---|---|---|---|"]
+    for (crate, file), them in claim.files.items():
+        what = says.get((crate, file), "?")
+        yield f"| `{crate}` `{file}` | {what} | {len(them)} | {lines_of(them)} | `{hash_of(them)}` |"
+
+
+def row_of(law):
+    names = [f"`{file}` of `{crate}` ({lines_of(them)})" for (crate, file), them in law.files.items()]
+    besides = f"{', '.join(names)} | `{hash_of(sum(law.files.values(), []))}`" if names else "nothing |"
+    return f"| `{law.function}` of `{law.crate}` | {counted(law.reached)} | {besides} |"
+
+
+def tables(page):
+    """The part of the page between its two marks, as it has to be; what files say is taken from the page."""
+    says, every, lines = rows_of(page), list(claims(page)), [HASHES, ""]
+    for place, claim in enumerate(it for it in every if it.title):
+        lines += [head_of(claim) + ("; besides those above:" if place else ":"), *table_of(claim, says), ""]
+    lines += ["**The laws** reach these, of which so many lines, with that hash, stand in neither table:", "",
+              "| law | in all | besides the tables (lines) | hash |", "|---|---|---|---|"]
+    return "\n".join(lines + [row_of(claim) for claim in every if not claim.title])
 
 
 def page():
@@ -238,19 +185,28 @@ def page():
     return text, text[:begin] + tables(text) + text[end:]
 
 
+def show(text, names):
+    for claim in claims(text):
+        print(f"{claim.function} of {claim.crate}: {counted(claim.reached)}; not above:")
+        for (crate, file), them in claim.files.items():
+            print(f"  {crate} {file}: {len(them)} of {lines_of(them)} lines")
+            if names:
+                print("     ", " ".join(it.name for it in them))
+
+
 def main(words):
+    text, has_to_be = page()
     if words == ["--write"]:
-        text = page()[1]
         with open(PROMISES, "w", encoding="utf-8") as it:
-            it.write(text)
-        return
-    for title, crate, reached, new in claims():
-        print(f"{title} of {crate}: {counted(reached)}; not above:")
-        for (owner, file), (number, size) in sorted(sizes(new).items()):
-            print(f"  {owner} {file}: {number} of {size} lines")
-            if "--names" in words:
-                print("     ", " ".join(sorted(it.name for it in new if (it.module.crate, it.module.file) == (owner, file))))
+            it.write(has_to_be)
+    elif words == ["--text"]:
+        print("\n".join(text_of(text)))
+    elif words in ([], ["--names"]):
+        show(text, bool(words))
+    else:
+        sys.exit(__doc__)
 
 
 if __name__ == "__main__":
+    signal.signal(signal.SIGPIPE, signal.SIG_DFL)
     main(sys.argv[1:])

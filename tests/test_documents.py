@@ -6,7 +6,26 @@ import re
 
 import believed
 import harness
+from definitions import Names, Specs
 from harness import Case
+
+# Clauses and declarations, and which of `form`, `good`, `says` and the constructor `some` stand free in them.
+FREE = (
+    ("law = (form : A) → (says form ≡ b) ⊎ ((good : B) → says good) → good", "says says good"),
+    ("law = (says form ≡ b) → (form : A) → B", "says form"),
+    ("f form = form\nf a = form", "form"),
+    ("f (some form) {good} = form good", "some"),
+    ("f a = (λ form good. form) (form a)", "form"),
+    ("f a = (λ (form : good). form) a", "good"),
+    ("f a = let good = good form in good", "good form"),
+    ("f a = do\n  form ← form a\n  let good = good form\n  says good", "form good says"),
+    ("f a = record { good = a.form; form = some }", "some"),
+    ("f a = g {form = good}", "good"),
+    ("pub record R (says : A) : Type 0 where\n  pub good : good says\n  pub form : good", "good"),
+    ("pub record R : Type 0 where\n  pub a : (form : A) → B form\n  pub b : form", "form"),
+    ("f a =\n    let good = b\n        c in good", ""),
+    ('f a = form "good \\" says" some', "form some"),
+)
 
 
 def turned(path):
@@ -42,6 +61,23 @@ class Documents(Case):
     def test_every_file_is_explained(self):
         for (crate, file), says in believed.rows_of(believed.page()[0]).items():
             self.assertNotEqual(says, "?", f"docs/PROMISES.md doesn't say what {file} of {crate} is")
+
+    def test_definitions_stand_on_those_above_them(self):
+        """The order of the page and of `--text` is one in which a definition uses only those before it."""
+        page, specs, above = believed.page()[0], Specs(), set()
+        for _, files in believed.in_order(page, specs):
+            for definition in (it for them in files.values() for it in them):
+                below = [it.name for it in specs.meant(definition) - above]
+                self.assertEqual(below, [], f"{definition.name} of {definition.file} stands above these")
+                above.add(definition)
+        for claim in believed.claims(page, specs):
+            self.assertLessEqual(claim.reached, above, claim.function)
+
+    def test_names_that_stand_free(self):
+        """A name stands for a definition where no binder, pattern, field or text has it."""
+        for text, free in FREE:
+            found = [name for name, _ in Names(text, {"some"}.__contains__).free]
+            self.assertEqual([it for it in found if it in ("form", "good", "says", "some")], free.split(), text)
 
     def test_wrong_bodies(self):
         """Each turns a text that stands once in its file."""

@@ -1,4 +1,3 @@
-mod Outputs
 mod OneTextLemmas
 mod OperandLemmas
 mod EndingLemmas

@@ -1,5 +1,5 @@
 -- Worked command lines: both texts, the names that are asked and whether all is good, as the meaning has them.
-use Rattle.std.proofs.Common.{◌≡◌, ◌++◌, List, [], ◌∷◌, refl, codes, true, false}
+use Rattle.std.proofs.Common.{◌≡◌, ◌++◌, Bool, List, [], ◌∷◌, refl, codes, true, false}
 use Rattle.std.specs.Prelude.{flat_map, if◌then◌else◌}
 use Rattle.std.specs.List.{concat}
 use Rattle.std.specs.Str.{bytes_eq, chars}
@@ -19,6 +19,8 @@ use Rattle.sum_lines.specs.Says.{entry_of}
 use Rattle.sum_sources.specs.Contents.{Content, limit}
 use Rattle.sum_sources.specs.Sources.{Reply, Refused, Given}
 use Rattle.sum_engine.specs.Worlds.{World}
+use Rattle.sum_engine.specs.Runs.{outs, errs, asks}
+use Rattle.sum_words.specs.declared.tool.Tool.{Tool}
 use Rattle.sum_words.specs.declared.tool.Tool.TheVariants.{Md5sum, B2sum, Anysum}
 use Rattle.sum_words.specs.Items.{Text, resolved, lettered}
 use Rattle.digests.specs.Meaning.{meaning}
@@ -45,8 +47,20 @@ list_of lines = whole (flat_map (λ line. line ++ codes "\n") lines)
 abbrev world : Content → Content → World
 world l input = record { answer = answer_with l; asked = []; input = input }
 
+-- both texts of a run, the names that it asks, and whether all is good
+record Comes : Type 0 where
+  out : Text
+  err : Text
+  asks : List Text
+  good : Bool
+
+abbrev comes_to : Tool → List Text → World → Comes
+comes_to tool words w =
+    let run = meaning tool words w in
+    record { out = outs run; err = errs run; asks = asks run; good = run.good }
+
 -- md5sum a e
-files : meaning Md5sum
+files : comes_to Md5sum
     (codes "a" ∷ codes "e" ∷ [])
     (world (whole []) (whole [])) ≡ record {
       out = concat (codes "900150983cd24fb0d6963f7d28e17f72  a\n"
@@ -60,7 +74,7 @@ unfolding chars encode resolved lettered limit encode_with
 files = refl
 
 -- md5sum a x e
-missing_file : meaning Md5sum
+missing_file : comes_to Md5sum
     (codes "a" ∷ codes "x" ∷ codes "e" ∷ [])
     (world (whole []) (whole [])) ≡ record {
       out = concat (codes "900150983cd24fb0d6963f7d28e17f72  a\n"
@@ -74,7 +88,7 @@ unfolding chars encode resolved lettered limit encode_with
 missing_file = refl
 
 -- md5sum - -, with `abc` on standard input
-stdin_twice : meaning Md5sum
+stdin_twice : comes_to Md5sum
     (codes "-" ∷ codes "-" ∷ [])
     (world (whole []) (whole (codes "abc"))) ≡ record {
       out = concat (codes "900150983cd24fb0d6963f7d28e17f72  -\n"
@@ -88,7 +102,7 @@ unfolding chars encode resolved lettered limit encode_with
 stdin_twice = refl
 
 -- md5sum, whose input gives three bytes and then a fault
-stdin_fails : meaning Md5sum
+stdin_fails : comes_to Md5sum
     ([])
     (world (whole []) (broken (codes "abc"))) ≡ record {
       out = [];
@@ -101,7 +115,7 @@ unfolding chars encode resolved lettered limit
 stdin_fails = refl
 
 -- b2sum -l 256 --tag e
-tagged : meaning B2sum
+tagged : comes_to B2sum
     (codes "-l" ∷ codes "256" ∷ codes "--tag" ∷ codes "e" ∷ [])
     (world (whole []) (whole [])) ≡ record {
       out = concat (codes "BLAKE2b-256 (e) = 0e5751c026e543b2e8ab2eb06099daa1d1e5df47778f7787faab45cdf12fe3a8\n" ∷ []);
@@ -114,7 +128,7 @@ unfolding chars encode resolved lettered limit encode_with digits
 tagged = refl
 
 -- md5sum --foo --help
-unknown_option : meaning Md5sum
+unknown_option : comes_to Md5sum
     (codes "--foo" ∷ codes "--help" ∷ [])
     (world (whole []) (whole [])) ≡ record {
       out = [];
@@ -127,7 +141,7 @@ unfolding chars encode resolved lettered
 unknown_option = refl
 
 -- md5sum -c l
-all_verdicts : meaning Md5sum
+all_verdicts : comes_to Md5sum
     (codes "-c" ∷ codes "l" ∷ [])
     (world (list_of (codes "900150983cd24fb0d6963f7d28e17f72  a"
     ∷ codes "#c"
@@ -150,7 +164,7 @@ unfolding chars encode resolved lettered limit pieces entry_of plain_parts tags 
 all_verdicts = refl
 
 -- md5sum -c --ignore-missing -w --strict l
-ignore_missing : meaning Md5sum
+ignore_missing : comes_to Md5sum
     (codes "-c" ∷ codes "--ignore-missing" ∷ codes "-w" ∷ codes "--strict" ∷ codes "l" ∷ [])
     (world (list_of (codes "900150983cd24fb0d6963f7d28e17f72  a"
     ∷ codes "#c"
@@ -171,7 +185,7 @@ unfolding chars encode resolved lettered limit pieces entry_of plain_parts tags 
 ignore_missing = refl
 
 -- md5sum -c, whose manifest on standard input lists `-`
-nothing_to_check : meaning Md5sum
+nothing_to_check : comes_to Md5sum
     (codes "-c" ∷ [])
     (world (whole []) (list_of (codes "900150983cd24fb0d6963f7d28e17f72  -" ∷ []))) ≡ record {
       out = [];
@@ -185,7 +199,7 @@ unfolding chars encode resolved lettered limit pieces entry_of plain_parts tags 
 nothing_to_check = refl
 
 -- md5sum -c l, where the manifest breaks off in its second line
-manifest_fails : meaning Md5sum
+manifest_fails : comes_to Md5sum
     (codes "-c" ∷ codes "l" ∷ [])
     (world (broken (
     codes "900150983cd24fb0d6963f7d28e17f72  a\n"
@@ -201,7 +215,7 @@ unfolding chars encode resolved lettered limit pieces entry_of plain_parts tags 
 manifest_fails = refl
 
 -- md5sum -c l l, which lists `-`, with `abc` on standard input
-stdin_listed : meaning Md5sum
+stdin_listed : comes_to Md5sum
     (codes "-c" ∷ codes "l" ∷ codes "l" ∷ [])
     (world (list_of (codes "900150983cd24fb0d6963f7d28e17f72  -" ∷ [])) (whole (codes "abc"))) ≡ record {
       out = concat (codes "-: OK\n"
@@ -216,7 +230,7 @@ unfolding chars encode resolved lettered limit pieces entry_of plain_parts tags 
 stdin_listed = refl
 
 -- md5sum -c l, whose first line has one blank, and the second two
-reversed_form : meaning Md5sum
+reversed_form : comes_to Md5sum
     (codes "-c" ∷ codes "l" ∷ [])
     (world (list_of (codes "900150983cd24fb0d6963f7d28e17f72 a"
     ∷ codes "900150983cd24fb0d6963f7d28e17f72  a" ∷ [])) (whole [])) ≡ record {
@@ -233,7 +247,7 @@ unfolding chars encode resolved lettered limit pieces entry_of plain_parts tags 
 reversed_form = refl
 
 -- anysum -c l
-mixed_tags : meaning Anysum
+mixed_tags : comes_to Anysum
     (codes "-c" ∷ codes "l" ∷ [])
     (world (list_of (codes "MD5 (a) = 900150983cd24fb0d6963f7d28e17f72"
     ∷ codes "BLAKE2b-256 (e) = 0e5751c026e543b2e8ab2eb06099daa1d1e5df47778f7787faab45cdf12fe3a8"

@@ -1,5 +1,5 @@
 -- What generation writes is good under checking.
-use Rattle.std.proofs.Common.{◌≡◌, ℕ, ◌<◌, false, List, [], ◌∷◌, length, map, refl, ap, sym, ◌∙◌, length-append, Ok}
+use Rattle.std.proofs.Common.{◌≡◌, ℕ, ◌<◌, false, List, [], ◌∷◌, length, map, refl, ap, sym, ◌∙◌, length-append, append-nil, Ok}
 use Rattle.std.specs.Prelude.{flat_map}
 use Rattle.std.specs.List.{All}
 use Rattle.std.proofs.lemmas.List.{length-map}
@@ -16,6 +16,7 @@ use Rattle.sum_engine.specs.declared.settings.Settings.{Settings}
 use Rattle.sum_engine.specs.declared.settings.CheckSettings.{CheckSettings}
 use Rattle.sum_engine.specs.declared.settings.Report.{Report}
 use Rattle.sum_engine.specs.Worlds.{World, reply, after, read}
+use Rattle.sum_engine.specs.Runs.{outs, asks}
 use Rattle.sum_engine.specs.Generation.{generated}
 use Rattle.sum_engine.specs.Reports.{right_line}
 use Rattle.sum_engine.proofs.ListedLemmas.{Item, written_text, Listed}
@@ -49,19 +50,20 @@ read-is w s name h =
 
 -- so one line is written for it
 line-is : (w : World) (s : Settings) (tool name : Text) → s.style.zero ≡ false → Listable w.answer name
-    → (generated s tool w name).out ≡ written_text (item w.answer s name)
-line-is w s tool name newlines h = rw (read-is w s name h, newlines) refl
+    → outs (generated s tool w name) ≡ written_text (item w.answer s name)
+line-is w s tool name newlines h = rw (read-is w s name h, newlines, append-nil) refl
 
 -- and for all names their lines, one behind the other; what a name answers doesn't depend on what was asked before
 lines-are : (s : Settings) (tool : Text) (names : List Text) (w : World)
     → s.style.zero ≡ false → All (Listable w.answer) names
-    → (all_of (generated s tool) w names).out ≡ flat_map written_text (map (item w.answer s) names)
+    → outs (all_of (generated s tool) w names) ≡ flat_map written_text (map (item w.answer s) names)
 lines-are s tool [] w newlines all = refl
 lines-are s tool (name ∷ names) w newlines all =
-    let next : World = after w (generated s tool w name).asks in
+    let next : World = after w (asks (generated s tool w name)) in
     let first = line-is w s tool name newlines (All-head (Listable w.answer) name names all) in
     let others = lines-are s tool names next newlines (All-tail (Listable w.answer) name names all) in
-    rw (first, others) refl
+    flat_map-append (λ st. st.out) (generated s tool w name).steps (all_of (generated s tool) next names).steps
+    ∙ rw (first, others) refl
 
 -- ---- they are read back, and their files are the same
 

@@ -1,88 +1,78 @@
 -- What the program does, from the list of its arguments to its status.
-use Rattle.std.specs.Prelude.{Result, Ok, ℕ, zero, suc, ◌≡◌, ◌+◌, ◌<◌, ◌⊎◌, List, [], ◌++◌, Option, None, Some, ⊤}
+use Rattle.std.specs.Prelude.{ℕ, ◌≡◌, ◌⊎◌, false, List, [], ◌∷◌, ◌++◌, Option, None, Some, ⊤}
 use Rattle.sum_sources.specs.Contents.{WhereTold}
-use Rattle.sum_lines.specs.Sinks.{after_failure}
+use Rattle.sum_lines.specs.Sinks.{IsPrefix, after_failure}
 use Rattle.sum_engine.specs.declared.stop.Stop.{Stop}
 use Rattle.sum_engine.specs.declared.stop.Stop.TheVariants.{Memory, Write}
-use Rattle.sum_engine.specs.Worlds.{World, after}
-use Rattle.sum_engine.specs.Outcomes.{Outcome}
-use Rattle.sum_engine.specs.Scenes.{Scene, Does}
-use Rattle.sum_words.specs.declared.tool.Tool.{Tool}
+use Rattle.sum_engine.specs.declared.streams.Streams.{Streams}
+use Rattle.sum_engine.specs.Worlds.{World}
+use Rattle.sum_engine.specs.Runs.{Event, Step, Run, events_by, events, at_once}
+use Rattle.sum_engine.specs.Scenes.{Scene, Did, Wants, Rose}
 use Rattle.sum_words.specs.Items.{Text}
-use Rattle.sum_words.specs.Request.{request}
-use Rattle.sum_words.specs.Tools.{name_of}
-use Rattle.sum_words.specs.CommandLines.{Call, unknown, call, command_line}
+use Rattle.sum_words.specs.CommandLines.{Call, unknown, call, command_line, NeedsMemory}
 use Rattle.sum_words.specs.Texts.{not_read, unknown_tool, stop_line}
-use Rattle.digests.specs.Meaning.{nothing, meaning, place, on_err, status_of}
-use Rattle.digests.specs.Headline.{Wanting}
+use Rattle.digests.specs.Meaning.{meaning, status_of}
 
--- what that comes to, what of it stands at a place, which places want memory, and the line that tells of a stop
-abbrev pub outcome_of : Option Call → World → Outcome
-outcome_of None w = on_err not_read
-outcome_of (Some unknown) w = on_err unknown_tool
-outcome_of (Some (call tool words)) w = meaning tool words w
+-- what a call means, and the line that tells of its stop, where there is a tool to tell of it
+abbrev pub run_of : Option Call → World → Run
+run_of None w = at_once [] not_read [] false
+run_of (Some unknown) w = at_once [] unknown_tool [] false
+run_of (Some (call tool words)) w = meaning tool words w
 
-abbrev pub place_in : Option Call → World → ℕ → ℕ → Outcome
-place_in (Some (call tool words)) w j k = place tool words w j k
-place_in line w j k = nothing
+abbrev pub stop_told : Option Call → Stop → Text
+stop_told (Some (call tool words)) stop = stop_line tool stop
+stop_told line stop = []
 
-abbrev pub WantsMemory : Option Call → ℕ → ℕ → World → ℕ → ℕ → Type 0
-WantsMemory (Some (call tool words)) n m w j k = Wanting n m (name_of tool) w (request tool words) j k
-WantsMemory line n m w j k = ⊥
+-- how often the calls of both outputs have failed
+pub record Failing : Type 0 where
+  pub out : ℕ
+  pub err : ℕ
 
-abbrev pub stop_told : Option Tool → Stop → Text
-stop_told None stop = []
-stop_told (Some tool) stop = stop_line tool stop
+abbrev pub failing : {I S O E : Type 0} → (O → ℕ) → (E → ℕ) → Streams I S O E → Failing
+failing out err s = record { out = out s.out; err = err s.err }
 
-abbrev pub tool_of : Option Call → Option Tool
-tool_of (Some (call tool words)) = Some tool
-tool_of line = None
+-- this much of a line was handed on by standard error: all of it; or a prefix, where that output failed
+abbrev pub Says : Text → Text → Failing → Failing → Type 0
+Says line said f g =
+    (g.out ≡ f.out) × (((said ≡ line) × (g.err ≡ f.err)) ⊎ (IsPrefix said line × (g.err ≡ after_failure f.err)))
 
--- what an output holds is a front of what it held and then the text
-abbrev pub HoldsFront : Option Text → Option Text → Text → Type 0
-HoldsFront old new text = WhereTold old new (λ old new. (rest : Text) × (old ++ text ≡ new ++ rest))
+-- all events came about, and no output failed
+pub record EndsWhole (run : Run) (f g : Failing) (a b : Scene) (status : ℕ) : Type 0 where
+  pub is : status ≡ status_of run.good
+  pub did : Did a b (events run.steps)
+  pub kept : g ≡ f
 
--- or a front of that and then this line
-abbrev pub HoldsFrontThen : Option Text → Option Text → Text → Text → Type 0
-HoldsFrontThen old new text line = (kept : Option Text) × HoldsFront old kept text × HoldsFront kept new line
+-- an output failed: one prefix of the events came about, and then the line for that was told
+pub record EndsBroken (run : Run) (line : Text) (f g : Failing) (a b : Scene) (status : ℕ) : Type 0 where
+  pub is : status ≡ 1
+  pub prefix : List Event
+  pub begins : IsPrefix prefix (events run.steps)
+  pub broken : Failing
+  pub rose : Rose f.out broken.out f.err broken.err
+  pub said : Text
+  pub says : Says line said broken g
+  pub did : Did a b (prefix ++ events_by [] said [])
 
--- an output's failures rose, by so many
-abbrev pub fails : ℕ → ℕ → ℕ
-fails zero n = n
-fails (suc k) n = after_failure (fails k n)
+-- memory was wanted at a step: the steps before it came about, and then the line for that was told
+pub record EndsWaiting (run : Run) (line : Text) (n m : ℕ) (f g : Failing) (a b : Scene) (status : ℕ) : Type 0 where
+  pub is : status ≡ 1
+  pub done : List Step
+  pub next : Step
+  pub rest : List Step
+  pub begins : run.steps ≡ done ++ next ∷ rest
+  pub wants : Wants n m next
+  pub said : Text
+  pub says : Says line said f g
+  pub did : Did a b (events done ++ events_by [] said [])
 
-abbrev pub Failed : ℕ → ℕ → ℕ → ℕ → Type 0
-Failed o o' e e' = (i : ℕ) × (j : ℕ) × (0 < i + j) × (o' ≡ fails i o) × (e' ≡ fails j e)
+-- THE PROGRAM, for what it was called for: in one of these three ways
+abbrev pub EndsGives : Option Call → ℕ → ℕ → Failing → Failing → Option Scene → Option Scene → ℕ → Type 0
+EndsGives line n m f g a b status = WhereTold a b (λ a b. let run = run_of line a.world in
+    EndsWhole run f g a b status ⊎ (EndsBroken run (stop_told line Write) f g a b status
+    ⊎ EndsWaiting run (stop_told line Memory) n m f g a b status))
 
--- an output was asked in the end whether it keeps what it took, and does
-abbrev pub IsKept : {O E : Type 0} → (O → Result (Unit {0}) E → O → Type 0) → O → Type 0
-IsKept {O} finish_gives out = (below : O) × finish_gives below (Ok tt) out
-
--- the whole of an outcome, and then a line on standard error
-abbrev pub Whole : Outcome → Text → ℕ → Scene → Scene → ℕ → Type 0
-Whole o line status a b answer = (answer ≡ status) × Does a b o.out (o.err ++ line) o.asks
-
--- fronts of an outcome, and then a front of the line on standard error
-abbrev pub Fronts : Outcome → Text → Scene → Scene → ℕ → Type 0
-Fronts o line a b answer = (answer ≡ 1) × ((asked : List Text) × (rest : List Text) × (o.asks ≡ asked ++ rest)
-    × (b.world ≡ after a.world asked)) × HoldsFront a.out b.out o.out × HoldsFrontThen a.err b.err o.err line
-
--- how a program ends: with all that its command line comes to; or fronts of it, where an output failed; or at a place
--- where memory was wanted, with all that stands there, or fronts of that where an output failed too
-abbrev pub EndsAs : Option Call → ℕ → ℕ → Type 0 → Type 0 → Scene → Scene → ℕ → Type 0
-EndsAs line n m kept failed a b answer =
-    (let o = outcome_of line a.world in (Whole o [] (status_of o.good) a b answer × kept)
-    ⊎ (Fronts o (stop_told (tool_of line) Write) a b answer × failed))
-    ⊎ ((j : ℕ) × (k : ℕ) × WantsMemory line n m a.world j k × (let o = place_in line a.world j k in
-    (Whole o (stop_told (tool_of line) Memory) 1 a b answer × kept)
-    ⊎ (Fronts o (stop_told (tool_of line) Memory) a b answer × failed)))
-
-abbrev pub EndsGives : Option Call → ℕ → ℕ → Type 0 → Type 0 → Option Scene → Option Scene → ℕ → Type 0
-EndsGives line n m kept failed a b answer = WhereTold a b (λ a b. EndsAs line n m kept failed a b answer)
-
--- the command line is that of the arguments, or couldn't be read for want of memory
-abbrev pub ProgramGives :
-    Option (List Text) → ℕ → ℕ → Type 0 → Type 0 → Option Scene → Option Scene → ℕ → Type 0
-ProgramGives None n m kept failed a b answer = ⊤
-ProgramGives (Some arguments) n m kept failed a b answer =
-    EndsGives (command_line arguments) n m kept failed a b answer ⊎ EndsGives None n m kept failed a b answer
+-- what it is called for is said by the arguments; or the words couldn't be read, which needed memory
+abbrev pub ProgramGives : Option (List Text) → ℕ → ℕ → Failing → Failing → Option Scene → Option Scene → ℕ → Type 0
+ProgramGives None n m f g a b status = ⊤
+ProgramGives (Some arguments) n m f g a b status = EndsGives (command_line arguments) n m f g a b status
+    ⊎ (NeedsMemory arguments × EndsGives None n m f g a b status)

@@ -10,6 +10,7 @@ use Rattle.sum_lines.specs.Laws.{ReadBy}
 use Rattle.sum_engine.specs.declared.settings.Settings.{Settings}
 use Rattle.sum_engine.specs.declared.settings.CheckSettings.{CheckSettings}
 use Rattle.sum_engine.specs.Worlds.{World, is_dash, reply}
+use Rattle.sum_engine.specs.Runs.{outs, errs}
 use Rattle.sum_engine.specs.Generation.{generated}
 use Rattle.sum_engine.specs.Reports.{right_line}
 use Rattle.sum_engine.specs.Checking.{checked}
@@ -33,7 +34,7 @@ pub record Written : Type 0 where
 
 -- what it writes on standard output in a world
 abbrev pub written : World → Written → Text
-written w g = (all_of (generated g.settings g.tool) w g.names).out
+written w g = outs (all_of (generated g.settings g.tool) w g.names)
 
 abbrev pub names_of : Written → List Text
 names_of g = g.names
@@ -51,8 +52,8 @@ pub record Checkable (algos : Algos) (w v : World) (g : Written) : Type 0 where
 -- such lines, and nothing else.
 pub record IsGood (check : CheckSettings) (tool : Text) (v : World) (manifest : Text) (names : List Text) : Type 0 where
   pub good : (checked check tool v manifest).good ≡ true
-  pub out : (checked check tool v manifest).out ≡ flat_map (right_line check.report) names
-  pub err : (checked check tool v manifest).err ≡ []
+  pub out : outs (checked check tool v manifest) ≡ flat_map (right_line check.report) names
+  pub err : errs (checked check tool v manifest) ≡ []
 
 -- what generation wrote for one name or more is good as a manifest, where it isn't too long
 abbrev pub WrittenIsGood : Type 0

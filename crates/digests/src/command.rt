@@ -1,97 +1,95 @@
 //! The whole program, from the list of its arguments to its exit status.
-ghost use Rattle.std.specs.Prelude.{◌≡◌, None, Some, IfOk};
-ghost use Rattle.std.specs.Io.KnownBytes.{append_known};
-ghost use Rattle.sum_engine.specs.Scenes.{scene, Kept};
-ghost use Rattle.sum_words.specs.CommandLines.{call};
-ghost use Rattle.digests.specs.Program.{ProgramGives, EndsGives, Failed, IsKept};
+ghost use Rattle.std.specs.Prelude.{◌≡◌, [], IsOk};
+ghost use Rattle.sum_engine.specs.Scenes.{scene, HoldNothing};
+ghost use Rattle.sum_engine.specs.joins.Telling.{Tells, Fails};
+ghost use Rattle.sum_words.specs.Texts.{not_read, unknown_tool};
+ghost use Rattle.digests.specs.Program.{ProgramGives, failing};
+ghost use Rattle.digests.specs.joins.Endings.{Closes, line_of};
 
-use crate::ending::close;
-use crate::run::{answer, status_once};
+use crate::ending::{settle, tell};
+use crate::run::{run, status_once};
 use std::alloc::Allocator;
-use sum_engine::{Settings, Streams};
-use sum_lines::{Finish, Sink, Style, WholeLines, put_all};
+use sum_engine::{Stop, Streams};
+use sum_lines::{Sink, SinkFault, put_all};
 use sum_sources::{Input, Source};
-use sum_words::{
-    Arguments, CommandLine, Job, NotRead, Request, Tool, WordFault, Words, put_unknown,
-    read_command_line, read_words,
-};
+use sum_words::{Arguments, CommandLine, NotRead, Tool, put_unknown, read_command_line};
 
 /// Does what the program was called for, and answers its exit status. The tool is the one by whose name the program was
 /// called, as by a link, or else the one that the first word names; the other words are the tool's. Each line is handed
-/// on whole, in one piece, as soon as it is complete; at the end the outputs hold nothing.
+/// on as soon as it is complete, and both outputs are flushed once more at the end.
 ///
 /// `digests: words not read` on standard error and status 1 where a word isn't UTF-8, or memory for the words was
-/// refused; `digests: unknown tool` and status 1 where there is no such tool. After a stop, `TOOL: memory exhausted` or
-/// `TOOL: write error` where that can be written, and status 1.
-pub fn command<A: Allocator + Copy, G: Arguments, I: Input + Drop, S: Source, O: Finish, E: Sink>(
+/// wanted and refused; `digests: unknown tool` and status 1 where there is no such tool. After a stop, `TOOL: memory
+/// exhausted` or `TOOL: write error` where that can be written, and status 1. What is said of bytes is said of outputs
+/// that hold nothing when they are lent.
+pub fn command<A: Allocator + Copy, G: Arguments, I: Input + Drop, S: Source, O: Sink, E: Sink>(
     alloc: A,
     arguments: &G,
-    streams: &mut Streams<I, S, WholeLines<O>, WholeLines<E>>,
+    streams: &mut Streams<I, S, O, E>,
 ) -> u8
-    ensures gives { ProgramGives (G.told arguments.now) (S.refusals streams.old.source) (S.refusals streams.new.source)
-        (Kept (O.failures streams.old.out.sink) (O.failures streams.new.out.sink) (E.failures streams.old.err.sink)
-        (E.failures streams.new.err.sink))
-        (Failed (O.failures streams.old.out.sink) (O.failures streams.new.out.sink) (E.failures streams.old.err.sink)
-        (E.failures streams.new.err.sink))
-        (scene I.content S.told (λ out. append_known (O.written out.sink) out.held)
-        (λ err. append_known (E.written err.sink) err.held) streams.old)
-        (scene I.content S.told (λ out. O.written out.sink) (λ err. E.written err.sink) streams.new) result }
-    ensures kept { result ≡ 0 → IsKept O.finish_gives streams.new.out.sink }
+    ensures gives { HoldNothing O.held E.held streams.old → ProgramGives (G.told arguments.now)
+        (S.refusals streams.old.source) (S.refusals streams.new.source)
+        (failing O.failures E.failures streams.old) (failing O.failures E.failures streams.new)
+        (scene I.content S.told O.written E.written streams.old)
+        (scene I.content S.told O.written E.written streams.new) result }
+    ensures none { HoldNothing O.held E.held streams.old → HoldNothing O.held E.held streams.new }
+    ensures kept { result ≡ 0 → failing O.failures E.failures streams.new ≡ failing O.failures E.failures streams.old }
 {
     match read_command_line(alloc, arguments) {
-        Ok(CommandLine::Asks(tool, words)) => { perform(alloc, tool, &words, streams) }
+        Ok(CommandLine::Asks(tool, words)) => {
+            let answer = run(alloc, tool, &words, streams);
+            close(Some(tool), answer, &mut streams.out, &mut streams.err)
+        }
         Ok(CommandLine::UnknownTool) => {
-            let answer = status_once(put_unknown(&mut streams.err), 1);
+            let answer = status_once(tell_unknown(&mut streams.err), 1);
             close(None, answer, &mut streams.out, &mut streams.err)
         }
         Err(NotRead) => {
-            let answer = status_once(put_all(&mut streams.err, b"digests: words not read\n"), 1);
+            let answer = status_once(tell_not_read(&mut streams.err), 1);
             close(None, answer, &mut streams.out, &mut streams.err)
         }
     }
 }
 
-// Runs the tool on its words, and ends.
-fn perform<A: Allocator + Copy, I: Input + Drop, S: Source, O: Finish, E: Sink>(
-    alloc: A,
-    tool: Tool,
-    words: &Words<A>,
-    streams: &mut Streams<I, S, WholeLines<O>, WholeLines<E>>,
-) -> u8
-    ensures gives { EndsGives (Some (call tool words.now))
-        (S.refusals streams.old.source) (S.refusals streams.new.source)
-        (Kept (O.failures streams.old.out.sink) (O.failures streams.new.out.sink) (E.failures streams.old.err.sink)
-        (E.failures streams.new.err.sink))
-        (Failed (O.failures streams.old.out.sink) (O.failures streams.new.out.sink) (E.failures streams.old.err.sink)
-        (E.failures streams.new.err.sink))
-        (scene I.content S.told (λ out. append_known (O.written out.sink) out.held)
-        (λ err. append_known (E.written err.sink) err.held) streams.old)
-        (scene I.content S.told (λ out. O.written out.sink) (λ err. E.written err.sink) streams.new) result }
-    ensures kept { result ≡ 0 → IsKept O.finish_gives streams.new.out.sink }
+// Writes the line for an unknown tool, and hands it on.
+fn tell_unknown<E: Sink>(err: &mut E) -> Result<(), SinkFault>
+    ensures text { Tells E.written E.held err.old err.new unknown_tool result }
+    ensures failures { Fails (E.failures err.old) (E.failures err.new) result }
 {
-    let asked = read_words(tool, words);
-    streams.out.end_lines_with(end_of_lines(&asked));
-    let answer = answer(alloc, tool, asked, streams);
-    close(Some(tool), answer, &mut streams.out, &mut streams.err)
+    put_unknown(err)?;
+    err.flush()
 }
 
-// The byte that ends each line of standard output: a newline, or NUL where the words ask for that.
-fn end_of_lines(asked: &Result<Request, WordFault>) -> u8 {
-    match asked {
-        Ok(
-            Request::Work(
-                Job::Generate(
-                    Settings {
-                        kind: _,
-                        style: Style {
-                            mode: _,
-                            zero: true,
-                        },
-                    },
-                ),
-                _,
-            ),
-        ) => b'\0',
-        _ => b'\n',
+// Writes the line for words that couldn't be read, and hands it on.
+fn tell_not_read<E: Sink>(err: &mut E) -> Result<(), SinkFault>
+    ensures text { Tells E.written E.held err.old err.new not_read result }
+    ensures failures { Fails (E.failures err.old) (E.failures err.new) result }
+{
+    put_all(err, b"digests: words not read\n")?;
+    err.flush()
+}
+
+// Ends a run that answered so: flushes both outputs once more, and tells of a stop where that can be written. Answers
+// the exit status: that of the run, or 1 after a stop.
+fn close<O: Sink, E: Sink>(
+    tool: Option<Tool>,
+    answer: Result<u8, Stop>,
+    out: &mut O,
+    err: &mut E,
+) -> u8
+    ensures gives { O.held out.old ≡ [] → E.held err.old ≡ [] → Closes (line_of tool) answer
+        (O.written out.old) (O.written out.new) (E.written err.old) (E.written err.new)
+        (record { out = O.failures out.old; err = E.failures err.old })
+        (record { out = O.failures out.new; err = E.failures err.new }) result }
+    ensures none { O.held out.old ≡ [] → E.held err.old ≡ [] → (O.held out.new ≡ []) × (E.held err.new ≡ []) }
+    ensures kept { result ≡ 0 → IsOk answer × (O.failures out.new ≡ O.failures out.old)
+        × (E.failures err.new ≡ E.failures err.old) }
+{
+    match settle(answer, out, err) {
+        Ok(status) => status,
+        Err(stop) => {
+            let _ = tell(tool, stop, err);
+            1
+        }
     }
 }

@@ -13,7 +13,7 @@ use command::command;
 use standard_input::standard_input;
 use std::process::ExitCode;
 use sum_engine::Streams;
-use sum_lines::{FromWrite, WholeLines};
+use sum_lines::{Buffered, FromWrite};
 use sum_sources::{Files, Stdin};
 use sum_words::SystemArguments;
 
@@ -21,8 +21,8 @@ fn main(rt: HostRuntime) -> ExitCode {
     let mut streams = Streams {
         stdin: Stdin::new(standard_input(rt.stdin())),
         source: Files::new(rt),
-        out: WholeLines::new(FromWrite::new(rt.stdout()), b'\n'),
-        err: WholeLines::new(FromWrite::new(rt.stderr()), b'\n'),
+        out: Buffered::new(FromWrite::new(rt.stdout())),
+        err: Buffered::new(FromWrite::new(rt.stderr())),
     };
     let status = command(rt.alloc(), &SystemArguments::new(rt), &mut streams);
     ExitCode::from(status)

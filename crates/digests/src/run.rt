@@ -1,15 +1,16 @@
 //! What a whole command line does.
-ghost use Rattle.std.specs.Prelude.{◌≡◌, ◌∷◌, List, ℕ, [], None};
-ghost use Rattle.sum_engine.specs.Scenes.{scene, Failures};
+ghost use Rattle.std.specs.Prelude.{◌≡◌, ◌∷◌, List, ℕ, []};
+ghost use Rattle.sum_engine.specs.Scenes.{scene, RunGives, HoldNothing, Failures};
+ghost use Rattle.sum_engine.specs.joins.Telling.{Tells, Fails};
+ghost use Rattle.sum_words.specs.Faults.{Fault};
+ghost use Rattle.sum_words.specs.Texts.{fault_lines, help, version};
 ghost use Rattle.sum_words.specs.Tools.{name_of};
-ghost use Rattle.sum_words.specs.joins.Walk.{TakesFirst};
-ghost use Rattle.sum_words.specs.Request.{request};
+ghost use Rattle.sum_words.specs.joins.Walk.{TakesFirst, fault_of};
 ghost use Rattle.sum_words.specs.joins.Reading.{result_of};
-ghost use Rattle.digests.specs.Meaning.{all_of, answered, one_of, part_of, upto, or_dash, meaning, place, place_of};
-ghost use Rattle.digests.specs.Meaning.{status_of};
-ghost use Rattle.digests.specs.Headline.{RunGives, PlaceAt, Wanting, Refused};
-ghost use Rattle.digests.specs.joins.Operands.{once_written, OneGives};
-ghost use Rattle.digests.specs.Headline.{RefusedBy, RefusalsOf};
+ghost use Rattle.sum_words.specs.Request.{request};
+ghost use Rattle.digests.specs.Meaning.{all_of, answered, one_of, or_dash, meaning, status_of};
+ghost use Rattle.digests.specs.Headline.{RunsTo, Refused, RefusedBy, RefusalsOf};
+ghost use Rattle.digests.specs.joins.Operands.{once_told};
 
 use std::alloc::Allocator;
 use sum_engine::{Stop, Streams, check_one, generate_one};
@@ -20,21 +21,24 @@ use sum_words::{
 };
 
 /// Runs a tool on its words: writes what they mean for what standard input and the source have to give, and answers the
-/// status, 0 where all is good and 1 where anything isn't (coreutils manual, "md5sum invocation").
+/// status, 0 where all is good and 1 where anything isn't (coreutils manual, "md5sum invocation"). Each line is handed
+/// on as soon as it is complete.
 ///
-/// `Stop::Memory` where memory was refused; the outputs then stand at a place between two operands or, in checking,
-/// between two lines of a manifest. `Stop::Write` where a write failed; each output then holds a front of its text.
+/// `Stop::Memory` where memory was refused; just the first steps of the run came about, up to a boundary between two
+/// operands or, in checking, between two lines of a manifest. `Stop::Write` where a write failed; one prefix of all that
+/// is to be asked and written, in its order, came about. What is said of bytes and of what is held is said of outputs
+/// that hold nothing when they are lent.
 pub fn run<A: Allocator + Copy, I: Input + Drop, S: Source, O: Sink, E: Sink>(
     alloc: A,
     tool: Tool,
     words: &Words<A>,
     streams: &mut Streams<I, S, O, E>,
 ) -> Result<u8, Stop>
-    ensures gives { RunGives (meaning tool words.now) (place tool words.now)
-        (λ w. Wanting (S.refusals streams.old.source) (S.refusals streams.new.source) (name_of tool) w
-        (request tool words.now))
+    ensures gives { HoldNothing O.held E.held streams.old → RunsTo (meaning tool words.now)
+        (S.refusals streams.old.source) (S.refusals streams.new.source)
         (scene I.content S.told O.written E.written streams.old)
         (scene I.content S.told O.written E.written streams.new) result }
+    ensures none { HoldNothing O.held E.held streams.old → HoldNothing O.held E.held streams.new }
     ensures refusals { RefusalsOf (RefusedBy (request tool words.now)) (S.refusals streams.old.source)
         (S.refusals streams.new.source) result }
     ensures failures { Failures O.failures E.failures streams.old streams.new result }
@@ -43,35 +47,62 @@ pub fn run<A: Allocator + Copy, I: Input + Drop, S: Source, O: Sink, E: Sink>(
 }
 
 // Does what was asked for.
-pub(crate) fn answer<A: Allocator + Copy, I: Input + Drop, S: Source, O: Sink, E: Sink>(
+fn answer<A: Allocator + Copy, I: Input + Drop, S: Source, O: Sink, E: Sink>(
     alloc: A,
     tool: Tool,
     asked: Result<Request, WordFault>,
     streams: &mut Streams<I, S, O, E>,
 ) -> Result<u8, Stop>
-    ensures gives { RunGives (answered tool (result_of asked.entry)) (place_of tool (result_of asked.entry))
-        (λ w. Wanting (S.refusals streams.old.source) (S.refusals streams.new.source) (name_of tool) w
-        (result_of asked.entry))
+    ensures gives { HoldNothing O.held E.held streams.old → RunsTo (answered tool (result_of asked.entry))
+        (S.refusals streams.old.source) (S.refusals streams.new.source)
         (scene I.content S.told O.written E.written streams.old)
         (scene I.content S.told O.written E.written streams.new) result }
+    ensures none { HoldNothing O.held E.held streams.old → HoldNothing O.held E.held streams.new }
     ensures refusals { RefusalsOf (RefusedBy (result_of asked.entry)) (S.refusals streams.old.source)
         (S.refusals streams.new.source) result }
     ensures failures { Failures O.failures E.failures streams.old streams.new result }
 {
     match asked {
-        Err(fault) => status_once(put_fault(&mut streams.err, tool, &fault), 1),
-        Ok(Request::Help) => status_once(put_help(&mut streams.out, tool), 0),
-        Ok(Request::Version) => status_once(put_version(&mut streams.out, tool), 0),
+        Err(fault) => status_once(tell_fault(&mut streams.err, tool, &fault), 1),
+        Ok(Request::Help) => status_once(tell_help(&mut streams.out, tool), 0),
+        Ok(Request::Version) => status_once(tell_version(&mut streams.out, tool), 0),
         Ok(Request::Work(job, operands)) => each(alloc, &job, tool, operands, streams),
     }
 }
 
 // The end of a run that wrote one text.
-pub(crate) fn status_once(written: Result<(), SinkFault>, status: u8) -> Result<u8, Stop>
-    ensures { result ≡ once_written written status }
+pub(crate) fn status_once(told: Result<(), SinkFault>, status: u8) -> Result<u8, Stop>
+    ensures { result ≡ once_told told status }
 {
-    written?;
+    told?;
     Ok(status)
+}
+
+// Writes the lines of a fault, and hands them on.
+fn tell_fault<E: Sink>(err: &mut E, tool: Tool, fault: &WordFault) -> Result<(), SinkFault>
+    ensures text { Tells E.written E.held err.old err.new (fault_lines tool (fault_of fault.now)) result }
+    ensures failures { Fails (E.failures err.old) (E.failures err.new) result }
+{
+    put_fault(err, tool, fault)?;
+    err.flush()
+}
+
+// Writes the help, and hands it on.
+fn tell_help<O: Sink>(out: &mut O, tool: Tool) -> Result<(), SinkFault>
+    ensures text { Tells O.written O.held out.old out.new (help tool) result }
+    ensures failures { Fails (O.failures out.old) (O.failures out.new) result }
+{
+    put_help(out, tool)?;
+    out.flush()
+}
+
+// Writes the version, and hands it on.
+fn tell_version<O: Sink>(out: &mut O, tool: Tool) -> Result<(), SinkFault>
+    ensures text { Tells O.written O.held out.old out.new (version tool) result }
+    ensures failures { Fails (O.failures out.old) (O.failures out.new) result }
+{
+    put_version(out, tool)?;
+    out.flush()
 }
 
 // One operand.
@@ -82,10 +113,11 @@ fn one<A: Allocator + Copy, I: Input + Drop, S: Source, O: Sink, E: Sink>(
     name: &[u8],
     streams: &mut Streams<I, S, O, E>,
 ) -> Result<bool, Stop>
-    ensures gives { OneGives (S.refusals streams.old.source) (S.refusals streams.new.source)
-        (one_of job.now (name_of tool)) (part_of job.now (name_of tool)) name.now
+    ensures gives { HoldNothing O.held E.held streams.old → RunGives (λ w. one_of job.now (name_of tool) w name.now)
+        (S.refusals streams.old.source) (S.refusals streams.new.source)
         (scene I.content S.told O.written E.written streams.old)
         (scene I.content S.told O.written E.written streams.new) result }
+    ensures none { HoldNothing O.held E.held streams.old → HoldNothing O.held E.held streams.new }
     ensures refusals { RefusalsOf (Refused job.now) (S.refusals streams.old.source)
         (S.refusals streams.new.source) result }
     ensures failures { Failures O.failures E.failures streams.old streams.new result }
@@ -124,12 +156,12 @@ fn each<A: Allocator + Copy, I: Input + Drop, S: Source, O: Sink, E: Sink>(
     operands: Operands,
     streams: &mut Streams<I, S, O, E>,
 ) -> Result<u8, Stop>
-    ensures gives { RunGives (λ w. all_of (one_of job.now (name_of tool)) w (or_dash operands.entry))
-        (λ w. upto (one_of job.now (name_of tool)) (part_of job.now (name_of tool)) w (or_dash operands.entry))
-        (λ w. PlaceAt (S.refusals streams.old.source) (S.refusals streams.new.source) (one_of job.now (name_of tool)) w
-        (or_dash operands.entry))
+    ensures gives { HoldNothing O.held E.held streams.old
+        → RunsTo (λ w. all_of (one_of job.now (name_of tool)) w (or_dash operands.entry))
+        (S.refusals streams.old.source) (S.refusals streams.new.source)
         (scene I.content S.told O.written E.written streams.old)
         (scene I.content S.told O.written E.written streams.new) result }
+    ensures none { HoldNothing O.held E.held streams.old → HoldNothing O.held E.held streams.new }
     ensures refusals { RefusalsOf (Refused job.now) (S.refusals streams.old.source)
         (S.refusals streams.new.source) result }
     ensures failures { Failures O.failures E.failures streams.old streams.new result }

@@ -15,6 +15,10 @@ impl sum_lines::Sink for Noted {
         self.0 |= !piece.is_empty();
         Ok(piece.len())
     }
+
+    fn flush(&mut self) -> Result<(), sum_lines::SinkFault> {
+        Ok(())
+    }
 }
 
 fn main(rt: HostRuntime) -> anyhow::Result<()> {

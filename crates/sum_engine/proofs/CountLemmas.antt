@@ -1,12 +1,17 @@
--- Counting one more line.
-use Rattle.std.proofs.Common.{◌≡◌, ℕ, ◌+◌, Bool, cond, List, [], ◌∷◌, ◌++◌, refl, ◌∙◌, arith}
+-- Counting one more line, and the summary of what was counted.
+use Rattle.std.proofs.Common.{◌≡◌, ◌==◌, ℕ, ◌+◌, Bool, cond, List, [], ◌∷◌, ◌++◌, refl, ap, sym, ◌∙◌, append_assoc, append-nil, arith}
 use Rattle.std.specs.List.{sum_by}
 use Rattle.std.proofs.lemmas.List.Sums.{sum_by-append, sum_by-cons}
 use Rattle.sum_engine.specs.declared.summary.Counts.{Counts}
 use Rattle.sum_engine.specs.declared.verdict.Verdict.{Verdict}
 use Rattle.sum_engine.specs.declared.verdict.Verdict.TheVariants.{Ignored, Bad, Right, Wrong, Missing, Unread}
-use Rattle.sum_engine.specs.Verdicts.{Judged}
-use Rattle.sum_engine.specs.Reports.{counts, counted, is_right, is_wrong, is_missing, is_unread, is_bad}
+use Rattle.std.proofs.lemmas.Bool.{cond-false, ne_eqb}
+use Rattle.sum_engine.specs.declared.settings.Report.{Report}
+use Rattle.sum_engine.specs.declared.settings.Report.TheVariants.{Status}
+use Rattle.sum_engine.specs.declared.settings.Report.TheVariants as reports
+use Rattle.sum_engine.specs.Verdicts.{Rules, Judged}
+use Rattle.sum_engine.specs.Steps.{counted_all}
+use Rattle.sum_engine.specs.Reports.{counts, counted, is_right, is_wrong, is_missing, is_unread, is_bad, entries, unless_status, warnings, summary}
 
 -- one verdict more, counted by a test
 count_more : (q : Judged → Bool) (done : List Judged) (j : Judged)
@@ -61,3 +66,24 @@ counts_more done j =
     (count_more (λ i. is_wrong i.verdict) done j) (count_more (λ i. is_missing i.verdict) done j)
     (count_more (λ i. is_unread i.verdict) done j) (count_more (λ i. is_bad i.verdict) done j)
     ∙ plus_is j.verdict (counts done)
+
+-- counting some more, one by one
+pub counts_all : (done js : List Judged) → counted_all (counts done) js ≡ counts (done ++ js)
+counts_all done [] = ap counts (sym (append-nil done))
+counts_all done (j ∷ js) = ap (λ k. counted_all k js) (sym (counts_more done j)) ∙ counts_all (done ++ j ∷ []) js
+    ∙ ap counts (append_assoc done (j ∷ []) js)
+
+-- ---- the summary that is written
+
+-- warnings that aren't left out
+unless-shown : (report : Report) (text : List ℕ) → (report ≡ Status → ⊥) → unless_status report text ≡ text
+unless-shown reports.All text h = refl
+unless-shown reports.Quiet text h = refl
+unless-shown reports.Warn text h = refl
+unless-shown Status text h = absurd (h refl)
+
+-- where there are entries, and the setting isn't `--status`, the summary is the warnings
+pub summary-shown : (r : Rules) (c : Counts) → (entries c ≡ 0 → ⊥) → (r.settings.report ≡ Status → ⊥)
+    → summary r c ≡ warnings r c
+summary-shown r c some shown = cond-false (entries c == 0) _ _ (ne_eqb (entries c) 0 some)
+    ∙ unless-shown r.settings.report (warnings r c) shown

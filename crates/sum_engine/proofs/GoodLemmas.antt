@@ -25,14 +25,15 @@ use Rattle.sum_engine.specs.declared.summary.Counts.{Counts}
 use Rattle.sum_engine.specs.declared.verdict.Verdict.{Verdict}
 use Rattle.sum_engine.specs.declared.verdict.Verdict.TheVariants.{Right, Bad, Missing}
 use Rattle.sum_engine.specs.Worlds.{World, is_dash, reply, after, ended, read}
-use Rattle.sum_engine.specs.Outcomes.{Outcome}
+use Rattle.sum_engine.specs.Runs.{Run, step_then, outs, errs}
 use Rattle.sum_lines.specs.Profiles.{present}
 use Rattle.sum_lines.specs.Says.{Spells, says}
 use Rattle.sum_engine.specs.Verdicts.{Rules, Judged, not_found, against, verdict_of, judge, asks_of, verdicts, all_verdicts}
 use Rattle.sum_engine.specs.Reports.{out_of, err_of, right_line, is_right, is_wrong, is_missing, is_unread, is_bad, counts, entries, list_line, unless_status, summary, good}
-use Rattle.sum_engine.specs.Checking.{rules_of, checked_content, checked_by, checked}
+use Rattle.sum_engine.specs.Checking.{rules_of, opening, checked_content, checked_by, checked}
 use Rattle.sum_lines.proofs.SaysLemmas.{says_is}
 use Rattle.sum_engine.proofs.StepLemmas.{now}
+use Rattle.sum_engine.proofs.CheckedLemmas.{outs_of_lines, errs_of_lines}
 use Rattle.sum_engine.proofs.ListedLemmas.{Item, written_text, Listed, front, spelled_for, ReadableSoFar, back, whole, lines-are}
 
 -- ---- each verdict is Right
@@ -206,8 +207,8 @@ is-good r k =
 -- what checking such a manifest comes to
 pub record Found (check : CheckSettings) (tool : List ℕ) (w : World) (manifest : List ℕ) (is : List Item) : Type 0 where
   pub good : (checked check tool w manifest).good ≡ true
-  pub out : (checked check tool w manifest).out ≡ flat_map (λ (i : Item). right_line check.report i.name) is
-  pub err : (checked check tool w manifest).err ≡ []
+  pub out : outs (checked check tool w manifest) ≡ flat_map (λ (i : Item). right_line check.report i.name) is
+  pub err : errs (checked check tool w manifest) ≡ []
 
 -- the verdicts of its lines
 all-right : (r : Rules) (w : World) (is : List Item) → All (Listed r.settings.algo w.answer) is
@@ -220,14 +221,15 @@ all-right r w is all =
 checked-is : (check : CheckSettings) (tool manifest : List ℕ) (w : World) (is : List Item)
     → All (Listed check.algo w.answer) is → length (flat_map written_text is) < limit
     → reply w manifest ≡ Given (whole is)
-    → checked check tool w manifest ≡ checked_content (rules_of check tool manifest) manifest (whole is) (rights 0 is)
+    → checked check tool w manifest
+    ≡ step_then (opening manifest) (checked_content (rules_of check tool manifest) (whole is) (rights 0 is))
 checked-is check tool manifest w is all fits given =
     let r : Rules = rules_of check tool manifest in
     let next : World = after w (manifest ∷ []) in
     ap (checked_by r manifest next) given
-    ∙ ap (λ c. checked_content r manifest c (all_verdicts r next c))
+    ∙ ap (λ c. step_then (opening manifest) (checked_content r c (all_verdicts r next c)))
     (clip-short (whole is) (subst (λ n. length (flat_map written_text is) < n) limit-value fits))
-    ∙ ap (checked_content r manifest (whole is)) (all-right r next is all)
+    ∙ ap (λ js. step_then (opening manifest) (checked_content r (whole is) js)) (all-right r next is all)
 
 -- a manifest with at least one line is good, and each of its names is reported as right
 pub manifest_good : (check : CheckSettings) (tool manifest : List ℕ) (w : World) (is : List Item)
@@ -238,11 +240,13 @@ manifest_good check tool manifest w (i ∷ is) all some fits given =
     let r : Rules = rules_of check tool manifest in
     let here = checked-is check tool manifest w (i ∷ is) all fits given in
     let c : counts (rights 0 (i ∷ is)) ≡ right_counts (suc (length is)) = counts-are 0 (i ∷ is) in
+    let js = rights 0 (i ∷ is) in
+    let end = summary r (counts js) in
     record {
-      good = ap (λ (o : Outcome). o.good) here ∙ ap (good r Whole) c ∙ is-good r (length is);
-      out = ap (λ (o : Outcome). o.out) here ∙ rights-out r 0 (i ∷ is);
+      good = ap (λ (q : Run). q.good) here ∙ ap (good r Whole) c ∙ is-good r (length is);
+      out = ap outs here ∙ outs_of_lines r end (whole (i ∷ is)) js ∙ rights-out r 0 (i ∷ is);
       err =
-          ap (λ (o : Outcome). o.err) here
-          ∙ ap (λ t. t ++ summary r (counts (rights 0 (i ∷ is)))) (rights-err r 0 (i ∷ is))
+          ap errs here ∙ errs_of_lines r end (whole (i ∷ is)) js
+          ∙ ap (λ t. t ++ end) (rights-err r 0 (i ∷ is))
           ∙ ap (summary r) c ∙ no-summary r (length is);
     }

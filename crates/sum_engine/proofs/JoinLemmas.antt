@@ -1,204 +1,120 @@
 -- Steps of a new checker, one after another.
-use Rattle.std.proofs.Common.{◌≡◌, ℕ, zero, suc, ◌+◌, Bool, List, [], ◌∷◌, ◌++◌, length, take, drop, refl, ap, sym, ◌∙◌, append_assoc, arith, length-append, zero-add, subst}
+use Rattle.std.proofs.Common.{◌≡◌, ℕ, zero, suc, ◌+◌, ◌≤◌, Bool, true, List, [], ◌∷◌, ◌++◌, length, take, drop, refl, ap, sym, ◌∙◌, arith, zero-add, length-append}
 use Rattle.std.specs.List.{flat_map}
-use Rattle.std.proofs.lemmas.List.{append-nil, take_at}
-use Rattle.std.proofs.lemmas.Grind.{flat_map-append}
+use Rattle.std.proofs.lemmas.List.{take_at, drop_at}
 use Rattle.sum_sources.specs.Contents.{Content}
-use Rattle.sum_sources.specs.ManifestLines.{past_line}
+use Rattle.sum_sources.specs.ManifestLines.{past_line, past_lines}
 use Rattle.sum_lines.specs.declared.line_reading.Form.{Form}
-use Rattle.sum_lines.specs.Entries.{form, form_then}
-use Rattle.sum_engine.specs.Worlds.{World}
-use Rattle.sum_engine.specs.Verdicts.{Rules, Judged, asks_of, verdicts, all_verdicts, judge}
-use Rattle.sum_engine.specs.Profiles.{lines_by}
+use Rattle.sum_lines.specs.Entries.{form}
 use Rattle.sum_lines.specs.Says.{says}
-use Rattle.sum_engine.specs.Worlds.{after}
-use Rattle.sum_engine.specs.Reports.{out_of, err_of, counts, counted, end_text, good}
-use Rattle.sum_engine.specs.Scenes.{Scene, Does, Cut}
-use Rattle.sum_engine.specs.Steps.{Now, Handles, Ends, next_judged, next_out, next_err, next_asks, rest_verdicts, start}
-use Rattle.sum_sources.specs.ManifestLines.{past_lines}
-use Rattle.sum_engine.specs.Manifests.{HandledTimes, StepsJoin, StepsEnd, StepsCut}
-use Rattle.sum_engine.specs.Scenes.{CutOff}
-use Rattle.sum_engine.proofs.SceneLemmas.{does_nothing, does_both, cut_after}
-use Rattle.sum_engine.proofs.RestLemmas.{rest_head, rest_none, rest_on, past_next, past_ending}
-use Rattle.sum_engine.proofs.CountLemmas.{counts_more}
+use Rattle.sum_engine.specs.Profiles.{lines_by}
+use Rattle.sum_engine.specs.Worlds.{World, after}
+use Rattle.sum_engine.specs.Runs.{Step, Run, events, outs, errs, asks}
+use Rattle.sum_engine.specs.Verdicts.{Rules, Judged, asks_of, verdicts, all_verdicts, judge}
+use Rattle.sum_engine.specs.Reports.{out_of, err_of, counts, end_text, good}
+use Rattle.sum_engine.specs.Checking.{line_step, line_steps, checked_content}
+use Rattle.sum_engine.specs.Scenes.{Scene, Did}
+use Rattle.sum_engine.specs.Steps.{Now, Moves, GoesOn, Finishes, to_come, start}
+use Rattle.sum_engine.specs.Manifests.{HandledTimes, StepsJoin, StepsEnd, StepsCut, StepsReport, EventsExtend}
+use Rattle.sum_engine.proofs.CountLemmas.{counts_all}
+use Rattle.sum_engine.proofs.SceneLemmas.{did_nothing}
+use Rattle.sum_engine.proofs.RestLemmas.{past_next}
+use Rattle.sum_engine.proofs.RunLemmas.{Along, next_left, steps_more, along_end, along_breaks}
 
--- what these verdicts come to
-abbrev pub outs : Rules → List Judged → List ℕ
-outs r js = flat_map (out_of r) js
+-- ---- a new checker
 
--- their reports on the second output, and the names that they ask
-abbrev pub errs : Rules → List Judged → List ℕ
-errs r js = flat_map (err_of r) js
+-- to a new checker the whole manifest is to come
+pub all_to_come : (r : Rules) (c : Content) (s : Scene)
+    → to_come r (start c s) ≡ checked_content r c (all_verdicts r s.world c)
+all_to_come r c s =
+    let js = all_verdicts r s.world c in
+    ap (λ k. record { steps = line_steps r (end_text r c.ending k) c js; good = good r c.ending k }) (counts_all [] js)
 
-abbrev pub asks : List Judged → List (List ℕ)
-asks js = flat_map asks_of js
+-- the manifest's run
+abbrev whole : Rules → Content → Scene → Run
+whole r c s = checked_content r c (all_verdicts r s.world c)
 
--- a new checker on c handled lines with these verdicts, and then stands there
-pub record Did (r : Rules) (c : Content) (s : Scene) (b : Now) (js : List Judged) : Type 0 where
-  pub verdicts : all_verdicts r s.world c ≡ js ++ rest_verdicts r b
-  pub rest : b.rest ≡ past_lines (length js) c
-  pub lines : lines_by r.profile b.rest ≡ drop (length js) (lines_by r.profile c)
-  pub number : b.number ≡ length js
+-- k lines of it were handled; of their steps nothing is left, and nothing else came about
+record Handled (r : Rules) (c : Content) (s : Scene) (b : Now) (k : ℕ) : Type 0 where
+  pub along : Along (whole r c s) (to_come r b) s b.scene
+  pub times : length along.done ≡ k
+  pub rest : b.rest ≡ past_lines k c
+  pub lines : lines_by r.profile b.rest ≡ drop k (lines_by r.profile c)
+  pub number : b.number ≡ k
   pub used : b.used + length b.rest.bytes ≡ length c.bytes
-  pub counts : b.counts ≡ counts js
-  pub done : Does s b.scene (outs r js) (errs r js) (asks js)
 
--- it begins with none
-pub did_none : (r : Rules) (c : Content) (s : Scene) → Did r c s (start c s) []
-did_none r c s = record {
-  verdicts = refl;
+-- none was
+handled_none : (r : Rules) (c : Content) (s : Scene) → Handled r c s (start c s) 0
+handled_none r c s = record {
+  along = record {
+    done = [];
+    steps = ap (λ (q : Run). q.steps) (sym (all_to_come r c s));
+    good = ap (λ (q : Run). q.good) (all_to_come r c s);
+    did = did_nothing s;
+  };
+  times = refl;
   rest = refl;
   lines = refl;
   number = refl;
   used = zero-add (length c.bytes);
-  counts = refl;
-  done = does_nothing s;
 }
-
--- one more at the end of a list
-flat_one : {X A : Type 0} (f : X → List A) (xs : List X) (x : X) → flat_map f (xs ++ x ∷ []) ≡ flat_map f xs ++ f x
-flat_one f xs x = flat_map-append f xs (x ∷ []) ∙ ap (λ l. flat_map f xs ++ l) (append-nil (f x))
-
-one_more : {X : Type 0} (xs : List X) (x : X) → length (xs ++ x ∷ []) ≡ suc (length xs)
-one_more xs x = omega (arith, length-append xs (x ∷ []))
 
 drop_next : {X : Type 0} (k : ℕ) (xs ys : List X) (y : X) → drop k xs ≡ y ∷ ys → drop (suc k) xs ≡ ys
 drop_next zero xs ys y h = ap (drop 1) h
 drop_next (suc k) [] ys y h = cc
 drop_next (suc k) (x ∷ xs) ys y h = drop_next k xs ys y h
 
--- after one more line its verdict comes behind them
-pub did_more : {r : Rules} {c : Content} {s : Scene} {b d : Now} {v : List ℕ} {js : List Judged} → Did r c s b js
-    → (h : Handles r b d v) → Did r c s d (js ++ next_judged r b h.line ∷ [])
-did_more {r} {c} {s} {b} {d} {v} {js} p h =
-    let j = next_judged r b h.line in
-    let more = one_more js j in
-    record {
-      verdicts = p.verdicts ∙ ap (λ l. js ++ l) (rest_on r b d v h)
-          ∙ sym (append_assoc js (j ∷ []) (rest_verdicts r d));
-      rest = h.rest ∙ ap past_line p.rest ∙ past_next (length js) c ∙ ap (λ n. past_lines n c) (sym more);
-      lines = sym (drop_next (length js) (lines_by r.profile c) (lines_by r.profile d.rest) h.line
-          (sym p.lines ∙ h.lines)) ∙ ap (λ n. drop n (lines_by r.profile c)) (sym more);
-      number = omega (arith, h.number, p.number, more);
-      used = h.used ∙ p.used;
-      counts = h.counts ∙ ap (λ x. counted x j.verdict) p.counts ∙ sym (counts_more js j);
-      done = rw (flat_one (out_of r) js j, flat_one (err_of r) js j, flat_one asks_of js j)
-          (does_both p.done h.done);
-    }
+-- one more was
+handled_more : {r : Rules} {c : Content} {s : Scene} {b d : Now} {v : List ℕ} {k : ℕ} → Handled r c s b k
+    → GoesOn (to_come r b) (to_come r d) b.scene d.scene → Moves r b d v → Handled r c s d (suc k)
+handled_more {r} {c} {s} {b} {d} {v} {k} h step moves = record {
+  along = record {
+    done = h.along.done ++ step.step ∷ [];
+    steps = next_left h.along step;
+    good = sym (ap (λ (q : Run). q.good) step.is) ∙ h.along.good;
+    did = steps_more h.along.done step.step h.along.did step.did;
+  };
+  times = omega (arith, length-append h.along.done (step.step ∷ []), h.times);
+  rest = moves.rest ∙ ap past_line h.rest ∙ past_next k c;
+  lines = sym (drop_next k (lines_by r.profile c) (lines_by r.profile d.rest) moves.line (sym h.lines ∙ moves.lines));
+  number = omega (arith, moves.number, h.number);
+  used = moves.used ∙ h.used;
+}
 
--- once no line is left, they are all
-all_done : {r : Rules} {c : Content} {s : Scene} {b : Now} {js : List Judged} → Did r c s b js
-    → lines_by r.profile b.rest ≡ [] → all_verdicts r s.world c ≡ js
-all_done {r} {c} {s} {b} {js} p none = p.verdicts ∙ ap (λ l. js ++ l) (rest_none r b none) ∙ append-nil js
+-- so many were, one after another
+handled_times : (r : Rules) (c : Content) (s : Scene) (a b : Now) (i k : ℕ) → Handled r c s a i → HandledTimes r a b k
+    → Handled r c s b (i + k)
+handled_times r c s a b i zero h is =
+    let same : i + 0 ≡ i = omega arith in rw (is, same) h
+handled_times r c s a b i (suc k) h more =
+    let next : i + suc k ≡ suc i + k = omega arith in
+    rw next (handled_times r c s more.0 b (suc i) k (handled_more h more.2 more.3) more.4)
 
--- the end to come is the manifest's
-ending_is : {r : Rules} {c : Content} {s : Scene} {b : Now} {js : List Judged} → Did r c s b js
-    → b.rest.ending ≡ c.ending
-ending_is {c = c} {js = js} p = ap (λ (x : Content). x.ending) p.rest ∙ past_ending (length js) c
-
--- the end leaves all that the manifest comes to
-pub did_end : {r : Rules} {c : Content} {s : Scene} {b z : Now} {js : List Judged} {x : Bool} → Did r c s b js
-    → Ends r b z x →
-    let vs = all_verdicts r s.world c in
-    (x ≡ good r c.ending (counts vs))
-    × Does s z.scene (outs r vs) (errs r vs ++ end_text r c.ending (counts vs)) (asks vs)
-did_end {r} {c} {s} {b} {z} {js} p h =
-    let ending = ending_is p in
-    let text : end_text r b.rest.ending b.counts ≡ end_text r c.ending (counts js) =
-    ap (λ e. end_text r e b.counts) ending ∙ ap (end_text r c.ending) p.counts in
-    let both : Does s z.scene (outs r js ++ []) (errs r js ++ end_text r b.rest.ending b.counts) (asks js ++ []) =
-    does_both p.done h.done in
-    rw (all_done p h.lines) (
-      h.answer ∙ ap (λ e. good r e b.counts) ending ∙ ap (good r c.ending) p.counts,
-      rw (append-nil (outs r js), append-nil (asks js), text) at both,
-    )
-
--- what the next step writes and asks begins what is left to write and to ask
-abbrev NextIn : Rules → Now → List ℕ → List (List ℕ) → Type 0
-NextIn r b end ls = (o : List ℕ) × (e : List ℕ) × (q : List (List ℕ))
-    × (outs r (rest_verdicts r b) ≡ next_out r b ls ++ o) × (errs r (rest_verdicts r b) ++ end ≡ next_err r b ls ++ e)
-    × (asks (rest_verdicts r b) ≡ next_asks r b ls ++ q)
-
--- whether there is a next line or not
-next_in : (r : Rules) (b : Now) (end : List ℕ) (ls : List (List ℕ)) → lines_by r.profile b.rest ≡ ls
-    → (lines_by r.profile b.rest ≡ [] → end ≡ end_text r b.rest.ending b.counts) → NextIn r b end ls
-next_in r b end [] h is =
-    let none = rest_none r b h in (
-      [],
-      [],
-      [],
-      ap (outs r) none,
-      ap (λ l. errs r l ++ end) none ∙ is h
-          ∙ sym (append-nil (end_text r b.rest.ending b.counts)),
-      ap asks none,
-    )
-next_in r b end (l ∷ ls) h is =
-    let head = rest_head r b l ls h in
-    let j = next_judged r b l in
-    let more = verdicts r (form_then b.form (form r.settings.algo (l ∷ ls))) (after b.scene.world (asks_of j))
-    (b.number + 1) ls in (
-      outs r more,
-      errs r more ++ end,
-      asks more,
-      ap (outs r) head,
-      ap (λ x. errs r x ++ end) head
-          ∙ append_assoc (err_of r j) (errs r more) end,
-      ap asks head,
-    )
-
--- a step that was cut off leaves fronts of all that
-pub did_cut : {r : Rules} {c : Content} {s : Scene} {b : Now} {z : Scene} {js : List Judged} → Did r c s b js
-    → (let ls = lines_by r.profile b.rest in Cut b.scene z (next_out r b ls) (next_err r b ls) (next_asks r b ls)) →
-    let vs = all_verdicts r s.world c in CutOff s z (outs r vs) (errs r vs ++ end_text r c.ending (counts vs)) (asks vs)
-did_cut {r} {c} {s} {b} {z} {js} p h =
-    let vs = all_verdicts r s.world c in
-    let end = end_text r c.ending (counts vs) in
-    let last : lines_by r.profile b.rest ≡ [] → end ≡ end_text r b.rest.ending b.counts = λ none.
-    rw (all_done p none, p.counts, ending_is p) refl in
-    let ls = lines_by r.profile b.rest in
-    let n = next_in r b end ls refl last in
-    let left = rest_verdicts r b in
-    let out : outs r vs ≡ outs r js ++ (next_out r b ls ++ n.0) =
-    ap (outs r) p.verdicts ∙ flat_map-append (out_of r) js left ∙ ap (λ l. outs r js ++ l) n.3 in
-    let err : errs r vs ++ end ≡ errs r js ++ (next_err r b ls ++ n.1) =
-    ap (λ l. l ++ end) (ap (errs r) p.verdicts ∙ flat_map-append (err_of r) js left)
-    ∙ append_assoc (errs r js) (errs r left) end ∙ ap (λ l. errs r js ++ l) n.4 in
-    let asked : asks vs ≡ (asks js ++ next_asks r b ls) ++ n.2 =
-    ap asks p.verdicts ∙ flat_map-append asks_of js left ∙ ap (λ l. asks js ++ l) n.5
-    ∙ sym (append_assoc (asks js) (next_asks r b ls) n.2) in
-    (asks js ++ next_asks r b ls, n.2, asked, cut_after n.0 n.1 p.done h out err)
-
--- they are the first so many of all
-pub did_some : {r : Rules} {c : Content} {s : Scene} {b : Now} {js : List Judged} → Did r c s b js
-    → take (length js) (all_verdicts r s.world c) ≡ js
-did_some {r} {b = b} {js = js} p = ap (take (length js)) p.verdicts ∙ take_at js (rest_verdicts r b) (length js) refl
-
--- after so many lines there are as many more
-did_times : (r : Rules) (c : Content) (s : Scene) (a b : Now) (js : List Judged) (k : ℕ) → Did r c s a js
-    → HandledTimes r a b k → (all : List Judged) × Did r c s b all × (length all ≡ length js + k)
-did_times r c s a b js zero p h = (js, subst (λ (x : Now). Did r c s x js) (sym h) p, omega arith)
-did_times r c s a b js (suc k) p h =
-    let j = next_judged r a h.2.line in
-    let more = did_times r c s h.0 b (js ++ j ∷ []) k (did_more p h.2) h.3 in
-    (more.0, more.1, omega (arith, more.2, one_more js j))
+-- behind a new checker
+from_start : (r : Rules) (c : Content) (s : Scene) (b : Now) (k : ℕ) → HandledTimes r (start c s) b k
+    → Handled r c s b k
+from_start r c s b k h =
+    let same : 0 + k ≡ k = omega arith in rw same at (handled_times r c s (start c s) b 0 k (handled_none r c s) h)
 
 -- ---- the laws of steps
 
--- so many lines handled one after another leave the first so many reports
+-- so many lines handled one after another are the first so many steps
 pub steps_join : StepsJoin
-steps_join r c s b k h =
-    let d = did_times r c s (start c s) b [] k (did_none r c s) h in
-    let p = d.1 in
-    let len : length d.0 ≡ k = omega (arith, d.2) in
-    let cut : take k (all_verdicts r s.world c) ≡ d.0 =
-    ap (λ n. take n (all_verdicts r s.world c)) (sym len) ∙ did_some p in
-    let rest : b.rest ≡ past_lines k c = p.rest ∙ ap (λ n. past_lines n c) len in
+steps_join r c s b k times =
+    let h = from_start r c s b k times in
+    let all = (whole r c s).steps in
+    let first : take k all ≡ h.along.done =
+    ap (take k) h.along.steps ∙ take_at h.along.done (to_come r b).steps k h.times in
+    let later : drop k all ≡ (to_come r b).steps =
+    ap (drop k) h.along.steps ∙ drop_at h.along.done (to_come r b).steps k h.times in
     record {
-      rest = rest;
-      lines = p.lines ∙ ap (λ n. drop n (lines_by r.profile c)) len;
-      number = p.number ∙ len;
-      used = ap (λ (x : Content). b.used + length x.bytes) (sym rest) ∙ p.used;
-      done = rw cut p.done;
+      rest = h.rest;
+      lines = h.lines;
+      number = h.number;
+      used = ap (λ (x : Content). b.used + length x.bytes) (sym h.rest) ∙ h.used;
+      done = rw first h.along.did;
+      left = sym later;
+      good = h.along.good;
     }
 
 -- there are as many verdicts as lines
@@ -208,16 +124,48 @@ length_verdicts r f w n [] = refl
 length_verdicts r f w n (l ∷ ls) =
     ap suc (length_verdicts r f (after w (asks_of (judge r w (n + 1) (says r.profile r.settings.algo f l)))) (n + 1) ls)
 
--- the step that ends comes after all lines, and then all is written
-pub steps_end : StepsEnd
-steps_end r c s b z k x h e =
-    let d = did_times r c s (start c s) b [] k (did_none r c s) h in
-    let end = did_end d.1 e in
-    let ls = lines_by r.profile c in
-    let len : length (all_verdicts r s.world c) ≡ length ls =
-    length_verdicts r (form r.settings.algo ls) s.world 0 ls in
-    (omega (arith, d.2, ap length (all_done d.1 e.lines), len), end.0, end.1)
+-- and one step more
+length_steps : (r : Rules) (end : List ℕ) (c : Content) (js : List Judged)
+    → length (line_steps r end c js) ≡ length js + 1
+length_steps r end c [] = refl
+length_steps r end c (j ∷ js) = omega (arith, length_steps r end (past_line c) js)
 
--- a step that was cut off leaves fronts
+-- the step that ends comes after all lines, and then all came about
+pub steps_end : StepsEnd
+steps_end r c s b z k x times e =
+    let h = from_start r c s b k times in
+    let end = along_end h.along e in
+    let js = all_verdicts r s.world c in
+    let ls = lines_by r.profile c in
+    let all = h.along.steps ∙ ap (λ (q : Run). h.along.done ++ q.steps) e.is in
+    let len : length (whole r c s).steps ≡ length js + 1 = length_steps r (end_text r c.ending (counts js)) c js in
+    let size = length_verdicts r (form r.settings.algo ls) s.world 0 ls in
+    (
+      omega (arith, h.times, ap length all, length-append h.along.done (e.step ∷ []), len, size),
+      end.0,
+      end.1,
+    )
+
+-- a step that was cut off leaves a prefix
 pub steps_cut : StepsCut
-steps_cut r c s b z k h e = did_cut (did_times r c s (start c s) b [] k (did_none r c s) h).1 e
+steps_cut r c s b z k times e = along_breaks (from_start r c s b k times).along e
+
+-- ---- the reports of the first steps
+
+-- by the lines
+reports : (r : Rules) (end : List ℕ) (c : Content) (js : List Judged) (k : ℕ) → k ≤ length js →
+    let some : Run = record { steps = take k (line_steps r end c js); good = true } in
+    (outs some ≡ flat_map (out_of r) (take k js)) × (errs some ≡ flat_map (err_of r) (take k js))
+    × (asks some ≡ flat_map asks_of (take k js))
+reports r end c js zero few = (refl, refl, refl)
+reports r end c [] (suc k) few = absurd (omega (arith, few))
+reports r end c (j ∷ js) (suc k) few =
+    let more = reports r end (past_line c) js k (omega (arith, few)) in (
+      ap (λ l. out_of r j ++ l) more.0,
+      ap (λ l. err_of r j ++ l) more.1,
+      ap (λ l. asks_of j ++ l) more.2,
+    )
+
+-- their texts and their names
+pub steps_report : StepsReport
+steps_report r end c js k few = (reports r end c js k few, length_steps r end c js)

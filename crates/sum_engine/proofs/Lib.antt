@@ -1,11 +1,13 @@
 pub mod WorldLemmas
 pub mod SceneLemmas
 pub mod GenerateLemmas
-pub mod WriteLemmas
+pub mod TellLemmas
 pub mod VerdictLemmas
-pub mod StepLemmas
-pub mod RestLemmas
 pub mod CountLemmas
+pub mod CheckedLemmas
+pub mod RestLemmas
+pub mod StepLemmas
+pub mod RunLemmas
 pub mod JoinLemmas
 pub mod ManifestLemmas
 pub mod SaidLemmas

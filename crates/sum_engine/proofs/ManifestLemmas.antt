@@ -1,103 +1,86 @@
 -- A new checker that runs to its end, and one manifest that is asked and checked.
-use Rattle.std.proofs.Common.{◌≡◌, ℕ, suc, ◌<◌, ◌||◌, Bool, true, false, List, [], ◌∷◌, ◌++◌, length, Option, None, Some, Result, Ok, Err, refl, ap, sym, ◌∙◌, inl, inr, ◌⊎◌, subst, codes}
+use Rattle.std.proofs.Common.{◌≡◌, ℕ, ◌||◌, Bool, true, false, List, [], ◌∷◌, ◌++◌, Option, None, Some, Result, Ok, Err, refl, ap, sym, ◌∙◌, inl, subst, codes, append-nil}
+use Rattle.std.specs.List.{list_any}
 use Rattle.std.specs.Option.{option_map}
+use Rattle.std.specs.Io.KnownBytes.{Appends}
 use Rattle.std.proofs.KnownBytes.{Appends-nil}
 use Rattle.std.proofs.Math.Bool.{or-false}
 use Rattle.sum_sources.specs.declared.fault.Fault.{Fault}
 use Rattle.sum_sources.specs.declared.source.OpenFault.TheVariants as open_faults
 use Rattle.sum_sources.specs.Contents.{Content, WhereTold, clip}
-use Rattle.sum_sources.specs.Sources.{Refused, Given, Telling, OpenGives, after_refusal}
+use Rattle.sum_sources.specs.Sources.{Reply, Refused, Given, Telling, OpenGives, after_refusal}
 use Rattle.sum_sources.specs.Standard.{empty_content}
 use Rattle.sum_lines.specs.declared.line_reading.Form.TheVariants.{Undecided}
-use Rattle.sum_lines.specs.Sinks.{AppendsFront}
+use Rattle.sum_lines.specs.Profiles.{present}
+use Rattle.sum_lines.specs.Sinks.{AppendsPrefix}
 use Rattle.sum_engine.specs.declared.progress.Progress.TheVariants.{Going, Ended}
 use Rattle.sum_engine.specs.declared.settings.CheckSettings.{CheckSettings}
 use Rattle.sum_engine.specs.declared.stop.Stop.{Stop}
 use Rattle.sum_engine.specs.declared.stop.Stop.TheVariants.{Memory, Write}
 use Rattle.sum_engine.specs.Worlds.{World, is_dash, reply, after}
-use Rattle.sum_lines.specs.Profiles.{present}
+use Rattle.sum_engine.specs.Runs.{Step, Run, events_by, events_of}
 use Rattle.sum_engine.specs.Generation.{fault_line}
-use Rattle.sum_engine.specs.Verdicts.{Rules, Judged, all_verdicts}
+use Rattle.sum_engine.specs.Verdicts.{Rules, all_verdicts}
 use Rattle.sum_engine.specs.Reports.{no_counts}
-use Rattle.sum_engine.specs.Checking.{rules_of}
-use Rattle.sum_engine.specs.Scenes.{Scene, scene_by, world_by, Does, Cut}
-use Rattle.sum_engine.specs.Steps.{Now, now_by, StepGives, Wants, next_judged}
-use Rattle.sum_sources.specs.ManifestLines.{past_lines}
-use Rattle.sum_engine.specs.Manifests.{ManifestOf, ManifestGives, CheckOf, CheckGives}
-use Rattle.sum_engine.specs.Places.{WantsAt}
+use Rattle.sum_engine.specs.Checking.{rules_of, opening, checked_content, checked_by, checked}
+use Rattle.sum_engine.specs.Scenes.{Scene, scene_by, world_by, Did, RunOf, RunGives}
+use Rattle.sum_engine.specs.Steps.{Now, now_by, StepGives, to_come}
+use Rattle.sum_engine.specs.Manifests.{ManifestGives}
 use Rattle.sum_engine.proofs.WorldLemmas.{dash_asked, name_asked}
-use Rattle.sum_engine.proofs.SceneLemmas.{Seen, none_yet, up_to-front, does_both, cut_behind, seen_at}
-use Rattle.sum_engine.proofs.JoinLemmas.{Did, did_none, did_more, did_end, did_cut, did_some}
-use Rattle.sum_sources.proofs.ToldLemmas.{WhereTold-map}
-use Rattle.sum_engine.proofs.StepLemmas.{Standing, stands, stands_at, stands-scene}
+use Rattle.sum_engine.proofs.SceneLemmas.{Seen, seen_at, seen-told, names-by, did_by, did_nothing, prefix_err}
+use Rattle.sum_engine.proofs.StepLemmas.{Standing, stands, stands-scene}
+use Rattle.sum_engine.proofs.RunLemmas.{Along, along_none, along_more, along_end, along_breaks, along_waits, behind_step}
+use Rattle.sum_engine.proofs.JoinLemmas.{all_to_come}
 
 -- ---- a new checker, run to its end
 
 -- it came so far, where its manifest and the scene tell
-abbrev pub Along : Rules → Option Content → Option Scene → Option Now → Type 0
-Along r None s b = Unit {0}
-Along r (Some c) None b = Unit {0}
-Along r (Some c) (Some s) None = ⊥
-Along r (Some c) (Some s) (Some b) = (js : List Judged) × Did r c s b js
+abbrev pub Comes : Rules → Option Content → Option Scene → Option Now → Type 0
+Comes r None s b = Unit {0}
+Comes r (Some c) None b = Unit {0}
+Comes r (Some c) (Some s) None = ⊥
+Comes r (Some c) (Some s) (Some b) = Along (checked_content r c (all_verdicts r s.world c)) (to_come r b) s b.scene
 
 -- it begins so
-pub along_none : (r : Rules) (c : Option Content) (s : Option Scene) → Along r c s (now_by c 0 0 Undecided no_counts s)
-along_none r None s = tt
-along_none r (Some c) None = tt
-along_none r (Some c) (Some s) = ([], did_none r c s)
+pub comes_none : (r : Rules) (c : Option Content) (s : Option Scene) → Comes r c s (now_by c 0 0 Undecided no_counts s)
+comes_none r None s = tt
+comes_none r (Some c) None = tt
+comes_none r (Some c) (Some s) = rw (all_to_come r c s) (along_none (checked_content r c (all_verdicts r s.world c)) s)
 
 -- a step that goes on comes one line further
-pub along_more : (r : Rules) (c : Option Content) (s : Option Scene) (b d : Option Now) (held : List ℕ)
-    → Along r c s b → StepGives r b d held (Ok Going) → Along r c s d
-along_more r None s b d held p h = tt
-along_more r (Some c) None b d held p h = tt
-along_more r (Some c) (Some s) None d held p h = absurd p
-along_more r (Some c) (Some s) (Some b) None held p h = absurd h
-along_more r (Some c) (Some s) (Some b) (Some d) held p h = (p.0 ++ next_judged r b h.line ∷ [], did_more p.1 h)
+pub comes_more : (r : Rules) (c : Option Content) (s : Option Scene) (b d : Option Now) (n m : ℕ) (held : List ℕ)
+    → Comes r c s b → StepGives r n m held b d (Ok Going) → Comes r c s d
+comes_more r None s b d n m held p h = tt
+comes_more r (Some c) None b d n m held p h = tt
+comes_more r (Some c) (Some s) None d n m held p h = absurd p
+comes_more r (Some c) (Some s) (Some b) None n m held p h = absurd h
+comes_more r (Some c) (Some s) (Some b) (Some d) n m held p h = along_more p h.0
 
--- the step that ends leaves all that the manifest comes to, whatever m and l, the source's refusals
-pub along_end : (r : Rules) (c : Option Content) (s : Option Scene) (a : Option Now) (b : Standing) (held : List ℕ)
-    (x : Bool) (m l : ℕ) → Along r c s a → StepGives r a (stands b) held (Ok (Ended x))
-    → ManifestGives r c m l s b.scene (Ok x)
-along_end r None s a b held x m l p h = tt
-along_end r (Some c) None a b held x m l p h = tt
-along_end r (Some c) (Some s) None b held x m l p h = absurd p
-along_end r (Some c) (Some s) (Some a) b held x m l p h = stands-scene a s b _ _ h (λ d z ended. did_end p.1 ended)
+-- the step that ends leaves all that the manifest comes to, whatever the source's refusals
+pub comes_end : (r : Rules) (c : Option Content) (s : Option Scene) (a : Option Now) (b : Standing) (held : List ℕ)
+    (x : Bool) (n m i j : ℕ) → Comes r c s a → StepGives r n m held a (stands b) (Ok (Ended x))
+    → ManifestGives r c i j s b.scene (Ok x)
+comes_end r None s a b held x n m i j p h = tt
+comes_end r (Some c) None a b held x n m i j p h = tt
+comes_end r (Some c) (Some s) None b held x n m i j p h = absurd p
+comes_end r (Some c) (Some s) (Some a) b held x n m i j p h = stands-scene a s b _ _ h (λ d z ended. along_end p ended)
 
--- at a place, there was no memory for the line or for the name that it asks
-wants_at : (m l k : ℕ) (c b : Content) → b ≡ past_lines k c
-    → (l ≡ after_refusal m) ⊎ ((l ≡ m) × (0 < length b.bytes)) → WantsAt m l k c
-wants_at m l k c b is (inl h) = inl h
-wants_at m l k c b is (inr h) = inr (h.0, subst (λ (x : Content). 0 < length x.bytes) is h.1)
+-- a step that stops leaves a prefix of it where a write failed, and whole steps where memory was wanted
+stopped : (r : Rules) (c : Content) (s : Scene) (a : Now) (b : Standing) (held : List ℕ) (stop : Stop) (n m : ℕ)
+    → Comes r (Some c) (Some s) (Some a) → StepGives r n m held (Some a) (stands b) (Err stop)
+    → ManifestGives r (Some c) n m (Some s) b.scene (Err stop)
+stopped r c s a b held Write n m p h = stands-scene a s b _ _ h (λ d z cut. along_breaks p cut)
+stopped r c s a b held Memory n m p h = stands-scene a s b _ _ h (λ d z waits. along_waits (checked_content r c (all_verdicts r s.world c)).good n m p waits)
 
--- a step that stops leaves fronts of it where a write failed, and whole lines where there was no memory
-stopped : (r : Rules) (c : Content) (s : Scene) (a : Now) (b : Standing) (held : List ℕ) (stop : Stop) (m l : ℕ)
-    → ((js : List Judged) × Did r c s a js) → StepGives r (Some a) (stands b) held (Err stop)
-    → Wants m l (Some a.rest) (Err stop) → ManifestGives r (Some c) m l (Some s) b.scene (Err stop)
-stopped r c s a b held Write m l p h w = stands-scene a s b _ _ h (λ d z cut. did_cut p.1 cut)
-stopped r c s a b held Memory m l p h w = stands-scene a s b _ _ h (λ d z same. (
-  length p.0,
-  rw (did_some p.1, same) p.1.done,
-  wants_at m l (length p.0) c a.rest p.1.rest w,
-))
-
--- what a step that stops leaves, by what tells
-stop_by : (x : Option Content) (y : Option Scene) (r : Rules) (c : Option Content) (s : Option Scene) (a b : Standing)
-    (held : List ℕ) (stop : Stop) (m l : ℕ) → let here = stands (record a { rest = x; scene = y }) in Along r c s here
-    → StepGives r here (stands b) held (Err stop) → Wants m l x (Err stop) → ManifestGives r c m l s b.scene (Err stop)
-stop_by x y r None s a b held stop m l p h w = tt
-stop_by x y r (Some c) None a b held stop m l p h w = tt
-stop_by None y r (Some c) (Some s) a b held stop m l p h w = absurd p
-stop_by (Some d) None r (Some c) (Some s) a b held stop m l p h w = absurd p
-stop_by (Some d) (Some t) r (Some c) (Some s) a b held stop m l p h w =
-    stopped r c s (stands_at a d t) b held stop m l p h w
-
--- the same, where manifest and scene tell
-pub along_stop : (r : Rules) (c : Option Content) (s : Option Scene) (a b : Standing) (held : List ℕ) (stop : Stop)
-    (n m l : ℕ) → Along r c s (stands a) → StepGives r (stands a) (stands b) held (Err stop) → n ≡ m
-    → Wants n l a.rest (Err stop) → ManifestGives r c m l s b.scene (Err stop)
-along_stop r c s a b held stop n m l p h is w = stop_by a.rest a.scene r c s a b held stop m l p h
-    (subst (λ n. Wants n l a.rest (Err stop)) is w)
+-- the same, where manifest and scene tell; n, i and m are the refusals at first, before the step and after it
+pub comes_stop : (r : Rules) (c : Option Content) (s : Option Scene) (a : Option Now) (b : Standing) (held : List ℕ)
+    (stop : Stop) (n i m : ℕ) → Comes r c s a → i ≡ n → StepGives r i m held a (stands b) (Err stop)
+    → ManifestGives r c n m s b.scene (Err stop)
+comes_stop r None s a b held stop n i m p is h = tt
+comes_stop r (Some c) None a b held stop n i m p is h = tt
+comes_stop r (Some c) (Some s) None b held stop n i m p is h = absurd p
+comes_stop r (Some c) (Some s) (Some a) b held stop n i m p is h =
+    stopped r c s a b held stop n m p (subst (λ k. StepGives r k m held (Some a) (stands b) (Err stop)) is h)
 
 -- ---- a manifest that was asked
 
@@ -125,52 +108,44 @@ rules_of_call-file k dash = rw dash refl
 
 -- the name was asked, which has that content, and nothing else was done
 abbrev pub IsOpened : List ℕ → Option Content → Scene → Scene → Type 0
-IsOpened name c a b = (d : Content) × (c ≡ Some d) × (reply a.world name ≡ Given d) × Does a b [] [] (name ∷ [])
+IsOpened name c a b =
+    (d : Content) × (c ≡ Some d) × (reply a.world name ≡ Given d) × Did a b (events_of (opening name))
+
+-- what a call gives
+abbrev pub CheckGives : Call → ℕ → ℕ → Option Scene → Option Scene → Result Bool Stop → Type 0
+CheckGives k n m a b x = RunGives (λ w. checked k.settings k.tool w k.name) n m a b x
 
 -- after that, what the checker does is what the call does
-opened : (k : Call) (c : Content) (m l : ℕ) (a asked b : Scene) (x : Result Bool Stop)
-    → reply a.world k.name ≡ Given c → Does a asked [] [] (k.name ∷ [])
-    → ManifestOf (rules_of_call k) (clip c) m l asked b x → CheckOf k.settings k.tool k.name m l a b x
-opened k c m l a asked b (Ok x) is does h =
-    let vs = ap (λ w. all_verdicts (rules_of_call k) w (clip c)) does.world in
-    let h' = rw vs at h in rw is (h'.0, does_both does h'.1)
-opened k c m l a asked b (Err Write) is does h =
-    let vs = ap (λ w. all_verdicts (rules_of_call k) w (clip c)) does.world in
-    let h' = rw vs at h in rw is (k.name ∷ h'.0, h'.1, ap (λ q. k.name ∷ q) h'.2, cut_behind does h'.3)
-opened k c m l a asked b (Err Memory) is does h =
-    let vs = ap (λ w. all_verdicts (rules_of_call k) w (clip c)) does.world in
-    let h' = rw vs at h in (suc h'.0, rw is (does_both does h'.1), rw is h'.2)
+opened : (k : Call) (c : Content) (n i m : ℕ) (a asked b : Scene) (x : Result Bool Stop) → i ≡ n
+    → reply a.world k.name ≡ Given c → Did a asked (events_of (opening k.name))
+    → ManifestGives (rules_of_call k) (Some (clip c)) i m (Some asked) (Some b) x
+    → CheckGives k n m (Some a) (Some b) x
+opened k c n i m a asked b x same is did h =
+    let run : World → Run = λ w. checked_content (rules_of_call k) (clip c) (all_verdicts (rules_of_call k) w (clip c)) in
+    let later : World = after a.world (k.name ∷ []) in
+    let world : asked.world ≡ later = rw (names-by (k.name ∷ []) [] []) at did.world in
+    let rest = subst (λ w. RunOf (run w).good (run w).steps i m asked b x) world h in
+    let all = behind_step b n i m (run later).good (opening k.name) (run later).steps x same did rest in
+    rw is all
 
 -- the same, where source, standard input and manifest tell
-check_by : (k : Call) (c : Option Content) (a asked b : Option Scene) (m l : ℕ) (x : Result Bool Stop)
-    → WhereTold a asked (IsOpened k.name c) → ManifestGives (rules_of_call k) (option_map clip c) m l asked b x
-    → CheckGives k.settings k.tool k.name m l a b x
-check_by k c None asked b m l x h run = tt
-check_by k c (Some a) None b m l x h run = absurd h
-check_by k c (Some a) (Some asked) None m l x h run = absurd (rw h.1 at run)
-check_by k c (Some a) (Some asked) (Some b) m l x h run =
-    let P : Option Content → Type 0 =
-    λ c. ManifestGives (rules_of_call k) (option_map clip c) m l (Some asked) (Some b) x in
-    opened k h.0 m l a asked b x h.2 h.3 (subst P h.1 run)
-
--- the same, whose checker has these rules
-pub check_gives : (k : Call) (r : Rules) (c : Option Content) (a asked b : Option Scene) (n m l : ℕ)
-    (x : Result Bool Stop) → r ≡ rules_of_call k → n ≡ m → WhereTold a asked (IsOpened k.name c)
-    → ManifestGives r (option_map clip c) n l asked b x → CheckGives k.settings k.tool k.name m l a b x
-check_gives k r c a asked b n m l x rules is h run =
-    let P : Rules → Type 0 = λ r. ManifestGives r (option_map clip c) n l asked b x in
-    let Q : ℕ → Type 0 = λ n. ManifestGives (rules_of_call k) (option_map clip c) n l asked b x in
-    check_by k c a asked b m l x h (subst Q is (subst P rules run))
+pub check_gives : (k : Call) (r : Rules) (c : Option Content) (a asked b : Option Scene) (n i m : ℕ)
+    (x : Result Bool Stop) → r ≡ rules_of_call k → i ≡ n → WhereTold a asked (IsOpened k.name c)
+    → ManifestGives r (option_map clip c) i m asked b x → CheckGives k n m a b x
+check_gives k r c None asked b n i m x rules is h run = tt
+check_gives k r c (Some a) None b n i m x rules is h run = absurd h
+check_gives k r c (Some a) (Some asked) None n i m x rules is h run = absurd (rw h.1 at run)
+check_gives k r c (Some a) (Some asked) (Some b) n i m x rules is h run =
+    let P : Rules → Type 0 = λ r. ManifestGives r (option_map clip c) i m (Some asked) (Some b) x in
+    let Q : Option Content → Type 0 =
+    λ c. ManifestGives (rules_of_call k) (option_map clip c) i m (Some asked) (Some b) x in
+    opened k h.0 n i m a asked b x is h.2 h.3 (subst Q h.1 (subst P rules run))
 
 -- a name that was asked, where nothing was written
 asked_only : (a : Scene) (w : World) (taken : Bool) (name : List ℕ) → w ≡ after a.world (name ∷ [])
-    → taken ≡ a.taken || is_dash name → Does a (record a { world = w; taken = taken }) [] [] (name ∷ [])
-asked_only a w taken name is was = record {
-  world = is;
-  taken = was ∙ ap (λ b. a.taken || b) (sym (or-false (is_dash name)));
-  out = Appends-nil a.out;
-  err = Appends-nil a.err;
-}
+    → taken ≡ a.taken || is_dash name → Did a (record a { world = w; taken = taken }) (events_of (opening name))
+asked_only a w taken name is was = did_by (name ∷ []) [] [] is
+    (was ∙ ap (λ b. a.taken || b) (sym (or-false (is_dash name)))) (Appends-nil a.err) (Appends-nil a.out)
 
 -- what was taken is taken
 or_true : (t : Bool) → true ≡ t || true
@@ -179,7 +154,7 @@ or_true false = refl
 
 -- the scene of that source and that standard input
 abbrev pub told_at : Seen → Option Telling → Option Content → Option Scene
-told_at a s input = scene_by (world_by s input) a.taken a.out a.err
+told_at a s input = scene_by (world_by s input) a.taken a.err a.out
 
 -- the manifest is standard input, which is taken then
 pub dash_opened : (name : List ℕ) (s : Option Telling) (c : Option Content) (a : Seen) → is_dash name ≡ true
@@ -208,34 +183,67 @@ file_opened content name (Some s) (Some t) (Some i) file a dash h =
     let after = name_asked s.answer t.answer s.asked t.asked i name dash h.0 h.1 in
     (h.2.0, h.2.2, rw dash h.2.1, asked_only first next a.taken name after (rw dash (sym (or-false a.taken))))
 
--- the name was asked, whose fault that is, and a front of this text was written
-abbrev RefusedCut : List ℕ → Fault → List ℕ → Scene → Scene → Type 0
-RefusedCut name f text a b = (reply a.world name ≡ Refused f) × Cut a b [] text (name ∷ [])
+-- the name was asked, whose fault that is
+abbrev RefusedBy : List ℕ → Fault → World → World → Type 0
+RefusedBy name f w v = (reply w name ≡ Refused f) × (v ≡ after w (name ∷ []))
 
 -- so it is where source and standard input tell
 refused : {F : Type 0} (content : F → Option Content) (name : List ℕ) (s t : Option Telling) (input : Option Content)
-    (f : Fault) (a : Seen) (err : Option (List ℕ)) (text : List ℕ) → is_dash name ≡ false
-    → OpenGives content s t name (Err (open_faults.Fault f)) → AppendsFront a.err err text
-    → WhereTold (told_at a s input) (told_at (record a { err = err }) t input) (RefusedCut name f text)
-refused content name None t input f a err text dash h cut = tt
-refused content name (Some s) t None f a err text dash h cut = tt
-refused content name (Some s) None (Some i) f a err text dash h cut = absurd h
-refused content name (Some s) (Some t) (Some i) f a err text dash h cut = (
-  rw dash h.2,
-  record {
-    world = name_asked s.answer t.answer s.asked t.asked i name dash h.0 h.1;
-    out = none_yet a.out [];
-    err = up_to-front a.err err text cut;
-  },
-)
+    (f : Fault) → is_dash name ≡ false → OpenGives content s t name (Err (open_faults.Fault f))
+    → WhereTold (world_by s input) (world_by t input) (RefusedBy name f)
+refused content name None t input f dash h = tt
+refused content name (Some s) t None f dash h = tt
+refused content name (Some s) None (Some i) f dash h = absurd h
+refused content name (Some s) (Some t) (Some i) f dash h =
+    (rw dash h.2, name_asked s.answer t.answer s.asked t.asked i name dash h.0 h.1)
 
--- the manifest could not be opened, and the line of its fault was cut off, whatever the refusals
-pub refused_cut : {F : Type 0} (content : F → Option Content) (k : Call) (s t : Option Telling) (input : Option Content)
-    (f : Fault) (a : Seen) (err : Option (List ℕ)) (m l : ℕ) → is_dash k.name ≡ false
+-- standard input wasn't taken then
+not_taken : (t : Bool) (name : List ℕ) → is_dash name ≡ false → t ≡ t || list_any is_dash (name ∷ [])
+not_taken t name dash = rw dash (sym (or-false t))
+
+-- the manifest could not be opened, and the line of its fault was handed on; whatever the refusals
+pub refused_told : {F : Type 0} (content : F → Option Content) (k : Call) (s t : Option Telling) (input : Option Content)
+    (f : Fault) (a : Seen) (err : Option (List ℕ)) (n m : ℕ) → is_dash k.name ≡ false
     → OpenGives content s t k.name (Err (open_faults.Fault f))
-    → AppendsFront a.err err (fault_line present k.tool k.name f)
-    → CheckGives k.settings k.tool k.name m l (told_at a s input) (told_at (record a { err = err }) t input) (Err Write)
-refused_cut content k s t input f a err m l dash h cut =
-    WhereTold-map (told_at a s input) (told_at (record a { err = err }) t input)
-    (λ a b did. rw (did.0, dash) (k.name ∷ [], [], refl, did.1))
-    (refused content k.name s t input f a err (fault_line present k.tool k.name f) dash h cut)
+    → Appends a.err err (fault_line present k.tool k.name f)
+    → CheckGives k n m (told_at a s input) (told_at (record a { err = err }) t input) (Ok false)
+refused_told content k s t input f a err n m dash h told =
+    seen-told (record a { world = world_by s input }) (record a { world = world_by t input; err = err }) _
+    (refused content k.name s t input f dash h) (λ w v is. rw (is.0, dash) (
+      refl,
+      rw (append-nil (events_by (k.name ∷ []) (fault_line present k.tool k.name f) [])) (
+      did_by (k.name ∷ []) (fault_line present k.tool k.name f) [] is.1 (not_taken a.taken k.name dash) told
+      (Appends-nil a.out)),
+    ))
+
+-- a prefix of it was
+pub refused_cut : {F : Type 0} (content : F → Option Content) (k : Call) (s t : Option Telling) (input : Option Content)
+    (f : Fault) (a : Seen) (err : Option (List ℕ)) (n m : ℕ) → is_dash k.name ≡ false
+    → OpenGives content s t k.name (Err (open_faults.Fault f))
+    → AppendsPrefix a.err err (fault_line present k.tool k.name f)
+    → CheckGives k n m (told_at a s input) (told_at (record a { err = err }) t input) (Err Write)
+refused_cut content k s t input f a err n m dash h cut =
+    seen-told (record a { world = world_by s input }) (record a { world = world_by t input; err = err }) _
+    (refused content k.name s t input f dash h) (λ w v is. rw (is.0, dash) (
+    rw (append-nil (events_by (k.name ∷ []) (fault_line present k.tool k.name f) [])) (
+    prefix_err (k.name ∷ []) (fault_line present k.tool k.name f) [] is.1 (not_taken a.taken k.name dash) cut refl)))
+
+-- checking begins with a step
+begins : (r : Rules) (name : List ℕ) (w : World) (reply : Reply)
+    → (next : Step) × (rest : List Step) × ((checked_by r name w reply).steps ≡ next ∷ rest)
+begins r name w (Refused f) = (_, [], refl)
+begins r name w (Given c) = (opening name, _, refl)
+
+-- the source had no memory to open it
+pub no_room : {F : Type 0} (content : F → Option Content) (k : Call) (s t : Option Telling) (input : Option Content)
+    (a : Seen) (n m : ℕ) → OpenGives content s t k.name (Err open_faults.Memory) → m ≡ after_refusal n
+    → CheckGives k n m (told_at a s input) (told_at a t input) (Err Memory)
+no_room content k None t input a n m h refused = tt
+no_room content k (Some s) t None a n m h refused = tt
+no_room content k (Some s) None (Some i) a n m h refused = absurd h
+no_room content k (Some s) (Some t) (Some i) a n m h refused =
+    let w : World = record { answer = s.answer; asked = s.asked; input = i } in
+    let v : World = record { answer = t.answer; asked = t.asked; input = i } in
+    let same : v ≡ w = rw (h.0, h.1) refl in
+    let first = begins (rules_of_call k) k.name (after w (k.name ∷ [])) (reply w k.name) in
+    ([], first.0, first.1, first.2, rw same (did_nothing (seen_at a w)), inl refused)

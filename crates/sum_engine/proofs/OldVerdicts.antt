@@ -1,5 +1,5 @@
 -- A manifest of the time of older versions is checked alike under both profiles.
-use Rattle.std.proofs.Common.{◌≡◌, ◌≢◌, ℕ, ◌+◌, ◌<◌, ◌==◌, Bool, true, false, not, cond, List, [], ◌∷◌, ◌++◌, length, map, refl, ap, sym, ◌∙◌, subst, codes}
+use Rattle.std.proofs.Common.{◌≡◌, ◌≢◌, ℕ, ◌+◌, ◌<◌, ◌==◌, Bool, true, false, not, cond, List, [], ◌∷◌, ◌++◌, length, map, drop, refl, ap, sym, ◌∙◌, subst, codes}
 use Rattle.std.specs.Prelude.{bytes_eq, flat_map}
 use Rattle.std.specs.List.{All, concat, slice_split, onto_first}
 use Rattle.std.proofs.lemmas.List.Elements.{All-nil, All-cons, All-head, All-tail}
@@ -20,12 +20,13 @@ use Rattle.sum_lines.specs.Profiles.{present}
 use Rattle.sum_engine.specs.OldVerdicts.{older}
 use Rattle.sum_engine.specs.Profiles.{lines_by}
 use Rattle.sum_engine.specs.Worlds.{World, after}
-use Rattle.sum_engine.specs.Outcomes.{Outcome}
+use Rattle.sum_engine.specs.Runs.{Step, Run, step_then, at_once}
+use Rattle.sum_sources.specs.ManifestLines.{past_line}
 use Rattle.sum_lines.specs.Says.{Said, Nothing, Improper, Spells, says}
 use Rattle.sum_engine.specs.Verdicts.{Rules, Judged, judge, asks_of, verdicts, all_verdicts}
 use Rattle.sum_engine.specs.Generation.{fault_line}
 use Rattle.sum_engine.specs.Reports.{name_line, said_of, hides, out_of, err_by, err_of, counts, end_text, good}
-use Rattle.sum_engine.specs.Checking.{checked_content}
+use Rattle.sum_engine.specs.Checking.{line_steps, opening, checked_content}
 use Rattle.sum_engine.specs.OldVerdicts.{under, NoReturn, NoEscapedReturn, Old, SameChecks, OldVerdicts, OldOutcomes, OlderDiffers}
 use Rattle.sum_lines.proofs.SaysLemmas.{says_is}
 use Rattle.sum_engine.proofs.OldNames.{same_escape, CleanSaid, says_same}
@@ -206,44 +207,49 @@ old_verdicts r w c h =
 
 -- ---- all that checking comes to
 
--- texts joined by their list
-joined : {X : Type 0} (f : X → List ℕ) (xs : List X) → flat_map f xs ≡ concat (map f xs)
-joined f [] = refl
-joined f (x ∷ xs) = ap (λ l. f x ++ l) (joined f xs)
+-- the first of two lists that are the same, and the others
+heads_same : {X : Type 0} {x y : X} {xs ys : List X} → x ∷ xs ≡ y ∷ ys → (x ≡ y) × (xs ≡ ys)
+heads_same h = (cc, ap (drop 1) h)
 
--- texts that are the same one by one are the same together
-together : (f g : Judged → List ℕ) (js ks : List Judged) → map f js ≡ map g ks → flat_map f js ≡ flat_map g ks
-together f g js ks h = joined f js ∙ ap concat h ∙ sym (joined g ks)
-
--- outcomes are the same that are the same part by part
-outcome_same : (a b : Outcome) → a.out ≡ b.out → a.err ≡ b.err → a.asks ≡ b.asks → a.good ≡ b.good → a ≡ b
-outcome_same a b o e q g =
-    let make : List ℕ → List ℕ → List (List ℕ) → Bool → Outcome =
-    λ w x y z. record { out = w; err = x; asks = y; good = z } in
-    ap (λ w. make w a.err a.asks a.good) o ∙ ap (λ x. make b.out x a.asks a.good) e
-    ∙ ap (λ y. make b.out b.err y a.good) q ∙ ap (make b.out b.err b.asks) g
+-- steps are the same whose reports are, one by one
+steps_same : (r s : Rules) (end : List ℕ) (c : Content) (js : List Judged) → map (out_of r) js ≡ map (out_of s) js
+    → map (err_of r) js ≡ map (err_of s) js → line_steps r end c js ≡ line_steps s end c js
+steps_same r s end c [] outs errs = refl
+steps_same r s end c (j ∷ js) outs errs =
+    let out = heads_same outs in
+    let err = heads_same errs in
+    let make : List ℕ → List ℕ → Step =
+    λ e o. record { names = asks_of j; err = e; out = o; left = length c.bytes } in
+    ap (λ o. make (err_of r j) o ∷ line_steps r end (past_line c) js) out.0
+    ∙ ap (λ e. make e (out_of s j) ∷ line_steps r end (past_line c) js) err.0
+    ∙ ap (λ l. make (err_of s j) (out_of s j) ∷ l) (steps_same r s end (past_line c) js out.1 err.1)
 
 -- what such a content comes to is the same
-content_same : (r : Rules) (name : List ℕ) (w : World) (c : Content) → Old r c
-    → checked_content (under older r) name c (all_verdicts (under older r) w c)
-    ≡ checked_content (under present r) name c (all_verdicts (under present r) w c)
-content_same r name w c h =
+content_same : (r : Rules) (w : World) (c : Content) → Old r c
+    → checked_content (under older r) c (all_verdicts (under older r) w c)
+    ≡ checked_content (under present r) c (all_verdicts (under present r) w c)
+content_same r w c h =
     let old = under older r in
     let new = under present r in
     let js = all_verdicts old w c in
     let ks = all_verdicts new w c in
     let s : SameChecks old new w c = old_verdicts r w c h in
-    let errs : flat_map (err_of old) js ≡ flat_map (err_of new) ks = together (err_of old) (err_of new) js ks s.errs in
-    outcome_same (checked_content old name c js) (checked_content new name c ks)
-    (together (out_of old) (out_of new) js ks s.outs)
-    (ap (λ l. l ++ end_text old c.ending (counts js)) errs ∙ ap (λ l. flat_map (err_of new) ks ++ l) s.end)
-    (ap (λ x. name ∷ flat_map asks_of x) s.verdicts) s.good
+    let make : List Step → Bool → Run = λ l g. record { steps = l; good = g } in
+    let outs : map (out_of old) js ≡ map (out_of new) js = s.outs ∙ ap (map (out_of new)) (sym s.verdicts) in
+    let errs : map (err_of old) js ≡ map (err_of new) js = s.errs ∙ ap (map (err_of new)) (sym s.verdicts) in
+    let steps : line_steps old (end_text old c.ending (counts js)) c js
+    ≡ line_steps new (end_text new c.ending (counts ks)) c ks =
+    steps_same old new (end_text old c.ending (counts js)) c js outs errs
+    ∙ ap (λ e. line_steps new e c js) s.end
+    ∙ ap (λ l. line_steps new (end_text new c.ending (counts ks)) c l) s.verdicts in
+    ap (λ l. make l (good old c.ending (counts js))) steps
+    ∙ ap (make (line_steps new (end_text new c.ending (counts ks)) c ks)) s.good
 
 -- so is what its name comes to
 pub old_outcomes : OldOutcomes
 old_outcomes r name w (Refused f) own h =
-    ap (λ (l : List ℕ). record { out = []; err = l; asks = name ∷ []; good = false }) (fault_same r.tool r.shown f own)
-old_outcomes r name w (Given c) own h = content_same r name w (clip c) (h c refl)
+    ap (λ (l : List ℕ). at_once (name ∷ []) l [] false) (fault_same r.tool r.shown f own)
+old_outcomes r name w (Given c) own h = ap (step_then (opening name)) (content_same r w (clip c) (h c refl))
 
 -- ---- where the profiles differ
 

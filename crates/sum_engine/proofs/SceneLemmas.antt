@@ -1,77 +1,134 @@
--- What was done at a scene, one thing after another; and scenes that tell or don't.
-use Rattle.std.proofs.Common.{◌≡◌, ℕ, ◌||◌, List, [], ◌++◌, Option, None, Some, refl, ap, sym, ◌∙◌, append_assoc, Bool}
+-- What came about at a scene, one thing after another; and scenes that tell or don't.
+use Rattle.std.proofs.Common.{◌≡◌, ℕ, ◌||◌, Bool, List, [], ◌∷◌, ◌++◌, map, Option, None, Some, refl, ap, sym, ◌∙◌, append_assoc, append-nil}
+use Rattle.std.specs.Prelude.{filter_map, is_none}
 use Rattle.std.specs.List.{list_any}
 use Rattle.std.specs.Io.KnownBytes.{Appends}
 use Rattle.std.proofs.KnownBytes.{Appends-nil, Appends-trans}
 use Rattle.std.proofs.Math.Bool.{or-false, or_assoc}
-use Rattle.std.proofs.lemmas.List.{append-nil}
+use Rattle.std.proofs.lemmas.List.{map-append}
+use Rattle.std.proofs.lemmas.List.Elements.{filter_map-append}
 use Rattle.std.proofs.lemmas.List.Folds.{list_any-append}
 use Rattle.sum_sources.specs.Contents.{WhereTold, Content}
-use Rattle.sum_lines.specs.Sinks.{AppendsFront}
-use Rattle.sum_engine.specs.Worlds.{World, is_dash, after}
-use Rattle.sum_engine.specs.Scenes.{Scene, scene_by, world, Does, Cut, AppendsUpTo}
-use Rattle.sum_engine.proofs.WorldLemmas.{after-none, after-append}
-use Rattle.std.specs.Prelude.{is_none}
 use Rattle.sum_sources.specs.Sources.{Telling}
+use Rattle.sum_lines.specs.Sinks.{AppendsPrefix}
+use Rattle.sum_engine.specs.Worlds.{World, is_dash, after}
+use Rattle.sum_engine.specs.Runs.{Event, Opens, Tells, Puts, events_by, name_in, err_in, out_in}
+use Rattle.sum_engine.specs.Scenes.{Scene, scene_by, world, Did, DidPrefix}
 use Rattle.sum_engine.specs.declared.streams.Streams.{Streams}
+use Rattle.sum_engine.proofs.WorldLemmas.{after-none, after-append}
 
--- ---- fronts of a text
+-- ---- what of a step's events is of each kind
 
--- nothing of it was written
-pub none_yet : (a : Option (List ℕ)) (x : List ℕ) → AppendsUpTo a a x
-none_yet a x = ([], x, refl, Appends-nil a)
+-- events of the kind that is looked for
+kind-all : {A : Type 0} (f : A → Event) (h : Event → Option A) → ((x : A) → h (f x) ≡ Some x) → (xs : List A)
+    → filter_map h (map f xs) ≡ xs
+kind-all f h same [] = refl
+kind-all f h same (x ∷ xs) = rw (same x) (ap (λ l. x ∷ l) (kind-all f h same xs))
 
--- a front that may be the whole is what a failed write leaves of it
-pub up_to-front : (a b : Option (List ℕ)) (x : List ℕ) → AppendsFront a b x → AppendsUpTo a b x
-up_to-front a b x h = (h.0, h.1, h.2, h.4)
+-- events of another kind
+kind-none : {A B : Type 0} (f : A → Event) (h : Event → Option B) → ((x : A) → h (f x) ≡ None) → (xs : List A)
+    → filter_map h (map f xs) ≡ []
+kind-none f h none [] = refl
+kind-none f h none (x ∷ xs) = rw (none x) (kind-none f h none xs)
 
--- all of x, and then a front of y, is a front of what begins with x and y
-upto_after : (a b c : Option (List ℕ)) (x y z text : List ℕ) → Appends a b x → AppendsUpTo b c y
-    → text ≡ x ++ (y ++ z) → AppendsUpTo a c text
-upto_after a b c x y z text h k is = (
-  x ++ k.0,
-  k.1 ++ z,
-  is ∙ ap (λ l. x ++ (l ++ z)) k.2 ∙ ap (λ l. x ++ l) (append_assoc k.0 k.1 z)
-      ∙ sym (append_assoc x k.0 (k.1 ++ z)),
-  Appends-trans a b c x k.0 h k.3,
-)
+-- one kind after the other
+kinds : {X : Type 0} (h : Event → Option X) (names : List (List ℕ)) (err out : List ℕ)
+    → filter_map h (events_by names err out)
+    ≡ filter_map h (map Opens names) ++ (filter_map h (map Tells err) ++ filter_map h (map Puts out))
+kinds h names err out = filter_map-append h (map Opens names) (map Tells err ++ map Puts out)
+    ∙ ap (λ l. filter_map h (map Opens names) ++ l) (filter_map-append h (map Tells err) (map Puts out))
 
--- ---- one call after another
+pub names-by : (names : List (List ℕ)) (err out : List ℕ) → filter_map name_in (events_by names err out) ≡ names
+names-by names err out = kinds name_in names err out ∙ rw (
+  kind-all Opens name_in (λ x. refl) names,
+  kind-none Tells name_in (λ x. refl) err,
+  kind-none Puts name_in (λ x. refl) out,
+) (append-nil names)
 
--- doing nothing
-pub does_nothing : (a : Scene) → Does a a [] [] []
-does_nothing a = record {
+pub err-by : (names : List (List ℕ)) (err out : List ℕ) → filter_map err_in (events_by names err out) ≡ err
+err-by names err out = kinds err_in names err out ∙ rw (
+  kind-none Opens err_in (λ x. refl) names,
+  kind-all Tells err_in (λ x. refl) err,
+  kind-none Puts err_in (λ x. refl) out,
+) (append-nil err)
+
+pub out-by : (names : List (List ℕ)) (err out : List ℕ) → filter_map out_in (events_by names err out) ≡ out
+out-by names err out = kinds out_in names err out ∙ rw (
+  kind-none Opens out_in (λ x. refl) names,
+  kind-none Tells out_in (λ x. refl) err,
+  kind-all Puts out_in (λ x. refl) out,
+) refl
+
+-- ---- what came about
+
+-- these names were asked and these texts handed on
+pub did_by : {a b : Scene} (names : List (List ℕ)) (err out : List ℕ) → b.world ≡ after a.world names
+    → b.taken ≡ a.taken || list_any is_dash names → Appends a.err b.err err → Appends a.out b.out out
+    → Did a b (events_by names err out)
+did_by names err out asked taken p q = record {
+  world = rw (names-by names err out) asked;
+  taken = rw (names-by names err out) taken;
+  err = rw (err-by names err out) p;
+  out = rw (out-by names err out) q;
+}
+
+-- nothing
+pub did_nothing : (a : Scene) → Did a a []
+did_nothing a = record {
   world = after-none a.world;
   taken = sym (or-false a.taken);
-  out = Appends-nil a.out;
   err = Appends-nil a.err;
+  out = Appends-nil a.out;
 }
 
--- texts and names are joined
-pub does_both : {a b c : Scene} {o e o' e' : List ℕ} {q q' : List (List ℕ)} → Does a b o e q → Does b c o' e' q'
-    → Does a c (o ++ o') (e ++ e') (q ++ q')
-does_both {a} {b} {c} {o} {e} {o'} {e'} {q} {q'} h k = record {
-  world = k.world ∙ ap (λ w. after w q') h.world ∙ after-append a.world q q';
-  taken = k.taken ∙ ap (λ t. t || list_any is_dash q') h.taken
-      ∙ or_assoc a.taken (list_any is_dash q) (list_any is_dash q')
-      ∙ ap (λ t. a.taken || t) (sym (list_any-append is_dash q q'));
-  out = Appends-trans a.out b.out c.out o o' h.out k.out;
-  err = Appends-trans a.err b.err c.err e e' h.err k.err;
-}
+-- one thing after another
+pub did_both : {a b c : Scene} (p q : List Event) → Did a b p → Did b c q → Did a c (p ++ q)
+did_both {a} {b} {c} p q h k =
+    let names : List (List ℕ) = filter_map name_in p in
+    let more : List (List ℕ) = filter_map name_in q in
+    record {
+      world = rw (filter_map-append name_in p q)
+          (k.world ∙ ap (λ w. after w more) h.world ∙ after-append a.world names more);
+      taken = rw (filter_map-append name_in p q, list_any-append is_dash names more)
+          (k.taken ∙ ap (λ t. t || list_any is_dash more) h.taken
+          ∙ or_assoc a.taken (list_any is_dash names) (list_any is_dash more));
+      err = rw (filter_map-append err_in p q) (Appends-trans a.err b.err c.err _ _ h.err k.err);
+      out = rw (filter_map-append out_in p q) (Appends-trans a.out b.out c.out _ _ h.out k.out);
+    }
 
--- a call that was cut off behind what was done; x and y are what it would have written after its own texts
-pub cut_after : {a b c : Scene} {o e o' e' out err : List ℕ} {q q' : List (List ℕ)} (x y : List ℕ) → Does a b o e q
-    → Cut b c o' e' q' → out ≡ o ++ (o' ++ x) → err ≡ e ++ (e' ++ y) → Cut a c out err (q ++ q')
-cut_after {a} {b} {c} {o} {e} {o'} {e'} {out} {err} {q} {q'} x y h k is_out is_err = record {
-  world = k.world ∙ ap (λ w. after w q') h.world ∙ after-append a.world q q';
-  out = upto_after a.out b.out c.out o o' x out h.out k.out is_out;
-  err = upto_after a.err b.err c.err e e' y err h.err k.err is_err;
-}
+-- ---- a prefix of it
 
--- a call that was cut off behind names that were asked
-pub cut_behind : {a b c : Scene} {o e : List ℕ} {q q' : List (List ℕ)} → Does a b [] [] q → Cut b c o e q'
-    → Cut a c o e (q ++ q')
-cut_behind {o = o} {e = e} h k = cut_after [] [] h k (sym (append-nil o)) (sym (append-nil e))
+-- the names were asked, and of the text on standard error a prefix was handed on
+pub prefix_err : {a b : Scene} (names : List (List ℕ)) (err out : List ℕ) → b.world ≡ after a.world names
+    → b.taken ≡ a.taken || list_any is_dash names → AppendsPrefix a.err b.err err → b.out ≡ a.out
+    → DidPrefix a b (events_by names err out)
+prefix_err {a} {b} names err out asked taken h same = (
+  events_by names h.0 [],
+  (
+    map Tells h.1.0 ++ map Puts out,
+    rw (h.1.1) (simp (map-append, append-nil, append_assoc)),
+  ),
+  did_by names h.0 [] asked taken h.2 (rw same (Appends-nil a.out)),
+)
+
+-- all of it was, and a prefix of the text on standard output
+pub prefix_out : {a b : Scene} (names : List (List ℕ)) (err out : List ℕ) → b.world ≡ after a.world names
+    → b.taken ≡ a.taken || list_any is_dash names → Appends a.err b.err err → AppendsPrefix a.out b.out out
+    → DidPrefix a b (events_by names err out)
+prefix_out {a} {b} names err out asked taken all h = (
+  events_by names err h.0,
+  (map Puts h.1.0, rw (h.1.1) (simp (map-append, append_assoc))),
+  did_by names err h.0 asked taken all h.2,
+)
+
+-- a prefix of what comes next, behind what came about
+pub prefix_behind : {a b c : Scene} (p es more : List Event) → Did a b p → DidPrefix b c es
+    → DidPrefix a c (p ++ (es ++ more))
+prefix_behind p es more done h = (
+  p ++ h.0,
+  (h.1.0 ++ more, rw (h.1.1) (simp append_assoc)),
+  did_both p h.0 done h.2,
+)
 
 -- ---- scenes that tell or don't
 
@@ -79,11 +136,11 @@ cut_behind {o = o} {e = e} h k = cut_after [] [] h k (sym (append-nil o)) (sym (
 pub record Seen : Type 0 where
   pub world : Option World
   pub taken : Bool
-  pub out : Option (List ℕ)
   pub err : Option (List ℕ)
+  pub out : Option (List ℕ)
 
 abbrev pub seen : Seen → Option Scene
-seen a = scene_by a.world a.taken a.out a.err
+seen a = scene_by a.world a.taken a.err a.out
 
 -- that of a call's streams
 abbrev pub seen_of : {I S O E : Type 0} → (I → Option Content) → (S → Option Telling) → (O → Option (List ℕ))
@@ -91,18 +148,18 @@ abbrev pub seen_of : {I S O E : Type 0} → (I → Option Content) → (S → Op
 seen_of content told out err s = record {
   world = world content (told s.source) s.stdin;
   taken = is_none s.stdin;
-  out = out s.out;
   err = err s.err;
+  out = out s.out;
 }
 
 -- the scene, once the world is known
 abbrev pub seen_at : Seen → World → Scene
-seen_at a w = record { world = w; taken = a.taken; out = a.out; err = a.err }
+seen_at a w = record { world = w; taken = a.taken; err = a.err; out = a.out }
 
 -- the next, by the worlds themselves
 seen_by : (w v : Option World) (a b : Seen) {P : World → World → Type 0} (R : Scene → Scene → Type 0)
     → WhereTold w v P → ((w v : World) → P w v → R (seen_at a w) (seen_at b v))
-    → WhereTold (scene_by w a.taken a.out a.err) (scene_by v b.taken b.out b.err) R
+    → WhereTold (scene_by w a.taken a.err a.out) (scene_by v b.taken b.err b.out) R
 seen_by None v a b R h f = tt
 seen_by (Some w) None a b R h f = h
 seen_by (Some w) (Some v) a b R h f = f w v h
@@ -114,16 +171,23 @@ pub seen-told : (a b : Seen) {P : World → World → Type 0} (R : Scene → Sce
 seen-told a b R h f = seen_by a.world b.world a b R h f
 
 -- a world that wasn't asked
-same_world : (w : Option World) → WhereTold w w (λ w v. v ≡ w)
+pub same_world : (w : Option World) → WhereTold w w (λ w v. v ≡ w)
 same_world None = tt
 same_world (Some w) = refl
 
--- a front of a text was written to the second output, and nothing else was done
-pub err_cut : (a : Seen) (err : Option (List ℕ)) (text : List ℕ) → AppendsFront a.err err text
-    → WhereTold (seen a) (seen (record a { err = err })) (λ a b. Cut a b [] text [])
-err_cut a err text h = seen-told a (record a { err = err }) _ (same_world a.world)
-    (λ w v same. record {
-      world = same ∙ after-none w;
-      out = none_yet a.out [];
-      err = up_to-front a.err err text h;
-    })
+-- nor was anything else done
+pub same_scene : (s : Option Scene) → WhereTold s s (λ s t. t ≡ s)
+same_scene None = tt
+same_scene (Some s) = refl
+
+-- a text was handed on by standard error, and nothing else was done
+pub err_told : (a : Seen) (err : Option (List ℕ)) (text : List ℕ) → Appends a.err err text
+    → WhereTold (seen a) (seen (record a { err = err })) (λ a b. Did a b (events_by [] text []))
+err_told a err text h = seen-told a (record a { err = err }) _ (same_world a.world) (λ w v same.
+    did_by [] text [] (same ∙ after-none w) (sym (or-false a.taken)) h (Appends-nil a.out))
+
+-- a prefix of it was
+pub err_cut : (a : Seen) (err : Option (List ℕ)) (text : List ℕ) → AppendsPrefix a.err err text
+    → WhereTold (seen a) (seen (record a { err = err })) (λ a b. DidPrefix a b (events_by [] text []))
+err_cut a err text h = seen-told a (record a { err = err }) _ (same_world a.world) (λ w v same.
+    prefix_err [] text [] (same ∙ after-none w) (sym (or-false a.taken)) h refl)

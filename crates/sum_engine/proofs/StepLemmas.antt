@@ -1,52 +1,63 @@
 -- One step of a checker, by what its parts did.
-use Rattle.std.proofs.Common.{◌≡◌, ℕ, ◌+◌, ◌≤◌, ◌||◌, List, [], length, Option, None, Some, Ok, Err}
+use Rattle.std.proofs.Common.{◌≡◌, ℕ, ◌+◌, ◌≤◌, ◌<◌, ◌||◌, ◌⊎◌, Bool, false, List, [], ◌∷◌, length, Option, None, Some, Ok, Err, refl, ap, sym, ◌∙◌, inl, inr, subst}
+use Rattle.std.specs.Prelude.{IfSome}
 use Rattle.std.specs.List.{list_any}
 use Rattle.std.specs.Io.KnownBytes.{Appends}
 use Rattle.sum_sources.specs.declared.fault.Fault.{Fault}
+use Rattle.sum_sources.specs.declared.fault.Ending.TheVariants.{Whole}
 use Rattle.sum_sources.specs.declared.lines.Next.TheVariants.{Line, NoMore}
 use Rattle.sum_sources.specs.declared.lines.LineStop.TheVariants as line_stops
 use Rattle.sum_sources.specs.Contents.{Content, WhereTold}
-use Rattle.sum_sources.specs.ManifestLines.{LineOf}
+use Rattle.sum_sources.specs.ManifestLines.{LineOf, lines}
+use Rattle.sum_sources.specs.joins.LineReading.{coming, bytes_used, lines_given}
+use Rattle.sum_sources.proofs.ToldLemmas.{WhereTold-both}
+use Rattle.sum_lines.specs.declared.line_reading.Form.{Form}
 use Rattle.sum_lines.specs.Entries.{form_then, line_form}
-use Rattle.sum_engine.specs.declared.progress.Progress.TheVariants.{Going}
+use Rattle.sum_lines.specs.Profiles.{present}
+use Rattle.sum_lines.specs.Says.{Said, says}
+use Rattle.sum_engine.specs.declared.checker.Checker.{Checker}
+use Rattle.sum_engine.specs.declared.progress.Progress.TheVariants.{Going, Ended}
 use Rattle.sum_engine.specs.declared.stop.Stop.{Stop}
 use Rattle.sum_engine.specs.declared.stop.Stop.TheVariants.{Memory, Write}
 use Rattle.sum_engine.specs.declared.summary.Counts.{Counts}
 use Rattle.sum_engine.specs.declared.verdict.Judgement.{Judgement}
 use Rattle.sum_engine.specs.Worlds.{is_dash}
-use Rattle.sum_lines.specs.Profiles.{present}
+use Rattle.sum_engine.specs.Runs.{Step, Run, events_by}
 use Rattle.sum_engine.specs.Generation.{fault_line}
-use Rattle.sum_lines.specs.Says.{Said, says}
-use Rattle.sum_engine.specs.Verdicts.{Rules}
-use Rattle.sum_engine.specs.Reports.{out_by, err_by, counted, summary}
-use Rattle.sum_engine.specs.Scenes.{Scene, Cut, AppendsUpTo}
+use Rattle.sum_engine.specs.Verdicts.{Rules, asks_of}
+use Rattle.sum_engine.specs.Reports.{out_by, err_by, out_of, err_of, counted, summary, good}
+use Rattle.sum_engine.specs.Checking.{line_step}
+use Rattle.sum_engine.specs.Scenes.{Scene, Did, DidPrefix, refusals_over}
+use Rattle.sum_engine.specs.Steps.{Now, now_by, Moves, StepGives, next_judged, rest_verdicts}
 use Rattle.sum_engine.specs.joins.Judging.{JudgeGives, judgement_asks}
-use Rattle.sum_engine.specs.Steps.{Now, now_by, StepGives, HandleGives}
-use Rattle.sum_sources.proofs.ToldLemmas.{WhereTold-both}
-use Rattle.sum_engine.proofs.SceneLemmas.{Seen, seen, seen-told}
-use Rattle.sum_lines.specs.declared.line_reading.Form.{Form}
-use Rattle.sum_engine.specs.declared.checker.Checker.{Checker}
-use Rattle.sum_sources.specs.joins.LineReading.{coming, bytes_used, lines_given}
+use Rattle.sum_engine.specs.joins.Handling.{HandleGives}
+use Rattle.sum_lines.specs.Sinks.{AppendsPrefix}
+use Rattle.sum_sources.specs.declared.fault.Ending.{Ending}
+use Rattle.sum_engine.proofs.SceneLemmas.{Seen, seen, seen-told, names-by, did_by, prefix_err, prefix_out}
+use Rattle.sum_engine.proofs.RestLemmas.{run_by, first_step, line_first, line_done, end_first}
 
 -- ---- one line was handled
 
--- its report was written, it was counted, and its name was asked
+-- its report was handed on, it was counted, and its name was asked
 pub handled : (r : Rules) (said : Said) (n : ℕ) (c d : Counts) (a b : Seen) (j : Judgement)
     → JudgeGives r a.world b.world said (Some j) → b.taken ≡ a.taken || list_any is_dash (judgement_asks j)
-    → d ≡ counted c j.verdict → Appends a.out b.out (out_by r.profile r.settings.report j.verdict j.name.now)
-    → Appends a.err b.err (err_by r n j.verdict j.name.now)
+    → d ≡ counted c j.verdict → Appends a.err b.err (err_by r n j.verdict j.name.now)
+    → Appends a.out b.out (out_by r.profile r.settings.report j.verdict j.name.now)
     → HandleGives {A = Unit {0}} r said n c d (seen a) (seen b) (Ok tt)
-handled r said n c d a b j h taken count out err = seen-told a b _ h (λ w v judged.
-    rw (judged.0 n) (count, record { world = judged.1; taken = taken; out = out; err = err }))
+handled r said n c d a b j h taken count err out = seen-told a b _ h (λ w v judged.
+    rw (judged.0 n) (count, did_by (judgement_asks j) _ _ judged.1 taken err out))
 
--- fronts of its report were written
+-- a prefix of its report was
 pub handling_cut : (r : Rules) (said : Said) (n : ℕ) (c d : Counts) (a b : Seen) (j : Judgement)
-    → JudgeGives r a.world b.world said (Some j)
-    → AppendsUpTo a.out b.out (out_by r.profile r.settings.report j.verdict j.name.now)
-    → AppendsUpTo a.err b.err (err_by r n j.verdict j.name.now)
+    → JudgeGives r a.world b.world said (Some j) → b.taken ≡ a.taken || list_any is_dash (judgement_asks j)
+    → (AppendsPrefix a.err b.err (err_by r n j.verdict j.name.now) × (b.out ≡ a.out))
+    ⊎ (Appends a.err b.err (err_by r n j.verdict j.name.now)
+    × AppendsPrefix a.out b.out (out_by r.profile r.settings.report j.verdict j.name.now))
     → HandleGives {A = Unit {0}} r said n c d (seen a) (seen b) (Err Write)
-handling_cut r said n c d a b j h out err = seen-told a b _ h (λ w v judged.
-    rw (judged.0 n) (record { world = judged.1; out = out; err = err }))
+handling_cut r said n c d a b j h taken (inl first) = seen-told a b _ h (λ w v judged.
+    rw (judged.0 n) (prefix_err (judgement_asks j) _ _ judged.1 taken first.0 first.1))
+handling_cut r said n c d a b j h taken (inr second) = seen-told a b _ h (λ w v judged.
+    rw (judged.0 n) (prefix_out (judgement_asks j) _ _ judged.1 taken second.0 second.1))
 
 -- ---- where a checker stands
 
@@ -122,18 +133,22 @@ abbrev said_at : Rules → Standing → List ℕ → Said
 said_at r a line = says present r.settings.algo (form_then a.form (line_form r.settings.algo line)) line
 
 -- a line, which was handled
-pub step_line : (r : Rules) (a b : Standing) (line held : List ℕ)
+pub step_line : (r : Rules) (n m : ℕ) (a b : Standing) (line held : List ℕ)
     → WhereTold a.rest b.rest (λ c d. LineOf c d (Ok Line) line)
     → WhereTold a.rest b.rest (λ c d. b.used + length d.bytes ≡ a.used + length c.bytes)
     → b.number ≡ a.number + 1 → b.form ≡ form_then a.form (line_form r.settings.algo line)
     → length held ≤ length line
     → HandleGives {A = Unit {0}} (now r) (said_at r a line) b.number a.counts b.counts a.scene b.scene (Ok tt)
-    → StepGives (now r) (stands a) (stands b) held (Ok Going)
-step_line r a b line held came used number form few h =
+    → StepGives (now r) n m held (stands a) (stands b) (Ok Going)
+step_line r n m a b line held came used number form few h =
     let Took : Content → Content → Type 0 =
     λ c d. LineOf c d (Ok Line) line × (b.used + length d.bytes ≡ a.used + length c.bytes) in
     let took = WhereTold-both a.rest b.rest {R = Took} (λ c d came used. (came, used)) came used in
-    stands-told a b {P = Took} _ took h (λ c d s t took done. let done' = rw number at done in record {
+    stands-told a b {P = Took} _ took h (λ c d s t took done.
+    let done' = rw number at done in
+    let first : Now = stands_at a c s in
+    let next : Now = stands_at b d t in
+    let moves : Moves (now r) first next held = record {
       line = line;
       lines = took.0.0;
       rest = took.0.1;
@@ -141,29 +156,90 @@ step_line r a b line held came used number form few h =
       number = number;
       form = form;
       counts = done'.0;
-      done = done'.1;
       held = few;
+    } in
+    let j = next_judged (now r) first line in
+    let asked = rw (names-by (asks_of j) (err_of (now r) j) (out_of (now r) j)) at done'.1.world in (
+      record {
+        step = line_step (now r) (length c.bytes) j;
+        is = line_done (now r) first next held moves asked;
+        did = done'.1;
+      },
+      moves,
+    ))
+
+-- a line, whose handling stopped: of its report a prefix was handed on, or the source had no memory
+pub step_line_stop : (r : Rules) (n m : ℕ) (a b : Standing) (line held : List ℕ) (stop : Stop)
+    → WhereTold a.rest b.rest (λ c d. LineOf c d (Ok Line) line) → b.number ≡ a.number + 1
+    → m ≡ refusals_over {A = Unit {0}} n (Err stop)
+    → HandleGives {A = Unit {0}} (now r) (said_at r a line) b.number a.counts b.counts a.scene b.scene (Err stop)
+    → StepGives (now r) n m held (stands a) (stands b) (Err stop)
+step_line_stop r n m a b line held Write came number refused h = stands-told a b _ came h (λ c d s t took cut.
+    let cut' = rw number at cut in
+    let first = line_first (now r) (stands_at a c s) line (lines d) took.0 in
+    record { step = _; rest = first.0; is = first.1; did = cut' })
+step_line_stop r n m a b line held Memory came number refused h = stands-told a b _ came h (λ c d s t took same.
+    let first = line_first (now r) (stands_at a c s) line (lines d) took.0 in
+    record { step = _; rest = first.0; is = first.1; same = same; wants = inl refused })
+
+-- what is told of the first value holds beside what holds of both
+told_with : {A : Type 0} (x y : Option A) (Q : A → Type 0) (P : A → A → Type 0) → IfSome x Q → WhereTold x y P
+    → WhereTold x y (λ a b. Q a × P a b)
+told_with None y Q P q p = tt
+told_with (Some a) None Q P q p = p
+told_with (Some a) (Some b) Q P q p = (q, p)
+
+-- there was no memory for the line
+pub step_no_room : (r : Rules) (n : ℕ) (a b : Standing) (held : List ℕ) (P : Content → Content → Type 0)
+    → WhereTold a.rest b.rest P → WhereTold a.scene b.scene (λ s t. t ≡ s) → IfSome a.rest (λ c. 0 < length c.bytes)
+    → StepGives (now r) n n held (stands a) (stands b) (Err Memory)
+step_no_room r n a b held P came h room =
+    stands-told a b _ (told_with a.rest b.rest (λ c. 0 < length c.bytes) P room came) h (λ c d s t took same.
+    let here = stands_at a c s in
+    let first = first_step (now r) c.ending a.counts c (rest_verdicts (now r) here) in
+    record {
+      step = first.0;
+      rest = first.1;
+      is = first.2;
+      same = same;
+      wants = inr (refl, subst (λ k. 0 < k) (sym first.3) took.0);
     })
 
--- a line, whose handling stopped
-pub step_line_stop : (r : Rules) (a b : Standing) (line held : List ℕ) (stop : Stop)
-    → WhereTold a.rest b.rest (λ c d. LineOf c d (Ok Line) line) → b.number ≡ a.number + 1
-    → HandleGives {A = Unit {0}} (now r) (said_at r a line) b.number a.counts b.counts a.scene b.scene (Err stop)
-    → StepGives (now r) (stands a) (stands b) held (Err stop)
-step_line_stop r a b line held Write came number h = stands-told a b _ came h (λ c d s t took cut.
-    let cut' = rw number at cut in rw took.0 cut')
-step_line_stop r a b line held Memory came number h = stands-told a b _ came h (λ c d s t took same. same)
+-- the end, whose summary was handed on
+pub step_end : (r : Rules) (n m : ℕ) (a b : Standing) (line held : List ℕ) (answer : Bool)
+    → WhereTold a.rest b.rest (λ c d. LineOf c d (Ok NoMore) line) → answer ≡ good (now r) Whole a.counts
+    → WhereTold a.scene b.scene (λ s t. Did s t (events_by [] (summary (now r) a.counts) []))
+    → StepGives (now r) n m held (stands a) (stands b) (Ok (Ended answer))
+step_end r n m a b line held answer came is h = stands-told a b _ came h (λ c d s t took did.
+    let end = end_first (now r) (stands_at a c s) took.0 in
+    let whole = ap (λ (e : Ending). run_by (now r) e a.counts c []) took.1 in
+    let step : Step = record { names = []; err = summary (now r) a.counts; out = []; left = length c.bytes } in
+    let good : Run = record { steps = step ∷ []; good = good (now r) Whole a.counts } in
+    record { step = step; is = end ∙ whole ∙ ap (λ g. record good { good = g }) (sym is); did = did })
 
--- the end, whose summary was cut off
-pub step_end_cut : (r : Rules) (a b : Standing) (line held : List ℕ)
+-- a prefix of it was
+pub step_end_cut : (r : Rules) (n m : ℕ) (a b : Standing) (line held : List ℕ)
     → WhereTold a.rest b.rest (λ c d. LineOf c d (Ok NoMore) line)
-    → WhereTold a.scene b.scene (λ s t. Cut s t [] (summary (now r) a.counts) [])
-    → StepGives (now r) (stands a) (stands b) held (Err Write)
-step_end_cut r a b line held came h = stands-told a b _ came h (λ c d s t took cut. rw (took.0, took.1) cut)
+    → WhereTold a.scene b.scene (λ s t. DidPrefix s t (events_by [] (summary (now r) a.counts) []))
+    → StepGives (now r) n m held (stands a) (stands b) (Err Write)
+step_end_cut r n m a b line held came h = stands-told a b _ came h (λ c d s t took cut.
+    let end = end_first (now r) (stands_at a c s) took.0 in
+    record { step = _; rest = _; is = end; did = rw took.1 cut })
 
--- a fault of the manifest, whose line was cut off
-pub step_fault_cut : (r : Rules) (a b : Standing) (line held : List ℕ) (f : Fault)
+-- a fault of the manifest, whose line was handed on
+pub step_fault : (r : Rules) (n m : ℕ) (a b : Standing) (line held : List ℕ) (f : Fault)
     → WhereTold a.rest b.rest (λ c d. LineOf c d (Err (line_stops.Fault f)) line)
-    → WhereTold a.scene b.scene (λ s t. Cut s t [] (fault_line present r.tool r.shown f) [])
-    → StepGives (now r) (stands a) (stands b) held (Err Write)
-step_fault_cut r a b line held f came h = stands-told a b _ came h (λ c d s t took cut. rw (took.0, took.1) cut)
+    → WhereTold a.scene b.scene (λ s t. Did s t (events_by [] (fault_line present r.tool r.shown f) []))
+    → StepGives (now r) n m held (stands a) (stands b) (Ok (Ended false))
+step_fault r n m a b line held f came h = stands-told a b _ came h (λ c d s t took did.
+    let end = end_first (now r) (stands_at a c s) took.0 in
+    record { step = _; is = end ∙ ap (λ (e : Ending). run_by (now r) e a.counts c []) took.1; did = did })
+
+-- a prefix of it was
+pub step_fault_cut : (r : Rules) (n m : ℕ) (a b : Standing) (line held : List ℕ) (f : Fault)
+    → WhereTold a.rest b.rest (λ c d. LineOf c d (Err (line_stops.Fault f)) line)
+    → WhereTold a.scene b.scene (λ s t. DidPrefix s t (events_by [] (fault_line present r.tool r.shown f) []))
+    → StepGives (now r) n m held (stands a) (stands b) (Err Write)
+step_fault_cut r n m a b line held f came h = stands-told a b _ came h (λ c d s t took cut.
+    let end = end_first (now r) (stands_at a c s) took.0 in
+    record { step = _; rest = _; is = end; did = rw took.1 cut })

@@ -22,7 +22,10 @@ use Rattle.sum_lines.specs.Profiles.{present}
 use Rattle.sum_engine.specs.Worlds.{World, is_dash, reply, after, read}
 use Rattle.sum_lines.specs.Says.{Said, Nothing, Improper, Spells, says}
 use Rattle.sum_engine.specs.Verdicts.{Rules, not_found, against, judge, asks_by, asks_of, verdicts}
+use Rattle.sum_engine.specs.Runs.{asks}
+use Rattle.sum_engine.specs.Reports.{counts, end_text}
 use Rattle.sum_engine.specs.Checking.{rules_of, checked, checked_by}
+use Rattle.sum_engine.proofs.CheckedLemmas.{asks_of_lines}
 use Rattle.sum_engine.specs.joins.Judging.{said_asks}
 use Rattle.sum_engine.specs.joins.Taking.{lines_ask, asks_stdin, stdin_by, StdinOf, TakesStdin}
 use Rattle.sum_engine.proofs.StepLemmas.{now}
@@ -149,21 +152,23 @@ file_rules settings tool name b =
 file_asks : (settings : CheckSettings) (tool name : List ℕ) (w : World) (c : Content) → is_dash name ≡ false
     → w.answer name ≡ Given c
     → asks_stdin (file_rules settings tool name false) Undecided (clip c) ≡ list_any is_dash
-    (checked settings tool w name).asks
+    (asks (checked settings tool w name))
 file_asks settings tool name w c d is =
     let r = rules_of settings tool name in
     let v = after w (name ∷ []) in
     let ls = lines (clip c) in
     let f = form settings.algo ls in
     let given : reply w name ≡ Given c = rw d is in
-    let all : list_any is_dash (checked settings tool w name).asks
+    let js = verdicts r f v 0 ls in
+    let all : list_any is_dash (asks (checked settings tool w name))
     ≡ is_dash name || list_any is_dash (flat_map asks_of (verdicts r f v 0 ls)) =
-    ap (λ y. list_any is_dash (checked_by r name v y).asks) given in
-    let asks : list_any is_dash (flat_map asks_of (verdicts r f v 0 ls)) ≡ list_any is_dash (lines_ask r f ls) =
+    ap (λ y. list_any is_dash (asks (checked_by r name v y))) given ∙ ap (λ l. is_dash name || list_any is_dash l)
+    (asks_of_lines r (end_text r (clip c).ending (counts js)) (clip c) js) in
+    let asked : list_any is_dash (flat_map asks_of (verdicts r f v 0 ls)) ≡ list_any is_dash (lines_ask r f ls) =
     ap (list_any is_dash) (verdicts_ask r f v 0 ls) in
     let by : Bool → Bool = λ b. list_any is_dash (lines_ask (file_rules settings tool name b) f ls) in
     let other : list_any is_dash (lines_ask r f ls) ≡ by (is_dash name) = refl in
-    sym (all ∙ ap (λ b. b || list_any is_dash (flat_map asks_of (verdicts r f v 0 ls))) d ∙ asks ∙ other ∙ ap by d)
+    sym (all ∙ ap (λ b. b || list_any is_dash (flat_map asks_of (verdicts r f v 0 ls))) d ∙ asked ∙ other ∙ ap by d)
 
 -- a name that is not `-` takes nothing
 or_no : (a b : Bool) → b ≡ false → a || b ≡ true → a ≡ true

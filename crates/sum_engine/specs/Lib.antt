@@ -1,5 +1,5 @@
 pub mod Worlds
-pub mod Outcomes
+pub mod Runs
 pub mod Profiles
 pub mod Generation
 pub mod Verdicts
@@ -7,7 +7,6 @@ pub mod Reports
 pub mod Checking
 pub mod Scenes
 pub mod Steps
-pub mod Places
 pub mod Manifests
 pub mod Laws
 pub mod OldVerdicts

@@ -1,16 +1,16 @@
--- What a call works on, a scene, and what doing and being cut short mean there.
-use Rattle.std.specs.Prelude.{ℕ, ◌≡◌, ◌⊎◌, ◌||◌, Bool, List, ◌++◌, Option, None, Some, Result, Ok, Err, is_none}
+-- How a run stands at one moment, and what of its events came about between two moments: the form of the headline.
+use Rattle.std.specs.Prelude.{ℕ, ◌≡◌, ◌<◌, ◌⊎◌, ◌||◌, Bool, List, [], ◌∷◌, ◌++◌, filter_map, Option, None, Some, Result, Ok, Err, is_none}
 use Rattle.std.specs.List.{list_any}
 use Rattle.std.specs.Io.KnownBytes.{Appends}
 use Rattle.sum_sources.specs.Contents.{Content, WhereTold}
 use Rattle.sum_sources.specs.Sources.{Telling, after_refusal}
 use Rattle.sum_sources.specs.Standard.{left_in}
-use Rattle.sum_lines.specs.Sinks.{after_failure}
+use Rattle.sum_lines.specs.Sinks.{IsPrefix, after_failure}
 use Rattle.sum_engine.specs.declared.stop.Stop.{Stop}
 use Rattle.sum_engine.specs.declared.streams.Streams.{Streams}
 use Rattle.sum_engine.specs.declared.stop.Stop.TheVariants.{Memory, Write}
 use Rattle.sum_engine.specs.Worlds.{World, is_dash, after}
-use Rattle.sum_engine.specs.Outcomes.{Outcome}
+use Rattle.sum_engine.specs.Runs.{Event, Step, Run, events, name_in, err_in, out_in}
 
 -- the world, where the source and standard input tell
 abbrev pub world_by : Option Telling → Option Content → Option World
@@ -21,52 +21,54 @@ world_by (Some t) (Some c) = Some (record { answer = t.answer; asked = t.asked; 
 abbrev pub world : {I : Type 0} → (I → Option Content) → Option Telling → Option I → Option World
 world content told stdin = world_by told (left_in content stdin)
 
--- the world, whether standard input was taken, and what the two outputs hold, where they tell
+-- the world, whether standard input was taken, and what the two outputs have handed on, where they tell
 pub record Scene : Type 0 where
   pub world : World
   pub taken : Bool
-  pub out : Option (List ℕ)
   pub err : Option (List ℕ)
+  pub out : Option (List ℕ)
 
 abbrev pub scene_by : Option World → Bool → Option (List ℕ) → Option (List ℕ) → Option Scene
-scene_by None taken out err = None
-scene_by (Some w) taken out err = Some (record { world = w; taken = taken; out = out; err = err })
+scene_by None taken err out = None
+scene_by (Some w) taken err out = Some (record { world = w; taken = taken; err = err; out = out })
 
 abbrev pub scene : {I S O E : Type 0} → (I → Option Content) → (S → Option Telling) → (O → Option (List ℕ))
     → (E → Option (List ℕ)) → Streams I S O E → Option Scene
 scene content told out err s =
-    scene_by (world content (told s.source) s.stdin) (is_none s.stdin) (out s.out) (err s.err)
+    scene_by (world content (told s.source) s.stdin) (is_none s.stdin) (err s.err) (out s.out)
 
--- known bytes grow by a front of the text, which may be the whole
-abbrev pub AppendsUpTo : Option (List ℕ) → Option (List ℕ) → List ℕ → Type 0
-AppendsUpTo old new text = (front : List ℕ) × (rest : List ℕ) × (text ≡ front ++ rest) × Appends old new front
+-- these events came about: the names were asked, and the bytes were handed on
+pub record Did (a b : Scene) (es : List Event) : Type 0 where
+  pub world : b.world ≡ after a.world (filter_map name_in es)
+  pub taken : b.taken ≡ a.taken || list_any is_dash (filter_map name_in es)
+  pub err : Appends a.err b.err (filter_map err_in es)
+  pub out : Appends a.out b.out (filter_map out_in es)
 
--- these texts were written, and these names were asked
-pub record Does (a b : Scene) (o e : List ℕ) (asks : List (List ℕ)) : Type 0 where
-  pub world : b.world ≡ after a.world asks
-  pub taken : b.taken ≡ a.taken || list_any is_dash asks
-  pub out : Appends a.out b.out o
-  pub err : Appends a.err b.err e
+-- a prefix of these events came about
+abbrev pub DidPrefix : Scene → Scene → List Event → Type 0
+DidPrefix a b es = (p : List Event) × IsPrefix p es × Did a b p
 
--- these names were asked, and a front of each text was written
-pub record Cut (a b : Scene) (o e : List ℕ) (asks : List (List ℕ)) : Type 0 where
-  pub world : b.world ≡ after a.world asks
-  pub out : AppendsUpTo a.out b.out o
-  pub err : AppendsUpTo a.err b.err e
+-- memory was wanted at a step: the source was refused it, or bytes of the manifest were still to come; the source was
+-- refused memory n times before and m times after
+abbrev pub Wants : ℕ → ℕ → Step → Type 0
+Wants n m s = (m ≡ after_refusal n) ⊎ ((m ≡ n) × (0 < s.left))
 
--- these names were asked and a front of each text was written, and these are a front of what a whole run comes to
-abbrev pub CutOff : Scene → Scene → List ℕ → List ℕ → List (List ℕ) → Type 0
-CutOff a b out err asks =
-    (asked : List (List ℕ)) × (rest : List (List ℕ)) × (asks ≡ asked ++ rest) × Cut a b out err asked
+-- THE HEADLINE, for a call that is to answer x: it answers x, and all events of the steps came about; or a write failed,
+-- and one prefix of the events came about; or memory was wanted at a step, and just the steps before it came about
+abbrev pub RunOf : {A : Type 0} → A → List Step → ℕ → ℕ → Scene → Scene → Result A Stop → Type 0
+RunOf x steps n m a b (Ok answer) = (answer ≡ x) × Did a b (events steps)
+RunOf x steps n m a b (Err Write) = DidPrefix a b (events steps)
+RunOf x steps n m a b (Err Memory) = (done : List Step) × (next : Step) × (rest : List Step)
+    × (steps ≡ done ++ next ∷ rest) × Did a b (events done) × Wants n m next
 
--- a call of one operand whose outcome is o: all of it, or a write failed, or there was no memory to ask
-abbrev pub OutcomeOf : Outcome → Scene → Scene → Result Bool Stop → Type 0
-OutcomeOf o a b (Ok good) = (good ≡ o.good) × Does a b o.out o.err o.asks
-OutcomeOf o a b (Err Write) = Cut a b o.out o.err o.asks
-OutcomeOf o a b (Err Memory) = b ≡ a
+-- the same of a run in whatever world it begins, where that is told
+abbrev pub RunGives : (World → Run) → ℕ → ℕ → Option Scene → Option Scene → Result Bool Stop → Type 0
+RunGives run n m a b r =
+    WhereTold a b (λ a b. RunOf (run a.world).good (run a.world).steps n m a b r)
 
-abbrev pub Generates : (World → Outcome) → Option Scene → Option Scene → Result Bool Stop → Type 0
-Generates outcome a b r = WhereTold a b (λ a b. OutcomeOf (outcome a.world) a b r)
+-- neither output holds anything back
+abbrev pub HoldNothing : {I S O E : Type 0} → (O → List ℕ) → (E → List ℕ) → Streams I S O E → Type 0
+HoldNothing out err s = (out s.out ≡ []) × (err s.err ≡ [])
 
 -- a source's refusals over a call that answers want of memory only where the source was refused it
 abbrev pub refusals_over : {A : Type 0} → ℕ → Result A Stop → ℕ
@@ -74,7 +76,7 @@ refusals_over n (Ok a) = n
 refusals_over n (Err Write) = n
 refusals_over n (Err Memory) = after_refusal n
 
--- no write failed; one of the two outputs had a write that failed
+-- no call failed; one of the two outputs had a call that failed
 abbrev pub Kept : ℕ → ℕ → ℕ → ℕ → Type 0
 Kept o o' e e' = (o' ≡ o) × (e' ≡ e)
 

@@ -1,4 +1,4 @@
--- Where a checker stands in its manifest, and what each of its steps does there.
+-- Where a checker stands in its manifest, what is still to come there, and what the next step does.
 use Rattle.std.specs.Prelude.{ℕ, ◌≡◌, ◌+◌, ◌≤◌, ◌⊎◌, ◌<◌, Bool, List, [], ◌∷◌, length, Option, None, Some, Result, Ok, Err, IfSome}
 use Rattle.sum_sources.specs.Contents.{Content, WhereTold}
 use Rattle.sum_sources.specs.Sources.{after_refusal}
@@ -12,10 +12,12 @@ use Rattle.sum_engine.specs.declared.stop.Stop.{Stop}
 use Rattle.sum_engine.specs.declared.stop.Stop.TheVariants.{Memory, Write}
 use Rattle.sum_engine.specs.declared.summary.Counts.{Counts}
 use Rattle.sum_engine.specs.Profiles.{lines_by}
-use Rattle.sum_lines.specs.Says.{Said, says}
-use Rattle.sum_engine.specs.Verdicts.{Rules, Judged, judge, asks_of, verdicts}
-use Rattle.sum_engine.specs.Reports.{out_of, err_of, end_text, good, counted, no_counts}
-use Rattle.sum_engine.specs.Scenes.{Scene, Does, Cut}
+use Rattle.sum_lines.specs.Says.{says}
+use Rattle.sum_engine.specs.Runs.{Step, Run, events_of, step_then}
+use Rattle.sum_engine.specs.Verdicts.{Rules, Judged, judge, verdicts}
+use Rattle.sum_engine.specs.Reports.{end_text, good, counted, no_counts}
+use Rattle.sum_engine.specs.Checking.{line_steps}
+use Rattle.sum_engine.specs.Scenes.{Scene, Did, DidPrefix, Wants}
 
 -- what is still to come of the manifest, the lines handled and the bytes that they used, the form and the counts
 -- so far, and the scene
@@ -33,14 +35,65 @@ now_by (Some rest) n u f c None = None
 now_by (Some rest) n u f c (Some s) =
     Some (record { rest = rest; number = n; used = u; form = f; counts = c; scene = s })
 
+-- a new checker
+abbrev pub start : Content → Scene → Now
+start c s = record { rest = c; number = 0; used = 0; form = Undecided; counts = no_counts; scene = s }
+
 -- the next line's verdict
 abbrev pub next_judged : Rules → Now → List ℕ → Judged
 next_judged r a l =
     let f = form_then a.form (line_form r.settings.algo l) in
     judge r a.scene.world (a.number + 1) (says r.profile r.settings.algo f l)
 
+-- the verdicts that are still to be found
+abbrev pub rest_verdicts : Rules → Now → List Judged
+rest_verdicts r a =
+    let ls = lines_by r.profile a.rest in
+    verdicts r (form_then a.form (form r.settings.algo ls)) a.scene.world a.number ls
+
+-- the counts once these are counted, too
+abbrev pub counted_all : Counts → List Judged → Counts
+counted_all c [] = c
+counted_all c (j ∷ js) = counted_all (counted c j.verdict) js
+
+-- the run that is still to come
+abbrev pub to_come : Rules → Now → Run
+to_come r a = record {
+  steps = line_steps r (end_text r a.rest.ending (counted_all a.counts (rest_verdicts r a))) a.rest (rest_verdicts r a);
+  good = good r a.rest.ending (counted_all a.counts (rest_verdicts r a));
+}
+
+-- ---- what a step does, of the run r that was to come
+
+-- the first step of r was done, and s is to come
+pub record GoesOn (r s : Run) (a b : Scene) : Type 0 where
+  pub step : Step
+  pub is : r ≡ step_then step s
+  pub did : Did a b (events_of step)
+
+-- it was the last, and the answer is whether all is good
+pub record Finishes (r : Run) (answer : Bool) (a b : Scene) : Type 0 where
+  pub step : Step
+  pub is : r ≡ record { steps = step ∷ []; good = answer }
+  pub did : Did a b (events_of step)
+
+-- a write failed: a prefix of the step's events came about
+pub record Breaks (r : Run) (a b : Scene) : Type 0 where
+  pub step : Step
+  pub rest : Run
+  pub is : r ≡ step_then step rest
+  pub did : DidPrefix a b (events_of step)
+
+-- memory was wanted: nothing of the step came about
+pub record Waits (r : Run) (n m : ℕ) (a b : Scene) : Type 0 where
+  pub step : Step
+  pub rest : Run
+  pub is : r ≡ step_then step rest
+  pub same : b ≡ a
+  pub wants : Wants n m step
+
 -- one line was handled; the line's vector holds this then
-pub record Handles (r : Rules) (a b : Now) (vector : List ℕ) : Type 0 where
+pub record Moves (r : Rules) (a b : Now) (vector : List ℕ) : Type 0 where
   pub line : List ℕ
   pub lines : lines_by r.profile a.rest ≡ line ∷ lines_by r.profile b.rest
   pub rest : b.rest ≡ past_line a.rest
@@ -48,63 +101,20 @@ pub record Handles (r : Rules) (a b : Now) (vector : List ℕ) : Type 0 where
   pub number : b.number ≡ a.number + 1
   pub form : b.form ≡ form_then a.form (line_form r.settings.algo line)
   pub counts : b.counts ≡ counted a.counts (next_judged r a line).verdict
-  pub done : Does a.scene b.scene (out_of r (next_judged r a line)) (err_of r (next_judged r a line))
-      (asks_of (next_judged r a line))
   pub held : length vector ≤ length line
 
--- the end was handled
-pub record Ends (r : Rules) (a b : Now) (x : Bool) : Type 0 where
-  pub lines : lines_by r.profile a.rest ≡ []
-  pub answer : x ≡ good r a.rest.ending a.counts
-  pub done : Does a.scene b.scene [] (end_text r a.rest.ending a.counts) []
-
--- what the next step writes and asks
-abbrev pub next_out : Rules → Now → List (List ℕ) → List ℕ
-next_out r a [] = []
-next_out r a (l ∷ ls) = out_of r (next_judged r a l)
-
-abbrev pub next_err : Rules → Now → List (List ℕ) → List ℕ
-next_err r a [] = end_text r a.rest.ending a.counts
-next_err r a (l ∷ ls) = err_of r (next_judged r a l)
-
-abbrev pub next_asks : Rules → Now → List (List ℕ) → List (List ℕ)
-next_asks r a [] = []
-next_asks r a (l ∷ ls) = asks_of (next_judged r a l)
-
-abbrev pub StepOf : Rules → Now → Now → List ℕ → Result Progress Stop → Type 0
-StepOf r a b held (Ok Going) = Handles r a b held
-StepOf r a b held (Ok (Ended answer)) = Ends r a b answer
-StepOf r a b held (Err Write) =
-    let ls = lines_by r.profile a.rest in Cut a.scene b.scene (next_out r a ls) (next_err r a ls) (next_asks r a ls)
-StepOf r a b held (Err Memory) = b.scene ≡ a.scene
+abbrev pub StepOf : Rules → ℕ → ℕ → List ℕ → Now → Now → Result Progress Stop → Type 0
+StepOf r n m vector a b (Ok Going) = GoesOn (to_come r a) (to_come r b) a.scene b.scene × Moves r a b vector
+StepOf r n m vector a b (Ok (Ended answer)) = Finishes (to_come r a) answer a.scene b.scene
+StepOf r n m vector a b (Err Write) = Breaks (to_come r a) a.scene b.scene
+StepOf r n m vector a b (Err Memory) = Waits (to_come r a) n m a.scene b.scene
 
 -- what a step does, where the manifest and the scene tell
-abbrev pub StepGives : Rules → Option Now → Option Now → List ℕ → Result Progress Stop → Type 0
-StepGives r a b held x = WhereTold a b (λ a b. StepOf r a b held x)
+abbrev pub StepGives : Rules → ℕ → ℕ → List ℕ → Option Now → Option Now → Result Progress Stop → Type 0
+StepGives r n m vector a b x = WhereTold a b (λ a b. StepOf r n m vector a b x)
 
--- what is still to be found
-abbrev pub rest_verdicts : Rules → Now → List Judged
-rest_verdicts r a =
-    let ls = lines_by r.profile a.rest in
-    verdicts r (form_then a.form (form r.settings.algo ls)) a.scene.world a.number ls
-
--- a new checker
-abbrev pub start : Content → Scene → Now
-start c s = record { rest = c; number = 0; used = 0; form = Undecided; counts = no_counts; scene = s }
-
--- a line was handled that has this verdict; c and d are the counts before and after
-abbrev pub HandleOf : {A : Type 0} → Rules → Judged → Counts → Counts → Scene → Scene → Result A Stop → Type 0
-HandleOf r j c d a b (Ok u) = (d ≡ counted c j.verdict) × Does a b (out_of r j) (err_of r j) (asks_of j)
-HandleOf r j c d a b (Err Write) = Cut a b (out_of r j) (err_of r j) (asks_of j)
-HandleOf r j c d a b (Err Memory) = b ≡ a
-
--- the n-th line was handled, which says that, where the scene tells
-abbrev pub HandleGives : {A : Type 0} → Rules → Said → ℕ → Counts → Counts → Option Scene → Option Scene
-    → Result A Stop → Type 0
-HandleGives r said n c d a b x = WhereTold a b (λ a b. HandleOf r (judge r a.world n said) c d a b x)
-
--- a step's want of memory: the source was refused it, or bytes of the manifest were still to come
-abbrev pub Wants : ℕ → ℕ → Option Content → Result Progress Stop → Type 0
-Wants n m c (Ok p) = m ≡ n
-Wants n m c (Err Write) = m ≡ n
-Wants n m c (Err Memory) = (m ≡ after_refusal n) ⊎ ((m ≡ n) × IfSome c (λ d. 0 < length d.bytes))
+-- a step's want of memory, told or not: the source was refused it, or bytes of the manifest were still to come
+abbrev pub WantsMemory : ℕ → ℕ → Option Content → Result Progress Stop → Type 0
+WantsMemory n m c (Ok p) = m ≡ n
+WantsMemory n m c (Err Write) = m ≡ n
+WantsMemory n m c (Err Memory) = (m ≡ after_refusal n) ⊎ ((m ≡ n) × IfSome c (λ d. 0 < length d.bytes))

@@ -46,11 +46,12 @@ impl<'a, I: Input> Checker<'a, I> {
     ghost use Rattle.std.specs.Option.{option_map};
     ghost use Rattle.sum_sources.specs.Contents.{WhereTold, clip};
     ghost use Rattle.sum_lines.specs.Entries.{form_then, line_form};
-    ghost use Rattle.sum_engine.specs.Scenes.{Scene, scene, Failures, refusals_over};
-    ghost use Rattle.sum_engine.specs.Steps.{now_by, StepGives, HandleGives, Wants};
+    ghost use Rattle.sum_engine.specs.Scenes.{Scene, scene, HoldNothing, Failures, refusals_over};
+    ghost use Rattle.sum_engine.specs.Steps.{now_by, StepGives, WantsMemory};
     ghost use Rattle.sum_engine.specs.joins.Views.{rules_of_checker, now_of, to_come, stdin_of};
     ghost use Rattle.sum_engine.specs.joins.Views.{left_of, given_of, handled_of, number_of};
     ghost use Rattle.sum_lines.specs.Says.{says};
+    ghost use Rattle.sum_engine.specs.joins.Handling.{HandleGives};
     ghost use Rattle.sum_engine.specs.joins.Judging.{said_asks};
     ghost use Rattle.sum_engine.specs.joins.Taking.{StdinOf, stdin_by};
     ghost use Rattle.sum_engine.specs.Worlds.{is_dash};
@@ -110,24 +111,24 @@ impl<'a, I: Input> Checker<'a, I> {
     /// ended. `line` is grown for the line; what it held before doesn't matter, and what it holds after isn't said.
     ///
     /// `Stop::Memory` where there was no memory for the line or for opening the file that it names; nothing is then
-    /// written. `Stop::Write` where a write failed; fronts of the texts are then written. After `Ended` and after a
-    /// stop each step answers the same again and writes nothing.
+    /// written. `Stop::Write` where a write failed; a prefix of the step's texts is then handed on. After `Ended` and after
+    /// a stop each step answers the same again and writes nothing. What is said of bytes and of what is held is said of
+    /// outputs that hold nothing when they are lent.
     pub fn step<A: Allocator, J: Input + Drop, S: Source, O: Sink, E: Sink>(
         &mut self,
         line: &mut Vec<u8, A>,
         streams: &mut Streams<J, S, O, E>,
     ) -> Result<Progress, Stop>
-        ensures gives { checker_answer self.old ≡ None → StepGives (rules_of_checker self.old)
-            (now_of I.content self.old
-            (scene J.content S.told O.written E.written streams.old))
-            (now_of I.content self.new
-            (scene J.content S.told O.written E.written streams.new))
-            line.new.items result }
+        ensures gives { checker_answer self.old ≡ None → HoldNothing O.held E.held streams.old → StepGives (rules_of_checker self.old)
+            (S.refusals streams.old.source) (S.refusals streams.new.source) line.new.items
+            (now_of I.content self.old (scene J.content S.told O.written E.written streams.old))
+            (now_of I.content self.new (scene J.content S.told O.written E.written streams.new)) result }
+        ensures none { HoldNothing O.held E.held streams.old → HoldNothing O.held E.held streams.new }
         ensures again { IfSome (checker_answer self.old) (λ r. (result ≡ r) × (self.new ≡ self.old)
             × (streams.new.out ≡ streams.old.out) × (streams.new.err ≡ streams.old.err)
             × (streams.new.source ≡ streams.old.source) × (streams.new.stdin ≡ streams.old.stdin)) }
         ensures wants { checker_answer self.old ≡ None
-            → Wants (S.refusals streams.old.source) (S.refusals streams.new.source)
+            → WantsMemory (S.refusals streams.old.source) (S.refusals streams.new.source)
             (to_come I.content self.old) result }
         ensures failures { checker_answer self.old ≡ None
             → Failures O.failures E.failures streams.old streams.new result }
@@ -170,13 +171,12 @@ impl<'a, I: Input> Checker<'a, I> {
     ) -> Result<Progress, Stop>
         requires work { has_stopped self.old.reader ≡ false }
         requires idle { IsRunning self.old.state → ⊥ }
-        ensures gives { StepGives (rules_of_checker self.old)
-            (now_of I.content self.old
-            (scene J.content S.told O.written E.written streams.old))
-            (now_of I.content self.new
-            (scene J.content S.told O.written E.written streams.new))
-            line.new.items result }
-        ensures wants { Wants (S.refusals streams.old.source) (S.refusals streams.new.source)
+        ensures gives { HoldNothing O.held E.held streams.old → StepGives (rules_of_checker self.old)
+            (S.refusals streams.old.source) (S.refusals streams.new.source) line.new.items
+            (now_of I.content self.old (scene J.content S.told O.written E.written streams.old))
+            (now_of I.content self.new (scene J.content S.told O.written E.written streams.new)) result }
+        ensures none { HoldNothing O.held E.held streams.old → HoldNothing O.held E.held streams.new }
+        ensures wants { WantsMemory (S.refusals streams.old.source) (S.refusals streams.new.source)
             (to_come I.content self.old) result }
         ensures failures { Failures O.failures E.failures streams.old streams.new result }
         ensures stdin { StdinOf (stdin_of I.content self.old (is_none streams.old.stdin))
@@ -230,12 +230,13 @@ impl<'a, I: Input> Checker<'a, I> {
     ) -> Result<(), Stop>
         requires room { total self.old.counts < lines_given self.old.reader }
         requires few { lines_given self.old.reader ≤ LIMIT }
-        ensures gives { HandleGives (rules_of_checker self.old)
+        ensures gives { HoldNothing O.held E.held streams.old → HandleGives (rules_of_checker self.old)
             (says present self.old.listing.settings.algo
             (form_then self.old.form (line_form self.old.listing.settings.algo line.old.items)) line.old.items)
             (lines_given self.old.reader) self.old.counts self.new.counts
             (scene J.content S.told O.written E.written streams.old)
             (scene J.content S.told O.written E.written streams.new) result }
+        ensures none { HoldNothing O.held E.held streams.old → HoldNothing O.held E.held streams.new }
         ensures form { self.new.form
             ≡ form_then self.old.form (line_form self.old.listing.settings.algo line.old.items) }
         ensures held { length line.new.items ≤ length line.old.items }

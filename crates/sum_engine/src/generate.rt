@@ -1,31 +1,38 @@
 //! Hashing one name.
-ghost use Rattle.std.specs.Prelude.{◌≡◌, ◌||◌, Err, OnOk, is_none};
+ghost use Rattle.std.specs.Prelude.{◌≡◌, ◌||◌, Err, OnOk, is_none, length};
 ghost use Rattle.sum_engine.specs.Worlds.{is_dash};
+ghost use Rattle.sum_lines.specs.Lines.{line};
 ghost use Rattle.sum_engine.specs.Generation.{generated};
-ghost use Rattle.sum_engine.specs.Scenes.{scene, Generates, refusals_over, Failures};
+ghost use Rattle.sum_engine.specs.joins.Telling.{Tells, Fails};
+ghost use Rattle.sum_engine.specs.Scenes.{scene, RunGives, HoldNothing, refusals_over, Failures};
 
 use crate::asking::{Asked, ask};
 use crate::report::put_fault_line;
 use crate::settings::Settings;
 use crate::stop::Stop;
 use crate::streams::Streams;
-use sum_lines::{Sink, put_line};
+use digest_kinds::Digest;
+use sum_lines::{Sink, SinkFault, put_line};
 use sum_sources::{Input, PIECE, Source};
 
 /// Hashes what stands under one name, where `-` is standard input, and answers whether it was read to its end. Its line
-/// goes to `out`, or a line with the fault to `err` (coreutils manual, "md5sum invocation").
+/// goes to `out`, or a line with the fault to `err` (coreutils manual, "md5sum invocation"), and is handed on at once.
 ///
 /// `Stop::Memory` where the source had no memory to open it; nothing is then written. `Stop::Write` where a write
-/// failed; a front of the line is then written.
+/// failed; a prefix of the line is then handed on. What is said of bytes and of what is held is said of outputs that
+/// hold nothing when they are lent.
 pub fn generate_one<I: Input + Drop, S: Source, O: Sink, E: Sink>(
     settings: &Settings,
     tool: &str,
     name: &[u8],
     streams: &mut Streams<I, S, O, E>,
 ) -> Result<bool, Stop>
-    ensures gives { Generates (λ w. generated settings.now tool.now w name.now)
+    ensures gives { HoldNothing O.held E.held streams.old
+        → RunGives (λ w. generated settings.now tool.now w name.now)
+        (S.refusals streams.old.source) (S.refusals streams.new.source)
         (scene I.content S.told O.written E.written streams.old)
         (scene I.content S.told O.written E.written streams.new) result }
+    ensures none { HoldNothing O.held E.held streams.old → HoldNothing O.held E.held streams.new }
     ensures refusals { S.refusals streams.new.source ≡ refusals_over (S.refusals streams.old.source) result }
     ensures failures { Failures O.failures E.failures streams.old streams.new result }
     ensures taken { OnOk result (is_none streams.new.stdin ≡ is_none streams.old.stdin || is_dash name.now) }
@@ -43,13 +50,7 @@ pub fn generate_one<I: Input + Drop, S: Source, O: Sink, E: Sink>(
     match asked {
         None => Err(Stop::Memory),
         Some(Asked::Read(digest)) => {
-            put_line(
-                &mut streams.out,
-                settings.style,
-                settings.kind,
-                name,
-                &digest,
-            )?;
+            tell_line(&mut streams.out, settings, name, &digest)?;
             Ok(true)
         }
         Some(Asked::Refused(fault)) => {
@@ -61,4 +62,20 @@ pub fn generate_one<I: Input + Drop, S: Source, O: Sink, E: Sink>(
             Ok(false)
         }
     }
+}
+
+// Writes the line of a name and its digest, and hands it on.
+fn tell_line<O: Sink>(
+    out: &mut O,
+    settings: &Settings,
+    name: &[u8],
+    digest: &Digest,
+) -> Result<(), SinkFault>
+    requires { length digest.now ≡ settings.now.kind.len }
+    ensures text { Tells O.written O.held out.old out.new
+        (line settings.now.style settings.now.kind name.now digest.now) result }
+    ensures failures { Fails (O.failures out.old) (O.failures out.new) result }
+{
+    put_line(out, settings.style, settings.kind, name, digest)?;
+    out.flush()
 }

@@ -1,15 +1,22 @@
 //! Laws over whole checks: what the steps of a [`Checker`](crate::Checker) come to together.
 ghost use Rattle.sum_engine.specs.Laws.{SameVerdicts};
 ghost use Rattle.sum_engine.specs.OldVerdicts.{OldVerdicts, OldOutcomes, OlderDiffers};
-ghost use Rattle.sum_engine.specs.Manifests.{StepsJoin, StepsEnd, StepsCut};
+ghost use Rattle.sum_engine.specs.Manifests.{StepsJoin, StepsEnd, StepsCut, StepsReport, EventsExtend};
 
-/// Steps, one after another, write the reports of a manifest's first lines, ask the names of their entries and use the
-/// bytes up to their end; the step that ends comes after all lines, and all texts are then written; a write fault
-/// leaves fronts of them.
+/// Steps, one after another, are the first steps of the manifest's run, use the bytes up to the end of their lines, and
+/// leave the others to come; the step that ends comes after all lines, and all events have then come about; after a
+/// write fault one prefix of all events has. The first steps of a manifest report its first lines.
 pub fn steps_join()
     ensures join { StepsJoin }
     ensures end { StepsEnd }
     ensures cut { StepsCut }
+    ensures report { StepsReport }
+{}
+
+/// When the events of a run's steps came about, each output has grown by the run's text there, and the run's names were
+/// asked.
+pub fn events_extend()
+    ensures { EventsExtend }
 {}
 
 /// What comes behind a line has no part in its verdict after the same asks. Nor has the manifest's name, where both

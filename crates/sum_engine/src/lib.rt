@@ -13,6 +13,7 @@ mod settings;
 mod stop;
 mod streams;
 mod summary;
+mod telling;
 #[cfg(test)]
 mod tests;
 mod verdict;

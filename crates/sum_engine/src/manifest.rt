@@ -3,9 +3,9 @@ ghost use Rattle.std.specs.Prelude.{◌≡◌, ◌⊎◌, Some, Err, Ok, true, O
 ghost use Rattle.std.specs.Option.{option_map};
 ghost use Rattle.sum_sources.specs.Contents.{clip};
 ghost use Rattle.sum_lines.specs.declared.line_reading.Form.TheVariants.{Undecided};
-ghost use Rattle.sum_engine.specs.Checking.{rules_of};
-ghost use Rattle.sum_engine.specs.Scenes.{scene, Failures};
-ghost use Rattle.sum_engine.specs.Manifests.{ManifestGives, CheckGives, RefusedOnMemory};
+ghost use Rattle.sum_engine.specs.Checking.{checked};
+ghost use Rattle.sum_engine.specs.Scenes.{scene, RunGives, HoldNothing, Failures};
+ghost use Rattle.sum_engine.specs.Manifests.{ManifestGives, RefusedOnMemory};
 ghost use Rattle.sum_engine.specs.joins.Listings.{rules_in};
 ghost use Rattle.sum_engine.specs.joins.Taking.{TakesStdin, stdin_by};
 
@@ -25,8 +25,9 @@ use sum_sources::{Input, OpenFault, Source};
 /// reports of its lines and its summary go to `out` and `err` (coreutils manual, "md5sum invocation", `--check`).
 ///
 /// `Stop::Memory` where there was no memory for a line, or where the source had none to open a file; what was written
-/// is then the reports of the lines handled so far. `Stop::Write` where a write failed; fronts of the texts are then
-/// written.
+/// is then the reports of the lines handled so far. `Stop::Write` where a write failed; one prefix of all that is to be
+/// written, in its order, is then handed on. What is said of bytes and of what is held is said of outputs that hold
+/// nothing when they are lent.
 pub fn check_one<A: Allocator + Copy, J: Input + Drop, S: Source, O: Sink, E: Sink>(
     alloc: A,
     settings: CheckSettings,
@@ -34,10 +35,12 @@ pub fn check_one<A: Allocator + Copy, J: Input + Drop, S: Source, O: Sink, E: Si
     name: &[u8],
     streams: &mut Streams<J, S, O, E>,
 ) -> Result<bool, Stop>
-    ensures gives { CheckGives settings tool.now name.now
+    ensures gives { HoldNothing O.held E.held streams.old
+        → RunGives (λ w. checked settings tool.now w name.now)
         (S.refusals streams.old.source) (S.refusals streams.new.source)
         (scene J.content S.told O.written E.written streams.old)
         (scene J.content S.told O.written E.written streams.new) result }
+    ensures none { HoldNothing O.held E.held streams.old → HoldNothing O.held E.held streams.new }
     ensures stdin { OnOk result (TakesStdin settings tool.now name.now (S.told streams.old.source)
         (is_none streams.old.stdin) (is_none streams.new.stdin)) }
     ensures refusals { RefusedOnMemory (S.refusals streams.old.source) (S.refusals streams.new.source) result }
@@ -78,10 +81,11 @@ fn check_input<'a, A: Allocator, I: Input + Drop, J: Input + Drop, S: Source, O:
     input: I,
     streams: &mut Streams<J, S, O, E>,
 ) -> Result<bool, Stop>
-    ensures gives { ManifestGives (rules_in listing.entry) (option_map clip (I.content input))
+    ensures gives { HoldNothing O.held E.held streams.old → ManifestGives (rules_in listing.entry) (option_map clip (I.content input))
         (S.refusals streams.old.source) (S.refusals streams.new.source)
         (scene J.content S.told O.written E.written streams.old)
         (scene J.content S.told O.written E.written streams.new) result }
+    ensures none { HoldNothing O.held E.held streams.old → HoldNothing O.held E.held streams.new }
     ensures stdin { OnOk result (IfSome (stdin_by (rules_in listing.entry) Undecided (option_map clip (I.content input))
         (is_none streams.old.stdin)) (λ taken. is_none streams.new.stdin ≡ taken)) }
     ensures kept { OnOk result (is_none streams.old.stdin ≡ true → is_none streams.new.stdin ≡ true) }

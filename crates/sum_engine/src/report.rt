@@ -1,21 +1,21 @@
 //! The lines that checking writes about a manifest's lines.
-ghost use Rattle.std.specs.Prelude.{[], ◌∷◌, MatchResult};
+ghost use Rattle.std.specs.Prelude.{◌≡◌, [], ◌∷◌, MatchResult};
 ghost use Rattle.std.specs.List.{concat};
-ghost use Rattle.std.specs.Io.KnownBytes.{Appends};
 ghost use Rattle.sum_lines.specs.Escape.{escape, escape_differs};
 ghost use Rattle.sum_lines.specs.Shapes.{mark};
-ghost use Rattle.sum_lines.specs.Sinks.{Writes};
 ghost use Rattle.sum_lines.specs.Profiles.{present};
 ghost use Rattle.sum_engine.specs.Generation.{fault_line};
 ghost use Rattle.sum_engine.specs.Reports.{said_of, out_by, bad_line, err_by};
 ghost use Rattle.sum_engine.specs.joins.Listings.{rules_in};
-ghost use Rattle.sum_engine.specs.Scenes.{AppendsUpTo, Kept, Rose};
+ghost use Rattle.sum_engine.specs.Scenes.{Kept, Rose};
+ghost use Rattle.sum_engine.specs.joins.Telling.{Tells, Fails, HandsBoth};
 
 use crate::listing::Listing;
 use crate::settings::Report;
+use crate::telling::tell;
 use crate::verdict::Verdict;
 use digest_kinds::{Algos, Kind};
-use sum_lines::{Part, Sink, SinkFault, needs_escape, put_parts};
+use sum_lines::{Part, Sink, SinkFault, needs_escape};
 use sum_sources::Fault;
 
 /// Writes `TOOL: NAME: TEXT` for a name that could not be opened or read.
@@ -25,10 +25,11 @@ pub(crate) fn put_fault_line<'a, E: Sink>(
     name: &'a [u8],
     fault: Fault,
 ) -> Result<(), SinkFault>
-    ensures { Writes E.written E.failures err.old err.new (fault_line present tool.now name.now fault) result }
+    ensures text { Tells E.written E.held err.old err.new (fault_line present tool.now name.now fault) result }
+    ensures failures { Fails (E.failures err.old) (E.failures err.new) result }
 {
     let text = fault.text();
-    put_parts(
+    tell(
         err,
         &[
             Part::Bytes(tool.as_bytes()),
@@ -50,15 +51,10 @@ pub(crate) fn put_report<O: Sink, E: Sink>(
     verdict: Verdict,
     name: &[u8],
 ) -> Result<(), SinkFault>
-    ensures out { MatchResult result
-        (λ _. Appends (O.written out.old) (O.written out.new)
-        (out_by present listing.now.settings.report verdict name.now))
-        (λ _. AppendsUpTo (O.written out.old) (O.written out.new)
-        (out_by present listing.now.settings.report verdict name.now)) }
-    ensures err { MatchResult result
-        (λ _. Appends (E.written err.old) (E.written err.new) (err_by (rules_in listing.now) number verdict name.now))
-        (λ _. AppendsUpTo (E.written err.old) (E.written err.new)
-        (err_by (rules_in listing.now) number verdict name.now)) }
+    ensures texts { E.held err.old ≡ [] → O.held out.old ≡ [] → HandsBoth (E.written err.old) (E.written err.new)
+        (O.written out.old) (O.written out.new) (err_by (rules_in listing.now) number verdict name.now)
+        (out_by present listing.now.settings.report verdict name.now) result }
+    ensures none { E.held err.old ≡ [] → O.held out.old ≡ [] → (E.held err.new ≡ []) × (O.held out.new ≡ []) }
     ensures failures { MatchResult result
         (λ _. Kept (O.failures out.old) (O.failures out.new) (E.failures err.old) (E.failures err.new))
         (λ _. Rose (O.failures out.old) (O.failures out.new) (E.failures err.old) (E.failures err.new)) }
@@ -75,7 +71,8 @@ fn put_out<O: Sink>(
     verdict: Verdict,
     name: &[u8],
 ) -> Result<(), SinkFault>
-    ensures { Writes O.written O.failures out.old out.new (out_by present report verdict name.now) result }
+    ensures text { Tells O.written O.held out.old out.new (out_by present report verdict name.now) result }
+    ensures failures { Fails (O.failures out.old) (O.failures out.new) result }
 {
     match report {
         Report::All => put_said(out, verdict, name),
@@ -89,7 +86,8 @@ fn put_out<O: Sink>(
 }
 
 fn put_said<O: Sink>(out: &mut O, verdict: Verdict, name: &[u8]) -> Result<(), SinkFault>
-    ensures { Writes O.written O.failures out.old out.new (said_of present verdict name.now) result }
+    ensures text { Tells O.written O.held out.old out.new (said_of present verdict name.now) result }
+    ensures failures { Fails (O.failures out.old) (O.failures out.new) result }
 {
     match verdict {
         Verdict::Ignored | Verdict::Bad | Verdict::Missing => Ok(()),
@@ -101,16 +99,17 @@ fn put_said<O: Sink>(out: &mut O, verdict: Verdict, name: &[u8]) -> Result<(), S
 
 // Writes the name and what stands behind it. Most names hold nothing to escape, and are then searched once.
 fn put_name_line<'a, O: Sink>(out: &mut O, name: &'a [u8], rest: &'a [u8]) -> Result<(), SinkFault>
-    ensures { Writes O.written O.failures out.old out.new
+    ensures text { Tells O.written O.held out.old out.new
         (concat (mark (escape_differs name.now) ∷ escape name.now ∷ rest.now ∷ [])) result }
+    ensures failures { Fails (O.failures out.old) (O.failures out.new) result }
 {
     if needs_escape(name) {
-        return put_parts(
+        return tell(
             out,
             &[Part::Bytes(b"\\"), Part::Escaped(name), Part::Bytes(rest)],
         );
     }
-    put_parts(out, &[Part::Bytes(name), Part::Bytes(rest)])
+    tell(out, &[Part::Bytes(name), Part::Bytes(rest)])
 }
 
 fn put_err<E: Sink>(
@@ -120,8 +119,9 @@ fn put_err<E: Sink>(
     verdict: Verdict,
     name: &[u8],
 ) -> Result<(), SinkFault>
-    ensures { Writes E.written E.failures err.old err.new
+    ensures text { Tells E.written E.held err.old err.new
         (err_by (rules_in listing.now) number verdict name.now) result }
+    ensures failures { Fails (E.failures err.old) (E.failures err.new) result }
 {
     match verdict {
         Verdict::Ignored | Verdict::Right | Verdict::Wrong | Verdict::Missing => Ok(()),
@@ -134,10 +134,11 @@ fn put_err<E: Sink>(
 }
 
 fn put_bad_line<E: Sink>(err: &mut E, listing: &Listing, number: u64) -> Result<(), SinkFault>
-    ensures { Writes E.written E.failures err.old err.new (bad_line (rules_in listing.now) number) result }
+    ensures text { Tells E.written E.held err.old err.new (bad_line (rules_in listing.now) number) result }
+    ensures failures { Fails (E.failures err.old) (E.failures err.new) result }
 {
     let word = tag_word(listing.settings.algo);
-    put_parts(
+    tell(
         err,
         &[
             Part::Bytes(listing.tool.as_bytes()),
@@ -152,7 +153,6 @@ fn put_bad_line<E: Sink>(err: &mut E, listing: &Listing, number: u64) -> Result<
     )
 }
 
-ghost use Rattle.std.specs.Prelude.{◌≡◌};
 ghost use Rattle.sum_engine.specs.Reports.{tag_word};
 
 // What stands for the tag in a report.

@@ -1,11 +1,11 @@
 //! The end of a manifest.
 ghost use Rattle.std.specs.Prelude.{◌≡◌, ◌<◌, ◌^◌};
-ghost use Rattle.sum_lines.specs.Sinks.{Writes};
 
 use crate::listing::Listing;
 use crate::settings::Report;
+use crate::telling::tell;
 use crate::verdict::Verdict;
-use sum_lines::{Part, Sink, SinkFault, put_parts};
+use sum_lines::{Part, Sink, SinkFault};
 
 /// How many lines of a manifest have each verdict.
 #[derive(Clone, Copy, Debug, PartialEq, Eq)]
@@ -20,6 +20,7 @@ pub(crate) struct Counts {
 ghost use Rattle.sum_engine.specs.Reports.{list_line, warning, warnings, unverified, summary, good};
 ghost use Rattle.sum_engine.specs.Reports.{entries, total, counted, no_counts};
 ghost use Rattle.sum_engine.specs.joins.Listings.{rules_in};
+ghost use Rattle.sum_engine.specs.joins.Telling.{Tells, Fails};
 ghost use Rattle.sum_sources.specs.declared.fault.Ending.TheVariants.{Whole};
 
 impl Counts {
@@ -74,7 +75,8 @@ pub(crate) fn put_summary<E: Sink>(
     counts: Counts,
 ) -> Result<(), SinkFault>
     requires { total counts < 2 ^ 63 }
-    ensures { Writes E.written E.failures err.old err.new (summary (rules_in listing.now) counts) result }
+    ensures text { Tells E.written E.held err.old err.new (summary (rules_in listing.now) counts) result }
+    ensures failures { Fails (E.failures err.old) (E.failures err.new) result }
 {
     if counts.entries() == 0 {
         return put_list_line(err, listing, b"no properly formatted checksum lines found");
@@ -86,7 +88,8 @@ pub(crate) fn put_summary<E: Sink>(
 }
 
 fn put_warnings<E: Sink>(err: &mut E, listing: &Listing, counts: Counts) -> Result<(), SinkFault>
-    ensures { Writes E.written E.failures err.old err.new (warnings (rules_in listing.now) counts) result }
+    ensures text { Tells E.written E.held err.old err.new (warnings (rules_in listing.now) counts) result }
+    ensures failures { Fails (E.failures err.old) (E.failures err.new) result }
 {
     let tool = listing.tool;
     put_warning(
@@ -120,13 +123,14 @@ fn put_warning<'a, E: Sink>(
     one: &'a [u8],
     many: &'a [u8],
 ) -> Result<(), SinkFault>
-    ensures { Writes E.written E.failures err.old err.new (warning tool.now count one.now many.now) result }
+    ensures text { Tells E.written E.held err.old err.new (warning tool.now count one.now many.now) result }
+    ensures failures { Fails (E.failures err.old) (E.failures err.new) result }
 {
     if count == 0 {
         return Ok(());
     }
     let text = if count == 1 { one } else { many };
-    put_parts(
+    tell(
         err,
         &[
             Part::Bytes(tool.as_bytes()),
@@ -139,7 +143,8 @@ fn put_warning<'a, E: Sink>(
 }
 
 fn put_unverified<E: Sink>(err: &mut E, listing: &Listing, counts: Counts) -> Result<(), SinkFault>
-    ensures { Writes E.written E.failures err.old err.new (unverified (rules_in listing.now) counts) result }
+    ensures text { Tells E.written E.held err.old err.new (unverified (rules_in listing.now) counts) result }
+    ensures failures { Fails (E.failures err.old) (E.failures err.new) result }
 {
     if listing.settings.ignore_missing && counts.right == 0 {
         return put_list_line(err, listing, b"no file was verified");
@@ -153,9 +158,10 @@ fn put_list_line<E: Sink>(
     listing: &Listing,
     text: &'static [u8],
 ) -> Result<(), SinkFault>
-    ensures { Writes E.written E.failures err.old err.new (list_line (rules_in listing.now) text.now) result }
+    ensures text { Tells E.written E.held err.old err.new (list_line (rules_in listing.now) text.now) result }
+    ensures failures { Fails (E.failures err.old) (E.failures err.new) result }
 {
-    put_parts(
+    tell(
         err,
         &[
             Part::Bytes(listing.tool.as_bytes()),

@@ -1,7 +1,6 @@
 -- What was offered of a text, piece after piece, while it was handed on.
-use Rattle.std.proofs.Common.{ℕ, ◌≡◌, ◌<◌, ◌≤◌, List, [], ◌∷◌, ◌++◌, length, take, drop, Option, None, Some, refl, ap, sym, ◌∙◌, append_assoc, append-nil, take-append-drop, length-take, arith}
-use Rattle.sum_lines.specs.Sinks.{Offers}
-use Rattle.sum_lines.specs.WholeLines.{IsRest, AreRests, HandsOn}
+use Rattle.std.proofs.Common.{ℕ, ◌≡◌, ◌<◌, ◌≤◌, List, [], ◌∷◌, ◌++◌, length, take, drop, Option, None, Some, refl, ap, sym, ◌∙◌, append_assoc, append-nil, take-append-drop, length-append, length-take, arith}
+use Rattle.sum_lines.specs.Sinks.{Offers, IsRest, AreRests, InOnePiece, HandsOn}
 
 -- the pieces were offered one after another, each as what was left of the one before, and this rest is left of the last
 abbrev pub Leaves : List ℕ → List (List ℕ) → List ℕ → Type 0
@@ -14,17 +13,6 @@ pub Leaves-more : (text : List ℕ) (pieces : List (List ℕ)) (rest left : List
 Leaves-more text [] rest left h r = (h, (left, r, refl))
 Leaves-more text (piece ∷ more) rest left h r = (h.0, (h.1.0, h.1.1, Leaves-more h.1.0 more rest left h.1.2 r))
 
--- one more piece was offered, which is the last
-pub Leaves-last : (text : List ℕ) (pieces : List (List ℕ)) (rest : List ℕ)
-    → Leaves text pieces rest → (rests : List (List ℕ)) × (pieces ++ rest ∷ [] ≡ text ∷ rests) × AreRests text rests
-Leaves-last text [] rest h = ([], ap (λ l. l ∷ []) (sym h), tt)
-Leaves-last text (piece ∷ more) rest h =
-    let tail = Leaves-last h.1.0 more rest h.1.2 in (
-      h.1.0 ∷ tail.0,
-      ap (λ l. l ∷ (more ++ rest ∷ [])) (sym h.0) ∙ ap (λ l. text ∷ l) tail.1,
-      (rw h.0 h.1.1, tail.2),
-    )
-
 -- the pieces behind the first are rests
 AreRests-from_leaves : (text left : List ℕ) (more : List (List ℕ)) (rest : List ℕ)
     → IsRest text left → Leaves left more rest → AreRests text more
@@ -32,16 +20,32 @@ AreRests-from_leaves text left [] rest r h = tt
 AreRests-from_leaves text left (piece ∷ more) rest r h =
     (rw h.0 at r, AreRests-from_leaves piece h.1.0 more rest h.1.1 h.1.2)
 
--- some of the text was taken, so that there is a first piece
-pub Leaves-some : (text : List ℕ) (pieces : List (List ℕ)) (rest : List ℕ)
-    → Leaves text pieces rest → length rest < length text → (rests : List (List ℕ)) × (pieces ≡ text ∷ rests)
-    × AreRests text rests
-Leaves-some text [] rest h small = absurd (omega (arith, ap length h))
-Leaves-some text (piece ∷ more) rest h small = (
-  more,
-  ap (λ l. l ∷ more) (sym h.0),
-  rw h.0 (AreRests-from_leaves piece h.1.0 more rest h.1.1 h.1.2),
-)
+-- and so is one more
+AreRests-last : (text left : List ℕ) (more : List (List ℕ)) (rest : List ℕ)
+    → IsRest text left → Leaves left more rest → AreRests text (more ++ rest ∷ [])
+AreRests-last text left [] rest r h = (rw h at r, tt)
+AreRests-last text left (piece ∷ more) rest r h =
+    (rw h.0 at r, AreRests-last piece h.1.0 more rest h.1.1 h.1.2)
+
+-- a text of which there is a shorter back isn't empty
+IsRest-some : (text rest : List ℕ) → IsRest text rest → 0 < length text
+IsRest-some text rest r = rw r.2 (omega (arith, r.1, length-append r.0 rest))
+
+-- nothing is left: the text was offered in one piece
+pub Leaves-none : (text : List ℕ) (pieces : List (List ℕ)) (rest : List ℕ)
+    → Leaves text pieces rest → rest ≡ [] → InOnePiece text pieces
+Leaves-none text [] rest h none = h ∙ none
+Leaves-none text (piece ∷ more) rest h none =
+    let left = rw (← h.0) at h.1.1 in
+    (IsRest-some text h.1.0 left, sym h.0, AreRests-from_leaves text h.1.0 more rest left h.1.2)
+
+-- one more piece was offered, which is the last
+pub Leaves-last : (text : List ℕ) (pieces : List (List ℕ)) (rest : List ℕ)
+    → Leaves text pieces rest → 0 < length rest → InOnePiece text (pieces ++ rest ∷ [])
+Leaves-last text [] rest h some = (rw h some, sym h, tt)
+Leaves-last text (piece ∷ more) rest h some =
+    let left = rw (← h.0) at h.1.1 in
+    (IsRest-some text h.1.0 left, sym h.0, AreRests-last text h.1.0 more rest left h.1.2)
 
 -- offers of nothing, and offers behind offers
 pub Offers-nil : (a : Option (List (List ℕ))) → Offers a a []
@@ -55,6 +59,10 @@ Offers-trans (Some x) None c xs ys p q = absurd p
 Offers-trans (Some x) (Some y) None xs ys p q = absurd q
 Offers-trans (Some x) (Some y) (Some z) xs ys p q = q ∙ ap (λ l. l ++ ys) p ∙ append_assoc x xs ys
 
+-- where nothing is offered, no text was handed on
+pub HandsOn-nil : (a : Option (List (List ℕ))) → HandsOn a a []
+HandsOn-nil a = ([], Offers-nil a, refl)
+
 -- of this text these pieces were offered, and the rest is left
 pub record Offered (a b : Option (List (List ℕ))) (text rest : List ℕ) : Type 0 where
   pub pieces : List (List ℕ)
@@ -62,8 +70,8 @@ pub record Offered (a b : Option (List (List ℕ))) (text rest : List ℕ) : Typ
   pub leaves : Leaves text pieces rest
 
 -- nothing was offered yet
-pub Offered-none : (a : Option (List (List ℕ))) (text : List ℕ) → Offered a a text text
-Offered-none a text = record { pieces = []; offers = Offers-nil a; leaves = refl }
+pub Offered-all : {a : Option (List (List ℕ))} {text : List ℕ} → Offered a a text text
+Offered-all {a} = record { pieces = []; offers = Offers-nil a; leaves = refl }
 
 -- the rest was offered, and some of it taken
 pub Offered-more : {a b c : Option (List (List ℕ))} {text rest : List ℕ} (n : ℕ)
@@ -77,14 +85,14 @@ Offered-more {a} {b} {c} {text} {rest} n h offer some within = record {
 
 -- the rest was offered, and that was the last offer
 pub Offered-last : {a b : Option (List (List ℕ))} {text rest : List ℕ} (c : Option (List (List ℕ)))
-    → Offered a b text rest → Offers b c (rest ∷ []) → HandsOn a c text
-Offered-last {a} {b} {text} {rest} c h offer =
-    let last = Leaves-last text h.pieces rest h.leaves in
-    (last.0, rw last.1 at (Offers-trans a b c h.pieces (rest ∷ []) h.offers offer), last.2)
+    → Offered a b text rest → Offers b c (rest ∷ []) → 0 < length rest → HandsOn a c text
+Offered-last {a} {b} {text} {rest} c h offer some = (
+  h.pieces ++ rest ∷ [],
+  Offers-trans a b c h.pieces (rest ∷ []) h.offers offer,
+  Leaves-last text h.pieces rest h.leaves some,
+)
 
--- enough was taken
-pub Offered-enough : {a b : Option (List (List ℕ))} {text rest : List ℕ}
-    → Offered a b text rest → length rest < length text → HandsOn a b text
-Offered-enough {text = text} {rest = rest} h small =
-    let first = Leaves-some text h.pieces rest h.leaves small in
-    (first.0, rw first.1 at h.offers, first.2)
+-- nothing is left to offer
+pub Offered-none : {a b : Option (List (List ℕ))} {text rest : List ℕ}
+    → Offered a b text rest → rest ≡ [] → HandsOn a b text
+Offered-none {text = text} {rest = rest} h none = (h.pieces, h.offers, Leaves-none text h.pieces rest h.leaves none)

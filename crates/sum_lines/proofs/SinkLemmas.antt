@@ -1,63 +1,196 @@
--- A text that is written piece after piece: what stands written once a piece was written, or has failed.
--- `a`, `b`, `c` are the bytes that the sink tells before, between and after, and `i`, `j`, `k` its failures.
-use Rattle.std.proofs.Common.{ℕ, ◌≡◌, ◌-◌, List, [], ◌++◌, length, take, drop, Option, Result, Ok, Err, MatchResult, refl, ap, sym, ◌∙◌, append_assoc, append-nil, take-append-drop, length-append, arith}
-use Rattle.std.proofs.lemmas.List.{take_rest}
-use Rattle.std.specs.Io.KnownBytes.{Appends}
+-- A text that is written piece after piece: what has become of it once a piece was written, or has failed.
+-- `a`, `b`, `c` are the sink before, between and after.
+use Rattle.std.proofs.Common.{ℕ, ◌≡◌, ◌<◌, ◌-◌, List, [], ◌++◌, length, take, drop, Option, None, Some, Result, Ok, Err, refl, ap, sym, ◌∙◌, append_assoc, append-nil, take-append-drop, length-append, arith}
+use Rattle.std.proofs.lemmas.List.{take_rest, append_cancel_left}
+use Rattle.std.specs.Io.KnownBytes.{Appends, append_known}
 use Rattle.std.proofs.KnownBytes.{Appends-nil, Appends-trans}
-use Rattle.sum_lines.specs.Sinks.{AppendsFront, after_failure}
+use Rattle.sum_lines.specs.Sinks.{after_failure, Grows, AppendsPrefix, AppendsPart, SinkState, Wrote, Broke, Flushed, Dropped, WritesFrom}
 
--- of this text all but the rest has been written, and no write failed
-pub record Left (a b : Option (List ℕ)) (i j : ℕ) (text rest : List ℕ) : Type 0 where
-  pub front : List ℕ
-  pub cut : text ≡ front ++ rest
-  pub bytes : Appends a b front
-  pub kept : j ≡ i
+-- ---- two calls, one behind the other
 
--- before the first piece, all of the text is left
-pub Left-all : {a : Option (List ℕ)} {i : ℕ} {text : List ℕ} → Left a a i i text text
-Left-all {a} = record { front = []; cut = refl; bytes = Appends-nil a; kept = refl }
+-- known bytes that grow twice
+pub Grows-trans : (a b c : Option (List ℕ)) → Grows a b → Grows b c → Grows a c
+Grows-trans a b c p q = (p.0 ++ q.0, Appends-trans a b c p.0 q.0 p.1 q.1)
 
--- a piece of the rest was written
-pub Left-step : {a b c : Option (List ℕ)} {i j k : ℕ} {text rest more : List ℕ} (piece : List ℕ)
-    → Left a b i j text rest → rest ≡ piece ++ more → Appends b c piece × (k ≡ j) → Left a c i k text more
-Left-step {a} {b} {c} {more = more} piece left cut written = record {
-  front = left.front ++ piece;
-  cut = left.cut ∙ ap (λ l. left.front ++ l) cut ∙ sym (append_assoc left.front piece more);
-  bytes = Appends-trans a b c left.front piece left.bytes written.0;
-  kept = written.1 ∙ left.kept;
+-- nothing is written where nothing is done
+pub Wrote-nil : {a : SinkState} → Wrote a a []
+Wrote-nil {a} = record {
+  taken = Appends-nil (append_known a.written a.held);
+  grows = ([], Appends-nil a.written);
+  kept = refl;
 }
 
--- a piece of the rest failed: a shorter front of the whole text was written
-pub Left-stop : {a b : Option (List ℕ)} {i j k : ℕ} {text rest piece : List ℕ} (c : Option (List ℕ)) (more : List ℕ)
-    → Left a b i j text rest → rest ≡ piece ++ more → AppendsFront b c piece × (k ≡ after_failure j)
-    → AppendsFront a c text × (k ≡ after_failure i)
-Left-stop {a} {b} {rest = rest} c more left cut failed =
-    let front = failed.0.0 in
-    let unwritten = failed.0.1 in
-    let later : List ℕ = unwritten ++ more in
-    let whole : rest ≡ front ++ later =
-    cut ∙ ap (λ l. l ++ more) failed.0.2 ∙ append_assoc front unwritten more in (
-      (
-        left.front ++ front,
-        later,
-        left.cut ∙ ap (λ l. left.front ++ l) whole ∙ sym (append_assoc left.front front later),
-        omega (arith, failed.0.3, length-append unwritten more),
-        Appends-trans a b c left.front front left.bytes failed.0.4,
-      ),
-      failed.1 ∙ ap after_failure left.kept,
+-- one text was written, and then another
+pub Wrote-trans : {a b c : SinkState} (xs ys : List ℕ) → Wrote a b xs → Wrote b c ys → Wrote a c (xs ++ ys)
+Wrote-trans {a} {b} {c} xs ys first second = record {
+  taken = Appends-trans (append_known a.written a.held) (append_known b.written b.held)
+      (append_known c.written c.held) xs ys first.taken second.taken;
+  grows = Grows-trans a.written b.written c.written first.grows second.grows;
+  kept = second.kept ∙ first.kept;
+}
+
+-- what was handed on of a text that was taken, and what is held of it still, are what was held and the text
+moved : (old new more held_before held_after text : List ℕ) → new ≡ old ++ more
+    → new ++ held_after ≡ (old ++ held_before) ++ text → more ++ held_after ≡ held_before ++ text
+moved old new more held_before held_after text grown taken = append_cancel_left old _ _
+    (sym (append_assoc old more held_after) ∙ ap (λ l. l ++ held_after) (sym grown) ∙ taken
+    ∙ append_assoc old held_before text)
+
+-- a text was taken, and then all that was held was handed on
+handed_all : (a b c : Option (List ℕ)) (held_before held_after text : List ℕ)
+    → Appends (append_known a held_before) (append_known b held_after) text → Appends b c held_after
+    → Appends a c (held_before ++ text)
+handed_all None b c held_before held_after text taken handed = tt
+handed_all (Some x) None c held_before held_after text taken handed = absurd taken
+handed_all (Some x) (Some y) None held_before held_after text taken handed = absurd handed
+handed_all (Some x) (Some y) (Some z) held_before held_after text taken handed =
+    handed ∙ taken ∙ append_assoc x held_before text
+
+-- a text was taken, and then a prefix of what was held was handed on
+handed_some : (a b c : Option (List ℕ)) (held_before held_after text : List ℕ) → Grows a b
+    → Appends (append_known a held_before) (append_known b held_after) text → AppendsPrefix b c held_after
+    → AppendsPrefix a c (held_before ++ text)
+handed_some None b c held_before held_after text grows taken handed = ([], (held_before ++ text, refl), tt)
+handed_some (Some x) None c held_before held_after text grows taken handed = absurd grows.1
+handed_some (Some x) (Some y) None held_before held_after text grows taken handed = absurd handed.2
+handed_some (Some x) (Some y) (Some z) held_before held_after text grows taken handed =
+    let all = moved x y grows.0 held_before held_after text grows.1 taken in
+    let cut = sym all ∙ ap (λ l. grows.0 ++ l) handed.1.1 ∙ sym (append_assoc grows.0 handed.0 handed.1.0) in
+    let end = handed.2 ∙ ap (λ l. l ++ handed.0) grows.1 ∙ append_assoc x grows.0 handed.0 in
+    (grows.0 ++ handed.0, (handed.1.0, cut), end)
+
+-- a text was taken, and then a proper prefix of what was held and of one more piece was handed on
+handed_part : (a b c : Option (List ℕ)) (held_before held_after text piece later : List ℕ) → Grows a b
+    → Appends (append_known a held_before) (append_known b held_after) text → 0 < length piece
+    → AppendsPart b c (held_after ++ piece) → AppendsPart a c (held_before ++ (text ++ (piece ++ later)))
+handed_part None b c held_before held_after text piece later grows taken some handed = (
+  held_before ++ text,
+  piece ++ later,
+  sym (append_assoc held_before text (piece ++ later)),
+  omega (arith, length-append piece later),
+  tt,
+)
+handed_part (Some x) None c held_before held_after text piece later grows taken some handed = absurd grows.1
+handed_part (Some x) (Some y) None held_before held_after text piece later grows taken some handed = absurd handed.4
+handed_part (Some x) (Some y) (Some z) held_before held_after text piece later grows taken some handed =
+    let all = moved x y grows.0 held_before held_after text grows.1 taken in
+    let prefix = handed.0 in
+    let left = handed.1 in
+    let cut : held_before ++ (text ++ (piece ++ later)) ≡ (grows.0 ++ prefix) ++ (left ++ later) =
+    sym (append_assoc held_before text (piece ++ later)) ∙ ap (λ l. l ++ (piece ++ later)) (sym all)
+    ∙ append_assoc grows.0 held_after (piece ++ later)
+    ∙ ap (λ l. grows.0 ++ l) (sym (append_assoc held_after piece later))
+    ∙ ap (λ l. grows.0 ++ (l ++ later)) handed.2
+    ∙ ap (λ l. grows.0 ++ l) (append_assoc prefix left later)
+    ∙ sym (append_assoc grows.0 prefix (left ++ later)) in (
+      grows.0 ++ prefix,
+      left ++ later,
+      cut,
+      omega (arith, handed.3, length-append left later),
+      handed.4 ∙ ap (λ l. l ++ prefix) grows.1 ∙ append_assoc x grows.0 prefix,
     )
 
--- what a call that writes all of a text answers, over plain values
-abbrev pub Ends : {E : Type 0} → Option (List ℕ) → Option (List ℕ) → ℕ → ℕ → List ℕ → Result (Unit {0}) E → Type 0
-Ends a b i j text r =
-    MatchResult r (λ _. Appends a b text × (j ≡ i)) (λ _. AppendsFront a b text × (j ≡ after_failure i))
+-- a text was written, and then flushed: what was held before and the text were handed on
+pub Wrote-flushed : {a b c : SinkState} (text : List ℕ) → Wrote a b text → Flushed b c
+    → Appends a.written c.written (a.held ++ text)
+Wrote-flushed {a} {b} {c} text wrote flushed =
+    handed_all a.written b.written c.written a.held b.held text wrote.taken flushed.handed
+
+-- a text was written, and a call without a text failed behind it: of what was held before and of the text a prefix was
+-- handed on
+pub Wrote-dropped : {a b c : SinkState} (text : List ℕ) → Wrote a b text → Dropped b c
+    → AppendsPrefix a.written c.written (a.held ++ text)
+Wrote-dropped {a} {b} {c} text wrote dropped =
+    handed_some a.written b.written c.written a.held b.held text wrote.grows wrote.taken dropped.handed
+
+-- nothing was written, and then all was flushed
+pub Flushed-behind : {a b c : SinkState} → Wrote a b [] → Flushed b c → Flushed a c
+Flushed-behind {a} wrote flushed = record {
+  handed = rw append-nil at (Wrote-flushed [] wrote flushed);
+  none = flushed.none;
+  kept = flushed.kept ∙ wrote.kept;
+}
+
+-- nothing was written, and then a call failed
+pub Dropped-behind : {a b c : SinkState} → Wrote a b [] → Dropped b c → Dropped a c
+Dropped-behind {a} wrote dropped = record {
+  handed = rw append-nil at (Wrote-dropped [] wrote dropped);
+  none = dropped.none;
+  failed = dropped.failed ∙ ap after_failure wrote.kept;
+}
+
+-- a write failed that was to take some of a text
+pub Dropped-broke : {a b : SinkState} {text : List ℕ} → Dropped a b → 0 < length text → Broke a b text
+Dropped-broke {text = text} dropped some =
+    let prefix = dropped.handed.0 in
+    let rest = dropped.handed.1.0 in
+    record {
+      some = some;
+      handed = (
+        prefix,
+        rest ++ text,
+        ap (λ l. l ++ text) dropped.handed.1.1 ∙ append_assoc prefix rest text,
+        omega (arith, some, length-append rest text),
+        dropped.handed.2,
+      );
+      none = dropped.none;
+      failed = dropped.failed;
+    }
+
+-- a sink that tells all that it took, and holds nothing back, took a piece
+pub Wrote-told : (old new piece : List ℕ) (failures : ℕ) → new ≡ old ++ piece
+    → Wrote (record { written = Some old; held = []; failures = failures })
+    (record { written = Some new; held = []; failures = failures }) piece
+Wrote-told old new piece failures is = record {
+  taken = append-nil new ∙ is ∙ ap (λ l. l ++ piece) (sym (append-nil old));
+  grows = (piece, is);
+  kept = refl;
+}
+
+-- ---- a text, piece after piece
+
+-- of this text all but the rest was written, and no call failed
+pub record Left (a b : SinkState) (text rest : List ℕ) : Type 0 where
+  pub prefix : List ℕ
+  pub cut : text ≡ prefix ++ rest
+  pub wrote : Wrote a b prefix
+
+-- before the first piece, all of the text is left
+pub Left-all : {a : SinkState} {text : List ℕ} → Left a a text text
+Left-all = record { prefix = []; cut = refl; wrote = Wrote-nil }
+
+-- a piece of the rest was written
+pub Left-step : {a b c : SinkState} {text rest more : List ℕ} (piece : List ℕ) → Left a b text rest
+    → rest ≡ piece ++ more → Wrote b c piece → Left a c text more
+Left-step {more = more} piece left cut written = record {
+  prefix = left.prefix ++ piece;
+  cut = left.cut ∙ ap (λ l. left.prefix ++ l) cut ∙ sym (append_assoc left.prefix piece more);
+  wrote = Wrote-trans left.prefix piece left.wrote written;
+}
+
+-- a piece of the rest failed: so did the whole text
+pub Left-stop : {a b c : SinkState} {text rest piece : List ℕ} (more : List ℕ) → Left a b text rest
+    → rest ≡ piece ++ more → Broke b c piece → Broke a c text
+Left-stop {a} {b} {c} {piece = piece} more left cut failed =
+    let whole = left.cut ∙ ap (λ l. left.prefix ++ l) cut in
+    let size = length-append left.prefix (piece ++ more) in
+    record {
+      some = rw whole (omega (arith, failed.some, size, length-append piece more));
+      handed = rw whole (handed_part a.written b.written c.written a.held b.held left.prefix piece more
+          left.wrote.grows left.wrote.taken failed.some failed.handed);
+      none = failed.none;
+      failed = failed.failed ∙ ap after_failure left.wrote.kept;
+    }
 
 -- the last piece is all of the rest: its call answers for the whole text
-pub Left-last : {E : Type 0} {a b : Option (List ℕ)} {i j : ℕ} {text rest : List ℕ} (c : Option (List ℕ)) (k : ℕ)
-    (r : Result (Unit {0}) E) → Left a b i j text rest → Ends b c j k rest r → Ends a c i k text r
-Left-last {a = a} {b = b} {rest = rest} c k (Ok u) left last =
-    (rw left.cut (Appends-trans a b c left.front rest left.bytes last.0), last.1 ∙ left.kept)
-Left-last {rest = rest} c k (Err e) left last = Left-stop c [] left (sym (append-nil rest)) last
+pub Left-last : {E : Type 0} {a b : SinkState} {text rest : List ℕ} (c : SinkState) (r : Result (Unit {0}) E)
+    → Left a b text rest → WritesFrom b c rest r → WritesFrom a c text r
+Left-last {rest = rest} c (Ok u) left last = rw left.cut (Wrote-trans left.prefix rest left.wrote last)
+Left-last {rest = rest} c (Err e) left last = Left-stop [] left (sym (append-nil rest)) last
+
+-- nothing is left: all of the text was written
+pub Left-none : {a b : SinkState} {text rest : List ℕ} → Left a b text rest → rest ≡ [] → Wrote a b text
+Left-none left none = rw (left.cut, none, append-nil) left.wrote
 
 -- a rest is what a write takes of it, and what is left behind that
 pub cut_at : (rest : List ℕ) (n : ℕ) → rest ≡ take n rest ++ take (length rest - n) (drop n rest)

@@ -6,7 +6,7 @@ pub mod Scanned
 pub mod Says
 pub mod Laws
 pub mod Sinks
-pub mod WholeLines
+pub mod Buffers
 pub mod Lines
 pub mod Readings
 pub mod joins

@@ -1,6 +1,6 @@
--- What writing does to a sink. `written` and `failures` are what a sink tells: its bytes, where it tells
--- them, and how many of its writes have failed.
-use Rattle.std.specs.Prelude.{ℕ, ◌≡◌, ◌+◌, ◌-◌, ◌^◌, ◌<◌, ◌≤◌, min, List, ◌++◌, length, Option, None, Some, Result, MatchResult, ⊤}
+-- What writing and flushing do to a sink.
+use Rattle.std.specs.Prelude.{ℕ, ◌≡◌, ◌+◌, ◌-◌, ◌^◌, ◌<◌, ◌≤◌, min, List, [], ◌∷◌, ◌++◌, length, take, Option, None, Some, Result, Ok, Err, ⊤}
+use Rattle.std.specs.Io.KnownBytes.{append_known}
 pub use Rattle.std.specs.Io.KnownBytes.{Appends}
 
 -- a count of failures after one more: it rises by one, and stays at the last value of a u64
@@ -11,19 +11,101 @@ after_failure n = min (n + 1) (2 ^ 64 - 1)
 abbrev pub Takes : ℕ → List ℕ → Type 0
 Takes n piece = (n ≤ length piece) × (0 < length piece → 0 < n)
 
+-- a prefix of a list, which may be the whole
+abbrev pub IsPrefix : {A : Type 0} → List A → List A → Type 0
+IsPrefix {A} prefix xs = (rest : List A) × (xs ≡ prefix ++ rest)
+
+-- known bytes stay, and more may come behind them
+abbrev pub Grows : Option (List ℕ) → Option (List ℕ) → Type 0
+Grows old new = (more : List ℕ) × Appends old new more
+
+-- known bytes grow by a prefix of the text
+abbrev pub AppendsPrefix : Option (List ℕ) → Option (List ℕ) → List ℕ → Type 0
+AppendsPrefix old new text = (prefix : List ℕ) × IsPrefix prefix text × Appends old new prefix
+
+-- known bytes grow by a proper prefix of the text
+abbrev pub AppendsPart : Option (List ℕ) → Option (List ℕ) → List ℕ → Type 0
+AppendsPart old new text =
+    (prefix : List ℕ) × (rest : List ℕ) × (text ≡ prefix ++ rest) × (0 < length rest) × Appends old new prefix
+
+-- a sink at one moment: what it handed on to what is below it, where it tells that; what it took and has not handed on;
+-- how many of its calls have failed
+pub record SinkState : Type 0 where
+  pub written : Option (List ℕ)
+  pub held : List ℕ
+  pub failures : ℕ
+
+-- the text was taken: it stands behind what was held, and some of both may have been handed on
+pub record Wrote (a b : SinkState) (text : List ℕ) : Type 0 where
+  pub taken : Appends (append_known a.written a.held) (append_known b.written b.held) text
+  pub grows : Grows a.written b.written
+  pub kept : b.failures ≡ a.failures
+
+-- a call failed: of what was held and of the text, which isn't empty, a proper prefix was handed on, and the rest is
+-- dropped
+pub record Broke (a b : SinkState) (text : List ℕ) : Type 0 where
+  pub some : 0 < length text
+  pub handed : AppendsPart a.written b.written (a.held ++ text)
+  pub none : b.held ≡ []
+  pub failed : b.failures ≡ after_failure a.failures
+
+-- all that was held was handed on
+pub record Flushed (a b : SinkState) : Type 0 where
+  pub handed : Appends a.written b.written a.held
+  pub none : b.held ≡ []
+  pub kept : b.failures ≡ a.failures
+
+-- a call failed: a prefix of what was held was handed on, and the rest is dropped
+pub record Dropped (a b : SinkState) : Type 0 where
+  pub handed : AppendsPrefix a.written b.written a.held
+  pub none : b.held ≡ []
+  pub failed : b.failures ≡ after_failure a.failures
+
+-- how a sink stands, by its three members
+abbrev pub state : {S : Type 0} → (S → Option (List ℕ)) → (S → List ℕ) → (S → ℕ) → S → SinkState
+state written held failures s = record { written = written s; held = held s; failures = failures s }
+
+-- a call that takes all of the text, or fails; with an empty text it doesn't fail
+abbrev pub WritesFrom : {E : Type 0} → SinkState → SinkState → List ℕ → Result (Unit {0}) E → Type 0
+WritesFrom a b text (Ok u) = Wrote a b text
+WritesFrom a b text (Err e) = Broke a b text
+
+abbrev pub Writes : {S E : Type 0} → (S → Option (List ℕ)) → (S → List ℕ) → (S → ℕ) → S → S → List ℕ
+    → Result (Unit {0}) E → Type 0
+Writes written held failures old new text r =
+    WritesFrom (state written held failures old) (state written held failures new) text r
+
+-- one write, which takes the first bytes of a piece, or fails
+abbrev pub WritesSome : {E : Type 0} → SinkState → SinkState → List ℕ → Result ℕ E → Type 0
+WritesSome a b piece (Ok n) = Takes n piece × Wrote a b (take n piece)
+WritesSome a b piece (Err e) = Dropped a b
+
+-- one flush
+abbrev pub Flushes : {E : Type 0} → SinkState → SinkState → Result (Unit {0}) E → Type 0
+Flushes a b (Ok u) = Flushed a b
+Flushes a b (Err e) = Dropped a b
+
+-- ---- what is offered
+
 -- the known pieces that a sink was offered grow by these
 abbrev pub Offers : Option (List (List ℕ)) → Option (List (List ℕ)) → List (List ℕ) → Type 0
 Offers None new pieces = ⊤
 Offers (Some old) None pieces = ⊥
 Offers (Some old) (Some new) pieces = new ≡ old ++ pieces
 
--- known bytes grow by a front of the text, and a rest of it that isn't empty stays unwritten
-abbrev pub AppendsFront : Option (List ℕ) → Option (List ℕ) → List ℕ → Type 0
-AppendsFront old new text =
-    (front : List ℕ) × (rest : List ℕ) × (text ≡ front ++ rest) × (0 < length rest) × Appends old new front
+-- a shorter back of the text
+abbrev pub IsRest : List ℕ → List ℕ → Type 0
+IsRest text rest = (front : List ℕ) × (0 < length front) × (text ≡ front ++ rest)
 
--- a call that writes the text: Ok, all of it was appended; a fault, a shorter front of it was, and the failures rose
-abbrev pub Writes : {S E : Type 0} → (S → Option (List ℕ)) → (S → ℕ) → S → S → List ℕ → Result (Unit {0}) E → Type 0
-Writes written failures old new text r =
-    MatchResult r (λ _. Appends (written old) (written new) text × (failures new ≡ failures old))
-    (λ _. AppendsFront (written old) (written new) text × (failures new ≡ after_failure (failures old)))
+-- each piece is a rest of the piece before it
+abbrev pub AreRests : List ℕ → List (List ℕ) → Type 0
+AreRests text [] = Unit {0}
+AreRests text (rest ∷ more) = IsRest text rest × AreRests rest more
+
+-- a text is offered in one piece, and then nothing but what is left of it; of no text nothing is offered
+abbrev pub InOnePiece : List ℕ → List (List ℕ) → Type 0
+InOnePiece text [] = text ≡ []
+InOnePiece text (piece ∷ rests) = (0 < length text) × (piece ≡ text) × AreRests text rests
+
+abbrev pub HandsOn : Option (List (List ℕ)) → Option (List (List ℕ)) → List ℕ → Type 0
+HandsOn old new text = (pieces : List (List ℕ)) × Offers old new pieces × InOnePiece text pieces

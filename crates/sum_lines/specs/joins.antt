@@ -3,3 +3,4 @@ pub mod PartTexts
 pub mod Steps
 pub mod Found
 pub mod ToldSinks
+pub mod Emptying

@@ -1,9 +1,7 @@
 //! A sink over a writer of the standard library.
-ghost use Rattle.std.specs.Prelude.{◌≡◌, OnOk, OnErr};
-ghost use Rattle.std.specs.Io.KnownBytes.{Keeps};
+ghost use Rattle.std.specs.Prelude.{◌≡◌};
 ghost use Rattle.sum_lines.specs.Sinks.{after_failure};
 
-use crate::finish::Finish;
 use crate::sink::{Sink, SinkFault};
 use std::io::{ErrorKind, Write};
 
@@ -26,20 +24,6 @@ impl<W: Write> FromWrite<W> {
         FromWrite {
             writer,
             failures: 0,
-        }
-    }
-
-    /// Flushes the writer once. A fault where that fails, which counts as a failure of the sink.
-    pub fn flush(&mut self) -> Result<(), SinkFault>
-        ensures bytes { Keeps (⟦<FromWrite<W> as Sink>⟧.written self.old) (⟦<FromWrite<W> as Sink>⟧.written self.new) }
-        ensures kept { OnOk result
-            (⟦<FromWrite<W> as Sink>⟧.failures self.new ≡ ⟦<FromWrite<W> as Sink>⟧.failures self.old) }
-        ensures failed { OnErr result
-            (⟦<FromWrite<W> as Sink>⟧.failures self.new ≡ after_failure (⟦<FromWrite<W> as Sink>⟧.failures self.old)) }
-    {
-        match self.writer.flush() {
-            Ok(()) => Ok(()),
-            Err(_) => Err(self.fault()),
         }
     }
 
@@ -77,11 +61,12 @@ impl<W: Write> Sink for FromWrite<W> {
         }
         Err(self.fault())
     }
-}
 
-impl<W: Write> Finish for FromWrite<W> {
-    /// Flushes the writer once.
-    fn finish(&mut self) -> Result<(), SinkFault> {
-        self.flush()
+    /// Flushes the writer, once. A fault where that fails.
+    fn flush(&mut self) -> Result<(), SinkFault> {
+        match self.writer.flush() {
+            Ok(()) => Ok(()),
+            Err(_) => Err(self.fault()),
+        }
     }
 }

@@ -1,8 +1,8 @@
 //! Lines of checksums: where they are written, how a name is escaped in them, and how they are read.
 #![tactic(auto)]
 
+mod buffered;
 mod escape;
-mod finish;
 mod from_write;
 pub mod laws;
 mod line_reading;
@@ -15,15 +15,13 @@ mod tagged;
 #[cfg(test)]
 mod tests;
 mod told_sink;
-mod whole_lines;
 mod written;
 
+pub use buffered::{Buffered, ROOM};
 pub use escape::{needs_escape, put_escaped, unescape_in};
-pub use finish::Finish;
 pub use from_write::FromWrite;
 pub use line_reading::{Form, Reading, read_line};
 pub use parts::{Part, put_number, put_parts};
 pub use sink::{Sink, SinkFault, put_all};
 pub use told_sink::ToldSink;
-pub use whole_lines::{LINE_ROOM, WholeLines};
 pub use written::{Mode, Style, put_line};

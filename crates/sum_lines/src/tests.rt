@@ -1,5 +1,5 @@
 //! Worked lines, written and read, and what no contract says of sinks.
+mod buffers;
 mod reading;
 mod sinks;
-mod whole_lines;
 mod writing;

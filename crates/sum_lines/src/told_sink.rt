@@ -1,8 +1,7 @@
 //! A sink that keeps its bytes in an array.
-ghost use Rattle.std.specs.Prelude.{◌≡◌, ◌≤◌, ◌+◌, ◌<◌, ℕ, List, [], length, take, min, Some, IfOk, OnOk, OnErr, IsErr};
+ghost use Rattle.std.specs.Prelude.{◌≡◌, ◌≤◌, ◌+◌, ◌<◌, [], length, min, Some, IfOk, IsErr};
 ghost use Rattle.std.specs.Prelude.{◌↔◌};
 
-use crate::finish::Finish;
 use crate::sink::{Sink, SinkFault};
 
 /// A sink that keeps up to N bytes, tells them, and fails once it is full.
@@ -41,9 +40,9 @@ impl<const N: usize> ToldSink<N> {
 }
 
 impl<const N: usize> Sink for ToldSink<N> {
-    ghost use Rattle.std.specs.Io.KnownBytes.{WriteAppends};
-    ghost use Rattle.sum_lines.specs.Sinks.{Takes, after_failure};
-    ghost use Rattle.sum_lines.specs.joins.ToldSinks.{bytes_of, room};
+    ghost use Rattle.std.specs.Prelude.{Ok};
+    ghost use Rattle.sum_lines.specs.Sinks.{WritesSome, Flushes};
+    ghost use Rattle.sum_lines.specs.joins.ToldSinks.{bytes_of, room, told_state};
 
     ghost written = { λ s. Some (bytes_of s) };
 
@@ -51,10 +50,8 @@ impl<const N: usize> Sink for ToldSink<N> {
 
     /// Takes what there is room for. A fault exactly where there is none and the piece isn't empty.
     fn write(&mut self, piece: &[u8]) -> Result<usize, SinkFault>
-        ensures count { IfOk result (λ n. Takes n piece.now) }
-        ensures bytes { WriteAppends (Some (bytes_of self.old)) (Some (bytes_of self.new)) result piece.now }
-        ensures kept { OnOk result (self.new.failures ≡ self.old.failures) }
-        ensures failed { OnErr result (self.new.failures ≡ after_failure self.old.failures) }
+        ensures bytes { WritesSome (told_state self.old) (told_state self.new) piece.now result }
+        ensures empty { piece.now ≡ [] → result ≡ Ok 0 }
         ensures all { IfOk result (λ n. n ≡ min (room self.old) (length piece.now)) }
         ensures full { IsErr result ↔ ((room self.old ≡ 0) × (0 < length piece.now)) }
         ensures room { IfOk result (λ n. room self.new + n ≡ room self.old) }
@@ -72,15 +69,13 @@ impl<const N: usize> Sink for ToldSink<N> {
         self.len += count;
         Ok(count)
     }
-}
 
-impl<const N: usize> Finish for ToldSink<N> {
-    ghost use Rattle.std.specs.Prelude.{Ok};
-
-    ghost finish_gives = { λ s r t. (r ≡ Ok tt) × (t ≡ s) };
-
-    /// All is kept, always.
-    fn finish(&mut self) -> Result<(), SinkFault> {
+    /// Nothing is ever held: it succeeds and changes nothing.
+    fn flush(&mut self) -> Result<(), SinkFault>
+        ensures ok { result ≡ Ok tt }
+        ensures same { self.new ≡ self.old }
+        ensures bytes { Flushes (told_state self.old) (told_state self.new) result }
+    {
         Ok(())
     }
 }

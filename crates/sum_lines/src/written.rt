@@ -33,8 +33,8 @@ ghost use Rattle.sum_lines.specs.joins.PartTexts.{part_text};
 ghost use Rattle.sum_lines.specs.Escape.{escape, escape_differs};
 ghost use Rattle.sum_lines.specs.Shapes.{mark};
 
-/// Writes the line of a name and its digest, which has the kind's length. A fault where a write failed; a shorter front
-/// of the line is then written.
+/// Writes the line of a name and its digest, which has the kind's length. A fault where a write failed; of what was
+/// held and of the line a proper prefix is then handed on, and nothing is held.
 pub fn put_line<S: Sink>(
     sink: &mut S,
     style: Style,
@@ -43,7 +43,7 @@ pub fn put_line<S: Sink>(
     digest: &Digest,
 ) -> Result<(), SinkFault>
     requires { length digest.now ≡ kind.len }
-    ensures { Writes S.written S.failures sink.old sink.new (line style kind name.now digest.now) result }
+    ensures { Writes S.written S.held S.failures sink.old sink.new (line style kind name.now digest.now) result }
 {
     let mut buffer = [0; 128];
     let digits = digits_of(digest, &mut buffer);
@@ -85,7 +85,7 @@ fn put_form<'a, S: Sink>(
     name: Part<'a>,
     digits: &'a [u8],
 ) -> Result<(), SinkFault>
-    ensures { Writes S.written S.failures sink.old sink.new
+    ensures { Writes S.written S.held S.failures sink.old sink.new
         (layout mode kind (part_text name.entry) digits.now) result }
 {
     let digits = Part::Bytes(digits);
@@ -104,7 +104,7 @@ fn put_form<'a, S: Sink>(
 
 // Writes the tag, for a BLAKE2b digest that isn't full with its bits.
 fn put_tag<S: Sink>(sink: &mut S, kind: Kind) -> Result<(), SinkFault>
-    ensures { Writes S.written S.failures sink.old sink.new (line_tag kind) result }
+    ensures { Writes S.written S.held S.failures sink.old sink.new (line_tag kind) result }
 {
     let tag = Part::Bytes(kind.tag().as_bytes());
     if kind.len() == Kind::of(kind.algo()).len() {

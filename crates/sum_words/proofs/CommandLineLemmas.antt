@@ -1,11 +1,13 @@
 -- The command line by its list of arguments.
-use Rattle.std.proofs.Common.{ℕ, ◌≡◌, ◌+◌, ◌-◌, ◌<◌, true, not, ◌==◌, zero, suc, List, [], ◌∷◌, length, drop, get_or, Some, None, refl, ap, sym, ◌∙◌, arith, inl, inr}
+use Rattle.std.proofs.Common.{ℕ, ◌≡◌, ◌+◌, ◌-◌, ◌<◌, ◌≤◌, true, false, not, ◌==◌, zero, suc, List, [], ◌∷◌, length, drop, get_or, Some, None, Err, refl, ap, sym, ◌∙◌, arith, inl, inr}
 use Rattle.std.proofs.lemmas.List.Sums.{suffix_len_is}
 use Rattle.std.proofs.lemmas.Bool.Decides.{eqb_tells}
 use Rattle.std.specs.List.{suffix_len}
 use Rattle.std.specs.Prelude.{slice_get, Option, ◌++◌}
 use Rattle.std.specs.Str.{IsUtf8, is_utf8}
-use Rattle.std.proofs.lemmas.Str.{is_utf8-from_IsUtf8}
+use Rattle.std.proofs.lemmas.Str.{is_utf8-from_IsUtf8, IsUtf8-from_is_utf8}
+use Rattle.std.proofs.lemmas.Option.{slice_get_within}
+use Rattle.std.specs.declared.env.FillError.TheVariants.{TooLong}
 use Rattle.std.proofs.lemmas.List.{append-nil, append_assoc}
 use Rattle.std.proofs.lemmas.List.Folds.{list_all-append}
 use Rattle.sum_words.specs.declared.tool.Tool.{Tool}
@@ -13,7 +15,7 @@ use Rattle.sum_words.specs.Items.{Text}
 use Rattle.sum_words.specs.Tools.{tool_called}
 use Rattle.memchr.specs.Find.{Passes, Nowhere, is_byte, IsLastByte}
 use Rattle.sum_words.specs.CommandLines.{last_part}
-use Rattle.sum_words.specs.joins.Arguments.{ArgumentIs, IsNameOf, IsFirstWord, WordsUpTo, WordsAre}
+use Rattle.sum_words.specs.joins.Arguments.{Fills, ArgumentIs, IsNameOf, IsFirstWord, WordsUpTo, WordsAre, IsLonger, IsThere, IsBadFirstWord}
 
 -- ---- the last part of a path
 
@@ -61,6 +63,18 @@ drop-at_some [] p h = cc
 drop-at_some {x = x} (y ∷ ys) zero h = let same : y ≡ x = cc in rw same refl
 drop-at_some (y ∷ ys) (suc p) h = let next : suc p + 1 ≡ suc (p + 1) = omega arith in rw next (drop-at_some ys p h)
 
+-- there is an argument at each place up to one where an argument stands
+pub there-is : (told : Option (List Text)) (first place : ℕ) (word : Text)
+    → ArgumentIs told place (Some word) → first ≤ place → IsThere told first
+there-is None first place word h le = tt
+there-is (Some all) first place word h le = omega (arith, slice_get_within all place word h, le)
+
+-- what a buffer can't hold is longer than it, and than a shorter one
+pub longer-not_held : (told : Option (List Text)) (place : ℕ) (buffer : Text) (n : ℕ)
+    → Fills told place buffer (Err TooLong) → n ≤ length buffer → IsLonger told place n
+longer-not_held None place buffer n h le = tt
+longer-not_held (Some all) place buffer n h le = (h.0, h.1, omega (arith, h.2, le))
+
 -- the tool by the path that the program was called by
 pub name-is : (told : Option (List Text)) (path : Text) (tool : Option Tool)
     → ArgumentIs told 0 (Some path) → tool ≡ tool_called (last_part path) → IsNameOf told tool
@@ -73,6 +87,19 @@ pub first-is : (told : Option (List Text)) (word : Text) (tool : Option Tool)
 first-is None word tool h text is = tt
 first-is (Some all) word tool h text is =
     (rw h is, rw (drop-at_some all 1 h, is_utf8-from_IsUtf8 word text) refl)
+
+-- what is no text fails the test
+no_text : (word : Text) → (IsUtf8 word → ⊥) → is_utf8 word ≡ false
+no_text word bad = elim (is_utf8 word) as (λ b. is_utf8 word ≡ b → b ≡ false) [
+  | true ↦ λ text. absurd (bad (IsUtf8-from_is_utf8 word text))
+  | false ↦ λ _. refl
+] refl
+
+-- the first word, which is no text
+pub bad_first-is : (told : Option (List Text)) (word : Text)
+    → ArgumentIs told 1 (Some word) → (IsUtf8 word → ⊥) → IsBadFirstWord told
+bad_first-is None word h bad = tt
+bad_first-is (Some all) word h bad = inl (rw (drop-at_some all 1 h, no_text word bad) refl)
 
 -- ---- the words, one after another
 

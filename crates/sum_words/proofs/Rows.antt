@@ -1,5 +1,5 @@
 -- Worked command lines: what the definitions say of each computes.
-use Rattle.std.proofs.Common.{◌≡◌, List, ℕ, [], ◌∷◌, Result, Ok, Err, refl, codes, true, false}
+use Rattle.std.proofs.Common.{◌≡◌, ◌≤◌, ◌<◌, List, ℕ, [], ◌∷◌, Result, Ok, Err, Some, None, refl, codes, true, false, zero, suc, length, inl, inr, arith, ap, lit≤}
 use Rattle.std.specs.Str.{chars}
 use lib.Utf8.{encode}
 use Rattle.digest_kinds.specs.declared.algo.Algo.{Algo}
@@ -15,6 +15,9 @@ use Rattle.sum_words.specs.declared.reading.Job.TheVariants.{Generate, Check}
 use Rattle.sum_words.specs.Faults.{Fault, unknown_long, ambiguous_long, value_not_allowed, value_missing, unknown_short, length_invalid, length_not_bytes, tag_with_text, zero_with_check, tag_with_check, mode_with_check, without_check, check_needed}
 use Rattle.sum_words.specs.Items.{Text, resolved, lettered}
 use Rattle.sum_words.specs.Request.{request}
+use Rattle.sum_words.specs.CommandLines.{last_part, kept_by, NeedsMemory, MayNotRead}
+use Rattle.sum_words.specs.Tools.{tool_called}
+use Rattle.sum_words.specs.declared.command_line.TheConstants.{PAGE}
 
 abbrev pub writes : Algo → ℕ → Mode → List Text → Result Request Fault
 writes algo len mode operands = Ok (Work (Generate
@@ -254,3 +257,27 @@ checking_2 : request B2sum (codes "-c" ∷ codes "-l" ∷ codes "8" ∷ codes "-
     (codes "-" ∷ codes "l" ∷ []))
 unfolding chars encode resolved lettered
 checking_2 = refl
+
+-- a text that isn't longer than the page
+not_longer : (short argument : Text) → length short ≤ PAGE → short ≡ argument → PAGE < length argument → ⊥
+not_longer short argument h same long = absurd (omega (arith, h, ap length same, long))
+
+-- a command line without a word is always read, where the name is no longer than the page
+no_words : (name : Text) → length name ≤ PAGE → MayNotRead (name ∷ []) → ⊥
+no_words name h (inl none) = cc
+no_words name h (inr (inl kept)) = elim (tool_called (last_part name)) as (λ o. 0 < length (kept_by o []) → ⊥) [
+  | None ↦ λ some. absurd (omega (arith, some))
+  | Some tool ↦ λ some. absurd (omega (arith, some))
+] kept
+no_words name h (inr (inr (zero, long))) = let same : name ≡ long.0 = cc in not_longer name long.0 h same long.2
+no_words name h (inr (inr (suc place, long))) = let none : None ≡ Some long.0 = long.1 in cc
+
+-- a word that names the tool needs no memory
+only_tool : NeedsMemory (codes "digests" ∷ codes "md5sum" ∷ []) → ⊥
+unfolding tool_called
+only_tool (inl kept) = absurd (omega (arith, kept))
+only_tool (inr (zero, long)) =
+    let same : codes "digests" ≡ long.0 = cc in not_longer (codes "digests") long.0 (lit≤ tt) same long.2
+only_tool (inr (suc zero, long)) =
+    let same : codes "md5sum" ≡ long.0 = cc in not_longer (codes "md5sum") long.0 (lit≤ tt) same long.2
+only_tool (inr (suc (suc place), long)) = let none : None ≡ Some long.0 = long.1 in cc

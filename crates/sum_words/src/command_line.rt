@@ -1,8 +1,9 @@
 //! The command line: which tool is asked for, and on which words.
-ghost use Rattle.std.specs.Prelude.{◌≡◌, ◌≤◌, ◌<◌, ◌+◌, ℕ, length, vec_len, Some, take, IfOk, IfSome, OnOk};
+ghost use Rattle.std.specs.Prelude.{◌≡◌, ◌≤◌, ◌<◌, ◌+◌, ◌*◌, ℕ, length, vec_len, Some, take, IfOk, IfSome, OnOk, OnErr};
 ghost use Rattle.std.specs.Option.{option_map};
 ghost use Rattle.sum_words.specs.Tools.{tool_called};
 ghost use Rattle.sum_words.specs.joins.Arguments.{ArgumentIs, WordsAre, IsNameOf, IsFirstWord, CallIs, call_of};
+ghost use Rattle.sum_words.specs.joins.Arguments.{IsLonger, IsThere, IsBadFirstWord, MayBeUnread};
 ghost use Rattle.sum_words.specs.CommandLines.{last_part};
 
 use crate::arguments::Arguments;
@@ -13,7 +14,7 @@ use std::alloc::{AllocError, Allocator};
 use std::env::FillError;
 
 /// How long an argument may be that is read without taking memory. A page costs a short run the least.
-const PAGE: usize = 4096;
+pub(crate) const PAGE: usize = 4096;
 
 /// The words could not be read: one isn't UTF-8, or memory was refused.
 #[derive(Clone, Copy, Debug, PartialEq, Eq)]
@@ -29,12 +30,14 @@ pub enum CommandLine<A: Allocator> {
 }
 
 /// Reads the command line. The last part of the name by which the program was called is the tool's, where it is one;
-/// else the first word is. Each word has to be UTF-8.
+/// else the first word is. Each word has to be UTF-8. Memory is wanted only where there is a word to keep for the tool,
+/// or an argument is longer than a page.
 pub fn read_command_line<A: Allocator + Copy, G: Arguments>(
     alloc: A,
     arguments: &G,
 ) -> Result<CommandLine<A>, NotRead>
-    ensures { IfOk result (λ line. CallIs (G.told arguments.now) (call_of line)) }
+    ensures line { IfOk result (λ line. CallIs (G.told arguments.now) (call_of line)) }
+    ensures not_read { OnErr result (MayBeUnread (G.told arguments.now)) }
 {
     let mut page = [0; PAGE];
     let mut more = Vec::new(alloc);
@@ -56,10 +59,11 @@ pub fn read_command_line<A: Allocator + Copy, G: Arguments>(
 fn argument<'a, A: Allocator, G: Arguments>(
     arguments: &G,
     place: usize,
-    page: &'a mut [u8],
+    page: &'a mut [u8; PAGE],
     more: &'a mut Vec<u8, A>,
 ) -> Result<Option<&'a [u8]>, NotRead>
-    ensures { IfOk result (λ o. ArgumentIs (G.told arguments.now) place (option_map (λ s. s.now) o)) }
+    ensures bytes { IfOk result (λ o. ArgumentIs (G.told arguments.now) place (option_map (λ s. s.now) o)) }
+    ensures not_read { OnErr result (IsLonger (G.told arguments.now) place PAGE) }
 {
     match arguments.fill(place, page) {
         Ok(len) => Ok(Some(&page[..len])),
@@ -80,6 +84,7 @@ fn fill_growing<A: Allocator, G: Arguments>(
     ensures within { IfOk result (λ o. IfSome o (λ n. n ≤ vec_len more.new)) }
     ensures bytes { IfOk result (λ o. ArgumentIs (G.told arguments.now) place
         (option_map (λ n. take n more.new.items) o)) }
+    ensures not_read { OnErr result (IsLonger (G.told arguments.now) place (vec_len more.old)) }
 {
     'longer: loop {
         match arguments.fill(place, more.as_mut_slice()) {
@@ -96,7 +101,8 @@ fn fill_growing<A: Allocator, G: Arguments>(
 
 // Makes the vector longer, and at least twice as long as it was.
 fn grow<A: Allocator>(more: &mut Vec<u8, A>) -> Result<(), AllocError>
-    ensures { OnOk result (vec_len more.old < vec_len more.new) }
+    ensures longer { OnOk result (vec_len more.old < vec_len more.new) }
+    ensures twice { OnOk result (2 * vec_len more.old ≤ vec_len more.new) }
 {
     let len = more.len();
     let Some(twice) = len.checked_mul(2) else {
@@ -108,10 +114,11 @@ fn grow<A: Allocator>(more: &mut Vec<u8, A>) -> Result<(), AllocError>
 // The tool that is called by the last part of the name by which the program was called.
 fn tool_called_by_name<A: Allocator, G: Arguments>(
     arguments: &G,
-    page: &mut [u8],
+    page: &mut [u8; PAGE],
     more: &mut Vec<u8, A>,
 ) -> Result<Option<Tool>, NotRead>
-    ensures { IfOk result (λ tool. IsNameOf (G.told arguments.now) tool) }
+    ensures tool { IfOk result (λ tool. IsNameOf (G.told arguments.now) tool) }
+    ensures not_read { OnErr result (IsLonger (G.told arguments.now) 0 PAGE) }
 {
     match argument(arguments, 0, page, more)? {
         Some(path) => Ok(Tool::of_name(last_part(path))),
@@ -132,10 +139,11 @@ fn last_part(path: &[u8]) -> &[u8]
 // The tool that is called by the first word.
 fn tool_called_by_word<A: Allocator, G: Arguments>(
     arguments: &G,
-    page: &mut [u8],
+    page: &mut [u8; PAGE],
     more: &mut Vec<u8, A>,
 ) -> Result<Option<Tool>, NotRead>
-    ensures { IfOk result (λ tool. IsFirstWord (G.told arguments.now) tool) }
+    ensures tool { IfOk result (λ tool. IsFirstWord (G.told arguments.now) tool) }
+    ensures not_read { OnErr result (IsBadFirstWord (G.told arguments.now)) }
 {
     match argument(arguments, 1, page, more)? {
         Some(word) => match str::from_utf8(word) {
@@ -151,10 +159,12 @@ fn words_from<A: Allocator + Copy, G: Arguments>(
     alloc: A,
     arguments: &G,
     first: usize,
-    page: &mut [u8],
+    page: &mut [u8; PAGE],
     more: &mut Vec<u8, A>,
 ) -> Result<Words<A>, NotRead>
-    ensures { IfOk result (λ words. WordsAre (G.told arguments.now) first words) }
+    requires { first < usize.MAX }
+    ensures words { IfOk result (λ words. WordsAre (G.told arguments.now) first words) }
+    ensures not_read { OnErr result (IsThere (G.told arguments.now) first) }
 {
     let mut words = Words::new(alloc);
     'places: for place in first..usize::MAX {

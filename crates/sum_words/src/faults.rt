@@ -50,10 +50,10 @@ pub enum WordFault<'a> {
     CheckNeeded,
 }
 
-/// Writes the two lines of a fault. A fault of the sink where a write failed; a shorter front of the lines is then
-/// written.
+/// Writes the two lines of a fault. A fault of the sink where a write failed; of what was held and of the lines a
+/// proper prefix is then handed on, and nothing is held.
 pub fn put_fault<E: Sink>(err: &mut E, tool: Tool, fault: &WordFault<'_>) -> Result<(), SinkFault>
-    ensures { Writes E.written E.failures err.old err.new (fault_lines tool (fault_of fault.now)) result }
+    ensures { Writes E.written E.held E.failures err.old err.new (fault_lines tool (fault_of fault.now)) result }
 {
     let name = tool.name();
     let (front, shown, back) = wording(fault);
@@ -86,7 +86,7 @@ fn put_lines<'a, E: Sink>(
     shown: Part<'a>,
     back: &'a str,
 ) -> Result<(), SinkFault>
-    ensures { Writes E.written E.failures err.old err.new
+    ensures { Writes E.written E.held E.failures err.old err.new
         (lines_of name.now (front.now ++ part_text shown.entry ++ back.now)) result }
 {
     let name = Part::Bytes(name.as_bytes());
@@ -130,18 +130,18 @@ fn wording<'a>(fault: &WordFault<'a>) -> (&'static str, Shown<'a>, &'static str)
     }
 }
 
-/// Writes the line for an unknown or missing tool. A fault of the sink where a write failed; a shorter front of the
-/// line is then written.
+/// Writes the line for an unknown or missing tool. A fault of the sink where a write failed; of what was held and of
+/// the line a proper prefix is then handed on, and nothing is held.
 pub fn put_unknown<E: Sink>(err: &mut E) -> Result<(), SinkFault>
-    ensures { Writes E.written E.failures err.old err.new unknown_tool result }
+    ensures { Writes E.written E.held E.failures err.old err.new unknown_tool result }
 {
     put_all(err, b"digests: unknown tool\n")
 }
 
-/// Writes the line for a run of the tool that stopped. A fault of the sink where a write failed; a shorter front of
-/// the line is then written.
+/// Writes the line for a run of the tool that stopped. A fault of the sink where a write failed; of what was held and
+/// of the line a proper prefix is then handed on, and nothing is held.
 pub fn put_stop<E: Sink>(err: &mut E, tool: Tool, stop: Stop) -> Result<(), SinkFault>
-    ensures { Writes E.written E.failures err.old err.new (stop_line tool stop) result }
+    ensures { Writes E.written E.held E.failures err.old err.new (stop_line tool stop) result }
 {
     let name = Part::Bytes(tool.name().as_bytes());
     let text = Part::Bytes(stop_wording(stop).as_bytes());

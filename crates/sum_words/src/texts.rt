@@ -7,9 +7,10 @@ use crate::tool::Tool;
 use digest_kinds::{Algos, Kind};
 use sum_lines::{Part, Sink, SinkFault, put_parts};
 
-/// Writes the help text. A fault of the sink where a write failed; a shorter front of the text is then written.
+/// Writes the help text. A fault of the sink where a write failed; of what was held and of the text a proper prefix is
+/// then handed on, and nothing is held.
 pub fn put_help<O: Sink>(out: &mut O, tool: Tool) -> Result<(), SinkFault>
-    ensures { Writes O.written O.failures out.old out.new (help tool) result }
+    ensures { Writes O.written O.held O.failures out.old out.new (help tool) result }
 {
     let usage = Part::Bytes(b"Usage: ");
     let name = Part::Bytes(tool.name().as_bytes());
@@ -40,9 +41,10 @@ pub fn put_help<O: Sink>(out: &mut O, tool: Tool) -> Result<(), SinkFault>
     }
 }
 
-/// Writes the version text. A fault of the sink where a write failed; a shorter front of the text is then written.
+/// Writes the version text. A fault of the sink where a write failed; of what was held and of the text a proper prefix
+/// is then handed on, and nothing is held.
 pub fn put_version<O: Sink>(out: &mut O, tool: Tool) -> Result<(), SinkFault>
-    ensures { Writes O.written O.failures out.old out.new (version tool) result }
+    ensures { Writes O.written O.held O.failures out.old out.new (version tool) result }
 {
     let name = Part::Bytes(tool.name().as_bytes());
     put_parts(out, &[name, Part::Bytes(b" (digests), profile 2\n")])

@@ -1,40 +1,37 @@
--- Joins the end of a run to what its outputs hold. `oa` and `ea` are what the outputs accepted, `ob` and `eb` what was
--- handed on in the end; the numbers are their failures before and after.
-use Rattle.std.specs.Prelude.{ℕ, suc, ◌≡◌, ◌⊎◌, [], Option, Result, Ok, Err, MatchResult}
+-- Joins a run's answer to the end of the program.
+use Rattle.std.specs.Prelude.{ℕ, ◌≡◌, ◌⊎◌, [], Option, None, Some, Result, Ok, Err}
 use Rattle.std.specs.Io.KnownBytes.{Keeps, Appends}
-use Rattle.sum_lines.specs.Sinks.{after_failure}
 use Rattle.sum_engine.specs.declared.stop.Stop.{Stop}
 use Rattle.sum_engine.specs.declared.stop.Stop.TheVariants.{Memory, Write}
-use Rattle.sum_engine.specs.Scenes.{Kept}
+use Rattle.sum_engine.specs.Scenes.{Rose}
 use Rattle.sum_words.specs.Items.{Text}
-use Rattle.digests.specs.Program.{HoldsFront, HoldsFrontThen, fails, Failed}
+use Rattle.sum_words.specs.Texts.{stop_line}
+use Rattle.sum_words.specs.declared.tool.Tool.{Tool}
+use Rattle.digests.specs.Program.{Failing, Says}
 
--- all that an output accepted is handed on, or a front of it
-abbrev pub Settles : {E : Type 0} → Option Text → Option Text → ℕ → ℕ → Result (Unit {0}) E → Type 0
-Settles a b i j r = MatchResult r (λ _. Keeps a b × (j ≡ i)) (λ _. HoldsFront a b [] × (j ≡ after_failure i))
+-- the line for a stop, where there is a tool to tell of it
+abbrev pub line_of : Option Tool → Stop → Text
+line_of None stop = []
+line_of (Some tool) stop = stop_line tool stop
 
--- the same of both
-abbrev pub SettlesBoth : {E : Type 0} → Option Text → Option Text → Option Text → Option Text → ℕ → ℕ → ℕ → ℕ
-    → Result (Unit {0}) E → Type 0
-SettlesBoth oa ob ea eb o o' e e' r = MatchResult r (λ _. Keeps oa ob × Keeps ea eb × Kept o o' e e')
-    (λ _. HoldsFront oa ob [] × HoldsFront ea eb [] × Failed o o' e e')
+-- a run's answer, once both outputs were flushed: the same; or a write fault, where a flush failed
+abbrev pub Settles : Failing → Failing → Result ℕ Stop → Result ℕ Stop → Type 0
+Settles f g (Ok status) (Ok other) = (other ≡ status) × (g ≡ f)
+Settles f g (Ok status) (Err Write) = Rose f.out g.out f.err g.err
+Settles f g (Ok status) (Err Memory) = ⊥
+Settles f g (Err stop) r = (r ≡ Err stop) × (g ≡ f)
 
--- a line was written, or a front of it
-abbrev pub Says : Text → Option Text → Option Text → ℕ → ℕ → Type 0
-Says line a b i j = (Appends a b line × (j ≡ i)) ⊎ (HoldsFront a b line × ((k : ℕ) × (j ≡ fails (suc k) i)))
+-- the line for a stop was told by standard error, and standard output stayed; from f to g are the failures
+pub record Tellings (line : Text) (a b c d : Option Text) (f g : Failing) (status : ℕ) : Type 0 where
+  pub is : status ≡ 1
+  pub out : Keeps a b
+  pub said : Text
+  pub err : Appends c d said
+  pub says : Says line said f g
 
--- the outputs were cut off, and a front of the line was written
-abbrev pub CutsOff : Text → Option Text → Option Text → Option Text → Option Text → ℕ → Type 0
-CutsOff line oa ob ea eb answer = (answer ≡ 1) × HoldsFront oa ob [] × HoldsFrontThen ea eb [] line
-
--- a run's answer is told, by a status or by the line for its stop
+-- a run that answered so is ended: standard output goes from a to b, and standard error from c to d
 abbrev pub Closes : (Stop → Text) → Result ℕ Stop → Option Text → Option Text → Option Text → Option Text
-    → ℕ → ℕ → ℕ → ℕ → ℕ → Type 0
-Closes line (Ok status) oa ob ea eb o o' e e' answer =
-    ((answer ≡ status) × Keeps oa ob × Keeps ea eb × Kept o o' e e')
-    ⊎ (CutsOff (line Write) oa ob ea eb answer × Failed o o' e e')
-Closes line (Err Memory) oa ob ea eb o o' e e' answer =
-    ((answer ≡ 1) × Keeps oa ob × Appends ea eb (line Memory) × Kept o o' e e')
-    ⊎ (CutsOff (line Memory) oa ob ea eb answer × Failed o o' e e')
-Closes line (Err Write) oa ob ea eb o o' e e' answer = CutsOff (line Write) oa ob ea eb answer
-    × ((o' ≡ o) × ((k : ℕ) × (e' ≡ fails k e)))
+    → Failing → Failing → ℕ → Type 0
+Closes line (Ok answer) a b c d f g status = ((status ≡ answer) × Keeps a b × Keeps c d × (g ≡ f))
+    ⊎ ((broken : Failing) × Rose f.out broken.out f.err broken.err × Tellings (line Write) a b c d broken g status)
+Closes line (Err stop) a b c d f g status = Tellings (line stop) a b c d f g status

@@ -9,7 +9,7 @@ use std::io::{ErrorKind, Write};
 use std::process::Abort;
 use std::test::Fail;
 use sum_engine::Streams;
-use sum_lines::{FromWrite, Sink, ToldSink, WholeLines};
+use sum_lines::{Buffered, FromWrite, ToldSink};
 use sum_sources::{Closable, Ending, Input, Stdin, Told, ToldSource};
 use sum_words::{Arguments, ToldArguments};
 
@@ -35,8 +35,8 @@ fn call<A: Allocator + Copy, I: Input + Drop>(
     let mut streams = Streams {
         stdin: Stdin::new(input),
         source: files,
-        out: WholeLines::new(ToldSink::new(out_stop), b'\n'),
-        err: WholeLines::new(ToldSink::new(err_stop), b'\n'),
+        out: Buffered::new(ToldSink::new(out_stop)),
+        err: Buffered::new(ToldSink::new(err_stop)),
     };
     let status = command(heap, &ToldArguments::new(arguments), &mut streams);
     Ok(Ended {
@@ -182,8 +182,8 @@ fn output_that_is_not_kept(rt: HostRuntime) -> Result<(), Fail> {
     let mut streams = Streams {
         stdin: Stdin::new(Told::new(b"", Ending::Whole, 1)),
         source: files,
-        out: WholeLines::new(FromWrite::new(LosesAll), b'\n'),
-        err: WholeLines::new(ToldSink::<64>::new(64), b'\n'),
+        out: Buffered::new(FromWrite::new(LosesAll)),
+        err: Buffered::new(ToldSink::<64>::new(64)),
     };
     let arguments = [b"md5sum".as_slice(), b"a"];
     let status = command(rt.alloc(), &ToldArguments::new(&arguments), &mut streams);
@@ -208,8 +208,8 @@ fn stopped_and_not_kept(rt: HostRuntime) -> Result<(), Fail> {
         let mut streams = Streams {
             stdin: Stdin::new(Told::new(line.as_bytes(), Ending::Whole, 1)),
             source: files,
-            out: WholeLines::new(FromWrite::new(LosesAll), b'\n'),
-            err: WholeLines::new(ToldSink::<64>::new(64), b'\n'),
+            out: Buffered::new(FromWrite::new(LosesAll)),
+            err: Buffered::new(ToldSink::<64>::new(64)),
         };
         let status = command(&heap, &ToldArguments::new(&arguments), &mut streams);
         assert_eq!(rt; status, 1);

@@ -15,6 +15,7 @@ use Rattle.sum_engine.specs.Worlds.{is_dash}
 use Rattle.sum_lines.specs.Says.{says}
 use Rattle.sum_engine.specs.Verdicts.{Rules}
 use Rattle.sum_engine.specs.joins.Judging.{said_asks}
+use Rattle.sum_engine.specs.Runs.{asks}
 use Rattle.sum_engine.specs.Checking.{checked}
 
 -- the names that lines ask, in a manifest of that form
@@ -42,4 +43,4 @@ StdinOf (Some b) new taken (Err e) = ⊤
 abbrev pub TakesStdin : CheckSettings → List ℕ → List ℕ → Option Telling → Bool → Bool → Type 0
 TakesStdin settings tool name None before taken = before || is_dash name ≡ true → taken ≡ true
 TakesStdin settings tool name (Some s) before taken = (input : Content) → taken ≡ before || list_any is_dash
-    (checked settings tool (record { answer = s.answer; asked = s.asked; input = input }) name).asks
+    (asks (checked settings tool (record { answer = s.answer; asked = s.asked; input = input }) name))

@@ -43,6 +43,45 @@ impl Write for TakesNothing {
     }
 }
 
+// A writer that takes at most so many bytes of a piece, can't be flushed where there is an error of a flush, and counts
+// what it was asked.
+#[derive(Drop)]
+struct Counts {
+    most: usize,
+    unflushed: Option<ErrorKind>,
+    writes: u64,
+    offered: usize,
+    flushes: u64,
+}
+
+impl Counts {
+    fn new(most: usize, unflushed: Option<ErrorKind>) -> Self {
+        Counts {
+            most,
+            unflushed,
+            writes: 0,
+            offered: 0,
+            flushes: 0,
+        }
+    }
+}
+
+impl Write for Counts {
+    fn write(&mut self, buf: &[u8]) -> io::Result<usize> {
+        self.writes = self.writes.saturating_add(1);
+        self.offered = self.offered.saturating_add(buf.len());
+        Ok(buf.len().min(self.most))
+    }
+
+    fn flush(&mut self) -> io::Result<()> {
+        self.flushes = self.flushes.saturating_add(1);
+        match self.unflushed {
+            None => Ok(()),
+            Some(kind) => Err(kind.into()),
+        }
+    }
+}
+
 // A writer of which each write fails.
 #[derive(Drop)]
 struct Refuses;
@@ -112,12 +151,62 @@ fn refusals_of_a_writer_are_faults(rt: HostRuntime) {
 }
 
 #[test]
+fn a_piece_is_one_call_of_the_writer(rt: HostRuntime) {
+    let piece = [b'x'; 100000];
+    let mut whole = Counts::new(usize::MAX, None);
+    assert_eq!(rt; FromWrite::new(&mut whole).write(&piece), Ok(100000));
+    assert_eq!(rt;
+        (whole.writes, whole.offered, whole.flushes),
+        (1, 100000, 0)
+    );
+    let mut short = Counts::new(40000, None);
+    let mut sink = FromWrite::new(&mut short);
+    assert_eq!(rt; sink.write(&piece), Ok(40000));
+    assert_eq!(rt;
+        (short.writes, short.offered, short.flushes),
+        (1, 100000, 0)
+    );
+    let mut rests = Counts::new(40000, None);
+    assert_eq!(rt; put_all(&mut FromWrite::new(&mut rests), &piece), Ok(()));
+    assert_eq!(rt;
+        (rests.writes, rests.offered, rests.flushes),
+        (3, 180000, 0)
+    );
+    let mut empty = Counts::new(usize::MAX, None);
+    assert_eq!(rt; FromWrite::new(&mut empty).write(b""), Ok(0));
+    assert_eq!(rt; (empty.writes, empty.offered, empty.flushes), (0, 0, 0));
+}
+
+#[test]
+fn a_writer_that_takes_nothing_is_asked_once(rt: HostRuntime) {
+    let mut nothing = Counts::new(0, None);
+    let mut sink = FromWrite::new(&mut nothing);
+    assert_eq!(rt; sink.write(b"abc"), Err(SinkFault));
+    assert_eq!(rt; (nothing.writes, nothing.offered), (1, 3));
+}
+
+#[test]
+fn a_flush_is_asked_once(rt: HostRuntime) {
+    let mut good = Counts::new(usize::MAX, None);
+    assert_eq!(rt; FromWrite::new(&mut good).flush(), Ok(()));
+    assert_eq!(rt; (good.writes, good.flushes), (0, 1));
+    for kind in [ErrorKind::Interrupted, ErrorKind::StorageFull] {
+        let mut bad = Counts::new(usize::MAX, Some(kind));
+        let mut sink = FromWrite::new(&mut bad);
+        assert_eq!(rt; sink.write(b"abc"), Ok(3));
+        assert_eq!(rt; sink.flush(), Err(SinkFault));
+        assert_eq!(rt; (bad.writes, bad.flushes), (1, 1));
+    }
+}
+
+#[test]
 fn a_told_sink_stops_at_its_place(rt: HostRuntime) {
     let mut sink = ToldSink::<8>::new(5);
     assert_eq!(rt; sink.write(b"abc"), Ok(3));
     assert_eq!(rt; sink.write(b"def"), Ok(2));
     assert_eq!(rt; sink.write(b""), Ok(0));
     assert_eq!(rt; sink.write(b"g"), Err(SinkFault));
+    assert_eq!(rt; sink.flush(), Ok(()), "it holds nothing back");
     assert_eq!(rt; sink.bytes(), b"abcde".as_slice());
     let mut small = ToldSink::<4>::new(5);
     assert_eq!(rt; put_all(&mut small, b"abcde"), Err(SinkFault));

@@ -1,16 +1,17 @@
 -- Joins the reading of the arguments to their list.
-use Rattle.std.specs.Prelude.{ℕ, ◌≡◌, ◌<◌, true, List, ◌++◌, take, drop, length, slice_get, Option, None, Some, Result, Ok, Err, ⊤}
+use Rattle.std.specs.Prelude.{ℕ, ◌≡◌, ◌<◌, ◌⊎◌, true, false, List, ◌++◌, take, drop, length, slice_get, Option, None, Some, Result, Ok, Err, ⊤}
 use Rattle.std.specs.List.{list_all}
 use Rattle.std.specs.Option.{option_and_then}
 use Rattle.std.specs.Str.{is_utf8}
 use Rattle.std.specs.declared.env.FillError.{FillError}
 use Rattle.std.specs.declared.env.FillError.TheVariants.{NotPresent, TooLong}
+use Rattle.sum_words.specs.declared.command_line.TheConstants.{PAGE}
 use Rattle.sum_words.specs.declared.tool.Tool.{Tool}
 use Rattle.sum_words.specs.declared.command_line.CommandLine.{CommandLine}
 use Rattle.sum_words.specs.Items.{Text}
 use Rattle.sum_words.specs.Tools.{tool_called}
 use Rattle.sum_words.specs.declared.command_line.CommandLine.TheVariants.{UnknownTool, Asks}
-use Rattle.sum_words.specs.CommandLines.{Call, unknown, call, last_part, command_line}
+use Rattle.sum_words.specs.CommandLines.{Call, unknown, call, last_part, command_line, LongerAt, MayNotRead}
 
 -- what one call does where the arguments are told: the argument at the place stands in front of the buffer; or there is
 -- none; or it is longer than the buffer
@@ -18,13 +19,22 @@ abbrev pub Fills : Option (List Text) → ℕ → List ℕ → Result ℕ FillEr
 Fills None place buffer r = ⊤
 Fills (Some all) place buffer (Ok n) = slice_get all place ≡ Some (take n buffer)
 Fills (Some all) place buffer (Err NotPresent) = slice_get all place ≡ None
-Fills (Some all) place buffer (Err TooLong) =
-    (argument : Text) × (slice_get all place ≡ Some argument) × (length buffer < length argument)
+Fills (Some all) place buffer (Err TooLong) = LongerAt all place (length buffer)
 
 -- the argument at a place, where there is one
 abbrev pub ArgumentIs : Option (List Text) → ℕ → Option Text → Type 0
 ArgumentIs None place o = ⊤
 ArgumentIs (Some all) place o = slice_get all place ≡ o
+
+-- the argument at a place, which there is, is longer than so many bytes
+abbrev pub IsLonger : Option (List Text) → ℕ → ℕ → Type 0
+IsLonger None place n = ⊤
+IsLonger (Some all) place n = LongerAt all place n
+
+-- there is an argument at a place
+abbrev pub IsThere : Option (List Text) → ℕ → Type 0
+IsThere None place = ⊤
+IsThere (Some all) place = place < length all
 
 -- the tool by the name that the program was called by
 abbrev pub IsNameOf : Option (List Text) → Option Tool → Type 0
@@ -36,6 +46,11 @@ abbrev pub IsFirstWord : Option (List Text) → Option Tool → Type 0
 IsFirstWord None tool = ⊤
 IsFirstWord (Some all) tool =
     (tool ≡ option_and_then tool_called (slice_get all 1)) × (list_all is_utf8 (take 1 (drop 1 all)) ≡ true)
+
+-- the first word is not a text, or longer than the page
+abbrev pub IsBadFirstWord : Option (List Text) → Type 0
+IsBadFirstWord None = ⊤
+IsBadFirstWord (Some all) = (list_all is_utf8 (take 1 (drop 1 all)) ≡ false) ⊎ LongerAt all 1 PAGE
 
 -- the words from a place on, which are texts
 abbrev pub WordsAre : Option (List Text) → ℕ → List Text → Type 0
@@ -55,3 +70,8 @@ call_of (Asks tool words) = call tool words
 abbrev pub CallIs : Option (List Text) → Call → Type 0
 CallIs None c = ⊤
 CallIs (Some all) c = command_line all ≡ Some c
+
+-- these arguments may be left unread
+abbrev pub MayBeUnread : Option (List Text) → Type 0
+MayBeUnread None = ⊤
+MayBeUnread (Some all) = MayNotRead all

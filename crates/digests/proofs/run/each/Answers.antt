@@ -1,24 +1,44 @@
 use Rattle.std.proofs.Common.{◌≡◌, refl, ◌∙◌}
 use Rattle.std.specs.Prelude.{◌&&◌}
+use Rattle.sum_engine.specs.Scenes.{scene}
+use Rattle.sum_words.specs.Tools.{name_of}
+use Rattle.digests.specs.Meaning.{one_of, or_dash}
 use Rattle.digests.specs.Headline.{Refused}
-use Rattle.digests.proofs.OperandLemmas.{reached-start, reached-step, reached-end, reached-stop, refused-since}
+use Rattle.digests.proofs.OperandLemmas.{Operands, reached_start, reached_step, reached_end, reached_stop, refused-since}
 use Rattle.digests.proofs.run.each.Goals as goal
 use Rattle.digests.proofs.run.each.Goals.{then-good, else-good}
 
 -- before the first operand nothing came about
 pub operands-init : goal.operands-init
 operands-init g c =
-    record { reached = reached-start c.first_name-name.ensures; refusals = refl; out = refl; err = refl }
+    let all : Operands = record { one = one_of c.args.job.now (name_of c.args.tool); names = or_dash c.args.operands } in
+    record {
+      reached = λ hold. reached_start all _ c.first_name-name.ensures;
+      none = λ hold. hold;
+      refusals = refl;
+      out = refl;
+      err = refl;
+    }
 
 -- an operand stopped the run
 pub returns-in-Err-clause-gives : goal.returns-in-Err-clause-gives
 returns-in-Err-clause-gives g c =
-    reached-stop _ _ c.in-Err.stop c.operands.invariant.refusals c.operands.invariant.reached c.in-Err.ensures.gives
+    let all : Operands = record { one = one_of c.args.job.now (name_of c.args.tool); names = or_dash c.args.operands } in
+    let first = scene g.I.Input.content g.S.Source.told g.O.Sink.written g.E.Sink.written c.args.streams.now in
+    let here = scene g.I.Input.content g.S.Source.told g.O.Sink.written g.E.Sink.written c.operands.streams in
+    let last = scene g.I.Input.content g.S.Source.told g.O.Sink.written g.E.Sink.written c.one.new.streams in
+    let so_far = c.operands.invariant in
+    λ hold. reached_stop all _ _ _ c.in-Err.stop c.operands.good c.operands.name.now c.operands.operands first here last so_far.refusals (so_far.reached hold)
+    (c.in-Err.ensures.gives (so_far.none hold))
 
 -- its refusals are those of the run
 pub returns-in-Err-clause-refusals : goal.returns-in-Err-clause-refusals
 returns-in-Err-clause-refusals g c =
     refused-since (Refused c.args.job.now) _ c.in-Err.stop c.operands.invariant.refusals c.in-Err.ensures.refusals
+
+-- nothing is held then
+pub returns-in-Err-clause-none : goal.returns-in-Err-clause-none
+returns-in-Err-clause-none g c = λ hold. c.in-Err.ensures.none (c.operands.invariant.none hold)
 
 -- an operand came about, and another one is left
 pub operands-preserved : goal.operands-preserved
@@ -28,12 +48,19 @@ operands-preserved g c =
       | then-good w ↦ rw w.if-good.true w.good-is
       | else-good w ↦ rw w.if-good.false (w.good-is ∙ w.if-good.false)
     ] in
+    let all : Operands = record { one = one_of c.args.job.now (name_of c.args.tool); names = or_dash c.args.operands } in
+    let first = scene g.I.Input.content g.S.Source.told g.O.Sink.written g.E.Sink.written c.args.streams.now in
+    let here = scene g.I.Input.content g.S.Source.told g.O.Sink.written g.E.Sink.written c.operands.streams in
+    let last = scene g.I.Input.content g.S.Source.told g.O.Sink.written g.E.Sink.written c.one.new.streams in
+    let so_far = c.operands.invariant in
     record {
-      reached = rw (is, ← c.in-Some.ensures)
-          (reached-step 0 0 c.in-Ok.this c.operands.invariant.reached c.in-Ok.ensures.gives);
-      refusals = c.in-Ok.ensures.refusals ∙ c.operands.invariant.refusals;
-      out = c.in-Ok.ensures.failures.0 ∙ c.operands.invariant.out;
-      err = c.in-Ok.ensures.failures.1 ∙ c.operands.invariant.err;
+      reached = λ hold. rw (is, ← c.in-Some.ensures) (reached_step all 0 0 c.operands.good c.in-Ok.this
+          c.operands.name.now c.operands.operands first here last
+          (so_far.reached hold) (c.in-Ok.ensures.gives (so_far.none hold)));
+      none = λ hold. c.in-Ok.ensures.none (so_far.none hold);
+      refusals = c.in-Ok.ensures.refusals ∙ so_far.refusals;
+      out = c.in-Ok.ensures.failures.0 ∙ so_far.out;
+      err = c.in-Ok.ensures.failures.1 ∙ so_far.err;
     }
 
 -- an operand came about, and it was the last
@@ -44,5 +71,16 @@ returns-in-None-clause-gives g c =
       | then-good w ↦ rw w.if-good.true w.good-is
       | else-good w ↦ rw w.if-good.false (w.good-is ∙ w.if-good.false)
     ] in
-    let reached = reached-step 0 0 c.in-Ok.this c.operands.invariant.reached c.in-Ok.ensures.gives in
-    rw c.status.ensures (reached-end (rw (← is, c.in-None.ensures.0) at reached))
+    let all : Operands = record { one = one_of c.args.job.now (name_of c.args.tool); names = or_dash c.args.operands } in
+    let first = scene g.I.Input.content g.S.Source.told g.O.Sink.written g.E.Sink.written c.args.streams.now in
+    let here = scene g.I.Input.content g.S.Source.told g.O.Sink.written g.E.Sink.written c.operands.streams in
+    let last = scene g.I.Input.content g.S.Source.told g.O.Sink.written g.E.Sink.written c.one.new.streams in
+    let so_far = c.operands.invariant in
+    λ hold.
+    let reached = reached_step all 0 0 c.operands.good c.in-Ok.this c.operands.name.now c.operands.operands first here last (so_far.reached hold)
+    (c.in-Ok.ensures.gives (so_far.none hold)) in
+    rw c.status.ensures (reached_end all 0 0 _ first last (rw (← is, c.in-None.ensures.0) at reached))
+
+-- nothing is held then
+pub returns-in-None-clause-none : goal.returns-in-None-clause-none
+returns-in-None-clause-none g c = λ hold. c.in-Ok.ensures.none (c.operands.invariant.none hold)

@@ -10,7 +10,7 @@ pub returns-in_err-put_part : goal.returns-in_err-put_part
 returns-in_err-put_part g c =
     let failed = err_from_is_err_and c.from_residual.result c.from_residual.ensures.1 in
     let cut = at_drop_more parts_text c.args.parts.now c.loop-part.part-index _ (omega arith) in
-    rw failed.1 (Left-stop _ _ c.loop-part.invariant cut c.in_err-put_part.ensures)
+    rw failed.1 (Left-stop _ c.loop-part.invariant cut c.in_err-put_part.ensures)
 
 -- a part was written
 pub loop-part-preserved : goal.loop-part-preserved

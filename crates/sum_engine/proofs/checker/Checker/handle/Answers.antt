@@ -8,24 +8,27 @@ use Rattle.sum_engine.proofs.StepLemmas.{handled, handling_cut}
 use Rattle.sum_engine.proofs.SceneLemmas.{seen_of}
 use Rattle.sum_engine.proofs.checker.Checker.handle.Goals as goal
 
+-- the report was cut off
 pub returns-in_err-put_report-clause-gives : goal.returns-in_err-put_report-clause-gives
 returns-in_err-put_report-clause-gives g c =
     let old = c.args.self.now in
     let said = ap (λ l. said_by l c.read-reading.result.0) c.deref.ensures.value ∙ c.read-reading.ensures.said
     ∙ ap (λ f. says present old.listing.settings.algo f c.args.line.now.items) c.read-reading.ensures.form in
     let judged = rw said at c.in-Some.ensures.gives in
-    let err = rw c.number-number.ensures at c.in_err-put_report.ensures.err in
+    let texts = rw c.number-number.ensures at c.in_err-put_report.ensures.texts in
     let stop = err_from_is_err_and c.from_residual.result c.from_residual.ensures.1 in
     let first = seen_of g.J.Input.content g.S.Source.told g.O.Sink.written g.E.Sink.written c.args.streams.now in
-    rw (stop.1, stop.2) (handling_cut (rules_of_checker old) _ _ old.counts old.counts first _ c.in-Some.judgement
-    judged c.in_err-put_report.ensures.out err)
+    λ hold. rw (stop.1, stop.2) (handling_cut (rules_of_checker old) _ _ old.counts old.counts first _
+    c.in-Some.judgement judged c.in-Some.ensures.taken (texts hold.1 hold.0))
 
+-- it was handed on
 pub returns-clause-gives : goal.returns-clause-gives
 returns-clause-gives g c =
     let old = c.args.self.now in
     let said = ap (λ l. said_by l c.read-reading.result.0) c.deref.ensures.value ∙ c.read-reading.ensures.said
     ∙ ap (λ f. says present old.listing.settings.algo f c.args.line.now.items) c.read-reading.ensures.form in
     let judged = rw said at c.in-Some.ensures.gives in
-    let err = rw c.number-number.ensures at c.in_ok-put_report.ensures.err in
+    let texts = rw c.number-number.ensures at c.in_ok-put_report.ensures.texts in
+    λ hold. let both = texts hold.1 hold.0 in
     handled (rules_of_checker old) _ _ _ _ _ _ c.in-Some.judgement judged c.in-Some.ensures.taken
-    c.counted-self.ensures c.in_ok-put_report.ensures.out err
+    c.counted-self.ensures both.0 both.1

@@ -1,0 +1,144 @@
+-- Runs, one after another, and what a run's steps come to.
+use Rattle.std.proofs.Common.{◌≡◌, ℕ, ◌&&◌, Bool, List, [], ◌∷◌, ◌++◌, Option, Result, Ok, Err, inl, inr, refl, ap, sym, ◌∙◌, append_assoc, append-nil}
+use Rattle.std.specs.Prelude.{flat_map, filter_map}
+use Rattle.std.proofs.lemmas.Grind.{flat_map-append}
+use Rattle.std.proofs.lemmas.List.Elements.{filter_map-append}
+use Rattle.std.specs.Io.KnownBytes.{Appends}
+use Rattle.sum_lines.specs.Sinks.{IsPrefix}
+use Rattle.sum_engine.specs.declared.stop.Stop.{Stop}
+use Rattle.sum_engine.specs.declared.stop.Stop.TheVariants.{Memory, Write}
+use Rattle.sum_engine.specs.Runs.{Event, Step, Run, events, events_of, step_then, name_in, err_in, out_in}
+use Rattle.sum_engine.specs.Scenes.{Scene, Did, DidPrefix, Wants, RunOf}
+use Rattle.sum_engine.specs.Steps.{GoesOn, Finishes, Breaks, Waits}
+use Rattle.sum_engine.specs.Manifests.{EventsExtend}
+use Rattle.sum_engine.proofs.SceneLemmas.{names-by, err-by, out-by, did_nothing, did_both, prefix_behind}
+
+-- one more of the steps came about
+pub steps_more : {a b c : Scene} (done : List Step) (next : Step) → Did a b (events done) → Did b c (events_of next)
+    → Did a c (events (done ++ next ∷ []))
+steps_more done next h k = rw (flat_map-append events_of done (next ∷ []), append-nil (events_of next))
+    (did_both (events done) (events_of next) h k)
+
+-- ---- along a run
+
+-- of the whole run all came about but what is left
+pub record Along (whole left : Run) (a b : Scene) : Type 0 where
+  pub done : List Step
+  pub steps : whole.steps ≡ done ++ left.steps
+  pub good : left.good ≡ whole.good
+  pub did : Did a b (events done)
+
+-- it begins so
+pub along_none : (r : Run) (a : Scene) → Along r r a a
+along_none r a = record { done = []; steps = refl; good = refl; did = did_nothing a }
+
+-- one step more, and these are left
+pub next_left : {a b c : Scene} {whole left next : Run} (h : Along whole left a b) (k : GoesOn left next b c)
+    → whole.steps ≡ (h.done ++ k.step ∷ []) ++ next.steps
+next_left {next = next} h k =
+    h.steps ∙ ap (λ r. h.done ++ r.steps) k.is ∙ sym (append_assoc h.done (k.step ∷ []) next.steps)
+
+-- so that came about
+pub along_more : {a b c : Scene} {whole left next : Run} → Along whole left a b → GoesOn left next b c
+    → Along whole next a c
+along_more h k = record {
+  done = h.done ++ k.step ∷ [];
+  steps = next_left h k;
+  good = sym (ap (λ r. r.good) k.is) ∙ h.good;
+  did = steps_more h.done k.step h.did k.did;
+}
+
+-- the last step: all came about
+pub along_end : {a b c : Scene} {whole left : Run} {answer : Bool} → Along whole left a b → Finishes left answer b c
+    → (answer ≡ whole.good) × Did a c (events whole.steps)
+along_end h k =
+    let all = h.steps ∙ ap (λ r. h.done ++ r.steps) k.is in
+    (sym (ap (λ r. r.good) k.is) ∙ h.good, rw all (steps_more h.done k.step h.did k.did))
+
+-- a step of which a prefix came about
+pub along_breaks : {a b c : Scene} {whole left : Run} → Along whole left a b → Breaks left b c
+    → DidPrefix a c (events whole.steps)
+along_breaks {whole = whole} h k =
+    let steps : whole.steps ≡ h.done ++ k.step ∷ k.rest.steps = h.steps ∙ ap (λ r. h.done ++ r.steps) k.is in
+    let all : events whole.steps ≡ events h.done ++ (events_of k.step ++ events k.rest.steps) =
+    ap events steps ∙ flat_map-append events_of h.done (k.step ∷ k.rest.steps) in
+    rw all (prefix_behind (events h.done) (events_of k.step) (events k.rest.steps) h.did k.did)
+
+-- a step that memory was wanted for
+pub along_waits : {A : Type 0} {a b c : Scene} {whole left : Run} (x : A) (n m : ℕ) → Along whole left a b
+    → Waits left n m b c → RunOf x whole.steps n m a c (Err Memory)
+along_waits {whole = whole} x n m h k =
+    let steps : whole.steps ≡ h.done ++ k.step ∷ k.rest.steps = h.steps ∙ ap (λ r. h.done ++ r.steps) k.is in
+    (h.done, k.step, k.rest.steps, steps, rw k.same h.did, k.wants)
+
+-- ---- a run behind a step, and one run after another
+
+-- both came about
+pub joined_did : {a b c : Scene} (r s : List Step) → Did a b (events r) → Did b c (events s)
+    → Did a c (events (r ++ s))
+joined_did r s h k = rw (flat_map-append events_of r s) (did_both (events r) (events s) h k)
+
+-- the first came about, and the second stopped
+pub joined_second : {A B : Type 0} {a b : Scene} (c : Scene) (n i j : ℕ) (x : A) (y : B) (r s : List Step) (stop : Stop)
+    → i ≡ n → Did a b (events r) → RunOf y s i j b c (Err stop) → RunOf x (r ++ s) n j a c (Err stop)
+joined_second c n i j x y r s Write e h k = (
+  events r ++ k.0,
+  (
+    k.1.0,
+    flat_map-append events_of r s ∙ ap (λ l. events r ++ l) k.1.1 ∙ sym (append_assoc (events r) k.0 k.1.0),
+  ),
+  did_both (events r) k.0 h k.2,
+)
+joined_second c n i j x y r s Memory e h k = (
+  r ++ k.0,
+  k.1,
+  k.2,
+  ap (λ l. r ++ l) k.3 ∙ sym (append_assoc r k.0 (k.1 ∷ k.2)),
+  rw (flat_map-append events_of r k.0) (did_both (events r) (events k.0) h k.4),
+  rw e at k.5,
+)
+
+-- the first stopped
+pub joined_first : {A B : Type 0} (a b : Scene) (n m : ℕ) (x : A) (y : B) (r s : List Step) (stop : Stop)
+    → RunOf y r n m a b (Err stop) → RunOf x (r ++ s) n m a b (Err stop)
+joined_first a b n m x y r s Write h = (
+  h.0,
+  (
+    h.1.0 ++ events s,
+    flat_map-append events_of r s ∙ ap (λ l. l ++ events s) h.1.1 ∙ append_assoc h.0 h.1.0 (events s),
+  ),
+  h.2,
+)
+joined_first a b n m x y r s Memory h = (
+  h.0,
+  h.1,
+  h.2 ++ s,
+  ap (λ l. l ++ s) h.3 ∙ append_assoc h.0 (h.1 ∷ h.2) s,
+  h.4,
+  h.5,
+)
+
+-- a run behind its first step, which came about; n, i, j are the refusals before, between and after
+pub behind_step : {A : Type 0} {a b : Scene} (c : Scene) (n i j : ℕ) (x : A) (s : Step) (r : List Step) (y : Result A Stop)
+    → i ≡ n → Did a b (events_of s) → RunOf x r i j b c y → RunOf x (s ∷ r) n j a c y
+behind_step c n i j x s r (Ok good) e h k = (k.0, did_both (events_of s) (events r) h k.1)
+behind_step c n i j x s r (Err stop) e h k =
+    joined_second c n i j x x (s ∷ []) r stop e (rw (append-nil (events_of s)) h) k
+
+-- ---- what a run's events come to
+
+-- the events of several steps are, of each kind, those of one after the other
+kind_of_events : {X : Type 0} (h : Event → Option X) (part : Step → List X)
+    → ((s : Step) → filter_map h (events_of s) ≡ part s) → (steps : List Step)
+    → filter_map h (events steps) ≡ flat_map part steps
+kind_of_events h part one [] = refl
+kind_of_events h part one (s ∷ steps) = filter_map-append h (events_of s) (events steps)
+    ∙ ap (λ l. l ++ filter_map h (events steps)) (one s) ∙ ap (λ l. part s ++ l) (kind_of_events h part one steps)
+
+-- so what came about of a run extends each output by the run's text there, and asks its names
+pub events_extend : EventsExtend
+events_extend r a b did = (
+  rw (kind_of_events name_in (λ s. s.names) (λ s. names-by s.names s.err s.out) r.steps) at did.world,
+  rw (kind_of_events err_in (λ s. s.err) (λ s. err-by s.names s.err s.out) r.steps) at did.err,
+  rw (kind_of_events out_in (λ s. s.out) (λ s. out-by s.names s.err s.out) r.steps) at did.out,
+)

@@ -1,0 +1,115 @@
+-- A text that is written and handed on at once, and one such text after another.
+use Rattle.std.proofs.Common.{◌≡◌, ℕ, List, [], ◌++◌, Option, None, Some, Result, Ok, Err, inl, inr, refl, ap, sym, ◌∙◌, append_assoc, append-nil, ◌⊎◌}
+use Rattle.std.proofs.lemmas.List.{append_cancel_left}
+use Rattle.std.specs.Io.KnownBytes.{Appends, append_known}
+use Rattle.std.proofs.KnownBytes.{Appends-nil, Appends-trans}
+use Rattle.sum_lines.specs.Sinks.{SinkState, Wrote, Broke, Flushes, Grows, IsPrefix, AppendsPrefix, AppendsPart, after_failure}
+use Rattle.sum_engine.specs.joins.Telling.{Hands, Tells, Fails, HandsBoth}
+
+-- ---- known bytes
+
+-- a text was taken where nothing was held, and then all that was held was handed on
+handed_all : {held : List ℕ} (a b c : Option (List ℕ)) (mid text : List ℕ) → held ≡ []
+    → Appends (append_known a held) (append_known b mid) text → Appends b c mid → Appends a c text
+handed_all None b c mid text none taken h = tt
+handed_all (Some x) None c mid text none taken h = absurd taken
+handed_all (Some x) (Some y) None mid text none taken h = absurd h
+handed_all (Some x) (Some y) (Some z) mid text none taken h =
+    h ∙ taken ∙ ap (λ l. (x ++ l) ++ text) none ∙ ap (λ l. l ++ text) (append-nil x)
+
+-- or a prefix of what was held
+handed_part : {held : List ℕ} (a b c : Option (List ℕ)) (mid text : List ℕ) → held ≡ []
+    → Appends (append_known a held) (append_known b mid) text → Grows a b → AppendsPrefix b c mid
+    → AppendsPrefix a c text
+handed_part None b c mid text none taken grows h = ([], (text, refl), tt)
+handed_part (Some x) None c mid text none taken grows h = absurd taken
+handed_part (Some x) (Some y) None mid text none taken grows h = absurd h.2
+handed_part {held} (Some x) (Some y) (Some z) mid text none taken grows h =
+    let whole : x ++ (grows.0 ++ mid) ≡ x ++ text =
+    sym (append_assoc x grows.0 mid) ∙ ap (λ l. l ++ mid) (sym grows.1) ∙ taken
+    ∙ ap (λ l. (x ++ l) ++ text) none ∙ ap (λ l. l ++ text) (append-nil x) in
+    let same : grows.0 ++ mid ≡ text = append_cancel_left x (grows.0 ++ mid) text whole in (
+      grows.0 ++ h.0,
+      (
+        h.1.0,
+        sym same ∙ ap (λ l. grows.0 ++ l) h.1.1 ∙ sym (append_assoc grows.0 h.0 h.1.0),
+      ),
+      h.2 ∙ ap (λ l. l ++ h.0) grows.1 ∙ append_assoc x grows.0 h.0,
+    )
+
+-- a proper prefix, behind nothing that was held
+part_prefix : {held : List ℕ} (a c : Option (List ℕ)) (text : List ℕ) → held ≡ [] → AppendsPart a c (held ++ text)
+    → AppendsPrefix a c text
+part_prefix a c text none h = (h.0, (h.1, ap (λ l. l ++ text) (sym none) ∙ h.2), h.4)
+
+-- a prefix of a text is one of what begins with the text
+pub prefix_more : (a b : Option (List ℕ)) (x y : List ℕ) → AppendsPrefix a b x → AppendsPrefix a b (x ++ y)
+prefix_more a b x y h =
+    (h.0, (h.1.0 ++ y, ap (λ l. l ++ y) h.1.1 ∙ append_assoc h.0 h.1.0 y), h.2)
+
+-- behind a text that was handed on, a prefix of the next
+pub prefix_then : (a b c : Option (List ℕ)) (x y : List ℕ) → Appends a b x → AppendsPrefix b c y
+    → AppendsPrefix a c (x ++ y)
+prefix_then a b c x y h k = (
+  x ++ k.0,
+  (k.1.0, ap (λ l. x ++ l) k.1.1 ∙ sym (append_assoc x k.0 k.1.0)),
+  Appends-trans a b c x k.0 h k.2,
+)
+
+-- ---- one output
+
+-- a text was written, and then flushed
+pub told_flushed : {E : Type 0} (a b c : SinkState) (text : List ℕ) (r : Result (Unit {0}) E) → Wrote a b text
+    → Flushes b c r → a.held ≡ [] → (c.held ≡ []) × Hands a.written c.written text r
+told_flushed a b c text (Ok u) h k none =
+    (k.none, handed_all a.written b.written c.written b.held text none h.taken k.handed)
+told_flushed a b c text (Err e) h k none =
+    (k.none, handed_part a.written b.written c.written b.held text none h.taken h.grows k.handed)
+
+-- with these failures
+pub fails_flushed : {E : Type 0} (a b c : SinkState) (text : List ℕ) (r : Result (Unit {0}) E) → Wrote a b text
+    → Flushes b c r → Fails a.failures c.failures r
+fails_flushed a b c text (Ok u) h k = k.kept ∙ h.kept
+fails_flushed a b c text (Err e) h k = k.failed ∙ ap after_failure h.kept
+
+-- writing it failed
+pub told_broken : (a c : SinkState) (text : List ℕ) → Broke a c text → a.held ≡ []
+    → (c.held ≡ []) × AppendsPrefix a.written c.written text
+told_broken a c text h none = (h.none, part_prefix a.written c.written text none h.handed)
+
+-- ---- one text after another
+
+-- a text was handed on, or a prefix of it, where nothing was held
+abbrev pub Told : {S : Type 0} → (S → Option (List ℕ)) → (S → List ℕ) → S → S → List ℕ → Type 0
+Told written held old new text = held old ≡ [] → (held new ≡ []) × Appends (written old) (written new) text
+
+abbrev pub ToldPart : {S : Type 0} → (S → Option (List ℕ)) → (S → List ℕ) → S → S → List ℕ → Type 0
+ToldPart written held old new text = held old ≡ [] → (held new ≡ []) × AppendsPrefix (written old) (written new) text
+
+-- a text, and then a prefix of another
+pub part_then : {S : Type 0} (written : S → Option (List ℕ)) (held : S → List ℕ) (old mid new : S) (x y : List ℕ)
+    → Told written held old mid x → ToldPart written held mid new y → ToldPart written held old new (x ++ y)
+part_then written held old mid new x y h k none =
+    let first = h none in
+    let then = k first.0 in
+    (then.0, prefix_then (written old) (written mid) (written new) x y first.1 then.1)
+
+-- or the other
+pub tells_then : {S E : Type 0} (written : S → Option (List ℕ)) (held : S → List ℕ) (old mid new : S) (x y : List ℕ)
+    (r : Result (Unit {0}) E) → Told written held old mid x → Tells written held mid new y r
+    → Tells written held old new (x ++ y) r
+tells_then written held old mid new x y (Ok u) h k none =
+    let first = h none in
+    let then = k first.0 in
+    (then.0, Appends-trans (written old) (written mid) (written new) x y first.1 then.1)
+tells_then written held old mid new x y (Err e) h k none = part_then written held old mid new x y h k none
+
+-- a prefix of a text, and none of the next
+pub part_more : {S : Type 0} (written : S → Option (List ℕ)) (held : S → List ℕ) (old new : S) (x y : List ℕ)
+    → ToldPart written held old new x → ToldPart written held old new (x ++ y)
+part_more written held old new x y h none = ((h none).0, prefix_more (written old) (written new) x y (h none).1)
+
+-- the failures of one call and then another
+pub fails_then : {E : Type 0} {i j : ℕ} (k : ℕ) (r : Result (Unit {0}) E) → j ≡ i → Fails j k r → Fails i k r
+fails_then k (Ok u) h l = l ∙ h
+fails_then k (Err e) h l = l ∙ ap after_failure h

@@ -1,0 +1,72 @@
+-- What a run does: a list of steps, between which it may want memory.
+use Rattle.std.specs.Prelude.{ℕ, ◌&&◌, Bool, true, List, [], ◌∷◌, ◌++◌, map, flat_map, filter_map, Option, None, Some}
+
+-- a name is opened, where `-` is standard input; or a byte is written to standard error, or to standard output
+pub data Event : Type 0 where
+  Opens : List ℕ → Event
+  Tells : ℕ → Event
+  Puts : ℕ → Event
+
+-- What is done between two moments at which a run may want memory: one name is opened or none, then a text is written
+-- to standard error, then one to standard output. `left` is how many bytes of a manifest are still to come before it.
+pub record Step : Type 0 where
+  pub names : List (List ℕ)
+  pub err : List ℕ
+  pub out : List ℕ
+  pub left : ℕ
+
+-- the steps, and whether all is good
+pub record Run : Type 0 where
+  pub steps : List Step
+  pub good : Bool
+
+-- these names are opened, and then these texts are written, in this order
+abbrev pub events_by : List (List ℕ) → List ℕ → List ℕ → List Event
+events_by names err out = map Opens names ++ (map Tells err ++ map Puts out)
+
+abbrev pub events_of : Step → List Event
+events_of s = events_by s.names s.err s.out
+
+abbrev pub events : List Step → List Event
+events steps = flat_map events_of steps
+
+-- what of the events is of each kind
+abbrev pub name_in : Event → Option (List ℕ)
+name_in (Opens name) = Some name
+name_in (Tells b) = None
+name_in (Puts b) = None
+
+abbrev pub err_in : Event → Option ℕ
+err_in (Opens name) = None
+err_in (Tells b) = Some b
+err_in (Puts b) = None
+
+abbrev pub out_in : Event → Option ℕ
+out_in (Opens name) = None
+out_in (Tells b) = None
+out_in (Puts b) = Some b
+
+-- one step more in front, and one run after another
+abbrev pub step_then : Step → Run → Run
+step_then s r = record { steps = s ∷ r.steps; good = r.good }
+
+abbrev pub nothing : Run
+nothing = record { steps = []; good = true }
+
+abbrev pub joined : Run → Run → Run
+joined r s = record { steps = r.steps ++ s.steps; good = r.good && s.good }
+
+-- a run of one step, which opens a name or none and writes a text to standard error and one to standard output
+abbrev pub at_once : List (List ℕ) → List ℕ → List ℕ → Bool → Run
+at_once names err out good =
+    record { steps = record { names = names; err = err; out = out; left = 0 } ∷ []; good = good }
+
+-- a run's texts on standard output and on standard error, and the names that it opens
+abbrev pub outs : Run → List ℕ
+outs r = flat_map (λ s. s.out) r.steps
+
+abbrev pub errs : Run → List ℕ
+errs r = flat_map (λ s. s.err) r.steps
+
+abbrev pub asks : Run → List (List ℕ)
+asks r = flat_map (λ s. s.names) r.steps

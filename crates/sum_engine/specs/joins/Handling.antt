@@ -1,0 +1,22 @@
+-- Joins what handling a line does to what the line says.
+use Rattle.std.specs.Prelude.{ℕ, ◌≡◌, Option, Result, Ok, Err}
+use Rattle.sum_sources.specs.Contents.{WhereTold}
+use Rattle.sum_engine.specs.declared.stop.Stop.{Stop}
+use Rattle.sum_engine.specs.declared.stop.Stop.TheVariants.{Memory, Write}
+use Rattle.sum_engine.specs.declared.summary.Counts.{Counts}
+use Rattle.sum_lines.specs.Says.{Said}
+use Rattle.sum_engine.specs.Runs.{events_by}
+use Rattle.sum_engine.specs.Verdicts.{Rules, Judged, judge, asks_of}
+use Rattle.sum_engine.specs.Reports.{out_of, err_of, counted}
+use Rattle.sum_engine.specs.Scenes.{Scene, Did, DidPrefix}
+
+-- a line was handled that has this verdict; c and d are the counts before and after
+abbrev pub HandleOf : {A : Type 0} → Rules → Judged → Counts → Counts → Scene → Scene → Result A Stop → Type 0
+HandleOf r j c d a b (Ok u) = (d ≡ counted c j.verdict) × Did a b (events_by (asks_of j) (err_of r j) (out_of r j))
+HandleOf r j c d a b (Err Write) = DidPrefix a b (events_by (asks_of j) (err_of r j) (out_of r j))
+HandleOf r j c d a b (Err Memory) = b ≡ a
+
+-- the n-th line was handled, which says that, where the scene tells
+abbrev pub HandleGives : {A : Type 0} → Rules → Said → ℕ → Counts → Counts → Option Scene → Option Scene
+    → Result A Stop → Type 0
+HandleGives r said n c d a b x = WhereTold a b (λ a b. HandleOf r (judge r a.world n said) c d a b x)

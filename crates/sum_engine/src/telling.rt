@@ -1,0 +1,15 @@
+//! Lines that are written and handed on at once.
+ghost use Rattle.sum_lines.specs.joins.PartTexts.{parts_text};
+ghost use Rattle.sum_engine.specs.joins.Telling.{Tells, Fails};
+
+use sum_lines::{Part, Sink, SinkFault, put_parts};
+
+/// Writes the parts of a line, one after another, and hands the line on. A fault where that failed; a prefix of the
+/// line is then handed on.
+pub(crate) fn tell<S: Sink>(sink: &mut S, parts: &[Part]) -> Result<(), SinkFault>
+    ensures text { Tells S.written S.held sink.old sink.new (parts_text parts.now) result }
+    ensures failures { Fails (S.failures sink.old) (S.failures sink.new) result }
+{
+    put_parts(sink, parts)?;
+    sink.flush()
+}

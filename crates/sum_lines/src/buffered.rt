@@ -1,0 +1,139 @@
+//! A buffer over a sink.
+ghost use Rattle.std.specs.Prelude.{◌≡◌, ◌≤◌, ◌-◌, ◌+◌, ◌++◌, [], length, min, take, Ok, IfOk, OnOk};
+ghost use Rattle.sum_lines.specs.Sinks.{WritesSome, Flushes, HandsOn};
+
+use crate::sink::{Sink, SinkFault, put_all};
+use std::marker::Model;
+
+/// How many bytes a buffer has room for.
+pub const ROOM: usize = 8192;
+
+/// A buffer over a sink. It holds what it takes until there is no room for more or it is flushed, and then hands on all
+/// that it holds in one piece: so a line of at most [`ROOM`] bytes that is flushed at its end is one write.
+#[derive(Drop)]
+pub struct Buffered<S> {
+    sink: S,
+    buffer: [u8; ROOM],
+    len: usize,
+}
+
+impl<S> Model for Buffered<S> {
+    ghost use Rattle.std.specs.Prelude.{◌≤◌, take};
+    ghost use Rattle.sum_lines.specs.Buffers.{Buffer};
+    ghost use Rattle.sum_lines.specs.declared.buffered.TheConstants.{ROOM};
+
+    ghost Value = { Buffer S };
+
+    ghost view = { λ s. record { sink = s.sink; held = take s.len s.buffer } };
+
+    ghost invariant = { λ s. s.len ≤ ROOM };
+}
+
+impl<S> Buffered<S> {
+    /// A buffer over `sink`, which holds nothing yet.
+    pub fn new(sink: S) -> Self
+        ensures { result ≡ record { sink = sink; held = [] } }
+    {
+        Buffered {
+            sink,
+            buffer: [0; ROOM],
+            len: 0,
+        }
+    }
+
+    /// The sink below.
+    pub fn sink(&self) -> &S
+        ensures { result.now ≡ self.now.sink }
+    {
+        &self.sink
+    }
+
+    /// The sink below, without what is held.
+    pub fn into_inner(self) -> S
+        ensures { result ≡ self.sink }
+    {
+        self.sink
+    }
+}
+
+impl<S: Sink> Buffered<S> {
+    ghost use Rattle.sum_lines.specs.Buffers.{buffer_state, if_full, unless_full};
+    ghost use Rattle.sum_lines.specs.joins.Emptying.{Empties};
+
+    // Hands on to the sink below what is held.
+    fn empty(&mut self) -> Result<(), SinkFault>
+        ensures bytes { Empties (buffer_state S.written S.held S.failures self.old)
+            (buffer_state S.written S.held S.failures self.new) result }
+        ensures none { self.new.held ≡ [] }
+        ensures hands { HandsOn (S.offered self.old.sink) (S.offered self.new.sink) self.old.held }
+    {
+        let len = self.len;
+        self.len = 0;
+        put_all(&mut self.sink, &self.buffer[..len])
+    }
+
+    // Hands on to the sink below what is held, where there is no room for more.
+    fn make_room(&mut self) -> Result<(), SinkFault>
+        ensures bytes { Empties (buffer_state S.written S.held S.failures self.old)
+            (buffer_state S.written S.held S.failures self.new) result }
+        ensures held { OnOk result (self.new.held ≡ unless_full self.old.held) }
+        ensures hands { HandsOn (S.offered self.old.sink) (S.offered self.new.sink) (if_full self.old.held) }
+    {
+        if self.len < ROOM {
+            return Ok(());
+        }
+        self.empty()
+    }
+}
+
+impl<S: Sink> Sink for Buffered<S> {
+    ghost use Rattle.std.specs.Prelude.{None};
+    ghost use Rattle.sum_lines.specs.Buffers.{buffer_state, unless_full, handed};
+
+    ghost written = { λ s. S.written s.sink };
+
+    ghost held = { λ s. S.held s.sink ++ s.held };
+
+    ghost failures = { λ s. S.failures s.sink };
+
+    /// Takes as much of the piece as there is room for. Where there is no room at all, what is held is handed on
+    /// before.
+    fn write(&mut self, piece: &[u8]) -> Result<usize, SinkFault>
+        ensures bytes { WritesSome (buffer_state S.written S.held S.failures self.old)
+            (buffer_state S.written S.held S.failures self.new) piece.now result }
+        ensures empty { piece.now ≡ [] → result ≡ Ok 0 }
+        ensures hands { HandsOn (S.offered self.old.sink) (S.offered self.new.sink) (handed self.old.held piece.now) }
+        ensures fits { IfOk result (λ n. n ≡ min (length piece.now) (ROOM - length (unless_full self.old.held))) }
+    {
+        if piece.is_empty() {
+            return Ok(0);
+        }
+        self.make_room()?;
+        let held = self.len;
+        let count = put_in(&mut self.buffer, held, piece);
+        self.len = held + count;
+        Ok(count)
+    }
+
+    /// Hands on all that is held in one piece, and flushes the sink below.
+    fn flush(&mut self) -> Result<(), SinkFault>
+        ensures bytes { Flushes (buffer_state S.written S.held S.failures self.old)
+            (buffer_state S.written S.held S.failures self.new) result }
+        ensures hands { HandsOn (S.offered self.old.sink) (S.offered self.new.sink) self.old.held }
+        ensures own { self.new.held ≡ [] }
+    {
+        self.empty()?;
+        self.sink.flush()
+    }
+}
+
+// Copies what there is room for behind the first bytes of the buffer, and answers how much.
+fn put_in(buffer: &mut [u8], held: usize, piece: &[u8]) -> usize
+    requires { held ≤ length buffer.old }
+    ensures count { result ≡ min (length piece.now) (length buffer.old - held) }
+    ensures bytes { take (held + result) buffer.new ≡ take held buffer.old ++ take result piece.now }
+{
+    let count = piece.len().min(buffer.len() - held);
+    buffer[held..held + count].copy_from_slice(&piece[..count]);
+    count
+}
