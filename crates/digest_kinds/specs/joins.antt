@@ -1,2 +1,3 @@
--- What joins one function to the next; nobody has to believe it.
+-- What joins one function to the next. The headline reaches little of it; contracts of calls that a user of the crate
+-- meets by themselves name some.
 pub mod AnyHasherState

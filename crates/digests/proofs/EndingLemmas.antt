@@ -1,12 +1,12 @@
 -- The end of a program: a run that answered, both outputs flushed once more, and the line for a stop.
-use Rattle.std.proofs.Common.{◌≡◌, ℕ, List, [], ◌∷◌, ◌++◌, Option, None, Some, Result, Ok, Err, refl, ap, sym, ◌∙◌, inl, inr, append-nil, subst}
+use Rattle.std.proofs.Common.{◌≡◌, ℕ, [], ◌∷◌, ◌++◌, Option, None, Some, Result, Ok, Err, refl, ap, ◌∙◌, inl, inr, append-nil, subst}
 use Rattle.std.specs.Io.KnownBytes.{Keeps, Appends}
 use Rattle.sum_lines.specs.Sinks.{SinkState, Flushed, Dropped, AppendsPrefix}
 use Rattle.sum_engine.specs.declared.stop.Stop.{Stop}
 use Rattle.sum_engine.specs.declared.stop.Stop.TheVariants.{Memory, Write}
 use Rattle.sum_engine.specs.joins.Telling.{Hands, Fails}
 use Rattle.sum_words.specs.Items.{Text}
-use Rattle.digests.specs.Program.{Failing, Says}
+use Rattle.digests.specs.Program.{Failing}
 use Rattle.digests.specs.joins.Endings.{Settles, Tellings, Closes}
 
 -- nothing has no prefix but nothing
@@ -49,16 +49,28 @@ Keeps-Appends (Some x) (Some y) (Some z) text h k = k ∙ ap (λ l. l ++ text) h
 pub tells-stop : {E : Type 0} (line : Text) (a b c d e : Option Text) (f g : Failing) (r : Result (Unit {0}) E)
     → Keeps a b → Keeps c d → g.out ≡ f.out → Hands d e line r → Fails f.err g.err r → Tellings line a b c e f g 1
 tells-stop line a b c d e f g (Ok u) kept still same h failed =
-    record { is = refl; out = kept; said = line; err = Keeps-Appends c d e line still h; says = (same, inl (refl, failed)) }
+    record {
+      is = refl;
+      out = kept;
+      said = line;
+      err = Keeps-Appends c d e line still h;
+      says = (same, inl (refl, failed));
+    }
 tells-stop line a b c d e f g (Err x) kept still same h failed =
-    record { is = refl; out = kept; said = h.0; err = Keeps-Appends c d e h.0 still h.2; says = (same, inr (h.1, failed)) }
+    record {
+      is = refl;
+      out = kept;
+      said = h.0;
+      err = Keeps-Appends c d e h.0 still h.2;
+      says = (same, inr (h.1, failed));
+    }
 
 -- what a stop was, by the answer
 stop_is : {A : Type 0} (r : Result A Stop) (s t : Stop) → r ≡ Err s → r ≡ Err t → s ≡ t
 stop_is r s t h k = cc
 
--- a run that answered so was settled, and stopped then or before; f, g and h are the failures before that, after it, and
--- once the line was told
+-- a run that answered so was settled, and stopped then or before; f, g and h are the failures before that, after it,
+-- and once the line was told
 pub closes-stop : {E : Type 0} (line : Stop → Text) (answer : Result ℕ Stop) (stop : Stop) (a b c d e : Option Text)
     (f g h : Failing) (r : Result (Unit {0}) E) → Settles f g answer (Err stop) → Keeps a b → Keeps c d
     → h.out ≡ g.out → Hands d e (line stop) r → Fails g.err h.err r → Closes line answer a b c e f h 1

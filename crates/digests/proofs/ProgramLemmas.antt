@@ -1,8 +1,8 @@
 -- A run and its end, joined: what the whole program does.
-use Rattle.std.proofs.Common.{◌≡◌, ℕ, Bool, List, [], ◌++◌, Option, None, Some, Result, Ok, Err, refl, ap, sym, ◌∙◌, inl, inr, subst, append-nil}
+use Rattle.std.proofs.Common.{◌≡◌, ℕ, List, [], ◌++◌, Option, None, Some, Result, Ok, Err, refl, sym, ◌∙◌, inl, inr, subst, append-nil}
 use Rattle.std.specs.Prelude.{◌⊎◌}
 use Rattle.std.specs.Io.KnownBytes.{Keeps, Appends}
-use Rattle.std.proofs.KnownBytes.{Appends-kept, Appends-trans}
+use Rattle.std.proofs.KnownBytes.{Appends-kept}
 use Rattle.std.proofs.Math.Bool.{or-false}
 use Rattle.sum_sources.specs.Contents.{WhereTold}
 use Rattle.sum_engine.specs.declared.stop.Stop.{Stop}
@@ -13,13 +13,13 @@ use Rattle.sum_engine.specs.Scenes.{Scene, scene_by, Did, RunOf, Kept, Rose}
 use Rattle.sum_engine.proofs.WorldLemmas.{after-none}
 use Rattle.sum_engine.proofs.SceneLemmas.{Seen, seen, seen_at, did_by, did_both}
 use Rattle.sum_words.specs.Items.{Text}
-use Rattle.sum_words.specs.CommandLines.{Call, command_line, NeedsMemory}
+use Rattle.sum_words.specs.CommandLines.{Call}
 use Rattle.sum_words.specs.joins.Arguments.{CallIs, MayBeUnread}
 use Rattle.digests.specs.Meaning.{status_of}
 use Rattle.digests.specs.Headline.{RunsTo}
 use Rattle.digests.specs.Program.{Failing, EndsWhole, EndsBroken, EndsWaiting, EndsGives, ProgramGives, run_of, stop_told}
 use Rattle.sum_engine.specs.joins.Telling.{Fails}
-use Rattle.digests.specs.joins.Endings.{Tellings, Closes}
+use Rattle.digests.specs.joins.Endings.{Closes}
 use Rattle.digests.specs.joins.Operands.{once_told}
 
 -- the failures of a run that answers so
@@ -81,7 +81,8 @@ Ends run line n m f h a b status = EndsWhole run f h a b status
 
 -- by the run's answer
 ends : {a : Scene} (b : Scene) (status : ℕ) (run : Run) (line : Stop → Text) (n m : ℕ) (f g h : Failing)
-    (out err : Option Text) (answer : Result ℕ Stop) → RunOf (status_of run.good) run.steps n m a b answer → FailingOf f g answer
+    (out err : Option Text) (answer : Result ℕ Stop) → RunOf (status_of run.good) run.steps n m a b answer
+    → FailingOf f g answer
     → Closes line answer b.out out b.err err g h status
     → Ends run line n m f h a (with_outputs b out err) status
 ends b status run line n m f g h out err (Ok answer) ran failed (inl done) = inl (record {
@@ -136,7 +137,8 @@ pub program_ends : (status : ℕ) (line : Option Call) (n m : ℕ) (f g h : Fail
     (out err : Option Text) (answer : Result ℕ Stop) → RunsTo (run_of line) n m s (seen b) answer
     → FailingOf f g answer → Closes (stop_told line) answer b.out out b.err err g h status
     → EndsGives line n m f h s (seen (record b { out = out; err = err })) status
-program_ends status line n m f g h s b out err answer ran failed closed = with_others s b.world b out err _ _ ran (λ a v did.
+program_ends status line n m f g h s b out err answer ran failed closed =
+    with_others s b.world b out err _ _ ran (λ a v did.
     ends (seen_at b v) status (run_of line a.world) (stop_told line) n m f g h out err answer did failed closed)
 
 -- ---- by what was read of the arguments

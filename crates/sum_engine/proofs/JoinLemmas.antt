@@ -1,5 +1,5 @@
 -- Steps of a new checker, one after another.
-use Rattle.std.proofs.Common.{◌≡◌, ℕ, zero, suc, ◌+◌, ◌≤◌, Bool, true, List, [], ◌∷◌, ◌++◌, length, take, drop, refl, ap, sym, ◌∙◌, arith, zero-add, length-append}
+use Rattle.std.proofs.Common.{◌≡◌, ℕ, zero, suc, ◌+◌, ◌≤◌, true, List, [], ◌∷◌, ◌++◌, length, take, drop, refl, ap, sym, ◌∙◌, arith, zero-add, length-append}
 use Rattle.std.specs.List.{flat_map}
 use Rattle.std.proofs.lemmas.List.{take_at, drop_at}
 use Rattle.sum_sources.specs.Contents.{Content}
@@ -9,13 +9,13 @@ use Rattle.sum_lines.specs.Entries.{form}
 use Rattle.sum_lines.specs.Says.{says}
 use Rattle.sum_engine.specs.Profiles.{lines_by}
 use Rattle.sum_engine.specs.Worlds.{World, after}
-use Rattle.sum_engine.specs.Runs.{Step, Run, events, outs, errs, asks}
+use Rattle.sum_engine.specs.Runs.{Run, outs, errs, asks}
 use Rattle.sum_engine.specs.Verdicts.{Rules, Judged, asks_of, verdicts, all_verdicts, judge}
 use Rattle.sum_engine.specs.Reports.{out_of, err_of, counts, end_text, good}
-use Rattle.sum_engine.specs.Checking.{line_step, line_steps, checked_content}
-use Rattle.sum_engine.specs.Scenes.{Scene, Did}
-use Rattle.sum_engine.specs.Steps.{Now, Moves, GoesOn, Finishes, to_come, start}
-use Rattle.sum_engine.specs.Manifests.{HandledTimes, StepsJoin, StepsEnd, StepsCut, StepsReport, EventsExtend}
+use Rattle.sum_engine.specs.Checking.{line_steps, checked_content}
+use Rattle.sum_engine.specs.Scenes.{Scene}
+use Rattle.sum_engine.specs.Steps.{Now, Moves, GoesOn, to_come, start}
+use Rattle.sum_engine.specs.Manifests.{HandledTimes, StepsJoin, StepsEnd, StepsCut, StepsReport}
 use Rattle.sum_engine.proofs.CountLemmas.{counts_all}
 use Rattle.sum_engine.proofs.SceneLemmas.{did_nothing}
 use Rattle.sum_engine.proofs.RestLemmas.{past_next}
@@ -139,8 +139,7 @@ steps_end r c s b z k x times e =
     let ls = lines_by r.profile c in
     let all = h.along.steps ∙ ap (λ (q : Run). h.along.done ++ q.steps) e.is in
     let len : length (whole r c s).steps ≡ length js + 1 = length_steps r (end_text r c.ending (counts js)) c js in
-    let size = length_verdicts r (form r.settings.algo ls) s.world 0 ls in
-    (
+    let size = length_verdicts r (form r.settings.algo ls) s.world 0 ls in (
       omega (arith, h.times, ap length all, length-append h.along.done (e.step ∷ []), len, size),
       end.0,
       end.1,

@@ -1,5 +1,5 @@
 -- A new checker that runs to its end, and one manifest that is asked and checked.
-use Rattle.std.proofs.Common.{◌≡◌, ℕ, ◌||◌, Bool, true, false, List, [], ◌∷◌, ◌++◌, Option, None, Some, Result, Ok, Err, refl, ap, sym, ◌∙◌, inl, subst, codes, append-nil}
+use Rattle.std.proofs.Common.{◌≡◌, ℕ, ◌||◌, Bool, true, false, List, [], ◌∷◌, Option, None, Some, Result, Ok, Err, refl, ap, sym, ◌∙◌, inl, subst, codes, append-nil}
 use Rattle.std.specs.List.{list_any}
 use Rattle.std.specs.Option.{option_map}
 use Rattle.std.specs.Io.KnownBytes.{Appends}
@@ -70,7 +70,8 @@ stopped : (r : Rules) (c : Content) (s : Scene) (a : Now) (b : Standing) (held :
     → Comes r (Some c) (Some s) (Some a) → StepGives r n m held (Some a) (stands b) (Err stop)
     → ManifestGives r (Some c) n m (Some s) b.scene (Err stop)
 stopped r c s a b held Write n m p h = stands-scene a s b _ _ h (λ d z cut. along_breaks p cut)
-stopped r c s a b held Memory n m p h = stands-scene a s b _ _ h (λ d z waits. along_waits (checked_content r c (all_verdicts r s.world c)).good n m p waits)
+stopped r c s a b held Memory n m p h = stands-scene a s b _ _ h (λ d z waits.
+    along_waits (checked_content r c (all_verdicts r s.world c)).good n m p waits)
 
 -- the same, where manifest and scene tell; n, i and m are the refusals at first, before the step and after it
 pub comes_stop : (r : Rules) (c : Option Content) (s : Option Scene) (a : Option Now) (b : Standing) (held : List ℕ)
@@ -121,7 +122,8 @@ opened : (k : Call) (c : Content) (n i m : ℕ) (a asked b : Scene) (x : Result 
     → ManifestGives (rules_of_call k) (Some (clip c)) i m (Some asked) (Some b) x
     → CheckGives k n m (Some a) (Some b) x
 opened k c n i m a asked b x same is did h =
-    let run : World → Run = λ w. checked_content (rules_of_call k) (clip c) (all_verdicts (rules_of_call k) w (clip c)) in
+    let run : World → Run =
+    λ w. checked_content (rules_of_call k) (clip c) (all_verdicts (rules_of_call k) w (clip c)) in
     let later : World = after a.world (k.name ∷ []) in
     let world : asked.world ≡ later = rw (names-by (k.name ∷ []) [] []) at did.world in
     let rest = subst (λ w. RunOf (run w).good (run w).steps i m asked b x) world h in
@@ -202,8 +204,8 @@ not_taken : (t : Bool) (name : List ℕ) → is_dash name ≡ false → t ≡ t 
 not_taken t name dash = rw dash (sym (or-false t))
 
 -- the manifest could not be opened, and the line of its fault was handed on; whatever the refusals
-pub refused_told : {F : Type 0} (content : F → Option Content) (k : Call) (s t : Option Telling) (input : Option Content)
-    (f : Fault) (a : Seen) (err : Option (List ℕ)) (n m : ℕ) → is_dash k.name ≡ false
+pub refused_told : {F : Type 0} (content : F → Option Content) (k : Call) (s t : Option Telling)
+    (input : Option Content) (f : Fault) (a : Seen) (err : Option (List ℕ)) (n m : ℕ) → is_dash k.name ≡ false
     → OpenGives content s t k.name (Err (open_faults.Fault f))
     → Appends a.err err (fault_line present k.tool k.name f)
     → CheckGives k n m (told_at a s input) (told_at (record a { err = err }) t input) (Ok false)
@@ -212,8 +214,8 @@ refused_told content k s t input f a err n m dash h told =
     (refused content k.name s t input f dash h) (λ w v is. rw (is.0, dash) (
       refl,
       rw (append-nil (events_by (k.name ∷ []) (fault_line present k.tool k.name f) [])) (
-      did_by (k.name ∷ []) (fault_line present k.tool k.name f) [] is.1 (not_taken a.taken k.name dash) told
-      (Appends-nil a.out)),
+          did_by (k.name ∷ []) (fault_line present k.tool k.name f) [] is.1 (not_taken a.taken k.name dash) told
+          (Appends-nil a.out)),
     ))
 
 -- a prefix of it was

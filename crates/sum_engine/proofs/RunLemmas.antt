@@ -1,14 +1,12 @@
 -- Runs, one after another, and what a run's steps come to.
-use Rattle.std.proofs.Common.{◌≡◌, ℕ, ◌&&◌, Bool, List, [], ◌∷◌, ◌++◌, Option, Result, Ok, Err, inl, inr, refl, ap, sym, ◌∙◌, append_assoc, append-nil}
+use Rattle.std.proofs.Common.{◌≡◌, ℕ, Bool, List, [], ◌∷◌, ◌++◌, Option, Result, Ok, Err, refl, ap, sym, ◌∙◌, append_assoc, append-nil}
 use Rattle.std.specs.Prelude.{flat_map, filter_map}
 use Rattle.std.proofs.lemmas.Grind.{flat_map-append}
 use Rattle.std.proofs.lemmas.List.Elements.{filter_map-append}
-use Rattle.std.specs.Io.KnownBytes.{Appends}
-use Rattle.sum_lines.specs.Sinks.{IsPrefix}
 use Rattle.sum_engine.specs.declared.stop.Stop.{Stop}
 use Rattle.sum_engine.specs.declared.stop.Stop.TheVariants.{Memory, Write}
-use Rattle.sum_engine.specs.Runs.{Event, Step, Run, events, events_of, step_then, name_in, err_in, out_in}
-use Rattle.sum_engine.specs.Scenes.{Scene, Did, DidPrefix, Wants, RunOf}
+use Rattle.sum_engine.specs.Runs.{Event, Step, Run, events, events_of, name_in, err_in, out_in}
+use Rattle.sum_engine.specs.Scenes.{Scene, Did, DidPrefix, RunOf}
 use Rattle.sum_engine.specs.Steps.{GoesOn, Finishes, Breaks, Waits}
 use Rattle.sum_engine.specs.Manifests.{EventsExtend}
 use Rattle.sum_engine.proofs.SceneLemmas.{names-by, err-by, out-by, did_nothing, did_both, prefix_behind}
@@ -119,8 +117,8 @@ joined_first a b n m x y r s Memory h = (
 )
 
 -- a run behind its first step, which came about; n, i, j are the refusals before, between and after
-pub behind_step : {A : Type 0} {a b : Scene} (c : Scene) (n i j : ℕ) (x : A) (s : Step) (r : List Step) (y : Result A Stop)
-    → i ≡ n → Did a b (events_of s) → RunOf x r i j b c y → RunOf x (s ∷ r) n j a c y
+pub behind_step : {A : Type 0} {a b : Scene} (c : Scene) (n i j : ℕ) (x : A) (s : Step) (r : List Step)
+    (y : Result A Stop) → i ≡ n → Did a b (events_of s) → RunOf x r i j b c y → RunOf x (s ∷ r) n j a c y
 behind_step c n i j x s r (Ok good) e h k = (k.0, did_both (events_of s) (events r) h k.1)
 behind_step c n i j x s r (Err stop) e h k =
     joined_second c n i j x x (s ∷ []) r stop e (rw (append-nil (events_of s)) h) k

@@ -1,10 +1,10 @@
 -- A text that is written and handed on at once, and one such text after another.
-use Rattle.std.proofs.Common.{◌≡◌, ℕ, List, [], ◌++◌, Option, None, Some, Result, Ok, Err, inl, inr, refl, ap, sym, ◌∙◌, append_assoc, append-nil, ◌⊎◌}
+use Rattle.std.proofs.Common.{◌≡◌, ℕ, List, [], ◌++◌, Option, None, Some, Result, Ok, Err, refl, ap, sym, ◌∙◌, append_assoc, append-nil}
 use Rattle.std.proofs.lemmas.List.{append_cancel_left}
 use Rattle.std.specs.Io.KnownBytes.{Appends, append_known}
-use Rattle.std.proofs.KnownBytes.{Appends-nil, Appends-trans}
-use Rattle.sum_lines.specs.Sinks.{SinkState, Wrote, Broke, Flushes, Grows, IsPrefix, AppendsPrefix, AppendsPart, after_failure}
-use Rattle.sum_engine.specs.joins.Telling.{Hands, Tells, Fails, HandsBoth}
+use Rattle.std.proofs.KnownBytes.{Appends-trans}
+use Rattle.sum_lines.specs.Sinks.{SinkState, Wrote, Broke, Flushes, Grows, AppendsPrefix, AppendsPart, after_failure}
+use Rattle.sum_engine.specs.joins.Telling.{Hands, Tells, Fails}
 
 -- ---- known bytes
 

@@ -53,8 +53,8 @@ DidPrefix a b es = (p : List Event) × IsPrefix p es × Did a b p
 abbrev pub Wants : ℕ → ℕ → Step → Type 0
 Wants n m s = (m ≡ after_refusal n) ⊎ ((m ≡ n) × (0 < s.left))
 
--- THE HEADLINE, for a call that is to answer x: it answers x, and all events of the steps came about; or a write failed,
--- and one prefix of the events came about; or memory was wanted at a step, and just the steps before it came about
+-- THE HEADLINE, for a call that is to answer x: it answers x, and all events of the steps came about; or a write
+-- failed, and one prefix of the events came about; or memory was wanted at a step, and just the steps before it did
 abbrev pub RunOf : {A : Type 0} → A → List Step → ℕ → ℕ → Scene → Scene → Result A Stop → Type 0
 RunOf x steps n m a b (Ok answer) = (answer ≡ x) × Did a b (events steps)
 RunOf x steps n m a b (Err Write) = DidPrefix a b (events steps)

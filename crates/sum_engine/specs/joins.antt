@@ -1,5 +1,5 @@
--- What joins one function to the next. The headline reaches none of it; contracts of calls that a user of the crate meets
--- by themselves name some.
+-- What joins one function to the next. The headline reaches none of it; contracts of calls that a user of the crate
+-- meets by themselves name some.
 pub mod Asking
 pub mod Telling
 pub mod Handling

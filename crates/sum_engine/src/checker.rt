@@ -111,15 +111,16 @@ impl<'a, I: Input> Checker<'a, I> {
     /// ended. `line` is grown for the line; what it held before doesn't matter, and what it holds after isn't said.
     ///
     /// `Stop::Memory` where there was no memory for the line or for opening the file that it names; nothing is then
-    /// written. `Stop::Write` where a write failed; a prefix of the step's texts is then handed on. After `Ended` and after
-    /// a stop each step answers the same again and writes nothing. What is said of bytes and of what is held is said of
-    /// outputs that hold nothing when they are lent.
+    /// written. `Stop::Write` where a write failed; a prefix of the step's texts is then handed on. After `Ended` and
+    /// after a stop each step answers the same again and writes nothing. What is said of bytes and of what is held is
+    /// said of outputs that hold nothing when they are lent.
     pub fn step<A: Allocator, J: Input + Drop, S: Source, O: Sink, E: Sink>(
         &mut self,
         line: &mut Vec<u8, A>,
         streams: &mut Streams<J, S, O, E>,
     ) -> Result<Progress, Stop>
-        ensures gives { checker_answer self.old ≡ None → HoldNothing O.held E.held streams.old → StepGives (rules_of_checker self.old)
+        ensures gives { checker_answer self.old ≡ None → HoldNothing O.held E.held streams.old
+            → StepGives (rules_of_checker self.old)
             (S.refusals streams.old.source) (S.refusals streams.new.source) line.new.items
             (now_of I.content self.old (scene J.content S.told O.written E.written streams.old))
             (now_of I.content self.new (scene J.content S.told O.written E.written streams.new)) result }

@@ -81,7 +81,8 @@ fn check_input<'a, A: Allocator, I: Input + Drop, J: Input + Drop, S: Source, O:
     input: I,
     streams: &mut Streams<J, S, O, E>,
 ) -> Result<bool, Stop>
-    ensures gives { HoldNothing O.held E.held streams.old → ManifestGives (rules_in listing.entry) (option_map clip (I.content input))
+    ensures gives { HoldNothing O.held E.held streams.old
+        → ManifestGives (rules_in listing.entry) (option_map clip (I.content input))
         (S.refusals streams.old.source) (S.refusals streams.new.source)
         (scene J.content S.told O.written E.written streams.old)
         (scene J.content S.told O.written E.written streams.new) result }

@@ -9,8 +9,8 @@ use std::io::{ErrorKind, Write};
 use std::process::Abort;
 use std::test::Fail;
 use sum_engine::Streams;
-use sum_lines::{Buffered, FromWrite, ToldSink};
-use sum_sources::{Closable, Ending, Input, Stdin, Told, ToldSource};
+use sum_lines::{Buffered, FromWrite, Sink, SinkFault, ToldSink};
+use sum_sources::{Answer, Closable, Ending, Input, Stdin, Told, ToldSource};
 use sum_words::{Arguments, ToldArguments};
 
 // What both outputs of the program hold in the end, and its status.
@@ -274,5 +274,72 @@ fn memory_for_words(rt: HostRuntime) -> Result<(), Fail> {
     let ended = call(rt.alloc(), &heap, &[b"md5sum".as_slice()], input, AMPLE)?;
     assert_eq!(rt; ended.status, 0);
     assert!(rt; !heap.has_refused());
+    Ok(())
+}
+
+// A sink that takes everything, tells nothing, and counts how often it is flushed; the flush of one number fails.
+#[derive(Drop)]
+struct CountsFlushes {
+    count: u64,
+    fails_at: u64,
+    failures: u64,
+}
+
+impl Sink for CountsFlushes {
+    ghost failures = { λ s. s.failures };
+
+    fn write(&mut self, piece: &[u8]) -> Result<usize, SinkFault> {
+        Ok(piece.len())
+    }
+
+    fn flush(&mut self) -> Result<(), SinkFault> {
+        self.count = self.count.saturating_add(1);
+        if self.count == self.fails_at {
+            self.failures = self.failures.saturating_add(1);
+            return Err(SinkFault);
+        }
+        Ok(())
+    }
+}
+
+// Calls the program over two such sinks, and answers how often each was flushed, and the status.
+fn count_flushes(
+    alloc: Global,
+    arguments: &[&[u8]],
+    (out_fails, err_fails): (u64, u64),
+) -> Result<(u64, u64, u8), Fail> {
+    let line = format!(in alloc; "{MD5_OF_ABC}  a\n")?;
+    let mut files = ToldSource::new(alloc, 100);
+    add_files(&mut files)?;
+    files.add(b"list", Answer::Content(line.as_bytes(), Ending::Whole))?;
+    let sink = |fails_at| CountsFlushes {
+        count: 0,
+        fails_at,
+        failures: 0,
+    };
+    let mut streams = Streams {
+        stdin: Stdin::new(Told::new(b"", Ending::Whole, 1)),
+        source: files,
+        out: sink(out_fails),
+        err: sink(err_fails),
+    };
+    let status = command(alloc, &ToldArguments::new(arguments), &mut streams);
+    Ok((streams.out.count, streams.err.count, status))
+}
+
+// Each line is flushed at its end, and both outputs once more at the end of the run, also where nothing was written. No
+// contract shows the last two, since a flush of an output that holds nothing changes nothing that it tells.
+#[test]
+fn flushed_once_more(rt: HostRuntime) -> Result<(), Fail> {
+    let hash = [b"md5sum".as_slice(), b"a"];
+    let missing = [b"md5sum".as_slice(), b"x"];
+    let silent = [b"md5sum".as_slice(), b"-c", b"--status", b"list"];
+    assert_eq!(rt; count_flushes(rt.alloc(), &hash, (0, 0))?, (2, 1, 0));
+    assert_eq!(rt; count_flushes(rt.alloc(), &missing, (0, 0))?, (1, 2, 1));
+    assert_eq!(rt; count_flushes(rt.alloc(), &silent, (0, 0))?, (1, 1, 0));
+    // the last flush of either output fails: one more of standard error tells of it
+    assert_eq!(rt; count_flushes(rt.alloc(), &silent, (1, 0))?, (1, 1, 1));
+    assert_eq!(rt; count_flushes(rt.alloc(), &silent, (0, 1))?, (1, 2, 1));
+    assert_eq!(rt; count_flushes(rt.alloc(), &hash, (2, 0))?, (2, 1, 1));
     Ok(())
 }

@@ -1,4 +1,4 @@
-use Rattle.std.proofs.Common.{refl, Some, None}
+use Rattle.std.proofs.Common.{Some, None}
 use Rattle.sum_engine.specs.Scenes.{scene}
 use Rattle.sum_engine.proofs.SceneLemmas.{seen_of, seen}
 use Rattle.sum_words.specs.CommandLines.{call, unknown}
@@ -41,7 +41,8 @@ returns-in-Ok-UnknownTool-clause-gives g c =
     let start = seen_of g.I.Input.content g.S.Source.told g.O.Sink.written g.E.Sink.written c.args.streams.now in
     let f : Failing = failing g.O.Sink.failures g.E.Sink.failures c.args.streams.now in
     let after : Failing = record { out = f.out; err = g.E.Sink.failures c.tell_unknown.new.err } in
-    let last : Failing = record { out = g.O.Sink.failures c.close-in-Ok-UnknownTool.new.out; err = g.E.Sink.failures c.close-in-Ok-UnknownTool.new.err } in
+    let end = c.close-in-Ok-UnknownTool.new in
+    let last : Failing = record { out = g.O.Sink.failures end.out; err = g.E.Sink.failures end.err } in
     let here = record start { err = g.E.Sink.written c.tell_unknown.new.err } in
     let read = rw c.in-Ok-UnknownTool.field-0-is at c.in-Ok-UnknownTool.ensures.line in
     λ hold.

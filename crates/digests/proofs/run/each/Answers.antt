@@ -11,7 +11,8 @@ use Rattle.digests.proofs.run.each.Goals.{then-good, else-good}
 -- before the first operand nothing came about
 pub operands-init : goal.operands-init
 operands-init g c =
-    let all : Operands = record { one = one_of c.args.job.now (name_of c.args.tool); names = or_dash c.args.operands } in
+    let all : Operands =
+    record { one = one_of c.args.job.now (name_of c.args.tool); names = or_dash c.args.operands } in
     record {
       reached = λ hold. reached_start all _ c.first_name-name.ensures;
       none = λ hold. hold;
@@ -23,12 +24,14 @@ operands-init g c =
 -- an operand stopped the run
 pub returns-in-Err-clause-gives : goal.returns-in-Err-clause-gives
 returns-in-Err-clause-gives g c =
-    let all : Operands = record { one = one_of c.args.job.now (name_of c.args.tool); names = or_dash c.args.operands } in
+    let all : Operands =
+    record { one = one_of c.args.job.now (name_of c.args.tool); names = or_dash c.args.operands } in
     let first = scene g.I.Input.content g.S.Source.told g.O.Sink.written g.E.Sink.written c.args.streams.now in
     let here = scene g.I.Input.content g.S.Source.told g.O.Sink.written g.E.Sink.written c.operands.streams in
     let last = scene g.I.Input.content g.S.Source.told g.O.Sink.written g.E.Sink.written c.one.new.streams in
     let so_far = c.operands.invariant in
-    λ hold. reached_stop all _ _ _ c.in-Err.stop c.operands.good c.operands.name.now c.operands.operands first here last so_far.refusals (so_far.reached hold)
+    λ hold. reached_stop all _ _ _ c.in-Err.stop c.operands.good c.operands.name.now c.operands.operands first here
+    last so_far.refusals (so_far.reached hold)
     (c.in-Err.ensures.gives (so_far.none hold))
 
 -- its refusals are those of the run
@@ -48,7 +51,8 @@ operands-preserved g c =
       | then-good w ↦ rw w.if-good.true w.good-is
       | else-good w ↦ rw w.if-good.false (w.good-is ∙ w.if-good.false)
     ] in
-    let all : Operands = record { one = one_of c.args.job.now (name_of c.args.tool); names = or_dash c.args.operands } in
+    let all : Operands =
+    record { one = one_of c.args.job.now (name_of c.args.tool); names = or_dash c.args.operands } in
     let first = scene g.I.Input.content g.S.Source.told g.O.Sink.written g.E.Sink.written c.args.streams.now in
     let here = scene g.I.Input.content g.S.Source.told g.O.Sink.written g.E.Sink.written c.operands.streams in
     let last = scene g.I.Input.content g.S.Source.told g.O.Sink.written g.E.Sink.written c.one.new.streams in
@@ -71,13 +75,15 @@ returns-in-None-clause-gives g c =
       | then-good w ↦ rw w.if-good.true w.good-is
       | else-good w ↦ rw w.if-good.false (w.good-is ∙ w.if-good.false)
     ] in
-    let all : Operands = record { one = one_of c.args.job.now (name_of c.args.tool); names = or_dash c.args.operands } in
+    let all : Operands =
+    record { one = one_of c.args.job.now (name_of c.args.tool); names = or_dash c.args.operands } in
     let first = scene g.I.Input.content g.S.Source.told g.O.Sink.written g.E.Sink.written c.args.streams.now in
     let here = scene g.I.Input.content g.S.Source.told g.O.Sink.written g.E.Sink.written c.operands.streams in
     let last = scene g.I.Input.content g.S.Source.told g.O.Sink.written g.E.Sink.written c.one.new.streams in
     let so_far = c.operands.invariant in
     λ hold.
-    let reached = reached_step all 0 0 c.operands.good c.in-Ok.this c.operands.name.now c.operands.operands first here last (so_far.reached hold)
+    let reached = reached_step all 0 0 c.operands.good c.in-Ok.this c.operands.name.now c.operands.operands first here
+    last (so_far.reached hold)
     (c.in-Ok.ensures.gives (so_far.none hold)) in
     rw c.status.ensures (reached_end all 0 0 _ first last (rw (← is, c.in-None.ensures.0) at reached))
 

@@ -3,7 +3,8 @@ use Rattle.digests.proofs.run.one.Goals as goal
 
 -- a name is hashed
 pub returns-in-Generate-clause-gives : goal.returns-in-Generate-clause-gives
-returns-in-Generate-clause-gives g c = λ hold. rw c.in-Generate.is (rw c.name.ensures at (c.generate_one.ensures.gives hold))
+returns-in-Generate-clause-gives g c = λ hold.
+    rw c.in-Generate.is (rw c.name.ensures at (c.generate_one.ensures.gives hold))
 
 -- where it is hashed, want of memory is one refusal
 pub returns-in-Generate-clause-refusals : goal.returns-in-Generate-clause-refusals
@@ -13,7 +14,8 @@ returns-in-Generate-clause-refusals g c =
 
 -- a manifest is checked
 pub returns-in-Check-clause-gives : goal.returns-in-Check-clause-gives
-returns-in-Check-clause-gives g c = λ hold. rw c.in-Check.is (rw c.name-in-Check.ensures at (c.check_one.ensures.gives hold))
+returns-in-Check-clause-gives g c = λ hold.
+    rw c.in-Check.is (rw c.name-in-Check.ensures at (c.check_one.ensures.gives hold))
 
 -- where it is checked, want of memory may be one refusal
 pub returns-in-Check-clause-refusals : goal.returns-in-Check-clause-refusals

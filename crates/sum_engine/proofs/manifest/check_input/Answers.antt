@@ -93,7 +93,8 @@ lines-preserved g c =
       comes = λ hold.
           let step = rw c.in-Ok-Going.field-0-is at (c.in-Ok-Going.ensures.gives so_far.going (so_far.none hold)) in
           let gives = subst (λ r. StepGives r n m c.step.new.line.items at next (Ok Going)) so_far.rules step in
-          comes_more (rules_in c.args.listing) manifest first at next n m c.step.new.line.items (so_far.comes hold) gives;
+          comes_more (rules_in c.args.listing) manifest first at next n m c.step.new.line.items (so_far.comes hold)
+          gives;
       none = λ hold. c.in-Ok-Going.ensures.none (so_far.none hold);
       rules = c.in-Ok-Going.ensures.rules ∙ so_far.rules;
       going = c.in-Ok-Going.ensures.going (search rules);

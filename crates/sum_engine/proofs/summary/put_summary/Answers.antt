@@ -1,4 +1,4 @@
-use Rattle.std.proofs.Common.{◌∙◌, sym}
+use Rattle.std.proofs.Common.{◌∙◌}
 use Rattle.sum_engine.specs.joins.Listings.{rules_in}
 use Rattle.sum_engine.proofs.CountLemmas.{summary-shown}
 use Rattle.sum_engine.proofs.summary.put_summary.Goals as goal

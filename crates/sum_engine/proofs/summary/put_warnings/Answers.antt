@@ -26,4 +26,5 @@ pub returns-clause-text : goal.returns-clause-text
 returns-clause-text g c =
     tells_then g.E.Sink.written g.E.Sink.held _ _ _ _ _ _ c.in_ok-put_warning.ensures.text
     (tells_then g.E.Sink.written g.E.Sink.held _ _ _ _ _ _ c.in_ok-put_warning-2.ensures.text
-    (tells_then g.E.Sink.written g.E.Sink.held _ _ _ _ _ _ c.in_ok-put_warning-3.ensures.text c.put_unverified.ensures.text))
+    (tells_then g.E.Sink.written g.E.Sink.held _ _ _ _ _ _ c.in_ok-put_warning-3.ensures.text
+    c.put_unverified.ensures.text))

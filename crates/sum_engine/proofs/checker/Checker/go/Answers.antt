@@ -16,7 +16,8 @@ returns-in-Err-Memory-clause-gives g c =
     let here = standing_of g.I.Input.content old (seen first) in
     let gives = rw c.in-Err-Memory.field-0-is at c.in-Err-Memory.ensures.gives in
     let room = rw c.in-Err-Memory.field-0-is at c.in-Err-Memory.ensures.memory in
-    λ hold. step_no_room (rules_of_checker old) _ here _ line _ gives (same_scene (seen first)) (room (search rules) refl)
+    let same = same_scene (seen first) in
+    λ hold. step_no_room (rules_of_checker old) _ here _ line _ gives same (room (search rules) refl)
 
 -- the manifest's fault was told
 pub returns-in_ok-put_fault_line-in-Err-Fault-clause-gives :
