@@ -96,3 +96,32 @@ class SideBySide(Case):
         self.assertEqual([one.wait(timeout=harness.RUN_SECONDS) for one in started], [0] * 8)
         wanted = sorted(8 * [line.partition(b"  ")[2] + b": OK" for line in self.lines])
         self.assertTrue(sorted(got.splitlines()) == wanted, "reports are torn")
+
+    def said_of_missing(self, size, stderr):
+        """Starts eight runs, each over 40 names of missing files for which it says lines of just that size."""
+        rest = b"md5sum: : No such file or directory\n"
+        names = [b"./" * ((size - len(rest) - 9) // 2) for _ in range(8)]
+        names = [name + b"missing%d" % run + b"x" * (size - len(rest) - 8 - len(name)) for run, name in enumerate(names)]
+        started = [self.start(["md5sum", *[os.fsdecode(name)] * 40], stderr=stderr) for name in names]
+        return started, sorted(40 * [b"md5sum: " + name + b": No such file or directory" for name in names])
+
+    def test_longest_lines_into_one_pipe(self):
+        """Linux keeps a write into a pipe together up to 4,096 bytes."""
+        reads, writes = os.pipe()
+        self.addCleanup(os.close, reads)
+        started, wanted = self.said_of_missing(4096, writes)
+        os.close(writes)
+        got = b"".join(iter(lambda: os.read(reads, 1000), b""))
+        self.assertEqual([one.wait(timeout=harness.RUN_SECONDS) for one in started], [1] * 8)
+        self.assertTrue(sorted(got.splitlines()) == wanted, "lines are torn")
+
+    def test_longest_lines_into_one_file(self):
+        """A line of 8,192 bytes is one write, which a file that is appended to takes as a whole. A name of that length
+        can't be opened, so the line says that."""
+        rest = b"md5sum: : Input/output error\n"
+        names = [b"%d" % run + b"x" * (8192 - len(rest) - 1) for run in range(8)]
+        with open(self.path("said"), "ab") as said:
+            started = [self.start(["md5sum", *[os.fsdecode(name)] * 10], stderr=said) for name in names]
+        self.assertEqual([one.wait(timeout=harness.RUN_SECONDS) for one in started], [1] * 8)
+        wanted = sorted(10 * [b"md5sum: " + name + b": Input/output error" for name in names])
+        self.assertTrue(sorted(self.read("said").splitlines()) == wanted, "lines are torn")
