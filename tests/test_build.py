@@ -6,6 +6,7 @@ import shutil
 import signal
 import subprocess
 import tempfile
+import time
 
 import harness
 from harness import Case, M, Ran
@@ -105,6 +106,34 @@ class Stale(Repository):
         self.top += " 2"
         self.expect_current("moved")
 
+    def test_lists_that_show_no_change(self):
+        """Dated in the future, by a clock that was put right since, or cut off: what they say isn't taken. The contents
+        are compared, and nothing is built without need."""
+        lists = [self.in_top(f"out/{level}/sources") for level in (DEFAULT, FAST)]
+        for what, spoil in (("future", lambda path: os.utime(path, (2 ** 32, 2 ** 32))),
+                            ("empty", lambda path: self.write(path, "")),
+                            ("cut", lambda path: self.write(path, b"crates.txt\0"))):
+            for path in lists:
+                spoil(path)
+            self.expect_current(what)
+            for path in lists:
+                self.assertLess(os.stat(path).st_mtime, time.time())
+                spoil(path)
+            self.write(self.source, self.read(self.source) + b"\n")
+            self.expect_stale(what)
+
+    def test_a_clock_that_was_put_back(self):
+        """Sources are newer than a build's begin, and yet nothing changes meanwhile: it is built once."""
+        touch = shutil.which("touch")
+        self.write("commands/touch", f"#!/bin/sh\nfor it; do :; done\n'{touch}' -d '1 hour ago' \"$it\"\n")
+        os.chmod(self.path("commands/touch"), 0o755)
+        self.write(self.source, "another version")
+        self.assertEqual(self.build(), BOTH)
+        self.expect_current("built once")
+        self.write(self.source, "a third one")
+        self.build(RT_EDITS=self.source)
+        self.assertEqual((self.build(), self.build()), (BOTH, []))
+
     def test_a_program_that_is_missing(self):
         for path in (self.fast_program, self.in_top(f"out/{FAST}/sources")):
             os.remove(path)
@@ -165,7 +194,7 @@ class Said(Repository):
         os.remove(self.path("commands/rt"))
         path = self.path("few")
         os.mkdir(path)
-        for name in "sh dirname readlink find sort xargs tail cmp cp rm mkdir touch sed wc date flock".split():
+        for name in "sh dirname readlink find sort xargs tail tr cmp cp rm mkdir touch sed wc date flock".split():
             if shutil.which(name):
                 os.symlink(shutil.which(name), os.path.join(path, name.encode()))
         ran = self.script("digests", "md5sum", "a", PATH=os.fsdecode(path))
@@ -254,6 +283,27 @@ class Levels(Repository):
             ran = self.script("digests", "md5sum", "a", user=65534, group=65534, extra_groups=[])
             self.assertEqual(ran, OF_A, known)
             self.script("digests", "md5sum", "a")
+
+    def test_a_copy_that_others_may_only_read(self):
+        """All times in it are new: its contents show that nothing is stale, and that an edited source is."""
+        if os.geteuid():
+            self.skipTest("only root can become another user")
+        self.assertEqual(self.run_command(["cp", "-a", self.top, self.top + " 2"]).status, 0)
+        self.top += " 2"
+        other = {"user": 65534, "group": 65534, "extra_groups": []}
+        os.mkdir(self.path("theirs"))
+        os.chown(self.path("theirs"), 65534, 65534)
+        why = f"digests: the build failed: {os.path.realpath(self.in_top('out'))} can't be written\n"
+        for mode in (0o755, 0o777):  # where the folder can be written, what stands in it can't
+            os.chmod(self.in_top("out"), mode)
+            self.assertEqual(self.script("digests", "md5sum", "a", **other), OF_A)
+            self.assertEqual(self.script("digests", "which", **other), Ran(0, b"fast\n", b""))
+            self.assertEqual(self.script("install", self.path("theirs/prefix"), **other).status, 0)
+            self.put("crates/new.rt", "")
+            self.assertEqual(self.script("digests", "md5sum", "a", **other), Ran(1, b"", why.encode()))
+            os.remove(self.in_top("crates/new.rt"))
+        os.remove(self.in_top(f"out/{FAST}/sources"))
+        self.assertEqual(self.script("digests", "md5sum", "a", **other), Ran(1, b"", why.encode()))
 
     def test_another_machine(self):
         self.script("digests", "md5sum", "a")

@@ -202,6 +202,26 @@ class Install(Repository):
                 self.assertEqual(self.tree(), before)
                 shutil.rmtree(self.prefix)
 
+    def test_modes(self):
+        """Whatever the mask, what is made is for all to read, and a folder that was there keeps its mode."""
+        self.put("man/b2sum.1", "")
+        self.put("completions/digests.bash", "")
+        there = {"deep": 0o711, "deep/share": 0o700}
+        for mask in (0o077, 0o777, 0):
+            for name, mode in there.items():
+                os.makedirs(os.path.join(self.prefix, name))
+                os.chmod(os.path.join(self.prefix, name), mode)
+            for prefix in ("deep", "one/two"):
+                self.installs(os.path.join(self.prefix, prefix), umask=mask)
+            for folder, folders, names in os.walk(self.prefix):
+                for path in (os.path.join(folder, name) for name in folders + names):
+                    name = os.path.relpath(path, self.prefix)
+                    wanted = 0o755 if os.path.isdir(path) or name.endswith("bin/digests") else 0o644
+                    if not os.path.islink(path):
+                        mode = os.stat(path).st_mode & 0o7777
+                        self.assertEqual((name, oct(mode)), (name, oct(there.get(name, wanted))), oct(mask))
+            shutil.rmtree(self.prefix)
+
     def test_folders_that_others_use_stay(self):
         deep = os.path.join(self.folder, "one", "two", "three")
         self.installs(deep)
