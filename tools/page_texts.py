@@ -1,7 +1,7 @@
 """What the manual pages say, and the one table of the tools and of their options, from which pages and completions are
 made."""
 
-DATE = "2026-11-22"  # of the last change of these texts
+DATE = "2026-11-23"  # of the last change of these texts
 
 # Tool: its standard, the algorithm's name there, and the bits of its digest. The last has none of its own.
 TOOLS = {
@@ -64,8 +64,9 @@ TAGS = {
 
 CHECKING = (
     "Each {FILE} is a manifest: a list of lines as they are written without `--zero`. Each line is checked and "
-    "reported before the next one is read. A listed file named `-` is standard input, except in a manifest that comes "
-    "from there itself.",
+    "reported before the next one is read. A listed name is looked up from the present folder, not from the "
+    "manifest's: `cd` {FOLDER} comes first where the list was written in {FOLDER}. A listed file named `-` is standard "
+    "input, except in a manifest that comes from there itself.",
     "Empty lines, and lines that begin with `#`, are passed over. A carriage return at a line's end is dropped. Blanks "
     "at its beginning are passed over, and digits of either case are read. In the tagged form the space before the "
     "parenthesis may be missing, and there may be none or several about the equals sign.",
@@ -115,14 +116,14 @@ DIAGNOSTICS = {
 }
 
 LIMITS = (
-    "A word of the command line that isn't UTF-8 can't be read: the answer is `digests: words not read`. A name in a "
-    "manifest that isn't UTF-8 can't be opened.",
+    "A word of the command line that isn't UTF-8 can't be read: the answer is `digests: words not read`. Then no file "
+    "of that call is read, and no line is written. A name in a manifest that isn't UTF-8 can't be opened.",
     "A directory is an `Input/output error`.",
     "What `--zero` writes can't be checked.",
     "A file of 2^61 bytes or more is an `Input/output error`.",
     "One line is held in memory at a time, however long the manifest is.",
-    "A line of up to 8 KiB goes to the system in one piece, so that lines of several runs into one file or pipe are "
-    "never torn. A longer line may be.",
+    "A line of up to 8,192 bytes goes to the system in one piece, so that lines of several runs into one file are "
+    "never torn. Into one pipe, Linux keeps up to 4,096 bytes together. A longer line may be torn.",
 )
 
 SECURITY = {
@@ -153,31 +154,99 @@ DIFFERENCE_OF_LENGTH = (
 
 DIFFERENCE_OF_ANYSUM = "GNU has no tool of this name. The nearest is `cksum`(1), whose lines name the algorithm."
 
-EXAMPLES_OF_OTHERS = (
-    ("A file's checksum, and later whether the file still has it:",
-     "{tool} image.iso > image.sum", "{tool} -c image.sum"),
-    ("All files below a folder, whatever their names:",
-     "find . -type f ! -name SUMS -print0 | xargs -0 -r {tool} > SUMS"),
-    ("The same on all processors, in another order:",
-     "find . -type f ! -name SUMS -print0 |", "    xargs -0 -r -n 32 -P \"$(nproc)\" {tool} > SUMS"),
-    ("Whether all still have them, with a line only for those that haven't; then the same on all processors, where "
-     "lines go to one run and the next in turn:",
-     "{tool} -c --quiet SUMS", "split -e -n \"r/$(nproc)\" --filter='{tool} -c --quiet' SUMS"),
-    ("A large file with a sign of progress, by `pv`(1), and its check:",
-     "pv image.iso | {tool} > image.sum", "pv image.iso | {tool} -c image.sum"),
+# Recipes: what each is for, and its lines. Each has one status, which is 0 only where all that it is for was done.
+# {tool} stands for the tool that checks, {writes} for what writes lines, {of} for the program where it has to be named,
+# {form} for how sed takes a line down to its name, and {grep} for how a line is found. Lists get their names only once
+# they are whole, so that no later recipe takes a short one for all. tests/test_recipes.py types each of them.
+RECIPE_OF_A_FILE = ("A file's checksum:", "{writes} image.iso > image.sum")
+RECIPE_OF_ITS_CHECK = ("Later, whether the file still has it:", "{tool} -c image.sum")
+
+RECIPES_OF_FOLDERS = (
+    ("All files below a folder. The list gets the name {SUMS} only where there is a file, and all of them could be "
+     "read:",
+     "find . -type f ! -path ./SUMS ! -path ./SUMS.new \\",
+     "    -exec {writes} {} + > SUMS.new &&",
+     "    [ -s SUMS.new ] && mv SUMS.new SUMS"),
+    ("The same on all processors, in another order, in `bash`(1). With `pipefail` a pipe fails where any part of it "
+     "does. The answer of `xargs`(1) is 123 where a call failed:",
+     "(set -o pipefail",
+     "find . -type f ! -path ./SUMS ! -path ./SUMS.new -print0 |",
+     "    xargs -0 -r -n 32 -P \"$(nproc)\" {writes} > SUMS.new) &&",
+     "    [ -s SUMS.new ] && mv SUMS.new SUMS"),
+    ("A name that isn't UTF-8 stops the whole call that it was given to: no file of that call is read. Then both "
+     "recipes above fail. This one shows such names, each with a byte 0 behind it. Its status is 0 where there is one, "
+     "and 1 where there is none. The locale `C.UTF-8` has to be there: without it, none is found. Such a file can be "
+     "renamed, or read as standard input.",
+     "find . -type f -print0 | LC_ALL=C.UTF-8 grep -zavx '.*'"),
+    ("Whether all listed files still have their checksums, with a line only for those that haven't. With `--strict` a "
+     "damaged line fails, too:",
+     "{tool} -c --quiet --strict SUMS"),
+    ("The same on all processors, where lines go to one run and the next in turn. An empty list would pass "
+     "`split`(1), so that is asked first:",
+     "[ -s SUMS ] && split -e -n \"r/$(nproc)\" \\",
+     "    --filter='{tool} -c --quiet --strict' SUMS"),
+    ("One of the listed files only. Where `grep`(1) finds no line, the check fails, since its list is empty. Give one "
+     "name at a time: of two, one that isn't found would not be missed.",
+     "{grep} SUMS | {tool} -c --strict"),
+    ("Files that no line of the list names, as it would write them, in `bash`(1). A check doesn't tell of them. The "
+     "status is 0 only where there is none:",
+     "(set -o pipefail; export LC_ALL=C",
+     "at=$(mktemp -d) && trap 'rm -r \"$at\"' EXIT &&",
+     "find . -type f ! -path ./SUMS -print0 |",
+     "    sed -z 's/\\\\/\\\\\\\\/g; s/\\n/\\\\n/g; s/\\r/\\\\r/g' |",
+     "    tr '\\0' '\\n' | sort > \"$at/files\" &&",
+     "sed -E '{form}' SUMS |",
+     "    sort > \"$at/listed\" &&",
+     "comm -23 \"$at/files\" \"$at/listed\" > \"$at/others\" &&",
+     "cat \"$at/others\" && [ ! -s \"$at/others\" ])"),
 )
 
-EXAMPLES_OF_ANYSUM = (
-    ("A manifest of two algorithms, and its check:",
-     "sha256sum --tag image.iso > image.sum", "b2sum --tag image.iso >> image.sum", "{tool} -c image.sum"),
-    ("All files below a folder, on all processors:",
-     "find . -type f ! -name SUMS -print0 |", "    xargs -0 -r -n 32 -P \"$(nproc)\" sha512sum --tag > SUMS",
-     "{tool} -c --quiet SUMS"),
-    ("A check on all processors, where lines go to one run and the next in turn:",
-     "split -e -n \"r/$(nproc)\" --filter='{tool} -c --quiet' SUMS"),
-    ("A large file with a sign of progress, by `pv`(1):",
-     "pv image.iso | sha256sum --tag > image.sum", "pv image.iso | {tool} -c image.sum"),
+RECIPES_OF_PIPES = (
+    ("A large file with a sign of progress, by `pv`(1), in `bash`(1). Without `pipefail` a file that can't be read "
+     "would pass for an empty one:",
+     "(set -o pipefail; pv image.iso | {writes} > image.new) &&", "    mv image.new image.sum"),
+    ("Its check:", "(set -o pipefail; pv image.iso | {tool} -c image.sum)"),
 )
+
+RECIPES_OF_SEVERAL = (
+    ("Two checksums of a file in one reading, in `bash`(1). The status is 0 only where the file was read to its end, "
+     "and both lines are there. What the two tools answer isn't told, so their lines are counted:",
+     "(set -o pipefail",
+     "tee >({of}sha256sum --tag) >({of}b2sum --tag) \\",
+     "    < image.iso > /dev/null |",
+     "    sed 's/(-)/(image.iso)/' > image.new) &&",
+     "    [ \"$(wc -l < image.new)\" -eq 2 ] && mv image.new image.sum"),
+    ("Their check:", "{of}anysum -c --strict image.sum"),
+)
+
+EXAMPLES_OF_OTHERS = (RECIPE_OF_A_FILE, RECIPE_OF_ITS_CHECK, *RECIPES_OF_FOLDERS, *RECIPES_OF_PIPES)
+
+EXAMPLES_OF_ANYSUM = (
+    ("A manifest of two algorithms:",
+     "sha256sum --tag image.iso > image.new &&", "    b2sum --tag image.iso >> image.new && mv image.new image.sum"),
+    ("Its check:", "{tool} -c --strict image.sum"),
+    *RECIPES_OF_SEVERAL, *RECIPES_OF_FOLDERS, *RECIPES_OF_PIPES,
+)
+
+EXAMPLES_OF_PROGRAM = (RECIPE_OF_A_FILE, RECIPE_OF_ITS_CHECK, *RECIPES_OF_SEVERAL, *RECIPES_OF_FOLDERS,
+                       *RECIPES_OF_PIPES)
+
+# For lines of the plain and of the tagged form: how sed takes them down to their names, and how grep finds one.
+PLAIN = (r"s/^\\?[0-9a-f]+ [ *]//", r"grep '  \./image\.iso$'")
+TAGGED = (r"s/^\\?[^(]+\((.*)\) = [0-9a-f]+$/\1/", "grep -F ' (./image.iso) = '")
+
+
+def examples(name):
+    """The recipes of a page: what each is for, and its lines."""
+    rows, tool, writes, of, (form, grep) = {
+        "anysum": (EXAMPLES_OF_ANYSUM, "anysum", "sha512sum --tag", "", TAGGED),
+        "digests": (EXAMPLES_OF_PROGRAM, "digests b2sum", "digests b2sum", "digests ", PLAIN),
+    }.get(name, (EXAMPLES_OF_OTHERS, name, name, "", PLAIN))
+    for why, *lines in rows:
+        for mark, meant in (("{tool}", tool), ("{writes}", writes), ("{of}", of), ("{form}", form), ("{grep}", grep)):
+            lines = [line.replace(mark, meant) for line in lines]
+        yield why, lines
+
 
 PROGRAM_USES = ("`digests` {TOOL}", "{TOOL}")
 
@@ -200,15 +269,6 @@ PROGRAM_DIAGNOSTICS = {
     "digests: words not read": "A word isn't UTF-8, or there is no memory for the words.",
     "this machine lacks a feature of x86-64-v3": "And the like: the program was built for later processors.",
 }
-
-PROGRAM_EXAMPLES = (
-    ("A file's checksum, and later whether the file still has it:",
-     "digests sha256sum image.iso > image.sum", "digests sha256sum -c image.sum"),
-    ("All files below a folder on all processors, whatever their names, and their check:",
-     "find . -type f ! -name SUMS -print0 |", "    xargs -0 -r -n 32 -P \"$(nproc)\" digests b2sum > SUMS",
-     "digests b2sum -c --quiet SUMS"),
-    ("A large file with a sign of progress, by `pv`(1):", "pv image.iso | digests sha512sum"),
-)
 
 PROGRAM_SECURITY = (
     "MD5 and SHA-1 are broken for forgery: anyone can make two files with the same checksum. Where somebody might "

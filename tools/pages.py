@@ -114,11 +114,9 @@ def diagnostics(tool):
                    "escaped as in the lines of checksums.", *lines_of(texts.DIAGNOSTICS))
 
 
-def examples(tool):
+def examples(name):
     """What may be typed, with a word on each."""
-    table = texts.EXAMPLES_OF_ANYSUM if tool == "anysum" else texts.EXAMPLES_OF_OTHERS
-    parts = [part for why, *lines in table for part in (why, shown(*(line.format(tool=tool) for line in lines)))]
-    return section("EXAMPLES", *parts)
+    return section("EXAMPLES", *(part for why, lines in texts.examples(name) for part in (why, shown(*lines))))
 
 
 def security(tool):
@@ -140,8 +138,8 @@ def differences(tool):
 
 
 def see_also(tool):
-    others = ["digests", *(name for name in texts.TOOLS if name != tool)]
-    return section("SEE ALSO", ", ".join(f"`{name}`(1)" for name in [*others, "find", "split", "xargs"]))
+    others = ["digests", *(name for name in texts.TOOLS if name != tool), "comm", "find", "grep", "split", "xargs"]
+    return section("SEE ALSO", ", ".join(f"`{name}`(1)" for name in others))
 
 
 def page_of_tool(tool, known):
@@ -162,8 +160,7 @@ def page_of_program():
                 section("OPTIONS", texts.PROGRAM_OPTIONS), section("LINE FORMATS", texts.PROGRAM_LINES),
                 section("CHECKING", texts.PROGRAM_CHECKING), exit_status(),
                 section("DIAGNOSTICS", *lines_of(texts.PROGRAM_DIAGNOSTICS)),
-                section("EXAMPLES", *(part for why, *lines in texts.PROGRAM_EXAMPLES for part in (why, shown(*lines)))),
-                section("LIMITS", *texts.LIMITS), section("SECURITY", texts.PROGRAM_SECURITY),
+                examples("digests"), section("LIMITS", *texts.LIMITS), section("SECURITY", texts.PROGRAM_SECURITY),
                 section("DIFFERENCES FROM GNU", texts.PROGRAM_DIFFERENCES),
                 section("SEE ALSO", ", ".join(f"`{tool}`(1)" for tool in texts.TOOLS)))
 

@@ -1,0 +1,336 @@
+"""The recipes of the manual pages: each is typed as its page shows it, over trees in which all is well and in which it
+isn't. Its status is 0 only where all that it is for was done."""
+
+import hashlib
+import os
+import re
+import shutil
+
+import harness
+from harness import Case, Ran, needs_check
+from test_pages import NAMES, sections_of
+
+# What a recipe is for, and how it is known. Each recipe is of one sort.
+SORTS = {
+    "write": r"^[\w ]+ image\.iso > image\.sum$",
+    "write two": r"image\.iso >> image\.new &&",
+    "write at once": r"^tee ",
+    "write by pv": r"^\(.*pv [^>]*> image\.new",
+    "list": r" -exec ",
+    "list on all": r" xargs ",
+    "not UTF-8": r" grep -z",
+    "check": r"^[\w ]+ -c (--strict )?image\.sum$",
+    "check by pv": r"pv .* -c image\.sum",
+    "check list": r"^[\w ]+ -c --quiet (--strict )?SUMS$",
+    "check list on all": r"\bsplit ",
+    "check one": r"^grep ",
+    "unlisted": r"^comm ",
+}
+OF_ALL = set(SORTS) - {"write", "write two", "write at once"}
+SORTS_OF = {"anysum": OF_ALL | {"write two", "write at once"}, "digests": OF_ALL | {"write", "write at once"}}
+
+# What bash has, and another shell may not have.
+OF_BASH = re.compile(r"pipefail|>\(")
+
+# A page of each kind, where what is asked doesn't hang on the tool.
+KINDS_OF_PAGES = ("sha256sum", "anysum", "digests")
+
+GOOD = ["image.iso", "image.iso.old", "a b", " ", "-x", "*", "'\"", "\u00e9", "new\nline", "back\\slash", "\\n",
+        "end\r", "some folder/c", "some folder/SUMS", "some folder/SUMS.new", "some folder/image.iso",
+        *(f"many/{number}" for number in range(40))]
+BAD = [b"./bad\xff", b"./bad\nline\xff", b"./\xffnew\nline", b"./\xc0\x80", b"./\xed\xa0\x80", b"./bad\xff folder/a"]
+IMAGE = bytes(range(256)) * 256
+
+
+def recipes_of(page):
+    """The recipes of a page, in its order, each with its sort."""
+    for recipe in re.findall(r"(?ms)^\.nf\n(.*?)\n\.fi$", sections_of(page)["EXAMPLES"]):
+        sorts = [sort for sort, mark in SORTS.items() if re.search(mark, recipe, re.MULTILINE)]
+        yield recipe, "/".join(sorts)
+
+
+def line_of(tool, name, content, tagged):
+    """The line of a list, as the standards and the page's LINE FORMATS say."""
+    escaped = name.replace(b"\\", b"\\\\").replace(b"\n", b"\\n").replace(b"\r", b"\\r")
+    digits = hashlib.new({"b2sum": "blake2b"}.get(tool, tool[:-3]), content).hexdigest().encode()
+    mark = b"\\" if escaped != name else b""
+    if tagged:
+        return mark + harness.TOOLS[tool][0].encode() + b" (" + escaped + b") = " + digits + b"\n"
+    return mark + digits + b"  " + escaped + b"\n"
+
+
+@needs_check
+class Recipes(Case):
+    """Each recipe, in bash; and in sh where it isn't one for bash alone."""
+
+    of_the_repository = True
+
+    def setUp(self):
+        super().setUp()
+        for command in ("bash", "find", "xargs", "split", "comm", "tee", "nproc"):
+            if shutil.which(command) is None:
+                self.skipTest(f"{command} isn't installed")
+        os.mkdir(self.path("commands"))
+        for name in NAMES:
+            os.symlink(harness.PROGRAM, self.path(f"commands/{name}"))
+        self.command("pv", 'exec cat "$@"')  # where it stands or falls is not told by it
+        self.env = {**os.environ, "PATH": os.fsdecode(self.path("commands")) + os.pathsep + os.environ["PATH"],
+                    "TMPDIR": self.folder}
+
+    def command(self, name, script):
+        """Puts a script in the place of a command."""
+        path = self.path(f"commands/{name}")
+        if os.path.lexists(path):
+            os.remove(path)
+        self.write(f"commands/{name}", f"#!/bin/sh\n{script}\n")
+        os.chmod(path, 0o755)
+
+    def put(self, name, content="more"):
+        """Makes a file in the tree, and the folders above it."""
+        path = os.path.join(self.path("here"), harness.as_bytes(name))
+        os.makedirs(os.path.dirname(path), exist_ok=True)
+        with open(path, "wb") as file:
+            file.write(harness.as_bytes(content))
+
+    def make(self, good=True, more=()):
+        """A new tree, with the good names or none, and with more."""
+        shutil.rmtree(self.path("here"), ignore_errors=True)
+        os.mkdir(self.path("here"))
+        for name in GOOD if good else ():
+            self.put(name, IMAGE if name == "image.iso" else name)
+        for name in more:
+            self.put(name)
+
+    def there(self):
+        """The names of all files of the tree, but for its list, as find gives them, and their contents."""
+        top, found = self.path("here"), {}
+        for folder, _, names in os.walk(top):
+            for name in names:
+                path = os.path.join(folder, name)
+                with open(path, "rb") as file:
+                    found[b"." + path[len(top):]] = file.read()
+        found.pop(b"./SUMS", None)
+        return found
+
+    def is_there(self, name):
+        return os.path.exists(self.path(f"here/{name}"))
+
+    def type(self, recipe, shell="bash"):
+        return self.run_command([shell, "-c", recipe], cwd=self.path("here"), env=self.env)
+
+    def fails(self, recipe, shell="bash"):
+        """Types a recipe that mustn't pass."""
+        ran = self.type(recipe, shell)
+        self.assertGreater(ran.status, 0, recipe)
+        return ran
+
+    def passes(self, recipe, out=b"", shell="bash"):
+        self.assertEqual(self.type(recipe, shell), Ran(0, out, b""), recipe)
+
+    def each(self, page, *sorts):
+        """The recipes of a page, of these sorts or of all, with their sorts and with each shell that they are for."""
+        for recipe, sort in recipes_of(page):
+            for shell in ("bash",) if OF_BASH.search(recipe) else ("bash", "sh"):
+                if sort in sorts or not sorts:
+                    yield recipe, sort, shell
+
+    def recipe(self, page, wanted):
+        return next(recipe for recipe, sort in recipes_of(page) if sort == wanted)
+
+    def lines_of_image(self, page, sort):
+        """What image.sum holds, in any order."""
+        if sort in ("write two", "write at once"):
+            return sorted(line_of(tool, b"image.iso", IMAGE, True) for tool in ("sha256sum", "b2sum"))
+        tool = {"anysum": "sha512sum", "digests": "b2sum"}.get(page, page)
+        return [line_of(tool, b"-" if "pv" in sort else b"image.iso", IMAGE, page == "anysum")]
+
+    def expect_made(self, page, sort):
+        """What the recipe was to make is there, and nothing else."""
+        if sort.startswith("write"):
+            lines = self.read("here/image.sum").splitlines(keepends=True)
+            self.assertEqual(sorted(lines), self.lines_of_image(page, sort))
+        if sort.startswith("list"):
+            tool = {"anysum": "sha512sum", "digests": "b2sum"}.get(page, page)
+            wanted = [line_of(tool, name, content, page == "anysum") for name, content in self.there().items()]
+            self.assertEqual(sorted(self.read("here/SUMS").split(b"\n")[:-1]), sorted(line[:-1] for line in wanted))
+        self.assertFalse(self.is_there("SUMS.new") or self.is_there("image.new"))
+        self.assertEqual(set(os.listdir(self.folder)), {"commands", "here", "a", "e"})
+
+    def report(self, sort, verdict):
+        """What a check writes of image.iso."""
+        name = {"check": "image.iso", "check by pv": "-", "check one": "./image.iso"}.get(sort)
+        if name is None:
+            return b"" if verdict == "OK" else f"./image.iso: {verdict}\n".encode()
+        count = self.read("here/image.sum").count(b"\n") if sort == "check" else 1
+        return f"{name}: {verdict}\n".encode() * count
+
+    def test_sorts(self):
+        """Each is known, and each page has them all."""
+        for page in NAMES:
+            found = {sort for _, sort in recipes_of(page)}
+            self.assertEqual(found, SORTS_OF.get(page, OF_ALL | {"write"}), page)
+
+    def test_one_status(self):
+        """A recipe is one command, whose lines hang together; with a pipe it asks for all parts' statuses, or the last
+        one tells."""
+        for page in NAMES:
+            for recipe, _ in recipes_of(page):
+                *before, last = recipe.split("\n")
+                for line in before:
+                    self.assertRegex(line, r"(&&|\||\\)$|^\(set -o pipefail", recipe)
+                self.assertNotRegex(last, r"(&&|\||\\|;)$")
+                if re.search(r"\|(\s)", recipe) and "pipefail" not in recipe:
+                    self.assertRegex(recipe, r"^(find|grep) [^|\n]* \| [^|\n]*$")
+
+    def test_good_names(self):
+        """All of a page, in its order: lists are as the standards say, and each check passes."""
+        for page in NAMES:
+            self.make()
+            for recipe, sort, shell in self.each(page):
+                if sort == "not UTF-8":
+                    self.assertEqual(self.type(recipe, shell), Ran(1, b"", b""), recipe)
+                    continue
+                self.passes(recipe, self.report(sort, "OK") if sort.startswith("check") else b"", shell)
+                self.expect_made(page, sort)
+
+    def test_names_that_are_not_utf_8(self):
+        """No list is made, so nothing can be checked by it; the names are shown."""
+        for page in NAMES:
+            self.make(more=BAD)
+            for recipe, sort, shell in self.each(page):
+                if sort == "not UTF-8":
+                    ran = self.type(recipe, shell)
+                    self.assertEqual((ran.status, sorted(ran.out.split(b"\0")), ran.err), (0, sorted([b""] + BAD), b""))
+                elif "image.sum" not in recipe:
+                    ran = self.fails(recipe, shell)
+                    self.assertFalse(self.is_there("SUMS"), recipe)
+                    if sort.startswith("list"):
+                        self.assertIn(b"digests: words not read\n", ran.err)
+                else:
+                    self.passes(recipe, self.report(sort, "OK") if sort.startswith("check") else b"", shell)
+
+    def test_one_batch_that_is_lost(self):
+        """A list without one of the batches never gets its name, and a whole one of before stays."""
+        for page in NAMES:
+            self.make()
+            self.passes(self.recipe(page, "list"))
+            before = self.read("here/SUMS")
+            self.put(BAD[0])
+            for recipe, _, shell in self.each(page, "list", "list on all"):
+                self.fails(recipe, shell)
+                self.assertEqual(self.read("here/SUMS"), before)
+            self.assertGreater(self.read("here/SUMS.new").count(b"\n"), 20)
+            os.remove(self.path("here/SUMS.new"))
+            for recipe, sort, shell in self.each(page, "check list", "check list on all", "check one"):
+                self.passes(recipe, self.report(sort, "OK"), shell)
+            for name in BAD[1:] + [b"./more\nlines", b"./more\\"]:
+                self.put(name)
+            wanted = sorted(name.replace(b"\\", b"\\\\").replace(b"\n", b"\\n")
+                            for name in BAD + [b"./more\nlines", b"./more\\"])
+            ran = self.type(self.recipe(page, "unlisted"))
+            self.assertEqual((ran.status, ran.out.splitlines(), ran.err), (1, wanted, b""), page)
+
+    def test_nothing_there(self):
+        """Nothing passes in an empty tree, nor a check of an empty list."""
+        for page in NAMES:
+            for recipe, _, shell in self.each(page):
+                self.make(good=False)
+                self.fails(recipe, shell)
+                self.assertFalse(self.is_there("SUMS"), recipe)
+            self.make()
+            for name in ("SUMS", "image.sum"):
+                self.put(name, "")
+            for recipe, sort, shell in self.each(page):
+                if sort.startswith("check"):
+                    self.assertEqual(self.fails(recipe, shell).out, b"")
+            ran = self.fails(self.recipe(page, "unlisted"))
+            self.assertEqual(ran.out.count(b"\n"), len(self.there()))
+
+    def test_a_changed_file(self):
+        """Each check tells of it; and those of a whole list, of any other file."""
+        for page in NAMES:
+            self.make()
+            for recipe, sort, shell in self.each(page):
+                self.put("image.iso", IMAGE)
+                if sort.startswith(("write", "list")):
+                    self.passes(recipe, shell=shell)
+                if not sort.startswith("check"):
+                    continue
+                self.put("image.iso", IMAGE[:-1])
+                ran = self.fails(recipe, shell)
+                self.assertEqual((ran.status, ran.out), (1, self.report(sort, "FAILED")), recipe)
+                self.put("image.iso", IMAGE)
+                if sort.startswith("check list"):
+                    self.put("-x", "changed")
+                    self.assertEqual(self.fails(recipe, shell).out, b"./-x: FAILED\n")
+                    os.remove(self.path("here/-x"))
+                    self.assertEqual(self.fails(recipe, shell).out, b"./-x: FAILED open or read\n")
+                    self.put("-x", "-x")
+                    self.passes(recipe, shell=shell)
+
+    def test_a_damaged_list(self):
+        """A line that can't be read is a file that isn't checked."""
+        for page in KINDS_OF_PAGES:
+            self.make()
+            self.passes(self.recipe(page, "list"))
+            whole = self.read("here/SUMS").splitlines(keepends=True)
+            image = next(line for line in whole if re.search(rb" \(?\./image\.iso\)?( =|$)", line))
+            for damaged in (b"?" + image, re.sub(rb"[0-9a-f]{32}", b"?", image)):
+                self.put("SUMS", b"".join(damaged if line == image else line for line in whole))
+                for recipe, _, shell in self.each(page, "check list", "check list on all", "check one"):
+                    self.fails(recipe, shell)
+            self.put("SUMS", b"".join(line for line in whole if line != image))
+            for recipe, _, shell in self.each(page, "check one"):
+                self.assertEqual(self.fails(recipe, shell).out, b"")
+            self.assertEqual(self.fails(self.recipe(page, "unlisted")), Ran(1, b"./image.iso\n", b""))
+
+    def expect_failures(self, page, sorts, command, script):
+        """With a script in the place of a command these recipes fail, and make nothing."""
+        for recipe, sort, shell in self.each(page, *sorts):
+            self.make()
+            if sort == "unlisted":
+                self.passes(self.recipe(page, "list"))
+            self.command(command, script)
+            self.fails(recipe, shell)
+            self.assertFalse(self.is_there("image.sum"), recipe)
+            self.assertEqual(self.is_there("SUMS"), sort == "unlisted", recipe)
+            os.remove(self.path(f"commands/{command}"))
+
+    def test_a_part_that_fails(self):
+        """A command of a pipe that gives less than it was to give."""
+        find = f"'{shutil.which('find')}' \"$@\"; exit 1"
+        for page in KINDS_OF_PAGES:
+            for command, script, *sorts in (
+                    ("pv", "head -c 1000 image.iso; exit 1", "write by pv"),
+                    ("find", find, "list", "list on all", "unlisted"),
+                    ("find", "printf './x\\0'", "list on all"),
+                    ("xargs", "exit 123", "list on all"),
+                    *((command, "exit 1", "unlisted") for command in ("sed", "tr", "sort", "comm", "mktemp"))):
+                self.expect_failures(page, sorts, command, script)
+            self.make()
+            self.command("pv", "cat image.iso")
+            self.passes(self.recipe(page, "write by pv"))
+            self.command("pv", "cat image.iso; exit 1")
+            self.fails(self.recipe(page, "check by pv"))
+
+    def test_two_in_one_reading(self):
+        """No list is made where the reading ends early, or where one of the tools gives no line."""
+        program = f"[ $1 = b2sum ] || exec '{harness.PROGRAM}' \"$@\"; cat >/dev/null"
+        for page, command, lost in (("anysum", "b2sum", "cat >/dev/null"), ("digests", "digests", program)):
+            recipe = self.recipe(page, "write at once")
+            for name, script in ((command, lost), ("tee", "head -c 1000; exit 1"), ("sed", "cat; exit 1")):
+                self.make()
+                self.command(name, script)
+                self.fails(recipe)
+                self.assertFalse(self.is_there("image.sum"), name)
+                os.remove(self.path(f"commands/{name}"))
+            os.symlink(harness.PROGRAM, self.path(f"commands/{command}"))
+
+    def test_another_shell(self):
+        """One that doesn't have what bash has makes no list, and says so."""
+        for page in NAMES:
+            self.make(more=BAD)
+            for recipe, sort in recipes_of(page):
+                if OF_BASH.search(recipe) and sort in ("list on all", "unlisted"):
+                    self.assertNotEqual(self.fails(recipe, "sh").err, b"")
+                    self.assertFalse(self.is_there("SUMS"))
