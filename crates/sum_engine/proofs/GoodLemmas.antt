@@ -1,11 +1,10 @@
 -- A manifest of lines that were written for whole files is good.
 use Rattle.std.proofs.Common.{◌≡◌, ◌==◌, ℕ, suc, ◌+◌, ◌<◌, Bool, true, false, not, cond, List, [], ◌∷◌, ◌++◌, length, map, refl, ap, sym, ◌∙◌, subst, append_assoc, arith, inl, Ok}
 use Rattle.std.specs.Prelude.{◌&&◌, ◌||◌, flat_map}
-use Rattle.std.specs.List.{All, sum_by}
+use Rattle.std.specs.List.{All}
 use Rattle.std.specs.Prelude.{codes}
 use Rattle.std.proofs.lemmas.Bool.{cond-false, ne_eqb}
 use Rattle.std.proofs.lemmas.List.Elements.{All-head, All-tail}
-use Rattle.std.proofs.lemmas.List.Sums.{sum_by-cons}
 use Rattle.std.proofs.lemmas.Slice.Eq.{bytes_eq-Decides}
 use Rattle.digest_kinds.specs.Kinds.{KindValue}
 use Rattle.digest_kinds.specs.Digests.{digest}
@@ -25,16 +24,18 @@ use Rattle.sum_engine.specs.declared.summary.Counts.{Counts}
 use Rattle.sum_engine.specs.declared.verdict.Verdict.{Verdict}
 use Rattle.sum_engine.specs.declared.verdict.Verdict.TheVariants.{Right, Bad, Missing}
 use Rattle.sum_engine.specs.Worlds.{World, is_dash, reply, after, ended, read}
-use Rattle.sum_engine.specs.Runs.{Run, step_then, outs, errs}
+use Rattle.sum_engine.specs.Steps.{step_then}
+use Rattle.sum_engine.specs.Runs.{Run, outs, errs}
 use Rattle.sum_lines.specs.Profiles.{present}
 use Rattle.sum_lines.specs.Says.{Spells, says}
 use Rattle.sum_engine.specs.Verdicts.{Rules, Judged, not_found, against, verdict_of, judge, asks_of, verdicts, all_verdicts}
-use Rattle.sum_engine.specs.Reports.{out_of, err_of, right_line, is_right, is_wrong, is_missing, is_unread, is_bad, counts, entries, list_line, unless_status, summary, good}
-use Rattle.sum_engine.specs.Checking.{rules_of, opening, checked_content, checked_by, checked}
+use Rattle.sum_engine.specs.Reports.{no_counts, out_of, err_of, right_line, counts, entries, list_line, unless_status, summary, good}
+use Rattle.sum_engine.specs.Checking.{rules_of, checked_content, checked_by, checked}
 use Rattle.sum_lines.proofs.SaysLemmas.{says_is}
 use Rattle.sum_engine.proofs.StepLemmas.{now}
 use Rattle.sum_engine.proofs.CheckedLemmas.{outs_of_lines, errs_of_lines}
 use Rattle.sum_engine.proofs.ListedLemmas.{Item, written_text, Listed, front, spelled_for, ReadableSoFar, back, whole, lines-are}
+use Rattle.sum_engine.proofs.ManifestLemmas.{opening}
 
 -- ---- each verdict is Right
 
@@ -136,39 +137,14 @@ rights-err : (r : Rules) (n : ℕ) (is : List Item) → flat_map (err_of r) (rig
 rights-err r n [] = refl
 rights-err r n (i ∷ is) = rights-err r (n + 1) is
 
--- counted: as many are right as there are items, and none is anything else
-abbrev tick : Bool → ℕ
-tick b = cond b 1 0
-
-count-all : (q : Verdict → Bool) (n : ℕ) (is : List Item) → q Right ≡ true
-    → sum_by (λ (j : Judged). cond (q j.verdict) 1 0) (rights n is) ≡ length is
-count-all q n [] h = refl
-count-all q n (i ∷ is) h =
-    let more = sum_by-cons (λ (j : Judged). cond (q j.verdict) 1 0) (right (n + 1) i) (rights (n + 1) is) in
-    let one : tick (q Right) ≡ 1 = ap tick h in
-    let rest = count-all q (n + 1) is h in omega (arith, more, one, rest)
-
-count-none : (q : Verdict → Bool) (n : ℕ) (is : List Item) → q Right ≡ false
-    → sum_by (λ (j : Judged). cond (q j.verdict) 1 0) (rights n is) ≡ 0
-count-none q n [] h = refl
-count-none q n (i ∷ is) h =
-    let more = sum_by-cons (λ (j : Judged). cond (q j.verdict) 1 0) (right (n + 1) i) (rights (n + 1) is) in
-    let no : tick (q Right) ≡ 0 = ap tick h in
-    let rest = count-none q (n + 1) is h in omega (arith, more, no, rest)
-
 -- the counts of k right lines
 abbrev right_counts : ℕ → Counts
 right_counts k = record { right = k; wrong = 0; missing = 0; unread = 0; bad = 0 }
 
--- so many they are
-counts-are : (n : ℕ) (is : List Item) → counts (rights n is) ≡ right_counts (length is)
-counts-are n is = rw (
-  count-all is_right n is refl,
-  count-none is_wrong n is refl,
-  count-none is_missing n is refl,
-  count-none is_unread n is refl,
-  count-none is_bad n is refl,
-) refl
+-- behind k right lines come as many more as there are items
+counts-are : (k n : ℕ) (is : List Item) → counts (right_counts k) (rights n is) ≡ right_counts (k + length is)
+counts-are k n [] = ap right_counts (omega arith)
+counts-are k n (i ∷ is) = counts-are (k + 1) (n + 1) is ∙ ap right_counts (omega arith)
 
 -- a summary has nothing to say of them
 not-zero : (k : ℕ) → (suc k == 0) ≡ false
@@ -239,9 +215,10 @@ manifest_good check tool manifest w [] all some fits given = absurd (omega arith
 manifest_good check tool manifest w (i ∷ is) all some fits given =
     let r : Rules = rules_of check tool manifest in
     let here = checked-is check tool manifest w (i ∷ is) all fits given in
-    let c : counts (rights 0 (i ∷ is)) ≡ right_counts (suc (length is)) = counts-are 0 (i ∷ is) in
+    let c : counts no_counts (rights 0 (i ∷ is)) ≡ right_counts (suc (length is)) =
+    counts-are 0 0 (i ∷ is) ∙ ap right_counts (omega arith) in
     let js = rights 0 (i ∷ is) in
-    let end = summary r (counts js) in
+    let end = summary r (counts no_counts js) in
     record {
       good = ap (λ (q : Run). q.good) here ∙ ap (good r Whole) c ∙ is-good r (length is);
       out = ap outs here ∙ outs_of_lines r end (whole (i ∷ is)) js ∙ rights-out r 0 (i ∷ is);

@@ -3,7 +3,7 @@ pub mod SceneLemmas
 pub mod GenerateLemmas
 pub mod TellLemmas
 pub mod VerdictLemmas
-pub mod CountLemmas
+pub mod SummaryLemmas
 pub mod CheckedLemmas
 pub mod RestLemmas
 pub mod StepLemmas
@@ -17,4 +17,3 @@ pub mod ListedLemmas
 pub mod GoodLemmas
 pub mod OldNames
 pub mod OldVerdicts
-pub mod TakingLemmas

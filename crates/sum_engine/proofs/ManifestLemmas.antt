@@ -18,11 +18,12 @@ use Rattle.sum_engine.specs.declared.settings.CheckSettings.{CheckSettings}
 use Rattle.sum_engine.specs.declared.stop.Stop.{Stop}
 use Rattle.sum_engine.specs.declared.stop.Stop.TheVariants.{Memory, Write}
 use Rattle.sum_engine.specs.Worlds.{World, is_dash, reply, after}
-use Rattle.sum_engine.specs.Runs.{Step, Run, events_by, events_of}
+use Rattle.sum_engine.specs.joins.Handling.{events_by}
+use Rattle.sum_engine.specs.Runs.{Step, Run, events_of}
 use Rattle.sum_engine.specs.Generation.{fault_line}
 use Rattle.sum_engine.specs.Verdicts.{Rules, all_verdicts}
 use Rattle.sum_engine.specs.Reports.{no_counts}
-use Rattle.sum_engine.specs.Checking.{rules_of, opening, checked_content, checked_by, checked}
+use Rattle.sum_engine.specs.Checking.{rules_of, checked_content, checked_by, checked}
 use Rattle.sum_engine.specs.Scenes.{Scene, scene_by, world_by, Did, RunOf, RunGives}
 use Rattle.sum_engine.specs.Steps.{Now, now_by, StepGives, to_come}
 use Rattle.sum_engine.specs.Manifests.{ManifestGives}
@@ -106,6 +107,10 @@ rules_of_call-dash k dash = rw dash refl
 
 pub rules_of_call-file : (k : Call) → is_dash k.name ≡ false → rules_shown k k.name false ≡ rules_of_call k
 rules_of_call-file k dash = rw dash refl
+
+-- a manifest is opened, by that name
+abbrev pub opening : List ℕ → Step
+opening name = record { names = name ∷ []; err = []; out = []; left = 0 }
 
 -- the name was asked, which has that content, and nothing else was done
 abbrev pub IsOpened : List ℕ → Option Content → Scene → Scene → Type 0

@@ -20,17 +20,19 @@ use Rattle.sum_lines.specs.Profiles.{present}
 use Rattle.sum_engine.specs.OldVerdicts.{older}
 use Rattle.sum_engine.specs.Profiles.{lines_by}
 use Rattle.sum_engine.specs.Worlds.{World, after}
-use Rattle.sum_engine.specs.Runs.{Step, Run, step_then, at_once}
+use Rattle.sum_engine.specs.Steps.{step_then}
+use Rattle.sum_engine.specs.Runs.{Step, Run, at_once}
 use Rattle.sum_sources.specs.ManifestLines.{past_line}
 use Rattle.sum_lines.specs.Says.{Said, Nothing, Improper, Spells, says}
 use Rattle.sum_engine.specs.Verdicts.{Rules, Judged, judge, asks_of, verdicts, all_verdicts}
 use Rattle.sum_engine.specs.Generation.{fault_line}
-use Rattle.sum_engine.specs.Reports.{name_line, said_of, hides, out_of, err_by, err_of, counts, end_text, good}
-use Rattle.sum_engine.specs.Checking.{line_steps, opening, checked_content}
+use Rattle.sum_engine.specs.Reports.{no_counts, name_line, said_of, hides, out_of, err_by, err_of, counts, end_text, good}
+use Rattle.sum_engine.specs.Checking.{line_steps, checked_content}
 use Rattle.sum_engine.specs.OldVerdicts.{under, NoReturn, NoEscapedReturn, Old, SameChecks, OldVerdicts, OldOutcomes, OlderDiffers}
 use Rattle.sum_lines.proofs.SaysLemmas.{says_is}
 use Rattle.sum_engine.proofs.OldNames.{same_escape, CleanSaid, says_same}
 use Rattle.sum_engine.proofs.ReturnLemmas.{NotReturn, strips-kept}
+use Rattle.sum_engine.proofs.ManifestLemmas.{opening}
 
 -- ---- the lines
 
@@ -200,9 +202,9 @@ old_verdicts r w c h =
       outs = ap (map (out_of old)) same ∙ outs_same r (all_verdicts new w c) clean;
       errs = ap (map (err_of old)) same ∙ errs_same r (all_verdicts new w c) h.own_name clean;
       end =
-          end_same r c.ending (counts (all_verdicts old w c)) h.own_name
-          ∙ ap (λ x. end_text new c.ending (counts x)) same;
-      good = good_same r c.ending (counts (all_verdicts old w c)) ∙ ap (λ x. good new c.ending (counts x)) same;
+          end_same r c.ending (counts no_counts (all_verdicts old w c)) h.own_name
+          ∙ ap (λ x. end_text new c.ending (counts no_counts x)) same;
+      good = good_same r c.ending (counts no_counts (all_verdicts old w c)) ∙ ap (λ x. good new c.ending (counts no_counts x)) same;
     }
 
 -- ---- all that checking comes to
@@ -237,13 +239,13 @@ content_same r w c h =
     let make : List Step → Bool → Run = λ l g. record { steps = l; good = g } in
     let outs : map (out_of old) js ≡ map (out_of new) js = s.outs ∙ ap (map (out_of new)) (sym s.verdicts) in
     let errs : map (err_of old) js ≡ map (err_of new) js = s.errs ∙ ap (map (err_of new)) (sym s.verdicts) in
-    let steps : line_steps old (end_text old c.ending (counts js)) c js
-    ≡ line_steps new (end_text new c.ending (counts ks)) c ks =
-    steps_same old new (end_text old c.ending (counts js)) c js outs errs
+    let steps : line_steps old (end_text old c.ending (counts no_counts js)) c js
+    ≡ line_steps new (end_text new c.ending (counts no_counts ks)) c ks =
+    steps_same old new (end_text old c.ending (counts no_counts js)) c js outs errs
     ∙ ap (λ e. line_steps new e c js) s.end
-    ∙ ap (λ l. line_steps new (end_text new c.ending (counts ks)) c l) s.verdicts in
-    ap (λ l. make l (good old c.ending (counts js))) steps
-    ∙ ap (make (line_steps new (end_text new c.ending (counts ks)) c ks)) s.good
+    ∙ ap (λ l. line_steps new (end_text new c.ending (counts no_counts ks)) c l) s.verdicts in
+    ap (λ l. make l (good old c.ending (counts no_counts js))) steps
+    ∙ ap (make (line_steps new (end_text new c.ending (counts no_counts ks)) c ks)) s.good
 
 -- so is what its name comes to
 pub old_outcomes : OldOutcomes

@@ -10,10 +10,10 @@ use Rattle.sum_lines.specs.Says.{says}
 use Rattle.sum_engine.specs.Verdicts.{Rules, Judged, judge, asks_of, verdicts}
 use Rattle.sum_engine.specs.declared.summary.Counts.{Counts}
 use Rattle.sum_sources.specs.declared.fault.Ending.{Ending}
-use Rattle.sum_engine.specs.Runs.{Step, Run, step_then}
-use Rattle.sum_engine.specs.Reports.{end_text, good, counted}
-use Rattle.sum_engine.specs.Checking.{line_step, line_steps}
-use Rattle.sum_engine.specs.Steps.{Now, Moves, next_judged, rest_verdicts, counted_all, to_come}
+use Rattle.sum_engine.specs.Runs.{Step, Run}
+use Rattle.sum_engine.specs.Reports.{counts, out_of, err_of, end_text, good, counted}
+use Rattle.sum_engine.specs.Checking.{line_steps}
+use Rattle.sum_engine.specs.Steps.{step_then, Now, Moves, next_judged, rest_verdicts, to_come}
 use Rattle.sum_sources.specs.ManifestLines.{past_lines}
 
 -- what a line says by the form of all lines is what it says by the form so far and its own
@@ -63,11 +63,15 @@ rest_on r a b v h world =
 
 -- ---- the run that is to come
 
+-- the step of a line, before which so many bytes are left
+abbrev pub line_step : Rules → ℕ → Judged → Step
+line_step r left j = record { names = asks_of j; err = err_of r j; out = out_of r j; left = left }
+
 -- that of these verdicts, behind these counts
 abbrev pub run_by : Rules → Ending → Counts → Content → List Judged → Run
 run_by r e k c js = record {
-  steps = line_steps r (end_text r e (counted_all k js)) c js;
-  good = good r e (counted_all k js);
+  steps = line_steps r (end_text r e (counts k js)) c js;
+  good = good r e (counts k js);
 }
 
 -- it begins with a step before which all of the content is to come

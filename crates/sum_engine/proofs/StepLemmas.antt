@@ -15,26 +15,25 @@ use Rattle.sum_lines.specs.declared.line_reading.Form.{Form}
 use Rattle.sum_lines.specs.Entries.{form_then, line_form}
 use Rattle.sum_lines.specs.Profiles.{present}
 use Rattle.sum_lines.specs.Says.{Said, says}
-use Rattle.sum_engine.specs.declared.checker.Checker.{Checker}
+use Rattle.sum_engine.specs.Checkers.{Place}
 use Rattle.sum_engine.specs.declared.progress.Progress.TheVariants.{Going, Ended}
 use Rattle.sum_engine.specs.declared.stop.Stop.{Stop}
 use Rattle.sum_engine.specs.declared.stop.Stop.TheVariants.{Memory, Write}
 use Rattle.sum_engine.specs.declared.summary.Counts.{Counts}
 use Rattle.sum_engine.specs.declared.verdict.Judgement.{Judgement}
 use Rattle.sum_engine.specs.Worlds.{is_dash}
-use Rattle.sum_engine.specs.Runs.{Step, Run, events_by}
+use Rattle.sum_engine.specs.Runs.{Step, Run}
 use Rattle.sum_engine.specs.Generation.{fault_line}
 use Rattle.sum_engine.specs.Verdicts.{Rules, asks_of}
 use Rattle.sum_engine.specs.Reports.{out_by, err_by, out_of, err_of, counted, summary, good}
-use Rattle.sum_engine.specs.Checking.{line_step}
 use Rattle.sum_engine.specs.Scenes.{Scene, Did, DidPrefix, refusals_over}
 use Rattle.sum_engine.specs.Steps.{Now, now_by, Moves, StepGives, next_judged, rest_verdicts}
 use Rattle.sum_engine.specs.joins.Judging.{JudgeGives, judgement_asks}
-use Rattle.sum_engine.specs.joins.Handling.{HandleGives}
+use Rattle.sum_engine.specs.joins.Handling.{events_by, HandleGives}
 use Rattle.sum_lines.specs.Sinks.{AppendsPrefix}
 use Rattle.sum_sources.specs.declared.fault.Ending.{Ending}
 use Rattle.sum_engine.proofs.SceneLemmas.{Seen, seen, seen-told, names-by, did_by, prefix_err, prefix_out}
-use Rattle.sum_engine.proofs.RestLemmas.{run_by, first_step, line_first, line_done, end_first}
+use Rattle.sum_engine.proofs.RestLemmas.{line_step, run_by, first_step, line_first, line_done, end_first}
 
 -- ---- one line was handled
 
@@ -74,7 +73,7 @@ abbrev pub stands : Standing → Option Now
 stands a = now_by a.rest a.number a.used a.form a.counts a.scene
 
 -- that of a checker, at a scene
-abbrev pub standing_of : {I : Type 0} → (I → Option Content) → Checker I → Option Scene → Standing
+abbrev pub standing_of : {I : Type 0} → (I → Option Content) → Place I → Option Scene → Standing
 standing_of content s scene = record {
   rest = coming content s.reader;
   number = lines_given s.reader;

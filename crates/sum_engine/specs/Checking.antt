@@ -1,15 +1,15 @@
 -- What checking one manifest comes to.
-use Rattle.std.specs.Prelude.{ℕ, false, List, [], ◌∷◌, length, codes, if◌then◌else◌}
+use Rattle.std.specs.Prelude.{ℕ, true, false, List, [], ◌∷◌, length, codes, if◌then◌else◌}
 use Rattle.sum_sources.specs.Contents.{Content, clip}
 use Rattle.sum_sources.specs.Sources.{Reply, Refused, Given}
 use Rattle.sum_sources.specs.ManifestLines.{past_line}
 use Rattle.sum_engine.specs.declared.settings.CheckSettings.{CheckSettings}
 use Rattle.sum_engine.specs.Worlds.{World, is_dash, reply, after}
-use Rattle.sum_engine.specs.Runs.{Step, Run, step_then, at_once}
+use Rattle.sum_engine.specs.Runs.{joined, Step, Run, at_once}
 use Rattle.sum_lines.specs.Profiles.{present}
 use Rattle.sum_engine.specs.Generation.{fault_line}
 use Rattle.sum_engine.specs.Verdicts.{Rules, Judged, asks_of, all_verdicts}
-use Rattle.sum_engine.specs.Reports.{out_of, err_of, counts, end_text, good}
+use Rattle.sum_engine.specs.Reports.{no_counts, out_of, err_of, counts, end_text, good}
 
 abbrev pub rules_of : CheckSettings → List ℕ → List ℕ → Rules
 rules_of settings tool name = record {
@@ -20,30 +20,25 @@ rules_of settings tool name = record {
   from_stdin = is_dash name;
 }
 
--- one line is handled, before which so many bytes are left
-abbrev pub line_step : Rules → ℕ → Judged → Step
-line_step r left j = record { names = asks_of j; err = err_of r j; out = out_of r j; left = left }
-
 -- a step for each of the lines that have these verdicts, the first of them in front of the content, and one for the
 -- end, which writes that text
 abbrev pub line_steps : Rules → List ℕ → Content → List Judged → List Step
 line_steps r end c [] = record { names = []; err = end; out = []; left = length c.bytes } ∷ []
-line_steps r end c (j ∷ js) = line_step r (length c.bytes) j ∷ line_steps r end (past_line c) js
+line_steps r end c (j ∷ js) =
+    record { names = asks_of j; err = err_of r j; out = out_of r j; left = length c.bytes }
+    ∷ line_steps r end (past_line c) js
 
 -- a manifest that was opened, whose lines have these verdicts
 abbrev pub checked_content : Rules → Content → List Judged → Run
 checked_content r c js = record {
-  steps = line_steps r (end_text r c.ending (counts js)) c js;
-  good = good r c.ending (counts js);
+  steps = line_steps r (end_text r c.ending (counts no_counts js)) c js;
+  good = good r c.ending (counts no_counts js);
 }
-
--- a manifest is opened, by that name
-abbrev pub opening : List ℕ → Step
-opening name = record { names = name ∷ []; err = []; out = []; left = 0 }
 
 abbrev pub checked_by : Rules → List ℕ → World → Reply → Run
 checked_by r name w (Refused f) = at_once (name ∷ []) (fault_line r.profile r.tool r.shown f) [] false
-checked_by r name w (Given c) = step_then (opening name) (checked_content r (clip c) (all_verdicts r w (clip c)))
+checked_by r name w (Given c) =
+    joined (at_once (name ∷ []) [] [] true) (checked_content r (clip c) (all_verdicts r w (clip c)))
 
 -- the manifest of that name
 abbrev pub checked : CheckSettings → List ℕ → World → List ℕ → Run

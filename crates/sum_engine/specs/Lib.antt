@@ -7,6 +7,7 @@ pub mod Reports
 pub mod Checking
 pub mod Scenes
 pub mod Steps
+pub mod Checkers
 pub mod Manifests
 pub mod Laws
 pub mod OldVerdicts

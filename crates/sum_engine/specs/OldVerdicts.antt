@@ -16,7 +16,7 @@ use Rattle.sum_engine.specs.Profiles.{lines_by}
 use Rattle.sum_engine.specs.Worlds.{World}
 use Rattle.sum_lines.specs.Says.{Improper, says}
 use Rattle.sum_engine.specs.Verdicts.{Rules, all_verdicts}
-use Rattle.sum_engine.specs.Reports.{out_of, err_of, counts, end_text, good}
+use Rattle.sum_engine.specs.Reports.{no_counts, out_of, err_of, counts, end_text, good}
 use Rattle.sum_engine.specs.Checking.{checked_by}
 
 -- the profile of older versions
@@ -54,8 +54,8 @@ pub record SameChecks (r s : Rules) (w : World) (c : Content) : Type 0 where
   pub verdicts : all_verdicts r w c ≡ all_verdicts s w c
   pub outs : map (out_of r) (all_verdicts r w c) ≡ map (out_of s) (all_verdicts s w c)
   pub errs : map (err_of r) (all_verdicts r w c) ≡ map (err_of s) (all_verdicts s w c)
-  pub end : end_text r c.ending (counts (all_verdicts r w c)) ≡ end_text s c.ending (counts (all_verdicts s w c))
-  pub good : good r c.ending (counts (all_verdicts r w c)) ≡ good s c.ending (counts (all_verdicts s w c))
+  pub end : end_text r c.ending (counts no_counts (all_verdicts r w c)) ≡ end_text s c.ending (counts no_counts (all_verdicts s w c))
+  pub good : good r c.ending (counts no_counts (all_verdicts r w c)) ≡ good s c.ending (counts no_counts (all_verdicts s w c))
 
 -- such a manifest is checked alike under both profiles, whatever was asked before
 abbrev pub OldVerdicts : Type 0

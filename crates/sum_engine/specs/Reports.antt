@@ -1,5 +1,5 @@
 -- What checking writes: the reports of the lines, and the end of a manifest.
-use Rattle.std.specs.Prelude.{ℕ, ◌+◌, ◌==◌, ◌&&◌, ◌||◌, Bool, true, false, not, List, [], ◌∷◌, ◌++◌, count_by, decimal, codes, if◌then◌else◌}
+use Rattle.std.specs.Prelude.{ℕ, ◌+◌, ◌==◌, ◌&&◌, ◌||◌, Bool, true, false, not, List, [], ◌∷◌, ◌++◌, decimal, codes, if◌then◌else◌}
 use Rattle.std.specs.List.{concat}
 use Rattle.std.specs.Str.{bytes_eq}
 use Rattle.digest_kinds.specs.declared.algo.Algos.{Algos}
@@ -69,40 +69,10 @@ err_by r n v name = []
 abbrev pub err_of : Rules → Judged → List ℕ
 err_of r j = err_by r j.number j.verdict j.name
 
-abbrev pub is_right : Verdict → Bool
-is_right Right = true
-is_right v = false
-
-abbrev pub is_wrong : Verdict → Bool
-is_wrong Wrong = true
-is_wrong v = false
-
-abbrev pub is_missing : Verdict → Bool
-is_missing Missing = true
-is_missing v = false
-
-abbrev pub is_unread : Verdict → Bool
-is_unread (Unread f) = true
-is_unread v = false
-
-abbrev pub is_bad : Verdict → Bool
-is_bad Bad = true
-is_bad v = false
-
--- how many lines have each verdict
-abbrev pub counts : List Judged → Counts
-counts js = record {
-  right = count_by (λ j. is_right j.verdict) js;
-  wrong = count_by (λ j. is_wrong j.verdict) js;
-  missing = count_by (λ j. is_missing j.verdict) js;
-  unread = count_by (λ j. is_unread j.verdict) js;
-  bad = count_by (λ j. is_bad j.verdict) js;
-}
-
--- the counts as the checker keeps them: none, and one more line of that verdict
 abbrev pub no_counts : Counts
 no_counts = record { right = 0; wrong = 0; missing = 0; unread = 0; bad = 0 }
 
+-- one more line, of that verdict
 abbrev pub counted : Counts → Verdict → Counts
 counted c Ignored = c
 counted c Bad = record c { bad = c.bad + 1 }
@@ -111,10 +81,16 @@ counted c Wrong = record c { wrong = c.wrong + 1 }
 counted c Missing = record c { missing = c.missing + 1 }
 counted c (Unread f) = record c { unread = c.unread + 1 }
 
--- how many lines are entries, and how many lines are not ignored
+-- how many lines have each verdict, and so many before them
+abbrev pub counts : Counts → List Judged → Counts
+counts c [] = c
+counts c (j ∷ js) = counts (counted c j.verdict) js
+
+-- how many lines are entries
 abbrev pub entries : Counts → ℕ
 entries c = c.right + c.wrong + c.missing + c.unread
 
+-- how many lines are not ignored
 abbrev pub total : Counts → ℕ
 total c = entries c + c.bad
 

@@ -20,12 +20,8 @@ pub record Run : Type 0 where
   pub steps : List Step
   pub good : Bool
 
--- these names are opened, and then these texts are written, in this order
-abbrev pub events_by : List (List ℕ) → List ℕ → List ℕ → List Event
-events_by names err out = map Opens names ++ (map Tells err ++ map Puts out)
-
 abbrev pub events_of : Step → List Event
-events_of s = events_by s.names s.err s.out
+events_of s = map Opens s.names ++ (map Tells s.err ++ map Puts s.out)
 
 abbrev pub events : List Step → List Event
 events steps = flat_map events_of steps
@@ -33,26 +29,20 @@ events steps = flat_map events_of steps
 -- what of the events is of each kind
 abbrev pub name_in : Event → Option (List ℕ)
 name_in (Opens name) = Some name
-name_in (Tells b) = None
-name_in (Puts b) = None
+name_in event = None
 
 abbrev pub err_in : Event → Option ℕ
-err_in (Opens name) = None
 err_in (Tells b) = Some b
-err_in (Puts b) = None
+err_in event = None
 
 abbrev pub out_in : Event → Option ℕ
-out_in (Opens name) = None
-out_in (Tells b) = None
 out_in (Puts b) = Some b
-
--- one step more in front, and one run after another
-abbrev pub step_then : Step → Run → Run
-step_then s r = record { steps = s ∷ r.steps; good = r.good }
+out_in event = None
 
 abbrev pub nothing : Run
 nothing = record { steps = []; good = true }
 
+-- one run after another
 abbrev pub joined : Run → Run → Run
 joined r s = record { steps = r.steps ++ s.steps; good = r.good && s.good }
 

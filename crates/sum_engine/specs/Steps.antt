@@ -13,9 +13,9 @@ use Rattle.sum_engine.specs.declared.stop.Stop.TheVariants.{Memory, Write}
 use Rattle.sum_engine.specs.declared.summary.Counts.{Counts}
 use Rattle.sum_engine.specs.Profiles.{lines_by}
 use Rattle.sum_lines.specs.Says.{says}
-use Rattle.sum_engine.specs.Runs.{Step, Run, events_of, step_then}
+use Rattle.sum_engine.specs.Runs.{Step, Run, events_of}
 use Rattle.sum_engine.specs.Verdicts.{Rules, Judged, judge, verdicts}
-use Rattle.sum_engine.specs.Reports.{end_text, good, counted, no_counts}
+use Rattle.sum_engine.specs.Reports.{counts, end_text, good, counted, no_counts}
 use Rattle.sum_engine.specs.Checking.{line_steps}
 use Rattle.sum_engine.specs.Scenes.{Scene, Did, DidPrefix, Wants}
 
@@ -35,7 +35,10 @@ now_by (Some rest) n u f c None = None
 now_by (Some rest) n u f c (Some s) =
     Some (record { rest = rest; number = n; used = u; form = f; counts = c; scene = s })
 
--- a new checker
+-- in front of the first line
+abbrev pub no_line : Option Content → Option Scene → Option Now
+no_line c s = now_by c 0 0 Undecided no_counts s
+
 abbrev pub start : Content → Scene → Now
 start c s = record { rest = c; number = 0; used = 0; form = Undecided; counts = no_counts; scene = s }
 
@@ -51,19 +54,18 @@ rest_verdicts r a =
     let ls = lines_by r.profile a.rest in
     verdicts r (form_then a.form (form r.settings.algo ls)) a.scene.world a.number ls
 
--- the counts once these are counted, too
-abbrev pub counted_all : Counts → List Judged → Counts
-counted_all c [] = c
-counted_all c (j ∷ js) = counted_all (counted c j.verdict) js
-
 -- the run that is still to come
 abbrev pub to_come : Rules → Now → Run
 to_come r a = record {
-  steps = line_steps r (end_text r a.rest.ending (counted_all a.counts (rest_verdicts r a))) a.rest (rest_verdicts r a);
-  good = good r a.rest.ending (counted_all a.counts (rest_verdicts r a));
+  steps = line_steps r (end_text r a.rest.ending (counts a.counts (rest_verdicts r a))) a.rest (rest_verdicts r a);
+  good = good r a.rest.ending (counts a.counts (rest_verdicts r a));
 }
 
 -- ---- what a step does, of the run r that was to come
+
+-- one step more in front
+abbrev pub step_then : Step → Run → Run
+step_then s r = record { steps = s ∷ r.steps; good = r.good }
 
 -- the first step of r was done, and s is to come
 pub record GoesOn (r s : Run) (a b : Scene) : Type 0 where

@@ -5,6 +5,4 @@ pub mod Telling
 pub mod Handling
 pub mod Judging
 pub mod Listings
-pub mod States
-pub mod Views
-pub mod Taking
+pub mod Positions

@@ -7,6 +7,7 @@ mod generate;
 pub mod laws;
 mod listing;
 mod manifest;
+mod position;
 mod progress;
 mod report;
 mod settings;

@@ -1,13 +1,10 @@
 //! Checking one manifest.
-ghost use Rattle.std.specs.Prelude.{◌≡◌, ◌⊎◌, Some, Err, Ok, true, OnOk, IfSome, is_none};
 ghost use Rattle.std.specs.Option.{option_map};
 ghost use Rattle.sum_sources.specs.Contents.{clip};
-ghost use Rattle.sum_lines.specs.declared.line_reading.Form.TheVariants.{Undecided};
 ghost use Rattle.sum_engine.specs.Checking.{checked};
 ghost use Rattle.sum_engine.specs.Scenes.{scene, RunGives, HoldNothing, Failures};
 ghost use Rattle.sum_engine.specs.Manifests.{ManifestGives, RefusedOnMemory};
 ghost use Rattle.sum_engine.specs.joins.Listings.{rules_in};
-ghost use Rattle.sum_engine.specs.joins.Taking.{TakesStdin, stdin_by};
 
 use crate::asking::DASH;
 use crate::checker::Checker;
@@ -41,8 +38,6 @@ pub fn check_one<A: Allocator + Copy, J: Input + Drop, S: Source, O: Sink, E: Si
         (scene J.content S.told O.written E.written streams.old)
         (scene J.content S.told O.written E.written streams.new) result }
     ensures none { HoldNothing O.held E.held streams.old → HoldNothing O.held E.held streams.new }
-    ensures stdin { OnOk result (TakesStdin settings tool.now name.now (S.told streams.old.source)
-        (is_none streams.old.stdin) (is_none streams.new.stdin)) }
     ensures refusals { RefusedOnMemory (S.refusals streams.old.source) (S.refusals streams.new.source) result }
     ensures failures { Failures O.failures E.failures streams.old streams.new result }
 {
@@ -87,9 +82,6 @@ fn check_input<'a, A: Allocator, I: Input + Drop, J: Input + Drop, S: Source, O:
         (scene J.content S.told O.written E.written streams.old)
         (scene J.content S.told O.written E.written streams.new) result }
     ensures none { HoldNothing O.held E.held streams.old → HoldNothing O.held E.held streams.new }
-    ensures stdin { OnOk result (IfSome (stdin_by (rules_in listing.entry) Undecided (option_map clip (I.content input))
-        (is_none streams.old.stdin)) (λ taken. is_none streams.new.stdin ≡ taken)) }
-    ensures kept { OnOk result (is_none streams.old.stdin ≡ true → is_none streams.new.stdin ≡ true) }
     ensures refusals { RefusedOnMemory (S.refusals streams.old.source) (S.refusals streams.new.source) result }
     ensures failures { Failures O.failures E.failures streams.old streams.new result }
 {

@@ -41,7 +41,7 @@ pub(crate) struct Judgement<'a> {
 }
 
 ghost use Rattle.sum_engine.specs.joins.Listings.{rules_in};
-ghost use Rattle.sum_engine.specs.joins.Judging.{said_by, Within, JudgeGives, compared, judgement_asks, said_asks};
+ghost use Rattle.sum_engine.specs.joins.Judging.{said_by, Within, JudgeGives, compared, judgement_asks};
 
 /// Reads a line, in a list of the form that the lines before it have.
 pub(crate) fn read<A: Allocator>(algos: Algos, form: Form, line: &mut Vec<u8, A>) -> (Reading, Form)
@@ -67,8 +67,6 @@ pub(crate) fn judge<'a, I: Input + Drop, S: Source>(
         (world I.content (S.told source.new) stdin.new) (said_by line.now reading.now) result }
     ensures taken { MatchOption result (stdin.new ≡ stdin.old)
         (λ j. is_none stdin.new ≡ is_none stdin.old || list_any is_dash (judgement_asks j)) }
-    ensures asked { IfSome result
-        (λ j. judgement_asks j ≡ said_asks (rules_in listing.now) (said_by line.now reading.now)) }
     ensures refusals { MatchOption result (S.refusals source.new ≡ after_refusal (S.refusals source.old))
         (λ _. S.refusals source.new ≡ S.refusals source.old) }
 {

@@ -1,14 +1,18 @@
 -- Joins what handling a line does to what the line says.
-use Rattle.std.specs.Prelude.{ℕ, ◌≡◌, Option, Result, Ok, Err}
+use Rattle.std.specs.Prelude.{ℕ, ◌≡◌, ◌++◌, List, map, Option, Result, Ok, Err}
 use Rattle.sum_sources.specs.Contents.{WhereTold}
 use Rattle.sum_engine.specs.declared.stop.Stop.{Stop}
 use Rattle.sum_engine.specs.declared.stop.Stop.TheVariants.{Memory, Write}
 use Rattle.sum_engine.specs.declared.summary.Counts.{Counts}
 use Rattle.sum_lines.specs.Says.{Said}
-use Rattle.sum_engine.specs.Runs.{events_by}
+use Rattle.sum_engine.specs.Runs.{Event, Opens, Tells, Puts}
 use Rattle.sum_engine.specs.Verdicts.{Rules, Judged, judge, asks_of}
 use Rattle.sum_engine.specs.Reports.{out_of, err_of, counted}
 use Rattle.sum_engine.specs.Scenes.{Scene, Did, DidPrefix}
+
+-- these names are opened, and then these texts are written, in this order
+abbrev pub events_by : List (List ℕ) → List ℕ → List ℕ → List Event
+events_by names err out = map Opens names ++ (map Tells err ++ map Puts out)
 
 -- a line was handled that has this verdict; c and d are the counts before and after
 abbrev pub HandleOf : {A : Type 0} → Rules → Judged → Counts → Counts → Scene → Scene → Result A Stop → Type 0

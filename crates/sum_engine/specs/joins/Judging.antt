@@ -1,5 +1,5 @@
 -- Joins what the code finds of a line to what the line says, and to its verdict.
-use Rattle.std.specs.Prelude.{ℕ, ◌≡◌, ◌≤◌, ◌&&◌, Bool, List, [], ◌∷◌, length, slice_range, Option, None, Some, ⊤, if◌then◌else◌}
+use Rattle.std.specs.Prelude.{ℕ, ◌≡◌, ◌≤◌, Bool, List, length, slice_range, Option, None, Some, ⊤, if◌then◌else◌}
 use Rattle.std.specs.Str.{bytes_eq}
 use Rattle.sum_sources.specs.declared.fault.Fault.TheVariants.{NotFound, Denied, Other}
 use Rattle.sum_sources.specs.Contents.{WhereTold}
@@ -11,7 +11,7 @@ use Rattle.sum_engine.specs.declared.verdict.Judgement.{Judgement}
 use Rattle.sum_engine.specs.declared.verdict.Verdict.{Verdict}
 use Rattle.sum_engine.specs.declared.verdict.Verdict.TheVariants.{Right, Wrong, Missing, Unread}
 use Rattle.sum_lines.specs.Says.{Said, Nothing, Improper, Spells}
-use Rattle.sum_engine.specs.Worlds.{World, is_dash, after}
+use Rattle.sum_engine.specs.Worlds.{World, after}
 use Rattle.sum_engine.specs.Verdicts.{Rules, judge, asks_by}
 
 -- what a reading says, whose name stands in the line's vector
@@ -26,12 +26,6 @@ abbrev pub Within : List ℕ → Reading → Type 0
 Within line readings.Ignored = ⊤
 Within line readings.Bad = ⊤
 Within line (readings.Entry kind digest start stop) = (start ≤ stop) × (stop ≤ length line) × (length digest ≡ kind.len)
-
--- the names that a line asks which says this: that of an entry, but none where that is `-` in standard input itself
-abbrev pub said_asks : Rules → Said → List (List ℕ)
-said_asks r Nothing = []
-said_asks r Improper = []
-said_asks r (Spells s) = if r.from_stdin && is_dash s.name then [] else s.name ∷ []
 
 abbrev pub judgement_asks : Judgement → List (List ℕ)
 judgement_asks j = asks_by j.verdict j.name.now

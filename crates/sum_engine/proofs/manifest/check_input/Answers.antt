@@ -4,10 +4,9 @@ use Rattle.sum_sources.specs.Contents.{clip}
 use Rattle.sum_engine.specs.declared.progress.Progress.TheVariants.{Going, Ended}
 use Rattle.sum_engine.specs.Steps.{StepGives}
 use Rattle.sum_engine.specs.joins.Listings.{rules_in}
-use Rattle.sum_engine.specs.joins.Views.{now_of}
+use Rattle.sum_engine.specs.Checkers.{now_of}
 use Rattle.sum_engine.specs.Scenes.{scene}
 use Rattle.sum_engine.proofs.ManifestLemmas.{comes_none, comes_more, comes_end, comes_stop}
-use Rattle.sum_engine.proofs.TakingLemmas.{steady_start, steady_more, steady_end}
 use Rattle.sum_engine.proofs.StepLemmas.{standing_of, stands}
 use Rattle.sum_engine.proofs.manifest.check_input.Goals as goal
 
@@ -16,12 +15,10 @@ lines-init g c = record {
   comes = λ hold. rw c.new-checker.ensures.now (comes_none (rules_in c.args.listing) _ _);
   none = λ hold. hold;
   rules = c.new-checker.ensures.rules;
-  going = c.new-checker.ensures.going;
+  going = c.new-checker.ensures.answer;
   refusals = refl;
   out = refl;
   err = refl;
-  stdin = steady_start _ _ _ _ _ c.new-checker.ensures.rules (c.new-checker.ensures.stdin _);
-  kept = λ h. h;
 }
 
 -- a step stopped
@@ -30,9 +27,9 @@ returns-in-Err-clause-gives g c =
     let so_far = c.lines.invariant in
     let step = c.step.new in
     let last = scene g.J.Input.content g.S.Source.told g.O.Sink.written g.E.Sink.written step.streams in
-    let next = standing_of g.I.Input.content step.self last in
+    let next = standing_of g.I.Input.content step.self.place last in
     let here = scene g.J.Input.content g.S.Source.told g.O.Sink.written g.E.Sink.written c.lines.streams in
-    let at = now_of g.I.Input.content c.lines.checker here in
+    let at = now_of g.I.Input.content c.lines.checker.place here in
     let first = scene g.J.Input.content g.S.Source.told g.O.Sink.written g.E.Sink.written c.args.streams.now in
     let manifest = option_map clip (g.I.Input.content c.args.input) in
     λ hold.
@@ -49,8 +46,8 @@ returns-in-Ok-Ended-clause-gives g c =
     let first = scene g.J.Input.content g.S.Source.told g.O.Sink.written g.E.Sink.written c.args.streams.now in
     let last = scene g.J.Input.content g.S.Source.told g.O.Sink.written g.E.Sink.written c.step.new.streams in
     let here = scene g.J.Input.content g.S.Source.told g.O.Sink.written g.E.Sink.written c.lines.streams in
-    let at = now_of g.I.Input.content c.lines.checker here in
-    let next = standing_of g.I.Input.content c.step.new.self last in
+    let at = now_of g.I.Input.content c.lines.checker.place here in
+    let next = standing_of g.I.Input.content c.step.new.self.place last in
     let manifest = option_map clip (g.I.Input.content c.args.input) in
     let n = g.S.Source.refusals c.lines.streams.source in
     let m = g.S.Source.refusals c.step.new.streams.source in
@@ -67,15 +64,6 @@ returns-in-Err-clause-none g c = λ hold. c.in-Err.ensures.none (c.lines.invaria
 pub returns-in-Ok-Ended-clause-none : goal.returns-in-Ok-Ended-clause-none
 returns-in-Ok-Ended-clause-none g c = λ hold. c.in-Ok-Ended.ensures.none (c.lines.invariant.none hold)
 
-pub returns-in-Ok-Ended-clause-stdin : goal.returns-in-Ok-Ended-clause-stdin
-returns-in-Ok-Ended-clause-stdin g c =
-    let so_far = c.lines.invariant in
-    let step = rw c.in-Ok-Ended.field-0-is at (c.in-Ok-Ended.ensures.stdin so_far.going) in
-    steady_end _ _ _ _ _ so_far.stdin step
-
-pub returns-in-Ok-Ended-clause-kept : goal.returns-in-Ok-Ended-clause-kept
-returns-in-Ok-Ended-clause-kept g c = λ h. c.in-Ok-Ended.ensures.kept (c.lines.invariant.kept h)
-
 pub lines-preserved : goal.lines-preserved
 lines-preserved g c =
     let so_far = c.lines.invariant in
@@ -83,12 +71,11 @@ lines-preserved g c =
     let first = scene g.J.Input.content g.S.Source.told g.O.Sink.written g.E.Sink.written c.args.streams.now in
     let last = scene g.J.Input.content g.S.Source.told g.O.Sink.written g.E.Sink.written c.step.new.streams in
     let here = scene g.J.Input.content g.S.Source.told g.O.Sink.written g.E.Sink.written c.lines.streams in
-    let at = now_of g.I.Input.content c.lines.checker here in
-    let next = now_of g.I.Input.content c.step.new.self last in
+    let at = now_of g.I.Input.content c.lines.checker.place here in
+    let next = now_of g.I.Input.content c.step.new.self.place last in
     let manifest = option_map clip (g.I.Input.content c.args.input) in
     let n = g.S.Source.refusals c.lines.streams.source in
     let m = g.S.Source.refusals c.step.new.streams.source in
-    let stdin = rw c.in-Ok-Going.field-0-is at (c.in-Ok-Going.ensures.stdin so_far.going) in
     record {
       comes = λ hold.
           let step = rw c.in-Ok-Going.field-0-is at (c.in-Ok-Going.ensures.gives so_far.going (so_far.none hold)) in
@@ -96,11 +83,9 @@ lines-preserved g c =
           comes_more (rules_in c.args.listing) manifest first at next n m c.step.new.line.items (so_far.comes hold)
           gives;
       none = λ hold. c.in-Ok-Going.ensures.none (so_far.none hold);
-      rules = c.in-Ok-Going.ensures.rules ∙ so_far.rules;
-      going = c.in-Ok-Going.ensures.going (search rules);
+      rules = (c.in-Ok-Going.ensures.reads so_far.going).rules ∙ so_far.rules;
+      going = c.in-Ok-Going.ensures.answer so_far.going ∙ search rules;
       refusals = c.in-Ok-Going.ensures.wants so_far.going ∙ so_far.refusals;
       out = failures.0 ∙ so_far.out;
       err = failures.1 ∙ so_far.err;
-      stdin = steady_more _ _ _ _ so_far.stdin stdin;
-      kept = λ h. c.in-Ok-Going.ensures.kept (so_far.kept h);
     }

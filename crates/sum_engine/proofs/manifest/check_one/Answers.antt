@@ -2,7 +2,6 @@ use Rattle.std.proofs.Common.{◌≡◌, true, false, refl, rules}
 use Rattle.std.proofs.lemmas.Result.{err_from_is_err_and}
 use Rattle.sum_engine.specs.Worlds.{is_dash}
 use Rattle.sum_engine.proofs.ManifestLemmas.{Call, check_gives, rules_of_call-dash, rules_of_call-file, dash_opened, file_opened, refused_told, refused_cut, no_room}
-use Rattle.sum_engine.proofs.TakingLemmas.{on_file}
 use Rattle.sum_engine.proofs.SceneLemmas.{seen_of}
 use Rattle.sum_engine.proofs.manifest.check_one.Goals as goal
 
@@ -61,11 +60,3 @@ returns-in-Ok-clause-gives g c =
     c.in-Ok.file first dash c.in-Ok.ensures.answer in
     λ hold. check_gives call _ _ _ _ _ _ _ _ _ (rules_of_call-file call dash) c.in-Ok.ensures.refusals opened
     (c.check_input-in-Ok.ensures.gives hold)
-
--- whether standard input was taken then
-pub returns-in-Ok-clause-stdin : goal.returns-in-Ok-clause-stdin
-returns-in-Ok-clause-stdin g c =
-    let dash : is_dash c.args.name.now ≡ false = search rules in
-    on_file g.S.File.Input.content c.args.settings c.args.tool.now c.args.name.now _ _ c.in-Ok.file _ _
-    c.check_input-in-Ok.result dash c.in-Ok.ensures.answer c.check_input-in-Ok.ensures.kept
-    c.check_input-in-Ok.ensures.stdin

@@ -1,6 +1,6 @@
 use Rattle.std.proofs.Common.{◌∙◌}
 use Rattle.sum_engine.specs.joins.Listings.{rules_in}
-use Rattle.sum_engine.proofs.CountLemmas.{summary-shown}
+use Rattle.sum_engine.proofs.SummaryLemmas.{summary-shown}
 use Rattle.sum_engine.proofs.summary.put_summary.Goals as goal
 
 -- there are entries, and warnings are shown

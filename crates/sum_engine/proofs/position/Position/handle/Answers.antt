@@ -3,10 +3,10 @@ use Rattle.std.proofs.lemmas.Result.{err_from_is_err_and}
 use Rattle.sum_lines.specs.Profiles.{present}
 use Rattle.sum_lines.specs.Says.{says}
 use Rattle.sum_engine.specs.joins.Judging.{said_by}
-use Rattle.sum_engine.specs.joins.Views.{rules_of_checker}
+use Rattle.sum_engine.specs.joins.Listings.{rules_in}
 use Rattle.sum_engine.proofs.StepLemmas.{handled, handling_cut}
 use Rattle.sum_engine.proofs.SceneLemmas.{seen_of}
-use Rattle.sum_engine.proofs.checker.Checker.handle.Goals as goal
+use Rattle.sum_engine.proofs.position.Position.handle.Goals as goal
 
 -- the report was cut off
 pub returns-in_err-put_report-clause-gives : goal.returns-in_err-put_report-clause-gives
@@ -18,7 +18,7 @@ returns-in_err-put_report-clause-gives g c =
     let texts = rw c.number-number.ensures at c.in_err-put_report.ensures.texts in
     let stop = err_from_is_err_and c.from_residual.result c.from_residual.ensures.1 in
     let first = seen_of g.J.Input.content g.S.Source.told g.O.Sink.written g.E.Sink.written c.args.streams.now in
-    λ hold. rw (stop.1, stop.2) (handling_cut (rules_of_checker old) _ _ old.counts old.counts first _
+    λ hold. rw (stop.1, stop.2) (handling_cut (rules_in old.listing) _ _ old.counts old.counts first _
     c.in-Some.judgement judged c.in-Some.ensures.taken (texts hold.1 hold.0))
 
 -- it was handed on
@@ -30,5 +30,5 @@ returns-clause-gives g c =
     let judged = rw said at c.in-Some.ensures.gives in
     let texts = rw c.number-number.ensures at c.in_ok-put_report.ensures.texts in
     λ hold. let both = texts hold.1 hold.0 in
-    handled (rules_of_checker old) _ _ _ _ _ _ c.in-Some.judgement judged c.in-Some.ensures.taken
+    handled (rules_in old.listing) _ _ _ _ _ _ c.in-Some.judgement judged c.in-Some.ensures.taken
     c.counted-self.ensures both.0 both.1

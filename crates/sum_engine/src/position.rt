@@ -1,0 +1,189 @@
+//! Where the checking of a manifest stands.
+ghost use Rattle.std.specs.Prelude.{◌≡◌, ◌≤◌, ◌<◌, Ok, Err, None, false, length, Option};
+ghost use Rattle.sum_sources.specs.joins.LineReading.{lines_given, bytes_taken, bytes_used, has_stopped};
+ghost use Rattle.digest_kinds.specs.Limits.{LIMIT};
+ghost use Rattle.sum_sources.specs.declared.input.TheConstants.{PIECE};
+ghost use Rattle.sum_lines.specs.Profiles.{present};
+ghost use Rattle.sum_engine.specs.Reports.{total};
+
+use crate::listing::Listing;
+use crate::progress::Progress;
+use crate::report::{put_fault_line, put_report};
+use crate::settings::CheckSettings;
+use crate::stop::Stop;
+use crate::streams::Streams;
+use crate::summary::{Counts, is_good, put_summary};
+use crate::verdict::{judge, read};
+use digest_kinds::LIMIT;
+use std::alloc::Allocator;
+use sum_lines::{Form, Sink};
+use sum_sources::{Input, LineReader, LineStop, Next, PIECE, Source};
+
+/// A manifest, its lines so far, and what is still to come of it.
+#[derive(Drop)]
+pub(crate) struct Position<'a, I> {
+    listing: Listing<'a>,
+    reader: LineReader<I>,
+    form: Form,
+    counts: Counts,
+    // what listed files are read into: one for all of them
+    buffer: [u8; PIECE],
+    ghost few: { total counts ≤ lines_given reader },
+}
+
+impl<'a, I: Input> Position<'a, I> {
+    ghost use Rattle.std.specs.Option.{option_map};
+    ghost use Rattle.sum_sources.specs.Contents.{clip};
+    ghost use Rattle.sum_sources.specs.joins.LineReading.{coming, left};
+    ghost use Rattle.sum_lines.specs.Entries.{form_then, line_form};
+    ghost use Rattle.sum_lines.specs.Says.{says};
+    ghost use Rattle.sum_engine.specs.Scenes.{Scene, scene, HoldNothing, Failures, refusals_over};
+    ghost use Rattle.sum_engine.specs.Steps.{no_line, StepGives, WantsMemory};
+    ghost use Rattle.sum_engine.specs.Checkers.{now_of, Reads};
+    ghost use Rattle.sum_engine.specs.joins.Handling.{HandleGives};
+    ghost use Rattle.sum_engine.specs.joins.Listings.{rules_in};
+    ghost use Rattle.sum_engine.specs.joins.Positions.{place_of};
+
+    /// In front of a manifest's first line.
+    pub(crate) fn new(
+        settings: CheckSettings,
+        tool: &'a str,
+        shown: &'a [u8],
+        from_stdin: bool,
+        input: I,
+    ) -> Self
+        ensures rules { rules_in result.listing ≡ record {
+          profile = present;
+          settings = settings;
+          tool = tool.entry.now;
+          shown = shown.entry.now;
+          from_stdin = from_stdin;
+        } }
+        ensures now { (s : Option Scene) → now_of I.content (place_of result) s
+            ≡ no_line (option_map clip (I.content input)) s }
+        ensures work { has_stopped result.reader ≡ false }
+        ensures taken { bytes_taken result.reader ≡ 0 }
+        ensures left { left I.content result.reader ≡ I.content input }
+    {
+        let listing = Listing {
+            settings,
+            tool,
+            shown,
+            from_stdin,
+        };
+        Position {
+            listing,
+            reader: LineReader::new(input),
+            form: Form::Undecided,
+            counts: Counts::NONE,
+            buffer: [0; PIECE],
+        }
+    }
+
+    /// How many bytes the manifest's input has given.
+    pub(crate) fn taken(&self) -> u64
+        ensures value { result ≡ bytes_taken self.now.reader }
+        ensures most { result ≤ LIMIT }
+    {
+        self.reader.taken()
+    }
+
+    /// Handles the next line, or the end.
+    pub(crate) fn next<A: Allocator, J: Input + Drop, S: Source, O: Sink, E: Sink>(
+        &mut self,
+        line: &mut Vec<u8, A>,
+        streams: &mut Streams<J, S, O, E>,
+    ) -> Result<Progress, Stop>
+        requires work { has_stopped self.old.reader ≡ false }
+        ensures gives { HoldNothing O.held E.held streams.old → StepGives (rules_in self.old.listing)
+            (S.refusals streams.old.source) (S.refusals streams.new.source) line.new.items
+            (now_of I.content (place_of self.old) (scene J.content S.told O.written E.written streams.old))
+            (now_of I.content (place_of self.new) (scene J.content S.told O.written E.written streams.new)) result }
+        ensures none { HoldNothing O.held E.held streams.old → HoldNothing O.held E.held streams.new }
+        ensures wants { WantsMemory (S.refusals streams.old.source) (S.refusals streams.new.source)
+            (coming I.content self.old.reader) result }
+        ensures failures { Failures O.failures E.failures streams.old streams.new result }
+        ensures untouched { result ≡ Err Stop.Memory
+            → (streams.new.out ≡ streams.old.out) × (streams.new.err ≡ streams.old.err) }
+        ensures reads { Reads I.content (place_of self.old) (place_of self.new) result }
+        ensures work { result ≡ Ok Progress.Going → has_stopped self.new.reader ≡ false }
+    {
+        match self.reader.next_line(line) {
+            Err(LineStop::Memory) => Err(Stop::Memory),
+            Err(LineStop::Fault(fault)) => {
+                put_fault_line(
+                    &mut streams.err,
+                    self.listing.tool,
+                    self.listing.shown,
+                    fault,
+                )?;
+                Ok(Progress::Ended(false))
+            }
+            Ok(Next::NoMore) => {
+                put_summary(&mut streams.err, &self.listing, self.counts)?;
+                Ok(Progress::Ended(is_good(&self.listing, self.counts)))
+            }
+            Ok(Next::Line) => {
+                self.handle(line, streams)?;
+                Ok(Progress::Going)
+            }
+        }
+    }
+
+    // The number of the line that was read last.
+    fn number(&self) -> u64
+        ensures { result ≡ lines_given self.now.reader }
+    {
+        self.reader.lines()
+    }
+
+    // Handles a line that was read.
+    fn handle<A: Allocator, J: Input + Drop, S: Source, O: Sink, E: Sink>(
+        &mut self,
+        line: &mut Vec<u8, A>,
+        streams: &mut Streams<J, S, O, E>,
+    ) -> Result<(), Stop>
+        requires room { total self.old.counts < lines_given self.old.reader }
+        requires few { lines_given self.old.reader ≤ LIMIT }
+        ensures gives { HoldNothing O.held E.held streams.old → HandleGives (rules_in self.old.listing)
+            (says present self.old.listing.settings.algo
+            (form_then self.old.form (line_form self.old.listing.settings.algo line.old.items)) line.old.items)
+            (lines_given self.old.reader) self.old.counts self.new.counts
+            (scene J.content S.told O.written E.written streams.old)
+            (scene J.content S.told O.written E.written streams.new) result }
+        ensures none { HoldNothing O.held E.held streams.old → HoldNothing O.held E.held streams.new }
+        ensures form { self.new.form
+            ≡ form_then self.old.form (line_form self.old.listing.settings.algo line.old.items) }
+        ensures held { length line.new.items ≤ length line.old.items }
+        ensures refusals { S.refusals streams.new.source ≡ refusals_over (S.refusals streams.old.source) result }
+        ensures failures { Failures O.failures E.failures streams.old streams.new result }
+        ensures untouched { result ≡ Err Stop.Memory
+            → (streams.new.out ≡ streams.old.out) × (streams.new.err ≡ streams.old.err) }
+        ensures reader { self.new.reader ≡ self.old.reader }
+        ensures rules { rules_in self.new.listing ≡ rules_in self.old.listing }
+    {
+        let (reading, form) = read(self.listing.settings.algo, self.form, line);
+        self.form = form;
+        let Some(judgement) = judge(
+            &self.listing,
+            line,
+            &reading,
+            &mut streams.stdin,
+            &mut streams.source,
+            &mut self.buffer,
+        ) else {
+            return Err(Stop::Memory);
+        };
+        let number = self.number();
+        put_report(
+            &mut streams.out,
+            &mut streams.err,
+            &self.listing,
+            number,
+            judgement.verdict,
+            judgement.name,
+        )?;
+        self.counts = self.counts.counted(judgement.verdict);
+        Ok(())
+    }
+}
