@@ -42,7 +42,6 @@ pub record Dropped (a b : SinkState) : Type 0 where
   pub none : b.held ≡ []
   pub failed : b.failures ≡ after_failure a.failures
 
--- how a sink stands, by its three members
 abbrev pub state : {S : Type 0} → (S → Option (List ℕ)) → (S → List ℕ) → (S → ℕ) → S → SinkState
 state written held failures s = record { written = written s; held = held s; failures = failures s }
 
