@@ -1,7 +1,8 @@
 -- The end of a program: a run that answered, both outputs flushed once more, and the line for a stop.
 use Rattle.std.proofs.Common.{◌≡◌, ℕ, [], ◌∷◌, ◌++◌, Option, None, Some, Result, Ok, Err, refl, ap, ◌∙◌, inl, inr, append-nil, subst}
 use Rattle.std.specs.Io.KnownBytes.{Keeps, Appends}
-use Rattle.sum_lines.specs.Sinks.{SinkState, Flushed, Dropped, AppendsPrefix}
+use Rattle.sum_lines.specs.Sinks.{SinkState, Dropped}
+use Rattle.sum_lines.specs.joins.Growing.{AppendsPrefix}
 use Rattle.sum_engine.specs.declared.stop.Stop.{Stop}
 use Rattle.sum_engine.specs.declared.stop.Stop.TheVariants.{Memory, Write}
 use Rattle.sum_engine.specs.joins.Telling.{Hands, Fails}
@@ -31,8 +32,8 @@ Keeps-refl None = tt
 Keeps-refl (Some x) = refl
 
 -- a flush of a sink that holds nothing hands on nothing
-pub flushed-none : (a b : SinkState) → Flushed a b → a.held ≡ [] → Keeps a.written b.written
-flushed-none a b h none = nothing_appended a.written b.written (rw none at h.handed)
+pub flushed-none : (a b : Option Text) {held : Text} → Appends a b held → held ≡ [] → Keeps a b
+flushed-none a b h none = nothing_appended a b (rw none at h)
 
 -- also where it fails
 pub dropped-none : (a b : SinkState) → Dropped a b → a.held ≡ [] → Keeps a.written b.written

@@ -7,7 +7,7 @@ use Rattle.std.proofs.Math.Bool.{or-false}
 use Rattle.digest_kinds.specs.Kinds.{KindValue}
 use Rattle.sum_sources.specs.declared.fault.Fault.{Fault}
 use Rattle.sum_sources.specs.Sources.{after_refusal}
-use Rattle.sum_lines.specs.Sinks.{AppendsPrefix}
+use Rattle.sum_lines.specs.joins.Growing.{AppendsPrefix}
 use Rattle.sum_lines.specs.Lines.{line}
 use Rattle.sum_lines.specs.Profiles.{present}
 use Rattle.sum_engine.specs.declared.asking.Asked.{Asked}

@@ -12,7 +12,7 @@ use Rattle.sum_sources.specs.Sources.{Reply, Refused, Given, Telling, OpenGives,
 use Rattle.sum_sources.specs.Standard.{empty_content}
 use Rattle.sum_lines.specs.declared.line_reading.Form.TheVariants.{Undecided}
 use Rattle.sum_lines.specs.Profiles.{present}
-use Rattle.sum_lines.specs.Sinks.{AppendsPrefix}
+use Rattle.sum_lines.specs.joins.Growing.{AppendsPrefix}
 use Rattle.sum_engine.specs.declared.progress.Progress.TheVariants.{Going, Ended}
 use Rattle.sum_engine.specs.declared.settings.CheckSettings.{CheckSettings}
 use Rattle.sum_engine.specs.declared.stop.Stop.{Stop}

@@ -10,7 +10,7 @@ use Rattle.std.proofs.lemmas.List.Elements.{filter_map-append}
 use Rattle.std.proofs.lemmas.List.Folds.{list_any-append}
 use Rattle.sum_sources.specs.Contents.{WhereTold, Content}
 use Rattle.sum_sources.specs.Sources.{Telling}
-use Rattle.sum_lines.specs.Sinks.{AppendsPrefix}
+use Rattle.sum_lines.specs.joins.Growing.{AppendsPrefix}
 use Rattle.sum_engine.specs.Worlds.{World, is_dash, after}
 use Rattle.sum_engine.specs.joins.Handling.{events_by}
 use Rattle.sum_engine.specs.Runs.{Event, Opens, Tells, Puts, name_in, err_in, out_in}

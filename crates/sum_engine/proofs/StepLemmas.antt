@@ -30,7 +30,7 @@ use Rattle.sum_engine.specs.Scenes.{Scene, Did, DidPrefix, refusals_over}
 use Rattle.sum_engine.specs.Steps.{Now, now_by, Moves, StepGives, next_judged, rest_verdicts}
 use Rattle.sum_engine.specs.joins.Judging.{JudgeGives, judgement_asks}
 use Rattle.sum_engine.specs.joins.Handling.{events_by, HandleGives}
-use Rattle.sum_lines.specs.Sinks.{AppendsPrefix}
+use Rattle.sum_lines.specs.joins.Growing.{AppendsPrefix}
 use Rattle.sum_sources.specs.declared.fault.Ending.{Ending}
 use Rattle.sum_engine.proofs.SceneLemmas.{Seen, seen, seen-told, names-by, did_by, prefix_err, prefix_out}
 use Rattle.sum_engine.proofs.RestLemmas.{line_step, run_by, first_step, line_first, line_done, end_first}

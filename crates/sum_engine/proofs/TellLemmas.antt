@@ -3,7 +3,8 @@ use Rattle.std.proofs.Common.{◌≡◌, ℕ, List, [], ◌++◌, Option, None, 
 use Rattle.std.proofs.lemmas.List.{append_cancel_left}
 use Rattle.std.specs.Io.KnownBytes.{Appends, append_known}
 use Rattle.std.proofs.KnownBytes.{Appends-trans}
-use Rattle.sum_lines.specs.Sinks.{SinkState, Wrote, Broke, Flushes, Grows, AppendsPrefix, AppendsPart, after_failure}
+use Rattle.sum_lines.specs.Sinks.{SinkState, Wrote, Broke, Flushes, AppendsPart, after_failure}
+use Rattle.sum_lines.specs.joins.Growing.{Grows, AppendsPrefix}
 use Rattle.sum_engine.specs.joins.Telling.{Hands, Tells, Fails}
 
 -- ---- known bytes
@@ -62,14 +63,14 @@ prefix_then a b c x y h k = (
 pub told_flushed : {E : Type 0} (a b c : SinkState) (text : List ℕ) (r : Result (Unit {0}) E) → Wrote a b text
     → Flushes b c r → a.held ≡ [] → (c.held ≡ []) × Hands a.written c.written text r
 told_flushed a b c text (Ok u) h k none =
-    (k.none, handed_all a.written b.written c.written b.held text none h.taken k.handed)
+    (k.1, handed_all a.written b.written c.written b.held text none h.taken k.0)
 told_flushed a b c text (Err e) h k none =
     (k.none, handed_part a.written b.written c.written b.held text none h.taken h.grows k.handed)
 
 -- with these failures
 pub fails_flushed : {E : Type 0} (a b c : SinkState) (text : List ℕ) (r : Result (Unit {0}) E) → Wrote a b text
     → Flushes b c r → Fails a.failures c.failures r
-fails_flushed a b c text (Ok u) h k = k.kept ∙ h.kept
+fails_flushed a b c text (Ok u) h k = k.2 ∙ h.kept
 fails_flushed a b c text (Err e) h k = k.failed ∙ ap after_failure h.kept
 
 -- writing it failed

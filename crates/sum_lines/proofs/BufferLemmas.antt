@@ -4,7 +4,7 @@ use Rattle.std.specs.Io.KnownBytes.{Appends, append_known}
 use Rattle.std.proofs.KnownBytes.{Appends-nil}
 use Rattle.sum_lines.specs.Sinks.{SinkState, Wrote, Flushes, WritesFrom}
 use Rattle.sum_lines.specs.joins.Emptying.{Empties}
-use Rattle.sum_lines.proofs.SinkLemmas.{Flushed-behind, Dropped-behind}
+use Rattle.sum_lines.proofs.SinkLemmas.{Flushes-behind}
 
 -- a sink with a buffer over it that holds these bytes
 abbrev pub behind : SinkState → List ℕ → SinkState
@@ -51,7 +51,5 @@ Put a own piece = record {
 -- the buffer was emptied, and then the sink below was flushed
 pub Flushed-below : {E : Type 0} {a : SinkState} (b c : SinkState) (own : List ℕ) (r : Result (Unit {0}) E)
     → Wrote a (behind b own) [] → own ≡ [] → Flushes b c r → Flushes a (behind c own) r
-Flushed-below b c own (Ok u) emptied none h =
-    rw (none, append-nil) (Flushed-behind (rw (none, append-nil) at emptied) h)
-Flushed-below b c own (Err e) emptied none h =
-    rw (none, append-nil) (Dropped-behind (rw (none, append-nil) at emptied) h)
+Flushed-below b c own r emptied none h =
+    rw (none, append-nil) (Flushes-behind b c r (rw (none, append-nil) at emptied) h)

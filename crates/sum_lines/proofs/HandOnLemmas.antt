@@ -1,5 +1,6 @@
 -- What was offered of a text, piece after piece, while it was handed on.
 use Rattle.std.proofs.Common.{ℕ, ◌≡◌, ◌<◌, ◌≤◌, List, [], ◌∷◌, ◌++◌, length, take, drop, Option, None, Some, refl, ap, sym, ◌∙◌, append_assoc, append-nil, take-append-drop, length-append, length-take, arith}
+use Rattle.std.specs.Prelude.{option_map}
 use Rattle.sum_lines.specs.Sinks.{Offers, IsRest, AreRests, InOnePiece, HandsOn}
 
 -- the pieces were offered one after another, each as what was left of the one before, and this rest is left of the last
@@ -50,14 +51,13 @@ Leaves-last text (piece ∷ more) rest h some =
 -- offers of nothing, and offers behind offers
 pub Offers-nil : (a : Option (List (List ℕ))) → Offers a a []
 Offers-nil None = tt
-Offers-nil (Some x) = sym (append-nil x)
+Offers-nil (Some x) = ap Some (sym (append-nil x))
 
 pub Offers-trans : (a b c : Option (List (List ℕ))) (xs ys : List (List ℕ)) → Offers a b xs → Offers b c ys
     → Offers a c (xs ++ ys)
 Offers-trans None b c xs ys p q = tt
-Offers-trans (Some x) None c xs ys p q = absurd p
-Offers-trans (Some x) (Some y) None xs ys p q = absurd q
-Offers-trans (Some x) (Some y) (Some z) xs ys p q = q ∙ ap (λ l. l ++ ys) p ∙ append_assoc x xs ys
+Offers-trans (Some x) None c xs ys p q = cc
+Offers-trans (Some x) (Some y) c xs ys p q = q ∙ ap (option_map (λ l. l ++ ys)) p ∙ ap Some (append_assoc x xs ys)
 
 -- where nothing is offered, no text was handed on
 pub HandsOn-nil : (a : Option (List (List ℕ))) → HandsOn a a []

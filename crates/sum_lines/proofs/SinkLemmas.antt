@@ -4,7 +4,8 @@ use Rattle.std.proofs.Common.{ℕ, ◌≡◌, ◌<◌, ◌-◌, List, [], ◌++�
 use Rattle.std.proofs.lemmas.List.{take_rest, append_cancel_left}
 use Rattle.std.specs.Io.KnownBytes.{Appends, append_known}
 use Rattle.std.proofs.KnownBytes.{Appends-nil, Appends-trans}
-use Rattle.sum_lines.specs.Sinks.{after_failure, Grows, AppendsPrefix, AppendsPart, SinkState, Wrote, Broke, Flushed, Dropped, WritesFrom}
+use Rattle.sum_lines.specs.Sinks.{after_failure, AppendsPart, SinkState, Wrote, Broke, Dropped, WritesFrom, Flushes}
+use Rattle.sum_lines.specs.joins.Growing.{Grows, AppendsPrefix}
 
 -- ---- two calls, one behind the other
 
@@ -90,12 +91,6 @@ handed_part (Some x) (Some y) (Some z) held_before held_after text piece later g
       handed.4 ∙ ap (λ l. l ++ prefix) grows.1 ∙ append_assoc x grows.0 prefix,
     )
 
--- a text was written, and then flushed: what was held before and the text were handed on
-pub Wrote-flushed : {a b c : SinkState} (text : List ℕ) → Wrote a b text → Flushed b c
-    → Appends a.written c.written (a.held ++ text)
-Wrote-flushed {a} {b} {c} text wrote flushed =
-    handed_all a.written b.written c.written a.held b.held text wrote.taken flushed.handed
-
 -- a text was written, and a call without a text failed behind it: of what was held before and of the text a prefix was
 -- handed on
 pub Wrote-dropped : {a b c : SinkState} (text : List ℕ) → Wrote a b text → Dropped b c
@@ -103,17 +98,13 @@ pub Wrote-dropped : {a b c : SinkState} (text : List ℕ) → Wrote a b text →
 Wrote-dropped {a} {b} {c} text wrote dropped =
     handed_some a.written b.written c.written a.held b.held text wrote.grows wrote.taken dropped.handed
 
--- nothing was written, and then all was flushed
-pub Flushed-behind : {a b c : SinkState} → Wrote a b [] → Flushed b c → Flushed a c
-Flushed-behind {a} wrote flushed = record {
-  handed = rw append-nil at (Wrote-flushed [] wrote flushed);
-  none = flushed.none;
-  kept = flushed.kept ∙ wrote.kept;
-}
-
--- nothing was written, and then a call failed
-pub Dropped-behind : {a b c : SinkState} → Wrote a b [] → Dropped b c → Dropped a c
-Dropped-behind {a} wrote dropped = record {
+-- nothing was written, and then a flush came
+pub Flushes-behind : {E : Type 0} {a : SinkState} (b c : SinkState) (r : Result (Unit {0}) E) → Wrote a b []
+    → Flushes b c r → Flushes a c r
+Flushes-behind {a = a} b c (Ok u) wrote flushed =
+    let handed = handed_all a.written b.written c.written a.held b.held [] wrote.taken flushed.0 in
+    (rw append-nil at handed, flushed.1, flushed.2 ∙ wrote.kept)
+Flushes-behind b c (Err e) wrote dropped = record {
   handed = rw append-nil at (Wrote-dropped [] wrote dropped);
   none = dropped.none;
   failed = dropped.failed ∙ ap after_failure wrote.kept;

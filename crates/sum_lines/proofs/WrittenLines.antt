@@ -50,7 +50,7 @@ bits-tag : (n : ℕ) → (n == full Blake2b) ≡ false → has_len Blake2b n ≡
 bits-tag n other has = record {
   width = 45 ∷ decimal (8 * n);
   is_width = inr (refl, refl, has);
-  is = rw (other, append-nil) refl;
+  is = rw other refl;
 }
 
 -- every kind has a tag

@@ -80,8 +80,7 @@ pub record ByTail (escape : List ℕ → List ℕ) (algos : Algos) (form : Form)
 abbrev pub Entry : (List ℕ → List ℕ) → Algos → Form → List ℕ → Spelled → Type 0
 Entry escape algos form line s = (ignored line ≡ false) × (ByTag escape algos line s ⊎ ByTail escape algos form line s)
 
--- The form, computed; it need not be believed: that this is the one form that the list has is the law `one_form`. The
--- first plain line decides it.
+-- The form, computed: the first plain line decides it. It need not be believed: by the law `one_form` it is the list's.
 abbrev pub form_then : Form → Form → Form
 form_then Undecided later = later
 form_then decided later = decided

@@ -2,8 +2,7 @@
 use Rattle.std.specs.Prelude.{◌≡◌, ℕ, ◌==◌, ◌&&◌, Bool, not, List, [], ◌∷◌, flat_map, bytes_eq, codes, if◌then◌else◌}
 use Rattle.sum_lines.specs.Profiles.{Profile, present}
 
--- a backslash (92) becomes `\\`, a newline (10) `\n`, a carriage return (13) `\r`, unless the profile leaves it as it
--- is; any other byte stays
+-- a backslash (92) becomes `\\`, a newline (10) `\n`, a carriage return (13) `\r` if the profile says so; others stay
 abbrev pub escape_of : Profile → ℕ → List ℕ
 escape_of p b =
     if b == 92 then codes "\\\\" else if b == 10 then codes "\\n"
@@ -15,7 +14,6 @@ escape_by p name = flat_map (escape_of p) name
 abbrev pub escape : List ℕ → List ℕ
 escape name = escape_by present name
 
--- whether the escaped name differs from the name
 abbrev pub escape_differs : List ℕ → Bool
 escape_differs name = not (bytes_eq (escape name) name)
 

@@ -11,9 +11,7 @@ use Rattle.sum_lines.specs.Shapes.{mark}
 
 -- the tag, for a BLAKE2b digest that isn't full with its bits, as `BLAKE2b-256`
 abbrev pub line_tag : KindValue → List ℕ
-line_tag kind =
-    if kind.len == full kind.algo then tag kind.algo
-    else concat (tag kind.algo ∷ codes "-" ∷ decimal (8 * kind.len) ∷ [])
+line_tag kind = tag kind.algo ++ (if kind.len == full kind.algo then [] else codes "-" ++ decimal (8 * kind.len))
 
 -- a line without its end and without a backslash before it
 abbrev pub layout : Mode → KindValue → List ℕ → List ℕ → List ℕ

@@ -30,8 +30,7 @@ with_raw Undecided q = None
 abbrev pub spelled : Profile → Parts → Option Spelled
 spelled p t = do
   name ← if t.escaped then unescape p t.text else Some t.text
-  if list_all (nat_lt 0) name
-      then Some (record { algo = t.kind.algo; digest = t.digest; name = name }) else None
+  if list_all (nat_lt 0) name then Some (record { algo = t.kind.algo; digest = t.digest; name = name }) else None
 
 unfoldable pub entry_of : Profile → Algos → Form → List ℕ → Option Spelled
 entry_of p algos f line =

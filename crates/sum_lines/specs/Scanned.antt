@@ -1,6 +1,6 @@
 -- What a line of either shape holds, computed; it need not be believed: the law `says_is` ties it to the relations.
 use Rattle.std.specs.Prelude.{ℕ, ◌*◌, ◌==◌, ◌&&◌, nat_lt, Bool, true, false, List, [], ◌∷◌, ◌++◌, length, drop, map, filter_map, flat_map, slice_get, codes, decimal, Option, None, Some, if◌then◌else◌}
-use Rattle.std.specs.Option.{option_or}
+use Rattle.std.specs.Option.{option_or, option_and_then}
 use Rattle.std.specs.Result.{result_ok}
 use Rattle.std.specs.List.{prefix_len, range_with_len, starts_with, before_first, after_first}
 use Rattle.std.specs.Path.{rsplit_once}
@@ -14,8 +14,7 @@ use Rattle.sum_lines.specs.Shapes.{is_blank}
 
 infixl 10 ◌>>=◌
 abbrev pub ◌>>=◌ : {A B : Type 0} → Option A → (A → Option B) → Option B
-(Some x) >>= f = f x
-None >>= f = None
+o >>= f = option_and_then f o
 
 -- what a line was found to hold; the text is the raw name of a tagged line, the tail of a plain one
 pub record Parts : Type 0 where

@@ -1,5 +1,5 @@
 -- What writing and flushing do to a sink.
-use Rattle.std.specs.Prelude.{ℕ, ◌≡◌, ◌+◌, ◌-◌, ◌^◌, ◌<◌, ◌≤◌, min, List, [], ◌∷◌, ◌++◌, length, take, Option, None, Some, Result, Ok, Err, ⊤}
+use Rattle.std.specs.Prelude.{ℕ, ◌≡◌, ◌+◌, ◌-◌, ◌^◌, ◌<◌, ◌≤◌, min, List, [], ◌∷◌, ◌++◌, length, take, Option, Some, Result, Ok, Err, IfSome}
 use Rattle.std.specs.Io.KnownBytes.{append_known}
 pub use Rattle.std.specs.Io.KnownBytes.{Appends}
 
@@ -7,29 +7,16 @@ pub use Rattle.std.specs.Io.KnownBytes.{Appends}
 abbrev pub after_failure : ℕ → ℕ
 after_failure n = min (n + 1) (2 ^ 64 - 1)
 
--- how many bytes of a piece one write takes: at least one, where there is one
-abbrev pub Takes : ℕ → List ℕ → Type 0
-Takes n piece = (n ≤ length piece) × (0 < length piece → 0 < n)
-
 -- a prefix of a list, which may be the whole
 abbrev pub IsPrefix : {A : Type 0} → List A → List A → Type 0
 IsPrefix {A} prefix xs = (rest : List A) × (xs ≡ prefix ++ rest)
-
--- known bytes stay, and more may come behind them
-abbrev pub Grows : Option (List ℕ) → Option (List ℕ) → Type 0
-Grows old new = (more : List ℕ) × Appends old new more
-
--- known bytes grow by a prefix of the text
-abbrev pub AppendsPrefix : Option (List ℕ) → Option (List ℕ) → List ℕ → Type 0
-AppendsPrefix old new text = (prefix : List ℕ) × IsPrefix prefix text × Appends old new prefix
 
 -- known bytes grow by a proper prefix of the text
 abbrev pub AppendsPart : Option (List ℕ) → Option (List ℕ) → List ℕ → Type 0
 AppendsPart old new text =
     (prefix : List ℕ) × (rest : List ℕ) × (text ≡ prefix ++ rest) × (0 < length rest) × Appends old new prefix
 
--- a sink at one moment: what it handed on to what is below it, where it tells that; what it took and has not handed on;
--- how many of its calls have failed
+-- a sink at one moment: what it handed on, where it tells that; what it took and still holds; how many calls failed
 pub record SinkState : Type 0 where
   pub written : Option (List ℕ)
   pub held : List ℕ
@@ -38,7 +25,7 @@ pub record SinkState : Type 0 where
 -- the text was taken: it stands behind what was held, and some of both may have been handed on
 pub record Wrote (a b : SinkState) (text : List ℕ) : Type 0 where
   pub taken : Appends (append_known a.written a.held) (append_known b.written b.held) text
-  pub grows : Grows a.written b.written
+  pub grows : (more : List ℕ) × Appends a.written b.written more
   pub kept : b.failures ≡ a.failures
 
 -- a call failed: of what was held and of the text, which isn't empty, a proper prefix was handed on, and the rest is
@@ -49,19 +36,12 @@ pub record Broke (a b : SinkState) (text : List ℕ) : Type 0 where
   pub none : b.held ≡ []
   pub failed : b.failures ≡ after_failure a.failures
 
--- all that was held was handed on
-pub record Flushed (a b : SinkState) : Type 0 where
-  pub handed : Appends a.written b.written a.held
-  pub none : b.held ≡ []
-  pub kept : b.failures ≡ a.failures
-
 -- a call failed: a prefix of what was held was handed on, and the rest is dropped
 pub record Dropped (a b : SinkState) : Type 0 where
-  pub handed : AppendsPrefix a.written b.written a.held
+  pub handed : (prefix : List ℕ) × IsPrefix prefix a.held × Appends a.written b.written prefix
   pub none : b.held ≡ []
   pub failed : b.failures ≡ after_failure a.failures
 
--- how a sink stands, by its three members
 abbrev pub state : {S : Type 0} → (S → Option (List ℕ)) → (S → List ℕ) → (S → ℕ) → S → SinkState
 state written held failures s = record { written = written s; held = held s; failures = failures s }
 
@@ -75,23 +55,21 @@ abbrev pub Writes : {S E : Type 0} → (S → Option (List ℕ)) → (S → List
 Writes written held failures old new text r =
     WritesFrom (state written held failures old) (state written held failures new) text r
 
--- one write, which takes the first bytes of a piece, or fails
+-- one write, which takes the first bytes of a piece, at least one where there is one, or fails
 abbrev pub WritesSome : {E : Type 0} → SinkState → SinkState → List ℕ → Result ℕ E → Type 0
-WritesSome a b piece (Ok n) = Takes n piece × Wrote a b (take n piece)
+WritesSome a b piece (Ok n) = (n ≤ length piece) × (0 < length piece → 0 < n) × Wrote a b (take n piece)
 WritesSome a b piece (Err e) = Dropped a b
 
--- one flush
+-- one flush, which hands on all that is held, or fails
 abbrev pub Flushes : {E : Type 0} → SinkState → SinkState → Result (Unit {0}) E → Type 0
-Flushes a b (Ok u) = Flushed a b
+Flushes a b (Ok u) = Appends a.written b.written a.held × (b.held ≡ []) × (b.failures ≡ a.failures)
 Flushes a b (Err e) = Dropped a b
 
 -- ---- what is offered
 
 -- the known pieces that a sink was offered grow by these
 abbrev pub Offers : Option (List (List ℕ)) → Option (List (List ℕ)) → List (List ℕ) → Type 0
-Offers None new pieces = ⊤
-Offers (Some old) None pieces = ⊥
-Offers (Some old) (Some new) pieces = new ≡ old ++ pieces
+Offers old new pieces = IfSome old (λ xs. new ≡ Some (xs ++ pieces))
 
 -- a shorter back of the text
 abbrev pub IsRest : List ℕ → List ℕ → Type 0

@@ -5,3 +5,4 @@ pub mod Steps
 pub mod Found
 pub mod ToldSinks
 pub mod Emptying
+pub mod Growing

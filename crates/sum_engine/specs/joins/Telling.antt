@@ -1,7 +1,8 @@
 -- Joins the writing of a text to its being handed on at once, by outputs that hold nothing.
 use Rattle.std.specs.Prelude.{ℕ, ◌≡◌, ◌⊎◌, List, [], Option, Result, Ok, Err}
 use Rattle.std.specs.Io.KnownBytes.{Appends}
-use Rattle.sum_lines.specs.Sinks.{AppendsPrefix, after_failure}
+use Rattle.sum_lines.specs.Sinks.{after_failure}
+use Rattle.sum_lines.specs.joins.Growing.{AppendsPrefix}
 
 -- all of the text was handed on, or a prefix of it where a call failed
 abbrev pub Hands : {E : Type 0} → Option (List ℕ) → Option (List ℕ) → List ℕ → Result (Unit {0}) E → Type 0

@@ -9,4 +9,4 @@ returns-in_err-flush-clause-bytes g c =
 -- the flush of standard error failed
 pub returns-in_err-flush-2-clause-bytes : goal.returns-in_err-flush-2-clause-bytes
 returns-in_err-flush-2-clause-bytes g c = λ out err.
-    (flushed-none _ _ c.in_ok-flush.ensures.bytes out, dropped-none _ _ c.in_err-flush-2.ensures.bytes err)
+    (flushed-none _ _ c.in_ok-flush.ensures.bytes.0 out, dropped-none _ _ c.in_err-flush-2.ensures.bytes err)

@@ -27,9 +27,9 @@ loop-rest-preserved g c =
     let took = c.in_ok-count.ensures.bytes in
     let before = c.loop-rest.invariant in
     record {
-      left = Left-step _ before.left (cut_at rest count) took.1;
+      left = Left-step _ before.left (cut_at rest count) took.2;
       offered = rw (take_rest rest count)
-          (Offered-more count before.offered c.in_ok-count.ensures.offers (took.0.1 some) took.0.0);
+          (Offered-more count before.offered c.in_ok-count.ensures.offers (took.1 some) took.0);
     }
 
 -- all was written

@@ -5,4 +5,4 @@ use Rattle.sum_lines.proofs.told_sink.ToldSinkSink.write.Goals as goal
 
 -- what there is room for stands behind the bytes
 pub returns-clause-bytes : goal.returns-clause-bytes
-returns-clause-bytes g c = (search rules, Wrote-told _ _ _ _ (grind (arith, common_steps)))
+returns-clause-bytes g c = (search rules, search rules, Wrote-told _ _ _ _ (grind (arith, common_steps)))
