@@ -1,32 +1,26 @@
 -- A run and its end, joined: what the whole program does.
-use Rattle.std.proofs.Common.{◌≡◌, ℕ, List, [], ◌++◌, Option, None, Some, Result, Ok, Err, refl, sym, ◌∙◌, inl, inr, subst, append-nil}
-use Rattle.std.specs.Prelude.{◌⊎◌}
+use Rattle.std.proofs.Common.{◌≡◌, ℕ, List, [], Option, None, Some, Result, Ok, Err, refl, sym, ◌∙◌, inl, inr, subst, append-nil}
 use Rattle.std.specs.Io.KnownBytes.{Keeps, Appends}
 use Rattle.std.proofs.KnownBytes.{Appends-kept}
 use Rattle.std.proofs.Math.Bool.{or-false}
 use Rattle.sum_sources.specs.Contents.{WhereTold}
+use Rattle.sum_lines.specs.Sinks.{IsPrefix}
 use Rattle.sum_engine.specs.declared.stop.Stop.{Stop}
 use Rattle.sum_engine.specs.declared.stop.Stop.TheVariants.{Memory, Write}
 use Rattle.sum_engine.specs.Worlds.{World}
 use Rattle.sum_engine.specs.Runs.{Event, Run, events, events_by}
 use Rattle.sum_engine.specs.Scenes.{Scene, scene_by, Did, RunOf, Kept, Rose}
 use Rattle.sum_engine.proofs.WorldLemmas.{after-none}
-use Rattle.sum_engine.proofs.SceneLemmas.{Seen, seen, seen_at, did_by, did_both}
+use Rattle.sum_engine.proofs.SceneLemmas.{Seen, seen, seen_at, did_by}
 use Rattle.sum_words.specs.Items.{Text}
 use Rattle.sum_words.specs.CommandLines.{Call}
 use Rattle.sum_words.specs.joins.Arguments.{CallIs, MayBeUnread}
 use Rattle.digests.specs.Meaning.{status_of}
 use Rattle.digests.specs.Headline.{RunsTo}
-use Rattle.digests.specs.Program.{Failing, EndsWhole, EndsBroken, EndsWaiting, EndsGives, ProgramGives, run_of, stop_told}
+use Rattle.digests.specs.Program.{Failing, Failed, Leaves, EndsGives, ProgramGives, run_of, stop_told}
 use Rattle.sum_engine.specs.joins.Telling.{Fails}
 use Rattle.digests.specs.joins.Endings.{Closes}
 use Rattle.digests.specs.joins.Operands.{once_told}
-
--- the failures of a run that answers so
-abbrev pub FailingOf : {A : Type 0} → Failing → Failing → Result A Stop → Type 0
-FailingOf f g (Ok a) = g ≡ f
-FailingOf f g (Err Memory) = g ≡ f
-FailingOf f g (Err Write) = Rose f.out g.out f.err g.err
 
 -- what a run's answer says of the failures of both outputs
 abbrev pub CountsOf : {A : Type 0} → ℕ → ℕ → ℕ → ℕ → Result A Stop → Type 0
@@ -35,14 +29,14 @@ CountsOf o i e j r = Kept o i e j
 
 -- the same, by the counts themselves
 pub failing-of : (o i e j : ℕ) (r : Result ℕ Stop) → CountsOf o i e j r
-    → FailingOf (record { out = o; err = e }) (record { out = i; err = j }) r
+    → Failed (record { out = o; err = e }) (record { out = i; err = j }) r
 failing-of o i e j (Ok a) h = rw (h.0, h.1) refl
 failing-of o i e j (Err Memory) h = rw (h.0, h.1) refl
 failing-of o i e j (Err Write) h = h
 
 -- one text was told on standard error
 pub failing-told : {E : Type 0} (o e j status : ℕ) (r : Result (Unit {0}) E) → Fails e j r
-    → FailingOf (record { out = o; err = e }) (record { out = o; err = j }) (once_told r status)
+    → Failed (record { out = o; err = e }) (record { out = o; err = j }) (once_told r status)
 failing-told o e j status (Ok u) h = rw h refl
 failing-told o e j status (Err f) h = inr (refl, h)
 
@@ -66,61 +60,33 @@ kept_is None b h = tt
 kept_is (Some x) None h = absurd h
 kept_is (Some x) (Some y) h = h ∙ sym (append-nil x)
 
--- and then a line was said
-did_said : {a b : Scene} (p : List Event) (out err : Option Text) (said : Text) → Did a b p → Keeps b.out out
-    → Appends b.err err said → Did a (with_outputs b out err) (p ++ events_by [] said [])
-did_said {a} {b} p out err said h o e = did_both p (events_by [] said []) h (
-    did_by [] said [] (after-none b.world) (sym (or-false b.taken)) e (kept_is b.out out o))
+-- a line was said, and nothing else was done
+did_line : (b : Scene) (out err : Option Text) (said : Text) → Keeps b.out out → Appends b.err err said
+    → Did b (with_outputs b out err) (events_by [] said [])
+did_line b out err said o e = did_by [] said [] (after-none b.world) (sym (or-false b.taken)) e (kept_is b.out out o)
 
 -- ---- a run that answered, and its end; f, g and h are the failures at first, after the run and in the end
 
 -- what a program gives between two scenes
-abbrev Ends : Run → (Stop → Text) → ℕ → ℕ → Failing → Failing → Scene → Scene → ℕ → Type 0
-Ends run line n m f h a b status = EndsWhole run f h a b status
-    ⊎ (EndsBroken run (line Write) f h a b status ⊎ EndsWaiting run (line Memory) n m f h a b status)
+abbrev Ends : Option Call → Run → ℕ → ℕ → Failing → Failing → Scene → Scene → ℕ → Type 0
+Ends line run n m f h a b status = (answer : Result ℕ Stop) × (between : Scene) × (g : Failing)
+    × RunOf (status_of run.good) run.steps n m a between answer × Failed f g answer
+    × Leaves line answer g h between b status
 
--- by the run's answer
-ends : {a : Scene} (b : Scene) (status : ℕ) (run : Run) (line : Stop → Text) (n m : ℕ) (f g h : Failing)
+-- by the run's answer; where the last flush failed, that is a write fault behind all events
+ends : {a : Scene} (b : Scene) (status : ℕ) (run : Run) (line : Option Call) (n m : ℕ) (f g h : Failing)
     (out err : Option Text) (answer : Result ℕ Stop) → RunOf (status_of run.good) run.steps n m a b answer
-    → FailingOf f g answer
-    → Closes line answer b.out out b.err err g h status
-    → Ends run line n m f h a (with_outputs b out err) status
-ends b status run line n m f g h out err (Ok answer) ran failed (inl done) = inl (record {
-  is = done.0 ∙ ran.0;
-  did = did_kept (events run.steps) out err ran.1 done.1 done.2;
-  kept = done.3 ∙ failed;
-})
-ends b status run line n m f g h out err (Ok answer) ran failed (inr cut) = inr (inl (record {
-  is = cut.2.is;
-  prefix = events run.steps;
-  begins = ([], sym (append-nil (events run.steps)));
-  broken = cut.0;
-  rose = subst (λ (x : Failing). Rose x.out cut.0.out x.err cut.0.err) failed cut.1;
-  said = cut.2.said;
-  says = cut.2.says;
-  did = did_said (events run.steps) out err cut.2.said ran.1 cut.2.out cut.2.err;
-}))
-ends b status run line n m f g h out err (Err Write) ran failed told = inr (inl (record {
-  is = told.is;
-  prefix = ran.0;
-  begins = ran.1;
-  broken = g;
-  rose = failed;
-  said = told.said;
-  says = told.says;
-  did = did_said ran.0 out err told.said ran.2 told.out told.err;
-}))
-ends b status run line n m f g h out err (Err Memory) ran failed told = inr (inr (record {
-  is = told.is;
-  done = ran.0;
-  next = ran.1;
-  rest = ran.2;
-  begins = ran.3;
-  wants = ran.5;
-  said = told.said;
-  says = rw failed at told.says;
-  did = did_said (events ran.0) out err told.said ran.4 told.out told.err;
-}))
+    → Failed f g answer → Closes (stop_told line) answer b.out out b.err err g h status
+    → Ends line run n m f h a (with_outputs b out err) status
+ends b status run line n m f g h out err (Ok answer) ran failed (inl done) =
+    (Ok answer, with_outputs b out err, g, (ran.0, did_kept (events run.steps) out err ran.1 done.1 done.2), failed,
+    (done.0, done.3, refl))
+ends b status run line n m f g h out err (Ok answer) ran failed (inr (broken, rose, told)) =
+    let all : IsPrefix (events run.steps) (events run.steps) = ([], sym (append-nil (events run.steps))) in
+    (Err Write, b, broken, (events run.steps, all, ran.1), rw failed at rose,
+    (told.is, told.said, told.says, did_line b out err told.said told.out told.err))
+ends b status run line n m f g h out err (Err stop) ran failed told =
+    (Err stop, b, g, ran, failed, (told.is, told.said, told.says, did_line b out err told.said told.out told.err))
 
 -- what follows of a scene with other outputs
 with_others : (s : Option Scene) (w : Option World) (b : Seen) (out err : Option Text) (P Q : Scene → Scene → Type 0)
@@ -135,11 +101,11 @@ with_others (Some a) (Some v) b out err P Q h f = f a v h
 -- the same, where the scenes tell: b is how things stood after the run
 pub program_ends : (status : ℕ) (line : Option Call) (n m : ℕ) (f g h : Failing) (s : Option Scene) (b : Seen)
     (out err : Option Text) (answer : Result ℕ Stop) → RunsTo (run_of line) n m s (seen b) answer
-    → FailingOf f g answer → Closes (stop_told line) answer b.out out b.err err g h status
+    → Failed f g answer → Closes (stop_told line) answer b.out out b.err err g h status
     → EndsGives line n m f h s (seen (record b { out = out; err = err })) status
 program_ends status line n m f g h s b out err answer ran failed closed =
     with_others s b.world b out err _ _ ran (λ a v did.
-    ends (seen_at b v) status (run_of line a.world) (stop_told line) n m f g h out err answer did failed closed)
+    ends (seen_at b v) status (run_of line a.world) line n m f g h out err answer did failed closed)
 
 -- ---- by what was read of the arguments
 

@@ -1,6 +1,6 @@
 -- What a command line means: a run, which opens names and writes to both outputs, and whether all is good, which the
 -- status tells.
-use Rattle.std.specs.Prelude.{ℕ, Bool, true, false, List, [], ◌∷◌, Result, Ok, Err, codes}
+use Rattle.std.specs.Prelude.{ℕ, Bool, true, false, List, [], ◌∷◌, Result, Ok, Err, codes, if◌then◌else◌}
 use Rattle.sum_engine.specs.Worlds.{World, after}
 use Rattle.sum_engine.specs.Runs.{Run, nothing, joined, at_once, asks}
 use Rattle.sum_engine.specs.Generation.{generated}
@@ -42,5 +42,4 @@ meaning t words w = answered t (request t words) w
 
 -- the status: 0 where all is good, else 1
 abbrev pub status_of : Bool → ℕ
-status_of true = 0
-status_of false = 1
+status_of good = if good then 0 else 1

@@ -1,13 +1,13 @@
 -- What the program does, from the list of its arguments to its status.
-use Rattle.std.specs.Prelude.{ℕ, ◌≡◌, ◌⊎◌, false, List, [], ◌∷◌, ◌++◌, Option, None, Some, ⊤}
+use Rattle.std.specs.Prelude.{ℕ, ◌≡◌, ◌⊎◌, false, List, [], Option, None, Some, Result, Ok, Err, ⊤}
 use Rattle.sum_sources.specs.Contents.{WhereTold}
 use Rattle.sum_lines.specs.Sinks.{IsPrefix, after_failure}
 use Rattle.sum_engine.specs.declared.stop.Stop.{Stop}
-use Rattle.sum_engine.specs.declared.stop.Stop.TheVariants.{Memory, Write}
+use Rattle.sum_engine.specs.declared.stop.Stop.TheVariants.{Write}
 use Rattle.sum_engine.specs.declared.streams.Streams.{Streams}
 use Rattle.sum_engine.specs.Worlds.{World}
-use Rattle.sum_engine.specs.Runs.{Event, Step, Run, events_by, events, at_once}
-use Rattle.sum_engine.specs.Scenes.{Scene, Did, Wants, Rose}
+use Rattle.sum_engine.specs.Runs.{Run, events_by, at_once}
+use Rattle.sum_engine.specs.Scenes.{Scene, Did, RunOf, Rose}
 use Rattle.sum_words.specs.Items.{Text}
 use Rattle.sum_words.specs.CommandLines.{Call, unknown, call, command_line, NeedsMemory}
 use Rattle.sum_words.specs.Texts.{not_read, unknown_tool, stop_line}
@@ -31,45 +31,29 @@ pub record Failing : Type 0 where
 abbrev pub failing : {I S O E : Type 0} → (O → ℕ) → (E → ℕ) → Streams I S O E → Failing
 failing out err s = record { out = out s.out; err = err s.err }
 
+-- the failures over a run that answers so: one output failed where that is a write fault, and else none
+abbrev pub Failed : Failing → Failing → Result ℕ Stop → Type 0
+Failed f g (Err Write) = Rose f.out g.out f.err g.err
+Failed f g answer = g ≡ f
+
 -- this much of a line was handed on by standard error: all of it; or a prefix, where that output failed
 abbrev pub Says : Text → Text → Failing → Failing → Type 0
 Says line said f g =
     (g.out ≡ f.out) × (((said ≡ line) × (g.err ≡ f.err)) ⊎ (IsPrefix said line × (g.err ≡ after_failure f.err)))
 
--- all events came about, and no output failed
-pub record EndsWhole (run : Run) (f g : Failing) (a b : Scene) (status : ℕ) : Type 0 where
-  pub is : status ≡ status_of run.good
-  pub did : Did a b (events run.steps)
-  pub kept : g ≡ f
+-- what an answer leaves to be done: nothing, and it is the status; or the stop is told, and the status is 1
+abbrev pub Leaves : Option Call → Result ℕ Stop → Failing → Failing → Scene → Scene → ℕ → Type 0
+Leaves line (Ok answer) f g a b status = (status ≡ answer) × (g ≡ f) × (b ≡ a)
+Leaves line (Err stop) f g a b status =
+    (status ≡ 1) × (said : Text) × Says (stop_told line stop) said f g × Did a b (events_by [] said [])
 
--- an output failed: one prefix of the events came about, and then the line for that was told
-pub record EndsBroken (run : Run) (line : Text) (f g : Failing) (a b : Scene) (status : ℕ) : Type 0 where
-  pub is : status ≡ 1
-  pub prefix : List Event
-  pub begins : IsPrefix prefix (events run.steps)
-  pub broken : Failing
-  pub rose : Rose f.out broken.out f.err broken.err
-  pub said : Text
-  pub says : Says line said broken g
-  pub did : Did a b (prefix ++ events_by [] said [])
-
--- memory was wanted at a step: the steps before it came about, and then the line for that was told
-pub record EndsWaiting (run : Run) (line : Text) (n m : ℕ) (f g : Failing) (a b : Scene) (status : ℕ) : Type 0 where
-  pub is : status ≡ 1
-  pub done : List Step
-  pub next : Step
-  pub rest : List Step
-  pub begins : run.steps ≡ done ++ next ∷ rest
-  pub wants : Wants n m next
-  pub said : Text
-  pub says : Says line said f g
-  pub did : Did a b (events done ++ events_by [] said [])
-
--- THE PROGRAM, for what it was called for: in one of these three ways
+-- THE PROGRAM, for what it was called for: its run, as the headline has it, up to a scene and failures in between; and
+-- then what its answer leaves to be done
 abbrev pub EndsGives : Option Call → ℕ → ℕ → Failing → Failing → Option Scene → Option Scene → ℕ → Type 0
 EndsGives line n m f g a b status = WhereTold a b (λ a b. let run = run_of line a.world in
-    EndsWhole run f g a b status ⊎ (EndsBroken run (stop_told line Write) f g a b status
-    ⊎ EndsWaiting run (stop_told line Memory) n m f g a b status))
+    (answer : Result ℕ Stop) × (between : Scene) × (h : Failing)
+    × RunOf (status_of run.good) run.steps n m a between answer × Failed f h answer
+    × Leaves line answer h g between b status)
 
 -- what it is called for is said by the arguments; or the words couldn't be read, which needed memory
 abbrev pub ProgramGives : Option (List Text) → ℕ → ℕ → Failing → Failing → Option Scene → Option Scene → ℕ → Type 0

@@ -4,12 +4,12 @@ use Rattle.std.proofs.lemmas.Bool.{ne_eqb}
 use Rattle.std.proofs.lemmas.Bool.Decides.{eqb_tells}
 use Rattle.std.proofs.lemmas.List.Elements.{All-head, All-tail}
 use Rattle.sum_words.specs.declared.tool.Tool.{Tool}
-use Rattle.sum_words.specs.Items.{Text, operand, items}
+use Rattle.sum_words.specs.Items.{Text, operand, a_word, items_from}
 use Rattle.sum_words.specs.PlainWords.{is_plain, PlainWordsAreOperands, WordsBehindAreOperands}
 
 -- a word that begins with another character is an operand
 no_dash : (t : Tool) (b : ℕ) (bs : Text) (more : List Text) → eqb b 45 ≡ false → eqb 45 b ≡ false
-    → items t ((b ∷ bs) ∷ more) ≡ operand (b ∷ bs) ∷ items t more
+    → items_from t a_word ((b ∷ bs) ∷ more) ≡ operand (b ∷ bs) ∷ items_from t a_word more
 no_dash t b bs more here there = rw (here, there) refl
 
 -- a word that begins with a dash is plain only if it is a dash alone
@@ -19,12 +19,12 @@ plain_dash (c ∷ cs) h = cc
 
 -- a dash alone is an operand
 dash_alone : (t : Tool) (bs : Text) (more : List Text) → bs ≡ []
-    → items t ((45 ∷ bs) ∷ more) ≡ operand (45 ∷ bs) ∷ items t more
+    → items_from t a_word ((45 ∷ bs) ∷ more) ≡ operand (45 ∷ bs) ∷ items_from t a_word more
 dash_alone t bs more h = rw h refl
 
 -- a plain word is one
 plain_word : (t : Tool) (word : Text) (more : List Text) → is_plain word ≡ true
-    → items t (word ∷ more) ≡ operand word ∷ items t more
+    → items_from t a_word (word ∷ more) ≡ operand word ∷ items_from t a_word more
 plain_word t [] more h = refl
 plain_word t (b ∷ bs) more h = elim (eqb_tells b 45) [
   | inl dash ↦ rw dash.1 (dash_alone t bs more (plain_dash bs (rw dash.1 at h)))

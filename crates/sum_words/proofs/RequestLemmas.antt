@@ -15,7 +15,7 @@ use Rattle.sum_words.specs.declared.reading.Job.{Job}
 use Rattle.sum_words.specs.declared.reading.Request.TheVariants.{Work}
 use Rattle.sum_words.specs.Tools.{algos_of}
 use Rattle.sum_words.specs.Faults.{Fault}
-use Rattle.sum_words.specs.Items.{Text, Item, option, items, options_of, values_of, operands_of}
+use Rattle.sum_words.specs.Items.{Text, Item, option, a_word, items_from, options_of, values_of, operands_of}
 use Rattle.sum_words.specs.joins.Walk.{full_name}
 use Rattle.sum_words.specs.Request.{length_kind, faults, job_of, kind_asked, ending, request}
 use Rattle.sum_words.specs.joins.Reading.{first_fault, is_number, IsNumberOf}
@@ -51,19 +51,20 @@ row_none (Some p) r h = cc
 
 -- where no item decides the request, it is the first fault of the options that holds
 pub request_fault : {kind : Option KindValue} {f : Fault} (t : Tool) (words : List Text)
-    → ending (items t words) ≡ None → kind_asked (values_of (items t words)) ≡ Ok kind
-    → first_fault (options_of (items t words)) ≡ Some f → request t words ≡ Err f
+    → ending (items_from t a_word words) ≡ None → kind_asked (values_of (items_from t a_word words)) ≡ Ok kind
+    → first_fault (options_of (items_from t a_word words)) ≡ Some f → request t words ≡ Err f
 request_fault {kind = kind} t words none is holds =
-    let given = options_of (items t words) in
+    let given = options_of (items_from t a_word words) in
     rw (none, is, row_fault (find (λ p. p.0) (faults given)) (job_of (algos_of t) kind given) holds) refl
 
 -- and where none of these holds, the work
 pub request_work : {kind : Option KindValue} {r : Result Job Fault} (t : Tool) (words : List Text)
-    → ending (items t words) ≡ None → kind_asked (values_of (items t words)) ≡ Ok kind
-    → first_fault (options_of (items t words)) ≡ None → r ≡ job_of (algos_of t) kind (options_of (items t words))
-    → request t words ≡ result_map_both (λ job. Work job (operands_of (items t words))) (λ f. f) r
+    → ending (items_from t a_word words) ≡ None → kind_asked (values_of (items_from t a_word words)) ≡ Ok kind
+    → first_fault (options_of (items_from t a_word words)) ≡ None
+    → r ≡ job_of (algos_of t) kind (options_of (items_from t a_word words))
+    → request t words ≡ result_map_both (λ job. Work job (operands_of (items_from t a_word words))) (λ f. f) r
 request_work {kind = kind} t words none is holds job =
-    let given = options_of (items t words) in
+    let given = options_of (items_from t a_word words) in
     rw (none, is, row_none (find (λ p. p.0) (faults given)) (job_of (algos_of t) kind given) holds, ← job) refl
 
 -- the kind that the last length value asks for was read

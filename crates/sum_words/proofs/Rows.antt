@@ -1,5 +1,5 @@
 -- Worked command lines: what the definitions say of each computes.
-use Rattle.std.proofs.Common.{◌≡◌, ◌≤◌, ◌<◌, List, ℕ, [], ◌∷◌, Result, Ok, Err, Some, None, refl, codes, true, false, zero, suc, length, inl, inr, arith, ap, lit≤}
+use Rattle.std.proofs.Common.{◌≡◌, ◌≤◌, ◌<◌, List, ℕ, [], ◌∷◌, Result, Ok, Err, Option, Some, None, is_some, if◌then◌else◌, refl, codes, true, false, zero, suc, length, inl, inr, arith, ap, lit≤}
 use Rattle.std.specs.Str.{chars}
 use lib.Utf8.{encode}
 use Rattle.digest_kinds.specs.declared.algo.Algo.{Algo}
@@ -8,6 +8,7 @@ use Rattle.digest_kinds.specs.declared.algo.Algos.TheVariants.{One, Any}
 use Rattle.sum_lines.specs.declared.written.Mode.{Mode}
 use Rattle.sum_lines.specs.declared.written.Mode.TheVariants as modes
 use Rattle.sum_engine.specs.declared.settings.Report.TheVariants as reports
+use Rattle.sum_words.specs.declared.tool.Tool.{Tool}
 use Rattle.sum_words.specs.declared.tool.Tool.TheVariants.{Md5sum, Sha256sum, B2sum, Anysum}
 use Rattle.sum_words.specs.declared.reading.Request.{Request}
 use Rattle.sum_words.specs.declared.reading.Request.TheVariants.{Work, Help, Version}
@@ -15,7 +16,7 @@ use Rattle.sum_words.specs.declared.reading.Job.TheVariants.{Generate, Check}
 use Rattle.sum_words.specs.Faults.{Fault, unknown_long, ambiguous_long, value_not_allowed, value_missing, unknown_short, length_invalid, length_not_bytes, tag_with_text, zero_with_check, tag_with_check, mode_with_check, without_check, check_needed}
 use Rattle.sum_words.specs.Items.{Text, resolved, lettered}
 use Rattle.sum_words.specs.Request.{request}
-use Rattle.sum_words.specs.CommandLines.{last_part, kept_by, NeedsMemory, MayNotRead}
+use Rattle.sum_words.specs.CommandLines.{last_part, NeedsMemory, MayNotRead}
 use Rattle.sum_words.specs.Tools.{tool_called}
 use Rattle.sum_words.specs.declared.command_line.TheConstants.{PAGE}
 
@@ -265,7 +266,8 @@ not_longer short argument h same long = absurd (omega (arith, h, ap length same,
 -- a command line without a word is always read, where the name is no longer than the page
 no_words : (name : Text) → length name ≤ PAGE → MayNotRead (name ∷ []) → ⊥
 no_words name h (inl none) = cc
-no_words name h (inr (inl kept)) = elim (tool_called (last_part name)) as (λ o. 0 < length (kept_by o []) → ⊥) [
+no_words name h (inr (inl kept)) = elim (tool_called (last_part name)) as (λ o.
+    let called : Option Tool × List Text = if is_some o then (o, []) else (None, []) in 0 < length called.1 → ⊥) [
   | None ↦ λ some. absurd (omega (arith, some))
   | Some tool ↦ λ some. absurd (omega (arith, some))
 ] kept

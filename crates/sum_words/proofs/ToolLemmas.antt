@@ -1,13 +1,14 @@
 -- The search for a tool by its name.
 use Rattle.std.proofs.Common.{◌≡◌, ◌↔◌, Bool, true, false, cond, List, [], ◌∷◌, ℕ, Option, Some, refl, sym, ◌∙◌}
 use Rattle.std.specs.List.{find}
+use Rattle.std.specs.Str.{bytes_eq}
 use Rattle.std.proofs.lemmas.Slice.Eq.{bytes_eq-Decides}
 use Rattle.sum_words.specs.declared.tool.Tool.{Tool}
 use Rattle.sum_words.specs.declared.tool.Tool.TheVariants as tools
-use Rattle.sum_words.specs.Tools.{name_of, is_called, all_tools, tool_called}
+use Rattle.sum_words.specs.Tools.{name_of, all_tools, tool_called}
 
 -- each tool is found by its own name
-found_by_name : (tool : Tool) → find (is_called (name_of tool)) all_tools ≡ Some tool
+found_by_name : (tool : Tool) → find (λ t. bytes_eq (name_of t) (name_of tool)) all_tools ≡ Some tool
 found_by_name tools.Md5sum = refl
 found_by_name tools.Sha1sum = refl
 found_by_name tools.Sha224sum = refl
@@ -27,10 +28,10 @@ found_passes test (y ∷ ys) x h =
     ] refl h
 
 -- so a tool is found by a word exactly where the word is its name
-named_by : (word : List ℕ) (r : Option Tool) → find (is_called word) all_tools ≡ r → (tool : Tool)
+named_by : (word : List ℕ) (r : Option Tool) → find (λ t. bytes_eq (name_of t) word) all_tools ≡ r → (tool : Tool)
     → (r ≡ Some tool) ↔ (name_of tool ≡ word)
 named_by word r e tool = (
-  λ h. (bytes_eq-Decides (name_of tool) word).0 (found_passes (is_called word) all_tools tool (e ∙ h)),
+  λ h. (bytes_eq-Decides (name_of tool) word).0 (found_passes (λ t. bytes_eq (name_of t) word) all_tools tool (e ∙ h)),
   λ h. sym e ∙ (rw (← h) (found_by_name tool)),
 )
 

@@ -1,6 +1,7 @@
 -- What the program is called for: from the list of its arguments, the name that it was called by and the words.
-use Rattle.std.specs.Prelude.{ℕ, ◌≡◌, ◌<◌, ◌⊎◌, ◌==◌, List, [], ◌∷◌, length, drop, slice_get, Option, None, Some, if◌then◌else◌}
+use Rattle.std.specs.Prelude.{ℕ, ◌≡◌, ◌<◌, ◌⊎◌, ◌==◌, List, length, drop, slice_get, Option, None, Some, is_some, if◌then◌else◌}
 use Rattle.std.specs.List.{after_last, list_all}
+use Rattle.std.specs.Option.{option_and_then, option_map_or}
 use Rattle.std.specs.Str.{is_utf8}
 use Rattle.sum_words.specs.declared.command_line.TheConstants.{PAGE}
 use Rattle.sum_words.specs.declared.tool.Tool.{Tool}
@@ -16,34 +17,16 @@ pub data Call : Type 0 where
   unknown : Call
   call : Tool → List Text → Call
 
--- the first word names the tool, and the others are its words
-abbrev pub on_words : Option Tool → List Text → Call
-on_words None words = unknown
-on_words (Some tool) words = call tool words
-
-abbrev pub by_word : List Text → Call
-by_word [] = unknown
-by_word (word ∷ words) = on_words (tool_called word) words
-
--- but where the program was called by a tool's name, all words are that tool's
-abbrev pub by_name : Option Tool → List Text → Call
-by_name None words = by_word words
-by_name (Some tool) words = call tool words
+-- the tool and its words: all of them, where the program was called by a tool's name; else the first names the tool
+abbrev pub tool_and_words : List Text → Option Tool × List Text
+tool_and_words all =
+    let called = option_and_then (λ name. tool_called (last_part name)) (slice_get all 0) in
+    if is_some called then (called, drop 1 all) else (option_and_then tool_called (slice_get all 1), drop 2 all)
 
 -- nothing, where a word is not a text
 abbrev pub command_line : List Text → Option Call
-command_line [] = Some unknown
-command_line (name ∷ words) =
-    if list_all is_utf8 words then Some (by_name (tool_called (last_part name)) words) else None
-
--- the words to keep: all of them where the program was called by a tool's name, and else those behind the first
-abbrev pub kept_by : Option Tool → List Text → List Text
-kept_by None words = drop 1 words
-kept_by (Some tool) words = words
-
-abbrev pub kept_words : List Text → List Text
-kept_words [] = []
-kept_words (name ∷ words) = kept_by (tool_called (last_part name)) words
+command_line all = if list_all is_utf8 (drop 1 all)
+    then Some (option_map_or (λ tool. call tool (tool_and_words all).1) (tool_and_words all).0 unknown) else None
 
 -- the argument at a place is longer than so many bytes
 abbrev pub LongerAt : List Text → ℕ → ℕ → Type 0
@@ -51,7 +34,7 @@ LongerAt all place n = (argument : Text) × (slice_get all place ≡ Some argume
 
 -- memory is needed for the words: there is one to keep, or an argument is longer than the page that it is read into
 abbrev pub NeedsMemory : List Text → Type 0
-NeedsMemory all = (0 < length (kept_words all)) ⊎ ((place : ℕ) × LongerAt all place PAGE)
+NeedsMemory all = (0 < length (tool_and_words all).1) ⊎ ((place : ℕ) × LongerAt all place PAGE)
 
 -- only then can the command line be left unread: a word is not a text, or memory is needed
 abbrev pub MayNotRead : List Text → Type 0

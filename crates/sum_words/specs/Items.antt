@@ -40,8 +40,7 @@ table t = common
 abbrev pub takes_value : Text → Bool
 takes_value full = bytes_eq full (codes "length")
 
--- what a word says by itself, and how the next one is read: as it stands, as the value of an option (which was long,
--- or not), or not at all
+-- what a word says, with how the next one is read: as it stands, as an option's value (a long one's or not), or not
 pub data Next : Type 0 where
   a_word : Next
   a_value : Bool → Next
@@ -57,7 +56,6 @@ name_part text = before_first (λ b. b == byte "=") text
 abbrev pub value_part : Text → Option Text
 value_part text = option_map (λ i. drop (i + 1) text) (position (λ b. b == byte "=") text)
 
--- whether a name is among these
 abbrev pub has : Text → List Text → Bool
 has name names = list_any (bytes_eq name) names
 
@@ -78,8 +76,7 @@ long (Ok full) None = if takes_value full then ([], a_value true) else (option f
 long (Ok full) (Some value) =
     if takes_value full then (length_value value ∷ [], a_word) else (fault (value_not_allowed full) ∷ [], no_word)
 
--- A cluster: its characters are options one by one, by their letters. The rest of the word is a value where one takes
--- it and something is left.
+-- a cluster: options one by one, by their letters; what is left of the word is the value of one that takes it
 unfoldable pub lettered : Tool → ℕ → Option Text
 lettered t c = option_map (λ row. row.1) (find (λ row. bytes_eq row.0 (c ∷ [])) (table t))
 
@@ -95,8 +92,7 @@ abbrev pub cluster : Tool → List ℕ → Read
 cluster t [] = ([], a_word)
 cluster t (c ∷ cs) = letter_then c (lettered t c) cs (cluster t cs)
 
--- A word that begins with "--" is a long option, what else begins with '-' is a cluster, unless it is a dash alone, and
--- any other word is an operand.
+-- a long option behind "--"; or a cluster behind '-', unless it is a dash alone; or an operand
 abbrev pub read_word : Tool → Text → Read
 read_word t word =
     if starts_with eqb word (codes "--") then long (resolved t (name_part (drop 2 word))) (value_part (drop 2 word))
@@ -112,9 +108,6 @@ items_from t a_word (w ∷ ws) =
     else (read_word t w).0 ++ items_from t (read_word t w).1 ws
 items_from t (a_value is_long) [] = fault (value_missing is_long) ∷ []
 items_from t (a_value is_long) (w ∷ ws) = length_value w ∷ items_from t a_word ws
-
-abbrev pub items : Tool → List Text → List Item
-items t words = items_from t a_word words
 
 -- the full names of the options among the items, the length values, and the operands, each in their order
 abbrev pub options_of : List Item → List Text

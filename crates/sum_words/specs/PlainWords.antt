@@ -3,7 +3,7 @@ use Rattle.std.specs.Prelude.{◌≡◌, ◌||◌, not, Bool, List, ◌∷◌, �
 use Rattle.std.specs.List.{AllPass, starts_with}
 use Rattle.std.specs.Str.{bytes_eq}
 use Rattle.sum_words.specs.declared.tool.Tool.{Tool}
-use Rattle.sum_words.specs.Items.{Text, operand, items}
+use Rattle.sum_words.specs.Items.{Text, operand, a_word, items_from}
 
 -- a word that doesn't begin with a dash, or is a dash alone
 abbrev pub is_plain : Text → Bool
@@ -12,8 +12,8 @@ is_plain word = not (starts_with eqb word (codes "-")) || bytes_eq word (codes "
 -- plain words are operands, whatever follows them
 abbrev pub PlainWordsAreOperands : Type 0
 PlainWordsAreOperands = (t : Tool) (words more : List Text) → AllPass is_plain words →
-    items t (words ++ more) ≡ map operand words ++ items t more
+    items_from t a_word (words ++ more) ≡ map operand words ++ items_from t a_word more
 
 -- behind two dashes every word is one
 abbrev pub WordsBehindAreOperands : Type 0
-WordsBehindAreOperands = (t : Tool) (words : List Text) → items t (codes "--" ∷ words) ≡ map operand words
+WordsBehindAreOperands = (t : Tool) (words : List Text) → items_from t a_word (codes "--" ∷ words) ≡ map operand words

@@ -20,10 +20,9 @@ use Rattle.sum_words.specs.declared.reading.Job.{Job}
 use Rattle.sum_words.specs.declared.reading.Job.TheVariants.{Generate, Check}
 use Rattle.sum_words.specs.Tools.{algos_of}
 use Rattle.sum_words.specs.Faults.{Fault, length_invalid, length_not_bytes, tag_with_text, zero_with_check, tag_with_check, mode_with_check, without_check, check_needed}
-use Rattle.sum_words.specs.Items.{Text, Item, option, fault, has, items, options_of, values_of, operands_of}
+use Rattle.sum_words.specs.Items.{Text, Item, option, fault, has, a_word, items_from, options_of, values_of, operands_of}
 
--- Of the options that set a mode the last that is given counts, and of those that set a report; an empty text stands
--- for none.
+-- of the options that set a mode the last that is given counts, and of those that set a report; [] stands for none
 abbrev pub last_of : List Text → List Text → Text
 last_of names given = unwrap_or (last_or None (filter (λ name. has name names) given)) []
 
@@ -51,9 +50,7 @@ faults given =
     ∷ (has (codes "tag") given && check, tag_with_check)
     ∷ ((has (codes "binary") given || has (codes "text") given) && check, mode_with_check)
     ∷ (has (codes "ignore-missing") given && not check, without_check (codes "ignore-missing"))
-    ∷ (bytes_eq (report_option given) (codes "status") && not check, without_check (codes "status"))
-    ∷ (bytes_eq (report_option given) (codes "warn") && not check, without_check (codes "warn"))
-    ∷ (bytes_eq (report_option given) (codes "quiet") && not check, without_check (codes "quiet"))
+    ∷ (not (bytes_eq (report_option given) []) && not check, without_check (report_option given))
     ∷ (has (codes "strict") given && not check, without_check (codes "strict")) ∷ []
 
 -- what the options ask for where none of these holds; a tool without an algorithm of its own needs --check
@@ -108,6 +105,6 @@ ending (x ∷ xs) = ending xs
 
 abbrev pub request : Tool → List Text → Result Request Fault
 request t words =
-    let xs = items t words in
+    let xs = items_from t a_word words in
     unwrap_or (ending xs) (result_map_both (λ job. Work job (operands_of xs)) (λ f. f)
     (settled (algos_of t) (kind_asked (values_of xs)) (options_of xs)))

@@ -1,5 +1,5 @@
 -- The tools: the name of each, and the algorithms of its digests.
-use Rattle.std.specs.Prelude.{List, [], ◌∷◌, ℕ, Bool, Option, codes}
+use Rattle.std.specs.Prelude.{List, [], ◌∷◌, ℕ, Option, codes}
 use Rattle.std.specs.List.{find}
 use Rattle.std.specs.Str.{bytes_eq}
 use Rattle.digest_kinds.specs.declared.algo.Algo.TheVariants.{Md5, Sha1, Sha224, Sha256, Sha384, Sha512, Blake2b}
@@ -25,14 +25,10 @@ name_of t = (name_and_algos t).0
 abbrev pub algos_of : Tool → Algos
 algos_of t = (name_and_algos t).1
 
--- the test by which a tool is looked for
-abbrev pub is_called : List ℕ → Tool → Bool
-is_called word tool = bytes_eq (name_of tool) word
-
 -- the tools, and the one that is called so
 abbrev pub all_tools : List Tool
 all_tools = tools.Md5sum ∷ tools.Sha1sum ∷ tools.Sha224sum ∷ tools.Sha256sum ∷ tools.Sha384sum ∷ tools.Sha512sum ∷
     tools.B2sum ∷ tools.Anysum ∷ []
 
 unfoldable pub tool_called : List ℕ → Option Tool
-tool_called word = find (is_called word) all_tools
+tool_called word = find (λ tool. bytes_eq (name_of tool) word) all_tools

@@ -4,7 +4,7 @@ ghost use Rattle.std.specs.Option.{option_copied};
 ghost use Rattle.std.specs.List.{starts_with};
 ghost use Rattle.std.specs.Str.{chars};
 ghost use Rattle.sum_words.specs.Items.{a_word, name_part, value_part, long, resolved, read_word, cluster};
-ghost use Rattle.sum_words.specs.Items.{items, items_from, operands_of};
+ghost use Rattle.sum_words.specs.Items.{items_from, operands_of};
 ghost use Rattle.sum_words.specs.joins.Walk.{items_to_come, read_then, step_says, item_of, TakesFirst, TakesWord};
 ghost use Rattle.sum_words.specs.joins.Walk.{IsBehind, is_cluster};
 ghost use Rattle.sum_words.specs.declared.tool.Tool.{Tool};
@@ -65,7 +65,7 @@ impl<'a> Model for Items<'a> {
 impl<'a> Items<'a> {
     /// All items of the words.
     pub fn new<A: Allocator>(tool: Tool, words: &'a Words<A>) -> Items<'a>
-        ensures { result ≡ items tool words.now }
+        ensures { result ≡ items_from tool a_word words.now }
     {
         Items {
             tool,
@@ -252,7 +252,7 @@ impl<'a> Model for Operands<'a> {
 impl<'a> Operands<'a> {
     /// All operands that a tool's words give.
     pub fn new<A: Allocator>(tool: Tool, words: &'a Words<A>) -> Operands<'a>
-        ensures { result ≡ operands_of (items tool words.now) }
+        ensures { result ≡ operands_of (items_from tool a_word words.now) }
     {
         Operands {
             items: Items::new(tool, words),

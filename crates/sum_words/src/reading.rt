@@ -2,7 +2,7 @@
 ghost use Rattle.std.specs.Prelude.{◌≡◌, ◌∷◌, List, [], None, Some, MatchResult};
 ghost use Rattle.std.specs.Option.{option_copied, option_map, option_transpose};
 ghost use Rattle.std.specs.Str.{all_ascii_digits};
-ghost use Rattle.sum_words.specs.Items.{Item as ItemSaid, items, option, options_of};
+ghost use Rattle.sum_words.specs.Items.{Item as ItemSaid, a_word, items_from, option, options_of};
 ghost use Rattle.sum_words.specs.joins.Walk.{fault_of, full_name};
 ghost use Rattle.sum_words.specs.Request.{ending, length_kind, mode_of, report_of, job_of, request};
 ghost use Rattle.sum_words.specs.joins.Reading.{IsChosenBy, first_fault, result_of, IsNumberOf};
@@ -83,9 +83,9 @@ fn read_options<'a, A: Allocator>(
     tool: Tool,
     words: &'a Words<A>,
 ) -> Result<Chosen<'a>, Result<Request<'a>, WordFault<'a>>>
-    ensures read { MatchResult result (λ c. IsChosenBy c [] (items tool words.now))
-        (λ r. ending (items tool words.now) ≡ Some (result_of r)) }
-    ensures none { MatchResult result (λ _. ending (items tool words.now) ≡ None) (λ _. Unit {0}) }
+    ensures read { MatchResult result (λ c. IsChosenBy c [] (items_from tool a_word words.now))
+        (λ r. ending (items_from tool a_word words.now) ≡ Some (result_of r)) }
+    ensures none { MatchResult result (λ _. ending (items_from tool a_word words.now) ≡ None) (λ _. Unit {0}) }
 {
     let mut items = Items::new(tool, words);
     let mut chosen = Chosen {

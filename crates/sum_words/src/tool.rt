@@ -1,8 +1,9 @@
 //! The tools, and what each is called.
 ghost use Rattle.std.specs.Prelude.{◌≡◌, ◌↔◌, Some};
 ghost use Rattle.sum_words.specs.declared.tool.Tool.{Tool};
-ghost use Rattle.sum_words.specs.Tools.{name_of, algos_of, is_called, tool_called};
+ghost use Rattle.sum_words.specs.Tools.{name_of, algos_of, tool_called};
 ghost use Rattle.std.specs.List.{find};
+ghost use Rattle.std.specs.Str.{bytes_eq};
 
 use digest_kinds::{Algo, Algos};
 
@@ -81,7 +82,7 @@ impl Tool {
 
 // The first of these tools that has this name.
 fn first_called(tools: &[Tool], name: &[u8]) -> Option<Tool>
-    ensures { result ≡ find (is_called name.now) tools.now }
+    ensures { result ≡ find (λ tool. bytes_eq (name_of tool) name.now) tools.now }
 {
     for tool in tools {
         if tool.name().as_bytes() == name {

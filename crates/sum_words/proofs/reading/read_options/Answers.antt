@@ -1,5 +1,5 @@
 use Rattle.std.proofs.Common.{◌≡◌, sym, ◌∙◌, ap, ◌∷◌}
-use Rattle.sum_words.specs.Items.{items, option}
+use Rattle.sum_words.specs.Items.{a_word, items_from, option}
 use Rattle.sum_words.specs.joins.Walk.{full_name, item_of}
 use Rattle.sum_words.specs.Request.{ending}
 use Rattle.sum_words.proofs.RequestLemmas.{ending_not}
@@ -10,7 +10,7 @@ pub loop-item-preserved-in_default-flag : goal.loop-item-preserved-in_default-fl
 loop-item-preserved-in_default-flag g c =
     let one = option (full_name c.in-Flag.flag) in
     let rest = c.next.new.self in
-    let all = items c.args.tool c.args.words.now in
+    let all = items_from c.args.tool a_word c.args.words.now in
     let taken : c.loop-item.items ≡ one ∷ rest = c.in-Some.ensures ∙ ap (λ i. item_of i ∷ rest) c.in-Flag.is in
     record {
       says = c.with_flag-chosen.ensures rest all (rw taken at c.loop-item.invariant.says);

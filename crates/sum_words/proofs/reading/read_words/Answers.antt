@@ -1,6 +1,6 @@
 use Rattle.std.proofs.Common.{◌∙◌, sym, ap, Ok}
 use Rattle.std.specs.Option.{option_map}
-use Rattle.sum_words.specs.Items.{items, options_of, values_of}
+use Rattle.sum_words.specs.Items.{a_word, items_from, options_of, values_of}
 use Rattle.sum_words.specs.joins.Walk.{fault_of}
 use Rattle.sum_words.specs.Request.{job_of}
 use Rattle.sum_words.specs.declared.reading.Request.TheVariants.{Work}
@@ -10,7 +10,7 @@ use Rattle.sum_words.proofs.reading.read_words.Goals as goal
 -- one of the options' faults holds
 pub returns-in-Some : goal.returns-in-Some
 returns-in-Some g c =
-    let xs = items c.args.tool c.args.words.now in
+    let xs = items_from c.args.tool a_word c.args.words.now in
     let says = c.in-Ok.ensures.read in
     let kind = kind_read (values_of xs) says.length c.in-Ok-asked_kind.ensures in
     sym (request_fault c.args.tool c.args.words.now c.in-Ok.ensures.none kind (sym (c.in-Some.ensures xs says)))
@@ -18,7 +18,7 @@ returns-in-Some g c =
 -- none holds, and there is a job
 pub returns-in-Ok-asked_job : goal.returns-in-Ok-asked_job
 returns-in-Ok-asked_job g c =
-    let xs = items c.args.tool c.args.words.now in
+    let xs = items_from c.args.tool a_word c.args.words.now in
     let says = c.in-Ok.ensures.read in
     let kind = kind_read (values_of xs) says.length c.in-Ok-asked_kind.ensures in
     let none = sym (c.fault_of_options.ensures xs says)
@@ -31,7 +31,7 @@ returns-in-Ok-asked_job g c =
 -- none holds, but there is no job
 pub returns-in-Err-asked_job : goal.returns-in-Err-asked_job
 returns-in-Err-asked_job g c =
-    let xs = items c.args.tool c.args.words.now in
+    let xs = items_from c.args.tool a_word c.args.words.now in
     let says = c.in-Ok.ensures.read in
     let kind = kind_read (values_of xs) says.length c.in-Ok-asked_kind.ensures in
     let none = sym (c.fault_of_options.ensures xs says)
