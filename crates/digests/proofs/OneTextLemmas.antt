@@ -3,7 +3,8 @@ use Rattle.std.proofs.Common.{ℕ, true, false, [], Option, Result, Ok, Err, ref
 use Rattle.std.proofs.Math.Bool.{or-false}
 use Rattle.std.proofs.KnownBytes.{Appends-nil}
 use Rattle.std.proofs.Common.{sym, ◌∙◌}
-use Rattle.sum_engine.specs.Runs.{events_by, at_once}
+use Rattle.sum_engine.specs.Runs.{at_once}
+use Rattle.sum_engine.specs.joins.Handling.{events_by}
 use Rattle.sum_engine.specs.joins.Telling.{Hands}
 use Rattle.sum_engine.proofs.WorldLemmas.{after-none}
 use Rattle.sum_engine.proofs.SceneLemmas.{Seen, seen, seen-told, same_world, did_by, prefix_err, prefix_out}

@@ -1,5 +1,5 @@
 -- A run and its end, joined: what the whole program does.
-use Rattle.std.proofs.Common.{◌≡◌, ℕ, List, [], Option, None, Some, Result, Ok, Err, refl, sym, ◌∙◌, inl, inr, subst, append-nil}
+use Rattle.std.proofs.Common.{◌≡◌, ℕ, List, [], map, Option, None, Some, Result, Ok, Err, refl, sym, ◌∙◌, inl, inr, subst, append-nil}
 use Rattle.std.specs.Io.KnownBytes.{Keeps, Appends}
 use Rattle.std.proofs.KnownBytes.{Appends-kept}
 use Rattle.std.proofs.Math.Bool.{or-false}
@@ -8,7 +8,7 @@ use Rattle.sum_lines.specs.Sinks.{IsPrefix}
 use Rattle.sum_engine.specs.declared.stop.Stop.{Stop}
 use Rattle.sum_engine.specs.declared.stop.Stop.TheVariants.{Memory, Write}
 use Rattle.sum_engine.specs.Worlds.{World}
-use Rattle.sum_engine.specs.Runs.{Event, Run, events, events_by}
+use Rattle.sum_engine.specs.Runs.{Event, Tells, Run, events}
 use Rattle.sum_engine.specs.Scenes.{Scene, scene_by, Did, RunOf, Kept, Rose}
 use Rattle.sum_engine.proofs.WorldLemmas.{after-none}
 use Rattle.sum_engine.proofs.SceneLemmas.{Seen, seen, seen_at, did_by}
@@ -62,8 +62,9 @@ kept_is (Some x) (Some y) h = h ∙ sym (append-nil x)
 
 -- a line was said, and nothing else was done
 did_line : (b : Scene) (out err : Option Text) (said : Text) → Keeps b.out out → Appends b.err err said
-    → Did b (with_outputs b out err) (events_by [] said [])
-did_line b out err said o e = did_by [] said [] (after-none b.world) (sym (or-false b.taken)) e (kept_is b.out out o)
+    → Did b (with_outputs b out err) (map Tells said)
+did_line b out err said o e = subst (λ es. Did b (with_outputs b out err) es) (append-nil (map Tells said)) (
+    did_by [] said [] (after-none b.world) (sym (or-false b.taken)) e (kept_is b.out out o))
 
 -- ---- a run that answered, and its end; f, g and h are the failures at first, after the run and in the end
 

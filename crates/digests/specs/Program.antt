@@ -1,12 +1,12 @@
 -- What the program does, from the list of its arguments to its status.
-use Rattle.std.specs.Prelude.{ℕ, ◌≡◌, ◌⊎◌, false, List, [], Option, None, Some, Result, Ok, Err, ⊤}
+use Rattle.std.specs.Prelude.{ℕ, ◌≡◌, ◌⊎◌, false, List, [], map, Option, None, Some, Result, Ok, Err, ⊤}
 use Rattle.sum_sources.specs.Contents.{WhereTold}
 use Rattle.sum_lines.specs.Sinks.{IsPrefix, after_failure}
 use Rattle.sum_engine.specs.declared.stop.Stop.{Stop}
 use Rattle.sum_engine.specs.declared.stop.Stop.TheVariants.{Write}
 use Rattle.sum_engine.specs.declared.streams.Streams.{Streams}
 use Rattle.sum_engine.specs.Worlds.{World}
-use Rattle.sum_engine.specs.Runs.{Run, events_by, at_once}
+use Rattle.sum_engine.specs.Runs.{Tells, Run, at_once}
 use Rattle.sum_engine.specs.Scenes.{Scene, Did, RunOf, Rose}
 use Rattle.sum_words.specs.Items.{Text}
 use Rattle.sum_words.specs.CommandLines.{Call, unknown, call, command_line, NeedsMemory}
@@ -45,7 +45,7 @@ Says line said f g =
 abbrev pub Leaves : Option Call → Result ℕ Stop → Failing → Failing → Scene → Scene → ℕ → Type 0
 Leaves line (Ok answer) f g a b status = (status ≡ answer) × (g ≡ f) × (b ≡ a)
 Leaves line (Err stop) f g a b status =
-    (status ≡ 1) × (said : Text) × Says (stop_told line stop) said f g × Did a b (events_by [] said [])
+    (status ≡ 1) × (said : Text) × Says (stop_told line stop) said f g × Did a b (map Tells said)
 
 -- THE PROGRAM, for what it was called for: its run, as the headline has it, up to a scene and failures in between; and
 -- then what its answer leaves to be done
