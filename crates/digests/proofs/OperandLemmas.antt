@@ -9,7 +9,7 @@ use Rattle.sum_engine.specs.declared.stop.Stop.TheVariants.{Memory, Write}
 use Rattle.sum_engine.specs.declared.settings.Settings.{Settings}
 use Rattle.sum_engine.specs.declared.settings.CheckSettings.{CheckSettings}
 use Rattle.sum_engine.specs.Worlds.{World, after}
-use Rattle.sum_engine.specs.Runs.{Run, nothing, joined, asks}
+use Rattle.sum_engine.specs.Runs.{Run, joined, asks}
 use Rattle.sum_engine.specs.Scenes.{Scene, RunOf, RunGives, refusals_over}
 use Rattle.sum_engine.specs.Manifests.{RefusedOnMemory}
 use Rattle.sum_engine.proofs.SceneLemmas.{did_nothing}
@@ -27,6 +27,9 @@ joined-assoc : (a b c : Run) → joined (joined a b) c ≡ joined a (joined b c)
 joined-assoc a b c = rw (append_assoc a.steps b.steps c.steps, and_assoc a.good b.good c.good) refl
 
 -- `nothing` behind a run adds nothing
+abbrev nothing : Run
+nothing = record { steps = []; good = true }
+
 joined-nothing : (a : Run) → joined a nothing ≡ a
 joined-nothing a = rw (append-nil a.steps, and-true a.good) refl
 

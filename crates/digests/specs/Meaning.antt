@@ -2,7 +2,7 @@
 -- status tells.
 use Rattle.std.specs.Prelude.{ℕ, Bool, true, false, List, [], ◌∷◌, Result, Ok, Err, codes, if◌then◌else◌}
 use Rattle.sum_engine.specs.Worlds.{World, after}
-use Rattle.sum_engine.specs.Runs.{Run, nothing, joined, at_once, asks}
+use Rattle.sum_engine.specs.Runs.{Run, joined, at_once, asks}
 use Rattle.sum_engine.specs.Generation.{generated}
 use Rattle.sum_engine.specs.Checking.{checked}
 use Rattle.sum_words.specs.declared.tool.Tool.{Tool}
@@ -18,7 +18,7 @@ use Rattle.sum_words.specs.Texts.{fault_lines, help, version}
 
 -- all operands, each in the world that those before it leave
 abbrev pub all_of : (World → Text → Run) → World → List Text → Run
-all_of one w [] = nothing
+all_of one w [] = record { steps = []; good = true }
 all_of one w (n ∷ ns) = joined (one w n) (all_of one (after w (asks (one w n))) ns)
 
 -- no operand counts as the one operand `-`

@@ -14,7 +14,8 @@ use Rattle.sum_lines.specs.joins.Growing.{AppendsPrefix}
 use Rattle.sum_engine.specs.Worlds.{World, is_dash, after}
 use Rattle.sum_engine.specs.joins.Handling.{events_by}
 use Rattle.sum_engine.specs.Runs.{Event, Opens, Tells, Puts, name_in, err_in, out_in}
-use Rattle.sum_engine.specs.Scenes.{Scene, scene_by, world, Did, DidPrefix}
+use Rattle.sum_engine.specs.joins.Asking.{world}
+use Rattle.sum_engine.specs.Scenes.{Scene, scene_by, Did, DidPrefix}
 use Rattle.sum_engine.specs.declared.streams.Streams.{Streams}
 use Rattle.sum_engine.proofs.WorldLemmas.{after-none, after-append}
 

@@ -25,10 +25,11 @@ use Rattle.sum_engine.specs.Worlds.{is_dash}
 use Rattle.sum_engine.specs.Runs.{Step, Run}
 use Rattle.sum_engine.specs.Generation.{fault_line}
 use Rattle.sum_engine.specs.Verdicts.{Rules, asks_of}
-use Rattle.sum_engine.specs.Reports.{out_by, err_by, out_of, err_of, counted, summary, good}
+use Rattle.sum_engine.specs.Reports.{err_by, out_of, err_of, counted, summary, good}
 use Rattle.sum_engine.specs.Scenes.{Scene, Did, DidPrefix, refusals_over}
 use Rattle.sum_engine.specs.Steps.{Now, now_by, Moves, StepGives, next_judged, rest_verdicts}
 use Rattle.sum_engine.specs.joins.Judging.{JudgeGives, judgement_asks}
+use Rattle.sum_engine.specs.joins.Telling.{out_by}
 use Rattle.sum_engine.specs.joins.Handling.{events_by, HandleGives}
 use Rattle.sum_lines.specs.joins.Growing.{AppendsPrefix}
 use Rattle.sum_sources.specs.declared.fault.Ending.{Ending}

@@ -54,8 +54,10 @@ pub record SameChecks (r s : Rules) (w : World) (c : Content) : Type 0 where
   pub verdicts : all_verdicts r w c ≡ all_verdicts s w c
   pub outs : map (out_of r) (all_verdicts r w c) ≡ map (out_of s) (all_verdicts s w c)
   pub errs : map (err_of r) (all_verdicts r w c) ≡ map (err_of s) (all_verdicts s w c)
-  pub end : end_text r c.ending (counts no_counts (all_verdicts r w c)) ≡ end_text s c.ending (counts no_counts (all_verdicts s w c))
-  pub good : good r c.ending (counts no_counts (all_verdicts r w c)) ≡ good s c.ending (counts no_counts (all_verdicts s w c))
+  pub end : end_text r c.ending (counts no_counts (all_verdicts r w c))
+      ≡ end_text s c.ending (counts no_counts (all_verdicts s w c))
+  pub good : good r c.ending (counts no_counts (all_verdicts r w c))
+      ≡ good s c.ending (counts no_counts (all_verdicts s w c))
 
 -- such a manifest is checked alike under both profiles, whatever was asked before
 abbrev pub OldVerdicts : Type 0

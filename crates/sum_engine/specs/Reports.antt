@@ -37,15 +37,12 @@ hides Status v = true
 hides report v = false
 
 -- a line's report on standard output
-abbrev pub out_by : Profile → Report → Verdict → List ℕ → List ℕ
-out_by p report v name = if hides report v then [] else said_of p v name
-
 abbrev pub out_of : Rules → Judged → List ℕ
-out_of r j = out_by r.profile r.settings.report j.verdict j.name
+out_of r j = if hides r.settings.report j.verdict then [] else said_of r.profile j.verdict j.name
 
 -- of a name whose file has the digest that its line gives
 abbrev pub right_line : Report → List ℕ → List ℕ
-right_line report name = out_by present report Right name
+right_line report name = if hides report Right then [] else said_of present Right name
 
 abbrev pub tag_word : Algos → List ℕ
 tag_word (One a) = tag a
@@ -126,8 +123,7 @@ abbrev pub end_text : Rules → Ending → Counts → List ℕ
 end_text r Whole c = summary r c
 end_text r (Broken f) c = fault_line r.profile r.tool r.shown f
 
--- A manifest is good where it was read whole, some line is Right, which is an entry then, none is Wrong or Unread,
--- and under the strict setting none is Bad.
+-- good: it was read whole, a line is Right, none is Wrong or Unread, and under the strict setting none is Bad
 abbrev pub good : Rules → Ending → Counts → Bool
 good r Whole c = not (c.right == 0) && (c.wrong == 0) && (c.unread == 0) && (not r.settings.strict || (c.bad == 0))
 good r (Broken f) c = false

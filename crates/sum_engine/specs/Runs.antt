@@ -39,10 +39,6 @@ abbrev pub out_in : Event → Option ℕ
 out_in (Puts b) = Some b
 out_in event = None
 
-abbrev pub nothing : Run
-nothing = record { steps = []; good = true }
-
--- one run after another
 abbrev pub joined : Run → Run → Run
 joined r s = record { steps = r.steps ++ s.steps; good = r.good && s.good }
 

@@ -18,9 +18,6 @@ world_by None c = None
 world_by (Some t) None = None
 world_by (Some t) (Some c) = Some (record { answer = t.answer; asked = t.asked; input = c })
 
-abbrev pub world : {I : Type 0} → (I → Option Content) → Option Telling → Option I → Option World
-world content told stdin = world_by told (left_in content stdin)
-
 -- the world, whether standard input was taken, and what the two outputs have handed on, where they tell
 pub record Scene : Type 0 where
   pub world : World
@@ -35,7 +32,7 @@ scene_by (Some w) taken err out = Some (record { world = w; taken = taken; err =
 abbrev pub scene : {I S O E : Type 0} → (I → Option Content) → (S → Option Telling) → (O → Option (List ℕ))
     → (E → Option (List ℕ)) → Streams I S O E → Option Scene
 scene content told out err s =
-    scene_by (world content (told s.source) s.stdin) (is_none s.stdin) (err s.err) (out s.out)
+    scene_by (world_by (told s.source) (left_in content s.stdin)) (is_none s.stdin) (err s.err) (out s.out)
 
 -- these events came about: the names were asked, and the bytes were handed on
 pub record Did (a b : Scene) (es : List Event) : Type 0 where

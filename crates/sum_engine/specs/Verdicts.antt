@@ -40,7 +40,6 @@ abbrev pub against : List ℕ → Result (List ℕ) Fault → Verdict
 against d (Ok found) = if bytes_eq found d then Right else Wrong
 against d (Err f) = Unread f
 
--- the verdict of an entry
 abbrev pub verdict_of : Rules → World → Spelled → Verdict
 verdict_of r w s =
     if r.from_stdin && is_dash s.name then Bad

@@ -17,11 +17,9 @@ pub record World : Type 0 where
   pub asked : List (List ℕ)
   pub input : Content
 
--- the name of standard input
 abbrev pub is_dash : List ℕ → Bool
 is_dash name = bytes_eq name (codes "-")
 
--- the reply to a name
 abbrev pub reply : World → List ℕ → Reply
 reply w name = if is_dash name then Given w.input else w.answer name
 

@@ -2,7 +2,7 @@
 ghost use Rattle.std.specs.Prelude.{◌≡◌, ◌||◌, IfNone, IfSome, MatchOption, is_none};
 ghost use Rattle.sum_sources.specs.Sources.{after_refusal};
 ghost use Rattle.sum_engine.specs.Worlds.{is_dash};
-ghost use Rattle.sum_engine.specs.Scenes.{world};
+ghost use Rattle.sum_engine.specs.joins.Asking.{world};
 
 use digest_kinds::{AnyHasher, Digest, Kind};
 use sum_sources::{Fault, Input, OpenFault, PIECE, Source, Stdin, hash_input_over};

@@ -5,10 +5,10 @@ ghost use Rattle.sum_lines.specs.Escape.{escape, escape_differs};
 ghost use Rattle.sum_lines.specs.Shapes.{mark};
 ghost use Rattle.sum_lines.specs.Profiles.{present};
 ghost use Rattle.sum_engine.specs.Generation.{fault_line};
-ghost use Rattle.sum_engine.specs.Reports.{said_of, out_by, bad_line, err_by};
+ghost use Rattle.sum_engine.specs.Reports.{said_of, bad_line, err_by};
 ghost use Rattle.sum_engine.specs.joins.Listings.{rules_in};
 ghost use Rattle.sum_engine.specs.Scenes.{Kept, Rose};
-ghost use Rattle.sum_engine.specs.joins.Telling.{Tells, Fails, HandsBoth};
+ghost use Rattle.sum_engine.specs.joins.Telling.{out_by, Tells, Fails, HandsBoth};
 
 use crate::listing::Listing;
 use crate::settings::Report;

@@ -7,7 +7,7 @@ ghost use Rattle.sum_engine.specs.Worlds.{is_dash};
 ghost use Rattle.sum_lines.specs.Profiles.{present};
 ghost use Rattle.sum_lines.specs.Says.{says};
 ghost use Rattle.sum_engine.specs.Verdicts.{asks_by};
-ghost use Rattle.sum_engine.specs.Scenes.{world};
+ghost use Rattle.sum_engine.specs.joins.Asking.{world};
 
 use crate::asking::{Asked, DASH, ask};
 use crate::listing::Listing;

@@ -6,6 +6,13 @@ use Rattle.sum_sources.specs.Sources.{Reply, Refused, Given}
 use Rattle.sum_engine.specs.declared.asking.Asked.{Asked}
 use Rattle.sum_engine.specs.declared.asking.Asked.TheVariants as asked
 use Rattle.sum_engine.specs.Worlds.{World, after, read, reply}
+use Rattle.sum_sources.specs.Sources.{Telling}
+use Rattle.sum_sources.specs.Standard.{left_in}
+use Rattle.sum_engine.specs.Scenes.{world_by}
+
+-- the world, where the source and standard input tell
+abbrev pub world : {I : Type 0} → (I → Option Content) → Option Telling → Option I → Option World
+world content told stdin = world_by told (left_in content stdin)
 
 -- what came of a reply
 abbrev pub IsAsked : KindValue → Reply → Asked → Type 0

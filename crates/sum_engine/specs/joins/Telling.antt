@@ -1,8 +1,12 @@
 -- Joins the writing of a text to its being handed on at once, by outputs that hold nothing.
-use Rattle.std.specs.Prelude.{ℕ, ◌≡◌, ◌⊎◌, List, [], Option, Result, Ok, Err}
+use Rattle.std.specs.Prelude.{ℕ, ◌≡◌, ◌⊎◌, List, [], Option, Result, Ok, Err, if◌then◌else◌}
 use Rattle.std.specs.Io.KnownBytes.{Appends}
 use Rattle.sum_lines.specs.Sinks.{after_failure}
 use Rattle.sum_lines.specs.joins.Growing.{AppendsPrefix}
+use Rattle.sum_lines.specs.Profiles.{Profile}
+use Rattle.sum_engine.specs.declared.settings.Report.{Report}
+use Rattle.sum_engine.specs.declared.verdict.Verdict.{Verdict}
+use Rattle.sum_engine.specs.Reports.{hides, said_of}
 
 -- all of the text was handed on, or a prefix of it where a call failed
 abbrev pub Hands : {E : Type 0} → Option (List ℕ) → Option (List ℕ) → List ℕ → Result (Unit {0}) E → Type 0
@@ -12,6 +16,10 @@ Hands a b text (Err e) = AppendsPrefix a b text
 -- a call that writes the text and hands it on, where nothing was held; then nothing is held
 abbrev pub Tells : {S E : Type 0} → (S → Option (List ℕ)) → (S → List ℕ) → S → S → List ℕ → Result (Unit {0}) E → Type 0
 Tells written held old new text r = held old ≡ [] → (held new ≡ []) × Hands (written old) (written new) text r
+
+-- a line's report on standard output, before its number is known
+abbrev pub out_by : Profile → Report → Verdict → List ℕ → List ℕ
+out_by p report v name = if hides report v then [] else said_of p v name
 
 -- the failures of one output over a call that fails just where one of its calls did
 abbrev pub Fails : {A E : Type 0} → ℕ → ℕ → Result A E → Type 0
