@@ -1,7 +1,7 @@
 -- What was read of a line so far, and what reading on makes of it.
-use Rattle.std.proofs.Common.{◌≡◌, ℕ, ◌<◌, Bool, true, false, List, [], ◌∷◌, ◌++◌, length}
-use Rattle.std.proofs.Common.{Option, None, Some, Ok, Err, refl, ap, sym, ◌∙◌, append_assoc, arith, length-append}
-use Rattle.std.proofs.Common.{◌==◌, inl, inr}
+use Rattle.std.proofs.Common.{◌≡◌, ℕ, ◌<◌, Bool, false, List, [], ◌++◌, length}
+use Rattle.std.proofs.Common.{Option, None, Some, Ok, Err, refl, sym, ◌∙◌, append_assoc}
+use Rattle.std.proofs.Common.{◌==◌, inr}
 use Rattle.std.specs.Option.{option_map}
 use Rattle.std.proofs.lemmas.List.{append-nil}
 use Rattle.std.proofs.lemmas.List.Elements.{All-append}
@@ -12,7 +12,7 @@ use Rattle.sum_sources.specs.declared.lines.LineStop.TheVariants as stops
 use Rattle.sum_sources.specs.Contents.{Content, WhereTold}
 use Rattle.sum_sources.specs.Standard.{empty_content}
 use Rattle.sum_sources.specs.LineReaders.{Reader, coming, with_front}
-use Rattle.sum_sources.specs.joins.LineReading.{FillOf, TakesPiece, EndsPiece, IsLastPiece, PieceOf}
+use Rattle.sum_sources.specs.joins.LineReading.{FillOf, TakesPiece, IsLastPiece, PieceOf}
 use Rattle.sum_sources.specs.ManifestLines.{NoNewline}
 use Rattle.sum_sources.proofs.ToldLemmas.{WhereTold-map, WhereTold-then}
 
@@ -50,54 +50,6 @@ LineSoFar-piece {content = content} {old = old} {s = s} {line = line} h t = reco
   plain = rw t.piece.2 (All-append (λ b. (b == 10) ≡ false) line s.ahead h.plain t.piece.0);
   going = t.answer ∙ h.going;
 }
-
--- filling the buffer changes nothing of the line
-pub LineSoFar-filled : {I : Type 0} {content : I → Option Content} {old s s' : Reader I} {line : List ℕ}
-    → LineSoFar content old s line → WhereTold (coming content s) (coming content s') (λ c d. FillOf c d (Ok true))
-    → s'.answer ≡ None → LineSoFar content old s' line
-LineSoFar-filled {content = content} {old = old} {s = s} {line = line} h filled going = record {
-  came = WhereTold-then (coming content old) (coming content s) _ {Q = λ c d. d ≡ c}
-      (λ c d e came same. rw same came) h.came filled;
-  plain = h.plain;
-  going = going;
-}
-
--- a newline in what is still to come ends the line
-EndsPiece-front : (x y : Option Content) (rest : Content → Content) (line piece front : List ℕ)
-    → WhereTold x (option_map (λ c. with_front (piece ++ (10 ∷ front)) (rest c)) y) (λ c d. Came c d line)
-    → WhereTold x (option_map (λ c. with_front front (rest c)) y) (λ c d. EndsPiece c d (line ++ piece))
-EndsPiece-front None y rest line piece front h = tt
-EndsPiece-front (Some c) None rest line piece front h = h
-EndsPiece-front (Some c) (Some d) rest line piece front h = (h.0 ∙ simp append_assoc, h.1)
-
--- a newline in the buffer ends the line
-pub PieceOf-newline : {I : Type 0} {content : I → Option Content} {old s s' : Reader I} {line line' : List ℕ}
-    → LineSoFar content old s line → Took true s s' line line'
-    → WhereTold (coming content old) (coming content s') (λ c d. PieceOf c d (Ok Line) line')
-PieceOf-newline {content = content} {old = old} {s = s} {s' = s'} {line = line} h t =
-    let plain : NoNewline (line ++ t.piece.0) =
-    All-append (λ b. (b == 10) ≡ false) line t.piece.0 h.plain t.piece.1 in
-    let ended = EndsPiece-front (coming content old) (content s.input) _ line t.piece.0 s'.ahead
-    (rw (h.going, t.piece.2) at h.came) in
-    rw (t.input, t.taken, t.answer, h.going, t.piece.3) (
-    WhereTold-map _ _ {Q = λ c d. PieceOf c d (Ok Line) (line ++ t.piece.0)} (λ c d is. (plain, inl is)) ended
-    )
-
--- bytes in front of what is still to come are among what was to come
-some_came : (x y : Option Content) (rest : Content → Content) (front line : List ℕ) → 0 < length front
-    → WhereTold x (option_map (λ c. with_front front (rest c)) y) (λ c d. Came c d line)
-    → WhereTold x (option_map (λ c. with_front front (rest c)) y) (λ c d. 0 < length c.bytes)
-some_came None y rest front line some h = tt
-some_came (Some c) None rest front line some h = h
-some_came (Some c) (Some d) rest front line some h =
-    omega (arith, ap length h.0, length-append line (front ++ (rest d).bytes), length-append front (rest d).bytes)
-
--- memory is wanted for them
-pub PieceOf-memory : {I : Type 0} {content : I → Option Content} {old s : Reader I} {line : List ℕ}
-    → LineSoFar content old s line → 0 < length s.ahead
-    → WhereTold (coming content old) (coming content s) (λ c d. 0 < length c.bytes)
-PieceOf-memory {content = content} {old = old} {s = s} {line = line} h some =
-    rw h.going (some_came (coming content old) (content s.input) _ s.ahead line some (rw h.going at h.came))
 
 -- the input's end ends the line, where something came of it
 IsLastPiece-end : (x y z : Option Content) (f : Content → Content) (line : List ℕ) → 0 < length line

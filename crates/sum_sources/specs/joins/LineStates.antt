@@ -1,5 +1,5 @@
 -- Joins the line reader's fields to what its callers see of it, and says what they keep.
-use Rattle.std.specs.Prelude.{ℕ, ◌≡◌, ◌+◌, ◌-◌, ◌<◌, ◌≤◌, take, drop, Option, None, Some, Result, Ok, Err}
+use Rattle.std.specs.Prelude.{◌≡◌, ◌+◌, ◌-◌, ◌<◌, ◌≤◌, take, drop, Option, None, Some, Result, Ok, Err}
 use Rattle.digest_kinds.specs.Limits.{LIMIT}
 use Rattle.sum_sources.specs.declared.input.TheConstants.{PIECE}
 use Rattle.sum_sources.specs.declared.lines.LineReader.TheInside.{Inside}

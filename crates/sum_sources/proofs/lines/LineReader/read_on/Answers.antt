@@ -1,4 +1,4 @@
-use Rattle.std.proofs.Common.{rules, ◌∙◌, false}
+use Rattle.std.proofs.Common.{rules, false}
 use Rattle.sum_sources.proofs.ReadOnLemmas.{LineSoFar, LineSoFar-piece, Took, PieceOf-last, PieceOf-fault}
 use Rattle.sum_sources.proofs.lines.LineReader.read_on.Given as given
 use Rattle.sum_sources.proofs.lines.LineReader.read_on.Goals as goal
