@@ -1,6 +1,6 @@
 -- What a read into the empty buffer makes of the content that is still to come.
 use Rattle.std.proofs.Common.{◌≡◌, ◌≢◌, ℕ, ◌+◌, ◌-◌, ◌^◌, ◌<◌, ◌≤◌, false, not, List, [], ◌++◌, length, take, drop}
-use Rattle.std.proofs.Common.{Option, None, Some, Result, Ok, Err, refl, ap, sym, ◌∙◌, arith, length-append, nat_lt, nat_eq}
+use Rattle.std.proofs.Common.{Option, None, Some, Result, Ok, Err, refl, ap, sym, ◌∙◌, arith, length-append, length-take, length-drop, nat_lt, nat_eq}
 use Rattle.std.proofs.Common.{inl, inr}
 use Rattle.std.specs.Option.{option_map}
 use Rattle.std.proofs.lemmas.Bool.{cond-true, cond-false, lt-ltb, le-ltb, cases_lt}
@@ -13,7 +13,11 @@ use Rattle.sum_sources.specs.declared.fault.Ending.{Ending}
 use Rattle.sum_sources.specs.declared.fault.Ending.TheVariants.{Broken}
 use Rattle.sum_sources.specs.Contents.{Content, limit, WhereTold, ReadsFrom, ReadGives}
 use Rattle.sum_sources.specs.Standard.{empty_content}
-use Rattle.sum_sources.specs.joins.LineReading.{clip_to, with_front, FillOf}
+use Rattle.sum_sources.specs.LineReaders.{clip_to, with_front}
+use Rattle.sum_sources.specs.declared.lines.State.{State}
+use Rattle.sum_sources.specs.declared.lines.State.TheVariants as states
+use Rattle.sum_sources.specs.joins.LineReading.{FillOf}
+use Rattle.sum_sources.specs.joins.LineStates.{answer_at}
 use Rattle.sum_sources.proofs.ContentLemmas.{limit-value}
 
 -- contents with the same bytes and the same ending are the same
@@ -46,9 +50,21 @@ clip_to-behind n k front c sum some = elim (cases_lt (length c.bytes) k) [
       rw (clip_to-long n (with_front front c) longer, clip_to-long k c long, cut) refl
 ]
 
--- the buffer is empty where its places meet
-pub none_buffered : (buf : List ℕ) {s e : ℕ} → s ≡ e → take (e - s) (drop s buf) ≡ []
-none_buffered buf {s = s} {e = e} same = let zero_left : e - s ≡ 0 = omega arith in rw zero_left refl
+-- how many bytes stand between the buffer's places
+pub length-buffered : (buf : List ℕ) (s e : ℕ) → s ≤ e → e ≤ length buf → length (take (e - s) (drop s buf)) ≡ e - s
+length-buffered buf s e low high = simp (length-take, length-drop) (omega arith)
+
+-- some are to come, where some stand there
+pub some_buffered : (buf rest : List ℕ) (s e : ℕ) → s < e → e ≤ length buf
+    → 0 < length (take (e - s) (drop s buf) ++ rest)
+some_buffered buf rest s e low high =
+    omega (arith, length-append (take (e - s) (drop s buf)) rest, length-buffered buf s e (omega arith) high)
+
+-- a reader that answers nothing again is reading
+pub reading : (s : State) → answer_at s ≡ None → s ≡ states.Reading
+reading states.Reading none = refl
+reading states.Ended none = cc
+reading (states.Stopped e) none = cc
 
 -- a read into the empty buffer of a reader that has taken t bytes
 pub record Refill (x y : Option Content) (none part : List ℕ) (r : Result ℕ Fault) (t : ℕ) : Type 0 where

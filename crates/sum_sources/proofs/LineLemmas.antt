@@ -3,6 +3,7 @@ use Rattle.std.proofs.Common.{◌≡◌, ℕ, ◌+◌, ◌<◌, Bool, List, [], 
 use Rattle.std.proofs.Common.{Result, Ok, Err, refl, ap, sym, ◌∙◌, append_assoc, arith, length-append, length-drop}
 use Rattle.std.proofs.Common.{◌==◌, inl, inr}
 use Rattle.std.specs.List.{slice_split, after_first, position_or_len}
+use Rattle.std.specs.Option.{option_map}
 use Rattle.std.specs.Str.Lines.{strip_carriage_return}
 use Rattle.std.proofs.lemmas.List.{get_or_append_left, drop_at, nil_from_length}
 use Rattle.std.proofs.lemmas.List.Splits.{slice_split_at, slice_split_none, length-slice_split}
@@ -15,14 +16,13 @@ use Rattle.sum_sources.specs.declared.lines.Next.{Next}
 use Rattle.sum_sources.specs.declared.lines.Next.TheVariants.{Line, NoMore}
 use Rattle.sum_sources.specs.declared.lines.LineStop.{LineStop}
 use Rattle.sum_sources.specs.declared.lines.LineStop.TheVariants as stops
-use Rattle.sum_sources.specs.declared.lines.State.{State}
-use Rattle.sum_sources.specs.declared.lines.State.TheVariants as states
 use Rattle.sum_sources.specs.Contents.{Content, WhereTold}
 use Rattle.sum_sources.specs.Standard.{empty_content}
 use Rattle.sum_sources.specs.ManifestLines.{last_line, line_pieces, pieces, lines, past_line, NoNewline, LineOf}
-use Rattle.sum_sources.specs.joins.LineReading.{at_state, EndsPiece, IsLastPiece, PieceOf}
+use Rattle.sum_sources.specs.LineReaders.{left_by}
+use Rattle.sum_sources.specs.joins.LineReading.{EndsPiece, IsLastPiece, PieceOf}
 use Rattle.sum_sources.proofs.FillLemmas.{content-same}
-use Rattle.sum_sources.proofs.ToldLemmas.{WhereTold-map}
+use Rattle.sum_sources.proofs.ToldLemmas.{WhereTold-map, WhereTold-last}
 
 -- where a newline ended a piece, the other pieces follow it
 line_pieces-cons : (e : Ending) (piece : List ℕ) (more : List (List ℕ)) → 0 < length more
@@ -127,61 +127,45 @@ LineOf-fault c d f line piece is =
     content-same c (record { bytes = piece; ending = Broken f }) is.1 is.2 in
     (ap lines all ∙ ap (map strip_carriage_return) (pieces-last (Broken f) piece is.0), is.2)
 
--- a line, where contents are told, of a reader that was reading
-pub gives_line : {s : State} {r : Result Next LineStop} {line : List ℕ} (x y : Option Content) (piece : List ℕ)
-    → s ≡ states.Reading → r ≡ Ok Line → line ≡ strip_carriage_return piece → WhereTold x y (λ c d. PieceOf c d r piece)
-    → WhereTold (at_state s x) y (λ c d. LineOf c d r line)
-gives_line x y piece reading is dropped h =
-    rw (reading, is, dropped) (WhereTold-map x y (λ c d. LineOf-line c d piece) (rw is at h))
+-- a line, where contents are told
+pub gives_line : {r : Result Next LineStop} {line : List ℕ} (x y : Option Content) (piece : List ℕ)
+    → r ≡ Ok Line → line ≡ strip_carriage_return piece → WhereTold x y (λ c d. PieceOf c d r piece)
+    → WhereTold x y (λ c d. LineOf c d r line)
+gives_line x y piece is dropped h = rw (is, dropped) (WhereTold-map x y (λ c d. LineOf-line c d piece) (rw is at h))
 
 -- that no line is left
-pub gives_no_more : {s : State} {r : Result Next LineStop} (x y : Option Content) (line : List ℕ)
-    → s ≡ states.Reading → r ≡ Ok NoMore → WhereTold x y (λ c d. PieceOf c d r line)
-    → WhereTold (at_state s x) y (λ c d. LineOf c d r line)
-gives_no_more x y line reading is h =
-    rw (reading, is) (WhereTold-map x y (λ c d. LineOf-no_more c d line line) (rw is at h))
+pub gives_no_more : {r : Result Next LineStop} (x y : Option Content) (line : List ℕ)
+    → r ≡ Ok NoMore → WhereTold x y (λ c d. PieceOf c d r line) → WhereTold x y (λ c d. LineOf c d r line)
+gives_no_more x y line is h = rw is (WhereTold-map x y (λ c d. LineOf-no_more c d line line) (rw is at h))
 
--- a stop, by a fault or for want of memory
-gives_error : (x y : Option Content) (e : LineStop) (line : List ℕ)
-    → WhereTold x y (λ c d. PieceOf c d (Err e) line) → WhereTold x y (λ c d. LineOf c d (Err e) line)
-gives_error x y (stops.Fault f) line h = WhereTold-map x y (λ c d. LineOf-fault c d f line line) h
-gives_error x y stops.Memory line h = h
+-- a stop, by a fault or for want of memory; what is to come afterwards doesn't matter
+gives_error : (x z : Option Content) (f g : Content → Content) (e : LineStop) (line : List ℕ)
+    → WhereTold x (option_map f z) (λ c d. PieceOf c d (Err e) line)
+    → WhereTold x (option_map g z) (λ c d. LineOf c d (Err e) line)
+gives_error x z f g (stops.Fault x') line h =
+    WhereTold-last x z f g (λ c. (lines c ≡ []) × (c.ending ≡ Broken x'))
+    (WhereTold-map x _ (λ c d. LineOf-fault c d x' line line) h)
+gives_error x z f g stops.Memory line h = WhereTold-last x z f g (λ c. 0 < length c.bytes) h
 
--- a stop leaves told what was told, and the content to come doesn't matter
-stop_told : (s : State) (x y : Option Content) (e : LineStop) (line : List ℕ)
-    → WhereTold x (at_state s y) (λ c d. LineOf c d (Err e) line)
-    → WhereTold x (at_state (states.Stopped e) y) (λ c d. LineOf c d (Err e) line)
-stop_told s None y (stops.Fault f) line h = tt
-stop_told s None y stops.Memory line h = tt
-stop_told states.Reading (Some c) None e line h = absurd h
-stop_told states.Ended (Some c) None e line h = absurd h
-stop_told (states.Stopped (stops.Fault f)) (Some c) None e line h = absurd h
-stop_told (states.Stopped stops.Memory) (Some c) None e line h = absurd h
-stop_told states.Reading (Some c) (Some d) (stops.Fault f) line h = h
-stop_told states.Ended (Some c) (Some d) (stops.Fault f) line h = h
-stop_told (states.Stopped (stops.Fault g)) (Some c) (Some d) (stops.Fault f) line h = h
-stop_told (states.Stopped stops.Memory) (Some c) (Some d) (stops.Fault f) line h = h
-stop_told s (Some c) (Some d) stops.Memory line h = tt
-
--- a stop of a reader that was reading
-pub gives_stop : {s : State} {r : Result Next LineStop} {e : LineStop} (t : State) (x y : Option Content)
-    (line : List ℕ)
-    → s ≡ states.Reading → r ≡ Err e → WhereTold x (at_state t y) (λ c d. PieceOf c d r line)
-    → WhereTold (at_state s x) (at_state (states.Stopped e) y) (λ c d. LineOf c d r line)
-gives_stop {e = e} t x y line reading is h =
-    rw (reading, is) (stop_told t x y e line (gives_error x (at_state t y) e line (rw is at h)))
+pub gives_stop : {r : Result Next LineStop} {e : LineStop} (x z : Option Content) (f g : Content → Content)
+    (line : List ℕ) → r ≡ Err e → WhereTold x (option_map f z) (λ c d. PieceOf c d r line)
+    → WhereTold x (option_map g z) (λ c d. LineOf c d r line)
+gives_stop {e = e} x z f g line is h = rw is (gives_error x z f g e line (rw is at h))
 
 -- the end was answered before, and is answered again
-pub gives_ended : {s : State} (c : Option Content) (line : List ℕ) → s ≡ states.Ended
-    → WhereTold (at_state s c) (at_state s c) (λ c d. LineOf c d (Ok NoMore) line)
-gives_ended None line is = rw is tt
-gives_ended (Some c) line is = rw is (lines_of_empty, refl)
+pub gives_ended : (z : Option Content) (line : List ℕ)
+    → WhereTold (option_map (λ _. empty_content) z) (option_map (λ _. empty_content) z)
+    (λ c d. LineOf c d (Ok NoMore) line)
+gives_ended None line = tt
+gives_ended (Some c) line = (lines_of_empty, refl)
 
 -- so is a stop
-pub gives_stopped : {s : State} {e : LineStop} (c : Option Content) (line : List ℕ) → s ≡ states.Stopped e
-    → WhereTold (at_state s c) (at_state s c) (λ c d. LineOf c d (Err e) line)
-gives_stopped {e = stops.Fault f} None line is = rw is tt
-gives_stopped {e = stops.Memory} None line is = rw is tt
-gives_stopped {e = stops.Fault f} (Some c) line is =
-    rw is (ap (map strip_carriage_return) (pieces-last (Broken f) [] none_in_nil), refl)
-gives_stopped {e = stops.Memory} (Some c) line is = rw is tt
+pub gives_stopped : (e : LineStop) (z : Option Content) (f : Content → Content) (line : List ℕ)
+    → (e ≡ stops.Memory → (c : Content) → 0 < length (f c).bytes)
+    → WhereTold (option_map (λ c. left_by (Some (Err e)) (f c)) z) (option_map (λ c. left_by (Some (Err e)) (f c)) z)
+    (λ c d. LineOf c d (Err e) line)
+gives_stopped (stops.Fault x) None f line some = tt
+gives_stopped stops.Memory None f line some = tt
+gives_stopped (stops.Fault x) (Some c) f line some =
+    (ap (map strip_carriage_return) (pieces-last (Broken x) [] none_in_nil), refl)
+gives_stopped stops.Memory (Some c) f line some = some refl c

@@ -1,5 +1,7 @@
 -- What holds between told values, carried along.
 use Rattle.std.proofs.Common.{Option, None, Some}
+use Rattle.std.specs.Prelude.{IfSome}
+use Rattle.std.specs.Option.{option_map}
 use Rattle.sum_sources.specs.Contents.{WhereTold}
 
 -- what follows from a fact between two values holds too
@@ -23,3 +25,16 @@ pub WhereTold-both : {A : Type 0} (x y : Option A) {P Q R : A → A → Type 0}
 WhereTold-both None y f p q = tt
 WhereTold-both (Some a) None f p q = p
 WhereTold-both (Some a) (Some b) f p q = f a b p q
+
+-- what holds of the first value
+pub WhereTold-first : {A : Type 0} (x y : Option A) (P : A → Type 0) → WhereTold x y (λ a b. P a) → IfSome x P
+WhereTold-first None y P h = tt
+WhereTold-first (Some a) None P h = absurd h
+WhereTold-first (Some a) (Some b) P h = h
+
+-- what doesn't speak of the last value holds, whatever is made of it
+pub WhereTold-last : {A : Type 0} (x z : Option A) (f g : A → A) (P : A → Type 0)
+    → WhereTold x (option_map f z) (λ a b. P a) → WhereTold x (option_map g z) (λ a b. P a)
+WhereTold-last None z f g P h = tt
+WhereTold-last (Some a) None f g P h = h
+WhereTold-last (Some a) (Some b) f g P h = h

@@ -1,6 +1,7 @@
 pub mod Contents
 pub mod Faults
 pub mod InMemory
+pub mod LineReaders
 pub mod ManifestLines
 pub mod Sources
 pub mod Standard

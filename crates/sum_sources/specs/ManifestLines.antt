@@ -1,5 +1,6 @@
 -- The lines of a manifest.
-use Rattle.std.specs.Prelude.{ℕ, zero, suc, ◌≡◌, ◌+◌, ◌==◌, false, List, [], ◌∷◌, ◌++◌, map, All, Result, Ok, Err, ⊤}
+use Rattle.std.specs.Prelude.{ℕ, zero, suc, ◌≡◌, ◌+◌, ◌==◌, false, List, [], ◌∷◌, ◌++◌, map, All, length, Result, Ok, Err}
+use Rattle.std.specs.Prelude.{◌<◌}
 use Rattle.std.specs.List.{slice_split, after_first, flat_map}
 use Rattle.std.specs.Str.Lines.{strip_carriage_return}
 use Rattle.sum_sources.specs.declared.fault.Ending.{Ending}
@@ -48,12 +49,13 @@ pub record CutsInto (bytes : List ℕ) (ended : List (List ℕ)) (tail : List �
   pub pieces_plain : All NoNewline ended
   pub tail_plain : NoNewline tail
 
--- what next_line answers: the first line, with what stands past it still to come; or that none is left, by the ending
+-- what next_line answers: the first line, with what stands past it still to come; or that none is left, by the ending;
+-- or that it wants memory, only where something is still to come
 abbrev pub LineOf : Content → Content → Result Next LineStop → List ℕ → Type 0
 LineOf c d (Ok Line) line = (lines c ≡ line ∷ lines d) × (d ≡ past_line c)
 LineOf c d (Ok NoMore) line = (lines c ≡ []) × (c.ending ≡ Whole)
 LineOf c d (Err (stops.Fault f)) line = (lines c ≡ []) × (c.ending ≡ Broken f)
-LineOf c d (Err stops.Memory) line = ⊤
+LineOf c d (Err stops.Memory) line = 0 < length c.bytes
 
 -- how many lines were answered
 abbrev pub lines_after : ℕ → Result Next LineStop → ℕ

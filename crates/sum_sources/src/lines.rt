@@ -1,16 +1,15 @@
 //! The lines of a manifest, one at a time.
-ghost use Rattle.std.specs.Prelude.{◌≡◌, ◌≤◌, ◌<◌, ◌^◌, ◌+◌, ◌-◌, [], true, false, take, length};
-ghost use Rattle.std.specs.Prelude.{IfOk, IfSome, IsErr, OnOk, if◌then◌else◌};
+ghost use Rattle.std.specs.Prelude.{◌≡◌, ◌≤◌, ◌<◌, ◌+◌, [], true, false, take, length};
+ghost use Rattle.std.specs.Prelude.{None, IfOk, IfSome, IsErr, OnOk, if◌then◌else◌};
 ghost use Rattle.std.specs.Str.Lines.{strip_carriage_return};
 ghost use Rattle.digest_kinds.specs.Limits.{LIMIT};
-ghost use Rattle.sum_sources.specs.declared.input.TheConstants.{PIECE};
 ghost use Rattle.sum_sources.specs.Contents.{ReadGives};
-ghost use Rattle.sum_sources.specs.joins.LineStates.{IsReading};
 
 use crate::{Fault, Input, PIECE};
 use digest_kinds::LIMIT;
 use memchr::memchr;
 use std::alloc::{AllocError, Allocator};
+use std::marker::Model;
 use thiserror::Error;
 
 /// What there was to read.
@@ -50,11 +49,18 @@ pub struct LineReader<I> {
     taken: u64,
     lines: u64,
     state: State,
-    ghost start_in: { start ≤ end },
-    ghost end_in: { end ≤ PIECE },
-    ghost few: { taken ≤ LIMIT },
-    ghost each: { lines + (end - start) ≤ taken },
-    ghost going: { IsReading state → taken < LIMIT },
+}
+
+impl<I> Model for LineReader<I> {
+    ghost use Rattle.sum_sources.specs.LineReaders.{Reader};
+
+    ghost Value = { Reader I };
+
+    ghost use Rattle.sum_sources.specs.joins.LineStates.{seen, Kept};
+
+    ghost view = { λ s. seen s };
+
+    ghost invariant = { λ s. Kept s };
 }
 
 // Reads into the front of `buf`.
@@ -79,19 +85,14 @@ impl<I: Input> LineReader<I> {
     ghost use Rattle.std.specs.Option.{option_map};
     ghost use Rattle.sum_sources.specs.Contents.{WhereTold, clip};
     ghost use Rattle.sum_sources.specs.ManifestLines.{LineOf, lines_after};
-    ghost use Rattle.sum_sources.specs.joins.LineReading.{buffered, ahead, FillOf, TakesPiece, PieceOf};
-    ghost use Rattle.sum_sources.specs.joins.LineReading.{coming, left, bytes_taken, bytes_used, lines_given};
-    ghost use Rattle.sum_sources.specs.joins.LineReading.{answer_of, has_stopped};
+    ghost use Rattle.sum_sources.specs.LineReaders.{coming, used, Bounded, Settles};
+    ghost use Rattle.sum_sources.specs.joins.LineReading.{FillOf, TakesPiece, PieceOf};
 
     /// A reader of the lines of `input`. An input of `LIMIT` bytes or more counts as its first
     /// `LIMIT - 1` bytes and then `Fault::Other`.
     pub fn new(input: I) -> Self
+        ensures is { result ≡ record { input = input; ahead = []; taken = 0; lines = 0; answer = None } }
         ensures coming { coming I.content result ≡ option_map clip (I.content input) }
-        ensures left { left I.content result ≡ I.content input }
-        ensures going { answer_of result ≡ None }
-        ensures taken { bytes_taken result ≡ 0 }
-        ensures used { bytes_used result ≡ 0 }
-        ensures lines { lines_given result ≡ 0 }
     {
         LineReader {
             input,
@@ -106,7 +107,7 @@ impl<I: Input> LineReader<I> {
 
     /// How many bytes the input has given.
     pub fn taken(&self) -> u64
-        ensures value { result ≡ bytes_taken self.now }
+        ensures value { result ≡ self.now.taken }
         ensures most { result ≤ LIMIT }
     {
         self.taken
@@ -114,32 +115,33 @@ impl<I: Input> LineReader<I> {
 
     /// How many lines were given.
     pub fn lines(&self) -> u64
-        ensures value { result ≡ lines_given self.now }
-        ensures few { result ≤ bytes_taken self.now }
+        ensures value { result ≡ self.now.lines }
+        ensures few { result ≤ self.now.taken }
     {
         self.lines
     }
 
     /// The input, past the bytes that it has given; those that were read ahead of the last line are lost.
     pub fn into_inner(self) -> I
-        ensures { I.content result ≡ left I.content self }
+        ensures { result ≡ self.input }
     {
         self.input
     }
 
     // Reads into the empty buffer. False means that the input has ended.
     fn fill(&mut self) -> Result<bool, Fault>
-        requires empty { self.old.start ≡ self.old.end }
-        requires few { self.old.taken < LIMIT }
-        ensures gives { WhereTold (ahead I.content self.old) (ahead I.content self.new) (λ c d. FillOf c d result) }
+        requires empty { self.old.ahead ≡ [] }
+        requires going { self.old.answer ≡ None }
+        ensures gives { WhereTold (coming I.content self.old) (coming I.content self.new)
+            (λ c d. FillOf c d result) }
         ensures more { result ≡ Ok true → self.old.taken < self.new.taken }
-        ensures none { result ≡ Ok false → self.new.start ≡ self.new.end }
+        ensures none { result ≡ Ok false → self.new.ahead ≡ [] }
         ensures few { IfOk result (λ _. self.new.taken < LIMIT) }
-        ensures used { IfOk result (λ _. bytes_used self.new ≡ bytes_used self.old) }
-        ensures input { WhereTold (left I.content self.old) (left I.content self.new)
+        ensures used { IfOk result (λ _. used self.new ≡ used self.old) }
+        ensures input { WhereTold (I.content self.old.input) (I.content self.new.input)
             (λ c d. self.new.taken + length d.bytes ≡ self.old.taken + length c.bytes) }
         ensures lines { self.new.lines ≡ self.old.lines }
-        ensures state { IfOk result (λ _. self.new.state ≡ self.old.state) }
+        ensures answer { IfOk result (λ _. self.new.answer ≡ None) }
     {
         let room = LIMIT - 1 - self.taken;
         if room == 0 {
@@ -164,16 +166,16 @@ impl<I: Input> LineReader<I> {
     // Moves the buffer's bytes up to its first newline to the line's end, and drops that newline.
     // False means that there was none, and all bytes were moved.
     fn take_piece<A: Allocator>(&mut self, line: &mut Vec<u8, A>) -> Result<bool, AllocError>
+        requires going { self.old.answer ≡ None }
         ensures piece { IfOk result (λ ended.
-            TakesPiece ended (buffered self.old) (buffered self.new) line.old.items line.new.items) }
-        ensures memory { IsErr result → 0 < length (buffered self.old) }
-        ensures empty { result ≡ Ok false → self.new.start ≡ self.new.end }
-        ensures used { IfOk result (λ ended. bytes_used self.new + length line.old.items
-            ≡ bytes_used self.old + length line.new.items + (if ended then 1 else 0)) }
+            TakesPiece ended self.old.ahead self.new.ahead line.old.items line.new.items) }
+        ensures memory { IsErr result → (self.new ≡ self.old) × (0 < length self.old.ahead) }
+        ensures used { IfOk result (λ ended. used self.new + length line.old.items
+            ≡ used self.old + length line.new.items + (if ended then 1 else 0)) }
         ensures input { self.new.input ≡ self.old.input }
         ensures taken { self.new.taken ≡ self.old.taken }
         ensures lines { self.new.lines ≡ self.old.lines }
-        ensures state { self.new.state ≡ self.old.state }
+        ensures answer { self.new.answer ≡ self.old.answer }
     {
         if self.start == self.end {
             return Ok(false);
@@ -196,20 +198,17 @@ impl<I: Input> LineReader<I> {
     // Reads the next piece behind an empty line, with its carriage return.
     fn read_on<A: Allocator>(&mut self, line: &mut Vec<u8, A>) -> Result<Next, LineStop>
         requires empty { line.old.items ≡ [] }
-        requires reading { self.old.state ≡ State.Reading }
-        ensures piece { WhereTold (ahead I.content self.old) (coming I.content self.new)
+        requires going { self.old.answer ≡ None }
+        ensures piece { WhereTold (coming I.content self.old) (coming I.content self.new)
             (λ c d. PieceOf c d result line.new.items) }
-        ensures memory { result ≡ Err LineStop.Memory
-            → IfSome (ahead I.content self.old) (λ c. 0 < length c.bytes) }
-        ensures few { IfOk result (λ _. self.new.taken < LIMIT) }
-        ensures used { OnOk result (WhereTold (ahead I.content self.old) (coming I.content self.new)
-            (λ c d. bytes_used self.new + length d.bytes ≡ bytes_used self.old + length c.bytes)) }
-        ensures input { WhereTold (left I.content self.old) (left I.content self.new)
+        ensures memory { result ≡ Err LineStop.Memory → 0 < length self.new.ahead }
+        ensures used { OnOk result (WhereTold (coming I.content self.old) (coming I.content self.new)
+            (λ c d. used self.new + length d.bytes ≡ used self.old + length c.bytes)) }
+        ensures input { WhereTold (I.content self.old.input) (I.content self.new.input)
             (λ c d. self.new.taken + length d.bytes ≡ self.old.taken + length c.bytes) }
-        ensures some { result ≡ Ok Next.Line → bytes_used self.old < bytes_used self.new }
+        ensures some { result ≡ Ok Next.Line → used self.old < used self.new }
         ensures lines { self.new.lines ≡ self.old.lines }
-        ensures ended { result ≡ Ok Next.NoMore → self.new.state ≡ State.Ended }
-        ensures going { OnOk result (has_stopped self.new ≡ false) }
+        ensures answer { OnOk result (Settles result self.new.answer) }
     {
         loop {
             match self.take_piece(line) {
@@ -237,20 +236,14 @@ impl<I: Input> LineReader<I> {
     pub fn next_line<A: Allocator>(&mut self, line: &mut Vec<u8, A>) -> Result<Next, LineStop>
         ensures gives { WhereTold (coming I.content self.old) (coming I.content self.new)
             (λ c d. LineOf c d result line.new.items) }
-        ensures memory { has_stopped self.old ≡ false → result ≡ Err LineStop.Memory
-            → IfSome (coming I.content self.old) (λ c. 0 < length c.bytes) }
-        ensures again { IfSome (answer_of self.old) (λ answer. (result ≡ answer) × (self.new ≡ self.old)) }
-        ensures no_more { result ≡ Ok Next.NoMore → answer_of self.new ≡ Some result }
-        ensures stop { IsErr result → answer_of self.new ≡ Some result }
-        ensures going { OnOk result (has_stopped self.new ≡ false) }
-        ensures lines { lines_given self.new ≡ lines_after (lines_given self.old) result }
-        ensures few { lines_given self.new ≤ bytes_taken self.new }
-        ensures most { bytes_taken self.new ≤ LIMIT }
-        ensures taken { WhereTold (left I.content self.old) (left I.content self.new)
-            (λ c d. bytes_taken self.new + length d.bytes ≡ bytes_taken self.old + length c.bytes) }
+        ensures again { IfSome self.old.answer (λ answer. (result ≡ answer) × (self.new ≡ self.old)) }
+        ensures answer { Settles result self.new.answer }
+        ensures lines { self.new.lines ≡ lines_after self.old.lines result }
+        ensures taken { WhereTold (I.content self.old.input) (I.content self.new.input)
+            (λ c d. self.new.taken + length d.bytes ≡ self.old.taken + length c.bytes) }
         ensures used { OnOk result (WhereTold (coming I.content self.old) (coming I.content self.new)
-            (λ c d. bytes_used self.new + length d.bytes ≡ bytes_used self.old + length c.bytes)) }
-        ensures ahead { bytes_taken self.new ≤ bytes_used self.new + PIECE }
+            (λ c d. used self.new + length d.bytes ≡ used self.old + length c.bytes)) }
+        ensures bounds { Bounded self.new }
     {
         match self.state {
             State::Ended => return Ok(Next::NoMore),

@@ -1,6 +1,6 @@
-use Rattle.std.proofs.Common.{◌≡◌, length, ◌^◌, ◌-◌, ◌+◌}
+use Rattle.std.proofs.Common.{◌≡◌, length, ◌^◌, ◌-◌, ◌+◌, None}
 use Rattle.sum_sources.specs.Contents.{WhereTold}
-use Rattle.sum_sources.specs.joins.LineReading.{ahead, left, bytes_used}
+use Rattle.sum_sources.specs.LineReaders.{coming, used}
 use Rattle.sum_sources.specs.ManifestLines.{NoNewline}
 use Rattle.sum_sources.proofs.ReadOnLemmas.{Came}
 use Rattle.sum_sources.proofs.lines.LineReader.read_on.Given as goal
@@ -8,13 +8,13 @@ use Rattle.sum_sources.proofs.lines.LineReader.read_on.Given as goal
 -- what came of the line so far, and the sums that stay
 abbrev pub invariant-loop-self : goal.invariant-loop-self
 invariant-loop-self g l = record {
-  came : WhereTold (ahead g.I.Input.content l.fn.self) (ahead g.I.Input.content l.self) (λ c d. Came c d l.line.items);
+  came : WhereTold (coming g.I.Input.content l.fn.self) (coming g.I.Input.content l.self) (λ c d. Came c d l.line.items);
   plain : NoNewline l.line.items;
-  input : WhereTold (left g.I.Input.content l.fn.self) (left g.I.Input.content l.self)
+  going : l.self.answer ≡ None;
+  input : WhereTold (g.I.Input.content l.fn.self.input) (g.I.Input.content l.self.input)
       (λ c d. l.self.taken + length d.bytes ≡ l.fn.self.taken + length c.bytes);
-  used : bytes_used l.self ≡ bytes_used l.fn.self + length l.line.items;
+  used : used l.self ≡ used l.fn.self + length l.line.items;
   lines : l.self.lines ≡ l.fn.self.lines;
-  state : l.self.state ≡ l.fn.self.state;
 }
 
 -- the bytes that may still come

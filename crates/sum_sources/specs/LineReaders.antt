@@ -1,0 +1,58 @@
+-- A reader of lines, as its callers see it.
+use Rattle.std.specs.Prelude.{ℕ, ◌≡◌, ◌+◌, ◌-◌, ◌≤◌, ◌⊎◌, List, [], ◌++◌, take, length, nat_lt, if◌then◌else◌}
+use Rattle.std.specs.Prelude.{Option, None, Some, Result, Ok, Err}
+use Rattle.std.specs.Option.{option_map}
+use Rattle.digest_kinds.specs.Limits.{LIMIT}
+use Rattle.sum_sources.specs.declared.input.TheConstants.{PIECE}
+use Rattle.sum_sources.specs.declared.fault.Fault.TheVariants.{Other}
+use Rattle.sum_sources.specs.declared.fault.Ending.TheVariants.{Broken}
+use Rattle.sum_sources.specs.declared.lines.Next.{Next}
+use Rattle.sum_sources.specs.declared.lines.Next.TheVariants.{Line, NoMore}
+use Rattle.sum_sources.specs.declared.lines.LineStop.{LineStop}
+use Rattle.sum_sources.specs.declared.lines.LineStop.TheVariants as stops
+use Rattle.sum_sources.specs.Contents.{Content, limit}
+use Rattle.sum_sources.specs.Standard.{empty_content}
+
+-- a reader
+pub record Reader (I : Type 0) : Type 0 where
+  pub input : I                                  -- its input, past the bytes that it has given
+  pub ahead : List ℕ                             -- of these bytes, those that no line has used yet
+  pub taken : ℕ                                  -- how many bytes the input has given
+  pub lines : ℕ                                  -- how many lines were answered
+  pub answer : Option (Result Next LineStop)     -- what every later call answers again, where there is one
+
+-- how many bytes the lines have used, newlines included
+abbrev pub used : {I : Type 0} → Reader I → ℕ
+used r = r.taken - length r.ahead
+
+-- what holds of every reader: each line has used a byte at least, and at most a piece was read ahead
+pub record Bounded {I : Type 0} (r : Reader I) : Type 0 where
+  pub lines : r.lines + length r.ahead ≤ r.taken
+  pub ahead : length r.ahead ≤ PIECE
+  pub taken : r.taken ≤ LIMIT
+
+-- a content of which fewer than n bytes are taken
+abbrev pub clip_to : ℕ → Content → Content
+clip_to n c = if nat_lt (length c.bytes) n then c else record { bytes = take (n - 1) c.bytes; ending = Broken Other }
+
+-- a content with these bytes in front
+abbrev pub with_front : List ℕ → Content → Content
+with_front front c = record { bytes = front ++ c.bytes; ending = c.ending }
+
+-- what is still to come, where this is answered again: nothing after the end, and just the fault after a fault
+abbrev pub left_by : Option (Result Next LineStop) → Content → Content
+left_by None c = c
+left_by (Some (Ok n)) c = empty_content
+left_by (Some (Err (stops.Fault f))) c = record { bytes = []; ending = Broken f }
+left_by (Some (Err stops.Memory)) c = c
+
+-- what is still to come: the bytes read ahead and then the input's content, as far as the limit allows
+abbrev pub coming : {I : Type 0} → (I → Option Content) → Reader I → Option Content
+coming content r =
+    option_map (λ c. left_by r.answer (with_front r.ahead (clip_to (limit - r.taken) c))) (content r.input)
+
+-- what is answered again after an answer: at most the end after a line, and the same after the end and each stop
+abbrev pub Settles : Result Next LineStop → Option (Result Next LineStop) → Type 0
+Settles (Ok Line) later = (later ≡ None) ⊎ (later ≡ Some (Ok NoMore))
+Settles (Ok NoMore) later = later ≡ Some (Ok NoMore)
+Settles (Err e) later = later ≡ Some (Err e)
