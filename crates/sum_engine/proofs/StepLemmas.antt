@@ -9,7 +9,7 @@ use Rattle.sum_sources.specs.declared.lines.Next.TheVariants.{Line, NoMore}
 use Rattle.sum_sources.specs.declared.lines.LineStop.TheVariants as line_stops
 use Rattle.sum_sources.specs.Contents.{Content, WhereTold}
 use Rattle.sum_sources.specs.ManifestLines.{LineOf, lines}
-use Rattle.sum_sources.specs.joins.LineReading.{coming, bytes_used, lines_given}
+use Rattle.sum_sources.specs.LineReaders.{coming, used}
 use Rattle.sum_sources.proofs.ToldLemmas.{WhereTold-both}
 use Rattle.sum_lines.specs.declared.line_reading.Form.{Form}
 use Rattle.sum_lines.specs.Entries.{form_then, line_form}
@@ -77,8 +77,8 @@ stands a = now_by a.rest a.number a.used a.form a.counts a.scene
 abbrev pub standing_of : {I : Type 0} → (I → Option Content) → Place I → Option Scene → Standing
 standing_of content s scene = record {
   rest = coming content s.reader;
-  number = lines_given s.reader;
-  used = bytes_used s.reader;
+  number = s.reader.lines;
+  used = used s.reader;
   form = s.form;
   counts = s.counts;
   scene = scene;
@@ -182,19 +182,18 @@ step_line_stop r n m a b line held Memory came number refused h = stands-told a 
     let first = line_first (now r) (stands_at a c s) line (lines d) took.0 in
     record { step = _; rest = first.0; is = first.1; same = same; wants = inl refused })
 
--- what is told of the first value holds beside what holds of both
-told_with : {A : Type 0} (x y : Option A) (Q : A → Type 0) (P : A → A → Type 0) → IfSome x Q → WhereTold x y P
-    → WhereTold x y (λ a b. Q a × P a b)
-told_with None y Q P q p = tt
-told_with (Some a) None Q P q p = p
-told_with (Some a) (Some b) Q P q p = (q, p)
+-- what is told of the first value alone
+pub told_first : {A : Type 0} (x y : Option A) (Q : A → Type 0) → WhereTold x y (λ a b. Q a) → IfSome x Q
+told_first None y Q h = tt
+told_first (Some a) None Q h = absurd h
+told_first (Some a) (Some b) Q h = h
 
 -- there was no memory for the line
-pub step_no_room : (r : Rules) (n : ℕ) (a b : Standing) (held : List ℕ) (P : Content → Content → Type 0)
-    → WhereTold a.rest b.rest P → WhereTold a.scene b.scene (λ s t. t ≡ s) → IfSome a.rest (λ c. 0 < length c.bytes)
+pub step_no_room : (r : Rules) (n : ℕ) (a b : Standing) (line held : List ℕ)
+    → WhereTold a.rest b.rest (λ c d. LineOf c d (Err line_stops.Memory) line)
+    → WhereTold a.scene b.scene (λ s t. t ≡ s)
     → StepGives (now r) n n held (stands a) (stands b) (Err Memory)
-step_no_room r n a b held P came h room =
-    stands-told a b _ (told_with a.rest b.rest (λ c. 0 < length c.bytes) P room came) h (λ c d s t took same.
+step_no_room r n a b line held came h = stands-told a b _ came h (λ c d s t some same.
     let here = stands_at a c s in
     let first = first_step (now r) c.ending a.counts c (rest_verdicts (now r) here) in
     record {
@@ -202,7 +201,7 @@ step_no_room r n a b held P came h room =
       rest = first.1;
       is = first.2;
       same = same;
-      wants = inr (refl, subst (λ k. 0 < k) (sym first.3) took.0);
+      wants = inr (refl, subst (λ k. 0 < k) (sym first.3) some);
     })
 
 -- the end, whose summary was handed on

@@ -1,10 +1,8 @@
 -- A checker, as its callers see it.
-use Rattle.std.specs.Prelude.{◌≡◌, ◌+◌, ◌≤◌, length, Option, None, Some, Result, Ok, OnOk}
-use Rattle.digest_kinds.specs.Limits.{LIMIT}
-use Rattle.sum_sources.specs.declared.input.TheConstants.{PIECE}
+use Rattle.std.specs.Prelude.{◌≡◌, ◌+◌, length, Option, None, Some, Result, Ok}
 use Rattle.sum_sources.specs.declared.lines.LineReader.{LineReader}
 use Rattle.sum_sources.specs.Contents.{Content, WhereTold}
-use Rattle.sum_sources.specs.joins.LineReading.{coming, left, bytes_taken, bytes_used, lines_given}
+use Rattle.sum_sources.specs.LineReaders.{coming, used, Bounded}
 use Rattle.sum_lines.specs.declared.line_reading.Form.{Form}
 use Rattle.sum_engine.specs.declared.progress.Progress.{Progress}
 use Rattle.sum_engine.specs.declared.progress.Progress.TheVariants.{Going}
@@ -35,15 +33,13 @@ again_after x = Some x
 -- where it stands in its manifest, where that and the scene tell
 abbrev pub now_of : {I : Type 0} → (I → Option Content) → Place I → Option Scene → Option Now
 now_of content p scene =
-    now_by (coming content p.reader) (lines_given p.reader) (bytes_used p.reader) p.form p.counts scene
+    now_by (coming content p.reader) p.reader.lines (used p.reader) p.form p.counts scene
 
--- what a step does to the place, whether anything tells or not: it is checked by the same; what the input has given and
--- what is left of it stay the same in sum; where no stop came, at most a piece was read ahead of the lines handled;
--- and a line that was handled is one more
+-- what a step does to the place, whether outputs and files tell or not: it is checked by the same; what the input has
+-- given and what is left of it stay the same in sum; a line that was handled is one more; and the reader's bounds hold
 pub record Reads {I : Type 0} (content : I → Option Content) (a b : Place I) (x : Result Progress Stop) : Type 0 where
   pub rules : b.rules ≡ a.rules
-  pub taken : WhereTold (left content a.reader) (left content b.reader)
-      (λ c d. bytes_taken b.reader + length d.bytes ≡ bytes_taken a.reader + length c.bytes)
-  pub ahead : OnOk x (bytes_taken b.reader ≤ bytes_used b.reader + PIECE)
-  pub number : x ≡ Ok Going → lines_given b.reader ≡ lines_given a.reader + 1
-  pub few : lines_given b.reader ≤ LIMIT
+  pub taken : WhereTold (content a.reader.input) (content b.reader.input)
+      (λ c d. b.reader.taken + length d.bytes ≡ a.reader.taken + length c.bytes)
+  pub number : x ≡ Ok Going → b.reader.lines ≡ a.reader.lines + 1
+  pub bounds : Bounded b.reader

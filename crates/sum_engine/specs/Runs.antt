@@ -1,5 +1,5 @@
 -- What a run does: a list of steps, between which it may want memory.
-use Rattle.std.specs.Prelude.{ℕ, ◌&&◌, Bool, true, List, [], ◌∷◌, ◌++◌, map, flat_map, Option, None, Some}
+use Rattle.std.specs.Prelude.{ℕ, ◌&&◌, Bool, List, [], ◌∷◌, ◌++◌, map, flat_map, Option, None, Some}
 
 -- a name is opened, where `-` is standard input; or a byte is written to standard error, or to standard output
 pub data Event : Type 0 where

@@ -1,5 +1,5 @@
 //! Checking a manifest, a line at a time.
-ghost use Rattle.std.specs.Prelude.{◌≡◌, ◌≤◌, None, Some, Err, Ok, Option, IfSome};
+ghost use Rattle.std.specs.Prelude.{◌≡◌, ◌≤◌, [], None, Some, Err, Ok, Option, IfSome};
 ghost use Rattle.sum_lines.specs.Profiles.{present};
 ghost use Rattle.sum_engine.specs.Steps.{no_line, StepGives, WantsMemory};
 
@@ -23,8 +23,6 @@ pub struct Checker<'a, I> {
 }
 
 impl<'a, I> Model for Checker<'a, I> {
-    ghost use Rattle.std.specs.Prelude.{◌≡◌, None, false};
-    ghost use Rattle.sum_sources.specs.joins.LineReading.{has_stopped};
     ghost use Rattle.sum_engine.specs.Checkers.{Checking};
 
     ghost Value = { Checking I };
@@ -32,14 +30,12 @@ impl<'a, I> Model for Checker<'a, I> {
     ghost use Rattle.sum_engine.specs.joins.Positions.{place_of};
 
     ghost view = { λ c. record { place = place_of c.position; answer = c.answer } };
-
-    ghost invariant = { λ c. c.answer ≡ None → has_stopped c.position.reader ≡ false };
 }
 
 impl<'a, I: Input> Checker<'a, I> {
     ghost use Rattle.std.specs.Option.{option_map};
     ghost use Rattle.sum_sources.specs.Contents.{clip};
-    ghost use Rattle.sum_sources.specs.joins.LineReading.{coming, left, bytes_taken};
+    ghost use Rattle.sum_sources.specs.LineReaders.{coming};
     ghost use Rattle.sum_engine.specs.Scenes.{Scene, scene, HoldNothing, Failures};
     ghost use Rattle.sum_engine.specs.Checkers.{again_after, now_of, Reads};
 
@@ -64,8 +60,8 @@ impl<'a, I: Input> Checker<'a, I> {
         ensures now { (s : Option Scene) → now_of I.content result.place s
             ≡ no_line (option_map clip (I.content input)) s }
         ensures answer { result.answer ≡ None }
-        ensures taken { bytes_taken result.place.reader ≡ 0 }
-        ensures left { left I.content result.place.reader ≡ I.content input }
+        ensures reader { result.place.reader
+            ≡ record { input = input; ahead = []; taken = 0; lines = 0; answer = None } }
     {
         Checker {
             position: Position::new(settings, tool, shown, from_stdin, input),
@@ -75,7 +71,7 @@ impl<'a, I: Input> Checker<'a, I> {
 
     /// How many bytes the manifest's input has given.
     pub fn taken(&self) -> u64
-        ensures value { result ≡ bytes_taken self.now.place.reader }
+        ensures value { result ≡ self.now.place.reader.taken }
         ensures most { result ≤ LIMIT }
     {
         self.position.taken()

@@ -1,8 +1,6 @@
 //! Where the checking of a manifest stands.
-ghost use Rattle.std.specs.Prelude.{◌≡◌, ◌≤◌, ◌<◌, Ok, Err, None, false, length, Option};
-ghost use Rattle.sum_sources.specs.joins.LineReading.{lines_given, bytes_taken, bytes_used, has_stopped};
+ghost use Rattle.std.specs.Prelude.{◌≡◌, ◌≤◌, ◌<◌, Ok, Err, None, [], length, Option};
 ghost use Rattle.digest_kinds.specs.Limits.{LIMIT};
-ghost use Rattle.sum_sources.specs.declared.input.TheConstants.{PIECE};
 ghost use Rattle.sum_lines.specs.Profiles.{present};
 ghost use Rattle.sum_engine.specs.Reports.{total};
 
@@ -28,13 +26,13 @@ pub(crate) struct Position<'a, I> {
     counts: Counts,
     // what listed files are read into: one for all of them
     buffer: [u8; PIECE],
-    ghost few: { total counts ≤ lines_given reader },
+    ghost few: { total counts ≤ reader.lines },
 }
 
 impl<'a, I: Input> Position<'a, I> {
     ghost use Rattle.std.specs.Option.{option_map};
     ghost use Rattle.sum_sources.specs.Contents.{clip};
-    ghost use Rattle.sum_sources.specs.joins.LineReading.{coming, left};
+    ghost use Rattle.sum_sources.specs.LineReaders.{coming};
     ghost use Rattle.sum_lines.specs.Entries.{form_then, line_form};
     ghost use Rattle.sum_lines.specs.Says.{says};
     ghost use Rattle.sum_engine.specs.Scenes.{Scene, scene, HoldNothing, Failures, refusals_over};
@@ -61,9 +59,7 @@ impl<'a, I: Input> Position<'a, I> {
         } }
         ensures now { (s : Option Scene) → now_of I.content (place_of result) s
             ≡ no_line (option_map clip (I.content input)) s }
-        ensures work { has_stopped result.reader ≡ false }
-        ensures taken { bytes_taken result.reader ≡ 0 }
-        ensures left { left I.content result.reader ≡ I.content input }
+        ensures reader { result.reader ≡ record { input = input; ahead = []; taken = 0; lines = 0; answer = None } }
     {
         let listing = Listing {
             settings,
@@ -82,7 +78,7 @@ impl<'a, I: Input> Position<'a, I> {
 
     /// How many bytes the manifest's input has given.
     pub(crate) fn taken(&self) -> u64
-        ensures value { result ≡ bytes_taken self.now.reader }
+        ensures value { result ≡ self.now.reader.taken }
         ensures most { result ≤ LIMIT }
     {
         self.reader.taken()
@@ -94,7 +90,6 @@ impl<'a, I: Input> Position<'a, I> {
         line: &mut Vec<u8, A>,
         streams: &mut Streams<J, S, O, E>,
     ) -> Result<Progress, Stop>
-        requires work { has_stopped self.old.reader ≡ false }
         ensures gives { HoldNothing O.held E.held streams.old → StepGives (rules_in self.old.listing)
             (S.refusals streams.old.source) (S.refusals streams.new.source) line.new.items
             (now_of I.content (place_of self.old) (scene J.content S.told O.written E.written streams.old))
@@ -106,7 +101,6 @@ impl<'a, I: Input> Position<'a, I> {
         ensures untouched { result ≡ Err Stop.Memory
             → (streams.new.out ≡ streams.old.out) × (streams.new.err ≡ streams.old.err) }
         ensures reads { Reads I.content (place_of self.old) (place_of self.new) result }
-        ensures work { result ≡ Ok Progress.Going → has_stopped self.new.reader ≡ false }
     {
         match self.reader.next_line(line) {
             Err(LineStop::Memory) => Err(Stop::Memory),
@@ -132,7 +126,7 @@ impl<'a, I: Input> Position<'a, I> {
 
     // The number of the line that was read last.
     fn number(&self) -> u64
-        ensures { result ≡ lines_given self.now.reader }
+        ensures { result ≡ self.now.reader.lines }
     {
         self.reader.lines()
     }
@@ -143,12 +137,12 @@ impl<'a, I: Input> Position<'a, I> {
         line: &mut Vec<u8, A>,
         streams: &mut Streams<J, S, O, E>,
     ) -> Result<(), Stop>
-        requires room { total self.old.counts < lines_given self.old.reader }
-        requires few { lines_given self.old.reader ≤ LIMIT }
+        requires room { total self.old.counts < self.old.reader.lines }
+        requires few { self.old.reader.lines ≤ LIMIT }
         ensures gives { HoldNothing O.held E.held streams.old → HandleGives (rules_in self.old.listing)
             (says present self.old.listing.settings.algo
             (form_then self.old.form (line_form self.old.listing.settings.algo line.old.items)) line.old.items)
-            (lines_given self.old.reader) self.old.counts self.new.counts
+            self.old.reader.lines self.old.counts self.new.counts
             (scene J.content S.told O.written E.written streams.old)
             (scene J.content S.told O.written E.written streams.new) result }
         ensures none { HoldNothing O.held E.held streams.old → HoldNothing O.held E.held streams.new }

@@ -2,7 +2,6 @@ use Rattle.std.proofs.Common.{◌≡◌, ◌^◌, ◌-◌, None}
 use Rattle.std.specs.Option.{option_map}
 use Rattle.sum_sources.specs.Contents.{clip}
 use Rattle.sum_engine.specs.Scenes.{scene, HoldNothing}
-use Rattle.sum_sources.specs.joins.LineReading.{lines_given}
 use Rattle.sum_engine.specs.Checkers.{now_of}
 use Rattle.sum_engine.specs.joins.Listings.{rules_in}
 use Rattle.sum_engine.proofs.ManifestLemmas.{Comes}
@@ -25,4 +24,4 @@ invariant-lines g l =
     }
 
 abbrev pub decreases-lines : goal.decreases-lines
-decreases-lines g l = 2 ^ 61 - lines_given l.checker.place.reader
+decreases-lines g l = 2 ^ 61 - l.checker.place.reader.lines

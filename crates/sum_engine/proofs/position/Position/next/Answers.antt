@@ -1,9 +1,9 @@
-use Rattle.std.proofs.Common.{refl, rules}
+use Rattle.std.proofs.Common.{◌<◌, length, refl, inr}
 use Rattle.std.proofs.lemmas.Result.{err_from_is_err_and}
 use Rattle.sum_engine.specs.joins.Listings.{rules_in}
 use Rattle.sum_engine.specs.joins.Positions.{place_of}
 use Rattle.sum_engine.proofs.SceneLemmas.{seen, seen_of, same_scene, err_told, err_cut}
-use Rattle.sum_engine.proofs.StepLemmas.{standing_of, step_line, step_line_stop, step_no_room, step_end, step_end_cut, step_fault, step_fault_cut}
+use Rattle.sum_engine.proofs.StepLemmas.{told_first, standing_of, step_line, step_line_stop, step_no_room, step_end, step_end_cut, step_fault, step_fault_cut}
 use Rattle.sum_engine.proofs.position.Position.next.Goals as goal
 
 -- there was no memory for the line
@@ -14,9 +14,13 @@ returns-in-Err-Memory-clause-gives g c =
     let first = seen_of g.J.Input.content g.S.Source.told g.O.Sink.written g.E.Sink.written c.args.streams.now in
     let here = standing_of g.I.Input.content (place_of old) (seen first) in
     let gives = rw c.in-Err-Memory.field-0-is at c.in-Err-Memory.ensures.gives in
-    let room = rw c.in-Err-Memory.field-0-is at c.in-Err-Memory.ensures.memory in
     let same = same_scene (seen first) in
-    λ hold. step_no_room (rules_in old.listing) _ here _ line _ gives same (room (search rules) refl)
+    λ hold. step_no_room (rules_in old.listing) _ here _ line line gives same
+
+pub returns-in-Err-Memory-clause-wants : goal.returns-in-Err-Memory-clause-wants
+returns-in-Err-Memory-clause-wants g c =
+    let gives = rw c.in-Err-Memory.field-0-is at c.in-Err-Memory.ensures.gives in
+    inr (refl, told_first _ _ (λ d. 0 < length d.bytes) gives)
 
 -- the manifest's fault was told
 pub returns-in_ok-put_fault_line-in-Err-Fault-clause-gives :
