@@ -1,5 +1,5 @@
 -- What the program does, from the list of its arguments to its status.
-use Rattle.std.specs.Prelude.{ℕ, ◌≡◌, ◌⊎◌, false, List, [], map, Option, None, Some, Result, Ok, Err, ⊤}
+use Rattle.std.specs.Prelude.{ℕ, ◌≡◌, ◌⊎◌, false, List, [], map, Option, None, Some, Result, Ok, Err, codes, ⊤}
 use Rattle.sum_sources.specs.Contents.{WhereTold}
 use Rattle.sum_lines.specs.Sinks.{IsPrefix, after_failure}
 use Rattle.sum_engine.specs.declared.stop.Stop.{Stop}
@@ -10,13 +10,13 @@ use Rattle.sum_engine.specs.Runs.{Tells, Run, at_once}
 use Rattle.sum_engine.specs.Scenes.{Scene, Did, RunOf, Rose}
 use Rattle.sum_words.specs.Items.{Text}
 use Rattle.sum_words.specs.CommandLines.{Call, unknown, call, command_line, NeedsMemory}
-use Rattle.sum_words.specs.Texts.{not_read, unknown_tool, stop_line}
+use Rattle.sum_words.specs.Texts.{stop_line}
 use Rattle.digests.specs.Meaning.{meaning, status_of}
 
 -- what a call means, and the line that tells of its stop, where there is a tool to tell of it
 abbrev pub run_of : Option Call → World → Run
-run_of None w = at_once [] not_read [] false
-run_of (Some unknown) w = at_once [] unknown_tool [] false
+run_of None w = at_once [] (codes "digests: words not read\n") [] false
+run_of (Some unknown) w = at_once [] (codes "digests: unknown tool\n") [] false
 run_of (Some (call tool words)) w = meaning tool words w
 
 abbrev pub stop_told : Option Call → Stop → Text

@@ -1,8 +1,7 @@
 //! The whole program, from the list of its arguments to its exit status.
-ghost use Rattle.std.specs.Prelude.{◌≡◌, [], IsOk};
+ghost use Rattle.std.specs.Prelude.{◌≡◌, [], IsOk, codes};
 ghost use Rattle.sum_engine.specs.Scenes.{scene, HoldNothing};
 ghost use Rattle.sum_engine.specs.joins.Telling.{Tells, Fails};
-ghost use Rattle.sum_words.specs.Texts.{not_read, unknown_tool};
 ghost use Rattle.digests.specs.Program.{ProgramGives, failing};
 ghost use Rattle.digests.specs.joins.Endings.{Closes, line_of};
 
@@ -53,7 +52,7 @@ pub fn command<A: Allocator + Copy, G: Arguments, I: Input + Drop, S: Source, O:
 
 // Writes the line for an unknown tool, and hands it on.
 fn tell_unknown<E: Sink>(err: &mut E) -> Result<(), SinkFault>
-    ensures text { Tells E.written E.held err.old err.new unknown_tool result }
+    ensures text { Tells E.written E.held err.old err.new (codes "digests: unknown tool\n") result }
     ensures failures { Fails (E.failures err.old) (E.failures err.new) result }
 {
     put_unknown(err)?;
@@ -62,7 +61,7 @@ fn tell_unknown<E: Sink>(err: &mut E) -> Result<(), SinkFault>
 
 // Writes the line for words that couldn't be read, and hands it on.
 fn tell_not_read<E: Sink>(err: &mut E) -> Result<(), SinkFault>
-    ensures text { Tells E.written E.held err.old err.new not_read result }
+    ensures text { Tells E.written E.held err.old err.new (codes "digests: words not read\n") result }
     ensures failures { Fails (E.failures err.old) (E.failures err.new) result }
 {
     put_all(err, b"digests: words not read\n")?;

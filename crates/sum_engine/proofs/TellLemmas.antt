@@ -1,42 +1,13 @@
 -- A text that is written and handed on at once, and one such text after another.
-use Rattle.std.proofs.Common.{◌≡◌, ℕ, List, [], ◌++◌, Option, None, Some, Result, Ok, Err, refl, ap, sym, ◌∙◌, append_assoc, append-nil}
-use Rattle.std.proofs.lemmas.List.{append_cancel_left}
-use Rattle.std.specs.Io.KnownBytes.{Appends, append_known}
+use Rattle.std.proofs.Common.{◌≡◌, ℕ, List, [], ◌++◌, Option, Result, Ok, Err, ap, sym, ◌∙◌, append_assoc, subst}
+use Rattle.std.specs.Io.KnownBytes.{Appends}
 use Rattle.std.proofs.KnownBytes.{Appends-trans}
 use Rattle.sum_lines.specs.Sinks.{SinkState, Wrote, Broke, Flushes, AppendsPart, after_failure}
-use Rattle.sum_lines.specs.joins.Growing.{Grows, AppendsPrefix}
+use Rattle.sum_lines.specs.joins.Growing.{AppendsPrefix}
+use Rattle.sum_lines.proofs.SinkLemmas.{Wrote-flushed, Wrote-dropped}
 use Rattle.sum_engine.specs.joins.Telling.{Hands, Tells, Fails}
 
 -- ---- known bytes
-
--- a text was taken where nothing was held, and then all that was held was handed on
-handed_all : {held : List ℕ} (a b c : Option (List ℕ)) (mid text : List ℕ) → held ≡ []
-    → Appends (append_known a held) (append_known b mid) text → Appends b c mid → Appends a c text
-handed_all None b c mid text none taken h = tt
-handed_all (Some x) None c mid text none taken h = absurd taken
-handed_all (Some x) (Some y) None mid text none taken h = absurd h
-handed_all (Some x) (Some y) (Some z) mid text none taken h =
-    h ∙ taken ∙ ap (λ l. (x ++ l) ++ text) none ∙ ap (λ l. l ++ text) (append-nil x)
-
--- or a prefix of what was held
-handed_part : {held : List ℕ} (a b c : Option (List ℕ)) (mid text : List ℕ) → held ≡ []
-    → Appends (append_known a held) (append_known b mid) text → Grows a b → AppendsPrefix b c mid
-    → AppendsPrefix a c text
-handed_part None b c mid text none taken grows h = ([], (text, refl), tt)
-handed_part (Some x) None c mid text none taken grows h = absurd taken
-handed_part (Some x) (Some y) None mid text none taken grows h = absurd h.2
-handed_part {held} (Some x) (Some y) (Some z) mid text none taken grows h =
-    let whole : x ++ (grows.0 ++ mid) ≡ x ++ text =
-    sym (append_assoc x grows.0 mid) ∙ ap (λ l. l ++ mid) (sym grows.1) ∙ taken
-    ∙ ap (λ l. (x ++ l) ++ text) none ∙ ap (λ l. l ++ text) (append-nil x) in
-    let same : grows.0 ++ mid ≡ text = append_cancel_left x (grows.0 ++ mid) text whole in (
-      grows.0 ++ h.0,
-      (
-        h.1.0,
-        sym same ∙ ap (λ l. grows.0 ++ l) h.1.1 ∙ sym (append_assoc grows.0 h.0 h.1.0),
-      ),
-      h.2 ∙ ap (λ l. l ++ h.0) grows.1 ∙ append_assoc x grows.0 h.0,
-    )
 
 -- a proper prefix, behind nothing that was held
 part_prefix : {held : List ℕ} (a c : Option (List ℕ)) (text : List ℕ) → held ≡ [] → AppendsPart a c (held ++ text)
@@ -63,9 +34,9 @@ prefix_then a b c x y h k = (
 pub told_flushed : {E : Type 0} (a b c : SinkState) (text : List ℕ) (r : Result (Unit {0}) E) → Wrote a b text
     → Flushes b c r → a.held ≡ [] → (c.held ≡ []) × Hands a.written c.written text r
 told_flushed a b c text (Ok u) h k none =
-    (k.1, handed_all a.written b.written c.written b.held text none h.taken k.0)
+    (k.1, subst (λ l. Appends a.written c.written (l ++ text)) none (Wrote-flushed text h k.0))
 told_flushed a b c text (Err e) h k none =
-    (k.none, handed_part a.written b.written c.written b.held text none h.taken h.grows k.handed)
+    (k.none, subst (λ l. AppendsPrefix a.written c.written (l ++ text)) none (Wrote-dropped text h k))
 
 -- with these failures
 pub fails_flushed : {E : Type 0} (a b c : SinkState) (text : List ℕ) (r : Result (Unit {0}) E) → Wrote a b text

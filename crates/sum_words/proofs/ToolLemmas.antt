@@ -8,7 +8,8 @@ use Rattle.sum_words.specs.declared.tool.Tool.TheVariants as tools
 use Rattle.sum_words.specs.Tools.{name_of, all_tools, tool_called}
 
 -- each tool is found by its own name
-found_by_name : (tool : Tool) → find (λ t. bytes_eq (name_of t) (name_of tool)) all_tools ≡ Some tool
+found_by_name : (tool : Tool) → tool_called (name_of tool) ≡ Some tool
+unfolding tool_called
 found_by_name tools.Md5sum = refl
 found_by_name tools.Sha1sum = refl
 found_by_name tools.Sha224sum = refl
@@ -27,16 +28,12 @@ found_passes test (y ∷ ys) x h =
       | false ↦ λ _ later. found_passes test ys x later
     ] refl h
 
--- so a tool is found by a word exactly where the word is its name
-named_by : (word : List ℕ) (r : Option Tool) → find (λ t. bytes_eq (name_of t) word) all_tools ≡ r → (tool : Tool)
-    → (r ≡ Some tool) ↔ (name_of tool ≡ word)
-named_by word r e tool = (
-  λ h. (bytes_eq-Decides (name_of tool) word).0 (found_passes (λ t. bytes_eq (name_of t) word) all_tools tool (e ∙ h)),
-  λ h. sym e ∙ (rw (← h) (found_by_name tool)),
-)
-
--- the tool that is called so, and no other, has this name
+-- so the tool that is called by a word, and no other, has this name
 pub named : (word : List ℕ) (r : Option Tool) → r ≡ tool_called word → (tool : Tool)
     → (r ≡ Some tool) ↔ (name_of tool ≡ word)
 unfolding tool_called
-named word r e tool = named_by word r (sym e) tool
+named word r e tool = (
+  λ h. (bytes_eq-Decides (name_of tool) word).0
+      (found_passes (λ t. bytes_eq (name_of t) word) all_tools tool (sym e ∙ h)),
+  λ h. e ∙ (rw (← h) (found_by_name tool)),
+)

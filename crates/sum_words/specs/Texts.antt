@@ -1,4 +1,4 @@
--- The texts that the program itself writes: those of faults, help and version, and its own lines.
+-- The texts that the program itself writes: those of faults, help and version, and the line for a stop.
 use Rattle.std.specs.Prelude.{true, false, [], ◌++◌, codes}
 use Rattle.std.specs.Char.{encode_utf8}
 use Rattle.digest_kinds.specs.declared.algo.Algos.{Algos}
@@ -63,13 +63,6 @@ help t =
 
 abbrev pub version : Tool → Text
 version t = name_of t ++ codes " (digests), profile 2\n"
-
--- the program's own lines
-abbrev pub not_read : Text
-not_read = codes "digests: words not read\n"
-
-abbrev pub unknown_tool : Text
-unknown_tool = codes "digests: unknown tool\n"
 
 abbrev pub stop_text : Stop → Text
 stop_text Memory = codes "memory exhausted"

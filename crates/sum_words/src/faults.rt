@@ -1,11 +1,11 @@
 //! What the program writes on standard error where it does nothing else: for a fault in the words, for a tool that it
 //! doesn't know, and for a run that stopped.
-ghost use Rattle.std.specs.Prelude.{◌≡◌, ◌++◌};
+ghost use Rattle.std.specs.Prelude.{◌≡◌, ◌++◌, codes};
 ghost use Rattle.sum_lines.specs.Sinks.{Writes};
 ghost use Rattle.sum_lines.specs.joins.PartTexts.{part_text};
 ghost use Rattle.sum_words.specs.joins.Walk.{fault_of};
 ghost use Rattle.sum_words.specs.joins.Shown.{shown_text, lines_of};
-ghost use Rattle.sum_words.specs.Texts.{wording, fault_lines, unknown_tool, stop_text, stop_line};
+ghost use Rattle.sum_words.specs.Texts.{wording, fault_lines, stop_text, stop_line};
 
 use crate::tool::Tool;
 use sum_engine::Stop;
@@ -133,7 +133,7 @@ fn wording<'a>(fault: &WordFault<'a>) -> (&'static str, Shown<'a>, &'static str)
 /// Writes the line for an unknown or missing tool. A fault of the sink where a write failed; of what was held and of
 /// the line a proper prefix is then handed on, and nothing is held.
 pub fn put_unknown<E: Sink>(err: &mut E) -> Result<(), SinkFault>
-    ensures { Writes E.written E.held E.failures err.old err.new unknown_tool result }
+    ensures { Writes E.written E.held E.failures err.old err.new (codes "digests: unknown tool\n") result }
 {
     put_all(err, b"digests: unknown tool\n")
 }

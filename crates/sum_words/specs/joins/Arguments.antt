@@ -13,8 +13,7 @@ use Rattle.sum_words.specs.Tools.{tool_called}
 use Rattle.sum_words.specs.declared.command_line.CommandLine.TheVariants.{UnknownTool, Asks}
 use Rattle.sum_words.specs.CommandLines.{Call, unknown, call, last_part, command_line, LongerAt, MayNotRead}
 
--- what one call does where the arguments are told: the argument at the place stands in front of the buffer; or there is
--- none; or it is longer than the buffer
+-- what one call does: the argument at the place stands in front of the buffer; there is none; or it is longer
 abbrev pub Fills : Option (List Text) → ℕ → List ℕ → Result ℕ FillError → Type 0
 Fills None place buffer r = ⊤
 Fills (Some all) place buffer (Ok n) = slice_get all place ≡ Some (take n buffer)

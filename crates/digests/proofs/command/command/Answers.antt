@@ -2,7 +2,6 @@ use Rattle.std.proofs.Common.{Some, None}
 use Rattle.sum_engine.specs.Scenes.{scene}
 use Rattle.sum_engine.proofs.SceneLemmas.{seen_of, seen}
 use Rattle.sum_words.specs.CommandLines.{call, unknown}
-use Rattle.sum_words.specs.Texts.{unknown_tool, not_read}
 use Rattle.digests.specs.Program.{Failing, failing}
 use Rattle.digests.proofs.OneTextLemmas.{told_on_err}
 use Rattle.digests.proofs.ProgramLemmas.{failing-of, failing-told, program_ends, program_read, program_unread}
@@ -53,7 +52,7 @@ returns-in-Ok-UnknownTool-clause-gives g c =
       err = g.E.Sink.written c.close-in-Ok-UnknownTool.new.err;
     })) c.close-in-Ok-UnknownTool.result told unknown read
     (program_ends c.close-in-Ok-UnknownTool.result (Some unknown) n n f after last first here _ _ _
-    (told_on_err start _ unknown_tool n n c.tell_unknown.result said.1)
+    (told_on_err start _ _ n n c.tell_unknown.result said.1)
     (failing-told f.out f.err after.err 1 c.tell_unknown.result c.tell_unknown.ensures.failures)
     (closed hold.0 said.0))
 
@@ -77,6 +76,6 @@ returns-in-Err-clause-gives g c =
       err = g.E.Sink.written c.close-in-Err.new.err;
     })) c.close-in-Err.result told c.in-Err.ensures.not_read
     (program_ends c.close-in-Err.result None n n f after last first here _ _ _
-    (told_on_err start _ not_read n n c.tell_not_read.result said.1)
+    (told_on_err start _ _ n n c.tell_not_read.result said.1)
     (failing-told f.out f.err after.err 1 c.tell_not_read.result c.tell_not_read.ensures.failures)
     (closed hold.0 said.0))
