@@ -54,5 +54,4 @@ coming content r =
 -- what is answered again after an answer: at most the end after a line, and the same after the end and each stop
 abbrev pub Settles : Result Next LineStop → Option (Result Next LineStop) → Type 0
 Settles (Ok Line) later = (later ≡ None) ⊎ (later ≡ Some (Ok NoMore))
-Settles (Ok NoMore) later = later ≡ Some (Ok NoMore)
-Settles (Err e) later = later ≡ Some (Err e)
+Settles answer later = later ≡ Some answer
