@@ -11,7 +11,7 @@ use Rattle.sum_engine.specs.Profiles.{lines_by}
 use Rattle.sum_engine.specs.Worlds.{World, after}
 use Rattle.sum_engine.specs.Runs.{Run, outs, errs, asks}
 use Rattle.sum_engine.specs.Verdicts.{Rules, Judged, asks_of, verdicts, all_verdicts, judge}
-use Rattle.sum_engine.specs.Reports.{no_counts, out_of, err_of, counts, end_text, good}
+use Rattle.sum_engine.specs.Reports.{no_counts, out_of, err_of, counts, end_text}
 use Rattle.sum_engine.specs.Checking.{line_steps, checked_content}
 use Rattle.sum_engine.specs.Scenes.{Scene}
 use Rattle.sum_engine.specs.Steps.{Now, Moves, GoesOn, to_come, start}

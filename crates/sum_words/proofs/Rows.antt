@@ -268,9 +268,9 @@ no_words : (name : Text) → length name ≤ PAGE → MayNotRead (name ∷ []) �
 no_words name h (inl none) = cc
 no_words name h (inr (inl kept)) = elim (tool_called (last_part name)) as (λ o.
     let called : Option Tool × List Text = if is_some o then (o, []) else (None, []) in 0 < length called.1 → ⊥) [
-  | None ↦ λ some. absurd (omega (arith, some))
-  | Some tool ↦ λ some. absurd (omega (arith, some))
-] kept
+      | None ↦ λ some. absurd (omega (arith, some))
+      | Some tool ↦ λ some. absurd (omega (arith, some))
+    ] kept
 no_words name h (inr (inr (zero, long))) = let same : name ≡ long.0 = cc in not_longer name long.0 h same long.2
 no_words name h (inr (inr (suc place, long))) = let none : None ≡ Some long.0 = long.1 in cc
 
