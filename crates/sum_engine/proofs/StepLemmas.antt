@@ -1,6 +1,5 @@
 -- One step of a checker, by what its parts did.
 use Rattle.std.proofs.Common.{◌≡◌, ℕ, ◌+◌, ◌≤◌, ◌<◌, ◌||◌, ◌⊎◌, Bool, false, List, [], ◌∷◌, length, Option, None, Some, Ok, Err, refl, ap, sym, ◌∙◌, inl, inr, subst}
-use Rattle.std.specs.Prelude.{IfSome}
 use Rattle.std.specs.List.{list_any}
 use Rattle.std.specs.Io.KnownBytes.{Appends}
 use Rattle.sum_sources.specs.declared.fault.Fault.{Fault}
@@ -181,12 +180,6 @@ step_line_stop r n m a b line held Write came number refused h = stands-told a b
 step_line_stop r n m a b line held Memory came number refused h = stands-told a b _ came h (λ c d s t took same.
     let first = line_first (now r) (stands_at a c s) line (lines d) took.0 in
     record { step = _; rest = first.0; is = first.1; same = same; wants = inl refused })
-
--- what is told of the first value alone
-pub told_first : {A : Type 0} (x y : Option A) (Q : A → Type 0) → WhereTold x y (λ a b. Q a) → IfSome x Q
-told_first None y Q h = tt
-told_first (Some a) None Q h = absurd h
-told_first (Some a) (Some b) Q h = h
 
 -- there was no memory for the line
 pub step_no_room : (r : Rules) (n : ℕ) (a b : Standing) (line held : List ℕ)

@@ -34,7 +34,7 @@ prefix_then a b c x y h k = (
 pub told_flushed : {E : Type 0} (a b c : SinkState) (text : List ℕ) (r : Result (Unit {0}) E) → Wrote a b text
     → Flushes b c r → a.held ≡ [] → (c.held ≡ []) × Hands a.written c.written text r
 told_flushed a b c text (Ok u) h k none =
-    (k.1, subst (λ l. Appends a.written c.written (l ++ text)) none (Wrote-flushed text h k.0))
+    (k.1, subst (λ l. Appends a.written c.written (l ++ text)) none (Wrote-flushed c.written text h k.0))
 told_flushed a b c text (Err e) h k none =
     (k.none, subst (λ l. AppendsPrefix a.written c.written (l ++ text)) none (Wrote-dropped text h k))
 

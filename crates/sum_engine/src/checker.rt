@@ -3,6 +3,7 @@ ghost use Rattle.std.specs.Prelude.{◌≡◌, ◌≤◌, [], None, Some, Err, O
 ghost use Rattle.sum_lines.specs.Profiles.{present};
 ghost use Rattle.sum_engine.specs.Steps.{no_line, StepGives, WantsMemory};
 
+use crate::listing::Listing;
 use crate::position::Position;
 use crate::progress::Progress;
 use crate::settings::CheckSettings;
@@ -38,6 +39,7 @@ impl<'a, I: Input> Checker<'a, I> {
     ghost use Rattle.sum_sources.specs.LineReaders.{coming};
     ghost use Rattle.sum_engine.specs.Scenes.{Scene, scene, HoldNothing, Failures};
     ghost use Rattle.sum_engine.specs.Checkers.{again_after, now_of, Reads};
+    ghost use Rattle.sum_engine.specs.joins.Listings.{rules_in};
 
     /// A checker of the manifest that `input` gives. Its diagnostics begin with `tool`, as with `md5sum`, and call the
     /// manifest `shown`; `from_stdin` says whether it came from standard input, where a line that names `-` is
@@ -63,8 +65,26 @@ impl<'a, I: Input> Checker<'a, I> {
         ensures reader { result.place.reader
             ≡ record { input = input; ahead = []; taken = 0; lines = 0; answer = None } }
     {
+        let listing = Listing {
+            settings,
+            tool,
+            shown,
+            from_stdin,
+        };
+        Checker::over(listing, input)
+    }
+
+    /// A checker of the manifest that `input` gives, by what it is listed as.
+    pub(crate) fn over(listing: Listing<'a>, input: I) -> Self
+        ensures rules { result.place.rules ≡ rules_in listing.entry }
+        ensures now { (s : Option Scene) → now_of I.content result.place s
+            ≡ no_line (option_map clip (I.content input)) s }
+        ensures answer { result.answer ≡ None }
+        ensures reader { result.place.reader
+            ≡ record { input = input; ahead = []; taken = 0; lines = 0; answer = None } }
+    {
         Checker {
-            position: Position::new(settings, tool, shown, from_stdin, input),
+            position: Position::new(listing, input),
             answer: None,
         }
     }

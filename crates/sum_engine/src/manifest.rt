@@ -85,13 +85,7 @@ fn check_input<'a, A: Allocator, I: Input + Drop, J: Input + Drop, S: Source, O:
     ensures refusals { RefusedOnMemory (S.refusals streams.old.source) (S.refusals streams.new.source) result }
     ensures failures { Failures O.failures E.failures streams.old streams.new result }
 {
-    let mut checker = Checker::new(
-        listing.settings,
-        listing.tool,
-        listing.shown,
-        listing.from_stdin,
-        input,
-    );
+    let mut checker = Checker::over(listing, input);
     let mut line = Vec::new(alloc);
     'lines: loop {
         match checker.step(&mut line, streams) {

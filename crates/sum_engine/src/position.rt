@@ -7,7 +7,6 @@ ghost use Rattle.sum_engine.specs.Reports.{total};
 use crate::listing::Listing;
 use crate::progress::Progress;
 use crate::report::{put_fault_line, put_report};
-use crate::settings::CheckSettings;
 use crate::stop::Stop;
 use crate::streams::Streams;
 use crate::summary::{Counts, is_good, put_summary};
@@ -42,31 +41,13 @@ impl<'a, I: Input> Position<'a, I> {
     ghost use Rattle.sum_engine.specs.joins.Listings.{rules_in};
     ghost use Rattle.sum_engine.specs.joins.Positions.{place_of};
 
-    /// In front of a manifest's first line.
-    pub(crate) fn new(
-        settings: CheckSettings,
-        tool: &'a str,
-        shown: &'a [u8],
-        from_stdin: bool,
-        input: I,
-    ) -> Self
-        ensures rules { rules_in result.listing ≡ record {
-          profile = present;
-          settings = settings;
-          tool = tool.entry.now;
-          shown = shown.entry.now;
-          from_stdin = from_stdin;
-        } }
+    /// In front of the first line of the manifest that `input` gives.
+    pub(crate) fn new(listing: Listing<'a>, input: I) -> Self
+        ensures rules { rules_in result.listing ≡ rules_in listing.entry }
         ensures now { (s : Option Scene) → now_of I.content (place_of result) s
             ≡ no_line (option_map clip (I.content input)) s }
         ensures reader { result.reader ≡ record { input = input; ahead = []; taken = 0; lines = 0; answer = None } }
     {
-        let listing = Listing {
-            settings,
-            tool,
-            shown,
-            from_stdin,
-        };
         Position {
             listing,
             reader: LineReader::new(input),

@@ -1,12 +1,11 @@
 //! The verdict of a line.
-ghost use Rattle.std.specs.Prelude.{◌≡◌, ◌||◌, ◌≤◌, length, MatchOption, IfSome, is_none};
+ghost use Rattle.std.specs.Prelude.{◌≡◌, ◌||◌, ◌≤◌, length, MatchOption, is_none};
 ghost use Rattle.std.specs.List.{list_any};
 ghost use Rattle.sum_sources.specs.Sources.{after_refusal};
 ghost use Rattle.sum_lines.specs.Entries.{form_then, line_form};
 ghost use Rattle.sum_engine.specs.Worlds.{is_dash};
 ghost use Rattle.sum_lines.specs.Profiles.{present};
 ghost use Rattle.sum_lines.specs.Says.{says};
-ghost use Rattle.sum_engine.specs.Verdicts.{asks_by};
 ghost use Rattle.sum_engine.specs.joins.Asking.{world};
 
 use crate::asking::{Asked, DASH, ask};

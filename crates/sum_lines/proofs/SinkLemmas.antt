@@ -99,16 +99,15 @@ Wrote-dropped {a} {b} {c} text wrote dropped =
     handed_some a.written b.written c.written a.held b.held text wrote.grows wrote.taken dropped.handed
 
 -- a text was written, and then all that was held was handed on
-pub Wrote-flushed : {a b c : SinkState} (text : List ℕ) → Wrote a b text → Appends b.written c.written b.held
-    → Appends a.written c.written (a.held ++ text)
-Wrote-flushed {a} {b} {c} text wrote handed =
-    handed_all a.written b.written c.written a.held b.held text wrote.taken handed
+pub Wrote-flushed : {a b : SinkState} (c : Option (List ℕ)) (text : List ℕ) → Wrote a b text
+    → Appends b.written c b.held → Appends a.written c (a.held ++ text)
+Wrote-flushed {a} {b} c text wrote handed = handed_all a.written b.written c a.held b.held text wrote.taken handed
 
 -- nothing was written, and then a flush came
 pub Flushes-behind : {E : Type 0} {a : SinkState} (b c : SinkState) (r : Result (Unit {0}) E) → Wrote a b []
     → Flushes b c r → Flushes a c r
 Flushes-behind {a = a} b c (Ok u) wrote flushed =
-    (rw append-nil at (Wrote-flushed [] wrote flushed.0), flushed.1, flushed.2 ∙ wrote.kept)
+    (rw append-nil at (Wrote-flushed c.written [] wrote flushed.0), flushed.1, flushed.2 ∙ wrote.kept)
 Flushes-behind b c (Err e) wrote dropped = record {
   handed = rw append-nil at (Wrote-dropped [] wrote dropped);
   none = dropped.none;

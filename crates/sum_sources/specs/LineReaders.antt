@@ -13,19 +13,19 @@ use Rattle.sum_sources.specs.declared.lines.LineStop.TheVariants as stops
 use Rattle.sum_sources.specs.Contents.{Content, limit}
 use Rattle.sum_sources.specs.Standard.{empty_content}
 
--- a reader
+-- a reader of lines
 pub record Reader (I : Type 0) : Type 0 where
-  pub input : I                                  -- its input, past the bytes that it has given
-  pub ahead : List ℕ                             -- of these bytes, those that no line has used yet
-  pub taken : ℕ                                  -- how many bytes the input has given
-  pub lines : ℕ                                  -- how many lines were answered
-  pub answer : Option (Result Next LineStop)     -- what every later call answers again, where there is one
+  pub input : I  -- its input, past the bytes that it has given
+  pub ahead : List ℕ  -- of these bytes, those that no line has used yet
+  pub taken : ℕ  -- how many bytes the input has given
+  pub lines : ℕ  -- how many lines were answered
+  pub answer : Option (Result Next LineStop)  -- what every later call answers again, where there is one
 
 -- how many bytes the lines have used, newlines included
 abbrev pub used : {I : Type 0} → Reader I → ℕ
 used r = r.taken - length r.ahead
 
--- what holds of every reader: each line has used a byte at least, and at most a piece was read ahead
+-- what holds of every reader: each line has used a byte at least, at most a piece is ahead, and the limit stands
 pub record Bounded {I : Type 0} (r : Reader I) : Type 0 where
   pub lines : r.lines + length r.ahead ≤ r.taken
   pub ahead : length r.ahead ≤ PIECE
@@ -54,5 +54,4 @@ coming content r =
 -- what is answered again after an answer: at most the end after a line, and the same after the end and each stop
 abbrev pub Settles : Result Next LineStop → Option (Result Next LineStop) → Type 0
 Settles (Ok Line) later = (later ≡ None) ⊎ (later ≡ Some (Ok NoMore))
-Settles (Ok NoMore) later = later ≡ Some (Ok NoMore)
-Settles (Err e) later = later ≡ Some (Err e)
+Settles answer later = later ≡ Some answer

@@ -1,6 +1,6 @@
 -- The lines of a manifest.
-use Rattle.std.specs.Prelude.{ℕ, zero, suc, ◌≡◌, ◌+◌, ◌==◌, false, List, [], ◌∷◌, ◌++◌, map, All, length, Result, Ok, Err}
-use Rattle.std.specs.Prelude.{◌<◌}
+use Rattle.std.specs.Prelude.{ℕ, zero, suc, ◌≡◌, ◌+◌, ◌==◌, false, List, [], ◌∷◌, ◌++◌, map, All}
+use Rattle.std.specs.Prelude.{◌<◌, length, Result, Ok, Err}
 use Rattle.std.specs.List.{slice_split, after_first, flat_map}
 use Rattle.std.specs.Str.Lines.{strip_carriage_return}
 use Rattle.sum_sources.specs.declared.fault.Ending.{Ending}
@@ -13,9 +13,8 @@ use Rattle.sum_sources.specs.Contents.{Content}
 
 -- the last piece, which no newline ended, is a line where it isn't empty and the content ends whole
 abbrev pub last_line : Ending → List ℕ → List (List ℕ)
-last_line Whole [] = []
 last_line Whole (b ∷ bs) = (b ∷ bs) ∷ []
-last_line (Broken f) piece = []
+last_line _ _ = []
 
 -- which of the pieces between newlines are lines: each that a newline ended, and the last one by its own rule
 abbrev pub line_pieces : Ending → List (List ℕ) → List (List ℕ)
@@ -60,8 +59,7 @@ LineOf c d (Err stops.Memory) line = 0 < length c.bytes
 -- how many lines were answered
 abbrev pub lines_after : ℕ → Result Next LineStop → ℕ
 lines_after n (Ok Line) = n + 1
-lines_after n (Ok NoMore) = n
-lines_after n (Err e) = n
+lines_after n _ = n
 
 -- the content past so many lines
 abbrev pub past_lines : ℕ → Content → Content

@@ -21,15 +21,13 @@ after_refusal n = min (n + 1) (2 ^ 64 - 1)
 
 -- only want of memory changes the count of refusals
 abbrev pub refusals_after : {F : Type 0} → ℕ → Result F OpenFault → ℕ
-refusals_after n (Ok file) = n
-refusals_after n (Err (faults.Fault f)) = n
 refusals_after n (Err faults.Memory) = after_refusal n
+refusals_after n _ = n
 
 -- every call but one that wants memory adds its name
 abbrev pub asked_after : {F : Type 0} → List (List ℕ) → List ℕ → Result F OpenFault → List (List ℕ)
-asked_after asked name (Ok file) = asked ++ name ∷ []
-asked_after asked name (Err (faults.Fault f)) = asked ++ name ∷ []
 asked_after asked name (Err faults.Memory) = asked
+asked_after asked name _ = asked ++ name ∷ []
 
 -- opening comes out as the reply says, where memory was there
 abbrev pub Opens : {F : Type 0} → (F → Option Content) → Reply → Result F OpenFault → Type 0

@@ -12,10 +12,10 @@ use Rattle.sum_engine.proofs.manifest.check_input.Goals as goal
 
 pub lines-init : goal.lines-init
 lines-init g c = record {
-  comes = λ hold. rw c.new-checker.ensures.now (comes_none (rules_in c.args.listing) _ _);
+  comes = λ hold. rw c.over-checker.ensures.now (comes_none (rules_in c.args.listing) _ _);
   none = λ hold. hold;
-  rules = c.new-checker.ensures.rules;
-  going = c.new-checker.ensures.answer;
+  rules = c.over-checker.ensures.rules;
+  going = c.over-checker.ensures.answer;
   refusals = refl;
   out = refl;
   err = refl;

@@ -1,9 +1,10 @@
 use Rattle.std.proofs.Common.{◌<◌, length, refl, inr}
 use Rattle.std.proofs.lemmas.Result.{err_from_is_err_and}
+use Rattle.sum_sources.proofs.ToldLemmas.{WhereTold-first}
 use Rattle.sum_engine.specs.joins.Listings.{rules_in}
 use Rattle.sum_engine.specs.joins.Positions.{place_of}
 use Rattle.sum_engine.proofs.SceneLemmas.{seen, seen_of, same_scene, err_told, err_cut}
-use Rattle.sum_engine.proofs.StepLemmas.{told_first, standing_of, step_line, step_line_stop, step_no_room, step_end, step_end_cut, step_fault, step_fault_cut}
+use Rattle.sum_engine.proofs.StepLemmas.{standing_of, step_line, step_line_stop, step_no_room, step_end, step_end_cut, step_fault, step_fault_cut}
 use Rattle.sum_engine.proofs.position.Position.next.Goals as goal
 
 -- there was no memory for the line
@@ -20,7 +21,7 @@ returns-in-Err-Memory-clause-gives g c =
 pub returns-in-Err-Memory-clause-wants : goal.returns-in-Err-Memory-clause-wants
 returns-in-Err-Memory-clause-wants g c =
     let gives = rw c.in-Err-Memory.field-0-is at c.in-Err-Memory.ensures.gives in
-    inr (refl, told_first _ _ (λ d. 0 < length d.bytes) gives)
+    inr (refl, WhereTold-first _ _ (λ d. 0 < length d.bytes) gives)
 
 -- the manifest's fault was told
 pub returns-in_ok-put_fault_line-in-Err-Fault-clause-gives :
