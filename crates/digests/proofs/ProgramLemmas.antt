@@ -71,7 +71,7 @@ did_line b out err said o e = subst (λ es. Did b (with_outputs b out err) es) (
 -- what a program gives between two scenes
 abbrev Ends : Option Call → Run → ℕ → ℕ → Failing → Failing → Scene → Scene → ℕ → Type 0
 Ends line run n m f h a b status = (answer : Result ℕ Stop) × (between : Scene) × (g : Failing)
-    × RunOf (status_of run.good) run.steps n m a between answer × Failed f g answer
+    × Failed f g answer × RunOf (status_of run.good) run.steps n m a between answer
     × Leaves line answer g h between b status
 
 -- by the run's answer; where the last flush failed, that is a write fault behind all events
@@ -80,14 +80,14 @@ ends : {a : Scene} (b : Scene) (status : ℕ) (run : Run) (line : Option Call) (
     → Failed f g answer → Closes (stop_told line) answer b.out out b.err err g h status
     → Ends line run n m f h a (with_outputs b out err) status
 ends b status run line n m f g h out err (Ok answer) ran failed (inl done) =
-    (Ok answer, with_outputs b out err, g, (ran.0, did_kept (events run.steps) out err ran.1 done.1 done.2), failed,
+    (Ok answer, with_outputs b out err, g, failed, (ran.0, did_kept (events run.steps) out err ran.1 done.1 done.2),
     (done.0, done.3, refl))
 ends b status run line n m f g h out err (Ok answer) ran failed (inr (broken, rose, told)) =
     let all : IsPrefix (events run.steps) (events run.steps) = ([], sym (append-nil (events run.steps))) in
-    (Err Write, b, broken, (events run.steps, all, ran.1), rw failed at rose,
+    (Err Write, b, broken, rw failed at rose, (events run.steps, all, ran.1),
     (told.is, told.said, told.says, did_line b out err told.said told.out told.err))
 ends b status run line n m f g h out err (Err stop) ran failed told =
-    (Err stop, b, g, ran, failed, (told.is, told.said, told.says, did_line b out err told.said told.out told.err))
+    (Err stop, b, g, failed, ran, (told.is, told.said, told.says, did_line b out err told.said told.out told.err))
 
 -- what follows of a scene with other outputs
 with_others : (s : Option Scene) (w : Option World) (b : Seen) (out err : Option Text) (P Q : Scene → Scene → Type 0)

@@ -47,13 +47,11 @@ Leaves line (Ok answer) f g a b status = (status ≡ answer) × (g ≡ f) × (b 
 Leaves line (Err stop) f g a b status =
     (status ≡ 1) × (said : Text) × Says (stop_told line stop) said f g × Did a b (map Tells said)
 
--- THE PROGRAM, for what it was called for: its run, as the headline has it, up to a scene and failures in between; and
--- then what its answer leaves to be done
+-- THE PROGRAM, for what it was called for: its run, as the headline has it, and then what its answer leaves to be done
 abbrev pub EndsGives : Option Call → ℕ → ℕ → Failing → Failing → Option Scene → Option Scene → ℕ → Type 0
 EndsGives line n m f g a b status = WhereTold a b (λ a b. let run = run_of line a.world in
-    (answer : Result ℕ Stop) × (between : Scene) × (h : Failing)
-    × RunOf (status_of run.good) run.steps n m a between answer × Failed f h answer
-    × Leaves line answer h g between b status)
+    (answer : Result ℕ Stop) × (between : Scene) × (h : Failing) × Failed f h answer
+    × RunOf (status_of run.good) run.steps n m a between answer × Leaves line answer h g between b status)
 
 -- what it is called for is said by the arguments; or the words couldn't be read, which needed memory
 abbrev pub ProgramGives : Option (List Text) → ℕ → ℕ → Failing → Failing → Option Scene → Option Scene → ℕ → Type 0
