@@ -101,17 +101,18 @@ STATUSES = {
     "1": "Anything else: also a fault of the options, memory that is refused, or an output that fails.",
     "127": "The program was built for later processors than this machine's. Nothing was done. Where the message names "
            "`x86-64-v3`, install the level `default`. Where it names `x86-64-v2`, that is the level `default`: there "
-           "is none for older processors. The option `--cpu` in the message is the compiler's, and not that of `install`.",
+           "is none for older processors. The option `--cpu` in the message is the compiler's, and not that of "
+           "`install`.",
 }
 
 DIAGNOSTICS = {
     "{FILE}: No such file or directory": "It isn't there. The other files are still read.",
     "{FILE}: Permission denied": "It may not be opened. The other files are still read.",
-    "{FILE}: Input/output error": "It can't be read for another reason. Most often it is a directory. Other reasons "
-                                  "are links that lead in a circle, a name that is too long, a name below a file that is "
-                                  "no directory, a name in a manifest that isn't UTF-8, a socket, standard input that "
-                                  "is closed, or that has nothing ready and is set not to wait, and a device that "
-                                  "fails. The other files are still read.",
+    "{FILE}: Input/output error": "It can't be read for another reason. Most often it is a directory. Other "
+                                  "reasons are links that lead in a circle, a name that is too long, a name below a "
+                                  "file that is no directory, a name in a manifest that isn't UTF-8, a socket, "
+                                  "standard input that is closed, or that has nothing ready and is set not to wait, "
+                                  "and a device that fails. The other files are still read.",
     "{FILE}: {N}: improperly formatted {TAG} checksum line": "With `--warn`: line number {N} of the manifest.",
     "{FILE}: no properly formatted checksum lines found": "The manifest lists nothing.",
     "{FILE}: no file was verified": "With `--ignore-missing`: no listed file has the right checksum.",
