@@ -60,6 +60,25 @@ class Library(Case):
                 for method in re.findall(r"(?m)^    pub (?:const )?fn (\w+)", text):
                     self.assertRegex(page, rf"(?m)^    - `(const )?fn {method}\b", (crate, name))
 
+    def test_every_variant(self):
+        """Each variant of each public enum stands in the page, and so does each type with one of the crates' traits."""
+        page, found = self.read("docs/LIBRARY.md").decode(), 0
+        for crate in re.findall(r"(?m)^### `(\w+)`$", page):
+            folder = os.fsdecode(self.path(f"crates/{crate}/src"))
+            for name in os.listdir(folder):
+                if not name.endswith(".rt") or "tests" in name:
+                    continue
+                text = self.read(os.path.join(folder, name)).decode()
+                for enum, body in re.findall(r"(?ms)^pub enum (\w+)[^\n]*\{\n(.*?)^\}", text):
+                    part = re.search(rf"(?m)^- `enum {enum}\b.*\n.*\n  \*Variants:\* (.*)$", page)[1]
+                    wanted = re.findall(r"(?m)^    ([A-Z]\w*)", body)
+                    self.assertEqual(re.findall(r"(?:^|, )`(\w+)", part), wanted, enum)
+                    found += 1
+                of_ours = r"(?m)^impl.*\b(Hasher|Input|Sink|Source|Arguments) for (\w+)"
+                for trait, name in re.findall(of_ours, text):
+                    self.assertRegex(page, rf"(?m)^- `trait {trait}`.*\n.*\n  \*Implemented by:\* .*`{name}`")
+        self.assertGreater(found, 20)
+
     def test_a_change(self):
         for old, new in (("/// A digest, of 1 to 64 bytes.", "/// Another sentence."),
                          ("pub fn from_hex(text: &[u8])", "pub fn from_hex(text: &[u16])"),

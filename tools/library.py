@@ -12,6 +12,8 @@ BEGIN = "<!-- From here on tools/library.py writes. -->\n"
 ITEM = re.compile(r"(    )?(?:pub (?:const )?)?(fn|struct|enum|trait|const) (\w+)")
 OWNER = re.compile(r"(?:impl(?:<.*?>)? (?P<type>\w+)(?:<.*>)? \{|pub trait (?P<trait>\w+).*\{)$")
 CLAUSE = re.compile(r"\s*(?:requires|ensures|where|ghost)\b|\s*\{")
+IMPL = re.compile(r"(?m)^impl(?:<.*?>)? (?:\w+::)*(\w+(?:<\w+>)?) for (\w+)")
+DERIVED = re.compile(r"(?m)^#\[derive\((.*)\)\]\n(?:#\[.*\]\n)*pub (?:struct|enum) (\w+)")
 
 
 class Item:
@@ -89,28 +91,70 @@ def items_of(path):
             comment = []
 
 
+def parts_of(text, kind, name):
+    """The public fields of a struct, or the variants of an enum, as the source has them."""
+    body = re.search(rf"(?ms)^pub {kind} {name}\b[^;{{\n]*\{{\n(.*?)^\}}", text)
+    if not body:
+        return []
+    bare = re.sub(r"(?m)^ *(?://|#\[).*\n", "", body[1])
+    if kind == "struct":
+        return re.findall(r"(?m)^    pub (\w+: .*),$", bare)
+    found = re.findall(r"(?m)^    (\w+(?:\([^()]*\)| \{[^{}]*\})?),$", bare)
+    return [re.sub(r",? \}", " }", re.sub(r"\s+", " ", part)) for part in found]
+
+
+def traits():
+    """Each type of the libraries with the traits that it has, by a derive or by an impl; `Model` is for contracts."""
+    has = {}
+    for crate in crates():
+        folder = os.path.join(TOP, "crates", crate, "src")
+        for file in sorted(os.listdir(folder)):
+            if not file.endswith(".rt") or "tests" in file:
+                continue
+            text = "\n".join(lines_of(os.path.join(folder, file))) + "\n"
+            found = [(name, trait) for derived, name in DERIVED.findall(text) for trait in derived.split(", ")]
+            for name, trait in found + [(name, trait) for trait, name in IMPL.findall(text)]:
+                if trait != "Model" and trait not in has.setdefault(name, []):
+                    has[name].append(trait)
+    return has
+
+
+def more_of(text, item, has):
+    """What is said of a type besides its sentence: its fields or variants, and its traits; and who has a trait."""
+    def listed(mark, names):
+        return [f"*{mark}:* " + ", ".join(f"`{name}`" for name in names)] if names else []
+    if item.kind == "trait":
+        return listed("Implemented by", [name for name in has if item.name in has[name]])
+    if item.kind not in ("struct", "enum"):
+        return []
+    mark = {"struct": "Fields", "enum": "Variants"}[item.kind]
+    return listed(mark, parts_of(text, item.kind, item.name)) + listed("Traits", has.get(item.name, []))
+
+
 def things_of(crate):
     """The things that a crate hands out, each with what belongs to it, and where they stand."""
     folder = os.path.join(TOP, "crates", crate, "src")
     every = {name[:-3]: list(items_of(os.path.join(folder, name))) for name in sorted(os.listdir(folder))
              if name.endswith(".rt") and "tests" not in name}
     members = [item for items in every.values() for item in items if item.owner]
+    has = traits()
     for module, names in exported(crate):
         path = f"{module}::" if names is None and module != "lib" else ""
+        text = "\n".join(lines_of(source(crate, module))) + "\n"
         for item in every.get(module, []):
             if not item.owner and (names is None or item.name in names):
-                yield path, item, [member for member in members if member.owner == item.name]
-        text = "\n".join(lines_of(source(crate, module)))
+                yield path, item, more_of(text, item, has), [it for it in members if it.owner == item.name]
         for other, name in re.findall(r"(?m)^pub use (\w+)::(\w+);", text):
             if name in (names or []):
-                yield "", Item(None, "use", name, f"use {other}::{name}", f"The one of `{other}`."), []
+                yield "", Item(None, "use", name, f"use {other}::{name}", f"The one of `{other}`."), [], []
 
 
 def described(crate):
     """A crate's part of the page."""
     text = [f"### `{crate}`", ""]
-    for path, item, members in things_of(crate):
-        text.append(f"- `{item.signature.replace(item.name, path + item.name, 1)}`  \n  {item.sentence}")
+    for path, item, more, members in things_of(crate):
+        said = "  \n  ".join([item.sentence, *more])
+        text.append(f"- `{item.signature.replace(item.name, path + item.name, 1)}`  \n  {said}")
         text += [f"    - `{member.signature}`  \n      {member.sentence}" for member in members]
     return "\n".join(text) + "\n"
 

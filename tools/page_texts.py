@@ -53,8 +53,10 @@ USE_OF_OPTIONS = (
 LINE_FORMATS = (
     "The digits are hexadecimal, in lower case where they are written.",
     "A backslash, a newline or a carriage return in a name is written as `\\\\`, `\\n` or `\\r`, and a backslash then "
-    "stands before the whole line. So each line is one line, whatever the name. With `--zero` none of this is done.",
+    "stands before the whole line. So each line is one line, whatever the name.",
 )
+
+LINE_FORMAT_OF_ZERO = " With `--zero` none of this is done."
 
 TAGS = {
     "b2sum": ("The tag of a digest that was shortened by `--length` is `BLAKE2b-`{BITS}.",),
@@ -97,15 +99,20 @@ STATUSES = {
          "file that has the right checksum, and none that has another or couldn't be read; and with `--strict` no line "
          "is improperly formatted.",
     "1": "Anything else: also a fault of the options, memory that is refused, or an output that fails.",
-    "127": "The program was built for later processors than this machine's. Nothing was done.",
+    "127": "The program was built for later processors than this machine's. Nothing was done. Where the message names "
+           "`x86-64-v3`, install the level `default`. Where it names `x86-64-v2`, that is the level `default`: there "
+           "is none for older processors. The option `--cpu` in the message is the compiler's, and not that of "
+           "`install`.",
 }
 
 DIAGNOSTICS = {
     "{FILE}: No such file or directory": "It isn't there. The other files are still read.",
     "{FILE}: Permission denied": "It may not be opened. The other files are still read.",
-    "{FILE}: Input/output error": "It can't be read for another reason: a directory, a device that fails, a name that "
-                                  "isn't UTF-8 in a manifest, standard input that is closed. The other files are "
-                                  "still read.",
+    "{FILE}: Input/output error": "It can't be read for another reason. Most often it is a directory. Other "
+                                  "reasons are links that lead in a circle, a name that is too long, a name below a "
+                                  "file that is no directory, a name in a manifest that isn't UTF-8, a socket, "
+                                  "standard input that is closed, or that has nothing ready and is set not to wait, "
+                                  "and a device that fails. The other files are still read.",
     "{FILE}: {N}: improperly formatted {TAG} checksum line": "With `--warn`: line number {N} of the manifest.",
     "{FILE}: no properly formatted checksum lines found": "The manifest lists nothing.",
     "{FILE}: no file was verified": "With `--ignore-missing`: no listed file has the right checksum.",
@@ -119,9 +126,11 @@ LIMITS = (
     "A word of the command line that isn't UTF-8 can't be read: the answer is `digests: words not read`. Then no file "
     "of that call is read, and no line is written. A name in a manifest that isn't UTF-8 can't be opened.",
     "A directory is an `Input/output error`.",
-    "What `--zero` writes can't be checked.",
+    "Lines that were written with `--zero` can't be checked.",
     "A file of 2^61 bytes or more is an `Input/output error`.",
     "One line is held in memory at a time, however long the manifest is.",
+    "The stack has to have 64 KiB, and more where the environment is large. With 48 KiB a signal ends the program, "
+    "without a word.",
     "A line of up to 8,192 bytes goes to the system in one piece, so that lines of several runs into one file are "
     "never torn. Into one pipe, Linux keeps up to 4,096 bytes together. A longer line may be torn.",
 )

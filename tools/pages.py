@@ -96,7 +96,8 @@ def line_formats(tool):
     forms = [] if tool == "anysum" else [item("text", "{DIGITS}, two spaces, {NAME}"),
                                          item("binary", "{DIGITS}, a space, a star, {NAME}")]
     forms.append(item("tagged", (f"`{tag} (`" if tag else "{TAG}` (`") + "{NAME}`) = `{DIGITS}"))
-    return section("LINE FORMATS", texts.LINE_FORMATS[0], *forms, *texts.TAGS.get(tool, ()), texts.LINE_FORMATS[1])
+    return section("LINE FORMATS", texts.LINE_FORMATS[0], *forms, *texts.TAGS.get(tool, ()),
+                   texts.LINE_FORMATS[1] + (texts.LINE_FORMAT_OF_ZERO if tag else ""))
 
 
 def checking(tool):

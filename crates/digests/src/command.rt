@@ -15,12 +15,13 @@ use sum_words::{Arguments, CommandLine, NotRead, Tool, put_unknown, read_command
 
 /// Does what the program was called for, and answers its exit status. The tool is the one by whose name the program was
 /// called, as by a link, or else the one that the first word names; the other words are the tool's. Each line is handed
-/// on as soon as it is complete, and both outputs are flushed once more at the end.
+/// on as soon as it is complete. Where the run didn't stop, both outputs are flushed once more at the end.
 ///
-/// `digests: words not read` on standard error and status 1 where a word isn't UTF-8, or memory for the words was
-/// wanted and refused; `digests: unknown tool` and status 1 where there is no such tool. After a stop, `TOOL: memory
-/// exhausted` or `TOOL: write error` where that can be written, and status 1. What is said of bytes is said of outputs
-/// that hold nothing when they are lent.
+/// Where a word isn't UTF-8, it writes `digests: words not read` to standard error, and the status is 1. Otherwise that
+/// comes only where memory is needed for the words. Where there is no such tool, it writes `digests: unknown tool`, and
+/// the status is 1. After a stop of a tool's run it writes `TOOL: memory exhausted` or `TOOL: write error`, as far as
+/// standard error takes it, and the status is 1. What the clauses say of bytes holds of outputs that hold nothing when
+/// they are lent.
 pub fn command<A: Allocator + Copy, G: Arguments, I: Input + Drop, S: Source, O: Sink, E: Sink>(
     alloc: A,
     arguments: &G,

@@ -3,9 +3,10 @@ ghost use Rattle.sum_engine.specs.Laws.{SameVerdicts};
 ghost use Rattle.sum_engine.specs.OldVerdicts.{OldVerdicts, OldOutcomes, OlderDiffers};
 ghost use Rattle.sum_engine.specs.Manifests.{StepsJoin, StepsEnd, StepsCut, StepsReport, EventsExtend};
 
-/// Steps, one after another, are the first steps of the manifest's run, use the bytes up to the end of their lines, and
-/// leave the others to come; the step that ends comes after all lines, and all events have then come about; after a
-/// write fault one prefix of all events has. The first steps of a manifest report its first lines.
+/// After k calls of `step` that each handled a line, exactly the first k steps of the manifest's run came about, the
+/// bytes up to the end of line k are used, and the other steps are still to come. The call that ends comes after all
+/// lines, and then all events came about. After a write fault one prefix of all events did. The first k steps report
+/// the first k lines.
 pub fn steps_join()
     ensures join { StepsJoin }
     ensures end { StepsEnd }

@@ -21,7 +21,7 @@ pub enum Report {
     Quiet,
     /// As `All`, and each line that is improperly formatted.
     Warn,
-    /// No file and no warning: the answer alone, and faults.
+    /// No line for a file, and no warning. What can't be read, and a manifest that lists nothing, is still told of.
     Status,
 }
 
