@@ -13,7 +13,7 @@ use crate::summary::{Counts, is_good, put_summary};
 use crate::verdict::{judge, read};
 use digest_kinds::LIMIT;
 use std::alloc::Allocator;
-use sum_lines::{Form, Sink};
+use sum_lines::{Form, Reading, Sink};
 use sum_sources::{Input, LineReader, LineStop, Next, PIECE, Source};
 
 /// A manifest, its lines so far, and what is still to come of it.
@@ -139,6 +139,9 @@ impl<'a, I: Input> Position<'a, I> {
     {
         let (reading, form) = read(self.listing.settings.algo, self.form, line);
         self.form = form;
+        if let Reading::Ignored = reading {
+            return Ok(());
+        }
         let Some(judgement) = judge(
             &self.listing,
             line,
