@@ -1,6 +1,6 @@
 //! One line of a manifest.
 
-ghost use Rattle.std.specs.Prelude.{◌≡◌, ◌≤◌, if◌then◌else◌, length, vec_len};
+ghost use Rattle.std.specs.Prelude.{◌≡◌, ◌≤◌, false, if◌then◌else◌, length, vec_len};
 ghost use Rattle.sum_lines.specs.Entries.{begins_standard, form_of_tail, form_then, ignored};
 ghost use Rattle.sum_lines.specs.joins.Found.{NamesEntry, NamesTail, text_of};
 ghost use Rattle.sum_lines.specs.Readings.{Reads, form_after};
@@ -63,6 +63,18 @@ pub fn read_line<A: Allocator>(algos: Algos, form: Form, line: &mut Vec<u8, A>) 
     if is_ignored(line) {
         return (Reading::Ignored, form);
     }
+    read_spoken(algos, form, line)
+}
+
+// Reads a line that isn't ignored. A call of its own, since each call clears all that its parts may need, which an
+// ignored line doesn't.
+#[inline(never)]
+fn read_spoken<A: Allocator>(algos: Algos, form: Form, line: &mut Vec<u8, A>) -> (Reading, Form)
+    requires { ignored line.old.items ≡ false }
+    ensures form { result.1 ≡ form_after algos form line.old.items }
+    ensures reads { Reads algos result.1 line.old.items line.new.items result.0 }
+    ensures len { vec_len line.new ≤ vec_len line.old }
+{
     let (escaped, text) = unmark(skip_blanks(line));
     if let Some(found) = tagged(algos, line, escaped, text) {
         (read_name(line, found), form)
