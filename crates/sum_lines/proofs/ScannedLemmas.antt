@@ -20,10 +20,10 @@ use Rattle.digest_kinds.specs.declared.algo.Algos.TheVariants.{One, Any}
 use Rattle.sum_lines.specs.Shapes.{is_blank, Width, Allows}
 use Rattle.sum_lines.specs.Scanned.{Parts, after_while, unmarked, plain_parts, tags, tags_of, behind, tagged_as, tagged_parts}
 use Rattle.sum_lines.specs.joins.Steps.{plain_of}
-use Rattle.sum_lines.proofs.FrontLemmas.{bind_some, front-passes, front-and-rest, unmarked-is}
+use Rattle.sum_lines.proofs.FrontLemmas.{bind_some, behind-some, behind-front, front-passes, front-and-rest, unmarked-is}
 use Rattle.sum_lines.proofs.TaggedLemmas.{same_kind, opening, inner_of, behind_name, behind_tag, tagged-front, behind-free, sign-found, digits-found, hex-no_blank, tagged_is_read}
 use Rattle.sum_lines.proofs.PlainLemmas.{IsPlain, plain_is_read, read_is_plain, plain-digits, plain-front}
-use Rattle.sum_lines.proofs.SplitLemmas.{behind-some, behind-front, opened-some, opened-at, rsplit-some, rsplit-at, first-of, some-first, All-flat_map, All-range, Contains-flat_map, Contains-range}
+use Rattle.sum_lines.proofs.SplitLemmas.{opened-some, opened-at, rsplit-some, rsplit-at, first-of, some-first, All-flat_map, All-range, Contains-flat_map, Contains-range}
 
 -- ---- a plain line
 

@@ -4,34 +4,16 @@ use Rattle.std.specs.Prelude.{filter_map, flat_map, slice_get}
 use Rattle.std.specs.Option.{option_or, option_map}
 use Rattle.std.specs.List.{All, AllPass, Contains, range_with_len, cons_option}
 use Rattle.std.specs.Path.{rsplit_once, rfind_below}
-use Rattle.std.proofs.lemmas.Bool.{cases_Bool, cond-true, cond-false, eqb-true, eq-eqb, ne_eqb, not-true}
-use Rattle.std.proofs.lemmas.Bool.Decides.{eqb_tells}
+use Rattle.std.proofs.lemmas.Bool.{cases_Bool, cond-true, cond-false, eqb-true, eq-eqb, not-true}
 use Rattle.std.proofs.lemmas.List.{take-append-drop, drop_more, get_or-append-add, take_at, drop_at, length-append}
 use Rattle.std.proofs.lemmas.List.Elements.{All-append, All-cons, All-get_or, All-nil, Contains-append_left, Contains-append_right}
 use Rattle.std.proofs.lemmas.List.FromFn.{get_or-map-range_with_len, length-map-range_with_len}
 use Rattle.std.proofs.lemmas.Option.{same_Some}
 use Rattle.sum_lines.specs.Shapes.{optional}
 use Rattle.sum_lines.specs.Scanned.{behind}
-use Rattle.sum_lines.specs.joins.Steps.{past}
-use Rattle.sum_lines.proofs.FrontLemmas.{isn't, past-some, past-front}
+use Rattle.sum_lines.proofs.FrontLemmas.{isn't, behind-some}
 
 -- ---- a text in front
-
--- both ways to pass over a text are one
-behind-past : (xs ys : List ℕ) → behind xs ys ≡ past xs ys
-behind-past [] ys = refl
-behind-past (x ∷ xs) [] = refl
-behind-past (x ∷ xs) (y ∷ ys) = elim (eqb_tells y x) [
-  | inl same ↦ rw (same.1, eq-eqb x x refl) (behind-past xs ys)
-  | inr other ↦ rw (ne_eqb x y (λ e. other.1 (sym e)), other.0) refl
-]
-
--- what is left of a text stood behind what was passed over
-pub behind-some : (xs ys zs : List ℕ) → behind xs ys ≡ Some zs → ys ≡ xs ++ zs
-behind-some xs ys zs h = past-some xs ys zs (sym (behind-past xs ys) ∙ h)
-
-pub behind-front : (xs ys : List ℕ) → behind xs (xs ++ ys) ≡ Some ys
-behind-front xs ys = behind-past xs (xs ++ ys) ∙ past-front xs ys
 
 -- the parenthesis is found, with a space before it or without
 pub opened-some : (s inner : List ℕ) → option_or (behind (32 ∷ 40 ∷ []) s) (behind (40 ∷ []) s) ≡ Some inner

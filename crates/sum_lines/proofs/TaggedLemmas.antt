@@ -15,8 +15,9 @@ use Rattle.digest_kinds.specs.declared.algo.Algos.{Algos}
 use Rattle.digest_kinds.specs.declared.algo.Algos.TheVariants.{One, Any}
 use Rattle.sum_lines.specs.Shapes.{is_blank, mark, optional, Width, Allows, Tagged}
 use Rattle.sum_lines.specs.Scanned.{Parts, after_while, unmarked}
-use Rattle.sum_lines.specs.joins.Steps.{unspaced, algo_of, algo_at, is_digit, bits_at, width_at, digest_behind, opened_text, name_behind, tagged_of}
-use Rattle.sum_lines.proofs.FrontLemmas.{front-at, rest-at, prefix_len-all, past-front, split_last-at, isn't, some_of-some}
+use Rattle.std.specs.Char.{is_ascii_digit}
+use Rattle.sum_lines.specs.joins.Steps.{unspaced, algo_of, algo_at, bits_at, width_at, digest_behind, opened_text, name_behind, tagged_of}
+use Rattle.sum_lines.proofs.FrontLemmas.{front-at, rest-at, prefix_len-all, behind-front, split_last-at, isn't, some_of-some}
 use Rattle.sum_lines.proofs.BitsLemmas.{decimal-kind_at, decimal-digits}
 use Rattle.sum_lines.proofs.TaggedParts.{IsTagged}
 
@@ -78,15 +79,15 @@ unspaced-opening true s = refl
 unspaced-opening false s = refl
 
 -- decimal digits end before it
-front-digits : (ds : List ℕ) (g : Bool) (s : List ℕ) → AllPass is_digit ds
-    → take_while is_digit (ds ++ opening g s) ≡ ds
-front-digits ds true s all = front-at is_digit ds 32 (40 ∷ s) all refl
-front-digits ds false s all = front-at is_digit ds 40 s all refl
+front-digits : (ds : List ℕ) (g : Bool) (s : List ℕ) → AllPass is_ascii_digit ds
+    → take_while is_ascii_digit (ds ++ opening g s) ≡ ds
+front-digits ds true s all = front-at is_ascii_digit ds 32 (40 ∷ s) all refl
+front-digits ds false s all = front-at is_ascii_digit ds 40 s all refl
 
-rest-digits : (ds : List ℕ) (g : Bool) (s : List ℕ) → AllPass is_digit ds
-    → after_while is_digit (ds ++ opening g s) ≡ opening g s
-rest-digits ds true s all = rest-at is_digit ds 32 (40 ∷ s) all refl
-rest-digits ds false s all = rest-at is_digit ds 40 s all refl
+rest-digits : (ds : List ℕ) (g : Bool) (s : List ℕ) → AllPass is_ascii_digit ds
+    → after_while is_ascii_digit (ds ++ opening g s) ≡ opening g s
+rest-digits ds true s all = rest-at is_ascii_digit ds 32 (40 ∷ s) all refl
+rest-digits ds false s all = rest-at is_ascii_digit ds 40 s all refl
 
 -- without a width the digest is full
 width_at-none : (a : Algo) (g : Bool) (s : List ℕ) → width_at a (opening g s) ≡ Some (full_kind a, opening g s)
@@ -214,7 +215,7 @@ module _ {algos : Algos} {line : List ℕ} (p : Parts) (t : IsTagged algos line 
   unfolding opened_text
   opened-read = rw (
     algo_at-tag algos p.kind.algo (behind_tag t) t.allowed,
-    past-front (tag p.kind.algo) (behind_tag t),
+    behind-front (tag p.kind.algo) (behind_tag t),
     width_at-of p.kind t.width t.gap (inner_of t) t.is_width,
     unspaced-opening t.gap (inner_of t),
   ) refl
