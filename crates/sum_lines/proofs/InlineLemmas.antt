@@ -9,7 +9,7 @@ use Rattle.std.proofs.lemmas.List.Elements.{All-cons, All-nil, All-append, All-w
 use Rattle.hex.specs.Hex.{is_hex_digit}
 use Rattle.digest_kinds.specs.Kinds.{KindValue, tag}
 use Rattle.digest_kinds.specs.declared.algo.Algo.{Algo}
-use Rattle.digest_kinds.specs.declared.algo.Algo.TheVariants.{Md5, Sha1, Sha224, Sha256, Sha384, Sha512, Blake2b}
+use Rattle.digest_kinds.specs.declared.algo.Algo.TheVariants.{Md5}
 use Rattle.sum_lines.specs.Profiles.{present}
 use Rattle.sum_lines.specs.Escape.{escape, escape_of}
 use Rattle.sum_lines.specs.Shapes.{mark, Width}
@@ -39,12 +39,7 @@ Inline-digit b h = (λ e. let bad = rw e at h in cc, λ e. let bad = rw e at h i
 -- each tag
 pub Inline-tag : (a : Algo) → All Inline (tag a)
 Inline-tag Md5 = Inline-by_test (tag Md5) refl
-Inline-tag Sha1 = Inline-by_test (tag Sha1) refl
-Inline-tag Sha224 = Inline-by_test (tag Sha224) refl
-Inline-tag Sha256 = Inline-by_test (tag Sha256) refl
-Inline-tag Sha384 = Inline-by_test (tag Sha384) refl
-Inline-tag Sha512 = Inline-by_test (tag Sha512) refl
-Inline-tag Blake2b = Inline-by_test (tag Blake2b) refl
+Inline-tag a = Inline-by_test (tag a) refl
 
 -- the backslash before the line
 pub Inline-mark : (b : Bool) → All Inline (mark b)

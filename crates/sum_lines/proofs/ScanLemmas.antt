@@ -12,7 +12,7 @@ use Rattle.memchr.specs.Find.{Nowhere, Passes, IsLastByte, is_byte}
 use Rattle.hex.specs.Hex.{decode_of}
 use Rattle.hex.specs.declared.error.FromHexError.{FromHexError}
 use Rattle.hex.proofs.HexLemmas.{decode_of-ok}
-use Rattle.digest_kinds.specs.Kinds.{KindValue, has_len, tag}
+use Rattle.digest_kinds.specs.Kinds.{KindValue, full, has_len, tag}
 use Rattle.digest_kinds.specs.Digits.{IsDigits}
 use Rattle.digest_kinds.specs.Tags.{BeginsWithTag}
 use Rattle.digest_kinds.specs.declared.algo.Algo.{Algo}
@@ -92,13 +92,8 @@ algo_is s None tagged found = none_of (algo_of s) (λ a e. let bad = found a (al
 
 -- no digest has more than 64 bytes
 pub has_len-most : (a : Algo) (n : ℕ) → has_len a n ≡ true → n ≤ 64
-has_len-most Md5 n h = let e = eqb-true n 16 h in omega arith
-has_len-most Sha1 n h = let e = eqb-true n 20 h in omega arith
-has_len-most Sha224 n h = let e = eqb-true n 28 h in omega arith
-has_len-most Sha256 n h = let e = eqb-true n 32 h in omega arith
-has_len-most Sha384 n h = let e = eqb-true n 48 h in omega arith
-has_len-most Sha512 n h = let e = eqb-true n 64 h in omega arith
 has_len-most Blake2b n h = let k = and_parts (nat_le 1 n) (nat_le n 64) h in leb-true n 64 k.1
+has_len-most a n h = let e : n ≡ full a = eqb-true n (full a) h in omega arith
 
 -- a digest is spelled by two digits for each byte
 decoded-size : (s d : List ℕ) → decode_of s ≡ Ok d → length s ≡ 2 * length d

@@ -8,7 +8,7 @@ use Rattle.hex.specs.Hex.{decode_of}
 use Rattle.hex.specs.declared.error.FromHexError.{FromHexError}
 use Rattle.digest_kinds.specs.Kinds.{KindValue, full_kind, has_len, tag}
 use Rattle.digest_kinds.specs.declared.algo.Algo.{Algo}
-use Rattle.digest_kinds.specs.declared.algo.Algo.TheVariants.{Md5, Sha1, Sha224, Sha256, Sha384, Sha512, Blake2b}
+use Rattle.digest_kinds.specs.declared.algo.Algo.TheVariants.{Blake2b}
 use Rattle.digest_kinds.specs.declared.algo.Algos.{Algos}
 use Rattle.digest_kinds.specs.declared.algo.Algos.TheVariants.{One, Any}
 use Rattle.sum_lines.specs.Shapes.{is_blank, optional, Width, Allows, Tagged}
@@ -93,13 +93,8 @@ wide-blake2b (b ∷ bs) w h = elim (eqb_tells b 45) [
 
 -- so what is read behind a tag is a width of its kinds
 pub width_at-some : (a : Algo) (s : List ℕ) (w : KindValue × List ℕ) → width_at a s ≡ Some w → Wide a s w
-width_at-some Md5 s w h = wide-none Md5 s w h
-width_at-some Sha1 s w h = wide-none Sha1 s w h
-width_at-some Sha224 s w h = wide-none Sha224 s w h
-width_at-some Sha256 s w h = wide-none Sha256 s w h
-width_at-some Sha384 s w h = wide-none Sha384 s w h
-width_at-some Sha512 s w h = wide-none Sha512 s w h
 width_at-some Blake2b s w h = wide-blake2b s w h
+width_at-some a s w h = wide-none a s w h
 
 -- ---- up to the opening parenthesis
 

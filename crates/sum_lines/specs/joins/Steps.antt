@@ -1,5 +1,5 @@
 -- Joins the functions that scan a line to the relations of Shapes: it reads a line from the front, as they do.
-use Rattle.std.specs.Prelude.{ℕ, ◌+◌, ◌-◌, ◌*◌, ◌/◌, ◌%◌, ◌==◌, nat_le, nat_lt, ◌&&◌, not, Bool, true, false, List, [], ◌∷◌, length, codes, Option, None, Some, Result, Ok, Err, if◌then◌else◌}
+use Rattle.std.specs.Prelude.{ℕ, ◌+◌, ◌-◌, ◌*◌, ◌/◌, ◌%◌, ◌==◌, nat_le, nat_lt, ◌&&◌, not, Bool, false, List, [], ◌∷◌, length, codes, Option, None, Some, Result, Ok, Err, if◌then◌else◌}
 use Rattle.std.specs.Char.{is_ascii_digit}
 use Rattle.std.specs.List.{take_while, starts_with}
 use Rattle.hex.specs.Hex.{decode_of, is_hex_digit}
@@ -65,8 +65,7 @@ width_at a s = Some (full_kind a, s)
 -- what stands before the last such byte, and what behind it
 abbrev pub onto : ℕ → Bool → List ℕ → Option (List ℕ × List ℕ) → Option (List ℕ × List ℕ)
 onto x here xs (Some p) = Some (x ∷ p.0, p.1)
-onto x true xs None = Some ([], xs)
-onto x false xs None = None
+onto x here xs None = if here then Some ([], xs) else None
 
 abbrev pub split_last : ℕ → List ℕ → Option (List ℕ × List ℕ)
 split_last c [] = None
@@ -117,9 +116,8 @@ sized a (Ok d) = if has_len a (length d) then Some (record { algo = a; len = len
 sized a (Err e) = None
 
 abbrev pub tail_of : List ℕ → Option (List ℕ)
-tail_of [] = None
-tail_of (b ∷ []) = None
 tail_of (b ∷ c ∷ tail) = if is_blank b then Some (c ∷ tail) else None
+tail_of s = None
 
 unfoldable pub plain_behind : Algo → Bool → List ℕ → Option Parts
 plain_behind a e s = do
