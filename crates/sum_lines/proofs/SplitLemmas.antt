@@ -128,7 +128,7 @@ pub All-flat_map : {X Y : Type 0} (P : Y → Type 0) (f : X → List Y) → ((x 
 All-flat_map P f all [] = All-nil P
 All-flat_map P f all (x ∷ xs) = All-append P (f x) (flat_map f xs) (all x) (All-flat_map P f all xs)
 
--- what holds of each number from one on holds of a range
+-- what holds of each number in a range holds of all in the list of them
 pub All-range : (P : ℕ → Type 0) (a n : ℕ) → ((i : ℕ) → a ≤ i → i < a + n → P i) → All P (range_with_len a n)
 All-range P a zero each = All-nil P
 All-range P a (suc n) each = All-cons P a (range_with_len (a + 1) n) (each a (omega arith) (omega arith))
