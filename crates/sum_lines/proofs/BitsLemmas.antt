@@ -8,18 +8,19 @@ use Rattle.std.proofs.lemmas.List.Elements.{All-append, All-cons, All-head, All-
 use Rattle.std.specs.List.{AllPass}
 use Rattle.digest_kinds.specs.Kinds.{KindValue}
 use Rattle.digest_kinds.specs.declared.algo.Algo.TheVariants.{Blake2b}
-use Rattle.sum_lines.specs.joins.Steps.{is_digit, number_after, bits_fit, kind_at}
+use Rattle.std.specs.Char.{is_ascii_digit}
+use Rattle.sum_lines.specs.joins.Steps.{number_after, bits_fit, kind_at}
 
 -- a digit is 48 to 57
-digit-range : (d : ℕ) → is_digit d ≡ true → (48 ≤ d) × (d ≤ 57)
+digit-range : (d : ℕ) → is_ascii_digit d ≡ true → (48 ≤ d) × (d ≤ 57)
 digit-range d h = let k = and_parts (nat_le 48 d) (nat_le d 57) h in (leb-true 48 d k.0, leb-true d 57 k.1)
 
 -- a number below ten has a digit
-digit-of : (n : ℕ) → n < 10 → is_digit (48 + n) ≡ true
+digit-of : (n : ℕ) → n < 10 → is_ascii_digit (48 + n) ≡ true
 digit-of n lt = rw (le-leb 48 (48 + n) (omega arith), le-leb (48 + n) 57 (omega arith)) refl
 
 -- one digit more
-decimal-more : (n d : ℕ) → 0 < n → n < 1000 → is_digit d ≡ true → decimal n ++ (d ∷ []) ≡ decimal (n * 10 + (d - 48))
+decimal-more : (n d : ℕ) → 0 < n → n < 1000 → is_ascii_digit d ≡ true → decimal n ++ (d ∷ []) ≡ decimal (n * 10 + (d - 48))
 decimal-more n d some few h =
     let r = digit-range d h in
     let front : (n * 10 + (d - 48)) / 10 ≡ n = omega arith in
@@ -29,30 +30,30 @@ decimal-more n d some few h =
     ∙ ap (λ k. decimal n ++ (k ∷ [])) last)
 
 -- the text of a number of one digit
-decimal-one : (d : ℕ) → is_digit d ≡ true → decimal (0 * 10 + (d - 48)) ≡ d ∷ []
+decimal-one : (d : ℕ) → is_ascii_digit d ≡ true → decimal (0 * 10 + (d - 48)) ≡ d ∷ []
 decimal-one d h =
     let r = digit-range d h in
     let is : 48 + (0 * 10 + (d - 48)) ≡ d = omega arith in
     decimal_digit (0 * 10 + (d - 48)) (omega arith) ∙ ap (λ k. k ∷ []) is
 
 -- up to three digits without a leading zero are the decimal text of their number
-pub digits-decimal : (d : ℕ) (ds : List ℕ) → AllPass is_digit (d ∷ ds) → d ≢ 48 → length ds < 3
+pub digits-decimal : (d : ℕ) (ds : List ℕ) → AllPass is_ascii_digit (d ∷ ds) → d ≢ 48 → length ds < 3
     → d ∷ ds ≡ decimal (number_after 0 (d ∷ ds))
-digits-decimal d [] all nz few = sym (decimal-one d (All-head (λ x. is_digit x ≡ true) d [] all))
+digits-decimal d [] all nz few = sym (decimal-one d (All-head (λ x. is_ascii_digit x ≡ true) d [] all))
 digits-decimal d (b ∷ []) all nz few =
-    let one : is_digit d ≡ true = All-head (λ x. is_digit x ≡ true) d (b ∷ []) all in
-    let two : is_digit b ≡ true =
-    All-head (λ x. is_digit x ≡ true) b [] (All-tail (λ x. is_digit x ≡ true) d (b ∷ []) all) in
+    let one : is_ascii_digit d ≡ true = All-head (λ x. is_ascii_digit x ≡ true) d (b ∷ []) all in
+    let two : is_ascii_digit b ≡ true =
+    All-head (λ x. is_ascii_digit x ≡ true) b [] (All-tail (λ x. is_ascii_digit x ≡ true) d (b ∷ []) all) in
     let r = digit-range d one in
     let s = digit-range b two in
     ap (λ l. l ++ (b ∷ [])) (sym (decimal-one d one))
     ∙ decimal-more (0 * 10 + (d - 48)) b (omega arith) (omega arith) two
 digits-decimal d (b ∷ c ∷ []) all nz few =
-    let rest = All-tail (λ x. is_digit x ≡ true) d (b ∷ c ∷ []) all in
-    let one : is_digit d ≡ true = All-head (λ x. is_digit x ≡ true) d (b ∷ c ∷ []) all in
-    let two : is_digit b ≡ true = All-head (λ x. is_digit x ≡ true) b (c ∷ []) rest in
-    let three : is_digit c ≡ true =
-    All-head (λ x. is_digit x ≡ true) c [] (All-tail (λ x. is_digit x ≡ true) b (c ∷ []) rest) in
+    let rest = All-tail (λ x. is_ascii_digit x ≡ true) d (b ∷ c ∷ []) all in
+    let one : is_ascii_digit d ≡ true = All-head (λ x. is_ascii_digit x ≡ true) d (b ∷ c ∷ []) all in
+    let two : is_ascii_digit b ≡ true = All-head (λ x. is_ascii_digit x ≡ true) b (c ∷ []) rest in
+    let three : is_ascii_digit c ≡ true =
+    All-head (λ x. is_ascii_digit x ≡ true) c [] (All-tail (λ x. is_ascii_digit x ≡ true) b (c ∷ []) rest) in
     let r = digit-range d one in
     let s = digit-range b two in
     let t = digit-range c three in
@@ -73,7 +74,7 @@ number-grows n [] = omega arith
 number-grows n (d ∷ ds) = let h = number-grows (n * 10 + (d - 48)) ds in omega arith
 
 -- what the code finds of digits: those of a number of bits
-pub kind_at-some : (ds : List ℕ) (kind : KindValue) → AllPass is_digit ds → kind_at ds ≡ Some kind
+pub kind_at-some : (ds : List ℕ) (kind : KindValue) → AllPass is_ascii_digit ds → kind_at ds ≡ Some kind
     → (kind.algo ≡ Blake2b) × (ds ≡ decimal (8 * kind.len)) × (0 < kind.len) × (kind.len ≤ 64)
 kind_at-some [] kind all h = cc
 kind_at-some (d ∷ ds) kind all h =
@@ -86,7 +87,7 @@ kind_at-some (d ∷ ds) kind all h =
     let few : length ds < 3 = ltb-true (length ds) 3 e.1 in
     let whole : v % 8 ≡ 0 = eqb-true (v % 8) 0 b.1 in
     let most : v ≤ 512 = leb-true v 512 a.1 in
-    let r = digit-range d (All-head (λ x. is_digit x ≡ true) d ds all) in
+    let r = digit-range d (All-head (λ x. is_ascii_digit x ≡ true) d ds all) in
     let grows : 0 * 10 + (d - 48) ≤ v = number-grows (0 * 10 + (d - 48)) ds in
     let low : 0 < d - 48 = omega arith in
     let some : 0 < v = omega arith in
@@ -98,13 +99,13 @@ pub record Short (n : ℕ) (text : List ℕ) (v : ℕ) : Type 0 where
   pub first : ℕ
   pub more : List ℕ
   pub are : text ≡ first ∷ more
-  pub digits : AllPass is_digit (first ∷ more)
+  pub digits : AllPass is_ascii_digit (first ∷ more)
   pub no_zero : first ≢ 48
   pub few : length more < n
   pub value : number_after 0 (first ∷ more) ≡ v
 
 abbrev Digit : ℕ → Type 0
-Digit x = is_digit x ≡ true
+Digit x = is_ascii_digit x ≡ true
 
 -- a number of one digit
 short-one : (n v : ℕ) → 0 < n → 0 < v → v < 10 → Short n (decimal v) v
@@ -130,7 +131,7 @@ short-more n v q r parts lt low high s =
     ∙ ap (λ k. decimal k ++ ((48 + v % 10) ∷ [])) front
     ∙ ap (λ k. decimal q ++ ((48 + k) ∷ [])) last
     ∙ ap (λ l. l ++ ((48 + r) ∷ [])) s.are in
-    let all : AllPass is_digit ((s.first ∷ s.more) ++ ((48 + r) ∷ [])) =
+    let all : AllPass is_ascii_digit ((s.first ∷ s.more) ++ ((48 + r) ∷ [])) =
     All-append Digit (s.first ∷ s.more) ((48 + r) ∷ []) s.digits
     (All-cons Digit (48 + r) [] (digit-of r lt) (All-nil Digit)) in
     let long : length (s.more ++ ((48 + r) ∷ [])) ≡ length s.more + 1 = length-append s.more ((48 + r) ∷ []) in
@@ -189,7 +190,7 @@ decimal-kind_at len some most =
     s.value
 
 -- and its bytes are digits
-pub decimal-digits : (len : ℕ) → 0 < len → len ≤ 64 → AllPass is_digit (decimal (8 * len))
+pub decimal-digits : (len : ℕ) → 0 < len → len ≤ 64 → AllPass is_ascii_digit (decimal (8 * len))
 decimal-digits len some most =
     let s = short (8 * len) (omega arith) (omega arith) in
     rw s.are s.digits

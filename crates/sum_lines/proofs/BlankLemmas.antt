@@ -1,5 +1,5 @@
 -- The first blank of a plain line's text is the one behind its digits.
-use Rattle.std.proofs.Common.{slice_range, ◌-◌, append_assoc, ℕ, zero, suc, ◌≡◌, ◌+◌, ◌*◌, ◌<◌, ◌≤◌, Bool, true, false, List, [], ◌∷◌, ◌++◌, length, take, drop, get_or, Option, None, Some, Ok, refl, ap, sym, ◌∙◌, arith, subst, min, ◌==◌, inl, inr, length-append}
+use Rattle.std.proofs.Common.{slice_range, ◌-◌, append_assoc, ℕ, zero, suc, ◌≡◌, ◌+◌, ◌*◌, ◌<◌, ◌≤◌, Bool, true, false, List, [], ◌∷◌, ◌++◌, length, take, drop, get_or, None, Some, Ok, refl, ap, sym, ◌∙◌, arith, subst, min, ◌==◌, inl, inr, length-append}
 use Rattle.std.specs.List.{AllPass, take_while}
 use Rattle.std.proofs.lemmas.List.{take_rest, drop_at, take_at, drop_more, get_or-take, length-take, take-append-drop}
 use Rattle.std.proofs.lemmas.List.Elements.{All-head, All-tail}
@@ -12,7 +12,7 @@ use Rattle.digest_kinds.specs.declared.algo.Algo.{Algo}
 use Rattle.sum_lines.specs.Shapes.{is_blank, mark}
 use Rattle.sum_lines.specs.Scanned.{Parts, after_while, unmarked}
 use Rattle.sum_lines.specs.joins.Steps.{sized, tail_of, plain_behind, plain_as}
-use Rattle.sum_lines.proofs.FrontLemmas.{unmarked-is, front-passes, front-and-rest, front-at, rest-at}
+use Rattle.sum_lines.proofs.FrontLemmas.{none_of, unmarked-is, front-passes, front-and-rest, front-at, rest-at}
 use Rattle.sum_lines.proofs.TaggedLemmas.{hex-no_blank}
 use Rattle.sum_lines.proofs.PlainLemmas.{tail_of-some, tail_of-at, blank-no_hex, plain_behind-some}
 use Rattle.sum_lines.proofs.ScanLemmas.{has_len-most}
@@ -71,11 +71,6 @@ cut_of a e s p h =
     }
 
 -- ---- the search for the first blank
-
--- what cannot give anything gives nothing
-none_of : {A : Type 0} (o : Option A) → ((x : A) → o ≡ Some x → ⊥) → None ≡ o
-none_of None h = refl
-none_of (Some x) h = absurd (h x refl)
 
 -- what no cut of it allows isn't plain
 pub plain-never : {text : List ℕ} {e : Bool} (a : Algo) (line : List ℕ)

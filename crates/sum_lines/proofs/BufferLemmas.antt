@@ -1,7 +1,6 @@
 -- What a buffer over a sink does to what was taken, by what the sink below answers.
-use Rattle.std.proofs.Common.{ℕ, ◌≡◌, List, [], ◌++◌, Option, None, Some, Result, Ok, Err, refl, ap, sym, ◌∙◌, append_assoc, append-nil}
+use Rattle.std.proofs.Common.{ℕ, ◌≡◌, List, [], ◌++◌, Option, None, Some, Result, Ok, Err, ap, sym, ◌∙◌, append_assoc, append-nil}
 use Rattle.std.specs.Io.KnownBytes.{Appends, append_known}
-use Rattle.std.proofs.KnownBytes.{Appends-nil}
 use Rattle.sum_lines.specs.Sinks.{SinkState, Wrote, Flushes, WritesFrom}
 use Rattle.sum_lines.specs.joins.Emptying.{Empties}
 use Rattle.sum_lines.proofs.SinkLemmas.{Flushes-behind}
@@ -32,20 +31,6 @@ Emptied a b own (Err e) h = record {
   handed = (h.handed.0, (h.handed.1, h.handed.2), h.handed.4);
   none = append-nil b.held ∙ h.none;
   failed = h.failed;
-}
-
--- a piece was put into the buffer
-taken_above : (a : Option (List ℕ)) (held own piece : List ℕ)
-    → Appends (append_known a (held ++ own)) (append_known a (held ++ (own ++ piece))) piece
-taken_above None held own piece = tt
-taken_above (Some x) held own piece =
-    ap (λ l. x ++ l) (sym (append_assoc held own piece)) ∙ sym (append_assoc x (held ++ own) piece)
-
-pub Put : (a : SinkState) (own piece : List ℕ) → Wrote (behind a own) (behind a (own ++ piece)) piece
-Put a own piece = record {
-  taken = taken_above a.written a.held own piece;
-  grows = ([], Appends-nil a.written);
-  kept = refl;
 }
 
 -- the buffer was emptied, and then the sink below was flushed

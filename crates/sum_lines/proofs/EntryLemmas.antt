@@ -176,8 +176,7 @@ one_form algos lines f = (form-is algos lines f, λ e. rw e (is-form algos lines
 -- nothing behind a line changes the form
 pub form_then-last : (f : Form) → form_then f Undecided ≡ f
 form_then-last Undecided = refl
-form_then-last Standard = refl
-form_then-last Reversed = refl
+form_then-last f = refl
 
 -- the form of one line
 pub form-alone : (algos : Algos) (line : List ℕ) → form algos (line ∷ []) ≡ line_form algos line
@@ -186,8 +185,7 @@ form-alone algos line = form_then-last (line_form algos line)
 -- the form of lines behind lines: that of the first ones, or else of the later ones
 pub form_then-again : (f g h : Form) → form_then (form_then f g) h ≡ form_then f (form_then g h)
 form_then-again Undecided g h = refl
-form_then-again Standard g h = refl
-form_then-again Reversed g h = refl
+form_then-again f g h = refl
 
 pub form-append : (algos : Algos) (before after : List (List ℕ))
     → form algos (before ++ after) ≡ form_then (form algos before) (form algos after)

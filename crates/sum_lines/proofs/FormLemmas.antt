@@ -1,5 +1,5 @@
 -- What comes behind a line has no part in what it says.
-use Rattle.std.proofs.Common.{◌≡◌, ℕ, Bool, true, false, cond, List, ◌∷◌, ◌++◌, Option, None, Some, refl, ap, sym, ◌∙◌}
+use Rattle.std.proofs.Common.{◌≡◌, ℕ, Bool, true, cond, List, ◌∷◌, ◌++◌, Option, None, Some, refl, ap, sym, ◌∙◌}
 use Rattle.digest_kinds.specs.declared.algo.Algos.{Algos}
 use Rattle.sum_lines.specs.declared.line_reading.Form.{Form}
 use Rattle.sum_lines.specs.declared.line_reading.Form.TheVariants.{Undecided, Standard, Reversed}
@@ -20,16 +20,13 @@ form_on f x g = sym (form_then-again f x g)
 pub decided : (f : Form) (b : Bool) (g : Form)
     → form_then (form_then f (cond b Standard Reversed)) g ≡ form_then f (cond b Standard Reversed)
 decided Undecided true g = refl
-decided Undecided false g = refl
-decided Standard b g = refl
-decided Reversed b g = refl
+decided f b g = refl
 
 -- so later lines leave the entry as it is
 entry_stays : (p : Profile) (f g : Form) (t q : Option Parts)
     → entry_by p (form_then (form_then f (form_of_parts q)) g) t q ≡ entry_by p (form_then f (form_of_parts q)) t q
-entry_stays p f g (Some t) q = refl
-entry_stays p f g None None = refl
 entry_stays p f g None (Some q) = ap (λ x. with_raw x q >>= spelled p) (decided f (begins_standard q.text) g)
+entry_stays p f g t q = refl
 
 -- no later line changes what a line says
 pub said_stays : (p : Profile) (algos : Algos) (f g : Form) (line : List ℕ)

@@ -1,14 +1,15 @@
 -- The longest front that passes, and what stands behind a text or a byte.
-use Rattle.std.proofs.Common.{ℕ, ◌≡◌, ◌<◌, not, Bool, true, false, eq-eqb, ◌==◌, List, [], ◌∷◌, ◌++◌, length, Option, None, Some, refl, ap, sym, arith, inl, inr}
+use Rattle.std.proofs.Common.{ℕ, ◌≡◌, ◌<◌, not, Bool, true, false, eq-eqb, ◌==◌, List, [], ◌∷◌, ◌++◌, length, drop, Option, None, Some, refl, ap, sym, ◌∙◌, arith, inl, inr}
 use Rattle.std.proofs.lemmas.Bool.{cases_Bool}
-use Rattle.std.proofs.lemmas.Bool.Decides.{eqb_tells}
+use Rattle.std.proofs.lemmas.Bool.Decides.{Decides-eqb, eqb_tells}
 use Rattle.std.proofs.lemmas.List.{take-append-drop, take_at, drop_at}
 use Rattle.std.proofs.lemmas.List.Sums.{take_while-cons}
 use Rattle.std.proofs.lemmas.List.Elements.{All-cons, All-head, All-tail, All-nil}
-use Rattle.std.specs.List.{AllPass, prefix_len, take_while}
-use Rattle.std.proofs.lemmas.Option.{same_Some}
-use Rattle.sum_lines.specs.Scanned.{◌>>=◌, after_while, unmarked}
-use Rattle.sum_lines.specs.joins.Steps.{unspaced, past, onto, split_last, some_of}
+use Rattle.std.specs.List.{AllPass, prefix_len, starts_with, take_while}
+use Rattle.std.proofs.lemmas.Option.{cond_some, same_Some}
+use Rattle.std.proofs.lemmas.Slice.Eq.{starts_is}
+use Rattle.sum_lines.specs.Scanned.{◌>>=◌, after_while, behind, unmarked}
+use Rattle.sum_lines.specs.joins.Steps.{unspaced, onto, split_last, some_of}
 use Rattle.sum_lines.specs.Shapes.{mark, optional}
 
 -- a step that gives something had something to go on with
@@ -16,6 +17,11 @@ pub bind_some : {A B : Type 0} {y : B} (o : Option A) (f : A → Option B) → (
     → (x : A) × (o ≡ Some x) × (f x ≡ Some y)
 bind_some None f h = cc
 bind_some (Some x) f h = (x, refl, h)
+
+-- what cannot give anything gives nothing
+pub none_of : {A : Type 0} (o : Option A) → ((x : A) → o ≡ Some x → ⊥) → None ≡ o
+none_of None h = refl
+none_of (Some x) h = absurd (h x refl)
 
 -- ---- the longest front that passes
 
@@ -79,20 +85,16 @@ unspaced-is (b ∷ bs) = elim (eqb_tells b 32) [
 ]
 
 -- what was passed over stood in front
-pub past-some : (xs ys zs : List ℕ) → past xs ys ≡ Some zs → ys ≡ xs ++ zs
-past-some [] ys zs h = cc
-past-some (x ∷ xs) [] zs h = cc
-past-some (x ∷ xs) (y ∷ ys) zs h = elim (eqb_tells y x) [
-  | inl same ↦
-      let more : ys ≡ xs ++ zs = past-some xs ys zs (rw same.0 at h) in
-      cc (same.1, more)
-  | inr other ↦ let no = rw other.0 at h in cc
-]
+pub behind-some : (xs ys zs : List ℕ) → behind xs ys ≡ Some zs → ys ≡ xs ++ zs
+behind-some xs ys zs h =
+    let e = cond_some (starts_with ◌==◌ ys xs) (drop (length xs) ys) zs h in
+    (starts_is Decides-eqb ys xs (starts_with ◌==◌ ys xs) refl).0 e.0 ∙ ap (λ l. xs ++ l) e.1
 
 -- and what stands in front is passed over
-pub past-front : (xs ys : List ℕ) → past xs (xs ++ ys) ≡ Some ys
-past-front [] ys = refl
-past-front (x ∷ xs) ys = rw (eq-eqb x x refl) (past-front xs ys)
+pub behind-front : (xs ys : List ℕ) → behind xs (xs ++ ys) ≡ Some ys
+behind-front xs ys =
+    let here = (starts_is Decides-eqb (xs ++ ys) xs (starts_with ◌==◌ (xs ++ ys) xs) refl).1 ys refl in
+    rw (here, drop_at xs ys (length xs) refl) refl
 
 -- ---- the last such byte
 

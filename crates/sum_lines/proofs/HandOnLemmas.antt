@@ -1,5 +1,5 @@
 -- What was offered of a text, piece after piece, while it was handed on.
-use Rattle.std.proofs.Common.{ℕ, ◌≡◌, ◌<◌, ◌≤◌, List, [], ◌∷◌, ◌++◌, length, take, drop, Option, None, Some, refl, ap, sym, ◌∙◌, append_assoc, append-nil, take-append-drop, length-append, length-take, arith}
+use Rattle.std.proofs.Common.{ℕ, ◌≡◌, ◌<◌, ◌≤◌, List, [], ◌∷◌, ◌++◌, length, take, drop, Option, None, Some, refl, ap, sym, ◌∙◌, append_assoc, take-append-drop, length-append, length-take, arith}
 use Rattle.std.specs.Prelude.{option_map}
 use Rattle.sum_lines.specs.Sinks.{Offers, IsRest, AreRests, InOnePiece, HandsOn}
 
@@ -48,30 +48,18 @@ Leaves-last text (piece ∷ more) rest h some =
     let left = rw (← h.0) at h.1.1 in
     (IsRest-some text h.1.0 left, sym h.0, AreRests-last text h.1.0 more rest left h.1.2)
 
--- offers of nothing, and offers behind offers
-pub Offers-nil : (a : Option (List (List ℕ))) → Offers a a []
-Offers-nil None = tt
-Offers-nil (Some x) = ap Some (sym (append-nil x))
-
+-- offers behind offers
 pub Offers-trans : (a b c : Option (List (List ℕ))) (xs ys : List (List ℕ)) → Offers a b xs → Offers b c ys
     → Offers a c (xs ++ ys)
 Offers-trans None b c xs ys p q = tt
 Offers-trans (Some x) None c xs ys p q = cc
 Offers-trans (Some x) (Some y) c xs ys p q = q ∙ ap (option_map (λ l. l ++ ys)) p ∙ ap Some (append_assoc x xs ys)
 
--- where nothing is offered, no text was handed on
-pub HandsOn-nil : (a : Option (List (List ℕ))) → HandsOn a a []
-HandsOn-nil a = ([], Offers-nil a, refl)
-
 -- of this text these pieces were offered, and the rest is left
 pub record Offered (a b : Option (List (List ℕ))) (text rest : List ℕ) : Type 0 where
   pub pieces : List (List ℕ)
   pub offers : Offers a b pieces
   pub leaves : Leaves text pieces rest
-
--- nothing was offered yet
-pub Offered-all : {a : Option (List (List ℕ))} {text : List ℕ} → Offered a a text text
-Offered-all {a} = record { pieces = []; offers = Offers-nil a; leaves = refl }
 
 -- the rest was offered, and some of it taken
 pub Offered-more : {a b c : Option (List (List ℕ))} {text rest : List ℕ} (n : ℕ)

@@ -9,11 +9,11 @@ use Rattle.std.proofs.lemmas.List.Elements.{All-cons, All-nil, All-append, All-w
 use Rattle.hex.specs.Hex.{is_hex_digit}
 use Rattle.digest_kinds.specs.Kinds.{KindValue, tag}
 use Rattle.digest_kinds.specs.declared.algo.Algo.{Algo}
-use Rattle.digest_kinds.specs.declared.algo.Algo.TheVariants.{Md5, Sha1, Sha224, Sha256, Sha384, Sha512, Blake2b}
+use Rattle.digest_kinds.specs.declared.algo.Algo.TheVariants.{Md5}
 use Rattle.sum_lines.specs.Profiles.{present}
 use Rattle.sum_lines.specs.Escape.{escape, escape_of}
 use Rattle.sum_lines.specs.Shapes.{mark, Width}
-use Rattle.sum_lines.specs.joins.Steps.{is_digit}
+use Rattle.std.specs.Char.{is_ascii_digit}
 use Rattle.sum_lines.proofs.BitsLemmas.{decimal-digits}
 
 abbrev pub Inline : ℕ → Type 0
@@ -33,18 +33,13 @@ Inline-by_test xs h = All-weaker (λ b. inline b ≡ true) Inline Inline-test xs
 pub Inline-hex : (b : ℕ) → is_hex_digit b ≡ true → Inline b
 Inline-hex b h = (λ e. let bad = rw e at h in cc, λ e. let bad = rw e at h in cc)
 
-pub Inline-digit : (b : ℕ) → is_digit b ≡ true → Inline b
+pub Inline-digit : (b : ℕ) → is_ascii_digit b ≡ true → Inline b
 Inline-digit b h = (λ e. let bad = rw e at h in cc, λ e. let bad = rw e at h in cc)
 
 -- each tag
 pub Inline-tag : (a : Algo) → All Inline (tag a)
 Inline-tag Md5 = Inline-by_test (tag Md5) refl
-Inline-tag Sha1 = Inline-by_test (tag Sha1) refl
-Inline-tag Sha224 = Inline-by_test (tag Sha224) refl
-Inline-tag Sha256 = Inline-by_test (tag Sha256) refl
-Inline-tag Sha384 = Inline-by_test (tag Sha384) refl
-Inline-tag Sha512 = Inline-by_test (tag Sha512) refl
-Inline-tag Blake2b = Inline-by_test (tag Blake2b) refl
+Inline-tag a = Inline-by_test (tag a) refl
 
 -- the backslash before the line
 pub Inline-mark : (b : Bool) → All Inline (mark b)
@@ -58,7 +53,7 @@ Inline-width kind w (inr bits) =
     let range = and_parts (nat_le 1 kind.len) (nat_le kind.len 64) bits.2 in
     let digits = decimal-digits kind.len (leb-true 1 kind.len range.0) (leb-true kind.len 64 range.1) in
     rw bits.0 (All-cons Inline 45 (decimal (8 * kind.len)) (Inline-test 45 refl)
-    (All-weaker (λ b. is_digit b ≡ true) Inline Inline-digit (decimal (8 * kind.len)) digits))
+    (All-weaker (λ b. is_ascii_digit b ≡ true) Inline Inline-digit (decimal (8 * kind.len)) digits))
 
 -- bytes of which there is one
 pub record NonEmpty (xs : List ℕ) : Type 0 where

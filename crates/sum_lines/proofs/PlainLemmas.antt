@@ -9,7 +9,7 @@ use Rattle.hex.specs.declared.error.FromHexError.{FromHexError}
 use Rattle.hex.proofs.HexLemmas.{decode_of-ok}
 use Rattle.digest_kinds.specs.Kinds.{KindValue, has_len, tag}
 use Rattle.digest_kinds.specs.declared.algo.Algo.{Algo}
-use Rattle.digest_kinds.specs.declared.algo.Algo.TheVariants.{Md5, Sha1, Sha224, Sha256, Sha384, Sha512, Blake2b}
+use Rattle.digest_kinds.specs.declared.algo.Algo.TheVariants.{Md5, Blake2b}
 use Rattle.digest_kinds.specs.declared.algo.Algos.{Algos}
 use Rattle.digest_kinds.specs.declared.algo.Algos.TheVariants.{One, Any}
 use Rattle.sum_lines.specs.Shapes.{is_blank, Plain, Tagged}
@@ -45,10 +45,9 @@ sized-some a (Err e) k h = cc
 -- a tail stands behind one blank, and isn't empty
 pub tail_of-some : (s tail : List ℕ) → tail_of s ≡ Some tail
     → (b : ℕ) × (is_blank b ≡ true) × (s ≡ b ∷ tail) × (0 < length tail)
-tail_of-some [] tail h = cc
-tail_of-some (b ∷ []) tail h = cc
 tail_of-some (b ∷ x ∷ xs) tail h = let e = cond_some (is_blank b) (x ∷ xs) tail h in
     (b, e.0, ap (λ l. b ∷ l) e.1, rw (← e.1) (omega arith))
+tail_of-some s tail h = cc
 
 -- what is found of a text, its backslash taken off: the digits spell the kind and the digest, and a tail follows
 pub record Found (a : Algo) (e : Bool) (s : List ℕ) (p : Parts) : Type 0 where
@@ -115,12 +114,7 @@ blank-no_hex b h = elim (cases_Bool (is_hex_digit b)) [
 -- no algorithm has digests without a byte
 no_none : (a : Algo) → has_len a 0 ≡ true → ⊥
 no_none Md5 h = cc
-no_none Sha1 h = cc
-no_none Sha224 h = cc
-no_none Sha256 h = cc
-no_none Sha384 h = cc
-no_none Sha512 h = cc
-no_none Blake2b h = cc
+no_none a h = cc
 
 pub has_len-some : (a : Algo) (n : ℕ) → has_len a n ≡ true → 0 < n
 has_len-some a zero h = absurd (no_none a h)
@@ -194,19 +188,14 @@ module _ {algos : Algos} {line : List ℕ} (p : Parts) (t : IsPlain algos line p
 no_digits : (a : Algo) (x y : ℕ) (xs rest : List ℕ) → is_hex_digit x ≡ true → is_hex_digit y ≡ true
     → x ∷ y ∷ xs ≡ tag a ++ rest → ⊥
 no_digits Md5 x y xs rest h k e = let same : x ≡ 77 = cc in let bad = rw same at h in cc
-no_digits Sha1 x y xs rest h k e = let same : x ≡ 83 = cc in let bad = rw same at h in cc
-no_digits Sha224 x y xs rest h k e = let same : x ≡ 83 = cc in let bad = rw same at h in cc
-no_digits Sha256 x y xs rest h k e = let same : x ≡ 83 = cc in let bad = rw same at h in cc
-no_digits Sha384 x y xs rest h k e = let same : x ≡ 83 = cc in let bad = rw same at h in cc
-no_digits Sha512 x y xs rest h k e = let same : x ≡ 83 = cc in let bad = rw same at h in cc
 no_digits Blake2b x y xs rest h k e = let same : y ≡ 76 = cc in let bad = rw same at k in cc
+no_digits sha x y xs rest h k e = let same : x ≡ 83 = cc in let bad = rw same at h in cc
 
 -- so a plain line's digits begin none
 no_front : (a : Algo) (ds s rest : List ℕ) → AllPass is_hex_digit ds → 2 ≤ length ds → ds ++ s ≡ tag a ++ rest → ⊥
-no_front a [] s rest all two e = absurd (omega arith)
-no_front a (x ∷ []) s rest all two e = absurd (omega arith)
 no_front a (x ∷ y ∷ xs) s rest all two e =
     no_digits a x y (xs ++ s) rest (All-head Hex x (y ∷ xs) all) (All-head Hex y xs (All-tail Hex x (y ∷ xs) all)) e
+no_front a ds s rest all two e = absurd (omega arith)
 
 -- no line is both plain and tagged
 pub apart : {algos others : Algos} {line : List ℕ} {e f : Bool} {kind other : KindValue} {d c tail raw : List ℕ}

@@ -173,9 +173,8 @@ range-more xs i j lt =
 
 -- where there are two bytes at least
 standard-two : (tail : List ℕ) → begins_standard tail ≡ true → 2 ≤ length tail
-standard-two [] h = cc
-standard-two (a ∷ []) h = cc
 standard-two (a ∷ b ∷ bs) h = omega arith
+standard-two tail h = cc
 
 -- so a name read from there on is that of the tail
 pub names-standard : (p : LineParts) (line new : List ℕ) (r : Reading) → begins_standard (text_of line p) ≡ true

@@ -1,50 +1,37 @@
 -- What the scanning functions answer, step by step.
-use Rattle.std.proofs.Common.{ℕ, ◌≡◌, ◌+◌, ◌-◌, ◌*◌, ◌/◌, ◌<◌, ◌≤◌, Bool, true, false, cond, eqb, eq-eqb, nat_le, List, [], ◌∷◌, ◌++◌, length, take, drop, get_or, slice_range, Option, None, Some, MatchOption, IfSome, IsSome, Result, Ok, Err, Bor, refl, ap, sym, ◌∙◌, arith, inl, inr, append_assoc, length-append, length-drop}
-use lib.Pointwise.{pointwise}
+use Rattle.std.proofs.Common.{ℕ, ◌≡◌, ◌≢◌, ◌+◌, ◌-◌, ◌*◌, ◌/◌, ◌<◌, ◌≤◌, Bool, true, cond, eq-eqb, nat_le, List, [], ◌∷◌, ◌++◌, length, take, drop, get_or, slice_range, Option, None, Some, MatchOption, IfSome, IsSome, Result, Ok, Err, Bor, refl, ap, sym, ◌∙◌, arith, inl, inr, append_assoc, length-append, length-drop}
 use Rattle.std.specs.List.{AllPass, take_while}
 use Rattle.std.specs.Option.{option_copied}
 use Rattle.std.proofs.lemmas.Bool.{cases_Bool, eqb-true, and_parts, leb-true}
-use Rattle.std.proofs.lemmas.Bool.Decides.{eqb_tells}
+use Rattle.std.proofs.lemmas.Bool.Decides.{Decides-eqb, eqb_tells}
 use Rattle.std.proofs.lemmas.Option.{cond_some, same_Some}
 use Rattle.std.proofs.lemmas.List.{drop_at, get_or-drop, take-append-drop, drop_more, take_at}
 use Rattle.std.proofs.lemmas.List.Elements.{All-from_get_or}
+use Rattle.std.proofs.lemmas.Slice.Eq.{starts_is}
 use Rattle.memchr.specs.Find.{Nowhere, Passes, IsLastByte, is_byte}
 use Rattle.hex.specs.Hex.{decode_of}
 use Rattle.hex.specs.declared.error.FromHexError.{FromHexError}
 use Rattle.hex.proofs.HexLemmas.{decode_of-ok}
-use Rattle.digest_kinds.specs.Kinds.{KindValue, has_len, tag}
+use Rattle.digest_kinds.specs.Kinds.{KindValue, full, has_len, tag}
 use Rattle.digest_kinds.specs.Digits.{IsDigits}
 use Rattle.digest_kinds.specs.Tags.{BeginsWithTag}
 use Rattle.digest_kinds.specs.declared.algo.Algo.{Algo}
 use Rattle.digest_kinds.specs.declared.algo.Algo.TheVariants.{Md5, Sha1, Sha224, Sha256, Sha384, Sha512, Blake2b}
 use Rattle.digest_kinds.specs.declared.algo.Algos.{Algos}
 use Rattle.sum_lines.specs.Shapes.{is_blank, mark, optional}
-use Rattle.sum_lines.specs.Scanned.{after_while, unmarked}
-use Rattle.sum_lines.specs.joins.Steps.{past, split_last, is_past, begins, algo_of, digest_at, Opened, opened_text, opened_of, name_behind, tagged_of, sized}
-use Rattle.sum_lines.proofs.FrontLemmas.{isn't, split_last-none, split_last-at, front-and-rest, unmarked-is, past-some, split_last-some}
+use Rattle.sum_lines.specs.Scanned.{after_while, behind, unmarked}
+use Rattle.sum_lines.specs.joins.Steps.{split_last, begins, algo_of, digest_at, Opened, opened_text, opened_of, name_behind, tagged_of, sized}
+use Rattle.sum_lines.proofs.FrontLemmas.{isn't, none_of, behind-some, behind-front, split_last-none, split_last-at, front-and-rest, unmarked-is, split_last-some}
 use Rattle.sum_lines.proofs.TaggedParts.{Front, opened_text-some}
 use Rattle.sum_lines.proofs.TaggedLemmas.{algo_of-tag}
 
 -- ---- a text in front
 
--- it stands there where its bytes are the first ones
-past-pointwise : (xs ys : List ℕ)
-    → past xs ys ≡ cond (pointwise eqb (take (length xs) ys) xs) (Some (drop (length xs) ys)) None
-past-pointwise [] ys = refl
-past-pointwise (x ∷ xs) [] = refl
-past-pointwise (x ∷ xs) (y ∷ ys) = elim (eqb_tells y x) [
-  | inl same ↦ rw same.0 (past-pointwise xs ys)
-  | inr other ↦ rw other.0 refl
-]
-
--- so that std's comparison finds it
-pub past_is : (xs ys : List ℕ) (r : Option (Bor (List ℕ)))
-    → MatchOption r (pointwise eqb (take (length xs) ys) xs ≡ false)
-    (λ x. (pointwise eqb (take (length xs) ys) xs ≡ true) × (x.now ≡ drop (length xs) ys)
-    × (length x.now + length xs ≡ length ys))
-    → option_copied r ≡ past xs ys
-past_is xs ys None other = rw (past-pointwise xs ys, other) refl
-past_is xs ys (Some x) same = rw (past-pointwise xs ys, same.0, same.1) refl
+-- std's comparison finds it
+pub behind_is : (xs ys : List ℕ) (r : Option (Bor (List ℕ)))
+    → MatchOption r ((rest : List ℕ) → ys ≢ xs ++ rest) (λ x. ys ≡ xs ++ x.now) → option_copied r ≡ behind xs ys
+behind_is xs ys None other = none_of (behind xs ys) (λ zs h. other zs (behind-some xs ys zs h))
+behind_is xs ys (Some x) is = rw is (sym (behind-front xs x.now))
 
 -- ---- the last such byte
 
@@ -78,15 +65,14 @@ last_some c k s last =
 -- ---- the algorithm whose tag stands in front
 
 -- a tag that is passed over stands in front
-begins-tag : (a : Algo) (s : List ℕ) (o : Option (List ℕ)) → o ≡ past (tag a) s → is_past o ≡ true → BeginsWithTag s a
-begins-tag a s None e h = cc
-begins-tag a s (Some rest) e h = (rest, past-some (tag a) s rest (sym e))
+begins-tag : (a : Algo) (s : List ℕ) → begins a s ≡ true → BeginsWithTag s a
+begins-tag a s h = (drop (length (tag a)) s, (starts_is Decides-eqb s (tag a) (begins a s) refl).0 h)
 
 -- an algorithm that is found has its tag there
 one-tag : {a : Algo} {s : List ℕ} {later : Option Algo} (b : Algo) → (later ≡ Some a → BeginsWithTag s a)
     → cond (begins b s) (Some b) later ≡ Some a → BeginsWithTag s a
 one-tag {a} {s} b more h = elim (cases_Bool (begins b s)) [
-  | inl here ↦ rw (← same_Some b a (rw here at h)) (begins-tag b s (past (tag b) s) refl here)
+  | inl here ↦ rw (← same_Some b a (rw here at h)) (begins-tag b s here)
   | inr gone ↦ more (rw gone at h)
 ]
 
@@ -100,23 +86,14 @@ algo_of-some s a =
 pub algo_is : (s : List ℕ) (r : Option Algo) → IfSome r (λ a. BeginsWithTag s a)
     → ((a : Algo) → BeginsWithTag s a → r ≡ Some a) → r ≡ algo_of s
 algo_is s (Some a) tagged found = rw tagged.1 (sym (algo_of-tag a tagged.0))
-algo_is s None tagged found = go (algo_of s) refl
-  where
-    go : (o : Option Algo) → o ≡ algo_of s → None ≡ o
-    go None e = refl
-    go (Some a) e = found a (algo_of-some s a (sym e))
+algo_is s None tagged found = none_of (algo_of s) (λ a e. let bad = found a (algo_of-some s a e) in cc)
 
 -- ---- digits that spell no digest of that length
 
 -- no digest has more than 64 bytes
 pub has_len-most : (a : Algo) (n : ℕ) → has_len a n ≡ true → n ≤ 64
-has_len-most Md5 n h = let e = eqb-true n 16 h in omega arith
-has_len-most Sha1 n h = let e = eqb-true n 20 h in omega arith
-has_len-most Sha224 n h = let e = eqb-true n 28 h in omega arith
-has_len-most Sha256 n h = let e = eqb-true n 32 h in omega arith
-has_len-most Sha384 n h = let e = eqb-true n 48 h in omega arith
-has_len-most Sha512 n h = let e = eqb-true n 64 h in omega arith
 has_len-most Blake2b n h = let k = and_parts (nat_le 1 n) (nat_le n 64) h in leb-true n 64 k.1
+has_len-most a n h = let e : n ≡ full a = eqb-true n (full a) h in omega arith
 
 -- a digest is spelled by two digits for each byte
 decoded-size : (s d : List ℕ) → decode_of s ≡ Ok d → length s ≡ 2 * length d
@@ -212,7 +189,7 @@ name-range {o} {raw} {behind} algos line opened split =
 -- a name that isn't empty, `=` and the digits behind it are read as the line's parts
 pub tagged-read : {o : Opened} {raw after digits d : List ℕ} (algos : Algos) (line : List ℕ)
     → Some o ≡ opened_of algos line → Some (raw, after) ≡ split_last 41 o.inner → 0 < length raw
-    → Some digits ≡ past (61 ∷ []) (after_while is_blank after)
+    → Some digits ≡ behind (61 ∷ []) (after_while is_blank after)
     → Some d ≡ digest_at o.kind.len (decode_of (after_while is_blank digits))
     → Some (record { escaped = o.escaped; kind = o.kind; digest = d; text = raw }) ≡ tagged_of algos line
 unfolding name_behind

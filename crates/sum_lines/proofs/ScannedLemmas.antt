@@ -1,16 +1,16 @@
 -- What is computed of a line's shape is what the relations of Shapes allow.
-use Rattle.std.proofs.Common.{ℕ, suc, ◌≡◌, ◌+◌, ◌*◌, ◌<◌, ◌≤◌, not, Bool, true, false, nat_le, List, [], ◌∷◌, ◌++◌, length, take, drop, Option, None, Some, Result, Ok, Err, refl, ap, sym, ◌∙◌, arith, ◌⊎◌, inl, inr, append_assoc}
+use Rattle.std.proofs.Common.{ℕ, suc, ◌≡◌, ◌+◌, ◌*◌, ◌<◌, ◌≤◌, not, Bool, true, false, nat_le, List, [], ◌∷◌, ◌++◌, length, take, drop, map, Option, None, Some, Result, Ok, Err, refl, ap, sym, ◌∙◌, arith, inl, inr, append_assoc}
 use Rattle.std.specs.Prelude.{◌&&◌, ◌==◌, nat_lt, decimal}
 use Rattle.std.specs.Option.{option_or}
 use Rattle.hex.specs.Hex.{decode_of}
 use Rattle.sum_lines.proofs.TaggedParts.{IsTagged}
 use Rattle.std.specs.Result.{result_ok}
-use Rattle.std.specs.List.{AllPass, take_while, before_first, after_first, position_or_len}
+use Rattle.std.specs.List.{All, AllPass, Contains, range_with_len, take_while, before_first, after_first, position_or_len}
 use Rattle.std.specs.Path.{rsplit_once}
 use Rattle.std.proofs.lemmas.Bool.{cases_Bool, eqb-true, eq-eqb, and_parts, and_from, ltb-true, lt-ltb, le-leb, leb-true, not-true}
 use Rattle.std.proofs.lemmas.Option.{cond_some}
 use Rattle.std.proofs.lemmas.List.{append-nil}
-use Rattle.std.proofs.lemmas.List.Elements.{All-head, All-tail, All-weaker}
+use Rattle.std.proofs.lemmas.List.Elements.{All-cons, All-contains, All-head, All-map, All-nil, All-tail, All-weaker, Contains-append_right}
 use Rattle.hex.specs.Hex.{is_hex_digit}
 use Rattle.digest_kinds.specs.Kinds.{KindValue, full, full_kind, blake2b_kind, has_len, tag}
 use Rattle.digest_kinds.specs.declared.algo.Algo.{Algo}
@@ -20,10 +20,10 @@ use Rattle.digest_kinds.specs.declared.algo.Algos.TheVariants.{One, Any}
 use Rattle.sum_lines.specs.Shapes.{is_blank, Width, Allows}
 use Rattle.sum_lines.specs.Scanned.{Parts, after_while, unmarked, plain_parts, tags, tags_of, behind, tagged_as, tagged_parts}
 use Rattle.sum_lines.specs.joins.Steps.{plain_of}
-use Rattle.sum_lines.proofs.FrontLemmas.{bind_some, front-passes, front-and-rest, unmarked-is}
+use Rattle.sum_lines.proofs.FrontLemmas.{bind_some, behind-some, behind-front, front-passes, front-and-rest, unmarked-is}
 use Rattle.sum_lines.proofs.TaggedLemmas.{same_kind, opening, inner_of, behind_name, behind_tag, tagged-front, behind-free, sign-found, digits-found, hex-no_blank, tagged_is_read}
 use Rattle.sum_lines.proofs.PlainLemmas.{IsPlain, plain_is_read, read_is_plain, plain-digits, plain-front}
-use Rattle.sum_lines.proofs.SplitLemmas.{Among, behind-some, behind-front, opened-some, opened-at, rsplit-some, rsplit-at, first-of, some-first, among-flat, flat-among, range-among, among-range}
+use Rattle.sum_lines.proofs.SplitLemmas.{opened-some, opened-at, rsplit-some, rsplit-at, first-of, some-first, All-flat_map, All-range, Contains-flat_map, Contains-range}
 
 -- ---- a plain line
 
@@ -115,61 +115,41 @@ record TagOf (a : Algo) (k : KindValue × List ℕ) : Type 0 where
   whole : k.1 ≡ tag k.0.algo ++ width
 
 -- the full one, as every algorithm has it
-full-tag-of : (a : Algo) (k : KindValue × List ℕ) → k ≡ (full_kind a, tag a) → TagOf a k
-full-tag-of a k h =
-    rw h (record { is_algo = refl; width = []; is_width = inl (refl, refl); whole = sym (append-nil (tag a)) })
-
-one-tag-of : (a : Algo) (k : KindValue × List ℕ) → (k ≡ (full_kind a, tag a)) ⊎ ⊥ → TagOf a k
-one-tag-of a k (inl h) = full-tag-of a k h
-one-tag-of a k (inr h) = absurd h
+full-tag-of : (a : Algo) → TagOf a (full_kind a, tag a)
+full-tag-of a = record { is_algo = refl; width = []; is_width = inl (refl, refl); whole = sym (append-nil (tag a)) }
 
 -- the one with its bits, as BLAKE2b has one for each length
-bits-tag-of : (k : KindValue × List ℕ) (n : ℕ) → 1 ≤ n → n < 1 + 64
-    → k ≡ (blake2b_kind n, tag Blake2b ++ (45 ∷ decimal (8 * n))) → TagOf Blake2b k
-bits-tag-of k n low high h =
+abbrev bits-tag : ℕ → KindValue × List ℕ
+bits-tag n = (blake2b_kind n, tag Blake2b ++ (45 ∷ decimal (8 * n)))
+
+bits-tag-of : (n : ℕ) → 1 ≤ n → n < 1 + 64 → TagOf Blake2b (bits-tag n)
+bits-tag-of n low high =
     let has : has_len Blake2b n ≡ true = and_from _ _ (le-leb 1 n low) (le-leb n 64 (omega arith)) in
-    rw h (record {
-      is_algo = refl;
-      width = 45 ∷ decimal (8 * n);
-      is_width = inr (refl, refl, has);
-      whole = refl;
-    })
+    record { is_algo = refl; width = 45 ∷ decimal (8 * n); is_width = inr (refl, refl, has); whole = refl }
 
 -- an algorithm's tags are such
-tags-are : (a : Algo) (k : KindValue × List ℕ) → Among k (tags a) → TagOf a k
+tags-are : (a : Algo) → All (TagOf a) (tags a)
 unfolding tags
-tags-are Md5 k h = one-tag-of Md5 k h
-tags-are Sha1 k h = one-tag-of Sha1 k h
-tags-are Sha224 k h = one-tag-of Sha224 k h
-tags-are Sha256 k h = one-tag-of Sha256 k h
-tags-are Sha384 k h = one-tag-of Sha384 k h
-tags-are Sha512 k h = one-tag-of Sha512 k h
-tags-are Blake2b k (inl h) = full-tag-of Blake2b k h
-tags-are Blake2b k (inr h) =
-    let f : ℕ → KindValue × List ℕ = λ n. (blake2b_kind n, tag Blake2b ++ (45 ∷ decimal (8 * n))) in
-    let n = range-among f k 1 64 h in
-    bits-tag-of k n.0 n.1 n.2 n.3
+tags-are Blake2b =
+    let numbers : List ℕ = range_with_len 1 64 in
+    All-cons (TagOf Blake2b) _ (map bits-tag numbers) (full-tag-of Blake2b)
+    (All-map (TagOf Blake2b) bits-tag numbers (All-range (λ n. TagOf Blake2b (bits-tag n)) 1 64 bits-tag-of))
+tags-are a = All-cons (TagOf a) _ [] (full-tag-of a) (All-nil (TagOf a))
 
 -- and such a tag is among them
-full-among : (a : Algo) → Among (full_kind a, tag a) (tags a)
+full-among : (a : Algo) → Contains (tags a) (full_kind a, tag a)
 unfolding tags
-full-among Md5 = inl refl
-full-among Sha1 = inl refl
-full-among Sha224 = inl refl
-full-among Sha256 = inl refl
-full-among Sha384 = inl refl
-full-among Sha512 = inl refl
-full-among Blake2b = inl refl
+full-among Blake2b = (0, omega arith, refl)
+full-among a = (0, omega arith, refl)
 
-bits-among : (n : ℕ) → 1 ≤ n → n ≤ 64
-    → Among (blake2b_kind n, tag Blake2b ++ (45 ∷ decimal (8 * n))) (tags Blake2b)
+bits-among : (n : ℕ) → 1 ≤ n → n ≤ 64 → Contains (tags Blake2b) (bits-tag n)
 unfolding tags
 bits-among n low high =
-    let f : ℕ → KindValue × List ℕ = λ n. (blake2b_kind n, tag Blake2b ++ (45 ∷ decimal (8 * n))) in
-    inr (among-range f n 1 64 low (omega arith))
+    Contains-append_right ((full_kind Blake2b, tag Blake2b) ∷ []) (map bits-tag (range_with_len 1 64)) (bits-tag n)
+    (Contains-range bits-tag n 1 64 low (omega arith))
 
 -- with any width that the kind allows
-width-among : (kind : KindValue) (w : List ℕ) → Width kind w → Among (kind, tag kind.algo ++ w) (tags kind.algo)
+width-among : (kind : KindValue) (w : List ℕ) → Width kind w → Contains (tags kind.algo) (kind, tag kind.algo ++ w)
 width-among kind w (inl none) =
     let is : kind ≡ full_kind kind.algo = same_kind kind kind.algo (full kind.algo) refl none.1 in
     rw (none.0, append-nil (tag kind.algo), is) (full-among kind.algo)
@@ -182,27 +162,31 @@ abbrev all : List Algo
 all = Md5 ∷ Sha1 ∷ Sha224 ∷ Sha256 ∷ Sha384 ∷ Sha512 ∷ Blake2b ∷ []
 
 -- each algorithm is one that may be looked for
-among-all : (a : Algo) → Among a all
-among-all Md5 = inl refl
-among-all Sha1 = inr (inl refl)
-among-all Sha224 = inr (inr (inl refl))
-among-all Sha256 = inr (inr (inr (inl refl)))
-among-all Sha384 = inr (inr (inr (inr (inl refl))))
-among-all Sha512 = inr (inr (inr (inr (inr (inl refl)))))
-among-all Blake2b = inr (inr (inr (inr (inr (inr (inl refl))))))
+among-all : (a : Algo) → Contains all a
+among-all Md5 = (0, omega arith, refl)
+among-all Sha1 = (1, omega arith, refl)
+among-all Sha224 = (2, omega arith, refl)
+among-all Sha256 = (3, omega arith, refl)
+among-all Sha384 = (4, omega arith, refl)
+among-all Sha512 = (5, omega arith, refl)
+among-all Blake2b = (6, omega arith, refl)
 
--- a tag that is looked for is one of an algorithm that is allowed
-allowed-tag : (algos : Algos) (k : KindValue × List ℕ) → Among k (tags_of algos)
-    → (a : Algo) × TagOf a k × Allows algos k.0.algo
-allowed-tag (One a) k h = let t = tags-are a k h in (a, t, t.is_algo)
-allowed-tag Any k h = let t = flat-among tags k all h in (t.0, tags-are t.0 k t.1, tt)
+-- a tag of an algorithm that is allowed
+abbrev AllowedTag : Algos → KindValue × List ℕ → Type 0
+AllowedTag algos k = (a : Algo) × TagOf a k × Allows algos k.0.algo
+
+-- the tags that are looked for are such
+allowed-tags : (algos : Algos) → All (AllowedTag algos) (tags_of algos)
+allowed-tags (One a) = All-weaker (TagOf a) (AllowedTag (One a)) (λ k t. (a, t, t.is_algo)) (tags a) (tags-are a)
+allowed-tags Any = All-flat_map (AllowedTag Any) tags
+    (λ a. All-weaker (TagOf a) (AllowedTag Any) (λ k t. (a, t, tt)) (tags a) (tags-are a)) all
 
 -- and the tag of an allowed one is looked for
 tag-allowed : (algos : Algos) (kind : KindValue) (w : List ℕ) → Width kind w → Allows algos kind.algo
-    → Among (kind, tag kind.algo ++ w) (tags_of algos)
+    → Contains (tags_of algos) (kind, tag kind.algo ++ w)
 tag-allowed (One a) kind w h allowed = rw (← allowed) (width-among kind w h)
 tag-allowed Any kind w h allowed =
-    among-flat tags kind.algo (kind, tag kind.algo ++ w) all (among-all kind.algo) (width-among kind w h)
+    Contains-flat_map tags kind.algo (kind, tag kind.algo ++ w) all (among-all kind.algo) (width-among kind w h)
 
 -- ---- a tagged line
 
@@ -254,7 +238,7 @@ pub found-tagged : {algos : Algos} {line : List ℕ} {p : Parts} → tagged_part
 unfolding tagged_parts
 found-tagged {algos} {line} {p} h =
     let k = first-of (tagged_as (unmarked (after_while is_blank line))) (tags_of algos) p h in
-    let t = allowed-tag algos k.0 k.1 in
+    let t = All-contains (AllowedTag algos) (tags_of algos) k.0 (allowed-tags algos) k.1 in
     found-tagged-as line k.0 p t.1 t.2 k.2
 
 module _ {algos : Algos} {line : List ℕ} (p : Parts) (t : IsTagged algos line p) where

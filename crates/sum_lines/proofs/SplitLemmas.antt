@@ -1,36 +1,19 @@
 -- Texts in front, the last parenthesis, and the first of what some elements give.
-use Rattle.std.proofs.Common.{ℕ, zero, suc, ◌≡◌, ◌+◌, ◌<◌, ◌≤◌, Bool, true, false, ◌==◌, List, [], ◌∷◌, ◌++◌, length, take, drop, map, Option, None, Some, refl, ap, sym, ◌∙◌, arith, ◌⊎◌, inl, inr, append_assoc, get_or}
+use Rattle.std.proofs.Common.{ℕ, zero, suc, ◌≡◌, ◌+◌, ◌-◌, ◌<◌, ◌≤◌, Bool, true, false, ◌==◌, List, [], ◌∷◌, ◌++◌, length, take, drop, map, Option, None, Some, refl, ap, sym, ◌∙◌, arith, inl, inr, append_assoc, get_or}
 use Rattle.std.specs.Prelude.{filter_map, flat_map, slice_get}
 use Rattle.std.specs.Option.{option_or, option_map}
-use Rattle.std.specs.List.{AllPass, range_with_len, cons_option}
+use Rattle.std.specs.List.{All, AllPass, Contains, range_with_len, cons_option}
 use Rattle.std.specs.Path.{rsplit_once, rfind_below}
-use Rattle.std.proofs.lemmas.Bool.{cases_Bool, cond-true, cond-false, eqb-true, eq-eqb, ne_eqb, not-true}
-use Rattle.std.proofs.lemmas.Bool.Decides.{eqb_tells}
+use Rattle.std.proofs.lemmas.Bool.{cases_Bool, cond-true, cond-false, eqb-true, eq-eqb, not-true}
 use Rattle.std.proofs.lemmas.List.{take-append-drop, drop_more, get_or-append-add, take_at, drop_at, length-append}
-use Rattle.std.proofs.lemmas.List.Elements.{All-get_or}
+use Rattle.std.proofs.lemmas.List.Elements.{All-append, All-cons, All-get_or, All-nil, Contains-append_left, Contains-append_right}
+use Rattle.std.proofs.lemmas.List.FromFn.{get_or-map-range_with_len, length-map-range_with_len}
 use Rattle.std.proofs.lemmas.Option.{same_Some}
 use Rattle.sum_lines.specs.Shapes.{optional}
 use Rattle.sum_lines.specs.Scanned.{behind}
-use Rattle.sum_lines.specs.joins.Steps.{past}
-use Rattle.sum_lines.proofs.FrontLemmas.{isn't, past-some, past-front}
+use Rattle.sum_lines.proofs.FrontLemmas.{isn't, behind-some}
 
 -- ---- a text in front
-
--- both ways to pass over a text are one
-behind-past : (xs ys : List ℕ) → behind xs ys ≡ past xs ys
-behind-past [] ys = refl
-behind-past (x ∷ xs) [] = refl
-behind-past (x ∷ xs) (y ∷ ys) = elim (eqb_tells y x) [
-  | inl same ↦ rw (same.1, eq-eqb x x refl) (behind-past xs ys)
-  | inr other ↦ rw (ne_eqb x y (λ e. other.1 (sym e)), other.0) refl
-]
-
--- what is left of a text stood behind what was passed over
-pub behind-some : (xs ys zs : List ℕ) → behind xs ys ≡ Some zs → ys ≡ xs ++ zs
-behind-some xs ys zs h = past-some xs ys zs (sym (behind-past xs ys) ∙ h)
-
-pub behind-front : (xs ys : List ℕ) → behind xs (xs ++ ys) ≡ Some ys
-behind-front xs ys = behind-past xs (xs ++ ys) ∙ past-front xs ys
 
 -- the parenthesis is found, with a space before it or without
 pub opened-some : (s inner : List ℕ) → option_or (behind (32 ∷ 40 ∷ []) s) (behind (40 ∷ []) s) ≡ Some inner
@@ -106,85 +89,56 @@ rsplit-at c xs ys all =
 
 -- ---- the first of what some elements give
 
--- it is an element of the list
-abbrev pub Among : {X : Type 0} → X → List X → Type 0
-Among x [] = ⊥
-Among x (y ∷ ys) = (x ≡ y) ⊎ Among x ys
-
 -- it is given by some element
 pub first-of : {X Y : Type 0} (h : X → Option Y) (xs : List X) (y : Y) → slice_get (filter_map h xs) 0 ≡ Some y
-    → (x : X) × Among x xs × (h x ≡ Some y)
+    → (x : X) × Contains xs x × (h x ≡ Some y)
 first-of h [] y e = cc
 first-of {X} {Y} h (x ∷ xs) y e = go (h x) refl e (λ k. first-of h xs y k)
   where
     go : (o : Option Y) → h x ≡ o → slice_get (cons_option o (filter_map h xs)) 0 ≡ Some y
-        → (slice_get (filter_map h xs) 0 ≡ Some y → (z : X) × Among z xs × (h z ≡ Some y))
-        → (z : X) × Among z (x ∷ xs) × (h z ≡ Some y)
-    go (Some z) is k more = (x, inl refl, is ∙ k)
-    go None is k more = let m = more k in (m.0, inr m.1, m.2)
+        → (slice_get (filter_map h xs) 0 ≡ Some y → (z : X) × Contains xs z × (h z ≡ Some y))
+        → (z : X) × Contains (x ∷ xs) z × (h z ≡ Some y)
+    go (Some z) is k more = (x, (0, omega arith, refl), is ∙ k)
+    go None is k more = let m = more k in (m.0, Contains-append_right (x ∷ []) xs m.0 m.1, m.2)
 
 -- where an element gives something, so does the list
-pub some-first : {X Y : Type 0} (h : X → Option Y) (x : X) (xs : List X) (y : Y) → Among x xs → h x ≡ Some y
+pub some-first : {X Y : Type 0} (h : X → Option Y) (x : X) (xs : List X) (y : Y) → Contains xs x → h x ≡ Some y
     → (z : Y) × (slice_get (filter_map h xs) 0 ≡ Some z)
-some-first h x [] y a e = absurd a
-some-first h x (w ∷ ws) y (inl is) e =
-    (y, ap (λ o. slice_get (cons_option o (filter_map h ws)) 0) (ap h (sym is) ∙ e))
-some-first {X} {Y} h x (w ∷ ws) y (inr a) e = go (h w) (some-first h x ws y a e)
+some-first h x [] y has e = absurd (omega (arith, has.1))
+some-first h x (w ∷ ws) y (zero, lt, is) e =
+    (y, ap (λ o. slice_get (cons_option o (filter_map h ws)) 0) (ap h is ∙ e))
+some-first {X} {Y} h x (w ∷ ws) y (suc k, lt, is) e = go (h w) (some-first h x ws y (k, omega (arith, lt), is) e)
   where
     go : (o : Option Y) → (z : Y) × (slice_get (filter_map h ws) 0 ≡ Some z)
         → (z : Y) × (slice_get (cons_option o (filter_map h ws)) 0 ≡ Some z)
     go (Some z) more = (z, refl)
     go None more = more
 
--- the elements of two lists are those of either
-among-left : {X : Type 0} (x : X) (xs ys : List X) → Among x xs → Among x (xs ++ ys)
-among-left x [] ys a = absurd a
-among-left x (w ∷ ws) ys (inl is) = inl is
-among-left x (w ∷ ws) ys (inr a) = inr (among-left x ws ys a)
+-- what an element gives is among all that is given
+pub Contains-flat_map : {X Y : Type 0} (f : X → List Y) (x : X) (y : Y) (xs : List X) → Contains xs x
+    → Contains (f x) y → Contains (flat_map f xs) y
+Contains-flat_map f x y [] has b = absurd (omega (arith, has.1))
+Contains-flat_map f x y (w ∷ ws) (zero, lt, is) b = Contains-append_left (f w) (flat_map f ws) y (rw (← is) at b)
+Contains-flat_map f x y (w ∷ ws) (suc k, lt, is) b =
+    Contains-append_right (f w) (flat_map f ws) y (Contains-flat_map f x y ws (k, omega (arith, lt), is) b)
 
-among-right : {X : Type 0} (x : X) (xs ys : List X) → Among x ys → Among x (xs ++ ys)
-among-right x [] ys a = a
-among-right x (w ∷ ws) ys a = inr (among-right x ws ys a)
+-- and what holds of all that each gives, holds of that
+pub All-flat_map : {X Y : Type 0} (P : Y → Type 0) (f : X → List Y) → ((x : X) → All P (f x)) → (xs : List X)
+    → All P (flat_map f xs)
+All-flat_map P f all [] = All-nil P
+All-flat_map P f all (x ∷ xs) = All-append P (f x) (flat_map f xs) (all x) (All-flat_map P f all xs)
 
-among-either : {X : Type 0} (x : X) (xs ys : List X) → Among x (xs ++ ys) → Among x xs ⊎ Among x ys
-among-either x [] ys a = inr a
-among-either x (w ∷ ws) ys (inl is) = inl (inl is)
-among-either x (w ∷ ws) ys (inr a) = elim (among-either x ws ys a) [
-  | inl here ↦ inl (inr here)
-  | inr later ↦ inr later
-]
+-- what holds of each number in a range holds of all in the list of them
+pub All-range : (P : ℕ → Type 0) (a n : ℕ) → ((i : ℕ) → a ≤ i → i < a + n → P i) → All P (range_with_len a n)
+All-range P a zero each = All-nil P
+All-range P a (suc n) each = All-cons P a (range_with_len (a + 1) n) (each a (omega arith) (omega arith))
+    (All-range P (a + 1) n (λ i low high. each i (omega (arith, low)) (omega (arith, high))))
 
--- what an element gives is among all that is given, and nothing else is
-pub among-flat : {X Y : Type 0} (f : X → List Y) (x : X) (y : Y) (xs : List X) → Among x xs → Among y (f x)
-    → Among y (flat_map f xs)
-among-flat f x y [] a b = absurd a
-among-flat {X} {Y} f x y (w ∷ ws) (inl is) b =
-    among-left y (f w) (flat_map f ws) (rw is at b)
-among-flat f x y (w ∷ ws) (inr a) b = among-right y (f w) (flat_map f ws) (among-flat f x y ws a b)
-
-pub flat-among : {X Y : Type 0} (f : X → List Y) (y : Y) (xs : List X) → Among y (flat_map f xs)
-    → (x : X) × Among y (f x)
-flat-among f y [] a = absurd a
-flat-among f y (w ∷ ws) a = elim (among-either y (f w) (flat_map f ws) a) [
-  | inl here ↦ (w, here)
-  | inr later ↦ flat-among f y ws later
-]
-
--- what is given by a range of numbers is given by a number in it
-pub range-among : {Y : Type 0} (f : ℕ → Y) (y : Y) (a n : ℕ) → Among y (map f (range_with_len a n))
-    → (i : ℕ) × (a ≤ i) × (i < a + n) × (y ≡ f i)
-range-among f y a zero h = absurd h
-range-among f y a (suc n) (inl is) = (a, omega arith, omega arith, is)
-range-among f y a (suc n) (inr h) =
-    let more = range-among f y (a + 1) n h in (more.0, omega (arith, more.1), omega (arith, more.2), more.3)
-
--- and what such a number gives is among that
-pub among-range : {Y : Type 0} (f : ℕ → Y) (i a n : ℕ) → a ≤ i → i < a + n → Among (f i) (map f (range_with_len a n))
-among-range f i a zero low high = absurd (omega (arith, low, high))
-among-range f i a (suc n) low high = elim (eqb_tells i a) [
-  | inl same ↦ inl (ap f same.1)
-  | inr other ↦ inr (among-range f i (a + 1) n (above i a low other.1) (omega (arith, high)))
-]
-  where
-    above : (i a : ℕ) → a ≤ i → (i ≡ a → ⊥) → a + 1 ≤ i
-    above i a low other = omega (arith, low, other)
+-- what a number in a range gives is among all that the range gives
+pub Contains-range : {Y : Type 0} (f : ℕ → Y) (i a n : ℕ) → a ≤ i → i < a + n
+    → Contains (map f (range_with_len a n)) (f i)
+Contains-range f i a n low high = (
+  i - a,
+  rw (length-map-range_with_len f a n) (omega (arith, low, high)),
+  get_or-map-range_with_len f a n (i - a) i (f i) (omega (arith, low, high)) (omega (arith, low)),
+)

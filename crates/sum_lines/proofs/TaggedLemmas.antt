@@ -10,13 +10,14 @@ use Rattle.hex.specs.Hex.{is_hex_digit}
 use Rattle.hex.proofs.HexLemmas.{decode_of-ok}
 use Rattle.digest_kinds.specs.Kinds.{KindValue, full_kind, tag}
 use Rattle.digest_kinds.specs.declared.algo.Algo.{Algo}
-use Rattle.digest_kinds.specs.declared.algo.Algo.TheVariants.{Md5, Sha1, Sha224, Sha256, Sha384, Sha512, Blake2b}
+use Rattle.digest_kinds.specs.declared.algo.Algo.TheVariants.{Md5, Blake2b}
 use Rattle.digest_kinds.specs.declared.algo.Algos.{Algos}
 use Rattle.digest_kinds.specs.declared.algo.Algos.TheVariants.{One, Any}
 use Rattle.sum_lines.specs.Shapes.{is_blank, mark, optional, Width, Allows, Tagged}
 use Rattle.sum_lines.specs.Scanned.{Parts, after_while, unmarked}
-use Rattle.sum_lines.specs.joins.Steps.{unspaced, algo_of, algo_at, is_digit, bits_at, width_at, digest_behind, opened_text, name_behind, tagged_of}
-use Rattle.sum_lines.proofs.FrontLemmas.{front-at, rest-at, prefix_len-all, past-front, split_last-at, isn't, some_of-some}
+use Rattle.std.specs.Char.{is_ascii_digit}
+use Rattle.sum_lines.specs.joins.Steps.{unspaced, algo_of, algo_at, bits_at, width_at, digest_behind, opened_text, name_behind, tagged_of}
+use Rattle.sum_lines.proofs.FrontLemmas.{front-at, rest-at, prefix_len-all, behind-front, split_last-at, isn't, some_of-some}
 use Rattle.sum_lines.proofs.BitsLemmas.{decimal-kind_at, decimal-digits}
 use Rattle.sum_lines.proofs.TaggedParts.{IsTagged}
 
@@ -39,12 +40,8 @@ begins-by x xs no_blank no_mark no_hash =
 -- each tag does
 pub tag-begins : (a : Algo) → Begins (tag a)
 tag-begins Md5 = begins-by 77 _ refl refl refl
-tag-begins Sha1 = begins-by 83 _ refl refl refl
-tag-begins Sha224 = begins-by 83 _ refl refl refl
-tag-begins Sha256 = begins-by 83 _ refl refl refl
-tag-begins Sha384 = begins-by 83 _ refl refl refl
-tag-begins Sha512 = begins-by 83 _ refl refl refl
 tag-begins Blake2b = begins-by 66 _ refl refl refl
+tag-begins sha = begins-by 83 _ refl refl refl
 
 -- behind a line's blanks the backslash is read, where there is one
 pub unmarked-front : (blanks : List ℕ) (e : Bool) (xs rest : List ℕ) → AllPass is_blank blanks → Begins xs
@@ -78,26 +75,20 @@ unspaced-opening true s = refl
 unspaced-opening false s = refl
 
 -- decimal digits end before it
-front-digits : (ds : List ℕ) (g : Bool) (s : List ℕ) → AllPass is_digit ds
-    → take_while is_digit (ds ++ opening g s) ≡ ds
-front-digits ds true s all = front-at is_digit ds 32 (40 ∷ s) all refl
-front-digits ds false s all = front-at is_digit ds 40 s all refl
+front-digits : (ds : List ℕ) (g : Bool) (s : List ℕ) → AllPass is_ascii_digit ds
+    → take_while is_ascii_digit (ds ++ opening g s) ≡ ds
+front-digits ds true s all = front-at is_ascii_digit ds 32 (40 ∷ s) all refl
+front-digits ds false s all = front-at is_ascii_digit ds 40 s all refl
 
-rest-digits : (ds : List ℕ) (g : Bool) (s : List ℕ) → AllPass is_digit ds
-    → after_while is_digit (ds ++ opening g s) ≡ opening g s
-rest-digits ds true s all = rest-at is_digit ds 32 (40 ∷ s) all refl
-rest-digits ds false s all = rest-at is_digit ds 40 s all refl
+rest-digits : (ds : List ℕ) (g : Bool) (s : List ℕ) → AllPass is_ascii_digit ds
+    → after_while is_ascii_digit (ds ++ opening g s) ≡ opening g s
+rest-digits ds true s all = rest-at is_ascii_digit ds 32 (40 ∷ s) all refl
+rest-digits ds false s all = rest-at is_ascii_digit ds 40 s all refl
 
 -- without a width the digest is full
 width_at-none : (a : Algo) (g : Bool) (s : List ℕ) → width_at a (opening g s) ≡ Some (full_kind a, opening g s)
-width_at-none Md5 g s = refl
-width_at-none Sha1 g s = refl
-width_at-none Sha224 g s = refl
-width_at-none Sha256 g s = refl
-width_at-none Sha384 g s = refl
-width_at-none Sha512 g s = refl
 width_at-none Blake2b true s = refl
-width_at-none Blake2b false s = refl
+width_at-none a g s = refl
 
 -- a kind is its algorithm and its length
 pub same_kind : (kind : KindValue) (a : Algo) (n : ℕ) → kind.algo ≡ a → kind.len ≡ n
@@ -127,12 +118,7 @@ width_at-of kind w g s (inr bits) =
 -- the tag that stands there is found
 pub algo_of-tag : (a : Algo) (s : List ℕ) → algo_of (tag a ++ s) ≡ Some a
 algo_of-tag Md5 s = refl
-algo_of-tag Sha1 s = refl
-algo_of-tag Sha224 s = refl
-algo_of-tag Sha256 s = refl
-algo_of-tag Sha384 s = refl
-algo_of-tag Sha512 s = refl
-algo_of-tag Blake2b s = refl
+algo_of-tag a s = refl
 
 -- also where only one algorithm is looked for
 algo_at-tag : (algos : Algos) (a : Algo) (s : List ℕ) → Allows algos a → algo_at algos (tag a ++ s) ≡ Some a
@@ -214,7 +200,7 @@ module _ {algos : Algos} {line : List ℕ} (p : Parts) (t : IsTagged algos line 
   unfolding opened_text
   opened-read = rw (
     algo_at-tag algos p.kind.algo (behind_tag t) t.allowed,
-    past-front (tag p.kind.algo) (behind_tag t),
+    behind-front (tag p.kind.algo) (behind_tag t),
     width_at-of p.kind t.width t.gap (inner_of t) t.is_width,
     unspaced-opening t.gap (inner_of t),
   ) refl

@@ -8,13 +8,14 @@ use Rattle.hex.specs.Hex.{decode_of}
 use Rattle.hex.specs.declared.error.FromHexError.{FromHexError}
 use Rattle.digest_kinds.specs.Kinds.{KindValue, full_kind, has_len, tag}
 use Rattle.digest_kinds.specs.declared.algo.Algo.{Algo}
-use Rattle.digest_kinds.specs.declared.algo.Algo.TheVariants.{Md5, Sha1, Sha224, Sha256, Sha384, Sha512, Blake2b}
+use Rattle.digest_kinds.specs.declared.algo.Algo.TheVariants.{Blake2b}
 use Rattle.digest_kinds.specs.declared.algo.Algos.{Algos}
 use Rattle.digest_kinds.specs.declared.algo.Algos.TheVariants.{One, Any}
 use Rattle.sum_lines.specs.Shapes.{is_blank, optional, Width, Allows, Tagged}
-use Rattle.sum_lines.specs.Scanned.{Parts, after_while, unmarked}
-use Rattle.sum_lines.specs.joins.Steps.{past, split_last, some_of, unspaced, algo_at, digest_at, is_digit, kind_at, bits_at, blake2b_at, width_at, digest_behind, Opened, opened_text, opened_of, name_behind, tagged_of}
-use Rattle.sum_lines.proofs.FrontLemmas.{bind_some, front-passes, front-and-rest, unmarked-is, unspaced-is, past-some, split_last-some, some_of-is}
+use Rattle.sum_lines.specs.Scanned.{Parts, after_while, behind, unmarked}
+use Rattle.std.specs.Char.{is_ascii_digit}
+use Rattle.sum_lines.specs.joins.Steps.{split_last, some_of, unspaced, algo_at, digest_at, kind_at, bits_at, blake2b_at, width_at, digest_behind, Opened, opened_text, opened_of, name_behind, tagged_of}
+use Rattle.sum_lines.proofs.FrontLemmas.{bind_some, front-passes, front-and-rest, unmarked-is, unspaced-is, behind-some, split_last-some, some_of-is}
 use Rattle.sum_lines.proofs.BitsLemmas.{kind_at-some}
 use Rattle.std.proofs.lemmas.Option.{same_Some}
 
@@ -41,9 +42,9 @@ record Behind (n : ℕ) (s d : List ℕ) : Type 0 where
 -- what is read there joins to it
 digest_behind-some : {n : ℕ} {s d : List ℕ} → digest_behind n s ≡ Some d → Behind n s d
 digest_behind-some {n} {s} {d} h =
-    let rest = bind_some (past (61 ∷ []) (after_while is_blank s)) _ h in
+    let rest = bind_some (behind (61 ∷ []) (after_while is_blank s)) _ h in
     let digest = digest_at-some n _ d rest.2 in
-    let sign : after_while is_blank s ≡ 61 ∷ rest.0 = past-some (61 ∷ []) _ rest.0 rest.1 in
+    let sign : after_while is_blank s ≡ 61 ∷ rest.0 = behind-some (61 ∷ []) _ rest.0 rest.1 in
     record {
       before = take_while is_blank s;
       after = take_while is_blank rest.0;
@@ -72,14 +73,14 @@ wide-none a s w h =
 -- the bits of BLAKE2b
 wide-bits : (s : List ℕ) (w : KindValue × List ℕ) → bits_at s ≡ Some w → Wide Blake2b (45 ∷ s) w
 wide-bits s w h =
-    let k = bind_some (kind_at (take_while is_digit s)) _ h in
-    let bits = kind_at-some (take_while is_digit s) k.0 (front-passes is_digit s) k.1 in
+    let k = bind_some (kind_at (take_while is_ascii_digit s)) _ h in
+    let bits = kind_at-some (take_while is_ascii_digit s) k.0 (front-passes is_ascii_digit s) k.1 in
     let has : has_len Blake2b k.0.len ≡ true = and_from _ _ (le-leb 1 k.0.len bits.2) (le-leb k.0.len 64 bits.3) in
     rw (← same_Some _ _ k.2) (record {
       is_algo = bits.0;
-      width = 45 ∷ take_while is_digit s;
+      width = 45 ∷ take_while is_ascii_digit s;
       is_width = inr (ap (λ l. 45 ∷ l) bits.1, bits.0, has);
-      whole = ap (λ l. 45 ∷ l) (front-and-rest is_digit s);
+      whole = ap (λ l. 45 ∷ l) (front-and-rest is_ascii_digit s);
     })
 
 -- either of them, as a `-` follows BLAKE2b's tag or not
@@ -92,13 +93,8 @@ wide-blake2b (b ∷ bs) w h = elim (eqb_tells b 45) [
 
 -- so what is read behind a tag is a width of its kinds
 pub width_at-some : (a : Algo) (s : List ℕ) (w : KindValue × List ℕ) → width_at a s ≡ Some w → Wide a s w
-width_at-some Md5 s w h = wide-none Md5 s w h
-width_at-some Sha1 s w h = wide-none Sha1 s w h
-width_at-some Sha224 s w h = wide-none Sha224 s w h
-width_at-some Sha256 s w h = wide-none Sha256 s w h
-width_at-some Sha384 s w h = wide-none Sha384 s w h
-width_at-some Sha512 s w h = wide-none Sha512 s w h
 width_at-some Blake2b s w h = wide-blake2b s w h
+width_at-some a s w h = wide-none a s w h
 
 -- ---- up to the opening parenthesis
 
@@ -122,9 +118,9 @@ pub opened_text-some : {algos : Algos} {e : Bool} {s : List ℕ} {o : Opened} �
 unfolding opened_text
 opened_text-some {algos} {e} {s} {o} h =
     let algo = bind_some (algo_at algos s) _ h in
-    let rest = bind_some (past (tag algo.0) s) _ algo.2 in
+    let rest = bind_some (behind (tag algo.0) s) _ algo.2 in
     let width = bind_some (width_at algo.0 rest.0) _ rest.2 in
-    let inner = bind_some (past (40 ∷ []) (unspaced width.0.1)) _ width.2 in
+    let inner = bind_some (behind (40 ∷ []) (unspaced width.0.1)) _ width.2 in
     let is : record { escaped = e; kind = width.0.0; inner = inner.0 } ≡ o = same_Some _ _ inner.2 in
     let wide = width_at-some algo.0 rest.0 width.0 width.1 in
     let gap = unspaced-is width.0.1 in
@@ -134,8 +130,8 @@ opened_text-some {algos} {e} {s} {o} h =
       width = wide.width;
       gap = gap.0;
       is_width = wide.is_width;
-      whole = rw (wide.is_algo, ← past-some (40 ∷ []) (unspaced width.0.1) inner.0 inner.1, ← gap.1, ← wide.whole)
-          (past-some (tag algo.0) s rest.0 rest.1);
+      whole = rw (wide.is_algo, ← behind-some (40 ∷ []) (unspaced width.0.1) inner.0 inner.1, ← gap.1, ← wide.whole)
+          (behind-some (tag algo.0) s rest.0 rest.1);
     })
 
 -- ---- the whole line

@@ -13,7 +13,7 @@ use Rattle.hex.specs.Hex.{encode_lower, is_hex_digit}
 use Rattle.hex.proofs.HexLemmas.{decode_of-encode_lower}
 use Rattle.digest_kinds.specs.Kinds.{KindValue, full, has_len, tag}
 use Rattle.digest_kinds.specs.declared.algo.Algo.{Algo}
-use Rattle.digest_kinds.specs.declared.algo.Algo.TheVariants.{Md5, Sha1, Sha224, Sha256, Sha384, Sha512, Blake2b}
+use Rattle.digest_kinds.specs.declared.algo.Algo.TheVariants.{Blake2b}
 use Rattle.digest_kinds.specs.declared.algo.Algos.{Algos}
 use Rattle.digest_kinds.specs.declared.algo.Algos.TheVariants.{One}
 use Rattle.sum_lines.specs.declared.line_reading.Form.{Form}
@@ -55,16 +55,11 @@ bits-tag n other has = record {
 
 -- every kind has a tag
 pub line-tag : (a : Algo) (n : ℕ) → has_len a n ≡ true → LineTag (record { algo = a; len = n })
-line-tag Md5 n has = full-tag _ has
-line-tag Sha1 n has = full-tag _ has
-line-tag Sha224 n has = full-tag _ has
-line-tag Sha256 n has = full-tag _ has
-line-tag Sha384 n has = full-tag _ has
-line-tag Sha512 n has = full-tag _ has
 line-tag Blake2b n has = elim (eqb_tells n 64) [
   | inl same ↦ full-tag _ same.0
   | inr other ↦ bits-tag n other.0 has
 ]
+line-tag a n has = full-tag _ has
 
 -- ---- the lines without their newline
 

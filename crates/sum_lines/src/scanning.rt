@@ -3,8 +3,8 @@
 ghost use Rattle.std.specs.Prelude.{◌≡◌, ◌<◌, ◌≤◌, IfNone, IfSome, length};
 ghost use Rattle.std.specs.List.{prefix_len, take_while};
 ghost use Rattle.std.specs.Option.{option_copied, option_map};
-ghost use Rattle.sum_lines.specs.Scanned.{after_while, unmarked};
-ghost use Rattle.sum_lines.specs.joins.Steps.{past, split_last, unspaced};
+ghost use Rattle.sum_lines.specs.Scanned.{after_while, behind as past, unmarked};
+ghost use Rattle.sum_lines.specs.joins.Steps.{split_last, unspaced};
 ghost use Rattle.sum_lines.specs.Shapes.{is_blank};
 
 use digest_kinds::{Digest, Kind};

@@ -1,14 +1,14 @@
 //! Tagged lines: a tag, a name in parentheses, `=`, digits.
 
 ghost use Rattle.std.specs.Prelude.{◌≡◌, ◌≤◌, IfSome, length};
+ghost use Rattle.std.specs.Char.{is_ascii_digit as is_digit};
 ghost use Rattle.std.specs.List.{AllPass, prefix_len, take_while};
 ghost use Rattle.std.specs.Option.{option_copied, option_map};
 ghost use Rattle.hex.specs.Hex.{decode_of};
 ghost use Rattle.digest_kinds.specs.Kinds.{tag};
-ghost use Rattle.sum_lines.specs.Scanned.{after_while};
-ghost use Rattle.sum_lines.specs.joins.Steps.{algo_at, bits_at, blake2b_at, digest_at, is_digit, kind_at};
-ghost use Rattle.sum_lines.specs.Scanned.{unmarked};
-ghost use Rattle.sum_lines.specs.joins.Steps.{opened_text, past, tagged_of, width_at};
+ghost use Rattle.sum_lines.specs.Scanned.{after_while, behind as past, unmarked};
+ghost use Rattle.sum_lines.specs.joins.Steps.{algo_at, bits_at, blake2b_at, digest_at, kind_at};
+ghost use Rattle.sum_lines.specs.joins.Steps.{opened_text, tagged_of, width_at};
 ghost use Rattle.sum_lines.specs.Shapes.{is_blank};
 ghost use Rattle.sum_lines.specs.joins.Found.{line_parts};
 

@@ -1,6 +1,7 @@
 -- Joins the functions that scan a line to the relations of Shapes: it reads a line from the front, as they do.
-use Rattle.std.specs.Prelude.{ℕ, ◌+◌, ◌-◌, ◌*◌, ◌/◌, ◌%◌, ◌==◌, nat_le, nat_lt, ◌&&◌, not, Bool, true, false, List, [], ◌∷◌, length, codes, Option, None, Some, Result, Ok, Err, if◌then◌else◌}
-use Rattle.std.specs.List.{take_while}
+use Rattle.std.specs.Prelude.{ℕ, ◌+◌, ◌-◌, ◌*◌, ◌/◌, ◌%◌, ◌==◌, nat_le, nat_lt, ◌&&◌, not, Bool, false, List, [], ◌∷◌, length, codes, Option, None, Some, Result, Ok, Err, if◌then◌else◌}
+use Rattle.std.specs.Char.{is_ascii_digit}
+use Rattle.std.specs.List.{take_while, starts_with}
 use Rattle.hex.specs.Hex.{decode_of, is_hex_digit}
 use Rattle.hex.specs.declared.error.FromHexError.{FromHexError}
 use Rattle.digest_kinds.specs.Kinds.{KindValue, full_kind, has_len, tag}
@@ -9,25 +10,15 @@ use Rattle.digest_kinds.specs.declared.algo.Algo.TheVariants.{Md5, Sha1, Sha224,
 use Rattle.digest_kinds.specs.declared.algo.Algos.{Algos}
 use Rattle.digest_kinds.specs.declared.algo.Algos.TheVariants.{One, Any}
 use Rattle.sum_lines.specs.Shapes.{is_blank}
-use Rattle.sum_lines.specs.Scanned.{◌>>=◌, Parts, after_while, unmarked}
+use Rattle.sum_lines.specs.Scanned.{◌>>=◌, Parts, after_while, behind, unmarked}
 
 abbrev pub unspaced : List ℕ → List ℕ
 unspaced [] = []
 unspaced (b ∷ bs) = if b == 32 then bs else b ∷ bs
 
--- what stands behind that text, where it stands in front
-abbrev pub past : List ℕ → List ℕ → Option (List ℕ)
-past [] ys = Some ys
-past (x ∷ xs) [] = None
-past (x ∷ xs) (y ∷ ys) = if y == x then past xs ys else None
-
--- the algorithm whose tag stands in front, where there is one
-abbrev pub is_past : Option (List ℕ) → Bool
-is_past None = false
-is_past (Some s) = true
-
+-- whether the tag of the algorithm stands in front, and the algorithm whose tag does, where there is one
 abbrev pub begins : Algo → List ℕ → Bool
-begins a s = is_past (past (tag a) s)
+begins a s = starts_with ◌==◌ s (tag a)
 
 abbrev pub algo_of : List ℕ → Option Algo
 algo_of s =
@@ -45,10 +36,7 @@ abbrev pub digest_at : ℕ → Result (List ℕ) FromHexError → Option (List �
 digest_at n (Ok d) = if length d == n then Some d else None
 digest_at n (Err e) = None
 
--- the bits in front: the decimal digits, and their number
-abbrev pub is_digit : ℕ → Bool
-is_digit b = nat_le 48 b && nat_le b 57
-
+-- the bits in front: the number that decimal digits spell
 abbrev pub number_after : ℕ → List ℕ → ℕ
 number_after n [] = n
 number_after n (d ∷ ds) = number_after (n * 10 + (d - 48)) ds
@@ -63,8 +51,8 @@ kind_at ds = if bits_fit ds then Some (record { algo = Blake2b; len = number_aft
 
 abbrev pub bits_at : List ℕ → Option (KindValue × List ℕ)
 bits_at s = do
-  kind ← kind_at (take_while is_digit s)
-  Some (kind, after_while is_digit s)
+  kind ← kind_at (take_while is_ascii_digit s)
+  Some (kind, after_while is_ascii_digit s)
 
 abbrev pub blake2b_at : List ℕ → Option (KindValue × List ℕ)
 blake2b_at [] = Some (full_kind Blake2b, [])
@@ -77,8 +65,7 @@ width_at a s = Some (full_kind a, s)
 -- what stands before the last such byte, and what behind it
 abbrev pub onto : ℕ → Bool → List ℕ → Option (List ℕ × List ℕ) → Option (List ℕ × List ℕ)
 onto x here xs (Some p) = Some (x ∷ p.0, p.1)
-onto x true xs None = Some ([], xs)
-onto x false xs None = None
+onto x here xs None = if here then Some ([], xs) else None
 
 abbrev pub split_last : ℕ → List ℕ → Option (List ℕ × List ℕ)
 split_last c [] = None
@@ -97,9 +84,9 @@ pub record Opened : Type 0 where
 unfoldable pub opened_text : Algos → Bool → List ℕ → Option Opened
 opened_text algos e s = do
   a ← algo_at algos s
-  rest ← past (tag a) s
+  rest ← behind (tag a) s
   w ← width_at a rest
-  inner ← past (codes "(") (unspaced w.1)
+  inner ← behind (codes "(") (unspaced w.1)
   Some (record { escaped = e; kind = w.0; inner = inner })
 
 abbrev pub opened_of : Algos → List ℕ → Option Opened
@@ -108,7 +95,7 @@ opened_of algos line = let u = unmarked (after_while is_blank line) in opened_te
 -- what stands behind the closing parenthesis, and a tagged line as a whole
 abbrev pub digest_behind : ℕ → List ℕ → Option (List ℕ)
 digest_behind n s = do
-  t ← past (codes "=") (after_while is_blank s)
+  t ← behind (codes "=") (after_while is_blank s)
   digest_at n (decode_of (after_while is_blank t))
 
 unfoldable pub name_behind : Opened → Option Parts
@@ -129,9 +116,8 @@ sized a (Ok d) = if has_len a (length d) then Some (record { algo = a; len = len
 sized a (Err e) = None
 
 abbrev pub tail_of : List ℕ → Option (List ℕ)
-tail_of [] = None
-tail_of (b ∷ []) = None
 tail_of (b ∷ c ∷ tail) = if is_blank b then Some (c ∷ tail) else None
+tail_of s = None
 
 unfoldable pub plain_behind : Algo → Bool → List ℕ → Option Parts
 plain_behind a e s = do

@@ -1,6 +1,12 @@
-use Rattle.sum_lines.proofs.ScanLemmas.{past_is}
+use Rattle.std.proofs.lemmas.Bool.Decides.{Decides-eqb}
+use Rattle.std.proofs.lemmas.Slice.Eq.{strip_prefix_is}
+use Rattle.sum_lines.proofs.ScanLemmas.{behind_is}
 use Rattle.sum_lines.proofs.scanning.past_text.Goals as goal
 
 -- std's comparison passes over the text where it stands in front
 pub returns : goal.returns
-returns c = past_is c.args.text.now c.args.s.now c.strip_prefix.result c.strip_prefix.ensures.cases
+returns c =
+    let s = c.args.s.now in
+    let text = c.args.text.now in
+    behind_is text s c.strip_prefix.result
+    (strip_prefix_is Decides-eqb s text c.strip_prefix.result c.strip_prefix.ensures.cases)
