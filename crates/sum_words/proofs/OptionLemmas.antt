@@ -8,8 +8,8 @@ use Rattle.sum_words.specs.declared.options.Flag.{Flag}
 use Rattle.sum_words.specs.Faults.{Fault, ambiguous_long}
 use Rattle.std.specs.Option.{option_map}
 use Rattle.std.specs.Str.{bytes_eq}
-use Rattle.sum_words.specs.Items.{Text, has, the_one}
-use Rattle.sum_words.specs.joins.Walk.{row_of, full_name}
+use Rattle.sum_words.specs.Items.{Text, row_of, has, the_one}
+use Rattle.sum_words.specs.joins.Walk.{full_name}
 
 -- an option's full name stands in its row
 rows_names : (flags : List Flag) → map full_name flags ≡ map (λ row. row.1) (map row_of flags)

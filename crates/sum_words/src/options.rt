@@ -3,8 +3,8 @@ ghost use Rattle.std.specs.Prelude.{◌≡◌, map, eqb, find};
 ghost use Rattle.std.specs.Option.{option_map};
 ghost use Rattle.std.specs.List.{filter, starts_with};
 ghost use Rattle.std.specs.Str.{bytes_eq};
-ghost use Rattle.sum_words.specs.Items.{table, takes_value, lettered, the_one, resolved};
-ghost use Rattle.sum_words.specs.joins.Walk.{row_of, full_name, letter_text, has_letter, resolution};
+ghost use Rattle.sum_words.specs.Items.{row_of, table, takes_value, lettered, the_one, resolved};
+ghost use Rattle.sum_words.specs.joins.Walk.{full_name, letter_text, has_letter, resolution};
 
 use crate::faults::WordFault;
 use crate::tool::Tool;
@@ -100,13 +100,13 @@ impl Flag {
     }
 }
 
-// The options of a tool.
+// The options of a tool, of which b2sum alone has the last.
 fn flags(tool: Tool) -> &'static [Flag]
     ensures { map row_of result.now ≡ table tool }
 {
     match tool {
         Tool::B2sum => &FLAGS,
-        _ => &FLAGS[..12],
+        _ => &FLAGS[..FLAGS.len() - 1],
     }
 }
 
