@@ -1,5 +1,5 @@
 -- What a command line asks for: the request that its items make, or the first fault that counts.
-use Rattle.std.specs.Prelude.{◌/◌, ◌%◌, ◌==◌, ◌&&◌, ◌||◌, not, Bool, List, [], ◌∷◌, Option, None, Some, Result, Ok, Err, codes, if◌then◌else◌, unwrap_or, option_map, filter, find, nat_lt}
+use Rattle.std.specs.Prelude.{◌&&◌, ◌||◌, not, Bool, List, [], ◌∷◌, Option, None, Some, Result, Ok, Err, codes, if◌then◌else◌, unwrap_or, option_map, filter, find}
 use Rattle.std.specs.List.{last_or}
 use Rattle.std.specs.Option.{option_transpose, option_map_or}
 use Rattle.std.specs.Result.{result_map_both}
@@ -7,8 +7,10 @@ use Rattle.std.specs.Str.{bytes_eq, all_ascii_digits}
 use Rattle.std.specs.Str.Parse.{digits_value}
 use Rattle.digest_kinds.specs.declared.algo.Algos.{Algos}
 use Rattle.digest_kinds.specs.declared.algo.Algos.TheVariants.{One, Any}
-use Rattle.digest_kinds.specs.declared.algo.Algo.TheVariants.{Blake2b}
+use Rattle.digest_kinds.specs.declared.kind.LengthFault.{LengthFault}
+use Rattle.digest_kinds.specs.declared.kind.LengthFault.TheVariants.{TooLong, NotBytes}
 use Rattle.digest_kinds.specs.Kinds.{KindValue, full_kind}
+use Rattle.digest_kinds.specs.Lengths.{blake2b_of_bits}
 use Rattle.sum_lines.specs.declared.written.Mode.{Mode}
 use Rattle.sum_lines.specs.declared.written.Mode.TheVariants as modes
 use Rattle.sum_engine.specs.declared.settings.Report.{Report}
@@ -32,14 +34,20 @@ mode_option given = last_of (codes "binary" ∷ codes "text" ∷ codes "tag" ∷
 abbrev pub report_option : List Text → Text
 report_option given = last_of (codes "status" ∷ codes "warn" ∷ codes "quiet" ∷ []) given
 
--- the kind that a length value asks for: one or more digits, at most 512, a multiple of 8; 0 stands for 512
+-- one or more digits
+abbrev pub is_number : Text → Bool
+is_number value = not (bytes_eq value []) && all_ascii_digits value
+
+-- the fault of a length value, by the one of its bits
+abbrev pub length_fault : Text → LengthFault → Fault
+length_fault value TooLong = length_invalid value
+length_fault value NotBytes = length_not_bytes value
+
+-- the kind that a length value asks for, in bits
 abbrev pub length_kind : Text → Result KindValue Fault
 length_kind value =
-    let bits = digits_value 10 value in
-    if bytes_eq value [] || not (all_ascii_digits value) || nat_lt 512 bits then Err (length_invalid value)
-    else if bits == 0 then Ok (full_kind Blake2b)
-    else if bits % 8 == 0 then Ok (record { algo = Blake2b; len = bits / 8 })
-    else Err (length_not_bytes value)
+    if is_number value then result_map_both (λ kind. kind) (length_fault value) (blake2b_of_bits (digits_value 10 value))
+    else Err (length_invalid value)
 
 -- the faults of the options in the order in which they count, each with when it holds
 abbrev pub faults : List Text → List (Bool × Fault)

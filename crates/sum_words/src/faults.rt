@@ -148,6 +148,7 @@ pub fn put_stop<E: Sink>(err: &mut E, tool: Tool, stop: Stop) -> Result<(), Sink
     put_parts(err, &[name, Part::Bytes(b": "), text, Part::Bytes(b"\n")])
 }
 
+// The words of `Stop`'s Display, which writes to a formatter and to no sink, once more.
 fn stop_wording(stop: Stop) -> &'static str
     ensures { result.now ≡ stop_text stop }
 {

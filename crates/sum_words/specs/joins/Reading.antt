@@ -1,8 +1,7 @@
 -- Joins the reader of the words to the request: what its running values say, and its answers.
-use Rattle.std.specs.Prelude.{ℕ, ◌≡◌, ◌≤◌, ◌^◌, ◌||◌, ◌&&◌, not, true, Bool, List, [], ◌∷◌, Option, None, Some, Result, Ok, Err, codes, filter, find, option_map}
+use Rattle.std.specs.Prelude.{ℕ, ◌≡◌, ◌≤◌, ◌^◌, ◌||◌, true, Bool, List, [], ◌∷◌, Option, None, Some, Result, Ok, Err, codes, filter, find, option_map}
 use Rattle.std.specs.List.{last_or}
 use Rattle.std.specs.Option.{option_copied}
-use Rattle.std.specs.Str.{bytes_eq, all_ascii_digits}
 use Rattle.std.specs.Str.Parse.{digits_value}
 use Rattle.sum_lines.specs.declared.written.Mode.{Mode}
 use Rattle.sum_lines.specs.declared.written.Mode.TheVariants as modes
@@ -13,7 +12,7 @@ use Rattle.sum_words.specs.declared.reading.Chosen.{Chosen}
 use Rattle.sum_words.specs.Faults.{Fault}
 use Rattle.sum_words.specs.Items.{Text, Item, has, options_of, values_of}
 use Rattle.sum_words.specs.joins.Walk.{fault_of}
-use Rattle.sum_words.specs.Request.{faults}
+use Rattle.sum_words.specs.Request.{is_number, faults}
 
 -- the names of the options that set these
 abbrev pub mode_name : Mode → Text
@@ -62,10 +61,7 @@ abbrev pub result_of : {X : Type 0} → Result X WordFault → Result X Fault
 result_of (Ok x) = Ok x
 result_of (Err f) = Err (fault_of f)
 
--- whether a text is a number, one or more digits, and which, where a u64 holds it
-abbrev pub is_number : Text → Bool
-is_number value = not (bytes_eq value []) && all_ascii_digits value
-
+-- whether a text is a number, and which, where a u64 holds it
 abbrev pub IsNumberOf : Text → Option ℕ → Type 0
 IsNumberOf value None = is_number value ≡ true → 2 ^ 64 ≤ digits_value 10 value
 IsNumberOf value (Some n) = (is_number value ≡ true) × (n ≡ digits_value 10 value)
