@@ -1,6 +1,6 @@
 -- What the words of a command line say, one by one: options by their full names, length values, operands, and at most
 -- one fault, with which the list ends.
-use Rattle.std.specs.Prelude.{ℕ, ◌+◌, ◌==◌, ◌&&◌, not, Bool, true, false, List, [], ◌∷◌, ◌++◌, map, drop, Option, None, Some, Result, Ok, Err, codes, if◌then◌else◌, eqb, option_map, filter, find, position}
+use Rattle.std.specs.Prelude.{ℕ, ◌+◌, ◌==◌, ◌&&◌, not, Bool, true, false, List, [], ◌∷◌, ◌++◌, map, drop, Option, None, Some, Result, Ok, Err, codes, if◌then◌else◌, option_map, filter, find, position}
 use Rattle.std.specs.List.{list_any, starts_with, before_first}
 use Rattle.std.specs.Str.{byte, bytes_eq, chars, encode_utf8_all}
 use Rattle.sum_words.specs.declared.tool.Tool.{Tool}
@@ -75,7 +75,7 @@ the_one name fulls = Err (ambiguous_long name)
 unfoldable pub resolved : Tool → Text → Result Text Fault
 resolved t name =
     let fulls = map (λ row. row.1) (table t) in
-    if has name fulls then Ok name else the_one name (filter (λ full. starts_with eqb full name) fulls)
+    if has name fulls then Ok name else the_one name (filter (λ full. starts_with ◌==◌ full name) fulls)
 
 abbrev pub long : Result Text Fault → Option Text → Read
 long (Err f) value = (fault f ∷ [], no_word)
@@ -102,8 +102,8 @@ cluster t (c ∷ cs) = letter_then c (lettered t c) cs (cluster t cs)
 -- a long option behind "--"; or a cluster behind '-', unless it is a dash alone; or an operand
 abbrev pub read_word : Tool → Text → Read
 read_word t word =
-    if starts_with eqb word (codes "--") then long (resolved t (name_part (drop 2 word))) (value_part (drop 2 word))
-    else if starts_with eqb word (codes "-") && not (bytes_eq word (codes "-")) then cluster t (chars (drop 1 word))
+    if starts_with ◌==◌ word (codes "--") then long (resolved t (name_part (drop 2 word))) (value_part (drop 2 word))
+    else if starts_with ◌==◌ word (codes "-") && not (bytes_eq word (codes "-")) then cluster t (chars (drop 1 word))
     else (operand word ∷ [], a_word)
 
 -- all words; those behind "--" are operands

@@ -1,5 +1,5 @@
 //! What the words say, item by item.
-ghost use Rattle.std.specs.Prelude.{◌≡◌, List, ℕ, [], ◌∷◌, MatchOption, drop, true, false, codes, eqb};
+ghost use Rattle.std.specs.Prelude.{◌≡◌, ◌==◌, List, ℕ, [], ◌∷◌, MatchOption, drop, true, false, codes};
 ghost use Rattle.std.specs.Option.{option_copied};
 ghost use Rattle.std.specs.List.{starts_with};
 ghost use Rattle.std.specs.Str.{chars};
@@ -217,7 +217,7 @@ fn first(text: &str) -> Option<(char, &str)>
 
 // What stands behind a front of a word.
 fn behind<'a>(front: &str, word: &'a str) -> Option<&'a str>
-    ensures { MatchOption result (starts_with eqb word.now front.now ≡ false)
+    ensures { MatchOption result (starts_with ◌==◌ word.now front.now ≡ false)
         (λ rest. IsBehind front.now word.now rest.now) }
 {
     word.strip_prefix(front)

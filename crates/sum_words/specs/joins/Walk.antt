@@ -1,5 +1,5 @@
 -- Joins the walker over the words to the list of items: what its values say, and what is still to come where it stands.
-use Rattle.std.specs.Prelude.{◌≡◌, ◌&&◌, not, ℕ, eqb, drop, length, true, Bool, map, List, [], ◌∷◌, ◌++◌, Option, None, Some, Result, Ok, Err, codes}
+use Rattle.std.specs.Prelude.{◌≡◌, ◌==◌, ◌&&◌, not, ℕ, drop, length, true, Bool, map, List, [], ◌∷◌, ◌++◌, Option, None, Some, Result, Ok, Err, codes}
 use Rattle.std.specs.List.{starts_with}
 use Rattle.std.specs.Str.{bytes_eq, chars}
 use Rattle.sum_words.specs.declared.tool.Tool.{Tool}
@@ -86,8 +86,8 @@ TakesFirst f old (Some x) new = old ≡ f x ∷ new
 
 -- what stands behind a front of a word
 abbrev pub IsBehind : Text → Text → Text → Type 0
-IsBehind front word rest = (starts_with eqb word front ≡ true) × (rest ≡ drop (length front) word)
+IsBehind front word rest = (starts_with ◌==◌ word front ≡ true) × (rest ≡ drop (length front) word)
 
 -- whether a word that doesn't begin with two dashes is a cluster
 abbrev pub is_cluster : Text → Bool
-is_cluster word = starts_with eqb word (codes "-") && not (bytes_eq word (codes "-"))
+is_cluster word = starts_with ◌==◌ word (codes "-") && not (bytes_eq word (codes "-"))
