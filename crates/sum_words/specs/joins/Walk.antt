@@ -75,11 +75,7 @@ step_says t (steps.Say x state) words = item_of x ∷ items_to_come t state word
 step_says t (steps.Value is_long) words = items_from t (a_value is_long) words
 step_says t steps.OnlyOperands words = map operand words
 
--- the first member was taken, or there is none
-abbrev pub TakesWord : List Text → Option Text → List Text → Type 0
-TakesWord old None new = (old ≡ []) × (new ≡ [])
-TakesWord old (Some w) new = old ≡ w ∷ new
-
+-- the first member was taken, as this says, or there is none
 abbrev pub TakesFirst : {X Y : Type 0} → (X → Y) → List Y → Option X → List Y → Type 0
 TakesFirst f old None new = (old ≡ []) × (new ≡ [])
 TakesFirst f old (Some x) new = old ≡ f x ∷ new
