@@ -25,14 +25,14 @@ use Rattle.sum_words.specs.Faults.{Fault, length_invalid, length_not_bytes, tag_
 use Rattle.sum_words.specs.Items.{Text, Item, option, fault, has, a_word, items_from, options_of, values_of, operands_of}
 
 -- of the options that set a mode the last that is given counts, and of those that set a report; [] stands for none
+abbrev pub mode_names : List Text
+mode_names = codes "binary" ∷ codes "text" ∷ codes "tag" ∷ []
+
+abbrev pub report_names : List Text
+report_names = codes "status" ∷ codes "warn" ∷ codes "quiet" ∷ []
+
 abbrev pub last_of : List Text → List Text → Text
 last_of names given = unwrap_or (last_or None (filter (λ name. has name names) given)) []
-
-abbrev pub mode_option : List Text → Text
-mode_option given = last_of (codes "binary" ∷ codes "text" ∷ codes "tag" ∷ []) given
-
-abbrev pub report_option : List Text → Text
-report_option given = last_of (codes "status" ∷ codes "warn" ∷ codes "quiet" ∷ []) given
 
 -- one or more digits
 abbrev pub is_number : Text → Bool
@@ -46,33 +46,33 @@ length_fault value NotBytes = length_not_bytes value
 -- the kind that a length value asks for, in bits
 abbrev pub length_kind : Text → Result KindValue Fault
 length_kind value =
-    if is_number value then result_map_both (λ kind. kind) (length_fault value) (blake2b_of_bits (digits_value 10 value))
-    else Err (length_invalid value)
+    if not (is_number value) then Err (length_invalid value)
+    else result_map_both (λ kind. kind) (length_fault value) (blake2b_of_bits (digits_value 10 value))
 
 -- the faults of the options in the order in which they count, each with when it holds
 abbrev pub faults : List Text → List (Bool × Fault)
 faults given =
     let check = has (codes "check") given in
-    (has (codes "tag") given && bytes_eq (mode_option given) (codes "text"), tag_with_text)
+    (has (codes "tag") given && bytes_eq (last_of mode_names given) (codes "text"), tag_with_text)
     ∷ (has (codes "zero") given && check, zero_with_check)
     ∷ (has (codes "tag") given && check, tag_with_check)
     ∷ ((has (codes "binary") given || has (codes "text") given) && check, mode_with_check)
     ∷ (has (codes "ignore-missing") given && not check, without_check (codes "ignore-missing"))
-    ∷ (not (bytes_eq (report_option given) []) && not check, without_check (report_option given))
+    ∷ (not (bytes_eq (last_of report_names given) []) && not check, without_check (last_of report_names given))
     ∷ (has (codes "strict") given && not check, without_check (codes "strict")) ∷ []
 
 -- what the options ask for where none of these holds; a tool without an algorithm of its own needs --check
 abbrev pub mode_of : List Text → Mode
 mode_of given =
     if has (codes "tag") given then modes.Tag
-    else if bytes_eq (mode_option given) (codes "binary") then modes.Binary
+    else if bytes_eq (last_of mode_names given) (codes "binary") then modes.Binary
     else modes.Text
 
 abbrev pub report_of : List Text → Report
 report_of given =
-    if bytes_eq (report_option given) (codes "status") then reports.Status
-    else if bytes_eq (report_option given) (codes "warn") then reports.Warn
-    else if bytes_eq (report_option given) (codes "quiet") then reports.Quiet
+    if bytes_eq (last_of report_names given) (codes "status") then reports.Status
+    else if bytes_eq (last_of report_names given) (codes "warn") then reports.Warn
+    else if bytes_eq (last_of report_names given) (codes "quiet") then reports.Quiet
     else reports.All
 
 abbrev pub generating : Algos → Option KindValue → List Text → Result Job Fault
