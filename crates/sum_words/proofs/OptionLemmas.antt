@@ -1,5 +1,5 @@
 -- The one option that a name means.
-use Rattle.std.proofs.Common.{find, ◌≡◌, ℕ, ◌+◌, ◌<◌, true, false, cond, ◌||◌, List, [], ◌∷◌, length, drop, get_or, map, Option, None, Some, Result, Ok, Err, eqb, refl, ap, sym, ◌∙◌, is_some}
+use Rattle.std.proofs.Common.{find, ◌≡◌, ◌==◌, ℕ, ◌+◌, ◌<◌, true, false, cond, ◌||◌, List, [], ◌∷◌, length, drop, get_or, map, Option, None, Some, Result, Ok, Err, refl, ap, sym, ◌∙◌, is_some}
 use Rattle.std.specs.List.{filter, starts_with}
 use Rattle.std.proofs.lemmas.Bool.{cond-true, cond-false}
 use Rattle.std.proofs.lemmas.List.{at_drop_more}
@@ -8,8 +8,8 @@ use Rattle.sum_words.specs.declared.options.Flag.{Flag}
 use Rattle.sum_words.specs.Faults.{Fault, ambiguous_long}
 use Rattle.std.specs.Option.{option_map}
 use Rattle.std.specs.Str.{bytes_eq}
-use Rattle.sum_words.specs.Items.{Text, has, the_one}
-use Rattle.sum_words.specs.joins.Walk.{row_of, full_name}
+use Rattle.sum_words.specs.Items.{Text, row_of, has, the_one}
+use Rattle.sum_words.specs.joins.Walk.{full_name}
 
 -- an option's full name stands in its row
 rows_names : (flags : List Flag) → map full_name flags ≡ map (λ row. row.1) (map row_of flags)
@@ -34,7 +34,7 @@ the_one_with name (Some flag) fulls = the_one name (full_name flag ∷ fulls)
 
 -- the names of these options that begin with the name
 abbrev pub begun : Text → List Flag → List Text
-begun name flags = filter (λ full. starts_with eqb full name) (map full_name flags)
+begun name flags = filter (λ full. starts_with ◌==◌ full name) (map full_name flags)
 
 -- the option at a place is the first of those from there on
 begun_at : (name : Text) (flags : List Flag) (i : ℕ) (d : Flag) → i < length flags
@@ -42,18 +42,18 @@ begun_at : (name : Text) (flags : List Flag) (i : ℕ) (d : Flag) → i < length
 begun_at name flags i d inside = at_drop_more (begun name) flags i d inside
 
 -- one that begins with the name is among them
-begun-yes : (name : Text) (flag : Flag) (flags : List Flag) → starts_with eqb (full_name flag) name ≡ true
+begun-yes : (name : Text) (flag : Flag) (flags : List Flag) → starts_with ◌==◌ (full_name flag) name ≡ true
     → begun name (flag ∷ flags) ≡ full_name flag ∷ begun name flags
-begun-yes name flag flags h = cond-true (starts_with eqb (full_name flag) name) _ _ h
+begun-yes name flag flags h = cond-true (starts_with ◌==◌ (full_name flag) name) _ _ h
 
 -- another one is not
-begun-no : (name : Text) (flag : Flag) (flags : List Flag) → starts_with eqb (full_name flag) name ≡ false
+begun-no : (name : Text) (flag : Flag) (flags : List Flag) → starts_with ◌==◌ (full_name flag) name ≡ false
     → begun name (flag ∷ flags) ≡ begun name flags
-begun-no name flag flags h = cond-false (starts_with eqb (full_name flag) name) _ _ h
+begun-no name flag flags h = cond-false (starts_with ◌==◌ (full_name flag) name) _ _ h
 
 -- a second one begins with the name: it is ambiguous
 pub second_begun : (name : Text) (flags : List Flag) (i : ℕ) (d : Flag) (found : Option Flag) → i < length flags
-    → true ≡ starts_with eqb (full_name (get_or flags i d)) name → true ≡ is_some found
+    → true ≡ starts_with ◌==◌ (full_name (get_or flags i d)) name → true ≡ is_some found
     → the_one_with name found (begun name (drop i flags)) ≡ Err (ambiguous_long name)
 second_begun name flags i d None inside fits some = cc
 second_begun name flags i d (Some flag) inside fits some =
@@ -62,7 +62,7 @@ second_begun name flags i d (Some flag) inside fits some =
 
 -- the first one begins with it, and is kept
 pub first_begun : (name : Text) (flags : List Flag) (i : ℕ) (d : Flag) (found : Option Flag) → i < length flags
-    → true ≡ starts_with eqb (full_name (get_or flags i d)) name → false ≡ is_some found
+    → true ≡ starts_with ◌==◌ (full_name (get_or flags i d)) name → false ≡ is_some found
     → the_one_with name found (begun name (drop i flags))
     ≡ the_one_with name (Some (get_or flags i d)) (begun name (drop (i + 1) flags))
 first_begun name flags i d (Some flag) inside fits none = cc
@@ -72,7 +72,7 @@ first_begun name flags i d None inside fits none =
 
 -- this one doesn't
 pub not_begun : (name : Text) (flags : List Flag) (i : ℕ) (d : Flag) (found : Option Flag) → i < length flags
-    → false ≡ starts_with eqb (full_name (get_or flags i d)) name
+    → false ≡ starts_with ◌==◌ (full_name (get_or flags i d)) name
     → the_one_with name found (begun name (drop i flags)) ≡ the_one_with name found (begun name (drop (i + 1) flags))
 not_begun name flags i d found inside other =
     ap (the_one_with name found)
@@ -80,7 +80,7 @@ not_begun name flags i d found inside other =
 
 -- the one of these names that a name means
 abbrev pub meant : Text → List Text → Result Text Fault
-meant name fulls = cond (has name fulls) (Ok name) (the_one name (filter (λ full. starts_with eqb full name) fulls))
+meant name fulls = cond (has name fulls) (Ok name) (the_one name (filter (λ full. starts_with ◌==◌ full name) fulls))
 
 -- what a search for the full name finds is the name, and it is there
 named_same : (name full : Text) (fulls : List Text) → find (bytes_eq name) fulls ≡ Some full
@@ -112,5 +112,5 @@ meant_in_full name flag fulls h =
 
 -- where none has, the only one that begins with it
 pub meant_by_front : (name : Text) (fulls : List Text) → None ≡ find (bytes_eq name) fulls
-    → meant name fulls ≡ the_one name (filter (λ full. starts_with eqb full name) fulls)
+    → meant name fulls ≡ the_one name (filter (λ full. starts_with ◌==◌ full name) fulls)
 meant_by_front name fulls h = cond-false (has name fulls) (Ok name) _ (named_none name fulls (sym h))

@@ -17,8 +17,8 @@ use Rattle.sum_words.specs.Tools.{algos_of}
 use Rattle.sum_words.specs.Faults.{Fault}
 use Rattle.sum_words.specs.Items.{Text, Item, option, a_word, items_from, options_of, values_of, operands_of}
 use Rattle.sum_words.specs.joins.Walk.{full_name}
-use Rattle.sum_words.specs.Request.{length_kind, faults, job_of, kind_asked, ending, request}
-use Rattle.sum_words.specs.joins.Reading.{first_fault, is_number, IsNumberOf}
+use Rattle.sum_words.specs.Request.{is_number, length_kind, faults, job_of, kind_asked, ending, request}
+use Rattle.sum_words.specs.joins.Reading.{first_fault, IsNumberOf}
 
 -- an option that doesn't end the matter
 pub ending_not : (flag : Flag) (rest : List Item) → flag ≢ flags.Help → flag ≢ flags.Version

@@ -1,5 +1,5 @@
 -- Cuts of one word.
-use Rattle.std.proofs.Common.{◌≡◌, ◌≢◌, ℕ, ◌+◌, true, false, List, [], ◌∷◌, ◌++◌, codes, length, drop, Option, None, Some, refl, ap, sym, ◌∙◌, eqb, MatchOption}
+use Rattle.std.proofs.Common.{◌≡◌, ◌==◌, ◌≢◌, ℕ, ◌+◌, true, false, List, [], ◌∷◌, ◌++◌, codes, length, drop, Option, None, Some, refl, ap, sym, ◌∙◌, eqb, MatchOption}
 use denote.Ref.{Bor}
 use Rattle.std.specs.List.{starts_with}
 use Rattle.std.specs.Str.{chars, encode_utf8_all, IsUtf8}
@@ -18,7 +18,7 @@ use Rattle.sum_words.specs.joins.Walk.{IsBehind, is_cluster}
 pub behind_front : (front text : List ℕ) (r : Option (Bor (List ℕ)))
     → MatchOption r (FindsTextPrefix front text None)
     (λ x. (n : ℕ) × FindsTextPrefix front text (Some n) × (x.now ≡ drop n text) × (length x.now + n ≡ length text))
-    → MatchOption r (starts_with eqb text front ≡ false) (λ x. IsBehind front text x.now)
+    → MatchOption r (starts_with ◌==◌ text front ≡ false) (λ x. IsBehind front text x.now)
 behind_front front text None h = sym (starts_text false front text h)
 behind_front front text (Some x) (n, f, e, l) = (sym (starts_text true front text (n, f, (rw f.0 f.2))), (rw f.0 at e))
 
@@ -28,7 +28,7 @@ pub first_char : {bs now xs ys : List ℕ} (c : ℕ) → IsUtf8 bs → xs ≡ bs
 first_char {bs = bs} {ys = ys} c valid same rest first = rw rest (chars_past_char bs ys c valid (sym same ∙ first))
 
 -- what begins with a dash has it in front
-begins_with : (b : ℕ) (bs : List ℕ) → starts_with eqb (b ∷ bs) (codes "-") ≡ true → b ≡ 45
+begins_with : (b : ℕ) (bs : List ℕ) → starts_with ◌==◌ (b ∷ bs) (codes "-") ≡ true → b ≡ 45
 begins_with b bs h = sym (eqb-true 45 b (sym (and-true (eqb 45 b)) ∙ h))
 
 -- a dash alone is no cluster

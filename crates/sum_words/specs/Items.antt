@@ -1,10 +1,12 @@
 -- What the words of a command line say, one by one: options by their full names, length values, operands, and at most
 -- one fault, with which the list ends.
-use Rattle.std.specs.Prelude.{ℕ, ◌+◌, ◌==◌, ◌&&◌, not, Bool, true, false, List, [], ◌∷◌, ◌++◌, map, drop, Option, None, Some, Result, Ok, Err, codes, if◌then◌else◌, eqb, option_map, filter, find, position}
+use Rattle.std.specs.Prelude.{ℕ, ◌+◌, ◌==◌, ◌&&◌, not, Bool, true, false, List, [], ◌∷◌, ◌++◌, map, drop, Option, None, Some, Result, Ok, Err, codes, if◌then◌else◌, option_map, filter, find, position}
 use Rattle.std.specs.List.{list_any, starts_with, before_first}
 use Rattle.std.specs.Str.{byte, bytes_eq, chars, encode_utf8_all}
 use Rattle.sum_words.specs.declared.tool.Tool.{Tool}
 use Rattle.sum_words.specs.declared.tool.Tool.TheVariants as tools
+use Rattle.sum_words.specs.declared.options.Flag.{Flag}
+use Rattle.sum_words.specs.declared.options.Flag.TheVariants as flags
 use Rattle.sum_words.specs.Faults.{Fault, unknown_long, ambiguous_long, value_not_allowed, value_missing, unknown_short}
 
 abbrev pub Text : Type 0
@@ -16,26 +18,31 @@ pub data Item : Type 0 where
   operand : Text → Item
   fault : Fault → Item
 
--- the options of every tool: the letter, where there is one, and the full name
-abbrev pub common : List (Text × Text)
-common =
-    (codes "b", codes "binary")
-    ∷ (codes "c", codes "check")
-    ∷ (codes "", codes "tag")
-    ∷ (codes "t", codes "text")
-    ∷ (codes "z", codes "zero")
-    ∷ (codes "", codes "ignore-missing")
-    ∷ (codes "", codes "quiet")
-    ∷ (codes "", codes "status")
-    ∷ (codes "", codes "strict")
-    ∷ (codes "w", codes "warn")
-    ∷ (codes "", codes "help")
-    ∷ (codes "", codes "version") ∷ []
+-- an option's letter, where there is one, and its full name
+abbrev pub row_of : Flag → Text × Text
+row_of flags.Binary = (codes "b", codes "binary")
+row_of flags.Check = (codes "c", codes "check")
+row_of flags.Tag = (codes "", codes "tag")
+row_of flags.Text = (codes "t", codes "text")
+row_of flags.Zero = (codes "z", codes "zero")
+row_of flags.IgnoreMissing = (codes "", codes "ignore-missing")
+row_of flags.Quiet = (codes "", codes "quiet")
+row_of flags.Status = (codes "", codes "status")
+row_of flags.Strict = (codes "", codes "strict")
+row_of flags.Warn = (codes "w", codes "warn")
+row_of flags.Help = (codes "", codes "help")
+row_of flags.Version = (codes "", codes "version")
+row_of flags.Length = (codes "l", codes "length")
+
+-- the options of every tool
+abbrev pub common : List Flag
+common = flags.Binary ∷ flags.Check ∷ flags.Tag ∷ flags.Text ∷ flags.Zero ∷ flags.IgnoreMissing ∷ flags.Quiet ∷
+    flags.Status ∷ flags.Strict ∷ flags.Warn ∷ flags.Help ∷ flags.Version ∷ []
 
 -- b2sum has one more, which alone takes a value
 abbrev pub table : Tool → List (Text × Text)
-table tools.B2sum = common ++ (codes "l", codes "length") ∷ []
-table t = common
+table tools.B2sum = map row_of (common ++ flags.Length ∷ [])
+table t = map row_of common
 
 abbrev pub takes_value : Text → Bool
 takes_value full = bytes_eq full (codes "length")
@@ -68,7 +75,7 @@ the_one name fulls = Err (ambiguous_long name)
 unfoldable pub resolved : Tool → Text → Result Text Fault
 resolved t name =
     let fulls = map (λ row. row.1) (table t) in
-    if has name fulls then Ok name else the_one name (filter (λ full. starts_with eqb full name) fulls)
+    if has name fulls then Ok name else the_one name (filter (λ full. starts_with ◌==◌ full name) fulls)
 
 abbrev pub long : Result Text Fault → Option Text → Read
 long (Err f) value = (fault f ∷ [], no_word)
@@ -95,8 +102,8 @@ cluster t (c ∷ cs) = letter_then c (lettered t c) cs (cluster t cs)
 -- a long option behind "--"; or a cluster behind '-', unless it is a dash alone; or an operand
 abbrev pub read_word : Tool → Text → Read
 read_word t word =
-    if starts_with eqb word (codes "--") then long (resolved t (name_part (drop 2 word))) (value_part (drop 2 word))
-    else if starts_with eqb word (codes "-") && not (bytes_eq word (codes "-")) then cluster t (chars (drop 1 word))
+    if starts_with ◌==◌ word (codes "--") then long (resolved t (name_part (drop 2 word))) (value_part (drop 2 word))
+    else if starts_with ◌==◌ word (codes "-") && not (bytes_eq word (codes "-")) then cluster t (chars (drop 1 word))
     else (operand word ∷ [], a_word)
 
 -- all words; those behind "--" are operands

@@ -1,5 +1,5 @@
 -- What a command line asks for: the request that its items make, or the first fault that counts.
-use Rattle.std.specs.Prelude.{◌/◌, ◌%◌, ◌==◌, ◌&&◌, ◌||◌, not, Bool, List, [], ◌∷◌, Option, None, Some, Result, Ok, Err, codes, if◌then◌else◌, unwrap_or, option_map, filter, find, nat_lt}
+use Rattle.std.specs.Prelude.{◌&&◌, ◌||◌, not, Bool, List, [], ◌∷◌, Option, None, Some, Result, Ok, Err, codes, if◌then◌else◌, unwrap_or, option_map, filter, find}
 use Rattle.std.specs.List.{last_or}
 use Rattle.std.specs.Option.{option_transpose, option_map_or}
 use Rattle.std.specs.Result.{result_map_both}
@@ -7,8 +7,10 @@ use Rattle.std.specs.Str.{bytes_eq, all_ascii_digits}
 use Rattle.std.specs.Str.Parse.{digits_value}
 use Rattle.digest_kinds.specs.declared.algo.Algos.{Algos}
 use Rattle.digest_kinds.specs.declared.algo.Algos.TheVariants.{One, Any}
-use Rattle.digest_kinds.specs.declared.algo.Algo.TheVariants.{Blake2b}
+use Rattle.digest_kinds.specs.declared.kind.LengthFault.{LengthFault}
+use Rattle.digest_kinds.specs.declared.kind.LengthFault.TheVariants.{TooLong, NotBytes}
 use Rattle.digest_kinds.specs.Kinds.{KindValue, full_kind}
+use Rattle.digest_kinds.specs.Lengths.{blake2b_of_bits}
 use Rattle.sum_lines.specs.declared.written.Mode.{Mode}
 use Rattle.sum_lines.specs.declared.written.Mode.TheVariants as modes
 use Rattle.sum_engine.specs.declared.settings.Report.{Report}
@@ -23,48 +25,54 @@ use Rattle.sum_words.specs.Faults.{Fault, length_invalid, length_not_bytes, tag_
 use Rattle.sum_words.specs.Items.{Text, Item, option, fault, has, a_word, items_from, options_of, values_of, operands_of}
 
 -- of the options that set a mode the last that is given counts, and of those that set a report; [] stands for none
+abbrev pub mode_names : List Text
+mode_names = codes "binary" ∷ codes "text" ∷ codes "tag" ∷ []
+
+abbrev pub report_names : List Text
+report_names = codes "status" ∷ codes "warn" ∷ codes "quiet" ∷ []
+
 abbrev pub last_of : List Text → List Text → Text
 last_of names given = unwrap_or (last_or None (filter (λ name. has name names) given)) []
 
-abbrev pub mode_option : List Text → Text
-mode_option given = last_of (codes "binary" ∷ codes "text" ∷ codes "tag" ∷ []) given
+-- one or more digits
+abbrev pub is_number : Text → Bool
+is_number value = not (bytes_eq value []) && all_ascii_digits value
 
-abbrev pub report_option : List Text → Text
-report_option given = last_of (codes "status" ∷ codes "warn" ∷ codes "quiet" ∷ []) given
+-- the fault of a length value, by the one of its bits
+abbrev pub length_fault : Text → LengthFault → Fault
+length_fault value TooLong = length_invalid value
+length_fault value NotBytes = length_not_bytes value
 
--- the kind that a length value asks for: one or more digits, at most 512, a multiple of 8; 0 stands for 512
+-- the kind that a length value asks for, in bits
 abbrev pub length_kind : Text → Result KindValue Fault
 length_kind value =
-    let bits = digits_value 10 value in
-    if bytes_eq value [] || not (all_ascii_digits value) || nat_lt 512 bits then Err (length_invalid value)
-    else if bits == 0 then Ok (full_kind Blake2b)
-    else if bits % 8 == 0 then Ok (record { algo = Blake2b; len = bits / 8 })
-    else Err (length_not_bytes value)
+    if not (is_number value) then Err (length_invalid value)
+    else result_map_both (λ kind. kind) (length_fault value) (blake2b_of_bits (digits_value 10 value))
 
 -- the faults of the options in the order in which they count, each with when it holds
 abbrev pub faults : List Text → List (Bool × Fault)
 faults given =
     let check = has (codes "check") given in
-    (has (codes "tag") given && bytes_eq (mode_option given) (codes "text"), tag_with_text)
+    (has (codes "tag") given && bytes_eq (last_of mode_names given) (codes "text"), tag_with_text)
     ∷ (has (codes "zero") given && check, zero_with_check)
     ∷ (has (codes "tag") given && check, tag_with_check)
     ∷ ((has (codes "binary") given || has (codes "text") given) && check, mode_with_check)
     ∷ (has (codes "ignore-missing") given && not check, without_check (codes "ignore-missing"))
-    ∷ (not (bytes_eq (report_option given) []) && not check, without_check (report_option given))
+    ∷ (not (bytes_eq (last_of report_names given) []) && not check, without_check (last_of report_names given))
     ∷ (has (codes "strict") given && not check, without_check (codes "strict")) ∷ []
 
 -- what the options ask for where none of these holds; a tool without an algorithm of its own needs --check
 abbrev pub mode_of : List Text → Mode
 mode_of given =
     if has (codes "tag") given then modes.Tag
-    else if bytes_eq (mode_option given) (codes "binary") then modes.Binary
+    else if bytes_eq (last_of mode_names given) (codes "binary") then modes.Binary
     else modes.Text
 
 abbrev pub report_of : List Text → Report
 report_of given =
-    if bytes_eq (report_option given) (codes "status") then reports.Status
-    else if bytes_eq (report_option given) (codes "warn") then reports.Warn
-    else if bytes_eq (report_option given) (codes "quiet") then reports.Quiet
+    if bytes_eq (last_of report_names given) (codes "status") then reports.Status
+    else if bytes_eq (last_of report_names given) (codes "warn") then reports.Warn
+    else if bytes_eq (last_of report_names given) (codes "quiet") then reports.Quiet
     else reports.All
 
 abbrev pub generating : Algos → Option KindValue → List Text → Result Job Fault

@@ -4,8 +4,8 @@ ghost use Rattle.std.specs.Prelude.{◌≡◌, ◌++◌, codes};
 ghost use Rattle.sum_lines.specs.Sinks.{Writes};
 ghost use Rattle.sum_lines.specs.joins.PartTexts.{part_text};
 ghost use Rattle.sum_words.specs.joins.Walk.{fault_of};
-ghost use Rattle.sum_words.specs.joins.Shown.{shown_text, lines_of};
-ghost use Rattle.sum_words.specs.Texts.{wording, fault_lines, stop_text, stop_line};
+ghost use Rattle.sum_words.specs.joins.Shown.{shown_text};
+ghost use Rattle.sum_words.specs.Texts.{wording, lines_of, fault_lines, stop_text, stop_line};
 
 use crate::tool::Tool;
 use sum_engine::Stop;
@@ -148,6 +148,7 @@ pub fn put_stop<E: Sink>(err: &mut E, tool: Tool, stop: Stop) -> Result<(), Sink
     put_parts(err, &[name, Part::Bytes(b": "), text, Part::Bytes(b"\n")])
 }
 
+// The words of `Stop`'s Display, which writes to a formatter and to no sink, once more.
 fn stop_wording(stop: Stop) -> &'static str
     ensures { result.now ≡ stop_text stop }
 {

@@ -1,11 +1,11 @@
 //! What the words say, item by item.
-ghost use Rattle.std.specs.Prelude.{◌≡◌, List, ℕ, [], ◌∷◌, MatchOption, drop, true, false, codes, eqb};
+ghost use Rattle.std.specs.Prelude.{◌≡◌, ◌==◌, List, ℕ, [], ◌∷◌, MatchOption, drop, true, false, codes};
 ghost use Rattle.std.specs.Option.{option_copied};
 ghost use Rattle.std.specs.List.{starts_with};
 ghost use Rattle.std.specs.Str.{chars};
 ghost use Rattle.sum_words.specs.Items.{a_word, name_part, value_part, long, resolved, read_word, cluster};
 ghost use Rattle.sum_words.specs.Items.{items_from, operands_of};
-ghost use Rattle.sum_words.specs.joins.Walk.{items_to_come, read_then, step_says, item_of, TakesFirst, TakesWord};
+ghost use Rattle.sum_words.specs.joins.Walk.{items_to_come, read_then, step_says, item_of, TakesFirst};
 ghost use Rattle.sum_words.specs.joins.Walk.{IsBehind, is_cluster};
 ghost use Rattle.sum_words.specs.declared.tool.Tool.{Tool};
 
@@ -91,7 +91,7 @@ impl<'a> Items<'a> {
 
 // The word at a place, which goes on.
 fn take_word<'a>(words: &LentWords<'a>, at: &mut usize) -> Option<&'a str>
-    ensures { TakesWord (drop at.old words.now) (option_copied result) (drop at.new words.now) }
+    ensures { TakesFirst (λ word. word) (drop at.old words.now) (option_copied result) (drop at.new words.now) }
 {
     let word = words.get(*at)?;
     *at += 1;
@@ -217,7 +217,7 @@ fn first(text: &str) -> Option<(char, &str)>
 
 // What stands behind a front of a word.
 fn behind<'a>(front: &str, word: &'a str) -> Option<&'a str>
-    ensures { MatchOption result (starts_with eqb word.now front.now ≡ false)
+    ensures { MatchOption result (starts_with ◌==◌ word.now front.now ≡ false)
         (λ rest. IsBehind front.now word.now rest.now) }
 {
     word.strip_prefix(front)

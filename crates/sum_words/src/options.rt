@@ -1,10 +1,10 @@
 //! The options of the tools, by name and by letter (coreutils manual, "md5sum invocation" and "b2sum invocation").
-ghost use Rattle.std.specs.Prelude.{◌≡◌, map, eqb, find};
+ghost use Rattle.std.specs.Prelude.{◌≡◌, ◌==◌, map, find};
 ghost use Rattle.std.specs.Option.{option_map};
 ghost use Rattle.std.specs.List.{filter, starts_with};
 ghost use Rattle.std.specs.Str.{bytes_eq};
-ghost use Rattle.sum_words.specs.Items.{table, takes_value, lettered, the_one, resolved};
-ghost use Rattle.sum_words.specs.joins.Walk.{row_of, full_name, letter_text, has_letter, resolution};
+ghost use Rattle.sum_words.specs.Items.{row_of, table, takes_value, lettered, the_one, resolved};
+ghost use Rattle.sum_words.specs.joins.Walk.{full_name, letter_text, has_letter, resolution};
 
 use crate::faults::WordFault;
 use crate::tool::Tool;
@@ -100,13 +100,13 @@ impl Flag {
     }
 }
 
-// The options of a tool.
+// The options of a tool, of which b2sum alone has the last.
 fn flags(tool: Tool) -> &'static [Flag]
     ensures { map row_of result.now ≡ table tool }
 {
     match tool {
         Tool::B2sum => &FLAGS,
-        _ => &FLAGS[..12],
+        _ => &FLAGS[..FLAGS.len() - 1],
     }
 }
 
@@ -142,7 +142,7 @@ fn first_named(flags: &[Flag], name: &str) -> Option<Flag>
 }
 
 fn begins(flag: Flag, name: &str) -> bool
-    ensures { result ≡ starts_with eqb (full_name flag) name.now }
+    ensures { result ≡ starts_with ◌==◌ (full_name flag) name.now }
 {
     flag.name().starts_with(name)
 }
@@ -150,7 +150,7 @@ fn begins(flag: Flag, name: &str) -> bool
 // The only option whose full name begins with this text.
 fn only_begun<'a>(flags: &[Flag], name: &'a str) -> Result<Flag, WordFault<'a>>
     ensures { resolution result ≡ the_one name.now
-        (filter (λ full. starts_with eqb full name.now) (map full_name flags.now)) }
+        (filter (λ full. starts_with ◌==◌ full name.now) (map full_name flags.now)) }
 {
     let mut found = None;
     for flag in flags {

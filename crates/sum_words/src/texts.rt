@@ -4,7 +4,7 @@ ghost use Rattle.sum_lines.specs.Sinks.{Writes};
 ghost use Rattle.sum_words.specs.Texts.{help, version, length_help};
 
 use crate::tool::Tool;
-use digest_kinds::{Algos, Kind};
+use digest_kinds::Algos;
 use sum_lines::{Part, Sink, SinkFault, put_parts};
 
 /// Writes the help text. A fault of the sink where a write failed; of what was held and of the text a proper prefix is
@@ -22,7 +22,7 @@ pub fn put_help<O: Sink>(out: &mut O, tool: Tool) -> Result<(), SinkFault>
     match tool.algos() {
         Algos::One(algo) => {
             let print = Part::Bytes(b"Print or check ");
-            let tag = Part::Bytes(Kind::of(algo).tag().as_bytes());
+            let tag = Part::Bytes(algo.tag().as_bytes());
             let check = Part::Bytes(b" checksums.");
             put_parts(
                 out,

@@ -1,5 +1,5 @@
 -- Joins the reading of the arguments to their list.
-use Rattle.std.specs.Prelude.{ℕ, ◌≡◌, ◌<◌, ◌⊎◌, true, false, List, ◌++◌, take, drop, length, slice_get, Option, None, Some, Result, Ok, Err, ⊤}
+use Rattle.std.specs.Prelude.{ℕ, ◌≡◌, ◌<◌, ◌⊎◌, true, false, List, ◌++◌, take, drop, length, slice_get, Option, None, Some, IfSome, Result, Ok, Err, ⊤}
 use Rattle.std.specs.List.{list_all}
 use Rattle.std.specs.Option.{option_and_then}
 use Rattle.std.specs.Str.{is_utf8}
@@ -22,44 +22,39 @@ Fills (Some all) place buffer (Err TooLong) = LongerAt all place (length buffer)
 
 -- the argument at a place, where there is one
 abbrev pub ArgumentIs : Option (List Text) → ℕ → Option Text → Type 0
-ArgumentIs None place o = ⊤
-ArgumentIs (Some all) place o = slice_get all place ≡ o
+ArgumentIs told place o = IfSome told (λ all. slice_get all place ≡ o)
 
 -- the argument at a place, which there is, is longer than so many bytes
 abbrev pub IsLonger : Option (List Text) → ℕ → ℕ → Type 0
-IsLonger None place n = ⊤
-IsLonger (Some all) place n = LongerAt all place n
+IsLonger told place n = IfSome told (λ all. LongerAt all place n)
 
 -- there is an argument at a place
 abbrev pub IsThere : Option (List Text) → ℕ → Type 0
-IsThere None place = ⊤
-IsThere (Some all) place = place < length all
+IsThere told place = IfSome told (λ all. place < length all)
 
 -- the tool by the name that the program was called by
 abbrev pub IsNameOf : Option (List Text) → Option Tool → Type 0
-IsNameOf None tool = ⊤
-IsNameOf (Some all) tool = tool ≡ option_and_then (λ name. tool_called (last_part name)) (slice_get all 0)
+IsNameOf told tool =
+    IfSome told (λ all. tool ≡ option_and_then (λ name. tool_called (last_part name)) (slice_get all 0))
 
 -- the tool by the first word, which is a text
 abbrev pub IsFirstWord : Option (List Text) → Option Tool → Type 0
-IsFirstWord None tool = ⊤
-IsFirstWord (Some all) tool =
-    (tool ≡ option_and_then tool_called (slice_get all 1)) × (list_all is_utf8 (take 1 (drop 1 all)) ≡ true)
+IsFirstWord told tool = IfSome told (λ all.
+    (tool ≡ option_and_then tool_called (slice_get all 1)) × (list_all is_utf8 (take 1 (drop 1 all)) ≡ true))
 
 -- the first word is not a text, or longer than the page
 abbrev pub IsBadFirstWord : Option (List Text) → Type 0
-IsBadFirstWord None = ⊤
-IsBadFirstWord (Some all) = (list_all is_utf8 (take 1 (drop 1 all)) ≡ false) ⊎ LongerAt all 1 PAGE
+IsBadFirstWord told =
+    IfSome told (λ all. (list_all is_utf8 (take 1 (drop 1 all)) ≡ false) ⊎ LongerAt all 1 PAGE)
 
 -- the words from a place on, which are texts
 abbrev pub WordsAre : Option (List Text) → ℕ → List Text → Type 0
-WordsAre None place words = ⊤
-WordsAre (Some all) place words = (words ≡ drop place all) × (list_all is_utf8 words ≡ true)
+WordsAre told place words = IfSome told (λ all. (words ≡ drop place all) × (list_all is_utf8 words ≡ true))
 
 -- the words before a place are those read so far
 abbrev pub WordsUpTo : Option (List Text) → ℕ → ℕ → List Text → Type 0
-WordsUpTo None first place words = ⊤
-WordsUpTo (Some all) first place words = (drop first all ≡ words ++ drop place all) × (list_all is_utf8 words ≡ true)
+WordsUpTo told first place words =
+    IfSome told (λ all. (drop first all ≡ words ++ drop place all) × (list_all is_utf8 words ≡ true))
 
 -- what the program's value calls for
 abbrev pub call_of : {A : Type 0} → CommandLine A → Call

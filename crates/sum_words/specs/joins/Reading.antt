@@ -1,8 +1,7 @@
 -- Joins the reader of the words to the request: what its running values say, and its answers.
-use Rattle.std.specs.Prelude.{ℕ, ◌≡◌, ◌≤◌, ◌^◌, ◌||◌, ◌&&◌, not, true, Bool, List, [], ◌∷◌, Option, None, Some, Result, Ok, Err, codes, filter, find, option_map}
+use Rattle.std.specs.Prelude.{ℕ, ◌≡◌, ◌≤◌, ◌^◌, ◌||◌, true, Bool, List, [], Option, None, Some, Result, Ok, Err, codes, filter, find, option_map}
 use Rattle.std.specs.List.{last_or}
 use Rattle.std.specs.Option.{option_copied}
-use Rattle.std.specs.Str.{bytes_eq, all_ascii_digits}
 use Rattle.std.specs.Str.Parse.{digits_value}
 use Rattle.sum_lines.specs.declared.written.Mode.{Mode}
 use Rattle.sum_lines.specs.declared.written.Mode.TheVariants as modes
@@ -13,7 +12,7 @@ use Rattle.sum_words.specs.declared.reading.Chosen.{Chosen}
 use Rattle.sum_words.specs.Faults.{Fault}
 use Rattle.sum_words.specs.Items.{Text, Item, has, options_of, values_of}
 use Rattle.sum_words.specs.joins.Walk.{fault_of}
-use Rattle.sum_words.specs.Request.{faults}
+use Rattle.sum_words.specs.Request.{mode_names, report_names, is_number, faults}
 
 -- the names of the options that set these
 abbrev pub mode_name : Mode → Text
@@ -27,14 +26,9 @@ report_name reports.Quiet = codes "quiet"
 report_name reports.Warn = codes "warn"
 report_name reports.Status = codes "status"
 
--- an option that sets a mode, or a report, is the last of these; or one of earlier ones, where there is none
-abbrev pub mode_after : Option Text → List Text → Option Text
-mode_after earlier given =
-    last_or earlier (filter (λ name. has name (codes "binary" ∷ codes "text" ∷ codes "tag" ∷ [])) given)
-
-abbrev pub report_after : Option Text → List Text → Option Text
-report_after earlier given =
-    last_or earlier (filter (λ name. has name (codes "status" ∷ codes "warn" ∷ codes "quiet" ∷ [])) given)
+-- the last of these options that is given; or an earlier one, where there is none
+abbrev pub last_after : List Text → Option Text → List Text → Option Text
+last_after names earlier given = last_or earlier (filter (λ name. has name names) given)
 
 -- an option was there earlier, or is in the rest, exactly where it is among all
 abbrev pub IsThere : Text → Bool → List Item → List Item → Type 0
@@ -42,8 +36,10 @@ IsThere name earlier rest all = (has name (options_of rest) || earlier) ≡ has 
 
 -- the running values and the rest, which is still to be read, say what all items say
 pub record IsChosenBy (c : Chosen) (rest all : List Item) : Type 0 where
-  pub mode : mode_after (option_map mode_name c.mode) (options_of rest) ≡ mode_after None (options_of all)
-  pub report : report_after (option_map report_name c.report) (options_of rest) ≡ report_after None (options_of all)
+  pub mode : last_after mode_names (option_map mode_name c.mode) (options_of rest)
+      ≡ last_after mode_names None (options_of all)
+  pub report : last_after report_names (option_map report_name c.report) (options_of rest)
+      ≡ last_after report_names None (options_of all)
   pub length : last_or (option_copied c.length) (values_of rest) ≡ last_or None (values_of all)
   pub binary : IsThere (codes "binary") c.binary rest all
   pub check : IsThere (codes "check") c.check rest all
@@ -62,10 +58,7 @@ abbrev pub result_of : {X : Type 0} → Result X WordFault → Result X Fault
 result_of (Ok x) = Ok x
 result_of (Err f) = Err (fault_of f)
 
--- whether a text is a number, one or more digits, and which, where a u64 holds it
-abbrev pub is_number : Text → Bool
-is_number value = not (bytes_eq value []) && all_ascii_digits value
-
+-- whether a text is a number, and which, where a u64 holds it
 abbrev pub IsNumberOf : Text → Option ℕ → Type 0
 IsNumberOf value None = is_number value ≡ true → 2 ^ 64 ≤ digits_value 10 value
 IsNumberOf value (Some n) = (is_number value ≡ true) × (n ≡ digits_value 10 value)

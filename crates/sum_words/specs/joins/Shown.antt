@@ -1,5 +1,5 @@
--- Joins the wording of a fault to its lines: what its text shows, and what stands around the text.
-use Rattle.std.specs.Prelude.{List, [], ℕ, ◌++◌, codes}
+-- Joins the wording of a fault to what its text shows.
+use Rattle.std.specs.Prelude.{List, [], ℕ}
 use Rattle.std.specs.Char.{encode_utf8}
 use Rattle.sum_lines.specs.Escape.{escape}
 use Rattle.sum_words.specs.declared.faults.Shown.{Shown}
@@ -10,7 +10,3 @@ shown_text Nothing = []
 shown_text (FullName full) = full.now
 shown_text (Typed text) = escape text.now
 shown_text (Letter c) = escape (encode_utf8 c)
-
--- the lines of a tool of this name
-abbrev pub lines_of : List ℕ → List ℕ → List ℕ
-lines_of name text = name ++ codes ": " ++ text ++ codes "\nTry '" ++ name ++ codes " --help' for more information.\n"

@@ -1,10 +1,9 @@
 -- Joins the walker over the words to the list of items: what its values say, and what is still to come where it stands.
-use Rattle.std.specs.Prelude.{◌≡◌, ◌&&◌, not, ℕ, eqb, drop, length, true, Bool, map, List, [], ◌∷◌, ◌++◌, Option, None, Some, Result, Ok, Err, codes}
+use Rattle.std.specs.Prelude.{◌≡◌, ◌==◌, ◌&&◌, not, ℕ, drop, length, true, Bool, map, List, [], ◌∷◌, ◌++◌, Option, None, Some, Result, Ok, Err, codes}
 use Rattle.std.specs.List.{starts_with}
 use Rattle.std.specs.Str.{bytes_eq, chars}
 use Rattle.sum_words.specs.declared.tool.Tool.{Tool}
 use Rattle.sum_words.specs.declared.options.Flag.{Flag}
-use Rattle.sum_words.specs.declared.options.Flag.TheVariants as flags
 use Rattle.sum_words.specs.declared.faults.WordFault.{WordFault}
 use Rattle.sum_words.specs.declared.faults.WordFault.TheVariants as words
 use Rattle.sum_words.specs.Faults.{Fault, unknown_long, ambiguous_long, value_not_allowed, value_missing, unknown_short, length_invalid, length_not_bytes, tag_with_text, zero_with_check, tag_with_check, mode_with_check, without_check, check_needed}
@@ -14,23 +13,7 @@ use Rattle.sum_words.specs.declared.items.State.{State}
 use Rattle.sum_words.specs.declared.items.State.TheVariants as states
 use Rattle.sum_words.specs.declared.items.Step.{Step}
 use Rattle.sum_words.specs.declared.items.Step.TheVariants as steps
-use Rattle.sum_words.specs.Items.{Text, Item, option, length_value, operand, fault, Read, a_word, a_value, no_word, cluster, items_from}
-
--- an option's row in the table
-abbrev pub row_of : Flag → Text × Text
-row_of flags.Binary = (codes "b", codes "binary")
-row_of flags.Check = (codes "c", codes "check")
-row_of flags.Tag = (codes "", codes "tag")
-row_of flags.Text = (codes "t", codes "text")
-row_of flags.Zero = (codes "z", codes "zero")
-row_of flags.IgnoreMissing = (codes "", codes "ignore-missing")
-row_of flags.Quiet = (codes "", codes "quiet")
-row_of flags.Status = (codes "", codes "status")
-row_of flags.Strict = (codes "", codes "strict")
-row_of flags.Warn = (codes "w", codes "warn")
-row_of flags.Help = (codes "", codes "help")
-row_of flags.Version = (codes "", codes "version")
-row_of flags.Length = (codes "l", codes "length")
+use Rattle.sum_words.specs.Items.{Text, row_of, Item, option, length_value, operand, fault, Read, a_word, a_value, no_word, cluster, items_from}
 
 abbrev pub full_name : Flag → Text
 full_name flag = (row_of flag).1
@@ -92,19 +75,15 @@ step_says t (steps.Say x state) words = item_of x ∷ items_to_come t state word
 step_says t (steps.Value is_long) words = items_from t (a_value is_long) words
 step_says t steps.OnlyOperands words = map operand words
 
--- the first member was taken, or there is none
-abbrev pub TakesWord : List Text → Option Text → List Text → Type 0
-TakesWord old None new = (old ≡ []) × (new ≡ [])
-TakesWord old (Some w) new = old ≡ w ∷ new
-
+-- the first member was taken, as this says, or there is none
 abbrev pub TakesFirst : {X Y : Type 0} → (X → Y) → List Y → Option X → List Y → Type 0
 TakesFirst f old None new = (old ≡ []) × (new ≡ [])
 TakesFirst f old (Some x) new = old ≡ f x ∷ new
 
 -- what stands behind a front of a word
 abbrev pub IsBehind : Text → Text → Text → Type 0
-IsBehind front word rest = (starts_with eqb word front ≡ true) × (rest ≡ drop (length front) word)
+IsBehind front word rest = (starts_with ◌==◌ word front ≡ true) × (rest ≡ drop (length front) word)
 
 -- whether a word that doesn't begin with two dashes is a cluster
 abbrev pub is_cluster : Text → Bool
-is_cluster word = starts_with eqb word (codes "-") && not (bytes_eq word (codes "-"))
+is_cluster word = starts_with ◌==◌ word (codes "-") && not (bytes_eq word (codes "-"))

@@ -1,5 +1,4 @@
-use Rattle.std.proofs.Common.{◌∙◌, ap}
-use Rattle.digest_kinds.specs.Kinds.{KindValue, tag}
+use Rattle.std.proofs.Common.{◌∙◌}
 use Rattle.sum_words.proofs.TextLemmas.{tagged_help, untagged_help}
 use Rattle.sum_words.proofs.texts.put_help.Goals as goal
 
@@ -7,7 +6,7 @@ use Rattle.sum_words.proofs.texts.put_help.Goals as goal
 pub returns-in-One : goal.returns-in-One
 returns-in-One g c =
     let name = c.as_bytes.ensures.value ∙ c.name.ensures in
-    let algo = c.as_bytes-in-One.ensures.value ∙ c.tag.ensures ∙ ap (λ (k : KindValue). tag k.algo) c.of.ensures in
+    let algo = c.as_bytes-in-One.ensures.value ∙ c.tag.ensures in
     let length = c.as_bytes-3.ensures.value ∙ c.length_line.ensures in
     let text = tagged_help c.args.tool name c.in-One.ensures algo
     c.as_bytes-2.ensures.value length c.as_bytes-4.ensures.value in

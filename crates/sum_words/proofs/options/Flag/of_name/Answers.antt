@@ -1,4 +1,4 @@
-use Rattle.std.proofs.Common.{find, sym, ◌∙◌, ap, map, eqb}
+use Rattle.std.proofs.Common.{find, sym, ◌∙◌, ◌==◌, ap, map}
 use Rattle.std.specs.List.{filter, starts_with}
 use Rattle.sum_words.specs.Items.{table, the_one, resolved}
 use Rattle.std.specs.Str.{bytes_eq}
@@ -20,5 +20,5 @@ returns-in-None c =
     let name = c.args.name.now in
     let fulls = map (λ row. row.1) (table c.args.tool) in
     let same = names_of c.flags-flags.result.now c.flags-flags.ensures in
-    c.only_begun.ensures ∙ ap (λ ns. the_one name (filter (λ full. starts_with eqb full name) ns)) same
+    c.only_begun.ensures ∙ ap (λ ns. the_one name (filter (λ full. starts_with ◌==◌ full name) ns)) same
     ∙ sym (meant_by_front name fulls (c.in-None.ensures ∙ ap (find (bytes_eq name)) same))
