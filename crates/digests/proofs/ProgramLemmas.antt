@@ -1,5 +1,5 @@
 -- A run and its end, joined: what the whole program does.
-use Rattle.std.proofs.Common.{◌≡◌, ℕ, List, [], map, Option, None, Some, Result, Ok, Err, refl, sym, ◌∙◌, inl, inr, subst, append-nil}
+use Rattle.std.proofs.Common.{ℕ, List, [], map, Option, None, Some, Result, Ok, Err, refl, sym, ◌∙◌, inl, inr, subst, append-nil}
 use Rattle.std.specs.Io.KnownBytes.{Keeps, Appends}
 use Rattle.std.proofs.KnownBytes.{Appends-kept}
 use Rattle.std.proofs.Math.Bool.{or-false}
@@ -79,13 +79,23 @@ ends : {a : Scene} (b : Scene) (status : ℕ) (run : Run) (line : Option Call) (
     (out err : Option Text) (answer : Result ℕ Stop) → RunOf (status_of run.good) run.steps n m a b answer
     → Failed f g answer → Closes (stop_told line) answer b.out out b.err err g h status
     → Ends line run n m f h a (with_outputs b out err) status
-ends b status run line n m f g h out err (Ok answer) ran failed (inl done) =
-    (Ok answer, with_outputs b out err, g, failed, (ran.0, did_kept (events run.steps) out err ran.1 done.1 done.2),
-    (done.0, done.3, refl))
+ends b status run line n m f g h out err (Ok answer) ran failed (inl done) = (
+  Ok answer,
+  with_outputs b out err,
+  g,
+  failed,
+  (ran.0, did_kept (events run.steps) out err ran.1 done.1 done.2),
+  (done.0, done.3, refl),
+)
 ends b status run line n m f g h out err (Ok answer) ran failed (inr (broken, rose, told)) =
-    let all : IsPrefix (events run.steps) (events run.steps) = ([], sym (append-nil (events run.steps))) in
-    (Err Write, b, broken, rw failed at rose, (events run.steps, all, ran.1),
-    (told.is, told.said, told.says, did_line b out err told.said told.out told.err))
+    let all : IsPrefix (events run.steps) (events run.steps) = ([], sym (append-nil (events run.steps))) in (
+      Err Write,
+      b,
+      broken,
+      rw failed at rose,
+      (events run.steps, all, ran.1),
+      (told.is, told.said, told.says, did_line b out err told.said told.out told.err),
+    )
 ends b status run line n m f g h out err (Err stop) ran failed told =
     (Err stop, b, g, failed, ran, (told.is, told.said, told.says, did_line b out err told.said told.out told.err))
 

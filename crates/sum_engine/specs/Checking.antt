@@ -39,6 +39,5 @@ checked_by r name w (Refused f) = at_once (name ∷ []) (fault_line r.profile r.
 checked_by r name w (Given c) =
     joined (at_once (name ∷ []) [] [] true) (checked_content r (clip c) (all_verdicts r w (clip c)))
 
--- the manifest of that name
 abbrev pub checked : CheckSettings → List ℕ → World → List ℕ → Run
 checked settings tool w name = checked_by (rules_of settings tool name) name (after w (name ∷ [])) (reply w name)

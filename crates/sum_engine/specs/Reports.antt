@@ -83,7 +83,6 @@ abbrev pub counts : Counts → List Judged → Counts
 counts c [] = c
 counts c (j ∷ js) = counts (counted c j.verdict) js
 
--- how many lines are entries
 abbrev pub entries : Counts → ℕ
 entries c = c.right + c.wrong + c.missing + c.unread
 

@@ -15,8 +15,7 @@ use Rattle.sum_engine.specs.Profiles.{lines_by}
 use Rattle.sum_lines.specs.Says.{Said, Nothing, Improper, Spells, says}
 use Rattle.sum_engine.specs.Worlds.{World, is_dash, reply, after, read}
 
--- what a manifest is checked by: the profile, the settings, the tool's name, the name under which the manifest is
--- shown, and whether it came from standard input
+-- what a manifest is checked by, the name under which it is shown, and whether it came from standard input
 pub record Rules : Type 0 where
   pub profile : Profile
   pub settings : CheckSettings

@@ -8,7 +8,7 @@ use Rattle.sum_sources.specs.declared.fault.Fault.TheVariants.{Other}
 use Rattle.sum_sources.specs.declared.fault.Ending.TheVariants.{Broken}
 use Rattle.digest_kinds.specs.Digests.{digest}
 use Rattle.digest_kinds.specs.Kinds.{KindValue}
-use Rattle.sum_sources.specs.Contents.{Content, WhereTold, clip, limit, ReadGives, Hashes}
+use Rattle.sum_sources.specs.Contents.{Content, WhereTold, clip, limit, ReadsFrom, Hashes}
 
 -- these bytes came between the two, where they are told
 abbrev pub Gave : Option Content → Option Content → List ℕ → Type 0
@@ -31,7 +31,7 @@ clip-long c long = cond-false (nat_lt (length c.bytes) limit) _ _ (le-ltb _ _ (r
 -- an input gave the bytes m, and then a read answered r and put what it read into the buffer
 pub record ReadAfter (old mid new : Option Content) (m buf : List ℕ) (r : Result ℕ Fault) : Type 0 where
   pub gave : Gave old mid m
-  pub read : ReadGives mid new r buf
+  pub read : WhereTold mid new (λ c d. ReadsFrom c d r buf)
 
 -- the end was found after these bytes
 pub Hashes-whole : {old mid new : Option Content} {m buf : List ℕ} {d : List ℕ} (kind : KindValue)

@@ -11,7 +11,7 @@ use Rattle.sum_sources.specs.declared.fault.Fault.{Fault}
 use Rattle.sum_sources.specs.declared.fault.Fault.TheVariants.{Other}
 use Rattle.sum_sources.specs.declared.fault.Ending.{Ending}
 use Rattle.sum_sources.specs.declared.fault.Ending.TheVariants.{Broken}
-use Rattle.sum_sources.specs.Contents.{Content, limit, WhereTold, ReadsFrom, ReadGives}
+use Rattle.sum_sources.specs.Contents.{Content, limit, WhereTold, ReadsFrom}
 use Rattle.sum_sources.specs.Standard.{empty_content}
 use Rattle.sum_sources.specs.LineReaders.{clip_to, with_front}
 use Rattle.sum_sources.specs.declared.lines.State.{State}
@@ -69,7 +69,7 @@ reading (states.Stopped e) none = cc
 -- a read into the empty buffer of a reader that has taken t bytes
 pub record Refill (x y : Option Content) (none part : List ℕ) (r : Result ℕ Fault) (t : ℕ) : Type 0 where
   pub empty : none ≡ []
-  pub gives : ReadGives x y r part
+  pub gives : WhereTold x y (λ c d. ReadsFrom c d r part)
   pub few : t < 2 ^ 61
 
 -- a read leaves what is still to come as it was

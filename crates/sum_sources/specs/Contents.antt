@@ -34,9 +34,6 @@ ReadsFrom c d (Ok n) buf = (c.bytes ≡ take n buf ++ d.bytes) × (d.ending ≡ 
     × (n ≡ 0 → 0 < length buf → (c.bytes ≡ []) × (c.ending ≡ Whole))
 ReadsFrom c d (Err f) buf = (c.bytes ≡ []) × (c.ending ≡ Broken f) × (d ≡ c)
 
--- what a read does, where an input tells its content
-abbrev pub ReadGives : Option Content → Option Content → Result ℕ Fault → List ℕ → Type 0
-ReadGives old new r buf = WhereTold old new (λ c d. ReadsFrom c d r buf)
 
 -- the digest of a content that ends whole, or the fault by which it ends
 abbrev pub Hashes : KindValue → Content → Result (List ℕ) Fault → Type 0

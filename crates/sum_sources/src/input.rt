@@ -1,6 +1,6 @@
 //! What can be read.
 ghost use Rattle.std.specs.Prelude.{ℕ, ◌≤◌, length, Option, None, IfOk};
-ghost use Rattle.sum_sources.specs.Contents.{Content, ReadGives};
+ghost use Rattle.sum_sources.specs.Contents.{Content, WhereTold, ReadsFrom};
 
 use crate::Fault;
 
@@ -17,5 +17,5 @@ pub trait Input {
     /// a fault only where no byte is to come and the input ends by that fault.
     fn read(&mut self, buf: &mut [u8]) -> Result<usize, Fault>
         ensures count { IfOk result (λ n. n ≤ length buf.new) }
-        ensures bytes { ReadGives (content self.old) (content self.new) result buf.new };
+        ensures bytes { WhereTold (content self.old) (content self.new) (λ c d. ReadsFrom c d result buf.new) };
 }

@@ -3,7 +3,7 @@ ghost use Rattle.std.specs.Prelude.{◌≡◌, ◌≤◌, ◌<◌, ◌+◌, [], 
 ghost use Rattle.std.specs.Prelude.{None, IfOk, IfSome, IsErr, OnOk, if◌then◌else◌};
 ghost use Rattle.std.specs.Str.Lines.{strip_carriage_return};
 ghost use Rattle.digest_kinds.specs.Limits.{LIMIT};
-ghost use Rattle.sum_sources.specs.Contents.{ReadGives};
+ghost use Rattle.sum_sources.specs.Contents.{WhereTold, ReadsFrom};
 
 use crate::{Fault, Input, PIECE};
 use digest_kinds::LIMIT;
@@ -67,7 +67,8 @@ impl<I> Model for LineReader<I> {
 fn read_front<I: Input>(input: &mut I, buf: &mut [u8], size: usize) -> Result<usize, Fault>
     requires { size ≤ length buf.old }
     ensures count { IfOk result (λ n. n ≤ size) }
-    ensures bytes { ReadGives (I.content input.old) (I.content input.new) result (take size buf.new) }
+    ensures bytes { WhereTold (I.content input.old) (I.content input.new)
+        (λ c d. ReadsFrom c d result (take size buf.new)) }
 {
     input.read(&mut buf[..size])
 }
@@ -83,7 +84,7 @@ fn drop_return<A: Allocator>(line: &mut Vec<u8, A>)
 
 impl<I: Input> LineReader<I> {
     ghost use Rattle.std.specs.Option.{option_map};
-    ghost use Rattle.sum_sources.specs.Contents.{WhereTold, clip};
+    ghost use Rattle.sum_sources.specs.Contents.{clip};
     ghost use Rattle.sum_sources.specs.ManifestLines.{LineOf, lines_after};
     ghost use Rattle.sum_sources.specs.LineReaders.{coming, used, Bounded, Settles};
     ghost use Rattle.sum_sources.specs.joins.LineReading.{FillOf, TakesPiece, PieceOf};

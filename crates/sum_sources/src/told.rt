@@ -1,6 +1,6 @@
 //! An input in memory.
 ghost use Rattle.std.specs.Prelude.{◌≡◌, ◌≤◌, length, max, IfOk};
-ghost use Rattle.sum_sources.specs.Contents.{ReadGives};
+ghost use Rattle.sum_sources.specs.Contents.{ReadsFrom};
 
 use crate::{Ending, Fault, Input};
 use std::marker::Model;
@@ -51,7 +51,7 @@ impl<'a> Input for Told<'a> {
 
     fn read(&mut self, buf: &mut [u8]) -> Result<usize, Fault>
         ensures count { IfOk result (λ n. n ≤ length buf.new) }
-        ensures bytes { ReadGives (Some self.old.content) (Some self.new.content) result buf.new }
+        ensures bytes { ReadsFrom self.old.content self.new.content result buf.new }
         ensures few { IfOk result (λ n. n ≤ self.old.piece) }
         ensures piece { self.new.piece ≡ self.old.piece }
     {
