@@ -43,7 +43,7 @@ class Library(Case):
             root = self.read(self.source(f"{name}/src/lib")).decode()
             wanted = {word for use in re.findall(r"pub use \w+::([^;]*);", root) for word in re.findall(r"\w+", use)}
             wanted |= set(re.findall(r"pub const (\w+)", root))
-            found = set(re.findall(r"(?m)^- `(?:fn|struct|enum|trait|const|use \w+::) ?(\w+)", part))
+            found = set(re.findall(r"(?m)^- `(?:fn|struct|enum|trait|const|type|use \w+::) ?(\w+)", part))
             found.discard("laws")
             self.assertEqual(found, wanted, name)
             self.assertIn(f"| `{name}` |", page)

@@ -9,7 +9,7 @@ import sys
 TOP = os.path.dirname(os.path.dirname(os.path.abspath(__file__)))
 PAGE = os.path.join(TOP, "docs", "LIBRARY.md")
 BEGIN = "<!-- From here on tools/library.py writes. -->\n"
-ITEM = re.compile(r"(    )?(?:pub (?:const )?)?(fn|struct|enum|trait|const) (\w+)")
+ITEM = re.compile(r"(    )?(?:pub (?:const )?)?(fn|struct|enum|trait|const|(?<=pub )type) (\w+)")
 OWNER = re.compile(r"(?:impl(?:<.*?>)? (?P<type>\w+)(?:<.*>)? \{|pub trait (?P<trait>\w+).*\{)$")
 CLAUSE = re.compile(r"\s*(?:requires|ensures|where|ghost)\b|\s*\{")
 IMPL = re.compile(r"(?m)^impl(?:<.*?>)? (?:\w+::)*(\w+(?:<\w+>)?) for (\w+)")
@@ -143,7 +143,8 @@ def things_of(crate):
         text = "\n".join(lines_of(source(crate, module))) + "\n"
         for item in every.get(module, []):
             if not item.owner and (names is None or item.name in names):
-                yield path, item, more_of(text, item, has), [it for it in members if it.owner == item.name]
+                owners = {item.name, *re.findall(r"^type \w+ = (\w+)", item.signature)}
+                yield path, item, more_of(text, item, has), [it for it in members if it.owner in owners]
         for other, name in re.findall(r"(?m)^pub use (\w+)::(\w+);", text):
             if name in (names or []):
                 yield "", Item(None, "use", name, f"use {other}::{name}", f"The one of `{other}`."), [], []

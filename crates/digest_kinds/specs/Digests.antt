@@ -19,6 +19,5 @@ digest_by Sha384 n m = sha384 m
 digest_by Sha512 n m = sha512 m
 digest_by Blake2b n m = blake2b n m
 
--- by its kind
 abbrev pub digest : KindValue → List ℕ → List ℕ
 digest k m = digest_by k.algo k.len m

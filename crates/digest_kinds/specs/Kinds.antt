@@ -37,6 +37,5 @@ pub record KindValue : Type 0 where
 abbrev pub full_kind : Algo → KindValue
 full_kind a = record { algo = a; len = full a }
 
--- BLAKE2b with a digest of n bytes
 abbrev pub blake2b_kind : ℕ → KindValue
 blake2b_kind n = record { algo = Blake2b; len = n }

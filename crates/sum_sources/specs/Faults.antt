@@ -3,7 +3,6 @@ use Rattle.std.specs.Prelude.{ℕ, List, codes}
 use Rattle.sum_sources.specs.declared.fault.Fault.{Fault}
 use Rattle.sum_sources.specs.declared.fault.Fault.TheVariants.{NotFound, Denied, Other}
 
--- a fault in diagnostics
 abbrev pub fault_text : Fault → List ℕ
 fault_text NotFound = codes "No such file or directory"
 fault_text Denied = codes "Permission denied"

@@ -6,7 +6,6 @@ use Rattle.sum_sources.specs.declared.fault.Fault.TheVariants.{Other}
 use Rattle.sum_sources.specs.declared.fault.Ending.TheVariants.{Whole, Broken}
 use Rattle.sum_sources.specs.Contents.{Content}
 
--- the empty content
 abbrev pub empty_content : Content
 empty_content = record { bytes = []; ending = Whole }
 

@@ -7,7 +7,8 @@ use Rattle.digest_kinds.specs.Kinds.{tag}
 use Rattle.sum_words.specs.declared.tool.Tool.{Tool}
 use Rattle.sum_words.specs.Tools.{name_of, algos_of}
 use Rattle.sum_words.specs.Items.{Text}
-use Rattle.sum_words.specs.Texts.{lines_of, version, purpose, length_help}
+use Rattle.sum_words.specs.joins.Shown.{lines_of}
+use Rattle.sum_words.specs.Texts.{version, purpose, length_help}
 
 -- the two lines of a fault
 pub fault_parts : {name front back n f b : Text} (shown : Text) → n ≡ name → f ≡ front → b ≡ back

@@ -4,8 +4,8 @@ ghost use Rattle.std.specs.Prelude.{◌≡◌, ◌++◌, codes};
 ghost use Rattle.sum_lines.specs.Sinks.{Writes};
 ghost use Rattle.sum_lines.specs.joins.PartTexts.{part_text};
 ghost use Rattle.sum_words.specs.joins.Walk.{fault_of};
-ghost use Rattle.sum_words.specs.joins.Shown.{shown_text};
-ghost use Rattle.sum_words.specs.Texts.{wording, lines_of, fault_lines, stop_text, stop_line};
+ghost use Rattle.sum_words.specs.joins.Shown.{lines_of, shown_text};
+ghost use Rattle.sum_words.specs.Texts.{wording, fault_lines, stop_text, stop_line};
 
 use crate::tool::Tool;
 use sum_engine::Stop;

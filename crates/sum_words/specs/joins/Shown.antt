@@ -1,9 +1,14 @@
 -- Joins the wording of a fault to what its text shows.
-use Rattle.std.specs.Prelude.{List, [], ℕ}
+use Rattle.std.specs.Prelude.{List, [], ◌++◌, ℕ, codes}
 use Rattle.std.specs.Char.{encode_utf8}
 use Rattle.sum_lines.specs.Escape.{escape}
+use Rattle.sum_words.specs.Items.{Text}
 use Rattle.sum_words.specs.declared.faults.Shown.{Shown}
 use Rattle.sum_words.specs.declared.faults.Shown.TheVariants.{Nothing, FullName, Typed, Letter}
+
+-- the two lines of a tool of this name
+abbrev pub lines_of : Text → Text → Text
+lines_of name text = name ++ codes ": " ++ text ++ codes "\nTry '" ++ name ++ codes " --help' for more information.\n"
 
 abbrev pub shown_text : Shown → List ℕ
 shown_text Nothing = []
