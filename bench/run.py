@@ -217,14 +217,24 @@ def files(bench):
 
 
 def reading(bench):
-    """Lines that are read for nothing: as many digits as a digest has, and no name behind them."""
-    manifest = os.path.join(bench.folder, "digits")
+    """Lines that are read for nothing: without an entry, of a file that isn't there, and with the longest of names."""
+    manifest = os.path.join(bench.folder, "reading")
     chance = random.Random(3)
-    with open(manifest, "w") as file:
-        for _ in range(200000):
-            file.write(chance.randbytes(32).hex() + "..........\n")
-    found = bench.contenders("sha256sum", "-c", "--status", manifest, status=1)
-    bench.add("`sha256sum -c --status`, 200,000 bad lines", found, 4 * bench.rounds)
+    digits = [chance.randbytes(32).hex() for _ in range(200000)]
+    absent = "".join(f"{it}  absent/{place}\n" for place, it in enumerate(digits))
+    escaped = f"\\{digits[0]}  " + "\\\\" * (32 * MIB) + "\n"
+    for lines, words, rounds, text in (
+        ("4,000,000 empty lines", [], 2, "\n" * 4000000),
+        ("2,000,000 comments of 32 bytes", [], 2, "# no file's line, thirty-one....\n" * 2000000),
+        ("200,000 lines of absent files", ["--ignore-missing"], 2, absent),
+        ("one escaped name of 32 MiB", [], 1, escaped),
+        ("200,000 bad lines", [], 4, "".join(it + "..........\n" for it in digits)),
+    ):
+        with open(manifest, "w") as file:
+            file.write(text)
+        words = ["-c", *words, "--status"]
+        found = bench.contenders("sha256sum", *words, manifest, status=1)
+        bench.add(f"`sha256sum {' '.join(words)}`, {lines}", found, rounds * bench.rounds)
     size = os.path.getsize(manifest)
     rows = [[name, f"{it.least / size * 1e9:.2f}"] for name, it in bench.rows[-1][1].items()]
     table(["bad lines of 75 bytes", "ns a byte"], rows)
