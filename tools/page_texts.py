@@ -145,13 +145,16 @@ SECURITY = {
     "any": "Under this tool a manifest chooses the algorithm line by line. MD5 and SHA-1 are broken for forgery: "
            "anyone can make two files with the same checksum. Where somebody might cheat, look at the lines' tags.",
     "manifest": "A checksum proves no more than the manifest: one that comes from the same place as the files shows "
-                "damage, and no forgery. The tools are not for secrets: the time that a run takes may depend on what "
+                "damage, and no forgery. A listed name may hold control bytes, and a terminal obeys some. But for newline "
+                "and carriage return they are written as they are: look at a manifest that isn't trusted with "
+                "`cat -v` before you check it, or write both outputs of the check to a file, and look at that so. "
+                "The tools are not for secrets: the time that a run takes may depend on what "
                 "is read, and memory isn't wiped.",
 }
 
 DIFFERENCES = (
     "Names in messages and reports stand as they do in lines, with backslash, newline and carriage return escaped; "
-    "GNU's tools quote some names there as a shell does.",
+    "GNU's tools quote some names there as a shell does, those with control bytes among them.",
     "A directory is an `Input/output error` in place of `Is a directory`.",
     "A reader that goes away, as `head`(1) does, is a write error with status 1; GNU's tools are ended by a signal.",
     "The language that is set and `POSIXLY_CORRECT` have no effect.",
