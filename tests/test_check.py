@@ -213,6 +213,13 @@ class Hostile(Case):
             with self.subTest(size=size):
                 self.expect("md5sum -c --strict", stdin=["#" * size, f"{M}  a", "", f"{M}  a"], out=["a: OK"] * 2)
 
+    def test_names_with_control_bytes(self):
+        """They are written as they are, as the manual says."""
+        self.write(b"\x1b[31m", "abc")
+        self.write("h", M.encode() + b"  \x1b[31m\n" + M.encode() + b"  \x07\x9b\n")
+        self.expect("md5sum -c h", out=b"\x1b[31m: OK\n\x07\x9b: FAILED open or read\n",
+                    err=b"md5sum: \x07\x9b: Input/output error\n" + as_bytes([unread(1)]), status=1)
+
     def test_names_that_are_no_texts(self):
         self.write(b"\xff", "abc")
         self.write("h", M.encode() + b"  \xff\n" + f"{M}  a\n".encode())
