@@ -34,7 +34,6 @@ ReadsFrom c d (Ok n) buf = (c.bytes ≡ take n buf ++ d.bytes) × (d.ending ≡ 
     × (n ≡ 0 → 0 < length buf → (c.bytes ≡ []) × (c.ending ≡ Whole))
 ReadsFrom c d (Err f) buf = (c.bytes ≡ []) × (c.ending ≡ Broken f) × (d ≡ c)
 
-
 -- the digest of a content that ends whole, or the fault by which it ends
 abbrev pub Hashes : KindValue → Content → Result (List ℕ) Fault → Type 0
 Hashes kind c (Ok d) = (c.ending ≡ Whole) × (d ≡ digest kind c.bytes)
