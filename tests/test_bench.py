@@ -45,4 +45,4 @@ class Words(Case):
         ran = self.bench("--no-bare", "--rounds", "1", "--only", "reading", "--program", other, "--program",
                          harness.PROGRAM)
         self.assertEqual((ran.status, ran.err), (0, b""))
-        self.assertRegex(ran.out.decode(), rf"\| times as fast as GNU \| {other} \| {harness.PROGRAM} \|")
+        self.assertIn(f"| times as fast as GNU | {other} | {harness.PROGRAM} |", ran.out.decode())

@@ -224,6 +224,12 @@ class Many(Case):
     def test_fifty_thousand_operands(self):
         self.expect(["md5sum", *["a"] * 50000], out=[f"{M}  a"] * 50000)
 
+    def test_as_many_operands_as_the_system_passes_on(self):
+        """Linux passes on a quarter of the stack's limit, a word's bytes, its end and a pointer each."""
+        count = (os.sysconf("SC_ARG_MAX") - (1 << 16)) // 10
+        count = min(count, 200000) - sum(len(name) + len(value) + 10 for name, value in os.environ.items()) // 10
+        self.expect(["md5sum", *["a"] * count], out=[f"{M}  a"] * count)
+
     def test_fifty_thousand_options(self):
         self.expect(["md5sum", *["-b"] * 50000, "a"], out=[f"{M} *a"])
 
