@@ -19,11 +19,12 @@ import tempfile
 HERE = os.path.dirname(os.path.abspath(__file__))
 TOP = os.path.dirname(HERE)
 sys.dont_write_bytecode = True
-sys.path.insert(0, HERE)
+sys.path[:0] = [HERE, os.path.join(TOP, "tools")]
 
+import page_texts  # noqa: E402  (it stands in tools)
 from measure import Contender, count_calls, measure, peak_memory  # noqa: E402  (it stands beside this file)
 
-TOOLS = ("md5sum", "sha1sum", "sha224sum", "sha256sum", "sha384sum", "sha512sum", "b2sum")
+TOOLS = [tool for tool in page_texts.TOOLS if tool != "anysum"]
 CHECKED = ("md5sum", "sha256sum", "b2sum")
 MIB = 1 << 20
 GNU, BARE, OPENSSL = "GNU", "kit's loop", "openssl"

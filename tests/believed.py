@@ -28,7 +28,7 @@ PROMISES = os.path.join(TOP, "docs", "PROMISES.md")
 # What is believed besides the laws, in the order of the page: a function's crate and name, and what the page calls it.
 CLAIMS = [("digests", "run", "The headline"), ("digests", "command", "The program")]
 HASHES = """\
-Where a *hash* changed, there is something new to believe: it is the front of the SHA-256 of the text of a row's
+Where a *hash* changed, there is something new to believe: it is a prefix of the SHA-256 of the text of a row's
 definitions, without comments and with white space folded.""".replace("\n", " ")
 MARKS = "<!-- made by tests/believed.py: what stands below -->\n", "\n<!-- and above this line -->"
 

@@ -10,19 +10,11 @@ import os
 import re
 from dataclasses import dataclass
 
-from harness import Ran
+from harness import TOOLS, Ran
 
 # Tool: the tag of its algorithm and the length of its full digest. `anysum` has none of its own.
-ALGORITHMS = {
-    "md5sum": ("MD5", 16),
-    "sha1sum": ("SHA1", 20),
-    "sha224sum": ("SHA224", 28),
-    "sha256sum": ("SHA256", 32),
-    "sha384sum": ("SHA384", 48),
-    "sha512sum": ("SHA512", 64),
-    "b2sum": ("BLAKE2b", 64),
-    "anysum": (None, 0),
-}
+ALGORITHMS = {tool: (tag, len(digits) // 2) for tool, (tag, digits, _) in TOOLS.items()}
+ALGORITHMS["anysum"] = (None, 0)
 SIZES = {tag: size for tag, size in ALGORITHMS.values() if tag}
 
 NOT_FOUND = b"No such file or directory"

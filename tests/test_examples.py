@@ -1,4 +1,4 @@
-"""The small programs in crates/example_*: short, without proof files, and no part of the program."""
+"""The small programs in crates/example_*: short, with next to no proof files, and no part of the program."""
 
 import os
 
@@ -6,7 +6,8 @@ from harness import TOP, Case
 from repository import Repository
 from test_build import BOTH
 
-FILES = {"example_hash": [], "example_list": [], "example_check": ["data"]}
+FILES = {"example_hash": ["stdin"], "example_list": ["stdin"], "example_check": ["data", "stdin"],
+         "example_same": ["args", "data", "proofs"]}
 
 
 class Examples(Case):
@@ -19,9 +20,15 @@ class Examples(Case):
         self.assertEqual(sorted(found), sorted(FILES))
         for name, more in FILES.items():
             folder = os.path.join(TOP, "crates", name)
-            self.assertEqual(sorted(set(os.listdir(folder)) - {"out"}), sorted(["src", "stdin", "stdout", *more]))
+            self.assertEqual(sorted(set(os.listdir(folder)) - {"out"}), sorted(["src", "stdout", *more]))
             self.assertEqual(os.listdir(os.path.join(folder, "src")), ["main.rt"])
-            self.assertLess(self.read(os.path.join(folder, "src", "main.rt")).count(b"\n"), 45)
+            self.assertLess(self.read(os.path.join(folder, "src", "main.rt")).count(b"\n"), 60)
+
+    def test_the_contract_that_the_page_shows(self):
+        source = self.read(os.path.join(TOP, "crates", "example_same", "src", "main.rt")).decode()
+        contract = source[source.index("pub fn same"):source.index("{\n    let left_digest")]
+        shown = "".join(f"    {line}\n" for line in contract.splitlines())
+        self.assertIn("\n\n" + shown + "\n", self.read(os.path.join(TOP, "docs", "LIBRARY.md")).decode())
 
 
 class Building(Repository):

@@ -10,8 +10,8 @@ use Rattle.std.specs.Simd.{first_chunks}
 use Rattle.byteorder.specs.Endian.{little_bytes}
 use Rattle.blake2b_core.specs.Compression.{compress}
 use Rattle.blake2b_core.specs.Digest.{blocks, blake2b}
-use Rattle.blake2b_core.specs.joins.Chaining.{initial, hash_after}
-use Rattle.blake2b_core.specs.joins.Holding.{AreBlocksFrom}
+use Rattle.blake2b_core.specs.refinement.Chaining.{initial, hash_after}
+use Rattle.blake2b_core.specs.refinement.Holding.{AreBlocksFrom}
 use Rattle.blake2b_core.proofs.CompressionLemmas.{length-first_chunks, get_or-first_chunks}
 
 -- how many blocks a message of n bytes fills; the empty message fills one

@@ -4,7 +4,7 @@ use Rattle.std.proofs.Common.{refl, ap, arith}
 use Rattle.std.specs.Int.{rotate_right}
 use Rattle.std.specs.Simd.Lanes.{zip2}
 use Rattle.blake2b_core.specs.Compression.{◌!◌, ◌⊻◌, ◌⋙◌, mix}
-use Rattle.blake2b_core.specs.joins.Columns.{columns, diagonals, row, turned, word, words}
+use Rattle.blake2b_core.specs.refinement.Columns.{columns, diagonals, row, turned, word, words}
 
 -- what holds of each of the four lanes
 below_four : (P : ℕ → Type 0) → P 0 → P 1 → P 2 → P 3 → (j : ℕ) → j < 4 → P j

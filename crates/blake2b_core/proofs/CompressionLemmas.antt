@@ -13,7 +13,7 @@ use lib.Dec.{T}
 use Rattle.byteorder.specs.Endian.{little_number}
 use Rattle.byteorder.specs.Numbers.{little_from-append}
 use Rattle.blake2b_core.specs.Compression.{◌!◌, ◌⊻◌, sigma, iv, start}
-use Rattle.blake2b_core.specs.joins.Columns.{block_words, scheduled}
+use Rattle.blake2b_core.specs.refinement.Columns.{block_words, scheduled}
 
 -- row k of SIGMA
 abbrev pub sigma_row : ℕ → List ℕ

@@ -1,4 +1,4 @@
 pub mod Compression
 pub mod Digest
 pub mod Laws
-pub mod joins
+pub mod refinement

@@ -2,7 +2,7 @@
 //! that each is a lane of four vectors, the rows of the working vector.
 ghost use Rattle.std.specs.Prelude.{◌≡◌, ℕ, ◌<◌};
 ghost use Rattle.blake2b_core.specs.Compression.{◌!◌, ◌⊞◌, ◌⊻◌, ◌⋙◌};
-ghost use Rattle.blake2b_core.specs.joins.Columns.{columns, diagonals, turned, words};
+ghost use Rattle.blake2b_core.specs.refinement.Columns.{columns, diagonals, turned, words};
 
 use std::simd::u64x4;
 

@@ -27,7 +27,7 @@ pub struct Blake2b {
 
 impl Blake2b {
     ghost use Rattle.blake2b_core.specs.Digest.{blake2b};
-    ghost use Rattle.blake2b_core.specs.joins.Holding.{Holds, HoldsSoFar, digest_len, taken};
+    ghost use Rattle.blake2b_core.specs.refinement.Holding.{Holds, HoldsSoFar, digest_len, taken};
 
     /// The state of the empty message, for a digest of `len` bytes. `None` exactly where `len` is 0 or
     /// over 64.

@@ -3,8 +3,8 @@ ghost use Rattle.std.specs.Prelude.{◌≡◌, ◌↔◌, ◌⊎◌, ℕ, ◌+�
 ghost use Rattle.std.specs.Prelude.{replicate, IsNone, IfSome};
 ghost use Rattle.std.specs.Simd.{first_chunks};
 ghost use Rattle.blake2b_core.specs.Digest.{blake2b, blocks};
-ghost use Rattle.blake2b_core.specs.joins.Chaining.{hash_after, initial};
-ghost use Rattle.blake2b_core.specs.joins.Holding.{AreBlocksFrom};
+ghost use Rattle.blake2b_core.specs.refinement.Chaining.{hash_after, initial};
+ghost use Rattle.blake2b_core.specs.refinement.Holding.{AreBlocksFrom};
 
 use crate::compression::{IV, advance, compress};
 use crate::output::Output;

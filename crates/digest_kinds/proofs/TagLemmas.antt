@@ -1,31 +1,22 @@
 -- Searching the algorithms for one whose tag begins the bytes.
-use Rattle.std.proofs.Common.{◌≡◌, refl, sym, ℕ, Bool, true, false, cond, List, [], ◌∷◌, ◌++◌, nat_eq, drop, length}
-use Rattle.std.proofs.Common.{Some, IfSome}
+use Rattle.std.proofs.Common.{◌≡◌, refl, sym, ℕ, Bool, true, false, cond, List, [], ◌∷◌, ◌++◌, ◌==◌, drop, length}
+use Rattle.std.proofs.Common.{Option, None, Some, IfSome}
 use Rattle.std.specs.List.{starts_with, find}
 use Rattle.std.proofs.lemmas.Slice.Eq.{starts_is}
 use Rattle.std.proofs.lemmas.Bool.Decides.{Decides-eqb}
-use Rattle.digest_kinds.specs.Kinds.{tag}
+use Rattle.digest_kinds.specs.Kinds.{all_algos, tag}
 use Rattle.digest_kinds.specs.Tags.{BeginsWithTag}
 use Rattle.digest_kinds.specs.declared.algo.Algo.{Algo}
-use Rattle.digest_kinds.specs.declared.algo.Algo.TheVariants.{Md5, Sha1, Sha224, Sha256, Sha384, Sha512, Blake2b}
-
--- every algorithm
-abbrev pub all : List Algo
-all = Md5 ∷ Sha1 ∷ Sha224 ∷ Sha256 ∷ Sha384 ∷ Sha512 ∷ Blake2b ∷ []
+use Rattle.digest_kinds.specs.declared.algo.Algo.TheVariants.{Md5}
 
 -- whether the algorithm's tag is a prefix of the bytes
 abbrev pub begins : List ℕ → Algo → Bool
-begins bytes a = starts_with nat_eq bytes (tag a)
+begins bytes a = starts_with ◌==◌ bytes (tag a)
 
 -- of bytes that begin with a tag, the search finds its algorithm: no earlier one has a tag that begins them
-pub find-begins : (a : Algo) (rest : List ℕ) → find (begins (tag a ++ rest)) all ≡ Some a
+pub find-begins : (a : Algo) (rest : List ℕ) → find (begins (tag a ++ rest)) all_algos ≡ Some a
 find-begins Md5 rest = refl
-find-begins Sha1 rest = refl
-find-begins Sha224 rest = refl
-find-begins Sha256 rest = refl
-find-begins Sha384 rest = refl
-find-begins Sha512 rest = refl
-find-begins Blake2b rest = refl
+find-begins a rest = refl
 
 -- a tag that the test finds in front is in front
 BeginsWithTag-begins : (bytes : List ℕ) (a : Algo) → begins bytes a ≡ true → BeginsWithTag bytes a
@@ -42,3 +33,13 @@ IfSome-find-begins bytes (a ∷ algos) =
       | true ↦ λ here. BeginsWithTag-begins bytes a here
       | false ↦ λ _. IfSome-find-begins bytes algos
     ] refl
+
+-- so an algorithm that has its tag in front, where any has, is the one that the search finds
+pub search-is : (bytes : List ℕ) (r : Option Algo) → IfSome r (λ a. BeginsWithTag bytes a)
+    → ((a : Algo) → BeginsWithTag bytes a → r ≡ Some a) → r ≡ find (begins bytes) all_algos
+search-is bytes (Some a) tagged found = rw tagged.1 (sym (find-begins a tagged.0))
+search-is bytes None tagged found = go (find (begins bytes) all_algos) (IfSome-find-begins bytes all_algos)
+  where
+    go : (o : Option Algo) → IfSome o (λ a. BeginsWithTag bytes a) → None ≡ o
+    go None begun = refl
+    go (Some a) begun = let bad = found a begun in cc

@@ -4,4 +4,4 @@ pub mod Kinds
 pub mod Lengths
 pub mod Limits
 pub mod Tags
-pub mod joins
+pub mod refinement

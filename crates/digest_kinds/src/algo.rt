@@ -1,7 +1,7 @@
 //! The algorithms and their tags.
 
 ghost use Rattle.std.specs.Prelude.{◌≡◌, Some, IfSome};
-ghost use Rattle.digest_kinds.specs.Kinds.{tag};
+ghost use Rattle.digest_kinds.specs.Kinds.{full_len, tag};
 ghost use Rattle.digest_kinds.specs.Tags.{BeginsWithTag};
 
 /// A digest algorithm.
@@ -67,6 +67,20 @@ impl Algo {
             Algo::Sha384 => "SHA384",
             Algo::Sha512 => "SHA512",
             Algo::Blake2b => "BLAKE2b",
+        }
+    }
+
+    /// The number of bytes of the full digest.
+    pub(crate) fn full_len(self) -> usize
+        ensures { result ≡ full_len self }
+    {
+        match self {
+            Algo::Md5 => 16,
+            Algo::Sha1 => 20,
+            Algo::Sha224 => 28,
+            Algo::Sha256 => 32,
+            Algo::Sha384 => 48,
+            Algo::Sha512 | Algo::Blake2b => 64,
         }
     }
 }

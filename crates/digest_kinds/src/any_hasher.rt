@@ -50,7 +50,7 @@ impl AnyHasher {
 }
 
 impl Hasher for AnyHasher {
-    ghost use Rattle.digest_kinds.specs.joins.AnyHasherState.{HasherHolds, hasher_kind, taken_of, taken_of-length};
+    ghost use Rattle.digest_kinds.specs.refinement.AnyHasherState.{HasherHolds, hasher_kind, taken_of, taken_of-length};
 
     ghost holds = { HasherHolds };
 

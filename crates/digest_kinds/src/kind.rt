@@ -43,15 +43,10 @@ impl Kind {
     pub fn of(algo: Algo) -> Kind
         ensures { result ≡ full_kind algo }
     {
-        let len = match algo {
-            Algo::Md5 => 16,
-            Algo::Sha1 => 20,
-            Algo::Sha224 => 28,
-            Algo::Sha256 => 32,
-            Algo::Sha384 => 48,
-            Algo::Sha512 | Algo::Blake2b => 64,
-        };
-        Kind { algo, len }
+        Kind {
+            algo,
+            len: algo.full_len(),
+        }
     }
 
     /// BLAKE2b with a digest of so many bits (RFC 7693, 2.1), 0 standing for the full 512. `TooLong` for more than 512,

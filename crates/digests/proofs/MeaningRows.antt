@@ -1,6 +1,6 @@
 -- Worked command lines: both texts, the names that are asked and whether all is good, as the meaning has them.
 use Rattle.std.proofs.Common.{◌≡◌, ◌++◌, Bool, List, [], ◌∷◌, refl, codes, true, false}
-use Rattle.std.specs.Prelude.{flat_map, if◌then◌else◌}
+use Rattle.std.specs.Prelude.{flat_map, if◌then◌else◌, ⊤}
 use Rattle.std.specs.List.{concat}
 use Rattle.std.specs.Str.{bytes_eq, chars}
 use Rattle.std.specs.Path.{rsplit_once}
@@ -13,18 +13,26 @@ use Rattle.sum_sources.specs.declared.fault.Fault.TheVariants.{NotFound, Other}
 use Rattle.sum_sources.specs.declared.fault.Ending.TheVariants.{Whole, Broken}
 use Rattle.std.specs.Fmt.{digits}
 use Rattle.hex.specs.Hex.{encode_with, decode_pairs}
-use Rattle.sum_lines.specs.Scanned.{plain_parts, tags, tagged_as, tagged_parts}
+use Rattle.sum_lines.specs.PartsOfLines.{plain_as, tagged_as, tagged_parts}
 use Rattle.sum_sources.specs.ManifestLines.{pieces}
-use Rattle.sum_lines.specs.Says.{entry_of}
+use Rattle.sum_lines.specs.ParsedLines.{entry_of}
 use Rattle.sum_sources.specs.Contents.{Content, limit}
 use Rattle.sum_sources.specs.Sources.{Reply, Refused, Given}
 use Rattle.sum_engine.specs.Worlds.{World}
 use Rattle.sum_engine.specs.Runs.{outs, errs, asks}
 use Rattle.sum_words.specs.declared.tool.Tool.{Tool}
 use Rattle.sum_words.specs.declared.tool.Tool.TheVariants.{Md5sum, B2sum, Anysum}
-use Rattle.sum_words.specs.Items.{Text, resolved, lettered}
+use Rattle.sum_words.specs.Items.{Text, name_or_fault, option_of_letter}
 use Rattle.digests.specs.Meaning.{meaning}
 
+-- what a row unfolds, so that its texts are computed
+unfoldable meaning_on_literals : ⊤
+unfolding chars encode name_or_fault option_of_letter limit pieces entry_of plain_as tagged_as tagged_parts rsplit_once
+    encode_with decode_pairs digits md5_words md5_rounds md5_compress md5_after md5_bytes md5
+    mix round start compress blocks blake2b
+meaning_on_literals = tt
+
+-- bytes that end whole
 abbrev whole : Text → Content
 whole bytes = record { bytes = bytes; ending = Whole }
 
@@ -44,6 +52,7 @@ answer_with l name =
 abbrev list_of : List Text → Content
 list_of lines = whole (flat_map (λ line. line ++ codes "\n") lines)
 
+-- the world of these files
 abbrev world : Content → Content → World
 world l input = record { answer = answer_with l; asked = []; input = input }
 
@@ -54,6 +63,7 @@ record Comes : Type 0 where
   asks : List Text
   good : Bool
 
+-- what a command line comes to in it
 abbrev comes_to : Tool → List Text → World → Comes
 comes_to tool words w =
     let run = meaning tool words w in
@@ -69,8 +79,7 @@ files : comes_to Md5sum
       asks = codes "a" ∷ codes "e" ∷ [];
       good = true;
     }
-unfolding chars encode resolved lettered limit encode_with
-    md5_words md5_rounds md5_compress md5_after md5_bytes md5
+unfolding meaning_on_literals
 files = refl
 
 -- md5sum a x e
@@ -83,8 +92,7 @@ missing_file : comes_to Md5sum
       asks = codes "a" ∷ codes "x" ∷ codes "e" ∷ [];
       good = false;
     }
-unfolding chars encode resolved lettered limit encode_with
-    md5_words md5_rounds md5_compress md5_after md5_bytes md5
+unfolding meaning_on_literals
 missing_file = refl
 
 -- md5sum - -, with `abc` on standard input
@@ -97,8 +105,7 @@ stdin_twice : comes_to Md5sum
       asks = codes "-" ∷ codes "-" ∷ [];
       good = true;
     }
-unfolding chars encode resolved lettered limit encode_with
-    md5_words md5_rounds md5_compress md5_after md5_bytes md5
+unfolding meaning_on_literals
 stdin_twice = refl
 
 -- md5sum, whose input gives three bytes and then a fault
@@ -110,8 +117,7 @@ stdin_fails : comes_to Md5sum
       asks = codes "-" ∷ [];
       good = false;
     }
-unfolding chars encode resolved lettered limit
-    md5_words md5_rounds md5_compress md5_after md5_bytes md5
+unfolding meaning_on_literals
 stdin_fails = refl
 
 -- b2sum -l 256 --tag e
@@ -123,8 +129,7 @@ tagged : comes_to B2sum
       asks = codes "e" ∷ [];
       good = true;
     }
-unfolding chars encode resolved lettered limit encode_with digits
-    mix round start compress blocks blake2b
+unfolding meaning_on_literals
 tagged = refl
 
 -- md5sum --foo --help
@@ -137,7 +142,7 @@ unknown_option : comes_to Md5sum
       asks = [];
       good = false;
     }
-unfolding chars encode resolved lettered
+unfolding meaning_on_literals
 unknown_option = refl
 
 -- md5sum -c l
@@ -158,9 +163,7 @@ all_verdicts : comes_to Md5sum
       asks = codes "l" ∷ codes "a" ∷ codes "x" ∷ codes "e" ∷ [];
       good = false;
     }
-unfolding chars encode resolved lettered limit pieces entry_of plain_parts tags tagged_as tagged_parts decode_pairs
-    digits
-    md5_words md5_rounds md5_compress md5_after md5_bytes md5
+unfolding meaning_on_literals
 all_verdicts = refl
 
 -- md5sum -c --ignore-missing -w --strict l
@@ -179,9 +182,7 @@ ignore_missing : comes_to Md5sum
       asks = codes "l" ∷ codes "a" ∷ codes "x" ∷ codes "e" ∷ [];
       good = false;
     }
-unfolding chars encode resolved lettered limit pieces entry_of plain_parts tags tagged_as tagged_parts decode_pairs
-    digits
-    md5_words md5_rounds md5_compress md5_after md5_bytes md5
+unfolding meaning_on_literals
 ignore_missing = refl
 
 -- md5sum -c, whose manifest on standard input lists `-`
@@ -193,9 +194,7 @@ nothing_to_check : comes_to Md5sum
       asks = codes "-" ∷ [];
       good = false;
     }
-unfolding chars encode resolved lettered limit pieces entry_of plain_parts tags tagged_as tagged_parts decode_pairs
-    digits
-    md5_words md5_rounds md5_compress md5_after md5_bytes md5
+unfolding meaning_on_literals
 nothing_to_check = refl
 
 -- md5sum -c l, where the manifest breaks off in its second line
@@ -209,9 +208,7 @@ manifest_fails : comes_to Md5sum
       asks = codes "l" ∷ codes "a" ∷ [];
       good = false;
     }
-unfolding chars encode resolved lettered limit pieces entry_of plain_parts tags tagged_as tagged_parts decode_pairs
-    digits
-    md5_words md5_rounds md5_compress md5_after md5_bytes md5
+unfolding meaning_on_literals
 manifest_fails = refl
 
 -- md5sum -c l l, which lists `-`, with `abc` on standard input
@@ -224,9 +221,7 @@ stdin_listed : comes_to Md5sum
       asks = codes "l" ∷ codes "-" ∷ codes "l" ∷ codes "-" ∷ [];
       good = false;
     }
-unfolding chars encode resolved lettered limit pieces entry_of plain_parts tags tagged_as tagged_parts decode_pairs
-    digits
-    md5_words md5_rounds md5_compress md5_after md5_bytes md5
+unfolding meaning_on_literals
 stdin_listed = refl
 
 -- md5sum -c l, whose first line has one blank, and the second two
@@ -241,9 +236,7 @@ reversed_form : comes_to Md5sum
       asks = codes "l" ∷ codes "a" ∷ codes " a" ∷ [];
       good = false;
     }
-unfolding chars encode resolved lettered limit pieces entry_of plain_parts tags tagged_as tagged_parts decode_pairs
-    digits
-    md5_words md5_rounds md5_compress md5_after md5_bytes md5
+unfolding meaning_on_literals
 reversed_form = refl
 
 -- anysum -c l
@@ -258,8 +251,5 @@ mixed_tags : comes_to Anysum
       asks = codes "l" ∷ codes "a" ∷ codes "e" ∷ [];
       good = true;
     }
-unfolding chars encode resolved lettered limit pieces entry_of plain_parts tags tagged_as tagged_parts decode_pairs
-    digits rsplit_once
-    md5_words md5_rounds md5_compress md5_after md5_bytes md5
-    mix round start compress blocks blake2b
+unfolding meaning_on_literals
 mixed_tags = refl

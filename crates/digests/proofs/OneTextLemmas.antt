@@ -4,15 +4,15 @@ use Rattle.std.proofs.Math.Bool.{or-false}
 use Rattle.std.proofs.KnownBytes.{Appends-nil}
 use Rattle.std.proofs.Common.{sym, ◌∙◌}
 use Rattle.sum_engine.specs.Runs.{at_once}
-use Rattle.sum_engine.specs.joins.Handling.{events_by}
-use Rattle.sum_engine.specs.joins.Telling.{Hands}
+use Rattle.sum_engine.specs.refinement.Handling.{events_by}
+use Rattle.sum_engine.specs.refinement.Telling.{Hands}
 use Rattle.sum_engine.proofs.WorldLemmas.{after-none}
-use Rattle.sum_engine.proofs.SceneLemmas.{Seen, seen, seen-told, same_world, did_by, prefix_err, prefix_out}
+use Rattle.sum_engine.proofs.RunStateLemmas.{Seen, seen, seen-told, same_world, did_by, prefix_err, prefix_out}
 use Rattle.sum_words.specs.Items.{Text}
 use Rattle.sum_words.specs.Faults.{Fault}
-use Rattle.sum_words.specs.declared.reading.Request.{Request}
-use Rattle.digests.specs.Headline.{RunsTo, RefusedBy, RefusalsOf}
-use Rattle.digests.specs.joins.Operands.{once_told}
+use Rattle.sum_words.specs.declared.request.Request.{Request}
+use Rattle.digests.specs.Headline.{RunsTo, RefusalsOfRequest, RefusalsOf}
+use Rattle.digests.specs.refinement.Operands.{once_told}
 
 -- a text alone was handed on by standard output, or a prefix of it
 pub told_on_out : {E : Type 0} (a : Seen) (out : Option Text) (text : Text) (n m : ℕ) (r : Result (Unit {0}) E)
@@ -42,6 +42,6 @@ told_on_err a err text n m (Err e) h = seen-told a (record a { err = err }) _ (s
 
 -- such a run wants no memory
 pub told-refused : {E : Type 0} (asked : Result Request Fault) (n : ℕ) (r : Result (Unit {0}) E) (status : ℕ)
-    → RefusalsOf (RefusedBy asked) n n (once_told r status)
+    → RefusalsOf (RefusalsOfRequest asked) n n (once_told r status)
 told-refused asked n (Ok u) status = refl
 told-refused asked n (Err f) status = refl

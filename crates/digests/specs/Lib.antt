@@ -1,5 +1,5 @@
 pub mod Meaning
 pub mod Headline
 pub mod Program
-pub mod Written
-pub mod joins
+pub mod GenerationRuns
+pub mod refinement

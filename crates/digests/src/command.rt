@@ -1,9 +1,9 @@
 //! The whole program, from the list of its arguments to its exit status.
 ghost use Rattle.std.specs.Prelude.{◌≡◌, [], IsOk, codes};
-ghost use Rattle.sum_engine.specs.Scenes.{scene, HoldNothing};
-ghost use Rattle.sum_engine.specs.joins.Telling.{Tells, Fails};
-ghost use Rattle.digests.specs.Program.{ProgramGives, failing};
-ghost use Rattle.digests.specs.joins.Endings.{Closes, line_of};
+ghost use Rattle.sum_engine.specs.RunStates.{run_state, HoldNothing};
+ghost use Rattle.sum_engine.specs.refinement.Telling.{Tells, Fails};
+ghost use Rattle.digests.specs.Program.{ProgramGives, failures_of};
+ghost use Rattle.digests.specs.refinement.Endings.{Closes, line_of};
 
 use crate::ending::{settle, tell};
 use crate::run::{run, status_once};
@@ -29,11 +29,12 @@ pub fn command<A: Allocator + Copy, G: Arguments, I: Input + Drop, S: Source, O:
 ) -> u8
     ensures gives { HoldNothing O.held E.held streams.old → ProgramGives (G.told arguments.now)
         (S.refusals streams.old.source) (S.refusals streams.new.source)
-        (failing O.failures E.failures streams.old) (failing O.failures E.failures streams.new)
-        (scene I.content S.told O.written E.written streams.old)
-        (scene I.content S.told O.written E.written streams.new) result }
+        (failures_of O.failures E.failures streams.old) (failures_of O.failures E.failures streams.new)
+        (run_state I.content S.told O.written E.written streams.old)
+        (run_state I.content S.told O.written E.written streams.new) result }
     ensures none { HoldNothing O.held E.held streams.old → HoldNothing O.held E.held streams.new }
-    ensures kept { result ≡ 0 → failing O.failures E.failures streams.new ≡ failing O.failures E.failures streams.old }
+    ensures kept { result ≡ 0 →
+        failures_of O.failures E.failures streams.new ≡ failures_of O.failures E.failures streams.old }
 {
     match read_command_line(alloc, arguments) {
         Ok(CommandLine::Asks(tool, words)) => {

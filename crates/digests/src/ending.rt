@@ -2,8 +2,8 @@
 ghost use Rattle.std.specs.Prelude.{◌≡◌, ◌∷◌, [], Some};
 ghost use Rattle.std.specs.Io.KnownBytes.{Keeps};
 ghost use Rattle.sum_words.specs.Texts.{stop_line};
-ghost use Rattle.sum_engine.specs.joins.Telling.{Tells, Fails};
-ghost use Rattle.digests.specs.joins.Endings.{Settles, line_of};
+ghost use Rattle.sum_engine.specs.refinement.Telling.{Tells, Fails};
+ghost use Rattle.digests.specs.refinement.Endings.{Settles, line_of};
 
 use sum_engine::Stop;
 use sum_lines::{Sink, SinkFault};

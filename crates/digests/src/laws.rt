@@ -1,5 +1,5 @@
 //! Laws of the definitions: each is the contract of a function that does nothing.
-ghost use Rattle.digests.specs.Written.{WrittenIsGood, JoinedIsGood};
+ghost use Rattle.digests.specs.GenerationRuns.{WrittenIsGood, JoinedIsGood};
 
 /// A manifest that a tool wrote is good under that tool, with every check setting, as long as the files stay as they
 /// were; a tagged one under `anysum` too.

@@ -5,9 +5,9 @@ pub mod command;
 mod ending;
 pub mod laws;
 pub mod run;
-#[cfg(test)]
-mod run_tests;
 pub mod standard_input;
+#[cfg(test)]
+mod tests;
 
 use command::command;
 use standard_input::standard_input;

@@ -1,16 +1,16 @@
 //! What a whole command line does.
 ghost use Rattle.std.specs.Prelude.{◌≡◌, ◌∷◌, List, ℕ, []};
-ghost use Rattle.sum_engine.specs.Scenes.{scene, RunGives, HoldNothing, Failures};
-ghost use Rattle.sum_engine.specs.joins.Telling.{Tells, Fails};
+ghost use Rattle.sum_engine.specs.RunStates.{run_state, RunGives, HoldNothing, Failures};
+ghost use Rattle.sum_engine.specs.refinement.Telling.{Tells, Fails};
 ghost use Rattle.sum_words.specs.Faults.{Fault};
 ghost use Rattle.sum_words.specs.Texts.{fault_lines, help, version};
 ghost use Rattle.sum_words.specs.Tools.{name_of};
-ghost use Rattle.sum_words.specs.joins.Walk.{TakesFirst, fault_of};
-ghost use Rattle.sum_words.specs.joins.Reading.{result_of};
+ghost use Rattle.sum_words.specs.refinement.ItemIterator.{TakesFirst, fault_of};
+ghost use Rattle.sum_words.specs.refinement.Request.{result_of};
 ghost use Rattle.sum_words.specs.Request.{request};
-ghost use Rattle.digests.specs.Meaning.{all_of, answered, one_of, or_dash, meaning, status_of};
-ghost use Rattle.digests.specs.Headline.{RunsTo, Refused, RefusedBy, RefusalsOf};
-ghost use Rattle.digests.specs.joins.Operands.{once_told};
+ghost use Rattle.digests.specs.Meaning.{all_of, answer_run, one_of, or_dash, meaning, status_of};
+ghost use Rattle.digests.specs.Headline.{RunsTo, RefusalsOfJob, RefusalsOfRequest, RefusalsOf};
+ghost use Rattle.digests.specs.refinement.Operands.{once_told};
 
 use std::alloc::Allocator;
 use sum_engine::{Stop, Streams, check_one, generate_one};
@@ -36,10 +36,10 @@ pub fn run<A: Allocator + Copy, I: Input + Drop, S: Source, O: Sink, E: Sink>(
 ) -> Result<u8, Stop>
     ensures gives { HoldNothing O.held E.held streams.old → RunsTo (meaning tool words.now)
         (S.refusals streams.old.source) (S.refusals streams.new.source)
-        (scene I.content S.told O.written E.written streams.old)
-        (scene I.content S.told O.written E.written streams.new) result }
+        (run_state I.content S.told O.written E.written streams.old)
+        (run_state I.content S.told O.written E.written streams.new) result }
     ensures none { HoldNothing O.held E.held streams.old → HoldNothing O.held E.held streams.new }
-    ensures refusals { RefusalsOf (RefusedBy (request tool words.now)) (S.refusals streams.old.source)
+    ensures refusals { RefusalsOf (RefusalsOfRequest (request tool words.now)) (S.refusals streams.old.source)
         (S.refusals streams.new.source) result }
     ensures failures { Failures O.failures E.failures streams.old streams.new result }
 {
@@ -53,12 +53,12 @@ fn answer<A: Allocator + Copy, I: Input + Drop, S: Source, O: Sink, E: Sink>(
     asked: Result<Request, WordFault>,
     streams: &mut Streams<I, S, O, E>,
 ) -> Result<u8, Stop>
-    ensures gives { HoldNothing O.held E.held streams.old → RunsTo (answered tool (result_of asked.entry))
+    ensures gives { HoldNothing O.held E.held streams.old → RunsTo (answer_run tool (result_of asked.entry))
         (S.refusals streams.old.source) (S.refusals streams.new.source)
-        (scene I.content S.told O.written E.written streams.old)
-        (scene I.content S.told O.written E.written streams.new) result }
+        (run_state I.content S.told O.written E.written streams.old)
+        (run_state I.content S.told O.written E.written streams.new) result }
     ensures none { HoldNothing O.held E.held streams.old → HoldNothing O.held E.held streams.new }
-    ensures refusals { RefusalsOf (RefusedBy (result_of asked.entry)) (S.refusals streams.old.source)
+    ensures refusals { RefusalsOf (RefusalsOfRequest (result_of asked.entry)) (S.refusals streams.old.source)
         (S.refusals streams.new.source) result }
     ensures failures { Failures O.failures E.failures streams.old streams.new result }
 {
@@ -115,10 +115,10 @@ fn one<A: Allocator + Copy, I: Input + Drop, S: Source, O: Sink, E: Sink>(
 ) -> Result<bool, Stop>
     ensures gives { HoldNothing O.held E.held streams.old → RunGives (λ w. one_of job.now (name_of tool) w name.now)
         (S.refusals streams.old.source) (S.refusals streams.new.source)
-        (scene I.content S.told O.written E.written streams.old)
-        (scene I.content S.told O.written E.written streams.new) result }
+        (run_state I.content S.told O.written E.written streams.old)
+        (run_state I.content S.told O.written E.written streams.new) result }
     ensures none { HoldNothing O.held E.held streams.old → HoldNothing O.held E.held streams.new }
-    ensures refusals { RefusalsOf (Refused job.now) (S.refusals streams.old.source)
+    ensures refusals { RefusalsOf (RefusalsOfJob job.now) (S.refusals streams.old.source)
         (S.refusals streams.new.source) result }
     ensures failures { Failures O.failures E.failures streams.old streams.new result }
 {
@@ -159,10 +159,10 @@ fn each<A: Allocator + Copy, I: Input + Drop, S: Source, O: Sink, E: Sink>(
     ensures gives { HoldNothing O.held E.held streams.old
         → RunsTo (λ w. all_of (one_of job.now (name_of tool)) w (or_dash operands.entry))
         (S.refusals streams.old.source) (S.refusals streams.new.source)
-        (scene I.content S.told O.written E.written streams.old)
-        (scene I.content S.told O.written E.written streams.new) result }
+        (run_state I.content S.told O.written E.written streams.old)
+        (run_state I.content S.told O.written E.written streams.new) result }
     ensures none { HoldNothing O.held E.held streams.old → HoldNothing O.held E.held streams.new }
-    ensures refusals { RefusalsOf (Refused job.now) (S.refusals streams.old.source)
+    ensures refusals { RefusalsOf (RefusalsOfJob job.now) (S.refusals streams.old.source)
         (S.refusals streams.new.source) result }
     ensures failures { Failures O.failures E.failures streams.old streams.new result }
 {

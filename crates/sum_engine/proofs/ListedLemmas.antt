@@ -1,30 +1,30 @@
 -- A manifest of lines that were written for whole files: each line is read back.
-use Rattle.std.proofs.Common.{◌≡◌, ◌≢◌, ◌==◌, ℕ, ◌<◌, false, List, [], ◌∷◌, ◌++◌, length, map, refl, ap, sym, ◌∙◌, subst, ◌⊎◌, inl, inr, IsTrue}
+use Rattle.std.proofs.Common.{◌≡◌, ◌≢◌, ◌==◌, ℕ, ◌<◌, false, List, [], ◌∷◌, ◌++◌, length, map, refl, ap, sym, ◌∙◌, subst, ◌⊎◌, inl, IsTrue}
 use Rattle.std.specs.Prelude.{flat_map}
 use Rattle.std.specs.List.{All}
 use Rattle.std.specs.Str.Lines.{strip_carriage_return}
-use Rattle.std.proofs.lemmas.Bool.Decides.{eqb_tells}
+use Rattle.std.proofs.lemmas.Bool.{ne_eqb}
 use Rattle.std.proofs.lemmas.List.{append-nil, append_cancel_right}
-use Rattle.std.proofs.lemmas.List.Elements.{All-nil, All-cons, All-head, All-tail, All-weaker}
+use Rattle.std.proofs.lemmas.List.Elements.{All-nil, All-map, All-weaker}
 use Rattle.digest_kinds.specs.Kinds.{KindValue, has_len}
 use Rattle.digest_kinds.specs.Digests.{digest}
 use Rattle.digest_kinds.specs.declared.algo.Algos.{Algos}
 use Rattle.digest_kinds.proofs.DigestLemmas.{length-digest, IsBytes-digest}
 use Rattle.sum_lines.specs.declared.line_reading.Form.TheVariants.{Undecided, Standard}
-use Rattle.sum_lines.specs.declared.written.Mode.{Mode}
+use Rattle.sum_lines.specs.declared.line_format.Mode.{Mode}
 use Rattle.sum_lines.specs.Escape.{escape}
 use Rattle.sum_lines.specs.Lines.{line}
 use Rattle.sum_lines.specs.Entries.{Spelled, Entry, form}
 use Rattle.sum_lines.specs.Laws.{ReadBy, Writable}
-use Rattle.sum_lines.proofs.WrittenLemmas.{front_of, read_back}
+use Rattle.sum_lines.proofs.LineFormatLemmas.{prefix_of, read_back}
 use Rattle.sum_sources.specs.declared.fault.Ending.TheVariants.{Whole}
 use Rattle.sum_sources.specs.Contents.{Content, limit}
 use Rattle.sum_sources.specs.Sources.{Reply, Given}
-use Rattle.sum_sources.specs.ManifestLines.{NoNewline, rejoined, lines, pieces}
+use Rattle.sum_sources.specs.ManifestLines.{NoNewline, lines, pieces}
 use Rattle.sum_sources.proofs.CutLemmas.{pieces-joined}
 use Rattle.sum_engine.specs.Worlds.{is_dash}
 use Rattle.sum_engine.specs.OldVerdicts.{NoReturn}
-use Rattle.sum_engine.proofs.ReturnLemmas.{NotReturn, strips-kept}
+use Rattle.sum_engine.proofs.ReturnLemmas.{strips-kept}
 
 -- ---- what is written
 
@@ -50,12 +50,8 @@ pub record Listed (algos : Algos) (answer : List ℕ → Reply) (i : Item) : Typ
   pub fits : length i.bytes < limit
 
 -- the line without its newline
-abbrev pub front : Item → List ℕ
-front i = front_of i.mode i.kind i.name (digest i.kind i.bytes)
-
--- the newline is the last byte
-text-front : (i : Item) → written_text i ≡ front i ++ (10 ∷ [])
-text-front i = refl
+abbrev pub prefix : Item → List ℕ
+prefix i = prefix_of i.mode i.kind i.name (digest i.kind i.bytes)
 
 -- what the line spells
 abbrev pub spelled_for : Item → Spelled
@@ -89,47 +85,27 @@ Back algos before later s l =
 
 -- so is each item's
 pub back : (algos : Algos) (answer : List ℕ → Reply) (before later : List (List ℕ)) (i : Item) → Listed algos answer i
-    → ReadableSoFar algos before → Back algos before later (spelled_for i) (front i)
+    → ReadableSoFar algos before → Back algos before later (spelled_for i) (prefix i)
 back algos answer before later i h u =
     let s = read_back algos i.mode i.kind i.name (digest i.kind i.bytes) before later h.read_by
     (writable algos answer i h) u in
-    let same : s.front ≡ front i =
-    append_cancel_right s.front (front i) (10 ∷ []) (sym s.whole ∙ text-front i) in
+    let same : s.prefix ≡ prefix i =
+    append_cancel_right s.prefix (prefix i) (10 ∷ []) (sym s.whole) in
     subst (Back algos before later (spelled_for i)) same (s.one_line, (s.spells (spelled_for i)).1 refl, s.keeps)
 
 -- ---- the lines of the whole text
 
-no-newline : (b : ℕ) → (b ≢ 10) × (b ≢ 13) → (b == 10) ≡ false
-no-newline b h = elim (eqb_tells b 10) [
-  | inl same ↦ absurd (h.0 same.1)
-  | inr other ↦ other.0
-]
-
--- a written line is plain
-plainly : (algos : Algos) (answer : List ℕ → Reply) (i : Item) → Listed algos answer i → Plainly (front i)
-plainly algos answer i h = let b = back algos answer [] [] i h (inl refl) in b.0
+-- each written line is plain
+plain-lines : (algos : Algos) (answer : List ℕ → Reply) (is : List Item) → All (Listed algos answer) is
+    → All Plainly (map prefix is)
+plain-lines algos answer is all =
+    let one = λ (i : Item) (h : Listed algos answer i). (back algos answer [] [] i h (inl refl)).0 in
+    All-map Plainly prefix is (All-weaker (Listed algos answer) (λ i. Plainly (prefix i)) one is all)
 
 -- the text is the lines, each with a newline
-texts : (is : List Item) → flat_map written_text is ≡ flat_map (λ l. l ++ 10 ∷ []) (map front is)
+texts : (is : List Item) → flat_map written_text is ≡ flat_map (λ l. l ++ 10 ∷ []) (map prefix is)
 texts [] = refl
 texts (i ∷ is) = ap (λ t. written_text i ++ t) (texts is)
-
--- no line holds a newline, nor a carriage return
-no-newlines : (algos : Algos) (answer : List ℕ → Reply) (is : List Item) → All (Listed algos answer) is
-    → All NoNewline (map front is)
-no-newlines algos answer [] all = All-nil NoNewline
-no-newlines algos answer (i ∷ is) all = All-cons NoNewline (front i) (map front is)
-    (All-weaker (λ b. (b ≢ 10) × (b ≢ 13)) (λ b. (b == 10) ≡ false) no-newline (front i)
-    (plainly algos answer i (All-head (Listed algos answer) i is all)))
-    (no-newlines algos answer is (All-tail (Listed algos answer) i is all))
-
-no-returns : (algos : Algos) (answer : List ℕ → Reply) (is : List Item) → All (Listed algos answer) is
-    → All NoReturn (map front is)
-no-returns algos answer [] all = All-nil NoReturn
-no-returns algos answer (i ∷ is) all = All-cons NoReturn (front i) (map front is)
-    (All-weaker (λ b. (b ≢ 10) × (b ≢ 13)) NotReturn (λ b h. h.1) (front i)
-    (plainly algos answer i (All-head (Listed algos answer) i is all)))
-    (no-returns algos answer is (All-tail (Listed algos answer) i is all))
 
 -- the file that the text is
 abbrev pub whole : List Item → Content
@@ -137,11 +113,12 @@ whole is = record { bytes = flat_map written_text is; ending = Whole }
 
 -- its lines are the written ones
 pub lines-are : (algos : Algos) (answer : List ℕ → Reply) (is : List Item) → All (Listed algos answer) is
-    → lines (whole is) ≡ map front is
+    → lines (whole is) ≡ map prefix is
 lines-are algos answer is all =
+    let plain = plain-lines algos answer is all in
     let make : List ℕ → Content = λ bytes. record { bytes = bytes; ending = Whole } in
-    let bytes : flat_map written_text is ≡ rejoined (map front is) [] = texts is ∙ sym (append-nil _) in
-    let cut : pieces (make (rejoined (map front is) [])) ≡ map front is ++ [] =
-    pieces-joined Whole (map front is) [] (no-newlines algos answer is all) (All-nil (λ b. (b == 10) ≡ false)) in
-    ap (map strip_carriage_return) (ap (λ b. pieces (make b)) bytes ∙ cut ∙ append-nil (map front is))
-    ∙ strips-kept (map front is) (no-returns algos answer is all)
+    let none = All-weaker Plainly NoNewline (λ l h k d lt. ne_eqb _ 10 (h k d lt).0) (map prefix is) plain in
+    let cut = pieces-joined Whole (map prefix is) [] none (All-nil (λ b. (b == 10) ≡ false)) in
+    ap (map strip_carriage_return) (ap (λ b. pieces (make b)) (texts is ∙ sym (append-nil _)) ∙ cut
+    ∙ append-nil (map prefix is))
+    ∙ strips-kept (map prefix is) (All-weaker Plainly NoReturn (λ l h k d lt. (h k d lt).1) (map prefix is) plain)

@@ -1,18 +1,23 @@
 -- Runs, one after another, and what a run's steps come to.
-use Rattle.std.proofs.Common.{◌≡◌, ℕ, Bool, List, [], ◌∷◌, ◌++◌, Option, Result, Ok, Err, refl, ap, sym, ◌∙◌, append_assoc, append-nil}
+use Rattle.std.proofs.Common.{◌≡◌, ℕ, ◌||◌, Bool, List, [], ◌∷◌, ◌++◌, Option, Result, Ok, Err, refl, ap, sym, ◌∙◌, inl, append_assoc, append-nil}
 use Rattle.std.specs.Prelude.{flat_map, filter_map}
+use Rattle.std.specs.List.{list_any}
 use Rattle.std.proofs.lemmas.Grind.{flat_map-append}
 use Rattle.std.proofs.lemmas.List.Elements.{filter_map-append}
+use Rattle.sum_sources.specs.Contents.{WhereTold}
+use Rattle.sum_sources.specs.Sources.{after_refusal}
 use Rattle.sum_engine.specs.declared.stop.Stop.{Stop}
 use Rattle.sum_engine.specs.declared.stop.Stop.TheVariants.{Memory, Write}
-use Rattle.sum_engine.specs.Runs.{Event, Step, Run, events, events_of, name_in, err_in, out_in}
-use Rattle.sum_engine.specs.Scenes.{Scene, Did, DidPrefix, RunOf}
+use Rattle.sum_engine.specs.Worlds.{World, is_dash, after}
+use Rattle.sum_engine.specs.Runs.{Event, Step, Run, events, events_of, at_once, name_in, err_in, out_in}
+use Rattle.sum_engine.specs.RunStates.{RunState, Did, DidPrefix, RunOf, RunGives}
 use Rattle.sum_engine.specs.Steps.{GoesOn, Finishes, Breaks, Waits}
 use Rattle.sum_engine.specs.Manifests.{EventsExtend}
-use Rattle.sum_engine.proofs.SceneLemmas.{names-by, err-by, out-by, did_nothing, did_both, prefix_behind}
+use Rattle.sum_engine.specs.refinement.Telling.{HandsBoth}
+use Rattle.sum_engine.proofs.RunStateLemmas.{Writing, Seen, seen, seen_at, seen-told, names-by, err-by, out-by, did_nothing, did_both, came_by, prefix_behind}
 
 -- one more of the steps came about
-pub steps_more : {a b c : Scene} (done : List Step) (next : Step) → Did a b (events done) → Did b c (events_of next)
+pub steps_more : {a b c : RunState} (done : List Step) (next : Step) → Did a b (events done) → Did b c (events_of next)
     → Did a c (events (done ++ next ∷ []))
 steps_more done next h k = rw (flat_map-append events_of done (next ∷ []), append-nil (events_of next))
     (did_both (events done) (events_of next) h k)
@@ -20,41 +25,35 @@ steps_more done next h k = rw (flat_map-append events_of done (next ∷ []), app
 -- ---- along a run
 
 -- of the whole run all came about but what is left
-pub record Along (whole left : Run) (a b : Scene) : Type 0 where
+pub record Along (whole left : Run) (a b : RunState) : Type 0 where
   pub done : List Step
   pub steps : whole.steps ≡ done ++ left.steps
   pub good : left.good ≡ whole.good
   pub did : Did a b (events done)
 
 -- it begins so
-pub along_none : (r : Run) (a : Scene) → Along r r a a
+pub along_none : (r : Run) (a : RunState) → Along r r a a
 along_none r a = record { done = []; steps = refl; good = refl; did = did_nothing a }
 
--- one step more, and these are left
-pub next_left : {a b c : Scene} {whole left next : Run} (h : Along whole left a b) (k : GoesOn left next b c)
-    → whole.steps ≡ (h.done ++ k.step ∷ []) ++ next.steps
-next_left {next = next} h k =
-    h.steps ∙ ap (λ r. h.done ++ r.steps) k.is ∙ sym (append_assoc h.done (k.step ∷ []) next.steps)
-
--- so that came about
-pub along_more : {a b c : Scene} {whole left next : Run} → Along whole left a b → GoesOn left next b c
+-- one step more came about
+pub along_more : {a b c : RunState} {whole left next : Run} → Along whole left a b → GoesOn left next b c
     → Along whole next a c
-along_more h k = record {
+along_more {next = next} h k = record {
   done = h.done ++ k.step ∷ [];
-  steps = next_left h k;
+  steps = h.steps ∙ ap (λ r. h.done ++ r.steps) k.is ∙ sym (append_assoc h.done (k.step ∷ []) next.steps);
   good = sym (ap (λ r. r.good) k.is) ∙ h.good;
   did = steps_more h.done k.step h.did k.did;
 }
 
 -- the last step: all came about
-pub along_end : {a b c : Scene} {whole left : Run} {answer : Bool} → Along whole left a b → Finishes left answer b c
+pub along_end : {a b c : RunState} {whole left : Run} {answer : Bool} → Along whole left a b → Finishes left answer b c
     → (answer ≡ whole.good) × Did a c (events whole.steps)
 along_end h k =
     let all = h.steps ∙ ap (λ r. h.done ++ r.steps) k.is in
     (sym (ap (λ r. r.good) k.is) ∙ h.good, rw all (steps_more h.done k.step h.did k.did))
 
 -- a step of which a prefix came about
-pub along_breaks : {a b c : Scene} {whole left : Run} → Along whole left a b → Breaks left b c
+pub along_breaks : {a b c : RunState} {whole left : Run} → Along whole left a b → Breaks left b c
     → DidPrefix a c (events whole.steps)
 along_breaks {whole = whole} h k =
     let steps : whole.steps ≡ h.done ++ k.step ∷ k.rest.steps = h.steps ∙ ap (λ r. h.done ++ r.steps) k.is in
@@ -63,7 +62,7 @@ along_breaks {whole = whole} h k =
     rw all (prefix_behind (events h.done) (events_of k.step) (events k.rest.steps) h.did k.did)
 
 -- a step that memory was wanted for
-pub along_waits : {A : Type 0} {a b c : Scene} {whole left : Run} (x : A) (n m : ℕ) → Along whole left a b
+pub along_waits : {A : Type 0} {a b c : RunState} {whole left : Run} (x : A) (n m : ℕ) → Along whole left a b
     → Waits left n m b c → RunOf x whole.steps n m a c (Err Memory)
 along_waits {whole = whole} x n m h k =
     let steps : whole.steps ≡ h.done ++ k.step ∷ k.rest.steps = h.steps ∙ ap (λ r. h.done ++ r.steps) k.is in
@@ -72,14 +71,15 @@ along_waits {whole = whole} x n m h k =
 -- ---- a run behind a step, and one run after another
 
 -- both came about
-pub joined_did : {a b c : Scene} (r s : List Step) → Did a b (events r) → Did b c (events s)
+pub run_then-did : {a b c : RunState} (r s : List Step) → Did a b (events r) → Did b c (events s)
     → Did a c (events (r ++ s))
-joined_did r s h k = rw (flat_map-append events_of r s) (did_both (events r) (events s) h k)
+run_then-did r s h k = rw (flat_map-append events_of r s) (did_both (events r) (events s) h k)
 
 -- the first came about, and the second stopped
-pub joined_second : {A B : Type 0} {a b : Scene} (c : Scene) (n i j : ℕ) (x : A) (y : B) (r s : List Step) (stop : Stop)
+pub run_then-second
+    : {A B : Type 0} {a b : RunState} (c : RunState) (n i j : ℕ) (x : A) (y : B) (r s : List Step) (stop : Stop)
     → i ≡ n → Did a b (events r) → RunOf y s i j b c (Err stop) → RunOf x (r ++ s) n j a c (Err stop)
-joined_second c n i j x y r s Write e h k = (
+run_then-second c n i j x y r s Write e h k = (
   events r ++ k.0,
   (
     k.1.0,
@@ -87,7 +87,7 @@ joined_second c n i j x y r s Write e h k = (
   ),
   did_both (events r) k.0 h k.2,
 )
-joined_second c n i j x y r s Memory e h k = (
+run_then-second c n i j x y r s Memory e h k = (
   r ++ k.0,
   k.1,
   k.2,
@@ -97,9 +97,9 @@ joined_second c n i j x y r s Memory e h k = (
 )
 
 -- the first stopped
-pub joined_first : {A B : Type 0} (a b : Scene) (n m : ℕ) (x : A) (y : B) (r s : List Step) (stop : Stop)
+pub run_then-first : {A B : Type 0} (a b : RunState) (n m : ℕ) (x : A) (y : B) (r s : List Step) (stop : Stop)
     → RunOf y r n m a b (Err stop) → RunOf x (r ++ s) n m a b (Err stop)
-joined_first a b n m x y r s Write h = (
+run_then-first a b n m x y r s Write h = (
   h.0,
   (
     h.1.0 ++ events s,
@@ -107,7 +107,7 @@ joined_first a b n m x y r s Write h = (
   ),
   h.2,
 )
-joined_first a b n m x y r s Memory h = (
+run_then-first a b n m x y r s Memory h = (
   h.0,
   h.1,
   h.2 ++ s,
@@ -117,11 +117,38 @@ joined_first a b n m x y r s Memory h = (
 )
 
 -- a run behind its first step, which came about; n, i, j are the refusals before, between and after
-pub behind_step : {A : Type 0} {a b : Scene} (c : Scene) (n i j : ℕ) (x : A) (s : Step) (r : List Step)
+pub behind_step : {A : Type 0} {a b : RunState} (c : RunState) (n i j : ℕ) (x : A) (s : Step) (r : List Step)
     (y : Result A Stop) → i ≡ n → Did a b (events_of s) → RunOf x r i j b c y → RunOf x (s ∷ r) n j a c y
 behind_step c n i j x s r (Ok good) e h k = (k.0, did_both (events_of s) (events r) h k.1)
 behind_step c n i j x s r (Err stop) e h k =
-    joined_second c n i j x x (s ∷ []) r stop e (rw (append-nil (events_of s)) h) k
+    run_then-second c n i j x x (s ∷ []) r stop e (rw (append-nil (events_of s)) h) k
+
+-- ---- a run of one step
+
+-- what a call answers that writes and then answers so
+abbrev pub answered : {A : Type 0} → Writing → A → Result A Stop
+answered (Ok u) x = Ok x
+answered (Err e) x = Err Write
+
+-- the step was done, or a prefix of it
+pub once : (run : World → Run) (names : List (List ℕ)) (err out : List ℕ) (good : Bool) (n m : ℕ) (a b : Seen)
+    {P : World → World → Type 0} (x : Writing) → WhereTold a.world b.world P
+    → ((w v : World) → P w v → (run w ≡ at_once names err out good) × (v ≡ after w names))
+    → b.taken ≡ a.taken || list_any is_dash names → HandsBoth a.err b.err a.out b.out err out x
+    → RunGives run n m (seen a) (seen b) (answered x good)
+once run names err out good n m a b (Ok u) h is taken told = seen-told a b _ h (λ w v p.
+    rw ((is w v p).0, append-nil) (refl, came_by _ _ names err out (Ok u) (is w v p).1 taken told))
+once run names err out good n m a b (Err e) h is taken told = seen-told a b _ h (λ w v p.
+    rw ((is w v p).0, append-nil) (came_by _ _ names err out (Err e) (is w v p).1 taken told))
+
+-- the source had no memory to open the first step's name
+pub unasked : (run : World → Run) (n m : ℕ) (a b : Seen) {P : World → World → Type 0}
+    → ((w : World) → (s : Step) × (rest : List Step) × ((run w).steps ≡ s ∷ rest)) → WhereTold a.world b.world P
+    → ((w v : World) → P w v → v ≡ w) → b.taken ≡ a.taken → b.err ≡ a.err → b.out ≡ a.out → m ≡ after_refusal n
+    → RunGives run n m (seen a) (seen b) (Err Memory)
+unasked run n m a b first h same taken err out refused = seen-told a b _ h (λ w v p.
+    let next = first w in
+    ([], next.0, next.1, next.2, rw (same w v p, taken, err, out) (did_nothing (seen_at a w)), inl refused))
 
 -- ---- what a run's events come to
 

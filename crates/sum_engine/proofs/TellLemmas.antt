@@ -2,17 +2,12 @@
 use Rattle.std.proofs.Common.{◌≡◌, ℕ, List, [], ◌++◌, Option, Result, Ok, Err, ap, sym, ◌∙◌, append_assoc, subst}
 use Rattle.std.specs.Io.KnownBytes.{Appends}
 use Rattle.std.proofs.KnownBytes.{Appends-trans}
-use Rattle.sum_lines.specs.Sinks.{SinkState, Wrote, Broke, Flushes, AppendsPart, after_failure}
-use Rattle.sum_lines.specs.joins.Growing.{AppendsPrefix}
+use Rattle.sum_lines.specs.Sinks.{SinkState, Wrote, Broke, Flushes}
+use Rattle.sum_lines.specs.refinement.Growing.{AppendsPrefix}
 use Rattle.sum_lines.proofs.SinkLemmas.{Wrote-flushed, Wrote-dropped}
-use Rattle.sum_engine.specs.joins.Telling.{Hands, Tells, Fails}
+use Rattle.sum_engine.specs.refinement.Telling.{Hands, Tells}
 
 -- ---- known bytes
-
--- a proper prefix, behind nothing that was held
-part_prefix : {held : List ℕ} (a c : Option (List ℕ)) (text : List ℕ) → held ≡ [] → AppendsPart a c (held ++ text)
-    → AppendsPrefix a c text
-part_prefix a c text none h = (h.0, (h.1, ap (λ l. l ++ text) (sym none) ∙ h.2), h.4)
 
 -- a prefix of a text is one of what begins with the text
 pub prefix_more : (a b : Option (List ℕ)) (x y : List ℕ) → AppendsPrefix a b x → AppendsPrefix a b (x ++ y)
@@ -38,35 +33,20 @@ told_flushed a b c text (Ok u) h k none =
 told_flushed a b c text (Err e) h k none =
     (k.none, subst (λ l. AppendsPrefix a.written c.written (l ++ text)) none (Wrote-dropped text h k))
 
--- with these failures
-pub fails_flushed : {E : Type 0} (a b c : SinkState) (text : List ℕ) (r : Result (Unit {0}) E) → Wrote a b text
-    → Flushes b c r → Fails a.failures c.failures r
-fails_flushed a b c text (Ok u) h k = k.2 ∙ h.kept
-fails_flushed a b c text (Err e) h k = k.failed ∙ ap after_failure h.kept
-
 -- writing it failed
 pub told_broken : (a c : SinkState) (text : List ℕ) → Broke a c text → a.held ≡ []
     → (c.held ≡ []) × AppendsPrefix a.written c.written text
-told_broken a c text h none = (h.none, part_prefix a.written c.written text none h.handed)
+told_broken a c text h none =
+    let part = h.handed in
+    (h.none, (part.0, (part.1, ap (λ l. l ++ text) (sym none) ∙ part.2), part.4))
 
 -- ---- one text after another
 
--- a text was handed on, or a prefix of it, where nothing was held
+-- a text was handed on, where nothing was held
 abbrev pub Told : {S : Type 0} → (S → Option (List ℕ)) → (S → List ℕ) → S → S → List ℕ → Type 0
 Told written held old new text = held old ≡ [] → (held new ≡ []) × Appends (written old) (written new) text
 
-abbrev pub ToldPart : {S : Type 0} → (S → Option (List ℕ)) → (S → List ℕ) → S → S → List ℕ → Type 0
-ToldPart written held old new text = held old ≡ [] → (held new ≡ []) × AppendsPrefix (written old) (written new) text
-
--- a text, and then a prefix of another
-pub part_then : {S : Type 0} (written : S → Option (List ℕ)) (held : S → List ℕ) (old mid new : S) (x y : List ℕ)
-    → Told written held old mid x → ToldPart written held mid new y → ToldPart written held old new (x ++ y)
-part_then written held old mid new x y h k none =
-    let first = h none in
-    let then = k first.0 in
-    (then.0, prefix_then (written old) (written mid) (written new) x y first.1 then.1)
-
--- or the other
+-- a text, and then another or a prefix of it
 pub tells_then : {S E : Type 0} (written : S → Option (List ℕ)) (held : S → List ℕ) (old mid new : S) (x y : List ℕ)
     (r : Result (Unit {0}) E) → Told written held old mid x → Tells written held mid new y r
     → Tells written held old new (x ++ y) r
@@ -74,14 +54,13 @@ tells_then written held old mid new x y (Ok u) h k none =
     let first = h none in
     let then = k first.0 in
     (then.0, Appends-trans (written old) (written mid) (written new) x y first.1 then.1)
-tells_then written held old mid new x y (Err e) h k none = part_then written held old mid new x y h k none
+tells_then written held old mid new x y (Err e) h k none =
+    let first = h none in
+    let then = k first.0 in
+    (then.0, prefix_then (written old) (written mid) (written new) x y first.1 then.1)
 
 -- a prefix of a text, and none of the next
 pub part_more : {S : Type 0} (written : S → Option (List ℕ)) (held : S → List ℕ) (old new : S) (x y : List ℕ)
-    → ToldPart written held old new x → ToldPart written held old new (x ++ y)
+    → (held old ≡ [] → (held new ≡ []) × AppendsPrefix (written old) (written new) x) → held old ≡ []
+    → (held new ≡ []) × AppendsPrefix (written old) (written new) (x ++ y)
 part_more written held old new x y h none = ((h none).0, prefix_more (written old) (written new) x y (h none).1)
-
--- the failures of one call and then another
-pub fails_then : {E : Type 0} {i j : ℕ} (k : ℕ) (r : Result (Unit {0}) E) → j ≡ i → Fails j k r → Fails i k r
-fails_then k (Ok u) h l = l ∙ h
-fails_then k (Err e) h l = l ∙ ap after_failure h

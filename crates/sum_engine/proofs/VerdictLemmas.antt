@@ -1,80 +1,59 @@
 -- The verdict of an entry, by what came of asking its name.
-use Rattle.std.proofs.Common.{◌≡◌, ℕ, ◌&&◌, Bool, true, false, cond, List, [], ◌∷◌, Option, Some, Result, Ok, Err, refl, ap, ◌∙◌}
+use Rattle.std.proofs.Common.{◌≡◌, ℕ, ◌&&◌, Bool, true, false, cond, List, [], ◌∷◌, Option, Some, refl}
 use Rattle.std.specs.Str.{bytes_eq}
+use Rattle.std.proofs.Math.Bool.{and-false, and-true}
 use Rattle.digest_kinds.specs.Kinds.{KindValue}
-use Rattle.sum_sources.specs.declared.fault.Fault.{Fault}
-use Rattle.sum_sources.specs.declared.fault.Fault.TheVariants.{NotFound, Denied, Other}
-use Rattle.sum_sources.specs.Contents.{Content, WhereTold}
-use Rattle.sum_sources.specs.Sources.{Reply, Refused, Given}
+use Rattle.sum_sources.specs.declared.fault.Fault.TheVariants.{NotFound}
+use Rattle.sum_sources.specs.Contents.{WhereTold}
+use Rattle.sum_sources.specs.Sources.{Reply}
 use Rattle.sum_lines.specs.Entries.{Spelled, kind_of}
 use Rattle.sum_engine.specs.declared.asking.Asked.{Asked}
 use Rattle.sum_engine.specs.declared.asking.Asked.TheVariants as asked
 use Rattle.sum_engine.specs.declared.verdict.Verdict.{Verdict}
-use Rattle.sum_engine.specs.declared.verdict.Verdict.TheVariants.{Bad, Right, Wrong, Missing, Unread}
-use Rattle.sum_engine.specs.Worlds.{World, is_dash, reply, read}
-use Rattle.sum_lines.specs.Says.{Spells}
-use Rattle.sum_engine.specs.Verdicts.{Rules, verdict_of, not_found, against, asks_by}
+use Rattle.sum_engine.specs.declared.verdict.Verdict.TheVariants.{Right, Wrong, Missing, Unread}
+use Rattle.sum_engine.specs.Worlds.{World, is_dash, reply, digest_or_fault}
+use Rattle.sum_lines.specs.ParsedLines.{WithEntry}
+use Rattle.sum_engine.specs.Verdicts.{Rules, verdict_of, not_found, digest_verdict, asks_by}
 use Rattle.sum_sources.proofs.ToldLemmas.{WhereTold-map}
-use Rattle.sum_engine.specs.joins.Asking.{AskGives, IsAsked}
-use Rattle.sum_engine.specs.joins.Judging.{IsJudged, compared}
+use Rattle.sum_engine.specs.refinement.Asking.{AskGives, IsAsked}
+use Rattle.sum_engine.specs.refinement.Judging.{IsJudged, compared}
 
 -- a reply against the line's digest
 abbrev verdict_by : Bool → KindValue → List ℕ → Reply → Verdict
-verdict_by ignore kind d r = cond (ignore && not_found r) Missing (against d (read kind r))
-
--- a file that was given isn't missing
-never : (b : Bool) → b && false ≡ false
-never true = refl
-never false = refl
-
--- a file that is not there, and one that is
-no_file : (ignore : Bool) (d : List ℕ) (kind : KindValue) → verdict_by ignore kind d
-    (Refused NotFound) ≡ compared ignore d (asked.Refused NotFound)
-no_file true d kind = refl
-no_file false d kind = refl
-
-given_by : (ignore : Bool) (kind : KindValue) (d : List ℕ) (c : Content) (x : Result (List ℕ) Fault)
-    → read kind (Given c) ≡ x → verdict_by ignore kind d (Given c) ≡ against d x
-given_by ignore kind d c x h =
-    ap (λ b. cond b Missing (against d (read kind (Given c)))) (never ignore) ∙ ap (against d) h
+verdict_by ignore kind d r = cond (ignore && not_found r) Missing (digest_verdict d (digest_or_fault kind r))
 
 -- the verdict by a reply is the verdict by what came of asking
 by_asked : (ignore : Bool) (kind : KindValue) (d : List ℕ) (r : Reply) (a : Asked) → IsAsked kind r a
     → verdict_by ignore kind d r ≡ compared ignore d a
-by_asked ignore kind d r (asked.Read x) h = ap (verdict_by ignore kind d) h.1 ∙ given_by ignore kind d h.0 (Ok x) h.2
-by_asked ignore kind d r (asked.Broken f) h = ap (verdict_by ignore kind d) h.1 ∙ given_by ignore kind d h.0 (Err f) h.2
-by_asked ignore kind d r (asked.Refused NotFound) h = ap (verdict_by ignore kind d) h ∙ no_file ignore d kind
-by_asked ignore kind d r (asked.Refused Denied) h =
-    ap (verdict_by ignore kind d) h ∙ ap (λ b. cond b Missing (Unread Denied)) (never ignore)
-by_asked ignore kind d r (asked.Refused Other) h =
-    ap (verdict_by ignore kind d) h ∙ ap (λ b. cond b Missing (Unread Other)) (never ignore)
+by_asked ignore kind d r (asked.Read x) h = rw (h.1, h.2, and-false) refl
+by_asked ignore kind d r (asked.Broken f) h = rw (h.1, h.2, and-false) refl
+by_asked ignore kind d r (asked.Refused NotFound) h = rw (h, and-true) refl
+by_asked ignore kind d r (asked.Refused f) h = rw (h, and-false) refl
 
--- whatever the verdict, the name was asked
+-- a name that either verdict asks
 asks_either : (b : Bool) (x y : Verdict) (name : List ℕ) → asks_by x name ≡ name ∷ [] → asks_by y name ≡ name ∷ []
     → asks_by (cond b x y) name ≡ name ∷ []
 asks_either true x y name h k = h
 asks_either false x y name h k = k
 
+-- whatever came of asking, the name was asked
 asks_compared : (ignore : Bool) (d : List ℕ) (a : Asked) (name : List ℕ)
     → asks_by (compared ignore d a) name ≡ name ∷ []
 asks_compared ignore d (asked.Read x) name = asks_either (bytes_eq x d) Right Wrong name refl refl
 asks_compared ignore d (asked.Refused NotFound) name = asks_either ignore Missing (Unread NotFound) name refl refl
-asks_compared ignore d (asked.Refused Denied) name = refl
-asks_compared ignore d (asked.Refused Other) name = refl
-asks_compared ignore d (asked.Broken f) name = refl
+asks_compared ignore d a name = refl
 
 -- so is the verdict of an entry
 verdict_is : (r : Rules) (w : World) (s : Spelled) (a : Asked) → r.from_stdin && is_dash s.name ≡ false
     → IsAsked (kind_of s) (reply w s.name) a → verdict_of r w s ≡ compared r.settings.ignore_missing s.digest a
 verdict_is r w s a dash h =
-    ap (λ b. cond b Bad (verdict_by r.settings.ignore_missing (kind_of s) s.digest (reply w s.name))) dash
-    ∙ by_asked r.settings.ignore_missing (kind_of s) s.digest (reply w s.name) a h
+    rw dash (by_asked r.settings.ignore_missing (kind_of s) s.digest (reply w s.name) a h)
 
 -- an entry's judgement, by what came of asking its name
 pub judged_entry : (r : Rules) (w v : Option World) (s : Spelled) (a : Asked) (verdict : Verdict) (name : List ℕ)
     → r.from_stdin && is_dash s.name ≡ false → AskGives (kind_of s) w v s.name (Some a)
     → verdict ≡ compared r.settings.ignore_missing s.digest a → name ≡ s.name
-    → WhereTold w v (λ w v. IsJudged r w v (Spells s) verdict name)
+    → WhereTold w v (λ w v. IsJudged r w v (WithEntry s) verdict name)
 judged_entry r w v s a verdict name dash h is same = WhereTold-map w v (λ w v asked. (
   λ n. rw (is, same, verdict_is r w s a dash asked.1) refl,
   rw (is, same, asks_compared r.settings.ignore_missing s.digest a s.name) asked.0,

@@ -9,7 +9,7 @@ use Rattle.sum_engine.specs.declared.progress.Progress.TheVariants.{Going}
 use Rattle.sum_engine.specs.declared.stop.Stop.{Stop}
 use Rattle.sum_engine.specs.declared.summary.Counts.{Counts}
 use Rattle.sum_engine.specs.Verdicts.{Rules}
-use Rattle.sum_engine.specs.Scenes.{Scene}
+use Rattle.sum_engine.specs.RunStates.{RunState}
 use Rattle.sum_engine.specs.Steps.{Now, now_by}
 
 -- where the checking of a manifest stands: what it is checked by, its reader, and the form and the counts of its lines
@@ -30,10 +30,10 @@ abbrev pub again_after : Result Progress Stop → Option (Result Progress Stop)
 again_after (Ok Going) = None
 again_after x = Some x
 
--- where it stands in its manifest, where that and the scene tell
-abbrev pub now_of : {I : Type 0} → (I → Option Content) → Place I → Option Scene → Option Now
-now_of content p scene =
-    now_by (coming content p.reader) p.reader.lines (used p.reader) p.form p.counts scene
+-- where it stands in its manifest, where that and the run state tell
+abbrev pub now_of : {I : Type 0} → (I → Option Content) → Place I → Option RunState → Option Now
+now_of content p run_state =
+    now_by (coming content p.reader) p.reader.lines (used p.reader) p.form p.counts run_state
 
 -- what a step does to the place, whether outputs and files tell or not: it is checked by the same; what the input has
 -- given and what is left of it stay the same in sum; a line that was handled is one more; and the reader's bounds hold

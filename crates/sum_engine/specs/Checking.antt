@@ -5,7 +5,7 @@ use Rattle.sum_sources.specs.Sources.{Reply, Refused, Given}
 use Rattle.sum_sources.specs.ManifestLines.{past_line}
 use Rattle.sum_engine.specs.declared.settings.CheckSettings.{CheckSettings}
 use Rattle.sum_engine.specs.Worlds.{World, is_dash, reply, after}
-use Rattle.sum_engine.specs.Runs.{joined, Step, Run, at_once}
+use Rattle.sum_engine.specs.Runs.{run_then, Step, Run, at_once}
 use Rattle.sum_lines.specs.Profiles.{present}
 use Rattle.sum_engine.specs.Generation.{fault_line}
 use Rattle.sum_engine.specs.Verdicts.{Rules, Judged, asks_of, all_verdicts}
@@ -28,16 +28,16 @@ line_steps r end c (j ∷ js) =
     ∷ line_steps r end (past_line c) js
 
 -- a manifest that was opened, whose lines have these verdicts
-abbrev pub checked_content : Rules → Content → List Judged → Run
-checked_content r c js = record {
+abbrev pub content_run : Rules → Content → List Judged → Run
+content_run r c js = record {
   steps = line_steps r (end_text r c.ending (counts no_counts js)) c js;
   good = good r c.ending (counts no_counts js);
 }
 
-abbrev pub checked_by : Rules → List ℕ → World → Reply → Run
-checked_by r name w (Refused f) = at_once (name ∷ []) (fault_line r.profile r.tool r.shown f) [] false
-checked_by r name w (Given c) =
-    joined (at_once (name ∷ []) [] [] true) (checked_content r (clip c) (all_verdicts r w (clip c)))
+abbrev pub check_run_by : Rules → List ℕ → World → Reply → Run
+check_run_by r name w (Refused f) = at_once (name ∷ []) (fault_line r.profile r.tool r.shown f) [] false
+check_run_by r name w (Given c) =
+    run_then (at_once (name ∷ []) [] [] true) (content_run r (clip c) (all_verdicts r w (clip c)))
 
-abbrev pub checked : CheckSettings → List ℕ → World → List ℕ → Run
-checked settings tool w name = checked_by (rules_of settings tool name) name (after w (name ∷ [])) (reply w name)
+abbrev pub check_run : CheckSettings → List ℕ → World → List ℕ → Run
+check_run settings tool w name = check_run_by (rules_of settings tool name) name (after w (name ∷ [])) (reply w name)

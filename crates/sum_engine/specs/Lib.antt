@@ -5,10 +5,10 @@ pub mod Generation
 pub mod Verdicts
 pub mod Reports
 pub mod Checking
-pub mod Scenes
+pub mod RunStates
 pub mod Steps
 pub mod Checkers
 pub mod Manifests
 pub mod Laws
 pub mod OldVerdicts
-pub mod joins
+pub mod refinement

@@ -11,14 +11,15 @@ use Rattle.sum_engine.specs.Profiles.{lines_by}
 use Rattle.sum_engine.specs.Runs.{Run, events, outs, errs, asks}
 use Rattle.sum_engine.specs.Verdicts.{Rules, Judged, asks_of, all_verdicts}
 use Rattle.sum_engine.specs.Reports.{out_of, err_of}
-use Rattle.sum_engine.specs.Checking.{line_steps, checked_content}
-use Rattle.sum_engine.specs.Scenes.{Scene, Did, DidPrefix, RunOf}
+use Rattle.sum_engine.specs.Checking.{line_steps, content_run}
+use Rattle.sum_engine.specs.RunStates.{RunState, Did, DidPrefix, RunOf}
 use Rattle.sum_engine.specs.Steps.{Now, Moves, GoesOn, Finishes, Breaks, to_come, start}
 
 -- a new checker that was run to its end
-abbrev pub ManifestGives : Rules → Option Content → ℕ → ℕ → Option Scene → Option Scene → Result Bool Stop → Type 0
+abbrev pub ManifestGives :
+    Rules → Option Content → ℕ → ℕ → Option RunState → Option RunState → Result Bool Stop → Type 0
 ManifestGives r c n m a b x = IfSome c (λ c. WhereTold a b (λ a b.
-    RunOf (checked_content r c (all_verdicts r a.world c)).good (checked_content r c (all_verdicts r a.world c)).steps
+    RunOf (content_run r c (all_verdicts r a.world c)).good (content_run r c (all_verdicts r a.world c)).steps
     n m a b x))
 
 -- only want of memory changes what the source was refused, by one
@@ -31,7 +32,7 @@ RefusedOnMemory n m (Err Memory) = (m ≡ n) ⊎ (m ≡ after_refusal n)
 
 -- what came about of a run's steps extends each output by their texts, and asks their names
 abbrev pub EventsExtend : Type 0
-EventsExtend = (r : Run) (a b : Scene) → Did a b (events r.steps)
+EventsExtend = (r : Run) (a b : RunState) → Did a b (events r.steps)
     → (b.world ≡ after a.world (asks r)) × Appends a.err b.err (errs r) × Appends a.out b.out (outs r)
 
 -- the first k steps of a manifest have the reports and the asks of its first k lines; one more step is for its end
@@ -45,32 +46,33 @@ StepsReport = (r : Rules) (end : List ℕ) (c : Content) (js : List Judged) (k :
 -- so many lines were handled, one after another
 abbrev pub HandledTimes : Rules → Now → Now → ℕ → Type 0
 HandledTimes r a b zero = b ≡ a
-HandledTimes r a b (suc k) = (m : Now) × (vector : List ℕ) × GoesOn (to_come r a) (to_come r m) a.scene m.scene
+HandledTimes r a b (suc k) = (m : Now) × (vector : List ℕ) × GoesOn (to_come r a) (to_come r m) a.run_state m.run_state
     × Moves r a m vector × HandledTimes r m b k
 
 -- after k lines of a new checker the first k of the manifest's steps are done and nothing else, the others are to come,
 -- and the bytes used are those up to the k-th line's end
-pub record Joined (r : Rules) (c : Content) (s : Scene) (b : Now) (k : ℕ) : Type 0 where
+pub record Joined (r : Rules) (c : Content) (s : RunState) (b : Now) (k : ℕ) : Type 0 where
   pub rest : b.rest ≡ past_lines k c
   pub lines : lines_by r.profile b.rest ≡ drop k (lines_by r.profile c)
   pub number : b.number ≡ k
   pub used : b.used + length (past_lines k c).bytes ≡ length c.bytes
-  pub done : Did s b.scene (events (take k (checked_content r c (all_verdicts r s.world c)).steps))
-  pub left : (to_come r b).steps ≡ drop k (checked_content r c (all_verdicts r s.world c)).steps
-  pub good : (to_come r b).good ≡ (checked_content r c (all_verdicts r s.world c)).good
+  pub done : Did s b.run_state (events (take k (content_run r c (all_verdicts r s.world c)).steps))
+  pub left : (to_come r b).steps ≡ drop k (content_run r c (all_verdicts r s.world c)).steps
+  pub good : (to_come r b).good ≡ (content_run r c (all_verdicts r s.world c)).good
 
 -- any number of lines, handled one after another
 abbrev pub StepsJoin : Type 0
-StepsJoin = (r : Rules) (c : Content) (s : Scene) (b : Now) (k : ℕ) → HandledTimes r (start c s) b k → Joined r c s b k
+StepsJoin = (r : Rules) (c : Content) (s : RunState) (b : Now) (k : ℕ) → HandledTimes r (start c s) b k
+    → Joined r c s b k
 
 -- the step that ends comes after all lines, and all events have then come about
 abbrev pub StepsEnd : Type 0
-StepsEnd = (r : Rules) (c : Content) (s : Scene) (b : Now) (z : Scene) (k : ℕ) (x : Bool)
-    → HandledTimes r (start c s) b k → Finishes (to_come r b) x b.scene z
-    → (k ≡ length (lines_by r.profile c)) × (x ≡ (checked_content r c (all_verdicts r s.world c)).good)
-    × Did s z (events (checked_content r c (all_verdicts r s.world c)).steps)
+StepsEnd = (r : Rules) (c : Content) (s : RunState) (b : Now) (z : RunState) (k : ℕ) (x : Bool)
+    → HandledTimes r (start c s) b k → Finishes (to_come r b) x b.run_state z
+    → (k ≡ length (lines_by r.profile c)) × (x ≡ (content_run r c (all_verdicts r s.world c)).good)
+    × Did s z (events (content_run r c (all_verdicts r s.world c)).steps)
 
 -- after a step that a write fault cut off one prefix of all events came about
 abbrev pub StepsCut : Type 0
-StepsCut = (r : Rules) (c : Content) (s : Scene) (b : Now) (z : Scene) (k : ℕ) → HandledTimes r (start c s) b k
-    → Breaks (to_come r b) b.scene z → DidPrefix s z (events (checked_content r c (all_verdicts r s.world c)).steps)
+StepsCut = (r : Rules) (c : Content) (s : RunState) (b : Now) (z : RunState) (k : ℕ) → HandledTimes r (start c s) b k
+    → Breaks (to_come r b) b.run_state z → DidPrefix s z (events (content_run r c (all_verdicts r s.world c)).steps)

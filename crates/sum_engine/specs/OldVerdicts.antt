@@ -14,18 +14,18 @@ use Rattle.sum_lines.specs.Profiles.{Profile, present}
 use Rattle.sum_lines.specs.Escape.{escape_by}
 use Rattle.sum_engine.specs.Profiles.{lines_by}
 use Rattle.sum_engine.specs.Worlds.{World}
-use Rattle.sum_lines.specs.Says.{Improper, says}
+use Rattle.sum_lines.specs.ParsedLines.{Improper, parse_line}
 use Rattle.sum_engine.specs.Verdicts.{Rules, all_verdicts}
 use Rattle.sum_engine.specs.Reports.{no_counts, out_of, err_of, counts, end_text, good}
-use Rattle.sum_engine.specs.Checking.{checked_by}
+use Rattle.sum_engine.specs.Checking.{check_run_by}
 
 -- the profile of older versions
 abbrev pub older : Profile
 older = record { escapes_return = false; drops_return = false; ignores_empty = false }
 
 -- the same rules under a profile
-abbrev pub under : Profile → Rules → Rules
-under p r = record r { profile = p }
+abbrev pub rules_under : Profile → Rules → Rules
+rules_under p r = record r { profile = p }
 
 -- no byte is a carriage return
 abbrev pub NoReturn : List ℕ → Type 0
@@ -33,7 +33,7 @@ NoReturn bytes = All (λ b. b ≢ 13) bytes
 
 -- in the bytes stands the escape `\r`, behind the escape of what comes before it
 abbrev pub HasEscapedReturn : List ℕ → Type 0
-HasEscapedReturn bytes = (front : List ℕ) × (rest : List ℕ) × (bytes ≡ escape front ++ (codes "\\r" ++ rest))
+HasEscapedReturn bytes = (prefix : List ℕ) × (rest : List ℕ) × (bytes ≡ escape prefix ++ (codes "\\r" ++ rest))
 
 -- it doesn't stand in the name of a line with a leading backslash: that of a tagged line, or in the tail of a plain one
 abbrev pub NoEscapedReturn : Algos → List ℕ → Type 0
@@ -61,17 +61,18 @@ pub record SameChecks (r s : Rules) (w : World) (c : Content) : Type 0 where
 
 -- such a manifest is checked alike under both profiles, whatever was asked before
 abbrev pub OldVerdicts : Type 0
-OldVerdicts = (r : Rules) (w : World) (c : Content) → Old r c → SameChecks (under older r) (under present r) w c
+OldVerdicts = (r : Rules) (w : World) (c : Content) → Old r c
+    → SameChecks (rules_under older r) (rules_under present r) w c
 
 -- so all that checking comes to is the same under both, also where the manifest can't be opened
 abbrev pub OldOutcomes : Type 0
 OldOutcomes = (r : Rules) (name : List ℕ) (w : World) (reply : Reply) → NoReturn r.shown
     → ((c : Content) → reply ≡ Given c → Old r (clip c))
-    → checked_by (under older r) name w reply ≡ checked_by (under present r) name w reply
+    → check_run_by (rules_under older r) name w reply ≡ check_run_by (rules_under present r) name w reply
 
 -- where the older profile differs: a carriage return stands unescaped in a name, stays at a line's end, and an empty
 -- line is improper
 abbrev pub OlderDiffers : Type 0
 OlderDiffers = (escape_by older (codes "\r") ≡ codes "\r")
     × (lines_by older (record { bytes = codes "a\r\n"; ending = Whole }) ≡ codes "a\r" ∷ [])
-    × ((algos : Algos) (f : Form) → says older algos f [] ≡ Improper)
+    × ((algos : Algos) (f : Form) → parse_line older algos f [] ≡ Improper)

@@ -24,25 +24,25 @@ name_line p name text =
     let escaped = escape_by p name in
     concat (mark (not (bytes_eq escaped name)) ∷ escaped ∷ codes ": " ∷ text ∷ codes "\n" ∷ [])
 
-abbrev pub said_of : Profile → Verdict → List ℕ → List ℕ
-said_of p Right name = name_line p name (codes "OK")
-said_of p Wrong name = name_line p name (codes "FAILED")
-said_of p (Unread f) name = name_line p name (codes "FAILED open or read")
-said_of p v name = []
+abbrev pub verdict_line : Profile → Verdict → List ℕ → List ℕ
+verdict_line p Right name = name_line p name (codes "OK")
+verdict_line p Wrong name = name_line p name (codes "FAILED")
+verdict_line p (Unread f) name = name_line p name (codes "FAILED open or read")
+verdict_line p v name = []
 
 -- what a report setting leaves out of standard output
-abbrev pub hides : Report → Verdict → Bool
-hides Quiet Right = true
-hides Status v = true
-hides report v = false
+abbrev pub is_hidden : Report → Verdict → Bool
+is_hidden Quiet Right = true
+is_hidden Status v = true
+is_hidden report v = false
 
 -- a line's report on standard output
 abbrev pub out_of : Rules → Judged → List ℕ
-out_of r j = if hides r.settings.report j.verdict then [] else said_of r.profile j.verdict j.name
+out_of r j = if is_hidden r.settings.report j.verdict then [] else verdict_line r.profile j.verdict j.name
 
 -- of a name whose file has the digest that its line gives
 abbrev pub right_line : Report → List ℕ → List ℕ
-right_line report name = if hides report Right then [] else said_of present Right name
+right_line report name = if is_hidden report Right then [] else verdict_line present Right name
 
 abbrev pub tag_word : Algos → List ℕ
 tag_word (One a) = tag a
@@ -70,18 +70,18 @@ abbrev pub no_counts : Counts
 no_counts = record { right = 0; wrong = 0; missing = 0; unread = 0; bad = 0 }
 
 -- one more line, of that verdict
-abbrev pub counted : Counts → Verdict → Counts
-counted c Ignored = c
-counted c Bad = record c { bad = c.bad + 1 }
-counted c Right = record c { right = c.right + 1 }
-counted c Wrong = record c { wrong = c.wrong + 1 }
-counted c Missing = record c { missing = c.missing + 1 }
-counted c (Unread f) = record c { unread = c.unread + 1 }
+abbrev pub counts_with : Counts → Verdict → Counts
+counts_with c Ignored = c
+counts_with c Bad = record c { bad = c.bad + 1 }
+counts_with c Right = record c { right = c.right + 1 }
+counts_with c Wrong = record c { wrong = c.wrong + 1 }
+counts_with c Missing = record c { missing = c.missing + 1 }
+counts_with c (Unread f) = record c { unread = c.unread + 1 }
 
 -- how many lines have each verdict, and so many before them
 abbrev pub counts : Counts → List Judged → Counts
 counts c [] = c
-counts c (j ∷ js) = counts (counted c j.verdict) js
+counts c (j ∷ js) = counts (counts_with c j.verdict) js
 
 abbrev pub entries : Counts → ℕ
 entries c = c.right + c.wrong + c.missing + c.unread
@@ -99,14 +99,15 @@ warning tool n one many = if n == 0 then []
 abbrev pub list_line : Rules → List ℕ → List ℕ
 list_line r text = concat (r.tool ∷ codes ": " ∷ escape_by r.profile r.shown ∷ codes ": " ∷ text ∷ codes "\n" ∷ [])
 
-abbrev pub unverified : Rules → Counts → List ℕ
-unverified r c = if r.settings.ignore_missing && (c.right == 0) then list_line r (codes "no file was verified") else []
+abbrev pub unverified_line : Rules → Counts → List ℕ
+unverified_line r c =
+    if r.settings.ignore_missing && (c.right == 0) then list_line r (codes "no file was verified") else []
 
 abbrev pub warnings : Rules → Counts → List ℕ
 warnings r c = warning r.tool c.bad (codes " line is improperly formatted") (codes " lines are improperly formatted")
     ++ (warning r.tool c.unread (codes " listed file could not be read") (codes " listed files could not be read")
     ++ (warning r.tool c.wrong (codes " computed checksum did NOT match") (codes " computed checksums did NOT match")
-    ++ unverified r c))
+    ++ unverified_line r c))
 
 abbrev pub unless_status : Report → List ℕ → List ℕ
 unless_status Status text = []

@@ -39,8 +39,8 @@ abbrev pub out_in : Event → Option ℕ
 out_in (Puts b) = Some b
 out_in event = None
 
-abbrev pub joined : Run → Run → Run
-joined r s = record { steps = r.steps ++ s.steps; good = r.good && s.good }
+abbrev pub run_then : Run → Run → Run
+run_then r s = record { steps = r.steps ++ s.steps; good = r.good && s.good }
 
 -- a run of one step, which opens a name or none and writes a text to standard error and one to standard output
 abbrev pub at_once : List (List ℕ) → List ℕ → List ℕ → Bool → Run

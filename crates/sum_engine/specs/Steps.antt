@@ -12,47 +12,47 @@ use Rattle.sum_engine.specs.declared.stop.Stop.{Stop}
 use Rattle.sum_engine.specs.declared.stop.Stop.TheVariants.{Memory, Write}
 use Rattle.sum_engine.specs.declared.summary.Counts.{Counts}
 use Rattle.sum_engine.specs.Profiles.{lines_by}
-use Rattle.sum_lines.specs.Says.{says}
+use Rattle.sum_lines.specs.ParsedLines.{parse_line}
 use Rattle.sum_engine.specs.Runs.{Step, Run, events_of}
 use Rattle.sum_engine.specs.Verdicts.{Rules, Judged, judge, verdicts}
-use Rattle.sum_engine.specs.Reports.{counts, end_text, good, counted, no_counts}
+use Rattle.sum_engine.specs.Reports.{counts, end_text, good, counts_with, no_counts}
 use Rattle.sum_engine.specs.Checking.{line_steps}
-use Rattle.sum_engine.specs.Scenes.{Scene, Did, DidPrefix, Wants}
+use Rattle.sum_engine.specs.RunStates.{RunState, Did, DidPrefix, Wants}
 
 -- what is still to come of the manifest, the lines handled and the bytes that they used, the form and the counts
--- so far, and the scene
+-- so far, and the run state
 pub record Now : Type 0 where
   pub rest : Content
   pub number : ℕ
   pub used : ℕ
   pub form : Form
   pub counts : Counts
-  pub scene : Scene
+  pub run_state : RunState
 
-abbrev pub now_by : Option Content → ℕ → ℕ → Form → Counts → Option Scene → Option Now
+abbrev pub now_by : Option Content → ℕ → ℕ → Form → Counts → Option RunState → Option Now
 now_by None n u f c s = None
 now_by (Some rest) n u f c None = None
 now_by (Some rest) n u f c (Some s) =
-    Some (record { rest = rest; number = n; used = u; form = f; counts = c; scene = s })
+    Some (record { rest = rest; number = n; used = u; form = f; counts = c; run_state = s })
 
 -- in front of the first line
-abbrev pub no_line : Option Content → Option Scene → Option Now
+abbrev pub no_line : Option Content → Option RunState → Option Now
 no_line c s = now_by c 0 0 Undecided no_counts s
 
-abbrev pub start : Content → Scene → Now
-start c s = record { rest = c; number = 0; used = 0; form = Undecided; counts = no_counts; scene = s }
+abbrev pub start : Content → RunState → Now
+start c s = record { rest = c; number = 0; used = 0; form = Undecided; counts = no_counts; run_state = s }
 
 -- the next line's verdict
 abbrev pub next_judged : Rules → Now → List ℕ → Judged
 next_judged r a l =
     let f = form_then a.form (line_form r.settings.algo l) in
-    judge r a.scene.world (a.number + 1) (says r.profile r.settings.algo f l)
+    judge r a.run_state.world (a.number + 1) (parse_line r.profile r.settings.algo f l)
 
 -- the verdicts that are still to be found
 abbrev pub rest_verdicts : Rules → Now → List Judged
 rest_verdicts r a =
     let ls = lines_by r.profile a.rest in
-    verdicts r (form_then a.form (form r.settings.algo ls)) a.scene.world a.number ls
+    verdicts r (form_then a.form (form r.settings.algo ls)) a.run_state.world a.number ls
 
 -- the run that is still to come
 abbrev pub to_come : Rules → Now → Run
@@ -68,26 +68,26 @@ abbrev pub step_then : Step → Run → Run
 step_then s r = record { steps = s ∷ r.steps; good = r.good }
 
 -- the first step of r was done, and s is to come
-pub record GoesOn (r s : Run) (a b : Scene) : Type 0 where
+pub record GoesOn (r s : Run) (a b : RunState) : Type 0 where
   pub step : Step
   pub is : r ≡ step_then step s
   pub did : Did a b (events_of step)
 
 -- it was the last, and the answer is whether all is good
-pub record Finishes (r : Run) (answer : Bool) (a b : Scene) : Type 0 where
+pub record Finishes (r : Run) (answer : Bool) (a b : RunState) : Type 0 where
   pub step : Step
   pub is : r ≡ record { steps = step ∷ []; good = answer }
   pub did : Did a b (events_of step)
 
 -- a write failed: a prefix of the step's events came about
-pub record Breaks (r : Run) (a b : Scene) : Type 0 where
+pub record Breaks (r : Run) (a b : RunState) : Type 0 where
   pub step : Step
   pub rest : Run
   pub is : r ≡ step_then step rest
   pub did : DidPrefix a b (events_of step)
 
 -- memory was wanted: nothing of the step came about
-pub record Waits (r : Run) (n m : ℕ) (a b : Scene) : Type 0 where
+pub record Waits (r : Run) (n m : ℕ) (a b : RunState) : Type 0 where
   pub step : Step
   pub rest : Run
   pub is : r ≡ step_then step rest
@@ -102,16 +102,16 @@ pub record Moves (r : Rules) (a b : Now) (vector : List ℕ) : Type 0 where
   pub used : b.used + length b.rest.bytes ≡ a.used + length a.rest.bytes
   pub number : b.number ≡ a.number + 1
   pub form : b.form ≡ form_then a.form (line_form r.settings.algo line)
-  pub counts : b.counts ≡ counted a.counts (next_judged r a line).verdict
+  pub counts : b.counts ≡ counts_with a.counts (next_judged r a line).verdict
   pub held : length vector ≤ length line
 
 abbrev pub StepOf : Rules → ℕ → ℕ → List ℕ → Now → Now → Result Progress Stop → Type 0
-StepOf r n m vector a b (Ok Going) = GoesOn (to_come r a) (to_come r b) a.scene b.scene × Moves r a b vector
-StepOf r n m vector a b (Ok (Ended answer)) = Finishes (to_come r a) answer a.scene b.scene
-StepOf r n m vector a b (Err Write) = Breaks (to_come r a) a.scene b.scene
-StepOf r n m vector a b (Err Memory) = Waits (to_come r a) n m a.scene b.scene
+StepOf r n m vector a b (Ok Going) = GoesOn (to_come r a) (to_come r b) a.run_state b.run_state × Moves r a b vector
+StepOf r n m vector a b (Ok (Ended answer)) = Finishes (to_come r a) answer a.run_state b.run_state
+StepOf r n m vector a b (Err Write) = Breaks (to_come r a) a.run_state b.run_state
+StepOf r n m vector a b (Err Memory) = Waits (to_come r a) n m a.run_state b.run_state
 
--- what a step does, where the manifest and the scene tell
+-- what a step does, where the manifest and the run state tell
 abbrev pub StepGives : Rules → ℕ → ℕ → List ℕ → Option Now → Option Now → Result Progress Stop → Type 0
 StepGives r n m vector a b x = WhereTold a b (λ a b. StepOf r n m vector a b x)
 

@@ -12,8 +12,8 @@ use Rattle.sum_engine.specs.declared.verdict.Verdict.{Verdict}
 use Rattle.sum_engine.specs.declared.verdict.Verdict.TheVariants.{Ignored, Bad, Right, Wrong, Missing, Unread}
 use Rattle.sum_lines.specs.Profiles.{Profile}
 use Rattle.sum_engine.specs.Profiles.{lines_by}
-use Rattle.sum_lines.specs.Says.{Said, Nothing, Improper, Spells, says}
-use Rattle.sum_engine.specs.Worlds.{World, is_dash, reply, after, read}
+use Rattle.sum_lines.specs.ParsedLines.{ParsedLine, Nothing, Improper, WithEntry, parse_line}
+use Rattle.sum_engine.specs.Worlds.{World, is_dash, reply, after, digest_or_fault}
 
 -- what a manifest is checked by, the name under which it is shown, and whether it came from standard input
 pub record Rules : Type 0 where
@@ -35,21 +35,21 @@ not_found (Refused NotFound) = true
 not_found r = false
 
 -- what was read, against the digest that the line gives
-abbrev pub against : List ℕ → Result (List ℕ) Fault → Verdict
-against d (Ok found) = if bytes_eq found d then Right else Wrong
-against d (Err f) = Unread f
+abbrev pub digest_verdict : List ℕ → Result (List ℕ) Fault → Verdict
+digest_verdict d (Ok found) = if bytes_eq found d then Right else Wrong
+digest_verdict d (Err f) = Unread f
 
 abbrev pub verdict_of : Rules → World → Spelled → Verdict
 verdict_of r w s =
     if r.from_stdin && is_dash s.name then Bad
     else if r.settings.ignore_missing && not_found (reply w s.name) then Missing
-    else against s.digest (read (kind_of s) (reply w s.name))
+    else digest_verdict s.digest (digest_or_fault (kind_of s) (reply w s.name))
 
 -- line n, which says this
-abbrev pub judge : Rules → World → ℕ → Said → Judged
+abbrev pub judge : Rules → World → ℕ → ParsedLine → Judged
 judge r w n Nothing = record { number = n; verdict = Ignored; name = [] }
 judge r w n Improper = record { number = n; verdict = Bad; name = [] }
-judge r w n (Spells s) = record { number = n; verdict = verdict_of r w s; name = s.name }
+judge r w n (WithEntry s) = record { number = n; verdict = verdict_of r w s; name = s.name }
 
 -- the name of an entry is asked
 abbrev pub asks_by : Verdict → List ℕ → List (List ℕ)
@@ -64,8 +64,8 @@ asks_of j = asks_by j.verdict j.name
 abbrev pub verdicts : Rules → Form → World → ℕ → List (List ℕ) → List Judged
 verdicts r f w n [] = []
 verdicts r f w n (l ∷ ls) =
-    judge r w (n + 1) (says r.profile r.settings.algo f l)
-    ∷ verdicts r f (after w (asks_of (judge r w (n + 1) (says r.profile r.settings.algo f l)))) (n + 1) ls
+    judge r w (n + 1) (parse_line r.profile r.settings.algo f l)
+    ∷ verdicts r f (after w (asks_of (judge r w (n + 1) (parse_line r.profile r.settings.algo f l)))) (n + 1) ls
 
 -- a whole manifest, whose form is that of all its lines
 abbrev pub all_verdicts : Rules → World → Content → List Judged

@@ -32,11 +32,11 @@ after w names = record {
 }
 
 -- the digest of a content that ended so, or the fault by which it ended
-abbrev pub ended : Ending → List ℕ → Result (List ℕ) Fault
-ended Whole d = Ok d
-ended (Broken f) d = Err f
+abbrev pub digest_unless_broken : Ending → List ℕ → Result (List ℕ) Fault
+digest_unless_broken Whole d = Ok d
+digest_unless_broken (Broken f) d = Err f
 
 -- what reading a reply gives: the digest of all its bytes, or the fault of opening or reading it
-abbrev pub read : KindValue → Reply → Result (List ℕ) Fault
-read kind (Refused f) = Err f
-read kind (Given c) = ended (clip c).ending (digest kind (clip c).bytes)
+abbrev pub digest_or_fault : KindValue → Reply → Result (List ℕ) Fault
+digest_or_fault kind (Refused f) = Err f
+digest_or_fault kind (Given c) = digest_unless_broken (clip c).ending (digest kind (clip c).bytes)

@@ -2,7 +2,7 @@
 ghost use Rattle.std.specs.Prelude.{◌≡◌, ◌||◌, IfNone, IfSome, MatchOption, is_none};
 ghost use Rattle.sum_sources.specs.Sources.{after_refusal};
 ghost use Rattle.sum_engine.specs.Worlds.{is_dash};
-ghost use Rattle.sum_engine.specs.joins.Asking.{world};
+ghost use Rattle.sum_engine.specs.refinement.Asking.{world};
 
 use digest_kinds::{AnyHasher, Digest, Kind};
 use sum_sources::{Fault, Input, OpenFault, PIECE, Source, Stdin, hash_input_over};
@@ -18,10 +18,14 @@ pub(crate) enum Asked {
     Broken(Fault),
 }
 
-/// The name of standard input.
-pub(crate) const DASH: &[u8] = b"-";
+/// Whether the name is that of standard input.
+pub(crate) fn is_dash(name: &[u8]) -> bool
+    ensures { result ≡ is_dash name.now }
+{
+    name == b"-".as_slice()
+}
 
-ghost use Rattle.sum_engine.specs.joins.Asking.{AskGives, IsRead, Sized};
+ghost use Rattle.sum_engine.specs.refinement.Asking.{AskGives, IsRead, Sized};
 
 /// Opens the name, where `-` is standard input, and reads it to its end, by way of the buffer. None where the source
 /// had no memory to open it; the name then doesn't count as asked.
@@ -40,7 +44,7 @@ pub(crate) fn ask<I: Input + Drop, S: Source>(
         (λ _. S.refusals source.new ≡ S.refusals source.old) }
     ensures sized { Sized kind result }
 {
-    if name == DASH {
+    if is_dash(name) {
         return Some(read_digest(kind, &mut stdin.take(), buffer));
     }
     match source.open_file(name) {

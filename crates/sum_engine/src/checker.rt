@@ -28,7 +28,7 @@ impl<'a, I> Model for Checker<'a, I> {
 
     ghost Value = { Checking I };
 
-    ghost use Rattle.sum_engine.specs.joins.Positions.{place_of};
+    ghost use Rattle.sum_engine.specs.refinement.Positions.{place_of};
 
     ghost view = { λ c. record { place = place_of c.position; answer = c.answer } };
 }
@@ -37,9 +37,9 @@ impl<'a, I: Input> Checker<'a, I> {
     ghost use Rattle.std.specs.Option.{option_map};
     ghost use Rattle.sum_sources.specs.Contents.{clip};
     ghost use Rattle.sum_sources.specs.LineReaders.{coming};
-    ghost use Rattle.sum_engine.specs.Scenes.{Scene, scene, HoldNothing, Failures};
+    ghost use Rattle.sum_engine.specs.RunStates.{RunState, run_state, HoldNothing, Failures};
     ghost use Rattle.sum_engine.specs.Checkers.{again_after, now_of, Reads};
-    ghost use Rattle.sum_engine.specs.joins.Listings.{rules_in};
+    ghost use Rattle.sum_engine.specs.refinement.Listings.{rules_in};
 
     /// A checker of the manifest that `input` gives. Its diagnostics begin with `tool`, as with `md5sum`, and call the
     /// manifest `shown`; `from_stdin` says whether it came from standard input, where a line that names `-` is
@@ -59,7 +59,7 @@ impl<'a, I: Input> Checker<'a, I> {
           shown = shown.entry.now;
           from_stdin = from_stdin;
         } }
-        ensures now { (s : Option Scene) → now_of I.content result.place s
+        ensures now { (s : Option RunState) → now_of I.content result.place s
             ≡ no_line (option_map clip (I.content input)) s }
         ensures answer { result.answer ≡ None }
         ensures reader { result.place.reader
@@ -77,7 +77,7 @@ impl<'a, I: Input> Checker<'a, I> {
     /// A checker of the manifest that `input` gives, by what it is listed as.
     pub(crate) fn over(listing: Listing<'a>, input: I) -> Self
         ensures rules { result.place.rules ≡ rules_in listing.entry }
-        ensures now { (s : Option Scene) → now_of I.content result.place s
+        ensures now { (s : Option RunState) → now_of I.content result.place s
             ≡ no_line (option_map clip (I.content input)) s }
         ensures answer { result.answer ≡ None }
         ensures reader { result.place.reader
@@ -112,8 +112,8 @@ impl<'a, I: Input> Checker<'a, I> {
         ensures gives { self.old.answer ≡ None → HoldNothing O.held E.held streams.old
             → StepGives self.old.place.rules
             (S.refusals streams.old.source) (S.refusals streams.new.source) line.new.items
-            (now_of I.content self.old.place (scene J.content S.told O.written E.written streams.old))
-            (now_of I.content self.new.place (scene J.content S.told O.written E.written streams.new)) result }
+            (now_of I.content self.old.place (run_state J.content S.told O.written E.written streams.old))
+            (now_of I.content self.new.place (run_state J.content S.told O.written E.written streams.new)) result }
         ensures none { HoldNothing O.held E.held streams.old → HoldNothing O.held E.held streams.new }
         ensures again { IfSome self.old.answer
             (λ r. (result ≡ r) × (self.new ≡ self.old) × (streams.new ≡ streams.old)) }

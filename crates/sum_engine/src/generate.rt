@@ -2,9 +2,9 @@
 ghost use Rattle.std.specs.Prelude.{◌≡◌, ◌||◌, Err, OnOk, is_none, length};
 ghost use Rattle.sum_engine.specs.Worlds.{is_dash};
 ghost use Rattle.sum_lines.specs.Lines.{line};
-ghost use Rattle.sum_engine.specs.Generation.{generated};
-ghost use Rattle.sum_engine.specs.joins.Telling.{Tells, Fails};
-ghost use Rattle.sum_engine.specs.Scenes.{scene, RunGives, HoldNothing, refusals_over, Failures};
+ghost use Rattle.sum_engine.specs.Generation.{generate_run};
+ghost use Rattle.sum_engine.specs.refinement.Telling.{Tells, Fails};
+ghost use Rattle.sum_engine.specs.RunStates.{run_state, RunGives, HoldNothing, refusals_over, Failures};
 
 use crate::asking::{Asked, ask};
 use crate::report::put_fault_line;
@@ -28,10 +28,10 @@ pub fn generate_one<I: Input + Drop, S: Source, O: Sink, E: Sink>(
     streams: &mut Streams<I, S, O, E>,
 ) -> Result<bool, Stop>
     ensures gives { HoldNothing O.held E.held streams.old
-        → RunGives (λ w. generated settings.now tool.now w name.now)
+        → RunGives (λ w. generate_run settings.now tool.now w name.now)
         (S.refusals streams.old.source) (S.refusals streams.new.source)
-        (scene I.content S.told O.written E.written streams.old)
-        (scene I.content S.told O.written E.written streams.new) result }
+        (run_state I.content S.told O.written E.written streams.old)
+        (run_state I.content S.told O.written E.written streams.new) result }
     ensures none { HoldNothing O.held E.held streams.old → HoldNothing O.held E.held streams.new }
     ensures refusals { S.refusals streams.new.source ≡ refusals_over (S.refusals streams.old.source) result }
     ensures failures { Failures O.failures E.failures streams.old streams.new result }

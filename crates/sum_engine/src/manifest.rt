@@ -1,12 +1,12 @@
 //! Checking one manifest.
 ghost use Rattle.std.specs.Option.{option_map};
 ghost use Rattle.sum_sources.specs.Contents.{clip};
-ghost use Rattle.sum_engine.specs.Checking.{checked};
-ghost use Rattle.sum_engine.specs.Scenes.{scene, RunGives, HoldNothing, Failures};
+ghost use Rattle.sum_engine.specs.Checking.{check_run};
+ghost use Rattle.sum_engine.specs.RunStates.{run_state, RunGives, HoldNothing, Failures};
 ghost use Rattle.sum_engine.specs.Manifests.{ManifestGives, RefusedOnMemory};
-ghost use Rattle.sum_engine.specs.joins.Listings.{rules_in};
+ghost use Rattle.sum_engine.specs.refinement.Listings.{rules_in};
 
-use crate::asking::DASH;
+use crate::asking::is_dash;
 use crate::checker::Checker;
 use crate::listing::Listing;
 use crate::progress::Progress;
@@ -33,15 +33,15 @@ pub fn check_one<A: Allocator + Copy, J: Input + Drop, S: Source, O: Sink, E: Si
     streams: &mut Streams<J, S, O, E>,
 ) -> Result<bool, Stop>
     ensures gives { HoldNothing O.held E.held streams.old
-        → RunGives (λ w. checked settings tool.now w name.now)
+        → RunGives (λ w. check_run settings tool.now w name.now)
         (S.refusals streams.old.source) (S.refusals streams.new.source)
-        (scene J.content S.told O.written E.written streams.old)
-        (scene J.content S.told O.written E.written streams.new) result }
+        (run_state J.content S.told O.written E.written streams.old)
+        (run_state J.content S.told O.written E.written streams.new) result }
     ensures none { HoldNothing O.held E.held streams.old → HoldNothing O.held E.held streams.new }
     ensures refusals { RefusedOnMemory (S.refusals streams.old.source) (S.refusals streams.new.source) result }
     ensures failures { Failures O.failures E.failures streams.old streams.new result }
 {
-    if name == DASH {
+    if is_dash(name) {
         let input = streams.stdin.take();
         let listing = Listing {
             settings,
@@ -79,8 +79,8 @@ fn check_input<'a, A: Allocator, I: Input + Drop, J: Input + Drop, S: Source, O:
     ensures gives { HoldNothing O.held E.held streams.old
         → ManifestGives (rules_in listing.entry) (option_map clip (I.content input))
         (S.refusals streams.old.source) (S.refusals streams.new.source)
-        (scene J.content S.told O.written E.written streams.old)
-        (scene J.content S.told O.written E.written streams.new) result }
+        (run_state J.content S.told O.written E.written streams.old)
+        (run_state J.content S.told O.written E.written streams.new) result }
     ensures none { HoldNothing O.held E.held streams.old → HoldNothing O.held E.held streams.new }
     ensures refusals { RefusedOnMemory (S.refusals streams.old.source) (S.refusals streams.new.source) result }
     ensures failures { Failures O.failures E.failures streams.old streams.new result }

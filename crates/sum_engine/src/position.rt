@@ -33,18 +33,18 @@ impl<'a, I: Input> Position<'a, I> {
     ghost use Rattle.sum_sources.specs.Contents.{clip};
     ghost use Rattle.sum_sources.specs.LineReaders.{coming};
     ghost use Rattle.sum_lines.specs.Entries.{form_then, line_form};
-    ghost use Rattle.sum_lines.specs.Says.{says};
-    ghost use Rattle.sum_engine.specs.Scenes.{Scene, scene, HoldNothing, Failures, refusals_over};
+    ghost use Rattle.sum_lines.specs.ParsedLines.{parse_line};
+    ghost use Rattle.sum_engine.specs.RunStates.{RunState, run_state, HoldNothing, Failures, refusals_over};
     ghost use Rattle.sum_engine.specs.Steps.{no_line, StepGives, WantsMemory};
     ghost use Rattle.sum_engine.specs.Checkers.{now_of, Reads};
-    ghost use Rattle.sum_engine.specs.joins.Handling.{HandleGives};
-    ghost use Rattle.sum_engine.specs.joins.Listings.{rules_in};
-    ghost use Rattle.sum_engine.specs.joins.Positions.{place_of};
+    ghost use Rattle.sum_engine.specs.refinement.Handling.{HandleGives};
+    ghost use Rattle.sum_engine.specs.refinement.Listings.{rules_in};
+    ghost use Rattle.sum_engine.specs.refinement.Positions.{place_of};
 
     /// In front of the first line of the manifest that `input` gives.
     pub(crate) fn new(listing: Listing<'a>, input: I) -> Self
         ensures rules { rules_in result.listing ≡ rules_in listing.entry }
-        ensures now { (s : Option Scene) → now_of I.content (place_of result) s
+        ensures now { (s : Option RunState) → now_of I.content (place_of result) s
             ≡ no_line (option_map clip (I.content input)) s }
         ensures reader { result.reader ≡ record { input = input; ahead = []; taken = 0; lines = 0; answer = None } }
     {
@@ -73,8 +73,8 @@ impl<'a, I: Input> Position<'a, I> {
     ) -> Result<Progress, Stop>
         ensures gives { HoldNothing O.held E.held streams.old → StepGives (rules_in self.old.listing)
             (S.refusals streams.old.source) (S.refusals streams.new.source) line.new.items
-            (now_of I.content (place_of self.old) (scene J.content S.told O.written E.written streams.old))
-            (now_of I.content (place_of self.new) (scene J.content S.told O.written E.written streams.new)) result }
+            (now_of I.content (place_of self.old) (run_state J.content S.told O.written E.written streams.old))
+            (now_of I.content (place_of self.new) (run_state J.content S.told O.written E.written streams.new)) result }
         ensures none { HoldNothing O.held E.held streams.old → HoldNothing O.held E.held streams.new }
         ensures wants { WantsMemory (S.refusals streams.old.source) (S.refusals streams.new.source)
             (coming I.content self.old.reader) result }
@@ -121,11 +121,11 @@ impl<'a, I: Input> Position<'a, I> {
         requires room { total self.old.counts < self.old.reader.lines }
         requires few { self.old.reader.lines ≤ LIMIT }
         ensures gives { HoldNothing O.held E.held streams.old → HandleGives (rules_in self.old.listing)
-            (says present self.old.listing.settings.algo
+            (parse_line present self.old.listing.settings.algo
             (form_then self.old.form (line_form self.old.listing.settings.algo line.old.items)) line.old.items)
             self.old.reader.lines self.old.counts self.new.counts
-            (scene J.content S.told O.written E.written streams.old)
-            (scene J.content S.told O.written E.written streams.new) result }
+            (run_state J.content S.told O.written E.written streams.old)
+            (run_state J.content S.told O.written E.written streams.new) result }
         ensures none { HoldNothing O.held E.held streams.old → HoldNothing O.held E.held streams.new }
         ensures form { self.new.form
             ≡ form_then self.old.form (line_form self.old.listing.settings.algo line.old.items) }

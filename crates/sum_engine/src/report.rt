@@ -5,16 +5,16 @@ ghost use Rattle.sum_lines.specs.Escape.{escape, escape_differs};
 ghost use Rattle.sum_lines.specs.Shapes.{mark};
 ghost use Rattle.sum_lines.specs.Profiles.{present};
 ghost use Rattle.sum_engine.specs.Generation.{fault_line};
-ghost use Rattle.sum_engine.specs.Reports.{said_of, bad_line, err_by};
-ghost use Rattle.sum_engine.specs.joins.Listings.{rules_in};
-ghost use Rattle.sum_engine.specs.Scenes.{Kept, Rose};
-ghost use Rattle.sum_engine.specs.joins.Telling.{out_by, Tells, Fails, HandsBoth};
+ghost use Rattle.sum_engine.specs.Reports.{verdict_line, bad_line, err_by};
+ghost use Rattle.sum_engine.specs.refinement.Listings.{rules_in};
+ghost use Rattle.sum_engine.specs.RunStates.{NoFailure, OneFailure};
+ghost use Rattle.sum_engine.specs.refinement.Telling.{out_by, Tells, Fails, HandsBoth};
 
 use crate::listing::Listing;
 use crate::settings::Report;
 use crate::telling::tell;
 use crate::verdict::Verdict;
-use digest_kinds::{Algos, Kind};
+use digest_kinds::Algos;
 use sum_lines::{Part, Sink, SinkFault, needs_escape};
 use sum_sources::Fault;
 
@@ -56,8 +56,8 @@ pub(crate) fn put_report<O: Sink, E: Sink>(
         (out_by present listing.now.settings.report verdict name.now) result }
     ensures none { E.held err.old ≡ [] → O.held out.old ≡ [] → (E.held err.new ≡ []) × (O.held out.new ≡ []) }
     ensures failures { MatchResult result
-        (λ _. Kept (O.failures out.old) (O.failures out.new) (E.failures err.old) (E.failures err.new))
-        (λ _. Rose (O.failures out.old) (O.failures out.new) (E.failures err.old) (E.failures err.new)) }
+        (λ _. NoFailure (O.failures out.old) (O.failures out.new) (E.failures err.old) (E.failures err.new))
+        (λ _. OneFailure (O.failures out.old) (O.failures out.new) (E.failures err.old) (E.failures err.new)) }
 {
     match put_err(err, listing, number, verdict, name) {
         Ok(()) => put_out(out, listing.settings.report, verdict, name),
@@ -86,7 +86,7 @@ fn put_out<O: Sink>(
 }
 
 fn put_said<O: Sink>(out: &mut O, verdict: Verdict, name: &[u8]) -> Result<(), SinkFault>
-    ensures text { Tells O.written O.held out.old out.new (said_of present verdict name.now) result }
+    ensures text { Tells O.written O.held out.old out.new (verdict_line present verdict name.now) result }
     ensures failures { Fails (O.failures out.old) (O.failures out.new) result }
 {
     match verdict {
@@ -160,7 +160,7 @@ fn tag_word(algos: Algos) -> &'static str
     ensures { result.now ≡ tag_word algos }
 {
     match algos {
-        Algos::One(algo) => Kind::of(algo).tag(),
+        Algos::One(algo) => algo.tag(),
         Algos::Any => "tagged",
     }
 }

@@ -17,10 +17,10 @@ pub(crate) struct Counts {
     pub bad: u64,
 }
 
-ghost use Rattle.sum_engine.specs.Reports.{list_line, warning, warnings, unverified, summary, good};
-ghost use Rattle.sum_engine.specs.Reports.{entries, total, counted, no_counts};
-ghost use Rattle.sum_engine.specs.joins.Listings.{rules_in};
-ghost use Rattle.sum_engine.specs.joins.Telling.{Tells, Fails};
+ghost use Rattle.sum_engine.specs.Reports.{list_line, warning, warnings, unverified_line, summary, good};
+ghost use Rattle.sum_engine.specs.Reports.{entries, total, counts_with, no_counts};
+ghost use Rattle.sum_engine.specs.refinement.Listings.{rules_in};
+ghost use Rattle.sum_engine.specs.refinement.Telling.{Tells, Fails};
 ghost use Rattle.sum_sources.specs.declared.fault.Ending.TheVariants.{Whole};
 
 impl Counts {
@@ -36,7 +36,7 @@ impl Counts {
     /// One more line, of that verdict.
     pub(crate) fn counted(self, verdict: Verdict) -> Counts
         requires { total self < 2 ^ 63 }
-        ensures { result ≡ counted self verdict }
+        ensures { result ≡ counts_with self verdict }
     {
         let mut counts = self;
         match verdict {
@@ -143,7 +143,7 @@ fn put_warning<'a, E: Sink>(
 }
 
 fn put_unverified<E: Sink>(err: &mut E, listing: &Listing, counts: Counts) -> Result<(), SinkFault>
-    ensures text { Tells E.written E.held err.old err.new (unverified (rules_in listing.now) counts) result }
+    ensures text { Tells E.written E.held err.old err.new (unverified_line (rules_in listing.now) counts) result }
     ensures failures { Fails (E.failures err.old) (E.failures err.new) result }
 {
     if listing.settings.ignore_missing && counts.right == 0 {

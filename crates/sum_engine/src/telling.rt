@@ -1,6 +1,6 @@
 //! Lines that are written and handed on at once.
-ghost use Rattle.sum_lines.specs.joins.PartTexts.{parts_text};
-ghost use Rattle.sum_engine.specs.joins.Telling.{Tells, Fails};
+ghost use Rattle.sum_lines.specs.refinement.PartTexts.{parts_text};
+ghost use Rattle.sum_engine.specs.refinement.Telling.{Tells, Fails};
 
 use sum_lines::{Part, Sink, SinkFault, put_parts};
 

@@ -5,10 +5,10 @@ ghost use Rattle.sum_sources.specs.Sources.{after_refusal};
 ghost use Rattle.sum_lines.specs.Entries.{form_then, line_form};
 ghost use Rattle.sum_engine.specs.Worlds.{is_dash};
 ghost use Rattle.sum_lines.specs.Profiles.{present};
-ghost use Rattle.sum_lines.specs.Says.{says};
-ghost use Rattle.sum_engine.specs.joins.Asking.{world};
+ghost use Rattle.sum_lines.specs.ParsedLines.{parse_line};
+ghost use Rattle.sum_engine.specs.refinement.Asking.{world};
 
-use crate::asking::{Asked, DASH, ask};
+use crate::asking::{Asked, ask, is_dash};
 use crate::listing::Listing;
 use digest_kinds::{Algos, Digest};
 use std::alloc::Allocator;
@@ -39,13 +39,13 @@ pub(crate) struct Judgement<'a> {
     pub name: &'a [u8],
 }
 
-ghost use Rattle.sum_engine.specs.joins.Listings.{rules_in};
-ghost use Rattle.sum_engine.specs.joins.Judging.{said_by, Within, JudgeGives, compared, judgement_asks};
+ghost use Rattle.sum_engine.specs.refinement.Listings.{rules_in};
+ghost use Rattle.sum_engine.specs.refinement.Judging.{parsed_line_by, Within, JudgeGives, compared, judgement_asks};
 
 /// Reads a line, in a list of the form that the lines before it have.
 pub(crate) fn read<A: Allocator>(algos: Algos, form: Form, line: &mut Vec<u8, A>) -> (Reading, Form)
     ensures form { result.1 ≡ form_then form (line_form algos line.old.items) }
-    ensures said { said_by line.new.items result.0 ≡ says present algos result.1 line.old.items }
+    ensures said { parsed_line_by line.new.items result.0 ≡ parse_line present algos result.1 line.old.items }
     ensures within { Within line.new.items result.0 }
     ensures held { length line.new.items ≤ length line.old.items }
 {
@@ -63,7 +63,7 @@ pub(crate) fn judge<'a, I: Input + Drop, S: Source>(
 ) -> Option<Judgement<'a>>
     requires { Within line.now reading.now }
     ensures gives { JudgeGives (rules_in listing.now) (world I.content (S.told source.old) stdin.old)
-        (world I.content (S.told source.new) stdin.new) (said_by line.now reading.now) result }
+        (world I.content (S.told source.new) stdin.new) (parsed_line_by line.now reading.now) result }
     ensures taken { MatchOption result (stdin.new ≡ stdin.old)
         (λ j. is_none stdin.new ≡ is_none stdin.old || list_any is_dash (judgement_asks j)) }
     ensures refusals { MatchOption result (S.refusals source.new ≡ after_refusal (S.refusals source.old))
@@ -85,7 +85,7 @@ pub(crate) fn judge<'a, I: Input + Drop, S: Source>(
             stop,
         } => {
             let name = &line[*start..*stop];
-            if listing.from_stdin && name == DASH {
+            if listing.from_stdin && is_dash(name) {
                 return Some(Judgement {
                     verdict: Verdict::Bad,
                     name,

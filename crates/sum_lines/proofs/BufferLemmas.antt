@@ -2,7 +2,7 @@
 use Rattle.std.proofs.Common.{ℕ, ◌≡◌, List, [], ◌++◌, Option, None, Some, Result, Ok, Err, ap, sym, ◌∙◌, append_assoc, append-nil}
 use Rattle.std.specs.Io.KnownBytes.{Appends, append_known}
 use Rattle.sum_lines.specs.Sinks.{SinkState, Wrote, Flushes, WritesFrom}
-use Rattle.sum_lines.specs.joins.Emptying.{Empties}
+use Rattle.sum_lines.specs.refinement.Emptying.{Empties}
 use Rattle.sum_lines.proofs.SinkLemmas.{Flushes-behind}
 
 -- a sink with a buffer over it that holds these bytes

@@ -10,13 +10,12 @@ use Rattle.sum_lines.specs.declared.line_reading.Form.{Form}
 use Rattle.sum_lines.specs.declared.line_reading.Form.TheVariants.{Undecided, Standard, Reversed}
 use Rattle.sum_lines.specs.Escape.{escape}
 use Rattle.sum_lines.specs.Shapes.{is_blank, mark, Plain, Tagged}
-use Rattle.sum_lines.specs.Scanned.{Parts, plain_parts}
-use Rattle.sum_lines.specs.Entries.{ignored, begins_standard, form_of_tail, Decides, IsForm, Spells, RawOf, Spelled, kind_of, ByTag, ByTail, form_then, line_form, form}
+use Rattle.sum_lines.specs.PartsOfLines.{Parts, plain_parts}
+use Rattle.sum_lines.specs.Entries.{is_ignored, begins_standard, form_of_tail, Decides, IsForm, Spells, RawOf, Spelled, kind_of, ByTag, ByTail, form_then, line_form, form}
 use Rattle.sum_lines.specs.Laws.{OneEntry, OneForm}
 use Rattle.sum_lines.proofs.UnescapeLemmas.{escape-apart}
 use Rattle.sum_lines.proofs.TaggedLemmas.{Begins, tag-begins, passes-other}
-use Rattle.sum_lines.proofs.PlainLemmas.{plain-digits, apart, plain-once, tagged-once}
-use Rattle.sum_lines.proofs.ScannedLemmas.{found-plain, plain-found}
+use Rattle.sum_lines.proofs.PlainLemmas.{plain-digits, apart, plain-once, tagged-once, plain_is_read, read_is_plain}
 
 -- ---- one entry
 
@@ -25,6 +24,7 @@ abbrev pub tag_parts : {escaped : List ℕ → List ℕ} {algos : Algos} {line :
     → ByTag escaped algos line s → Parts
 tag_parts {s = s} by = record { escaped = by.escaped; kind = kind_of s; digest = s.digest; text = by.raw }
 
+-- those of a plain line
 abbrev pub tail_parts : {escaped : List ℕ → List ℕ} {algos : Algos} {f : Form} {line : List ℕ} {s : Spelled}
     → ByTail escaped algos f line s → Parts
 tail_parts {s = s} by = record { escaped = by.escaped; kind = kind_of s; digest = s.digest; text = by.tail }
@@ -40,6 +40,7 @@ spelling_apart : (e : Bool) (m n : List ℕ) → cond e (escape m) m ≡ cond e 
 spelling_apart true m n h = escape-apart m n h
 spelling_apart false m n h = h
 
+-- so equal raw names spell one name
 spells_one : {e f : Bool} {raw other m n : List ℕ} → e ≡ f → raw ≡ other → Spells escape e raw m
     → Spells escape f other n → m ≡ n
 spells_one {e} {m = m} {n = n} mark raw s t = spelling_apart e m n (sym s.is ∙ raw ∙ rw mark t.is)
@@ -59,6 +60,7 @@ tags_one s t p q =
     spelled_same s t (ap (λ (x : Parts). x.kind.algo) same) (ap (λ (x : Parts). x.digest) same)
     (spells_one (ap (λ (x : Parts). x.escaped) same) text p.spells q.spells)
 
+-- a plain line spells one entry, too
 tails_one : {algos : Algos} {f : Form} {line : List ℕ} (s t : Spelled) → ByTail escape algos f line s
     → ByTail escape algos f line t → s ≡ t
 tails_one {f = f} s t p q =
@@ -95,37 +97,40 @@ pub decides-form : {algos : Algos} {line : List ℕ} {f : Form} → Decides algo
     → (line_form algos line ≡ f) × ((g : Form) → form_then f g ≡ f)
 decides-form {algos} {line} d =
     let here : line_form algos line ≡ form_of_tail d.tail =
-    ap form_of_parts (plain-found (decided_parts d) d.plain) in
+    ap form_of_parts (plain_is_read (decided_parts d) d.plain) in
     (here ∙ sym d.is, λ g. rw d.is (keeps (begins_standard d.tail) g))
 
 -- a line of either shape isn't ignored
-pub not_ignored : (e : Bool) (xs rest : List ℕ) → Begins xs → ignored (mark e ++ (xs ++ rest)) ≡ false
+pub not_ignored : (e : Bool) (xs rest : List ℕ) → Begins xs → is_ignored (mark e ++ (xs ++ rest)) ≡ false
 not_ignored true xs rest b = refl
 not_ignored false xs rest b = rw b.are b.no_hash
 
+-- also behind blanks
 speaks : (blanks : List ℕ) (e : Bool) (xs rest : List ℕ) → AllPass is_blank blanks → Begins xs
-    → ignored (blanks ++ (mark e ++ (xs ++ rest))) ≡ false
+    → is_ignored (blanks ++ (mark e ++ (xs ++ rest))) ≡ false
 speaks [] e xs rest all b = not_ignored e xs rest b
 speaks (x ∷ blanks) e xs rest all b =
     passes-other is_blank 35 x (All-head (λ y. is_blank y ≡ true) x blanks all) refl
 
+-- so a plain line speaks
 pub plain-speaks : {algos : Algos} {line : List ℕ} {e : Bool} {kind : KindValue} {d tail : List ℕ}
-    → Plain algos line e kind d tail → ignored line ≡ false
+    → Plain algos line e kind d tail → is_ignored line ≡ false
 plain-speaks {e = e} {tail = tail} p =
     let digits = plain-digits p in
     rw p.whole (speaks p.blanks e p.digits (p.blank ∷ tail) p.are_blanks digits.begins)
 
+-- and a tagged one
 pub tagged-speaks : {algos : Algos} {line : List ℕ} {e : Bool} {kind : KindValue} {d raw : List ℕ}
-    → Tagged algos line e kind d raw → ignored line ≡ false
+    → Tagged algos line e kind d raw → is_ignored line ≡ false
 tagged-speaks {e = e} {kind = kind} t =
     rw t.whole (speaks t.blanks e (tag kind.algo) _ t.are_blanks (tag-begins kind.algo))
 
 -- a line that is found to be plain decides; any other decides nothing
 decided : (algos : Algos) (line : List ℕ) (o : Option Parts) → o ≡ plain_parts algos line
     → Decides algos line (form_of_parts o) ⊎ ((o ≡ None) × ((f : Form) → Decides algos line f → ⊥))
-decided algos line None h = inr (refl, λ f d. let bad = h ∙ plain-found (decided_parts d) d.plain in cc)
+decided algos line None h = inr (refl, λ f d. let bad = h ∙ plain_is_read (decided_parts d) d.plain in cc)
 decided algos line (Some p) h =
-    let plain = found-plain (sym h) in
+    let plain = read_is_plain (sym h) in
     inl (record {
       escaped = p.escaped;
       kind = p.kind;
@@ -145,7 +150,7 @@ decides-or algos line = elim (decided algos line (plain_parts algos line) refl) 
 ]
 
 -- an ignored line decides nothing
-pub ignored-mute : (algos : Algos) (line : List ℕ) → ignored line ≡ true → line_form algos line ≡ Undecided
+pub ignored-mute : (algos : Algos) (line : List ℕ) → is_ignored line ≡ true → line_form algos line ≡ Undecided
 ignored-mute algos line h = elim (decides-or algos line) [
   | inl d ↦ let bad = sym h ∙ d.speaks in cc
   | inr mute ↦ mute.0
@@ -159,6 +164,7 @@ is-form algos (line ∷ later) = elim (decides-or algos line) [
   | inr none ↦ rw none.0 (inr (none.1, is-form algos later))
 ]
 
+-- a list's form is the one that is computed
 form-is : (algos : Algos) (lines : List (List ℕ)) (f : Form) → IsForm algos lines f → f ≡ form algos lines
 form-is algos [] f h = h
 form-is algos (line ∷ later) f (inl d) = let own = decides-form d in rw own.0 (sym (own.1 (form algos later)))
@@ -187,6 +193,7 @@ pub form_then-again : (f g h : Form) → form_then (form_then f g) h ≡ form_th
 form_then-again Undecided g h = refl
 form_then-again f g h = refl
 
+-- the form of two lists, one behind the other
 pub form-append : (algos : Algos) (before after : List (List ℕ))
     → form algos (before ++ after) ≡ form_then (form algos before) (form algos after)
 form-append algos [] after = refl

@@ -9,6 +9,7 @@ use Rattle.memchr.specs.Find.{Nowhere, Passes, IsFirstByte, is_byte3}
 use Rattle.sum_lines.specs.Profiles.{present}
 use Rattle.sum_lines.specs.Escape.{escape, escape_of, escape_differs}
 
+-- a backslash, a newline or a carriage return
 abbrev special : ℕ → Bool
 special = is_byte3 92 10 13
 
@@ -66,14 +67,14 @@ escape-cut xs None none = escape-none xs none
 escape-cut xs (Some k) first = escape-split xs k first.0.high first.0.before
 
 -- the same, of the two parts of a slice that was split there
-pub escape-parts : {front back : List ℕ} (xs : List ℕ) (k : ℕ) → front ≡ take k xs → back ≡ drop k xs
+pub escape-parts : {prefix back : List ℕ} (xs : List ℕ) (k : ℕ) → prefix ≡ take k xs → back ≡ drop k xs
     → escape xs ≡ take k xs ++ (escape_of present (get_or xs k 0) ++ escape (drop (k + 1) xs))
-    → escape xs ≡ front ++ (escape_of present (get_or back 0 0) ++ escape (take (length back - 1) (drop 1 back)))
-escape-parts {back = back} xs k front_is back_is cut =
+    → escape xs ≡ prefix ++ (escape_of present (get_or back 0 0) ++ escape (take (length back - 1) (drop 1 back)))
+escape-parts {back = back} xs k prefix_is back_is cut =
     let rest : take (length back - 1) (drop 1 back) ≡ drop (k + 1) xs =
     take_rest back 1 ∙ ap (drop 1) back_is ∙ drop-drop 1 k xs in
     let byte : get_or back 0 0 ≡ get_or xs k 0 = rw (back_is, get_or-drop k xs 0 0, add-zero) refl in
-    rw (front_is, byte, rest) cut
+    rw (prefix_is, byte, rest) cut
 
 -- an escape is no shorter than its name
 pub length-escape : (xs : List ℕ) → length xs ≤ length (escape xs)

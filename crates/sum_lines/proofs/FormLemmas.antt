@@ -4,13 +4,13 @@ use Rattle.digest_kinds.specs.declared.algo.Algos.{Algos}
 use Rattle.sum_lines.specs.declared.line_reading.Form.{Form}
 use Rattle.sum_lines.specs.declared.line_reading.Form.TheVariants.{Undecided, Standard, Reversed}
 use Rattle.sum_lines.specs.Profiles.{Profile}
-use Rattle.sum_lines.specs.Entries.{form, form_then, line_form, form_of_tail, ignored_by, begins_standard}
-use Rattle.sum_lines.specs.Scanned.{◌>>=◌, Parts, tagged_parts, plain_parts}
-use Rattle.sum_lines.specs.Says.{with_raw, spelled, entry_of, Nothing, says}
+use Rattle.sum_lines.specs.Entries.{form, form_then, line_form, form_of_tail, is_ignored_by, begins_standard}
+use Rattle.sum_lines.specs.PartsOfLines.{◌>>=◌, Parts, tagged_parts, plain_parts}
+use Rattle.sum_lines.specs.ParsedLines.{with_raw, entry_of_parts, entry_of, Nothing, parse_line}
 use Rattle.sum_lines.specs.Laws.{SameSaid, SameForm}
-use Rattle.sum_lines.proofs.ScannedLemmas.{plain-found}
+use Rattle.sum_lines.proofs.PlainLemmas.{plain_is_read}
 use Rattle.sum_lines.proofs.EntryLemmas.{form_of_parts, form_then-again, form-append}
-use Rattle.sum_lines.proofs.SaysLemmas.{entry_by, said_of}
+use Rattle.sum_lines.proofs.ParsedLineLemmas.{entry_by, parsed_line_of}
 
 -- the form so far, then a line's, then that of the rest
 pub form_on : (f x g : Form) → form_then f (form_then x g) ≡ form_then (form_then f x) g
@@ -25,16 +25,16 @@ decided f b g = refl
 -- so later lines leave the entry as it is
 entry_stays : (p : Profile) (f g : Form) (t q : Option Parts)
     → entry_by p (form_then (form_then f (form_of_parts q)) g) t q ≡ entry_by p (form_then f (form_of_parts q)) t q
-entry_stays p f g None (Some q) = ap (λ x. with_raw x q >>= spelled p) (decided f (begins_standard q.text) g)
+entry_stays p f g None (Some q) = ap (λ x. with_raw x q >>= entry_of_parts p) (decided f (begins_standard q.text) g)
 entry_stays p f g t q = refl
 
 -- no later line changes what a line says
 pub said_stays : (p : Profile) (algos : Algos) (f g : Form) (line : List ℕ)
-    → says p algos (form_then (form_then f (line_form algos line)) g) line
-    ≡ says p algos (form_then f (line_form algos line)) line
+    → parse_line p algos (form_then (form_then f (line_form algos line)) g) line
+    ≡ parse_line p algos (form_then f (line_form algos line)) line
 unfolding entry_of
 said_stays p algos f g line =
-    ap (λ o. cond (ignored_by p line) Nothing (said_of o))
+    ap (λ o. cond (is_ignored_by p line) Nothing (parsed_line_of o))
     (entry_stays p f g (tagged_parts algos line) (plain_parts algos line))
 
 -- the form of all lines, at a line
@@ -44,17 +44,17 @@ form_at algos before later line =
     form-append algos before (line ∷ later) ∙ form_on (form algos before) (line_form algos line) (form algos later)
 
 -- what a line says is said of it and of the lines before it
-said_alone : (p : Profile) (algos : Algos) (before later : List (List ℕ)) (line : List ℕ)
-    → says p algos (form algos (before ++ (line ∷ later))) line
-    ≡ says p algos (form_then (form algos before) (line_form algos line)) line
-said_alone p algos before later line =
-    ap (λ f. says p algos f line) (form_at algos before later line)
+parsed_line_alone : (p : Profile) (algos : Algos) (before later : List (List ℕ)) (line : List ℕ)
+    → parse_line p algos (form algos (before ++ (line ∷ later))) line
+    ≡ parse_line p algos (form_then (form algos before) (line_form algos line)) line
+parsed_line_alone p algos before later line =
+    ap (λ f. parse_line p algos f line) (form_at algos before later line)
     ∙ said_stays p algos (form algos before) (form algos later) line
 
 -- so lines behind it may be others
 pub same_said : SameSaid
 same_said p algos before later others line =
-    said_alone p algos before later line ∙ sym (said_alone p algos before others line)
+    parsed_line_alone p algos before later line ∙ sym (parsed_line_alone p algos before others line)
 
 -- a plain line's form is that of the lines up to it
 form_alone : (algos : Algos) (before later : List (List ℕ)) (line tail : List ℕ)
@@ -69,5 +69,5 @@ form_alone algos before later line tail own =
 pub same_form : SameForm
 same_form algos before later others line e kind d tail plain =
     let p : Parts = record { escaped = e; kind = kind; digest = d; text = tail } in
-    let own : line_form algos line ≡ form_of_tail tail = ap form_of_parts (plain-found p plain) in
+    let own : line_form algos line ≡ form_of_tail tail = ap form_of_parts (plain_is_read p plain) in
     form_alone algos before later line tail own ∙ sym (form_alone algos before others line tail own)

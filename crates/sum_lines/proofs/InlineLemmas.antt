@@ -16,9 +16,11 @@ use Rattle.sum_lines.specs.Shapes.{mark, Width}
 use Rattle.std.specs.Char.{is_ascii_digit}
 use Rattle.sum_lines.proofs.BitsLemmas.{decimal-digits}
 
+-- a byte that may stand within a line
 abbrev pub Inline : ℕ → Type 0
 Inline b = (b ≢ 10) × (b ≢ 13)
 
+-- its test
 abbrev pub inline : ℕ → Bool
 inline b = not (b == 10 || b == 13)
 
@@ -26,6 +28,7 @@ inline b = not (b == 10 || b == 13)
 pub Inline-test : (b : ℕ) → inline b ≡ true → Inline b
 Inline-test b h = (λ e. let bad = rw e at h in cc, λ e. let bad = rw e at h in cc)
 
+-- a list of bytes
 pub Inline-by_test : (xs : List ℕ) → list_all inline xs ≡ true → All Inline xs
 Inline-by_test xs h = All-weaker (λ b. inline b ≡ true) Inline Inline-test xs (AllPass-from_list_all inline xs h)
 
@@ -33,6 +36,7 @@ Inline-by_test xs h = All-weaker (λ b. inline b ≡ true) Inline Inline-test xs
 pub Inline-hex : (b : ℕ) → is_hex_digit b ≡ true → Inline b
 Inline-hex b h = (λ e. let bad = rw e at h in cc, λ e. let bad = rw e at h in cc)
 
+-- and decimal
 pub Inline-digit : (b : ℕ) → is_ascii_digit b ≡ true → Inline b
 Inline-digit b h = (λ e. let bad = rw e at h in cc, λ e. let bad = rw e at h in cc)
 
@@ -51,7 +55,7 @@ pub Inline-width : (kind : KindValue) (w : List ℕ) → Width kind w → All In
 Inline-width kind w (inl none) = rw none.0 (All-nil Inline)
 Inline-width kind w (inr bits) =
     let range = and_parts (nat_le 1 kind.len) (nat_le kind.len 64) bits.2 in
-    let digits = decimal-digits kind.len (leb-true 1 kind.len range.0) (leb-true kind.len 64 range.1) in
+    let digits = decimal-digits kind.len (leb-true kind.len 64 range.1) in
     rw bits.0 (All-cons Inline 45 (decimal (8 * kind.len)) (Inline-test 45 refl)
     (All-weaker (λ b. is_ascii_digit b ≡ true) Inline Inline-digit (decimal (8 * kind.len)) digits))
 
@@ -93,6 +97,7 @@ Inline-escape [] = All-nil Inline
 Inline-escape (x ∷ xs) =
     All-append Inline (escape_of present x) (escape xs) (let e = escape_of-some x in e.one_line) (Inline-escape xs)
 
+-- the escape of a name that isn't empty isn't, either
 pub escape-some : (name : List ℕ) → 0 < length name → NonEmpty (escape name)
 escape-some [] h = absurd (omega arith)
 escape-some (x ∷ xs) h = let e = escape_of-some x in

@@ -7,7 +7,7 @@ use Rattle.std.proofs.lemmas.List.{take_rest, drop-take, take-append-drop, drop_
 use Rattle.std.proofs.lemmas.List.Elements.{All-from_get_or, All-get_or}
 use Rattle.memchr.specs.Find.{IsFirstByte, is_byte}
 use Rattle.sum_lines.specs.Escape.{escape}
-use Rattle.sum_lines.specs.joins.Found.{Names}
+use Rattle.sum_lines.specs.refinement.Found.{Names}
 
 -- a part of a vector that was cut behind it
 part_of : (xs : List ℕ) (i j : ℕ) → i ≤ j → j ≤ length xs → drop i (take j xs) ≡ slice_range xs i j
@@ -24,7 +24,7 @@ pub record Left (escaped : Bool) (old cut new : List ℕ) (start stop : ℕ) (r 
   pub fits : stop ≤ length old
   pub cut_is : cut ≡ take stop old
   pub name : (n : List ℕ) → (drop start cut ≡ cond escaped (escape n) n) ↔ ((r ≡ true) × (new ≡ take start cut ++ n))
-  pub front : take start new ≡ take start cut
+  pub prefix : take start new ≡ take start cut
 
 module _ {escaped : Bool} {old cut new : List ℕ} {start stop : ℕ} {r : Bool}
     (left : Left escaped old cut new start stop r) where
@@ -45,6 +45,7 @@ names-refused left = λ n spells.
     let done = (left.name n).0 (raw-is left ∙ spells.is) in
     let bad = done.0 in cc
 
+-- bytes without a NUL
 abbrev NoNul : List ℕ → Type 0
 NoNul xs = All (λ b. 0 < b) xs
 
@@ -57,7 +58,7 @@ names-kept {escaped} {cut = cut} {new = new} {start = start} false left fine bad
     let n : List ℕ = drop start new in
     let size = before-size left in
     let new_is : new ≡ take start cut ++ n =
-    sym (take-append-drop start new) ∙ ap (λ l. l ++ n) left.front in
+    sym (take-append-drop start new) ∙ ap (λ l. l ++ n) left.prefix in
     let raw : drop start cut ≡ cond escaped (escape n) n = (left.name n).1 (refl, new_is) in
     let long : start ≤ length new = (let l = ap length new_is ∙ length-append (take start cut) n in omega arith) in
     (long, rw (take_rest new start) (record { no_nul = fine refl; is = sym (raw-is left) ∙ raw }))

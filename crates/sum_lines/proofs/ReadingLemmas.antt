@@ -8,58 +8,59 @@ use Rattle.sum_lines.specs.declared.line_reading.Reading.{Reading}
 use Rattle.sum_lines.specs.declared.line_reading.Reading.TheVariants as readings
 use Rattle.sum_lines.specs.declared.scanning.LineParts.{LineParts}
 use Rattle.sum_lines.specs.Escape.{escape}
-use Rattle.sum_lines.specs.Scanned.{Parts}
-use Rattle.sum_lines.specs.joins.Steps.{plain_of, tagged_of}
-use Rattle.sum_lines.specs.Entries.{ignored, begins_standard, Spells, RawOf, Spelled, ByTag, ByTail, form_of_tail, form_then}
-use Rattle.sum_lines.specs.joins.Found.{line_parts, text_of, NamesEntry, NamesTail}
+use Rattle.sum_lines.specs.PartsOfLines.{Parts, plain_parts, tagged_parts}
+use Rattle.sum_lines.specs.Entries.{is_ignored, begins_standard, Spells, RawOf, Spelled, ByTag, ByTail, form_of_tail, form_then}
+use Rattle.sum_lines.specs.refinement.Found.{line_parts, text_of, NamesEntry, NamesTail}
 use Rattle.sum_lines.specs.Readings.{form_after, Reads}
 use Rattle.sum_lines.proofs.TaggedParts.{IsTagged, read_is_tagged}
 use Rattle.sum_lines.proofs.TaggedLemmas.{tagged_is_read}
 use Rattle.sum_lines.proofs.PlainLemmas.{apart, plain_is_read, read_is_plain}
 use Rattle.sum_lines.proofs.EntryLemmas.{tag_parts, tail_parts, ignored-mute, form_then-last, form-alone}
-use Rattle.sum_lines.proofs.ScannedLemmas.{same-plain}
 use Rattle.std.proofs.lemmas.Option.{same_Some}
 use Rattle.sum_lines.proofs.PlainLemmas.{IsPlain}
 
 -- ---- the form behind a line
 
 -- a line that is no plain one decides nothing
-pub form-other : (algos : Algos) (f : Form) (line : List ℕ) → plain_of algos line ≡ None → f ≡ form_after algos f line
-form-other algos f line none = rw (form-alone algos line, same-plain algos line, none, form_then-last f) refl
+pub form-other : (algos : Algos) (f : Form) (line : List ℕ) → plain_parts algos line ≡ None
+    → f ≡ form_after algos f line
+form-other algos f line none = rw (form-alone algos line, none, form_then-last f) refl
 
 -- such as an ignored one
-pub form-ignored : (algos : Algos) (f : Form) (line : List ℕ) → ignored line ≡ true → f ≡ form_after algos f line
+pub form-ignored : (algos : Algos) (f : Form) (line : List ℕ) → is_ignored line ≡ true → f ≡ form_after algos f line
 form-ignored algos f line h = rw (form-alone algos line, ignored-mute algos line h, form_then-last f) refl
 
 -- or a tagged one
-no_plain : (algos : Algos) (line : List ℕ) (p : Parts) (o : Option Parts) → Some p ≡ tagged_of algos line
-    → o ≡ plain_of algos line → o ≡ None
+no_plain : (algos : Algos) (line : List ℕ) (p : Parts) (o : Option Parts) → Some p ≡ tagged_parts algos line
+    → o ≡ plain_parts algos line → o ≡ None
 no_plain algos line p None tagged plain = refl
 no_plain algos line p (Some q) tagged plain = absurd (apart (read_is_plain (sym plain)) (read_is_tagged (sym tagged)))
 
-pub form-tagged : (algos : Algos) (f : Form) (line : List ℕ) (p : Parts) → Some p ≡ tagged_of algos line
+-- so it leaves the form as it was
+pub form-tagged : (algos : Algos) (f : Form) (line : List ℕ) (p : Parts) → Some p ≡ tagged_parts algos line
     → f ≡ form_after algos f line
-form-tagged algos f line p t = form-other algos f line (no_plain algos line p (plain_of algos line) t refl)
+form-tagged algos f line p t = form-other algos f line (no_plain algos line p (plain_parts algos line) t refl)
 
 -- a plain line's tail decides, where nothing before it did
 pub form-plain : (algos : Algos) (f g : Form) (line : List ℕ) (found : LineParts)
-    → Some (line_parts line found) ≡ plain_of algos line → g ≡ form_then f (form_of_tail (text_of line found))
+    → Some (line_parts line found) ≡ plain_parts algos line → g ≡ form_then f (form_of_tail (text_of line found))
     → g ≡ form_after algos f line
-form-plain algos f g line found p h = rw (form-alone algos line, same-plain algos line, ← p) h
+form-plain algos f g line found p h = rw (form-alone algos line, ← p) h
 
 -- ---- what reads as nothing
 
 -- a line of neither shape has no entry
-no_tag : {algos : Algos} {line : List ℕ} {s : Spelled} → None ≡ tagged_of algos line → ByTag escape algos line s → ⊥
+no_tag : {algos : Algos} {line : List ℕ} {s : Spelled} → None ≡ tagged_parts algos line → ByTag escape algos line s → ⊥
 no_tag none by = let bad = none ∙ tagged_is_read (tag_parts by) by.tagged in cc
 
-no_tail : {algos : Algos} {f : Form} {line : List ℕ} {s : Spelled} → None ≡ plain_of algos line
+-- nor one by its tail
+no_tail : {algos : Algos} {f : Form} {line : List ℕ} {s : Spelled} → None ≡ plain_parts algos line
     → ByTail escape algos f line s → ⊥
 no_tail none by = let bad = none ∙ plain_is_read (tail_parts by) by.plain in cc
 
 -- so it reads as no entry
-pub reads-none : (algos : Algos) (f : Form) (line new : List ℕ) → None ≡ tagged_of algos line
-    → None ≡ plain_of algos line → ignored line ≡ false → Reads algos f line new readings.Bad
+pub reads-none : (algos : Algos) (f : Form) (line new : List ℕ) → None ≡ tagged_parts algos line
+    → None ≡ plain_parts algos line → is_ignored line ≡ false → Reads algos f line new readings.Bad
 reads-none algos f line new tagged plain heard = (
   heard,
   λ s entry. elim entry.1 [
@@ -72,7 +73,7 @@ reads-none algos f line new tagged plain heard = (
 
 -- where its name stands in the vector, it is an entry
 tagged-entry : (algos : Algos) (f : Form) (line new : List ℕ) (p : Parts) (start stop : ℕ)
-    → Some p ≡ tagged_of algos line → ignored line ≡ false
+    → Some p ≡ tagged_parts algos line → is_ignored line ≡ false
     → start ≤ stop → stop ≤ length new → Spells escape p.escaped p.text (slice_range new start stop)
     → Reads algos f line new (readings.Entry p.kind p.digest start stop)
 tagged-entry algos f line new p start stop h heard ordered within spells =
@@ -88,7 +89,7 @@ tagged-entry algos f line new p start stop h heard ordered within spells =
 
 -- its raw name is read, or spells no name
 pub reads-tagged : (algos : Algos) (f : Form) (line new : List ℕ) (p : LineParts) (r : Reading)
-    → ignored line ≡ false → Some (line_parts line p) ≡ tagged_of algos line → NamesEntry p (text_of line p) new r
+    → is_ignored line ≡ false → Some (line_parts line p) ≡ tagged_parts algos line → NamesEntry p (text_of line p) new r
     → Reads algos f line new r
 reads-tagged algos f line new p readings.Ignored heard t names = absurd names
 reads-tagged algos f line new p readings.Bad heard t names = (
@@ -109,7 +110,7 @@ reads-tagged algos f line new p (readings.Entry kind digest start stop) heard t 
 
 -- where its name stands in the vector, it is an entry
 plain-entry : (algos : Algos) (g : Form) (line new : List ℕ) (p : Parts) (raw : List ℕ) (start stop : ℕ)
-    → Some p ≡ plain_of algos line → ignored line ≡ false
+    → Some p ≡ plain_parts algos line → is_ignored line ≡ false
     → start ≤ stop → stop ≤ length new → RawOf g p.text raw
     → Spells escape p.escaped raw (slice_range new start stop)
     → Reads algos g line new (readings.Entry p.kind p.digest start stop)
@@ -128,7 +129,7 @@ plain-entry algos g line new p raw start stop h heard ordered within is_raw spel
 
 -- the raw name of its tail is read, or there is none that spells a name
 pub reads-plain : (algos : Algos) (g : Form) (line new : List ℕ) (found : LineParts) (r : Reading)
-    → ignored line ≡ false → None ≡ tagged_of algos line → Some (line_parts line found) ≡ plain_of algos line
+    → is_ignored line ≡ false → None ≡ tagged_parts algos line → Some (line_parts line found) ≡ plain_parts algos line
     → NamesTail found g (text_of line found) new r → Reads algos g line new r
 reads-plain algos g line new found readings.Ignored heard t p names = absurd names
 reads-plain algos g line new found readings.Bad heard t p names = (

@@ -1,102 +1,68 @@
 -- What the scanning functions answer, step by step.
-use Rattle.std.proofs.Common.{ℕ, ◌≡◌, ◌≢◌, ◌+◌, ◌-◌, ◌*◌, ◌/◌, ◌<◌, ◌≤◌, Bool, true, cond, eq-eqb, nat_le, List, [], ◌∷◌, ◌++◌, length, take, drop, get_or, slice_range, Option, None, Some, MatchOption, IfSome, IsSome, Result, Ok, Err, Bor, refl, ap, sym, ◌∙◌, arith, inl, inr, append_assoc, length-append, length-drop}
-use Rattle.std.specs.List.{AllPass, take_while}
-use Rattle.std.specs.Option.{option_copied}
-use Rattle.std.proofs.lemmas.Bool.{cases_Bool, eqb-true, and_parts, leb-true}
-use Rattle.std.proofs.lemmas.Bool.Decides.{Decides-eqb, eqb_tells}
-use Rattle.std.proofs.lemmas.Option.{cond_some, same_Some}
-use Rattle.std.proofs.lemmas.List.{drop_at, get_or-drop, take-append-drop, drop_more, take_at}
-use Rattle.std.proofs.lemmas.List.Elements.{All-from_get_or}
-use Rattle.std.proofs.lemmas.Slice.Eq.{starts_is}
+use Rattle.std.proofs.Common.{ℕ, ◌≡◌, ◌≢◌, ◌+◌, ◌-◌, ◌*◌, ◌<◌, ◌≤◌, Bool, true, false, eq-eqb, ◌==◌, nat_le, List, [], ◌∷◌, ◌++◌, length, take, drop, get_or, slice_range, Option, None, Some, MatchOption, IfSome, IsSome, Ok, Bor, refl, ap, sym, ◌∙◌, arith, inl, inr, append_assoc, length-append}
+use Rattle.std.specs.List.{take_while}
+use Rattle.std.specs.Option.{option_copied, option_or}
+use Rattle.std.specs.Path.{rsplit_once, rfind_below}
+use Rattle.std.proofs.lemmas.Bool.{cases_Bool, eqb-true, and_parts, leb-true, lt-ltb}
+use Rattle.std.proofs.lemmas.List.{append-nil, drop_at, take_at}
 use Rattle.memchr.specs.Find.{Nowhere, Passes, IsLastByte, is_byte}
 use Rattle.hex.specs.Hex.{decode_of}
-use Rattle.hex.specs.declared.error.FromHexError.{FromHexError}
 use Rattle.hex.proofs.HexLemmas.{decode_of-ok}
-use Rattle.digest_kinds.specs.Kinds.{KindValue, full, has_len, tag}
+use Rattle.digest_kinds.specs.Kinds.{KindValue, full_len, has_len, tag}
 use Rattle.digest_kinds.specs.Digits.{IsDigits}
-use Rattle.digest_kinds.specs.Tags.{BeginsWithTag}
 use Rattle.digest_kinds.specs.declared.algo.Algo.{Algo}
-use Rattle.digest_kinds.specs.declared.algo.Algo.TheVariants.{Md5, Sha1, Sha224, Sha256, Sha384, Sha512, Blake2b}
-use Rattle.digest_kinds.specs.declared.algo.Algos.{Algos}
+use Rattle.digest_kinds.specs.declared.algo.Algo.TheVariants.{Blake2b}
 use Rattle.sum_lines.specs.Shapes.{is_blank, mark, optional}
-use Rattle.sum_lines.specs.Scanned.{after_while, behind, unmarked}
-use Rattle.sum_lines.specs.joins.Steps.{split_last, begins, algo_of, digest_at, Opened, opened_text, opened_of, name_behind, tagged_of, sized}
-use Rattle.sum_lines.proofs.FrontLemmas.{isn't, none_of, behind-some, behind-front, split_last-none, split_last-at, front-and-rest, unmarked-is, split_last-some}
-use Rattle.sum_lines.proofs.TaggedParts.{Front, opened_text-some}
-use Rattle.sum_lines.proofs.TaggedLemmas.{algo_of-tag}
+use Rattle.sum_lines.specs.PartsOfLines.{after_while, strip_prefix, mark_and_rest, digest_at, width_at, tagged_as}
+use Rattle.sum_lines.specs.refinement.Found.{EndsIn}
+use Rattle.sum_lines.proofs.PrefixLemmas.{none_of, strip_prefix-some, strip_prefix-append, prefix-and-rest, opened-some, rfind-at, rfind-none, mark_and_rest-is}
+use Rattle.sum_lines.proofs.TaggedParts.{digest_at-some, width_at-some}
 
 -- ---- a text in front
 
 -- std's comparison finds it
 pub behind_is : (xs ys : List ℕ) (r : Option (Bor (List ℕ)))
-    → MatchOption r ((rest : List ℕ) → ys ≢ xs ++ rest) (λ x. ys ≡ xs ++ x.now) → option_copied r ≡ behind xs ys
-behind_is xs ys None other = none_of (behind xs ys) (λ zs h. other zs (behind-some xs ys zs h))
-behind_is xs ys (Some x) is = rw is (sym (behind-front xs x.now))
+    → MatchOption r ((rest : List ℕ) → ys ≢ xs ++ rest) (λ x. ys ≡ xs ++ x.now) → option_copied r ≡ strip_prefix xs ys
+behind_is xs ys None other = none_of (strip_prefix xs ys) (λ zs h. other zs (strip_prefix-some xs ys zs h))
+behind_is xs ys (Some x) is = rw is (sym (strip_prefix-append xs x.now))
 
 -- ---- the last such byte
 
 -- a byte that a search passes over is another
-other_byte : (c x : ℕ) → (is_byte c x ≡ true → ⊥) → isn't c x ≡ true
-other_byte c x h = elim (eqb_tells x c) [
-  | inl same ↦ absurd (h same.0)
-  | inr other ↦ rw other.0 refl
+other_byte : (c x : ℕ) → (is_byte c x ≡ true → ⊥) → (x == c) ≡ false
+other_byte c x none = elim (cases_Bool (x == c)) [
+  | inl here ↦ absurd (none here)
+  | inr other ↦ other
 ]
 
 -- a search from the end that finds none
-pub last_none : (c : ℕ) (s : List ℕ) → Nowhere (Passes (is_byte c) s) 0 (length s) → split_last c s ≡ None
-last_none c s h = split_last-none c s
-    (All-from_get_or (λ x. isn't c x ≡ true) s 0 (λ k lt. other_byte c (get_or s k 0) (h k (omega arith) lt)))
+pub last_none : (c : ℕ) (s : List ℕ) → Nowhere (Passes (is_byte c) s) 0 (length s) → rsplit_once c s ≡ None
+unfolding rsplit_once
+last_none c s none =
+    let other = λ (i : ℕ) (less : i < length s). other_byte c (get_or s i 0) (none i (omega arith) less) in
+    rw (rfind-none c s (length s) other) refl
 
 -- one that finds the byte at that place
 pub last_some : (c k : ℕ) (s : List ℕ) → IsLastByte (is_byte c) s (Some k)
-    → split_last c s ≡ Some (take k s, drop (k + 1) s)
+    → rsplit_once c s ≡ Some (take k s, drop (k + 1) s)
+unfolding rsplit_once
 last_some c k s last =
-    let at : get_or s k 0 ≡ c = eqb-true (get_or s k 0) c last.1 in
-    let high : k < length s = last.0.high in
-    let rest : List ℕ = drop (k + 1) s in
-    let size : length rest ≡ length s - (k + 1) = length-drop (k + 1) s in
-    let cut : s ≡ take k s ++ (c ∷ rest) =
-    sym (take-append-drop k s) ∙ ap (λ l. take k s ++ l) (drop_more s k 0 high ∙ ap (λ x. x ∷ rest) at) in
-    let free : AllPass (isn't c) rest = All-from_get_or (λ x. isn't c x ≡ true) rest 0
-    (λ j lt. rw (get_or-drop (k + 1) s j 0) (other_byte c (get_or s (k + 1 + j) 0)
-    (last.0.after (k + 1 + j) (omega arith) (omega arith)))) in
-    ap (split_last c) cut ∙ split_last-at c (take k s) rest free
-
--- ---- the algorithm whose tag stands in front
-
--- a tag that is passed over stands in front
-begins-tag : (a : Algo) (s : List ℕ) → begins a s ≡ true → BeginsWithTag s a
-begins-tag a s h = (drop (length (tag a)) s, (starts_is Decides-eqb s (tag a) (begins a s) refl).0 h)
-
--- an algorithm that is found has its tag there
-one-tag : {a : Algo} {s : List ℕ} {later : Option Algo} (b : Algo) → (later ≡ Some a → BeginsWithTag s a)
-    → cond (begins b s) (Some b) later ≡ Some a → BeginsWithTag s a
-one-tag {a} {s} b more h = elim (cases_Bool (begins b s)) [
-  | inl here ↦ rw (← same_Some b a (rw here at h)) (begins-tag b s here)
-  | inr gone ↦ more (rw gone at h)
-]
-
--- so the algorithm that is computed has its tag there
-algo_of-some : (s : List ℕ) (a : Algo) → algo_of s ≡ Some a → BeginsWithTag s a
-algo_of-some s a =
-    one-tag Md5 (one-tag Sha1 (one-tag Sha224 (one-tag Sha256 (one-tag Sha384 (one-tag Sha512 (one-tag Blake2b
-    (λ none. cc)))))))
-
--- the algorithm that a search by tags gives
-pub algo_is : (s : List ℕ) (r : Option Algo) → IfSome r (λ a. BeginsWithTag s a)
-    → ((a : Algo) → BeginsWithTag s a → r ≡ Some a) → r ≡ algo_of s
-algo_is s (Some a) tagged found = rw tagged.1 (sym (algo_of-tag a tagged.0))
-algo_is s None tagged found = none_of (algo_of s) (λ a e. let bad = found a (algo_of-some s a e) in cc)
+    let high = last.0.high in
+    let n : k + 1 + (length s - (k + 1)) ≡ length s = omega (arith, high) in
+    let found : rfind_below c s (length s) ≡ Some k =
+    ap (rfind_below c s) (sym n) ∙ rfind-at c s k (length s - (k + 1)) (eqb-true (get_or s k 0) c last.1)
+    (λ i more less. other_byte c (get_or s i 0) (last.0.after i (omega (arith, more)) (omega (arith, less, high)))) in
+    rw found refl
 
 -- ---- digits that spell no digest of that length
 
 -- no digest has more than 64 bytes
 pub has_len-most : (a : Algo) (n : ℕ) → has_len a n ≡ true → n ≤ 64
 has_len-most Blake2b n h = let k = and_parts (nat_le 1 n) (nat_le n 64) h in leb-true n 64 k.1
-has_len-most a n h = let e : n ≡ full a = eqb-true n (full a) h in omega arith
+has_len-most a n h = let e : n ≡ full_len a = eqb-true n (full_len a) h in omega arith
 
 -- a digest is spelled by two digits for each byte
-decoded-size : (s d : List ℕ) → decode_of s ≡ Ok d → length s ≡ 2 * length d
+pub decoded-size : (s d : List ℕ) → decode_of s ≡ Ok d → length s ≡ 2 * length d
 decoded-size s d h = (decode_of-ok s d h).2
 
 -- so such text is what a digest may be read of
@@ -105,94 +71,89 @@ decoded-digits s d h some few =
     let size = decoded-size s d h in
     record { some = omega arith; few = omega arith; even = omega arith; digits = (decode_of-ok s d h).1 }
 
--- where no digest has the length, nothing is read
-digest_by : (n : ℕ) (r : Result (List ℕ) FromHexError) → ((d : List ℕ) → r ≡ Ok d → length d ≡ n → ⊥)
-    → digest_at n r ≡ None
-digest_by n (Err e) other = refl
-digest_by n (Ok d) other = elim (eqb_tells (length d) n) [
-  | inl same ↦ absurd (other d refl same.1)
-  | inr differs ↦ rw differs.0 refl
-]
+-- other digits are read as no digest of that length
+pub digest_other : (s : List ℕ) (n : ℕ) → (length s ≡ 2 * n → ⊥) → None ≡ digest_at n s
+digest_other s n other = none_of (digest_at n s) (λ d h.
+    let is = digest_at-some n s d h in
+    let size = decoded-size s d is.0 in
+    let len = is.1 in
+    other (omega (arith, size, len)))
 
--- neither do other bytes, nor another number of digits
-digest_none : (s : List ℕ) (n : ℕ) → 1 ≤ n → n ≤ 64 → (IsDigits s → ⊥) → digest_at n (decode_of s) ≡ None
-digest_none s n some few none =
-    digest_by n (decode_of s) (λ d h size. none (decoded-digits s d h (omega arith) (omega arith)))
-
-pub digest_other : (s : List ℕ) (n : ℕ) → (length s ≡ 2 * n → ⊥) → digest_at n (decode_of s) ≡ None
-digest_other s n other =
-    digest_by n (decode_of s) (λ d h same. let size = decoded-size s d h in other (omega arith))
-
--- ---- as many digits as a digest has
-
--- the kind that half their number gives
-pub sized_of : (a : Algo) (s d : List ℕ) (k : KindValue) → decode_of s ≡ Ok d
-    → Some k ≡ cond (has_len a (length s / 2)) (Some (record { algo = a; len = length s / 2 })) None
-    → Some (k, d) ≡ sized a (decode_of s)
-sized_of a s d k h is =
-    let size = decoded-size s d h in
-    let same : length d ≡ length s / 2 = omega arith in
-    let has = cond_some (has_len a (length s / 2)) _ k (sym is) in
-    rw (h, same, has.0) (ap (λ x. Some (x, d)) (sym has.1))
-
--- what decoding them gives
-digest_here : (s : List ℕ) (n : ℕ) (d : List ℕ) → decode_of s ≡ Ok d → length s ≡ 2 * n
-    → digest_at n (decode_of s) ≡ Some d
-digest_here s n d h len =
-    let size = decoded-size s d h in
-    let same : length d ≡ n = omega arith in
-    rw (h, eq-eqb (length d) n same) refl
-
--- so it is what is read of them
+-- as many digits are read as what decoding them gives
 pub digest_from : (s : List ℕ) (n : ℕ) (r : Option (List ℕ)) → 1 ≤ n → n ≤ 64 → length s ≡ 2 * n
-    → IfSome r (λ d. decode_of s ≡ Ok d) → (IsDigits s → IsSome r) → r ≡ digest_at n (decode_of s)
-digest_from s n (Some d) some few len spelled found = sym (digest_here s n d spelled len)
-digest_from s n None some few len spelled found = sym (digest_none s n some few (λ d. let bad = found d in cc))
+    → IfSome r (λ d. decode_of s ≡ Ok d) → (IsDigits s → IsSome r) → r ≡ digest_at n s
+digest_from s n (Some d) some few len spelled found =
+    let size = decoded-size s d spelled in
+    let same : length d ≡ n = omega (arith, size, len) in
+    rw (spelled, eq-eqb (length d) n same) refl
+digest_from s n None some few len spelled found = none_of (digest_at n s) (λ d h.
+    let is = digest_at-some n s d h in
+    let same = is.1 in
+    let bad = found (decoded-digits s d is.0 (omega (arith, some, same)) (omega (arith, few, same))) in cc)
 
--- ---- a tagged line
+-- ---- where the parts stand in the line
 
--- what stands behind the opening parenthesis is the line's end
-opened-ends : {o : Opened} (algos : Algos) (line : List ℕ) → Some o ≡ opened_of algos line
-    → (front : List ℕ) × (line ≡ front ++ o.inner)
-opened-ends {o} algos line h =
-    let text : Bool × List ℕ = unmarked (after_while is_blank line) in
-    let front : Front algos text.0 text.1 o = opened_text-some (sym h) in
-    let opening : List ℕ = optional front.gap (32 ∷ []) ++ (40 ∷ []) in (
-      take_while is_blank line ++ (mark text.0 ++ (tag o.kind.algo ++ (front.width ++ opening))),
-      simp append_assoc
-          (rw (← front.whole, ← unmarked-is (after_while is_blank line)) (front-and-rest is_blank line)),
+-- behind its blanks and its mark the line ends in its text
+pub text-ends : (line : List ℕ) (text : Bool × List ℕ) → text ≡ mark_and_rest (after_while is_blank line)
+    → EndsIn line text.1
+text-ends line text is = (
+  take_while is_blank line ++ mark text.0,
+  prefix-and-rest is_blank line ∙ ap (λ l. take_while is_blank line ++ l) (mark_and_rest-is (after_while is_blank line)
+      ∙ ap (λ (x : Bool × List ℕ). mark x.0 ++ x.1) (sym is))
+      ∙ sym (append_assoc (take_while is_blank line) (mark text.0) text.1),
+)
+
+-- and so in what stands behind any part of that
+pub ends-behind : {line s : List ℕ} (xs rest : List ℕ) → EndsIn line s → s ≡ xs ++ rest → EndsIn line rest
+ends-behind xs rest ends is =
+    (ends.0 ++ xs, ends.1 ∙ ap (λ l. ends.0 ++ l) is ∙ sym (append_assoc ends.0 xs rest))
+
+-- such as the tag, or the width and the parenthesis
+pub tag-ends : {line s rest : List ℕ} (a : Algo) → EndsIn line s → Some rest ≡ strip_prefix (tag a) s → EndsIn line rest
+tag-ends {s = s} {rest = rest} a ends is = ends-behind (tag a) rest ends (strip_prefix-some (tag a) s rest (sym is))
+
+-- and what stands behind the parenthesis
+pub inner-ends : {line s inner : List ℕ} (a : Algo) (w : KindValue × List ℕ) → EndsIn line s → Some w ≡ width_at a s
+    → Some inner ≡ option_or (strip_prefix (32 ∷ 40 ∷ []) w.1) (strip_prefix (40 ∷ []) w.1) → EndsIn line inner
+inner-ends {s = s} {inner = inner} a w ends wide opened =
+    let width = width_at-some a s w (sym wide) in
+    let gap = opened-some w.1 inner (sym opened) in
+    let space : List ℕ = optional gap.0 (32 ∷ []) in
+    let behind_width = ends-behind width.width w.1 ends width.whole in
+    ends-behind (40 ∷ []) inner (ends-behind space (40 ∷ inner) behind_width gap.1) refl
+
+-- bytes that the end of the line begins with have their place in it
+pub place : {line s : List ℕ} (raw rest : List ℕ) → EndsIn line s → s ≡ raw ++ rest
+    → (length s ≤ length line) × (length line - length s + length raw ≤ length line)
+    × (slice_range line (length line - length s) (length line - length s + length raw) ≡ raw)
+place {line} {s} raw rest ends is =
+    let sum : length line ≡ length ends.0 + length s = ap length ends.1 ∙ length-append ends.0 s in
+    let part : length s ≡ length raw + length rest = ap length is ∙ length-append raw rest in
+    let start : length line - length s ≡ length ends.0 = omega (arith, sum) in
+    let rests : drop (length ends.0) line ≡ raw ++ rest =
+    ap (drop (length ends.0)) ends.1 ∙ drop_at ends.0 s (length ends.0) refl ∙ is in
+    let len : (length ends.0 + length raw) - length ends.0 ≡ length raw = omega arith in (
+      omega (arith, sum),
+      omega (arith, sum, part),
+      rw (start, len, rests) (take_at raw rest (length raw) refl),
     )
 
--- what is opened behind a line's blanks and its mark is the line's
-pub opened-line : {text : List ℕ} {e : Bool} (algos : Algos) (line : List ℕ)
-    → (e, text) ≡ unmarked (after_while is_blank line) → opened_text algos e text ≡ opened_of algos line
-opened-line algos line is = ap (λ (u : Bool × List ℕ). opened_text algos u.0 u.1) is
+-- the end has its place in the line
+pub tail-place : {line tail : List ℕ} → EndsIn line tail
+    → slice_range line (length line - length tail) (length line) ≡ tail
+tail-place {line} {tail} ends =
+    let at = place tail [] ends (sym (append-nil tail)) in
+    let stop : length line - length tail + length tail ≡ length line = omega (arith, at.0) in
+    ap (slice_range line (length line - length tail)) (sym stop) ∙ at.2
 
--- the places of the name
-pub name-range : {o : Opened} {raw behind : List ℕ} (algos : Algos) (line : List ℕ) → Some o ≡ opened_of algos line
-    → Some (raw, behind) ≡ split_last 41 o.inner
-    → (length o.inner ≤ length line) × (length line - length o.inner + length raw ≤ length line)
-    × (slice_range line (length line - length o.inner) (length line - length o.inner + length raw) ≡ raw)
-name-range {o} {raw} {behind} algos line opened split =
-    let ends = opened-ends algos line opened in
-    let front : List ℕ = ends.0 in
-    let cut : o.inner ≡ raw ++ (41 ∷ behind) = split_last-some 41 o.inner (raw, behind) (sym split) in
-    let sum : length line ≡ length front + length o.inner = ap length ends.1 ∙ length-append front o.inner in
-    let part : length o.inner ≡ length raw + (1 + length behind) =
-    ap length cut ∙ length-append raw (41 ∷ behind) ∙ omega arith in
-    let start : length line - length o.inner ≡ length front = omega arith in
-    let rest : drop (length front) line ≡ raw ++ (41 ∷ behind) =
-    ap (drop (length front)) ends.1 ∙ drop_at front o.inner (length front) refl ∙ cut in
-    let len : (length front + length raw) - length front ≡ length raw = omega arith in
-    (omega arith, omega arith, rw (start, len, rest) (take_at raw (41 ∷ behind) (length raw) refl))
-
--- a name that isn't empty, `=` and the digits behind it are read as the line's parts
-pub tagged-read : {o : Opened} {raw after digits d : List ℕ} (algos : Algos) (line : List ℕ)
-    → Some o ≡ opened_of algos line → Some (raw, after) ≡ split_last 41 o.inner → 0 < length raw
-    → Some digits ≡ behind (61 ∷ []) (after_while is_blank after)
-    → Some d ≡ digest_at o.kind.len (decode_of (after_while is_blank digits))
-    → Some (record { escaped = o.escaped; kind = o.kind; digest = d; text = raw }) ≡ tagged_of algos line
-unfolding name_behind
-tagged-read {raw = []} algos line opened split some sign digest = absurd (omega arith)
-tagged-read {raw = r ∷ rs} algos line opened split some sign digest =
-    rw (← opened, ← split, ← sign, ← digest) refl
+-- what was read step by step behind the tag is read as the line's parts
+pub tagged-read : {w : KindValue × List ℕ} {inner digits d : List ℕ} {name : List ℕ × List ℕ}
+    (a : Algo) (e : Bool) (s : List ℕ) → Some w ≡ width_at a s
+    → Some inner ≡ option_or (strip_prefix (32 ∷ 40 ∷ []) w.1) (strip_prefix (40 ∷ []) w.1) → Some name
+    ≡ rsplit_once 41 inner
+    → Some digits ≡ strip_prefix (61 ∷ []) (after_while is_blank name.1)
+    → Some d ≡ digest_at w.0.len (after_while is_blank digits) → 0 < length name.0
+    → Some (record { escaped = e; kind = w.0; digest = d; text = name.0 }) ≡ tagged_as a e s
+unfolding tagged_as
+tagged-read {name = name} a e s width opened split sign digest some =
+    rw (← width, ← opened, ← split, ← sign, ← digest, lt-ltb 0 (length name.0) some) refl

@@ -5,7 +5,7 @@ use Rattle.std.proofs.lemmas.List.{take_rest, append_cancel_left}
 use Rattle.std.specs.Io.KnownBytes.{Appends, append_known}
 use Rattle.std.proofs.KnownBytes.{Appends-nil, Appends-trans}
 use Rattle.sum_lines.specs.Sinks.{after_failure, AppendsPart, SinkState, Wrote, Broke, Dropped, WritesFrom, Flushes}
-use Rattle.sum_lines.specs.joins.Growing.{Grows, AppendsPrefix}
+use Rattle.sum_lines.specs.refinement.Growing.{Grows, AppendsPrefix}
 
 -- ---- two calls, one behind the other
 

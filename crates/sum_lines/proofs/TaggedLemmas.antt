@@ -3,22 +3,22 @@ use Rattle.std.proofs.Common.{ℕ, ◌≡◌, ◌*◌, ◌<◌, ◌≤◌, Bool,
 use Rattle.std.proofs.lemmas.List.{append-nil, drop_all}
 use Rattle.std.specs.List.{AllPass, take_while, prefix_len}
 use Rattle.std.specs.Fmt.{decimal}
-use Rattle.std.proofs.lemmas.Bool.{and_parts, leb-true}
+use Rattle.std.proofs.lemmas.Bool.{and_parts, leb-true, lt-ltb}
 use Rattle.std.proofs.lemmas.Bool.Decides.{eqb_tells}
 use Rattle.std.proofs.lemmas.List.Elements.{All-cons, All-head, All-append, All-weaker}
 use Rattle.hex.specs.Hex.{is_hex_digit}
 use Rattle.hex.proofs.HexLemmas.{decode_of-ok}
-use Rattle.digest_kinds.specs.Kinds.{KindValue, full_kind, tag}
+use Rattle.digest_kinds.specs.Kinds.{KindValue, full_kind, blake2b_kind, tag}
 use Rattle.digest_kinds.specs.declared.algo.Algo.{Algo}
 use Rattle.digest_kinds.specs.declared.algo.Algo.TheVariants.{Md5, Blake2b}
 use Rattle.digest_kinds.specs.declared.algo.Algos.{Algos}
 use Rattle.digest_kinds.specs.declared.algo.Algos.TheVariants.{One, Any}
 use Rattle.sum_lines.specs.Shapes.{is_blank, mark, optional, Width, Allows, Tagged}
-use Rattle.sum_lines.specs.Scanned.{Parts, after_while, unmarked}
 use Rattle.std.specs.Char.{is_ascii_digit}
-use Rattle.sum_lines.specs.joins.Steps.{unspaced, algo_of, algo_at, bits_at, width_at, digest_behind, opened_text, name_behind, tagged_of}
-use Rattle.sum_lines.proofs.FrontLemmas.{front-at, rest-at, prefix_len-all, behind-front, split_last-at, isn't, some_of-some}
-use Rattle.sum_lines.proofs.BitsLemmas.{decimal-kind_at, decimal-digits}
+use Rattle.sum_lines.specs.PartsOfLines.{Parts, after_while, mark_and_rest, algo_at, width_at, tagged_as, tagged_parts}
+use Rattle.sum_lines.proofs.PrefixLemmas.{prefix-at, rest-at, prefix_len-all, strip_prefix-append, opened-at, rsplit-at, isn't}
+use Rattle.sum_lines.proofs.BitsLemmas.{kind_at-bits, decimal-digits}
+use Rattle.digest_kinds.proofs.TagLemmas.{find-begins}
 use Rattle.sum_lines.proofs.TaggedParts.{IsTagged}
 
 -- ---- bytes that a line may begin with
@@ -44,10 +44,10 @@ tag-begins Blake2b = begins-by 66 _ refl refl refl
 tag-begins sha = begins-by 83 _ refl refl refl
 
 -- behind a line's blanks the backslash is read, where there is one
-pub unmarked-front : (blanks : List ℕ) (e : Bool) (xs rest : List ℕ) → AllPass is_blank blanks → Begins xs
-    → unmarked (after_while is_blank (blanks ++ (mark e ++ (xs ++ rest)))) ≡ (e, xs ++ rest)
-unmarked-front blanks true xs rest are b = ap unmarked (rest-at is_blank blanks 92 (xs ++ rest) are refl)
-unmarked-front blanks false xs rest are b =
+pub mark_and_rest-prefix : (blanks : List ℕ) (e : Bool) (xs rest : List ℕ) → AllPass is_blank blanks → Begins xs
+    → mark_and_rest (after_while is_blank (blanks ++ (mark e ++ (xs ++ rest)))) ≡ (e, xs ++ rest)
+mark_and_rest-prefix blanks true xs rest are b = ap mark_and_rest (rest-at is_blank blanks 92 (xs ++ rest) are refl)
+mark_and_rest-prefix blanks false xs rest are b =
     let behind : after_while is_blank (blanks ++ (b.first ∷ (b.more ++ rest))) ≡ b.first ∷ (b.more ++ rest) =
     rest-at is_blank blanks b.first (b.more ++ rest) are b.no_blank in
     rw (b.are, behind, b.no_mark) refl
@@ -69,17 +69,13 @@ hex-no_blank x h = rw (passes-other is_hex_digit 32 x h refl, passes-other is_he
 abbrev pub opening : Bool → List ℕ → List ℕ
 opening g s = optional g (32 ∷ []) ++ (40 ∷ s)
 
--- the space is passed over
-unspaced-opening : (g : Bool) (s : List ℕ) → unspaced (opening g s) ≡ 40 ∷ s
-unspaced-opening true s = refl
-unspaced-opening false s = refl
-
 -- decimal digits end before it
-front-digits : (ds : List ℕ) (g : Bool) (s : List ℕ) → AllPass is_ascii_digit ds
+prefix-digits : (ds : List ℕ) (g : Bool) (s : List ℕ) → AllPass is_ascii_digit ds
     → take_while is_ascii_digit (ds ++ opening g s) ≡ ds
-front-digits ds true s all = front-at is_ascii_digit ds 32 (40 ∷ s) all refl
-front-digits ds false s all = front-at is_ascii_digit ds 40 s all refl
+prefix-digits ds true s all = prefix-at is_ascii_digit ds 32 (40 ∷ s) all refl
+prefix-digits ds false s all = prefix-at is_ascii_digit ds 40 s all refl
 
+-- and it begins the rest
 rest-digits : (ds : List ℕ) (g : Bool) (s : List ℕ) → AllPass is_ascii_digit ds
     → after_while is_ascii_digit (ds ++ opening g s) ≡ opening g s
 rest-digits ds true s all = rest-at is_ascii_digit ds 32 (40 ∷ s) all refl
@@ -96,12 +92,12 @@ pub same_kind : (kind : KindValue) (a : Algo) (n : ℕ) → kind.algo ≡ a → 
 same_kind kind a n algo len = rw (← algo, ← len) refl
 
 -- the bits of a length are read as that length
-bits_at-of : (len : ℕ) (g : Bool) (s : List ℕ) → 0 < len → len ≤ 64
-    → bits_at (decimal (8 * len) ++ opening g s) ≡ Some (record { algo = Blake2b; len = len }, opening g s)
-bits_at-of len g s some most =
+width_at-bits : (len : ℕ) (g : Bool) (s : List ℕ) → 0 < len → len ≤ 64
+    → width_at Blake2b (45 ∷ (decimal (8 * len) ++ opening g s)) ≡ Some (blake2b_kind len, opening g s)
+width_at-bits len g s some most =
     let bits : List ℕ = decimal (8 * len) in
-    let all = decimal-digits len some most in
-    rw (front-digits bits g s all, rest-digits bits g s all, decimal-kind_at len some most) refl
+    let all = decimal-digits len most in
+    rw (prefix-digits bits g s all, rest-digits bits g s all, kind_at-bits len some most) refl
 
 -- a kind's width is read as that kind
 pub width_at-of : (kind : KindValue) (w : List ℕ) (g : Bool) (s : List ℕ) → Width kind w
@@ -111,19 +107,14 @@ width_at-of kind w g s (inr bits) =
     let range = and_parts (nat_le 1 kind.len) (nat_le kind.len 64) bits.2 in
     let some : 0 < kind.len = leb-true 1 kind.len range.0 in
     let most : kind.len ≤ 64 = leb-true kind.len 64 range.1 in
-    rw (bits.0, bits.1, bits_at-of kind.len g s some most) refl
+    rw (bits.0, bits.1, width_at-bits kind.len g s some most) refl
 
 -- ---- the tag
 
 -- the tag that stands there is found
-pub algo_of-tag : (a : Algo) (s : List ℕ) → algo_of (tag a ++ s) ≡ Some a
-algo_of-tag Md5 s = refl
-algo_of-tag a s = refl
-
--- also where only one algorithm is looked for
-algo_at-tag : (algos : Algos) (a : Algo) (s : List ℕ) → Allows algos a → algo_at algos (tag a ++ s) ≡ Some a
+pub algo_at-tag : (algos : Algos) (a : Algo) (s : List ℕ) → Allows algos a → algo_at algos (tag a ++ s) ≡ Some a
 algo_at-tag (One b) a s allowed = ap Some (sym allowed)
-algo_at-tag Any a s allowed = algo_of-tag a s
+algo_at-tag Any a s allowed = find-begins a s
 
 -- ---- blanks, digits and the parenthesis
 
@@ -136,52 +127,55 @@ rest-hex blanks [] are all =
 rest-hex blanks (d ∷ ds) are all =
     rest-at is_blank blanks d ds are (hex-no_blank d (All-head (λ x. is_hex_digit x ≡ true) d ds all))
 
+-- a byte that is no closing parenthesis
 abbrev Not41 : ℕ → Type 0
 Not41 x = isn't 41 x ≡ true
 
--- neither a blank nor a digit is a closing parenthesis
+-- a blank is no closing parenthesis
 blank-not41 : (x : ℕ) → is_blank x ≡ true → Not41 x
 blank-not41 x h = rw (passes-other is_blank 41 x h refl) refl
 
+-- nor is a digit
 hex-not41 : (x : ℕ) → is_hex_digit x ≡ true → Not41 x
 hex-not41 x h = rw (passes-other is_hex_digit 41 x h refl) refl
 
 -- ---- a tagged line
 
--- what stands in it behind the closing parenthesis, behind the opening one, and behind the tag
+-- what stands in it behind the closing parenthesis
 abbrev pub behind_name : {algos : Algos} {line : List ℕ} {e : Bool} {kind : KindValue} {d raw : List ℕ}
     → Tagged algos line e kind d raw → List ℕ
 behind_name t = t.before ++ (61 ∷ (t.after ++ t.digits))
 
+-- behind the opening one
 abbrev pub inner_of : {algos : Algos} {line : List ℕ} {e : Bool} {kind : KindValue} {d raw : List ℕ}
     → Tagged algos line e kind d raw → List ℕ
 inner_of {raw = raw} t = raw ++ (41 ∷ behind_name t)
 
+-- behind the tag
 abbrev pub behind_tag : {algos : Algos} {line : List ℕ} {e : Bool} {kind : KindValue} {d raw : List ℕ}
     → Tagged algos line e kind d raw → List ℕ
 behind_tag t = t.width ++ opening t.gap (inner_of t)
 
 -- its blanks and its backslash are passed over
-pub tagged-front : {algos : Algos} {line : List ℕ} {e : Bool} {kind : KindValue} {d raw : List ℕ}
+pub tagged-prefix : {algos : Algos} {line : List ℕ} {e : Bool} {kind : KindValue} {d raw : List ℕ}
     → (t : Tagged algos line e kind d raw)
-    → unmarked (after_while is_blank line) ≡ (e, tag kind.algo ++ behind_tag t)
-tagged-front {e = e} {kind = kind} t =
-    ap (λ l. unmarked (after_while is_blank l)) t.whole
-    ∙ unmarked-front t.blanks e (tag kind.algo) (behind_tag t) t.are_blanks (tag-begins kind.algo)
+    → mark_and_rest (after_while is_blank line) ≡ (e, tag kind.algo ++ behind_tag t)
+tagged-prefix {e = e} {kind = kind} t =
+    ap (λ l. mark_and_rest (after_while is_blank l)) t.whole
+    ∙ mark_and_rest-prefix t.blanks e (tag kind.algo) (behind_tag t) t.are_blanks (tag-begins kind.algo)
 
 module _ {algos : Algos} {line : List ℕ} (p : Parts) (t : IsTagged algos line p) where
   -- behind the closing parenthesis stand `=` and the digits
   pub sign-found : after_while is_blank (behind_name t) ≡ 61 ∷ (t.after ++ t.digits)
   sign-found = rest-at is_blank t.before 61 (t.after ++ t.digits) t.before_blanks refl
 
+  -- the digits are hexadecimal
   digits-are : AllPass is_hex_digit t.digits
   digits-are = (decode_of-ok t.digits p.digest t.spelled).1
 
+  -- and they are left behind the blanks
   pub digits-found : after_while is_blank (t.after ++ t.digits) ≡ t.digits
   digits-found = rest-hex t.after t.digits t.after_blanks digits-are
-
-  digest-read : digest_behind p.kind.len (behind_name t) ≡ Some p.digest
-  digest-read = rw (sign-found, digits-found, t.spelled, eq-eqb (length p.digest) p.kind.len t.size) refl
 
   -- it is the last parenthesis
   pub behind-free : AllPass (isn't 41) (behind_name t)
@@ -194,20 +188,19 @@ module _ {algos : Algos} {line : List ℕ} (p : Parts) (t : IsTagged algos line 
       (All-weaker _ Not41 blank-not41 t.before t.before_blanks)
       (All-cons Not41 61 (t.after ++ t.digits) refl end)
 
-  -- the tag, the width and the opening parenthesis are read, and then the name and the digest
-  opened-read : opened_text algos p.escaped (tag p.kind.algo ++ behind_tag t)
-      ≡ Some (record { escaped = p.escaped; kind = p.kind; inner = inner_of t })
-  unfolding opened_text
-  opened-read = rw (
+  -- so the line is read as these parts
+  pub tagged_is_read : tagged_parts algos line ≡ Some p
+  unfolding tagged_parts tagged_as
+  tagged_is_read = rw (
+    tagged-prefix t,
     algo_at-tag algos p.kind.algo (behind_tag t) t.allowed,
-    behind-front (tag p.kind.algo) (behind_tag t),
+    strip_prefix-append (tag p.kind.algo) (behind_tag t),
     width_at-of p.kind t.width t.gap (inner_of t) t.is_width,
-    unspaced-opening t.gap (inner_of t),
+    opened-at t.gap (inner_of t),
+    rsplit-at 41 p.text (behind_name t) behind-free,
+    sign-found,
+    digits-found,
+    t.spelled,
+    eq-eqb (length p.digest) p.kind.len t.size,
+    lt-ltb 0 (length p.text) t.some,
   ) refl
-
-  name-read : name_behind (record { escaped = p.escaped; kind = p.kind; inner = inner_of t }) ≡ Some p
-  unfolding name_behind
-  name-read = rw (split_last-at 41 p.text (behind_name t) behind-free, some_of-some p.text t.some, digest-read) refl
-
-  pub tagged_is_read : tagged_of algos line ≡ Some p
-  tagged_is_read = rw (tagged-front t, opened-read) name-read

@@ -10,33 +10,33 @@ use Rattle.std.proofs.lemmas.Slice.Eq.{bytes_eq-Decides}
 use Rattle.sum_lines.specs.Profiles.{Profile}
 use Rattle.sum_lines.specs.Escape.{escape_of, escape_by}
 use Rattle.sum_lines.specs.Entries.{Spells}
-use Rattle.sum_lines.specs.Says.{unescaped, unescape, spelled}
+use Rattle.sum_lines.specs.ParsedLines.{unescaped_bytes, unescape, entry_of_parts}
 use Rattle.sum_lines.specs.Entries.{Spelled}
-use Rattle.sum_lines.specs.Scanned.{Parts}
-use Rattle.sum_lines.proofs.FrontLemmas.{bind_some}
+use Rattle.sum_lines.specs.PartsOfLines.{Parts}
+use Rattle.sum_lines.proofs.PrefixLemmas.{bind_some}
 
 -- a byte that stands for itself
-plain-first : (b : ℕ) (rest : List ℕ) → (b == 92) ≡ false → unescaped (b ∷ rest) ≡ b ∷ unescaped rest
+plain-first : (b : ℕ) (rest : List ℕ) → (b == 92) ≡ false → unescaped_bytes (b ∷ rest) ≡ b ∷ unescaped_bytes rest
 plain-first b [] h = refl
 plain-first b (c ∷ cs) h = rw h refl
 
 -- unescaping what is escaped gives the name
-pub unescaped-escape : (p : Profile) (n : List ℕ) → unescaped (escape_by p n) ≡ n
-unescaped-escape p [] = refl
-unescaped-escape p (b ∷ bs) = elim (eqb_tells b 92) [
-  | inl same ↦ rw same.1 (ap (λ l. 92 ∷ l) (unescaped-escape p bs))
+pub unescaped_bytes-escape : (p : Profile) (n : List ℕ) → unescaped_bytes (escape_by p n) ≡ n
+unescaped_bytes-escape p [] = refl
+unescaped_bytes-escape p (b ∷ bs) = elim (eqb_tells b 92) [
+  | inl same ↦ rw same.1 (ap (λ l. 92 ∷ l) (unescaped_bytes-escape p bs))
   | inr backslash ↦ elim (eqb_tells b 10) [
-    | inl same ↦ rw same.1 (ap (λ l. 10 ∷ l) (unescaped-escape p bs))
+    | inl same ↦ rw same.1 (ap (λ l. 10 ∷ l) (unescaped_bytes-escape p bs))
     | inr newline ↦ elim (cases_Bool (p.escapes_return && (b == 13))) [
       | inl return ↦
           let is : b ≡ 13 = eqb-true b 13 (and_parts p.escapes_return (b == 13) return).1 in
           let one : escape_of p b ≡ 92 ∷ 114 ∷ [] = rw (backslash.0, newline.0, return) refl in
-          ap (λ l. unescaped (l ++ escape_by p bs)) one ∙ ap (λ l. 13 ∷ l) (unescaped-escape p bs)
+          ap (λ l. unescaped_bytes (l ++ escape_by p bs)) one ∙ ap (λ l. 13 ∷ l) (unescaped_bytes-escape p bs)
           ∙ ap (λ x. x ∷ bs) (sym is)
       | inr return ↦
           let one : escape_of p b ≡ b ∷ [] = rw (backslash.0, newline.0, return) refl in
-          ap (λ l. unescaped (l ++ escape_by p bs)) one ∙ plain-first b (escape_by p bs) backslash.0
-          ∙ ap (λ l. b ∷ l) (unescaped-escape p bs)
+          ap (λ l. unescaped_bytes (l ++ escape_by p bs)) one ∙ plain-first b (escape_by p bs) backslash.0
+          ∙ ap (λ l. b ∷ l) (unescaped_bytes-escape p bs)
     ]
   ]
 ]
@@ -45,13 +45,13 @@ unescaped-escape p (b ∷ bs) = elim (eqb_tells b 92) [
 pub unescape-escape : (p : Profile) (n : List ℕ) → unescape p (escape_by p n) ≡ Some n
 unescape-escape p n =
     let same = (bytes_eq-Decides (escape_by p n) (escape_by p n)).1 refl in
-    rw (unescaped-escape p n, same) refl
+    rw (unescaped_bytes-escape p n, same) refl
 
 -- and what is read as a name is its escape
 pub escape-unescape : (p : Profile) (raw n : List ℕ) → unescape p raw ≡ Some n → raw ≡ escape_by p n
 escape-unescape p raw n h =
-    let e = cond_some (bytes_eq (escape_by p (unescaped raw)) raw) (unescaped raw) n h in
-    sym ((bytes_eq-Decides (escape_by p (unescaped raw)) raw).0 e.0) ∙ ap (escape_by p) e.1
+    let e = cond_some (bytes_eq (escape_by p (unescaped_bytes raw)) raw) (unescaped_bytes raw) n h in
+    sym ((bytes_eq-Decides (escape_by p (unescaped_bytes raw)) raw).0 e.0) ∙ ap (escape_by p) e.1
 
 -- ---- no NUL
 
@@ -81,20 +81,23 @@ unescape-if : (p : Profile) (e : Bool) (raw n : List ℕ) → raw ≡ cond e (es
 unescape-if p true raw n h = ap (unescape p) h ∙ unescape-escape p n
 unescape-if p false raw n h = ap Some h
 
+-- and what is found is such a name
 escape-if : (p : Profile) (e : Bool) (raw n : List ℕ) → cond e (unescape p raw) (Some raw) ≡ Some n
     → raw ≡ cond e (escape_by p n) n
 escape-if p true raw n h = escape-unescape p raw n h
 escape-if p false raw n h = cc
 
+-- the entry of such parts
 abbrev pub entry : Parts → List ℕ → Spelled
 entry t n = record { algo = t.kind.algo; digest = t.digest; name = n }
 
 -- so parts whose raw name spells a name spell an entry, and only such parts do
 pub spelled-is : (p : Profile) (t : Parts) (n : List ℕ) → Spells (escape_by p) t.escaped t.text n
-    → spelled p t ≡ Some (entry t n)
+    → entry_of_parts p t ≡ Some (entry t n)
 spelled-is p t n s = rw (unescape-if p t.escaped t.text n s.is, all-of n s.no_nul) refl
 
-pub is-spelled : (p : Profile) (t : Parts) (s : Spelled) → spelled p t ≡ Some s
+-- only such parts
+pub is-spelled : (p : Profile) (t : Parts) (s : Spelled) → entry_of_parts p t ≡ Some s
     → (n : List ℕ) × Spells (escape_by p) t.escaped t.text n × (entry t n ≡ s)
 is-spelled p t s h =
     let n = bind_some (cond t.escaped (unescape p t.text) (Some t.text)) _ h in

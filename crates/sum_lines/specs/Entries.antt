@@ -6,17 +6,17 @@ use Rattle.digest_kinds.specs.declared.algo.Algo.{Algo}
 use Rattle.digest_kinds.specs.declared.algo.Algos.{Algos}
 use Rattle.sum_lines.specs.Profiles.{Profile, present}
 use Rattle.sum_lines.specs.Shapes.{Plain, Tagged}
-use Rattle.sum_lines.specs.Scanned.{plain_parts}
+use Rattle.sum_lines.specs.PartsOfLines.{plain_parts}
 use Rattle.sum_lines.specs.declared.line_reading.Form.{Form}
 use Rattle.sum_lines.specs.declared.line_reading.Form.TheVariants.{Undecided, Standard, Reversed}
 
 -- a line that says nothing: `#` (35) stands first, or it is empty, unless the profile holds that to be improper
-abbrev pub ignored_by : Profile → List ℕ → Bool
-ignored_by p [] = p.ignores_empty
-ignored_by p (b ∷ bs) = b == 35
+abbrev pub is_ignored_by : Profile → List ℕ → Bool
+is_ignored_by p [] = p.ignores_empty
+is_ignored_by p (b ∷ bs) = b == 35
 
-abbrev pub ignored : List ℕ → Bool
-ignored line = ignored_by present line
+abbrev pub is_ignored : List ℕ → Bool
+is_ignored line = is_ignored_by present line
 
 -- two bytes at least, the first of them a space (32) or a star (42)
 abbrev pub begins_standard : List ℕ → Bool
@@ -32,7 +32,7 @@ pub record Decides (algos : Algos) (line : List ℕ) (form : Form) : Type 0 wher
   pub kind : KindValue
   pub digest : List ℕ
   pub tail : List ℕ
-  pub speaks : ignored line ≡ false
+  pub speaks : is_ignored line ≡ false
   pub plain : Plain algos line escaped kind digest tail
   pub is : form ≡ form_of_tail tail
 
@@ -78,7 +78,8 @@ pub record ByTail (escape : List ℕ → List ℕ) (algos : Algos) (form : Form)
 
 -- An entry: what a line spells in a list of that form. Names are escaped by `escape`.
 abbrev pub Entry : (List ℕ → List ℕ) → Algos → Form → List ℕ → Spelled → Type 0
-Entry escape algos form line s = (ignored line ≡ false) × (ByTag escape algos line s ⊎ ByTail escape algos form line s)
+Entry escape algos form line s = (is_ignored line ≡ false)
+    × (ByTag escape algos line s ⊎ ByTail escape algos form line s)
 
 -- The form, computed: the first plain line decides it. It need not be believed: by the law `one_form` it is the list's.
 abbrev pub form_then : Form → Form → Form

@@ -8,14 +8,14 @@ use Rattle.digest_kinds.specs.declared.algo.Algos.{Algos}
 use Rattle.digest_kinds.specs.declared.algo.Algos.TheVariants.{One, Any}
 use Rattle.sum_lines.specs.declared.line_reading.Form.{Form}
 use Rattle.sum_lines.specs.declared.line_reading.Form.TheVariants.{Undecided, Standard}
-use Rattle.sum_lines.specs.declared.written.Mode.{Mode}
-use Rattle.sum_lines.specs.declared.written.Mode.TheVariants.{Tag}
+use Rattle.sum_lines.specs.declared.line_format.Mode.{Mode}
+use Rattle.sum_lines.specs.declared.line_format.Mode.TheVariants.{Tag}
 use Rattle.sum_lines.specs.Profiles.{Profile}
 use Rattle.sum_lines.specs.Escape.{escape, escape_by}
 use Rattle.sum_lines.specs.Lines.{line}
 use Rattle.sum_lines.specs.Shapes.{Plain, Tagged}
-use Rattle.sum_lines.specs.Entries.{Spelled, Entry, IsForm, ignored_by, form}
-use Rattle.sum_lines.specs.Says.{Nothing, Improper, Spells, says}
+use Rattle.sum_lines.specs.Entries.{Spelled, Entry, IsForm, is_ignored_by, form}
+use Rattle.sum_lines.specs.ParsedLines.{Nothing, Improper, WithEntry, parse_line}
 
 -- a line spells at most one entry
 abbrev pub OneEntry : Type 0
@@ -34,11 +34,11 @@ OneForm = (algos : Algos) (lines : List (List ℕ)) (f : Form) → IsForm algos 
 -- what a line says, whichever the profile: nothing where it is ignored; otherwise its entry or, where it has none, that
 -- it is improper
 pub record SaysOf (p : Profile) (algos : Algos) (f : Form) (line : List ℕ) : Type 0 where
-  pub nothing : (says p algos f line ≡ Nothing) ↔ (ignored_by p line ≡ true)
-  pub spells : (s : Spelled) → (says p algos f line ≡ Spells s)
-      ↔ ((ignored_by p line ≡ false) × Entry (escape_by p) algos f line s)
-  pub improper : (says p algos f line ≡ Improper)
-      ↔ ((ignored_by p line ≡ false) × ((s : Spelled) → ¬ Entry (escape_by p) algos f line s))
+  pub nothing : (parse_line p algos f line ≡ Nothing) ↔ (is_ignored_by p line ≡ true)
+  pub spells : (s : Spelled) → (parse_line p algos f line ≡ WithEntry s)
+      ↔ ((is_ignored_by p line ≡ false) × Entry (escape_by p) algos f line s)
+  pub improper : (parse_line p algos f line ≡ Improper)
+      ↔ ((is_ignored_by p line ≡ false) × ((s : Spelled) → ¬ Entry (escape_by p) algos f line s))
 
 abbrev pub SaysIs : Type 0
 SaysIs = (p : Profile) (algos : Algos) (f : Form) (line : List ℕ) → SaysOf p algos f line
@@ -46,8 +46,8 @@ SaysIs = (p : Profile) (algos : Algos) (f : Form) (line : List ℕ) → SaysOf p
 -- what comes behind a line has no part in what it says
 abbrev pub SameSaid : Type 0
 SameSaid = (p : Profile) (algos : Algos) (before later others : List (List ℕ)) (line : List ℕ)
-    → says p algos (form algos (before ++ (line ∷ later))) line
-    ≡ says p algos (form algos (before ++ (line ∷ others))) line
+    → parse_line p algos (form algos (before ++ (line ∷ later))) line
+    ≡ parse_line p algos (form algos (before ++ (line ∷ others))) line
 
 -- nor in the form behind a plain line
 abbrev pub SameForm : Type 0
@@ -71,12 +71,12 @@ pub record Writable (kind : KindValue) (name digest : List ℕ) : Type 0 where
 -- what stands before the newline spells that entry, and no other; behind it the form is Undecided or Standard still
 pub record SpellsBack (algos : Algos) (before later : List (List ℕ)) (text : List ℕ) (kind : KindValue)
     (name digest : List ℕ) : Type 0 where
-  pub front : List ℕ
-  pub whole : text ≡ front ++ codes "\n"
-  pub one_line : All (λ b. (b ≢ 10) × (b ≢ 13)) front
-  pub spells : (s : Spelled) → Entry escape algos (form algos (before ++ (front ∷ later))) front s
+  pub prefix : List ℕ
+  pub whole : text ≡ prefix ++ codes "\n"
+  pub one_line : All (λ b. (b ≢ 10) × (b ≢ 13)) prefix
+  pub spells : (s : Spelled) → Entry escape algos (form algos (before ++ (prefix ∷ later))) prefix s
       ↔ (s ≡ record { algo = kind.algo; digest = digest; name = name })
-  pub keeps : (form algos (before ++ (front ∷ [])) ≡ Undecided) ⊎ (form algos (before ++ (front ∷ [])) ≡ Standard)
+  pub keeps : (form algos (before ++ (prefix ∷ [])) ≡ Undecided) ⊎ (form algos (before ++ (prefix ∷ [])) ≡ Standard)
 
 -- a line that is written without zero is read back, in a list whose form is Undecided or Standard before it
 abbrev pub ReadBack : Type 0

@@ -2,11 +2,11 @@ pub mod Profiles
 pub mod Escape
 pub mod Shapes
 pub mod Entries
-pub mod Scanned
-pub mod Says
+pub mod PartsOfLines
+pub mod ParsedLines
 pub mod Laws
 pub mod Sinks
 pub mod Buffers
 pub mod Lines
 pub mod Readings
-pub mod joins
+pub mod refinement

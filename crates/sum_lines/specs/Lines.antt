@@ -2,16 +2,16 @@
 use Rattle.std.specs.Prelude.{ℕ, ◌*◌, ◌==◌, List, [], ◌∷◌, ◌++◌, codes, decimal, if◌then◌else◌}
 use Rattle.std.specs.List.{concat}
 use Rattle.hex.specs.Hex.{encode_lower}
-use Rattle.digest_kinds.specs.Kinds.{KindValue, full, tag}
-use Rattle.sum_lines.specs.declared.written.Style.{Style}
-use Rattle.sum_lines.specs.declared.written.Mode.{Mode}
-use Rattle.sum_lines.specs.declared.written.Mode.TheVariants.{Text, Binary, Tag}
+use Rattle.digest_kinds.specs.Kinds.{KindValue, full_len, tag}
+use Rattle.sum_lines.specs.declared.line_format.Style.{Style}
+use Rattle.sum_lines.specs.declared.line_format.Mode.{Mode}
+use Rattle.sum_lines.specs.declared.line_format.Mode.TheVariants.{Text, Binary, Tag}
 use Rattle.sum_lines.specs.Escape.{escape, escape_differs}
 use Rattle.sum_lines.specs.Shapes.{mark}
 
 -- the tag, for a BLAKE2b digest that isn't full with its bits, as `BLAKE2b-256`
 abbrev pub line_tag : KindValue → List ℕ
-line_tag kind = tag kind.algo ++ (if kind.len == full kind.algo then [] else codes "-" ++ decimal (8 * kind.len))
+line_tag kind = tag kind.algo ++ (if kind.len == full_len kind.algo then [] else codes "-" ++ decimal (8 * kind.len))
 
 -- a line without its end and without a backslash before it
 abbrev pub layout : Mode → KindValue → List ℕ → List ℕ → List ℕ

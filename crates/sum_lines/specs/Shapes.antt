@@ -1,11 +1,11 @@
 -- The two shapes of a manifest's line: how the whole line is put together from its parts. These are relations, and no
--- reading from the front: a line has a shape where some parts join to it. In front of either may stand blanks and then
+-- reading from the start: a line has a shape where some parts join to it. In front of either may stand blanks and then
 -- one backslash, which says that the name is escaped.
 use Rattle.std.specs.Prelude.{ℕ, ◌≡◌, ◌*◌, ◌<◌, ◌⊎◌, ◌==◌, ◌||◌, ⊤, Bool, true, List, [], ◌∷◌, ◌++◌, length, codes, IsTrue, Ok, if◌then◌else◌}
 use Rattle.std.specs.List.{AllPass}
 use Rattle.std.specs.Fmt.{decimal}
 use Rattle.hex.specs.Hex.{decode_of}
-use Rattle.digest_kinds.specs.Kinds.{KindValue, full, has_len, tag}
+use Rattle.digest_kinds.specs.Kinds.{KindValue, full_len, has_len, tag}
 use Rattle.digest_kinds.specs.declared.algo.Algo.{Algo}
 use Rattle.digest_kinds.specs.declared.algo.Algo.TheVariants.{Blake2b}
 use Rattle.digest_kinds.specs.declared.algo.Algos.{Algos}
@@ -41,7 +41,7 @@ optional there bytes = if there then bytes else []
 -- What may stand between the tag and the name: nothing for the full length; for BLAKE2b a `-` and the number
 -- of bits, which are 8 to 512, in decimal
 abbrev pub Width : KindValue → List ℕ → Type 0
-Width kind width = ((width ≡ []) × (kind.len ≡ full kind.algo))
+Width kind width = ((width ≡ []) × (kind.len ≡ full_len kind.algo))
     ⊎ ((width ≡ codes "-" ++ decimal (8 * kind.len)) × (kind.algo ≡ Blake2b) × IsTrue (has_len Blake2b kind.len))
 
 -- the algorithms that a list of lines may name

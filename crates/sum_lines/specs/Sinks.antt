@@ -73,7 +73,7 @@ Offers old new pieces = IfSome old (λ xs. new ≡ Some (xs ++ pieces))
 
 -- a shorter back of the text
 abbrev pub IsRest : List ℕ → List ℕ → Type 0
-IsRest text rest = (front : List ℕ) × (0 < length front) × (text ≡ front ++ rest)
+IsRest text rest = (prefix : List ℕ) × (0 < length prefix) × (text ≡ prefix ++ rest)
 
 -- each piece is a rest of the piece before it
 abbrev pub AreRests : List ℕ → List (List ℕ) → Type 0

@@ -5,6 +5,7 @@ mod buffered;
 mod escape;
 mod from_write;
 pub mod laws;
+mod line_format;
 mod line_reading;
 mod names;
 mod parts;
@@ -15,13 +16,12 @@ mod tagged;
 #[cfg(test)]
 mod tests;
 mod told_sink;
-mod written;
 
 pub use buffered::{Buffered, ROOM};
 pub use escape::{needs_escape, put_escaped, unescape_in};
 pub use from_write::FromWrite;
+pub use line_format::{Mode, Style, put_line};
 pub use line_reading::{Form, Reading, read_line};
 pub use parts::{Part, put_number, put_parts};
 pub use sink::{Sink, SinkFault, put_all};
 pub use told_sink::ToldSink;
-pub use written::{Mode, Style, put_line};

@@ -1,13 +1,13 @@
 //! One line of a manifest.
 
 ghost use Rattle.std.specs.Prelude.{◌≡◌, ◌≤◌, false, if◌then◌else◌, length, vec_len};
-ghost use Rattle.sum_lines.specs.Entries.{begins_standard, form_of_tail, form_then, ignored};
-ghost use Rattle.sum_lines.specs.joins.Found.{NamesEntry, NamesTail, text_of};
+ghost use Rattle.sum_lines.specs.Entries.{begins_standard, form_of_tail, form_then, is_ignored};
+ghost use Rattle.sum_lines.specs.refinement.Found.{NamesEntry, NamesTail, text_of};
 ghost use Rattle.sum_lines.specs.Readings.{Reads, form_after};
 
 use crate::names::name_in;
 use crate::plain::plain;
-use crate::scanning::{LineParts, skip_blanks, unmark};
+use crate::scanning::{LineParts, text_in};
 use crate::tagged::tagged;
 use digest_kinds::{Algos, Digest, Kind};
 use std::alloc::Allocator;
@@ -70,12 +70,12 @@ pub fn read_line<A: Allocator>(algos: Algos, form: Form, line: &mut Vec<u8, A>) 
 // ignored line doesn't.
 #[inline(never)]
 fn read_spoken<A: Allocator>(algos: Algos, form: Form, line: &mut Vec<u8, A>) -> (Reading, Form)
-    requires { ignored line.old.items ≡ false }
+    requires { is_ignored line.old.items ≡ false }
     ensures form { result.1 ≡ form_after algos form line.old.items }
     ensures reads { Reads algos result.1 line.old.items line.new.items result.0 }
     ensures len { vec_len line.new ≤ vec_len line.old }
 {
-    let (escaped, text) = unmark(skip_blanks(line));
+    let (escaped, text) = text_in(line);
     if let Some(found) = tagged(algos, line, escaped, text) {
         (read_name(line, found), form)
     } else if let Some(found) = plain(algos, line, escaped, text) {
@@ -86,7 +86,7 @@ fn read_spoken<A: Allocator>(algos: Algos, form: Form, line: &mut Vec<u8, A>) ->
 }
 
 fn is_ignored(line: &[u8]) -> bool
-    ensures { result ≡ ignored line.now }
+    ensures { result ≡ is_ignored line.now }
 {
     match line {
         [] => true,

@@ -4,7 +4,7 @@ ghost use Rattle.std.specs.Prelude.{◌≡◌, ◌≤◌, ◌<◌, ◌++◌, ◌
 ghost use Rattle.std.specs.Prelude.{take, true, vec_len};
 ghost use Rattle.std.specs.List.{All};
 ghost use Rattle.sum_lines.specs.Escape.{escape};
-ghost use Rattle.sum_lines.specs.joins.Found.{Names};
+ghost use Rattle.sum_lines.specs.refinement.Found.{Names};
 
 use crate::escape::unescape_in;
 use memchr::memchr;
@@ -31,7 +31,7 @@ fn unspell<A: Allocator>(line: &mut Vec<u8, A>, escaped: bool, start: usize) -> 
     requires { start ≤ length line.old.items }
     ensures name { (n : List ℕ) → (drop start line.old.items ≡ (if escaped then escape n else n))
         ↔ ((result ≡ true) × (line.new.items ≡ take start line.old.items ++ n)) }
-    ensures front { take start line.new.items ≡ take start line.old.items }
+    ensures prefix { take start line.new.items ≡ take start line.old.items }
     ensures len { vec_len line.new ≤ vec_len line.old }
 {
     !escaped || unescape_in(line, start)

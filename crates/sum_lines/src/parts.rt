@@ -17,7 +17,7 @@ pub enum Part<'a> {
     Number(u64),
 }
 
-ghost use Rattle.sum_lines.specs.joins.PartTexts.{part_text, parts_text};
+ghost use Rattle.sum_lines.specs.refinement.PartTexts.{part_text, parts_text};
 
 /// Writes the parts, one after another. A fault where a write failed; of what was held and of their text a proper
 /// prefix is then handed on, and nothing is held.

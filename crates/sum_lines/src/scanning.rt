@@ -1,11 +1,12 @@
-//! The steps by which a line is read from the front.
+//! The steps by which a line is read from its start.
 
 ghost use Rattle.std.specs.Prelude.{◌≡◌, ◌<◌, ◌≤◌, IfNone, IfSome, length};
 ghost use Rattle.std.specs.List.{prefix_len, take_while};
 ghost use Rattle.std.specs.Option.{option_copied, option_map};
-ghost use Rattle.sum_lines.specs.Scanned.{after_while, behind as past, unmarked};
-ghost use Rattle.sum_lines.specs.joins.Steps.{split_last, unspaced};
+ghost use Rattle.std.specs.Path.{rsplit_once};
+ghost use Rattle.sum_lines.specs.PartsOfLines.{after_while, strip_prefix, mark_and_rest};
 ghost use Rattle.sum_lines.specs.Shapes.{is_blank};
+ghost use Rattle.sum_lines.specs.refinement.Found.{EndsIn};
 
 use digest_kinds::{Digest, Kind};
 use memchr::memrchr;
@@ -28,6 +29,14 @@ fn is_blank(byte: u8) -> bool
     matches!(byte, b' ' | b'\t')
 }
 
+/// What stands in a line behind its blanks and the backslash there, and whether that is there.
+pub(crate) fn text_in(line: &[u8]) -> (bool, &[u8])
+    ensures text { (result.0, result.1.now) ≡ mark_and_rest (after_while is_blank line.now) }
+    ensures ends { EndsIn line.now result.1.now }
+{
+    unmark(skip_blanks(line))
+}
+
 /// What stands behind the blanks in front.
 pub(crate) fn skip_blanks(s: &[u8]) -> &[u8]
     ensures { result.now ≡ after_while is_blank s.now }
@@ -42,9 +51,9 @@ fn blanks(s: &[u8]) -> usize
     s.iter().take_while(|byte| is_blank(**byte)).count()
 }
 
-/// Whether a backslash stands in front, and what stands behind it.
-pub(crate) fn unmark(s: &[u8]) -> (bool, &[u8])
-    ensures { (result.0, result.1.now) ≡ unmarked s.now }
+// Whether a backslash stands in front, and what stands behind it.
+fn unmark(s: &[u8]) -> (bool, &[u8])
+    ensures { (result.0, result.1.now) ≡ mark_and_rest s.now }
 {
     match s {
         [b'\\', rest @ ..] => (true, rest),
@@ -52,26 +61,16 @@ pub(crate) fn unmark(s: &[u8]) -> (bool, &[u8])
     }
 }
 
-/// What stands behind the one space in front, where there is one.
-pub(crate) fn unspace(s: &[u8]) -> &[u8]
-    ensures { result.now ≡ unspaced s.now }
-{
-    match s {
-        [b' ', rest @ ..] => rest,
-        _ => s,
-    }
-}
-
 /// What stands behind the text, where it stands in front.
 pub(crate) fn past_text<'a>(text: &[u8], s: &'a [u8]) -> Option<&'a [u8]>
-    ensures { option_copied result ≡ past text.now s.now }
+    ensures { option_copied result ≡ strip_prefix text.now s.now }
 {
     s.strip_prefix(text)
 }
 
 /// What stands before and behind the last such byte.
 pub(crate) fn split_at_last(byte: u8, s: &[u8]) -> Option<(&[u8], &[u8])>
-    ensures { option_map (λ p. (p.0.now, p.1.now)) result ≡ split_last byte s.now }
+    ensures { option_map (λ p. (p.0.now, p.1.now)) result ≡ rsplit_once byte s.now }
 {
     let at = memrchr(byte, s)?;
     Some((&s[..at], &s[at + 1..]))

@@ -4,7 +4,7 @@ use Rattle.std.specs.List.{All}
 use Rattle.std.proofs.lemmas.Bool.Decides.{eqb_tells}
 use Rattle.std.proofs.lemmas.List.Elements.{All-nil, All-cons, All-head, All-tail}
 use Rattle.sum_sources.specs.declared.fault.Ending.{Ending}
-use Rattle.sum_sources.specs.ManifestLines.{CutsInto, NoNewline, rejoined, last_line, pieces}
+use Rattle.sum_sources.specs.ManifestLines.{CutsInto, NoNewline, bytes_of_pieces, last_line, pieces}
 use Rattle.sum_sources.proofs.LineLemmas.{pieces-newline, pieces-last}
 
 -- the bytes can be cut
@@ -53,15 +53,15 @@ cut [] = ([], [], record { bytes_are = refl; pieces_plain = All-nil NoNewline; t
 cut (b ∷ bs) = cut_more b bs (cut bs)
 
 -- the first piece and its newline stand in front of what the others make
-rejoined-cons : (p : List ℕ) (ps : List (List ℕ)) (tail : List ℕ)
-    → rejoined (p ∷ ps) tail ≡ p ++ (10 ∷ rejoined ps tail)
-rejoined-cons p ps tail = simp append_assoc
+bytes_of_pieces-cons : (p : List ℕ) (ps : List (List ℕ)) (tail : List ℕ)
+    → bytes_of_pieces (p ∷ ps) tail ≡ p ++ (10 ∷ bytes_of_pieces ps tail)
+bytes_of_pieces-cons p ps tail = simp append_assoc
 
 -- the pieces of bytes that were cut are those of the cut, and the last line
 pub pieces-joined : (ending : Ending) (ended : List (List ℕ)) (tail : List ℕ) → All NoNewline ended → NoNewline tail
-    → pieces (record { bytes = rejoined ended tail; ending = ending }) ≡ ended ++ last_line ending tail
+    → pieces (record { bytes = bytes_of_pieces ended tail; ending = ending }) ≡ ended ++ last_line ending tail
 pieces-joined ending [] tail plain none = pieces-last ending tail none
 pieces-joined ending (p ∷ ps) tail plain none =
-    ap (λ l. pieces (record { bytes = l; ending = ending })) (rejoined-cons p ps tail)
-    ∙ pieces-newline ending p (rejoined ps tail) (All-head NoNewline p ps plain)
+    ap (λ l. pieces (record { bytes = l; ending = ending })) (bytes_of_pieces-cons p ps tail)
+    ∙ pieces-newline ending p (bytes_of_pieces ps tail) (All-head NoNewline p ps plain)
     ∙ ap (λ ls. p ∷ ls) (pieces-joined ending ps tail (All-tail NoNewline p ps plain) none)

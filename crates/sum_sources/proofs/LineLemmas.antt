@@ -9,7 +9,6 @@ use Rattle.std.proofs.lemmas.List.{get_or_append_left, drop_at, nil_from_length}
 use Rattle.std.proofs.lemmas.List.Splits.{slice_split_at, slice_split_none, length-slice_split}
 use Rattle.std.proofs.lemmas.List.Sums.{position_or_len_is}
 use Rattle.std.proofs.Math.Seq.{get_or-append_seam}
-use Rattle.sum_sources.specs.declared.fault.Fault.{Fault}
 use Rattle.sum_sources.specs.declared.fault.Ending.{Ending}
 use Rattle.sum_sources.specs.declared.fault.Ending.TheVariants.{Whole, Broken}
 use Rattle.sum_sources.specs.declared.lines.Next.{Next}
@@ -20,9 +19,9 @@ use Rattle.sum_sources.specs.Contents.{Content, WhereTold}
 use Rattle.sum_sources.specs.Standard.{empty_content}
 use Rattle.sum_sources.specs.ManifestLines.{last_line, line_pieces, pieces, lines, past_line, NoNewline, LineOf}
 use Rattle.sum_sources.specs.LineReaders.{left_by}
-use Rattle.sum_sources.specs.joins.LineReading.{EndsPiece, IsLastPiece, PieceOf}
-use Rattle.sum_sources.proofs.FillLemmas.{content-same}
-use Rattle.sum_sources.proofs.ToldLemmas.{WhereTold-map, WhereTold-last}
+use Rattle.sum_sources.specs.refinement.LineReading.{EndsPiece, IsLastPiece, PieceOf}
+use Rattle.sum_sources.proofs.ContentLemmas.{content-same}
+use Rattle.sum_sources.proofs.ToldLemmas.{WhereTold-map, WhereTold-remade}
 
 -- where a newline ended a piece, the other pieces follow it
 line_pieces-cons : (e : Ending) (piece : List ℕ) (more : List (List ℕ)) → 0 < length more
@@ -119,13 +118,13 @@ LineOf-no_more : (c d : Content) (line piece : List ℕ)
     → PieceOf c d (Ok NoMore) piece → LineOf c d (Ok NoMore) line
 LineOf-no_more c d line piece is = (ap lines is ∙ lines_of_empty, ap (λ (x : Content). x.ending) is)
 
--- a fault leaves no line, whatever stands before it
-LineOf-fault : (c d : Content) (f : Fault) (line piece : List ℕ)
-    → PieceOf c d (Err (stops.Fault f)) piece → LineOf c d (Err (stops.Fault f)) line
-LineOf-fault c d f line piece is =
-    let all : c ≡ record { bytes = piece; ending = Broken f } =
-    content-same c (record { bytes = piece; ending = Broken f }) is.1 is.2 in
-    (ap lines all ∙ ap (map strip_carriage_return) (pieces-last (Broken f) piece is.0), is.2)
+-- a fault leaves no line, whatever stands before it; what is to come after a stop doesn't matter
+LineOf-stop : (c d d' : Content) (e : LineStop) (line : List ℕ) → PieceOf c d (Err e) line → LineOf c d' (Err e) line
+LineOf-stop c d d' stops.Memory line is = is
+LineOf-stop c d d' (stops.Fault f) line is =
+    let all : c ≡ record { bytes = line; ending = Broken f } =
+    content-same c (record { bytes = line; ending = Broken f }) is.1 is.2 in
+    (ap lines all ∙ ap (map strip_carriage_return) (pieces-last (Broken f) line is.0), is.2)
 
 -- a line, where contents are told
 pub gives_line : {r : Result Next LineStop} {line : List ℕ} (x y : Option Content) (piece : List ℕ)
@@ -138,19 +137,12 @@ pub gives_no_more : {r : Result Next LineStop} (x y : Option Content) (line : Li
     → r ≡ Ok NoMore → WhereTold x y (λ c d. PieceOf c d r line) → WhereTold x y (λ c d. LineOf c d r line)
 gives_no_more x y line is h = rw is (WhereTold-map x y (λ c d. LineOf-no_more c d line line) (rw is at h))
 
--- a stop, by a fault or for want of memory; what is to come afterwards doesn't matter
-gives_error : (x z : Option Content) (f g : Content → Content) (e : LineStop) (line : List ℕ)
-    → WhereTold x (option_map f z) (λ c d. PieceOf c d (Err e) line)
-    → WhereTold x (option_map g z) (λ c d. LineOf c d (Err e) line)
-gives_error x z f g (stops.Fault x') line h =
-    WhereTold-last x z f g (λ c. (lines c ≡ []) × (c.ending ≡ Broken x'))
-    (WhereTold-map x _ (λ c d. LineOf-fault c d x' line line) h)
-gives_error x z f g stops.Memory line h = WhereTold-last x z f g (λ c. 0 < length c.bytes) h
-
+-- a stop, by a fault or for want of memory
 pub gives_stop : {r : Result Next LineStop} {e : LineStop} (x z : Option Content) (f g : Content → Content)
     (line : List ℕ) → r ≡ Err e → WhereTold x (option_map f z) (λ c d. PieceOf c d r line)
     → WhereTold x (option_map g z) (λ c d. LineOf c d r line)
-gives_stop {e = e} x z f g line is h = rw is (gives_error x z f g e line (rw is at h))
+gives_stop {e = e} x z f g line is h =
+    rw is (WhereTold-remade x z f g _ _ (λ c d. LineOf-stop c (f d) (g d) e line) (rw is at h))
 
 -- the end was answered before, and is answered again
 pub gives_ended : (z : Option Content) (line : List ℕ)

@@ -1,13 +1,22 @@
 -- The piece of a line that stands in the reader's buffer.
 use Rattle.std.proofs.Common.{◌≡◌, ℕ, ◌+◌, ◌-◌, ◌<◌, ◌≤◌, ◌==◌, List, ◌∷◌, ◌++◌, length, take, drop, get_or}
-use Rattle.std.proofs.Common.{suc, ap, sym, ◌∙◌, arith, add-one}
+use Rattle.std.proofs.Common.{suc, ap, sym, ◌∙◌, arith, add-one, length-append, length-take, length-drop}
 use Rattle.std.proofs.lemmas.List.{length-take-le, take-append-drop, get_or-take, drop-take, drop-drop}
 use Rattle.std.proofs.lemmas.Bool.{false_from_ne_true}
 use Rattle.std.proofs.lemmas.Grind.{get_or_default_zero}
 use Rattle.std.proofs.Math.Seq.{drop-cons}
 use Rattle.memchr.specs.Find.{Nowhere, Passes, is_byte}
 use Rattle.sum_sources.specs.ManifestLines.{NoNewline}
-use Rattle.sum_sources.proofs.FillLemmas.{length-buffered}
+
+-- how many bytes stand between the buffer's places
+pub length-buffered : (buf : List ℕ) (s e : ℕ) → s ≤ e → e ≤ length buf → length (take (e - s) (drop s buf)) ≡ e - s
+length-buffered buf s e low high = simp (length-take, length-drop) (omega arith)
+
+-- some are to come, where some stand there
+pub some_buffered : (buf rest : List ℕ) (s e : ℕ) → s < e → e ≤ length buf
+    → 0 < length (take (e - s) (drop s buf) ++ rest)
+some_buffered buf rest s e low high =
+    omega (arith, length-append (take (e - s) (drop s buf)) rest, length-buffered buf s e (omega arith) high)
 
 -- a byte that isn't found is no newline
 pub plain_piece : (bytes : List ℕ) → Nowhere (Passes (is_byte 10) bytes) 0 (length bytes) → NoNewline bytes
@@ -15,9 +24,9 @@ plain_piece bytes none k d low =
     ap (λ b. b == 10) (get_or_default_zero bytes k d low) ∙ false_from_ne_true _ (none k (omega arith) low)
 
 -- nor are those before the first that is found
-pub plain_front : (bytes : List ℕ) (n : ℕ) → n < length bytes → Nowhere (Passes (is_byte 10) bytes) 0 n
+pub plain_prefix : (bytes : List ℕ) (n : ℕ) → n < length bytes → Nowhere (Passes (is_byte 10) bytes) 0 n
     → NoNewline (take n bytes)
-plain_front bytes n few none k d low =
+plain_prefix bytes n few none k d low =
     let below : k < n = omega (arith, low, length-take-le n bytes (omega arith)) in
     ap (λ b. b == 10) (get_or-take n bytes k d below ∙ get_or_default_zero bytes k d (omega arith))
     ∙ false_from_ne_true _ (none k (omega arith) below)

@@ -32,9 +32,9 @@ WhereTold-first None y P h = tt
 WhereTold-first (Some a) None P h = absurd h
 WhereTold-first (Some a) (Some b) P h = h
 
--- what doesn't speak of the last value holds, whatever is made of it
-pub WhereTold-last : {A : Type 0} (x z : Option A) (f g : A → A) (P : A → Type 0)
-    → WhereTold x (option_map f z) (λ a b. P a) → WhereTold x (option_map g z) (λ a b. P a)
-WhereTold-last None z f g P h = tt
-WhereTold-last (Some a) None f g P h = h
-WhereTold-last (Some a) (Some b) f g P h = h
+-- what follows where something else is made of the last value
+pub WhereTold-remade : {A : Type 0} (x z : Option A) (f g : A → A) (P Q : A → A → Type 0)
+    → ((a b : A) → P a (f b) → Q a (g b)) → WhereTold x (option_map f z) P → WhereTold x (option_map g z) Q
+WhereTold-remade None z f g P Q h p = tt
+WhereTold-remade (Some a) None f g P Q h p = p
+WhereTold-remade (Some a) (Some b) f g P Q h p = h a b p

@@ -17,7 +17,7 @@ pub record Content : Type 0 where
 unfoldable pub limit : ℕ
 limit = 2 ^ 61
 
--- what is too long counts as its front and then a fault
+-- what is too long counts as its prefix and then a fault
 abbrev pub clip : Content → Content
 clip c = if nat_lt (length c.bytes) limit then c else record { bytes = take (limit - 1) c.bytes; ending = Broken Other }
 

@@ -5,4 +5,4 @@ pub mod LineReaders
 pub mod ManifestLines
 pub mod Sources
 pub mod Standard
-pub mod joins
+pub mod refinement

@@ -36,8 +36,8 @@ abbrev pub clip_to : ℕ → Content → Content
 clip_to n c = if nat_lt (length c.bytes) n then c else record { bytes = take (n - 1) c.bytes; ending = Broken Other }
 
 -- a content with these bytes in front
-abbrev pub with_front : List ℕ → Content → Content
-with_front front c = record { bytes = front ++ c.bytes; ending = c.ending }
+abbrev pub with_prefix : List ℕ → Content → Content
+with_prefix prefix c = record { bytes = prefix ++ c.bytes; ending = c.ending }
 
 -- what is still to come, where this is answered again: nothing after the end, and just the fault after a fault
 abbrev pub left_by : Option (Result Next LineStop) → Content → Content
@@ -49,7 +49,7 @@ left_by (Some (Err stops.Memory)) c = c
 -- what is still to come: the bytes read ahead and then the input's content, as far as the limit allows
 abbrev pub coming : {I : Type 0} → (I → Option Content) → Reader I → Option Content
 coming content r =
-    option_map (λ c. left_by r.answer (with_front r.ahead (clip_to (limit - r.taken) c))) (content r.input)
+    option_map (λ c. left_by r.answer (with_prefix r.ahead (clip_to (limit - r.taken) c))) (content r.input)
 
 -- what is answered again after an answer: at most the end after a line, and the same after the end and each stop
 abbrev pub Settles : Result Next LineStop → Option (Result Next LineStop) → Type 0

@@ -39,12 +39,12 @@ abbrev pub NoNewline : List ℕ → Type 0
 NoNewline piece = All (λ b. (b == 10) ≡ false) piece
 
 -- these pieces, each ended by a newline, and then the tail
-abbrev pub rejoined : List (List ℕ) → List ℕ → List ℕ
-rejoined ended tail = flat_map (λ piece. piece ++ 10 ∷ []) ended ++ tail
+abbrev pub bytes_of_pieces : List (List ℕ) → List ℕ → List ℕ
+bytes_of_pieces ended tail = flat_map (λ piece. piece ++ 10 ∷ []) ended ++ tail
 
 -- the bytes are cut at every newline into these pieces and the tail
 pub record CutsInto (bytes : List ℕ) (ended : List (List ℕ)) (tail : List ℕ) : Type 0 where
-  pub bytes_are : bytes ≡ rejoined ended tail
+  pub bytes_are : bytes ≡ bytes_of_pieces ended tail
   pub pieces_plain : All NoNewline ended
   pub tail_plain : NoNewline tail
 

@@ -30,13 +30,13 @@ asked_after asked name (Err faults.Memory) = asked
 asked_after asked name _ = asked ++ name ∷ []
 
 -- opening comes out as the reply says, where memory was there
-abbrev pub Opens : {F : Type 0} → (F → Option Content) → Reply → Result F OpenFault → Type 0
-Opens content reply (Ok file) = (c : Content) × (reply ≡ Given c) × (content file ≡ Some c)
-Opens content reply (Err (faults.Fault f)) = reply ≡ Refused f
-Opens content reply (Err faults.Memory) = ⊤
+abbrev pub OpensAsReply : {F : Type 0} → (F → Option Content) → Reply → Result F OpenFault → Type 0
+OpensAsReply content reply (Ok file) = (c : Content) × (reply ≡ Given c) × (content file ≡ Some c)
+OpensAsReply content reply (Err (faults.Fault f)) = reply ≡ Refused f
+OpensAsReply content reply (Err faults.Memory) = ⊤
 
 -- what opening a name does, where a source tells: its replies stay the same
 abbrev pub OpenGives :
     {F : Type 0} → (F → Option Content) → Option Telling → Option Telling → List ℕ → Result F OpenFault → Type 0
 OpenGives content old new name r = WhereTold old new (λ s t. (t.answer ≡ s.answer)
-    × (t.asked ≡ asked_after s.asked name r) × Opens content (s.answer name) r)
+    × (t.asked ≡ asked_after s.asked name r) × OpensAsReply content (s.answer name) r)

@@ -2,8 +2,9 @@
 ghost use Rattle.std.specs.Prelude.{◌≡◌, [], length, IfOk, IfSome};
 ghost use Rattle.sum_sources.specs.Contents.{clip, Hashes};
 
+use crate::limited::Limited;
 use crate::{Fault, Input, PIECE};
-use digest_kinds::{Digest, Hasher, LIMIT};
+use digest_kinds::{Digest, Hasher};
 
 /// Reads `input` once, in order and to its end, in pieces of at most `PIECE` bytes, and answers the
 /// digest that `hasher` makes of its bytes, or the fault that the input ends by. An input of `LIMIT`
@@ -28,17 +29,9 @@ pub fn hash_input_over<I: Input, H: Hasher + Drop>(
     ensures gives { IfSome (I.content input.old) (λ c. Hashes (H.kind_of hasher) (clip c) result) }
     ensures len { IfOk result (λ d. length d ≡ (H.kind_of hasher).len) }
 {
+    let mut limited = Limited { input, taken: 0 };
     loop {
-        let room = LIMIT - 1 - hasher.taken();
-        if room == 0 {
-            let mut one = [0; 1];
-            return match input.read(&mut one)? {
-                0 => Ok(hasher.finish()),
-                _ => Err(Fault::Other),
-            };
-        }
-        let size = room.min(PIECE as u64) as usize;
-        let n = input.read(&mut buffer[..size])?;
+        let n = limited.read(buffer)?;
         if n == 0 {
             return Ok(hasher.finish());
         }

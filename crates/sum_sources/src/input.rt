@@ -19,3 +19,11 @@ pub trait Input {
         ensures count { IfOk result (λ n. n ≤ length buf.new) }
         ensures bytes { WhereTold (content self.old) (content self.new) (λ c d. ReadsFrom c d result buf.new) };
 }
+
+impl<I: Input> Input for &mut I {
+    ghost content = { λ input. I.content input.now };
+
+    fn read(&mut self, buf: &mut [u8]) -> Result<usize, Fault> {
+        (**self).read(buf)
+    }
+}

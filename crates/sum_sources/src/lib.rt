@@ -9,6 +9,7 @@ mod from_read;
 mod hashing;
 mod input;
 pub mod laws;
+mod limited;
 mod lines;
 mod source;
 mod standard;

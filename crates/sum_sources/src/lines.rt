@@ -1,12 +1,12 @@
 //! The lines of a manifest, one at a time.
-ghost use Rattle.std.specs.Prelude.{◌≡◌, ◌≤◌, ◌<◌, ◌+◌, [], true, false, take, length};
+ghost use Rattle.std.specs.Prelude.{◌≡◌, ◌≤◌, ◌<◌, ◌+◌, [], true, false, length};
 ghost use Rattle.std.specs.Prelude.{None, IfOk, IfSome, IsErr, OnOk, if◌then◌else◌};
 ghost use Rattle.std.specs.Str.Lines.{strip_carriage_return};
 ghost use Rattle.digest_kinds.specs.Limits.{LIMIT};
-ghost use Rattle.sum_sources.specs.Contents.{WhereTold, ReadsFrom};
+ghost use Rattle.sum_sources.specs.Contents.{WhereTold};
 
+use crate::limited::Limited;
 use crate::{Fault, Input, PIECE};
-use digest_kinds::LIMIT;
 use memchr::memchr;
 use std::alloc::{AllocError, Allocator};
 use std::marker::Model;
@@ -41,12 +41,11 @@ enum State {
 /// Reads an input line by line, at most [`PIECE`](crate::PIECE) bytes ahead.
 #[derive(Drop)]
 pub struct LineReader<I> {
-    input: I,
+    input: Limited<I>,
     // What was read and isn't used yet is `buf[start..end]`.
     buf: [u8; PIECE],
     start: usize,
     end: usize,
-    taken: u64,
     lines: u64,
     state: State,
 }
@@ -56,21 +55,11 @@ impl<I> Model for LineReader<I> {
 
     ghost Value = { Reader I };
 
-    ghost use Rattle.sum_sources.specs.joins.LineStates.{seen, Kept};
+    ghost use Rattle.sum_sources.specs.refinement.LineStates.{seen, Kept};
 
     ghost view = { λ s. seen s };
 
     ghost invariant = { λ s. Kept s };
-}
-
-// Reads into the front of `buf`.
-fn read_front<I: Input>(input: &mut I, buf: &mut [u8], size: usize) -> Result<usize, Fault>
-    requires { size ≤ length buf.old }
-    ensures count { IfOk result (λ n. n ≤ size) }
-    ensures bytes { WhereTold (I.content input.old) (I.content input.new)
-        (λ c d. ReadsFrom c d result (take size buf.new)) }
-{
-    input.read(&mut buf[..size])
 }
 
 // Drops the one carriage return at the end of the line, where there is one.
@@ -87,7 +76,7 @@ impl<I: Input> LineReader<I> {
     ghost use Rattle.sum_sources.specs.Contents.{clip};
     ghost use Rattle.sum_sources.specs.ManifestLines.{LineOf, lines_after};
     ghost use Rattle.sum_sources.specs.LineReaders.{coming, used, Bounded, Settles};
-    ghost use Rattle.sum_sources.specs.joins.LineReading.{FillOf, TakesPiece, PieceOf};
+    ghost use Rattle.sum_sources.specs.refinement.LineReading.{FillOf, TakesPiece, PieceOf};
 
     /// A reader of the lines of `input`. An input of `LIMIT` bytes or more counts as its first
     /// `LIMIT - 1` bytes and then `Fault::Other`.
@@ -96,11 +85,10 @@ impl<I: Input> LineReader<I> {
         ensures coming { coming I.content result ≡ option_map clip (I.content input) }
     {
         LineReader {
-            input,
+            input: Limited { input, taken: 0 },
             buf: [0; PIECE],
             start: 0,
             end: 0,
-            taken: 0,
             lines: 0,
             state: State::Reading,
         }
@@ -111,7 +99,7 @@ impl<I: Input> LineReader<I> {
         ensures value { result ≡ self.now.taken }
         ensures most { result ≤ LIMIT }
     {
-        self.taken
+        self.input.taken
     }
 
     /// How many lines were given.
@@ -126,7 +114,7 @@ impl<I: Input> LineReader<I> {
     pub fn into_inner(self) -> I
         ensures { result ≡ self.input }
     {
-        self.input
+        self.input.input
     }
 
     // Reads into the empty buffer. False means that the input has ended.
@@ -144,24 +132,10 @@ impl<I: Input> LineReader<I> {
         ensures lines { self.new.lines ≡ self.old.lines }
         ensures answer { IfOk result (λ _. self.new.answer ≡ None) }
     {
-        let room = LIMIT - 1 - self.taken;
-        if room == 0 {
-            let mut one = [0; 1];
-            let n = read_front(&mut self.input, &mut one, 1)?;
-            if n == 0 {
-                return Ok(false);
-            }
-            self.state = State::Stopped(LineStop::Fault(Fault::Other));
-            self.taken += 1;
-            return Err(Fault::Other);
-        }
-        let size = room.min(PIECE as u64) as usize;
         self.start = 0;
         self.end = 0;
-        let n = read_front(&mut self.input, &mut self.buf, size)?;
-        self.taken += n as u64;
-        self.end = n;
-        Ok(n != 0)
+        self.end = self.input.read(&mut self.buf)?;
+        Ok(self.end != 0)
     }
 
     // Moves the buffer's bytes up to its first newline to the line's end, and drops that newline.

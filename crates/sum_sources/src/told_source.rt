@@ -3,7 +3,7 @@ ghost use Rattle.std.specs.Prelude.{◌≡◌, ◌++◌, ◌∷◌, [], OnOk, On
 ghost use Rattle.std.specs.Option.{option_map};
 ghost use Rattle.sum_sources.specs.InMemory.{first_reply, telling_of};
 ghost use Rattle.sum_sources.specs.Sources.{OpenGives, after_refusal, refusals_after};
-ghost use Rattle.sum_sources.specs.joins.ToldPairs.{pair_of, reply_of};
+ghost use Rattle.sum_sources.specs.refinement.ToldPairs.{pair_of, reply_of};
 
 use crate::{Ending, Fault, Input, NoRoom, OpenFault, Source, Told};
 use std::alloc::Allocator;
@@ -37,7 +37,7 @@ pub struct ToldSource<'a, A: Allocator + Copy> {
 impl<'a, A: Allocator + Copy> Model for ToldSource<'a, A> {
     ghost use Rattle.std.specs.Prelude.{map};
     ghost use Rattle.sum_sources.specs.InMemory.{ToldFiles};
-    ghost use Rattle.sum_sources.specs.joins.ToldPairs.{pair_of};
+    ghost use Rattle.sum_sources.specs.refinement.ToldPairs.{pair_of};
 
     ghost Value = { ToldFiles };
 

@@ -5,7 +5,7 @@ use Rattle.std.proofs.lemmas.Str.{IsCharBoundary-end, IsCharBoundary-start, IsCh
 use Rattle.std.proofs.lemmas.List.{take-append-le, drop-append-le, get_or_append_left}
 use Rattle.std.proofs.lemmas.Bool.{cases_lt, ltb-true}
 use Rattle.std.proofs.Math.Seq.{drop-append_seam, take-length}
-use Rattle.sum_words.specs.joins.Pieces.{texts_cut, CutsAt}
+use Rattle.sum_words.specs.refinement.Pieces.{texts_cut, CutsAt}
 
 -- a place at which a text may be cut stays one when valid text is added
 boundary_longer : (text word : List ℕ) (i : ℕ) → IsUtf8 word → IsCharBoundary text i → IsCharBoundary (text ++ word) i

@@ -5,7 +5,7 @@ use Rattle.std.proofs.lemmas.Bool.Decides.{eqb_tells}
 use Rattle.std.proofs.lemmas.List.Elements.{All-head, All-tail}
 use Rattle.sum_words.specs.declared.tool.Tool.{Tool}
 use Rattle.sum_words.specs.Items.{Text, operand, a_word, items_from}
-use Rattle.sum_words.specs.PlainWords.{is_plain, PlainWordsAreOperands, WordsBehindAreOperands}
+use Rattle.sum_words.specs.PlainWords.{is_plain, PlainWordsAreOperands}
 
 -- a word that begins with another character is an operand
 no_dash : (t : Tool) (b : ℕ) (bs : Text) (more : List Text) → eqb b 45 ≡ false → eqb 45 b ≡ false
@@ -37,7 +37,3 @@ plain_words t [] more h = refl
 plain_words t (word ∷ words) more h =
     plain_word t word (words ++ more) (All-head (λ w. is_plain w ≡ true) word words h)
     ∙ ap (λ xs. operand word ∷ xs) (plain_words t words more (All-tail (λ w. is_plain w ≡ true) word words h))
-
--- so are the words behind two dashes
-pub words_behind : WordsBehindAreOperands
-words_behind t words = refl

@@ -10,17 +10,17 @@ use Rattle.std.proofs.lemmas.Str.{chars-nil, chars_past_char, encodes-chars}
 use Rattle.std.proofs.lemmas.List.{nil_from_length}
 use Rattle.std.proofs.lemmas.Bool.{eqb-true}
 use Rattle.std.proofs.Math.Bool.{and-true}
-use Rattle.sum_words.specs.declared.tool.Tool.{Tool}
-use Rattle.sum_words.specs.Items.{Text, attached, a_value, a_word, length_value, lettered, cluster}
-use Rattle.sum_words.specs.joins.Walk.{IsBehind, is_cluster}
+use Rattle.sum_words.specs.Items.{attached_value, a_value, a_word, length_value, is_cluster}
+use Rattle.sum_words.specs.refinement.ItemIterator.{IsBehind}
 
--- what stands behind a front of a text, as the search for a front gives it
-pub behind_front : (front text : List ℕ) (r : Option (Bor (List ℕ)))
-    → MatchOption r (FindsTextPrefix front text None)
-    (λ x. (n : ℕ) × FindsTextPrefix front text (Some n) × (x.now ≡ drop n text) × (length x.now + n ≡ length text))
-    → MatchOption r (starts_with ◌==◌ text front ≡ false) (λ x. IsBehind front text x.now)
-behind_front front text None h = sym (starts_text false front text h)
-behind_front front text (Some x) (n, f, e, l) = (sym (starts_text true front text (n, f, (rw f.0 f.2))), (rw f.0 at e))
+-- what stands behind a prefix of a text, as the search for a prefix gives it
+pub behind_prefix : (prefix text : List ℕ) (r : Option (Bor (List ℕ)))
+    → MatchOption r (FindsTextPrefix prefix text None)
+    (λ x. (n : ℕ) × FindsTextPrefix prefix text (Some n) × (x.now ≡ drop n text) × (length x.now + n ≡ length text))
+    → MatchOption r (starts_with ◌==◌ text prefix ≡ false) (λ x. IsBehind prefix text x.now)
+behind_prefix prefix text None h = sym (starts_text false prefix text h)
+behind_prefix prefix text (Some x)
+    (n, f, e, l) = (sym (starts_text true prefix text (n, f, (rw f.0 f.2))), (rw f.0 at e))
 
 -- the first character of a text
 pub first_char : {bs now xs ys : List ℕ} (c : ℕ) → IsUtf8 bs → xs ≡ bs → now ≡ ys → xs ≡ encode_utf8 c ++ ys
@@ -58,24 +58,14 @@ letters_behind word rest None h none = dash_alone word rest h none.0
 letters_behind word rest (Some p) h some = dash_and_letters word rest p.0 (chars p.1.now) h some
 
 -- nothing is left of the word: the value is in the next one
-no_value : (bs : List ℕ) → length bs ≡ 0 → attached (chars bs) ≡ ([], a_value false)
+pub no_value : (bs : List ℕ) → length bs ≡ 0 → attached_value (chars bs) ≡ ([], a_value false)
 no_value bs e = rw (nil_from_length bs e, chars-nil) refl
 
 -- what is left of the word is the value
-own_value : (bs : List ℕ) → IsUtf8 bs → length bs ≢ 0 → attached (chars bs) ≡ (length_value bs ∷ [], a_word)
+pub own_value : (bs : List ℕ) → IsUtf8 bs → length bs ≢ 0 → attached_value (chars bs) ≡ (length_value bs ∷ [], a_word)
 own_value bs valid some =
     let whole : encode_utf8_all (chars bs) ≡ bs = encodes-chars bs valid in
-    elim (chars bs) as (λ cs. encode_utf8_all cs ≡ bs → attached cs ≡ (length_value bs ∷ [], a_word)) [
+    elim (chars bs) as (λ cs. encode_utf8_all cs ≡ bs → attached_value cs ≡ (length_value bs ∷ [], a_word)) [
       | [] ↦ λ w. absurd (some (ap length (sym w)))
       | c ∷ cs ↦ λ w. ap (λ v. (length_value v ∷ [], a_word)) w
     ] whole
-
--- the letter of length at the end of its word: the value is the next one
-pub letter_alone : (t : Tool) (c : ℕ) (bs : Text) → Some (codes "length") ≡ lettered t c → length bs ≡ 0
-    → cluster t (c ∷ chars bs) ≡ ([], a_value false)
-letter_alone t c bs is none = rw (← is) (no_value bs none)
-
--- with its value behind it
-pub letter_with_value : (t : Tool) (c : ℕ) (bs : Text) → IsUtf8 bs → Some (codes "length") ≡ lettered t c
-    → length bs ≢ 0 → cluster t (c ∷ chars bs) ≡ (length_value bs ∷ [], a_word)
-letter_with_value t c bs valid is some = rw (← is) (own_value bs valid some)

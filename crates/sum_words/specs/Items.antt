@@ -48,13 +48,13 @@ abbrev pub takes_value : Text → Bool
 takes_value full = bytes_eq full (codes "length")
 
 -- what a word says, with how the next one is read: as it stands, as an option's value (a long one's or not), or not
-pub data Next : Type 0 where
-  a_word : Next
-  a_value : Bool → Next
-  no_word : Next
+pub data NextWord : Type 0 where
+  a_word : NextWord
+  a_value : Bool → NextWord
+  no_word : NextWord
 
-abbrev pub Read : Type 0
-Read = List Item × Next
+abbrev pub ItemsAndNext : Type 0
+ItemsAndNext = List Item × NextWord
 
 -- A long option: its name goes up to the first '=', and a value stands behind that.
 abbrev pub name_part : Text → Text
@@ -72,42 +72,53 @@ the_one name [] = Err (unknown_long name)
 the_one name (full ∷ []) = Ok full
 the_one name fulls = Err (ambiguous_long name)
 
-unfoldable pub resolved : Tool → Text → Result Text Fault
-resolved t name =
-    let fulls = map (λ row. row.1) (table t) in
+abbrev pub full_names : List (Text × Text) → List Text
+full_names rows = map (λ row. row.1) rows
+
+unfoldable pub name_or_fault : Tool → Text → Result Text Fault
+name_or_fault t name =
+    let fulls = full_names (table t) in
     if has name fulls then Ok name else the_one name (filter (λ full. starts_with ◌==◌ full name) fulls)
 
-abbrev pub long : Result Text Fault → Option Text → Read
-long (Err f) value = (fault f ∷ [], no_word)
-long (Ok full) None = if takes_value full then ([], a_value true) else (option full ∷ [], a_word)
-long (Ok full) (Some value) =
+abbrev pub long_option : Result Text Fault → Option Text → ItemsAndNext
+long_option (Err f) value = (fault f ∷ [], no_word)
+long_option (Ok full) None = if takes_value full then ([], a_value true) else (option full ∷ [], a_word)
+long_option (Ok full) (Some value) =
     if takes_value full then (length_value value ∷ [], a_word) else (fault (value_not_allowed full) ∷ [], no_word)
 
 -- a cluster: options one by one, by their letters; what is left of the word is the value of one that takes it
-unfoldable pub lettered : Tool → ℕ → Option Text
-lettered t c = option_map (λ row. row.1) (find (λ row. bytes_eq row.0 (c ∷ [])) (table t))
+abbrev pub has_letter : ℕ → Text × Text → Bool
+has_letter c row = bytes_eq row.0 (c ∷ [])
 
-abbrev pub attached : List ℕ → Read
-attached [] = ([], a_value false)
-attached cs = (length_value (encode_utf8_all cs) ∷ [], a_word)
+unfoldable pub option_of_letter : Tool → ℕ → Option Text
+option_of_letter t c = option_map (λ row. row.1) (find (has_letter c) (table t))
 
-abbrev pub letter_then : ℕ → Option Text → List ℕ → Read → Read
+abbrev pub attached_value : List ℕ → ItemsAndNext
+attached_value [] = ([], a_value false)
+attached_value cs = (length_value (encode_utf8_all cs) ∷ [], a_word)
+
+abbrev pub letter_then : ℕ → Option Text → List ℕ → ItemsAndNext → ItemsAndNext
 letter_then c None cs rest = (fault (unknown_short c) ∷ [], no_word)
-letter_then c (Some full) cs rest = if takes_value full then attached cs else (option full ∷ rest.0, rest.1)
+letter_then c (Some full) cs rest = if takes_value full then attached_value cs else (option full ∷ rest.0, rest.1)
 
-abbrev pub cluster : Tool → List ℕ → Read
+abbrev pub cluster : Tool → List ℕ → ItemsAndNext
 cluster t [] = ([], a_word)
-cluster t (c ∷ cs) = letter_then c (lettered t c) cs (cluster t cs)
+cluster t (c ∷ cs) = letter_then c (option_of_letter t c) cs (cluster t cs)
 
--- a long option behind "--"; or a cluster behind '-', unless it is a dash alone; or an operand
-abbrev pub read_word : Tool → Text → Read
+-- whether a word that doesn't begin with two dashes is a cluster: it begins with one, and isn't a dash alone
+abbrev pub is_cluster : Text → Bool
+is_cluster word = starts_with ◌==◌ word (codes "-") && not (bytes_eq word (codes "-"))
+
+-- a long option behind "--"; or a cluster behind '-'; or an operand
+abbrev pub read_word : Tool → Text → ItemsAndNext
 read_word t word =
-    if starts_with ◌==◌ word (codes "--") then long (resolved t (name_part (drop 2 word))) (value_part (drop 2 word))
-    else if starts_with ◌==◌ word (codes "-") && not (bytes_eq word (codes "-")) then cluster t (chars (drop 1 word))
+    if starts_with ◌==◌ word (codes "--")
+    then long_option (name_or_fault t (name_part (drop 2 word))) (value_part (drop 2 word))
+    else if is_cluster word then cluster t (chars (drop 1 word))
     else (operand word ∷ [], a_word)
 
 -- all words; those behind "--" are operands
-abbrev pub items_from : Tool → Next → List Text → List Item
+abbrev pub items_from : Tool → NextWord → List Text → List Item
 items_from t no_word words = []
 items_from t a_word [] = []
 items_from t a_word (w ∷ ws) =

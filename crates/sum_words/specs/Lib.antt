@@ -5,4 +5,4 @@ pub mod Request
 pub mod Texts
 pub mod CommandLines
 pub mod PlainWords
-pub mod joins
+pub mod refinement

@@ -11,15 +11,15 @@ use Rattle.digest_kinds.specs.declared.kind.LengthFault.{LengthFault}
 use Rattle.digest_kinds.specs.declared.kind.LengthFault.TheVariants.{TooLong, NotBytes}
 use Rattle.digest_kinds.specs.Kinds.{KindValue, full_kind}
 use Rattle.digest_kinds.specs.Lengths.{blake2b_of_bits}
-use Rattle.sum_lines.specs.declared.written.Mode.{Mode}
-use Rattle.sum_lines.specs.declared.written.Mode.TheVariants as modes
+use Rattle.sum_lines.specs.declared.line_format.Mode.{Mode}
+use Rattle.sum_lines.specs.declared.line_format.Mode.TheVariants as modes
 use Rattle.sum_engine.specs.declared.settings.Report.{Report}
 use Rattle.sum_engine.specs.declared.settings.Report.TheVariants as reports
 use Rattle.sum_words.specs.declared.tool.Tool.{Tool}
-use Rattle.sum_words.specs.declared.reading.Request.{Request}
-use Rattle.sum_words.specs.declared.reading.Request.TheVariants.{Work, Help, Version}
-use Rattle.sum_words.specs.declared.reading.Job.{Job}
-use Rattle.sum_words.specs.declared.reading.Job.TheVariants.{Generate, Check}
+use Rattle.sum_words.specs.declared.request.Request.{Request}
+use Rattle.sum_words.specs.declared.request.Request.TheVariants.{Work, Help, Version}
+use Rattle.sum_words.specs.declared.request.Job.{Job}
+use Rattle.sum_words.specs.declared.request.Job.TheVariants.{Generate, Check}
 use Rattle.sum_words.specs.Tools.{algos_of}
 use Rattle.sum_words.specs.Faults.{Fault, length_invalid, length_not_bytes, tag_with_text, zero_with_check, tag_with_check, mode_with_check, without_check, check_needed}
 use Rattle.sum_words.specs.Items.{Text, Item, option, fault, has, a_word, items_from, options_of, values_of, operands_of}
@@ -75,9 +75,9 @@ report_of given =
     else if bytes_eq (last_of report_names given) (codes "quiet") then reports.Quiet
     else reports.All
 
-abbrev pub generating : Algos → Option KindValue → List Text → Result Job Fault
-generating Any kind given = Err check_needed
-generating (One algo) kind given = Ok (Generate (record {
+abbrev pub generation_job : Algos → Option KindValue → List Text → Result Job Fault
+generation_job Any kind given = Err check_needed
+generation_job (One algo) kind given = Ok (Generate (record {
   kind = unwrap_or kind (full_kind algo);
   style = record { mode = mode_of given; zero = has (codes "zero") given };
 }))
@@ -90,29 +90,31 @@ job_of algos kind given =
       strict = has (codes "strict") given;
       ignore_missing = has (codes "ignore-missing") given;
     }))
-    else generating algos kind given
+    else generation_job algos kind given
 
--- a fault of the last length value counts before these faults
+-- the first of them that holds; a fault of the last length value counts before it
+abbrev pub first_fault : List Text → Option Fault
+first_fault given = option_map (λ row. row.1) (find (λ row. row.0) (faults given))
+
 abbrev pub kind_asked : List Text → Result (Option KindValue) Fault
 kind_asked values = option_transpose (option_map length_kind (last_or None values))
 
-abbrev pub settled : Algos → Result (Option KindValue) Fault → List Text → Result Job Fault
-settled algos (Err f) given = Err f
-settled algos (Ok kind) given =
-    option_map_or (λ row. Err row.1) (find (λ row. row.0) (faults given)) (job_of algos kind given)
+abbrev pub job_or_fault : Algos → Result (Option KindValue) Fault → List Text → Result Job Fault
+job_or_fault algos (Err f) given = Err f
+job_or_fault algos (Ok kind) given = option_map_or (λ f. Err f) (first_fault given) (job_of algos kind given)
 
 -- the first fault among the items, --help or --version decides where there is one
-abbrev pub ending : List Item → Option (Result Request Fault)
-ending [] = None
-ending (fault f ∷ xs) = Some (Err f)
-ending (option full ∷ xs) =
+abbrev pub early_answer : List Item → Option (Result Request Fault)
+early_answer [] = None
+early_answer (fault f ∷ xs) = Some (Err f)
+early_answer (option full ∷ xs) =
     if bytes_eq full (codes "help") then Some (Ok Help)
     else if bytes_eq full (codes "version") then Some (Ok Version)
-    else ending xs
-ending (x ∷ xs) = ending xs
+    else early_answer xs
+early_answer (x ∷ xs) = early_answer xs
 
 abbrev pub request : Tool → List Text → Result Request Fault
 request t words =
     let xs = items_from t a_word words in
-    unwrap_or (ending xs) (result_map_both (λ job. Work job (operands_of xs)) (λ f. f)
-    (settled (algos_of t) (kind_asked (values_of xs)) (options_of xs)))
+    unwrap_or (early_answer xs) (result_map_both (λ job. Work job (operands_of xs)) (λ f. f)
+    (job_or_fault (algos_of t) (kind_asked (values_of xs)) (options_of xs)))

@@ -1,6 +1,6 @@
 //! The list of arguments that the program is called with.
 ghost use Rattle.std.specs.Prelude.{◌≡◌, ◌≤◌, ℕ, List, Option, None, IfOk, length, map};
-ghost use Rattle.sum_words.specs.joins.Arguments.{Fills};
+ghost use Rattle.sum_words.specs.refinement.Arguments.{Fills};
 
 use std::env::FillError;
 use std::marker::Model;

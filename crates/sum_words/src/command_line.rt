@@ -2,8 +2,8 @@
 ghost use Rattle.std.specs.Prelude.{◌≡◌, ◌≤◌, ◌<◌, ◌+◌, ◌*◌, ℕ, length, vec_len, Some, take, IfOk, IfSome, OnOk, OnErr};
 ghost use Rattle.std.specs.Option.{option_map};
 ghost use Rattle.sum_words.specs.Tools.{tool_called};
-ghost use Rattle.sum_words.specs.joins.Arguments.{ArgumentIs, WordsAre, IsNameOf, IsFirstWord, CallIs, call_of};
-ghost use Rattle.sum_words.specs.joins.Arguments.{IsLonger, IsThere, IsBadFirstWord, MayBeUnread};
+ghost use Rattle.sum_words.specs.refinement.Arguments.{ArgumentIs, WordsAre, IsNameOf, IsFirstWord, CallIs, call_of};
+ghost use Rattle.sum_words.specs.refinement.Arguments.{IsLonger, IsThere, IsBadFirstWord, MayBeUnread};
 ghost use Rattle.sum_words.specs.CommandLines.{last_part};
 
 use crate::arguments::Arguments;
@@ -137,6 +137,7 @@ fn last_part(path: &[u8]) -> &[u8]
 }
 
 // The tool that is called by the first word.
+#[tactic(auto, using(crate::proofs::CommandLineLemmas::first_is, crate::proofs::CommandLineLemmas::bad_first_is))]
 fn tool_called_by_word<A: Allocator, G: Arguments>(
     arguments: &G,
     page: &mut [u8; PAGE],
@@ -155,6 +156,7 @@ fn tool_called_by_word<A: Allocator, G: Arguments>(
 }
 
 // The arguments from this place on, each of which has to be a text.
+#[tactic(auto, using(crate::proofs::CommandLineLemmas::word_steps))]
 fn words_from<A: Allocator + Copy, G: Arguments>(
     alloc: A,
     arguments: &G,

@@ -2,10 +2,10 @@
 //! doesn't know, and for a run that stopped.
 ghost use Rattle.std.specs.Prelude.{◌≡◌, ◌++◌, codes};
 ghost use Rattle.sum_lines.specs.Sinks.{Writes};
-ghost use Rattle.sum_lines.specs.joins.PartTexts.{part_text};
-ghost use Rattle.sum_words.specs.joins.Walk.{fault_of};
-ghost use Rattle.sum_words.specs.joins.Shown.{lines_of, shown_text};
-ghost use Rattle.sum_words.specs.Texts.{wording, fault_lines, stop_text, stop_line};
+ghost use Rattle.sum_lines.specs.refinement.PartTexts.{part_text};
+ghost use Rattle.sum_words.specs.refinement.ItemIterator.{fault_of};
+ghost use Rattle.sum_words.specs.refinement.Shown.{shown_text};
+ghost use Rattle.sum_words.specs.Texts.{wording, lines_of, fault_lines, stop_text, stop_line};
 
 use crate::tool::Tool;
 use sum_engine::Stop;
@@ -56,15 +56,15 @@ pub fn put_fault<E: Sink>(err: &mut E, tool: Tool, fault: &WordFault<'_>) -> Res
     ensures { Writes E.written E.held E.failures err.old err.new (fault_lines tool (fault_of fault.now)) result }
 {
     let name = tool.name();
-    let (front, shown, back) = wording(fault);
+    let (prefix, shown, suffix) = wording(fault);
     let mut buffer = [0; 4];
     match shown {
-        Shown::Nothing => put_lines(err, name, front, Part::Bytes(b""), back),
-        Shown::FullName(full) => put_lines(err, name, front, Part::Bytes(full.as_bytes()), back),
-        Shown::Typed(text) => put_lines(err, name, front, Part::Escaped(text.as_bytes()), back),
+        Shown::Nothing => put_lines(err, name, prefix, Part::Bytes(b""), suffix),
+        Shown::FullName(full) => put_lines(err, name, prefix, Part::Bytes(full.as_bytes()), suffix),
+        Shown::Typed(text) => put_lines(err, name, prefix, Part::Escaped(text.as_bytes()), suffix),
         Shown::Letter(letter) => {
             let text = letter.encode_utf8(&mut buffer);
-            put_lines(err, name, front, Part::Escaped(text.as_bytes()), back)
+            put_lines(err, name, prefix, Part::Escaped(text.as_bytes()), suffix)
         }
     }
 }
@@ -82,20 +82,20 @@ enum Shown<'a> {
 fn put_lines<'a, E: Sink>(
     err: &mut E,
     name: &'a str,
-    front: &'a str,
+    prefix: &'a str,
     shown: Part<'a>,
-    back: &'a str,
+    suffix: &'a str,
 ) -> Result<(), SinkFault>
     ensures { Writes E.written E.held E.failures err.old err.new
-        (lines_of name.now (front.now ++ part_text shown.entry ++ back.now)) result }
+        (lines_of name.now (prefix.now ++ part_text shown.entry ++ suffix.now)) result }
 {
     let name = Part::Bytes(name.as_bytes());
-    let front = Part::Bytes(front.as_bytes());
-    let back = Part::Bytes(back.as_bytes());
+    let prefix = Part::Bytes(prefix.as_bytes());
+    let suffix = Part::Bytes(suffix.as_bytes());
     let hint = Part::Bytes(b"\nTry '");
     let end = Part::Bytes(b" --help' for more information.\n");
     let colon = Part::Bytes(b": ");
-    put_parts(err, &[name, colon, front, shown, back, hint, name, end])
+    put_parts(err, &[name, colon, prefix, shown, suffix, hint, name, end])
 }
 
 const NEEDS_CHECK: &str = " option is meaningful only when verifying checksums";

@@ -3,10 +3,10 @@ ghost use Rattle.std.specs.Prelude.{◌≡◌, ◌==◌, List, ℕ, [], ◌∷�
 ghost use Rattle.std.specs.Option.{option_copied};
 ghost use Rattle.std.specs.List.{starts_with};
 ghost use Rattle.std.specs.Str.{chars};
-ghost use Rattle.sum_words.specs.Items.{a_word, name_part, value_part, long, resolved, read_word, cluster};
-ghost use Rattle.sum_words.specs.Items.{items_from, operands_of};
-ghost use Rattle.sum_words.specs.joins.Walk.{items_to_come, read_then, step_says, item_of, TakesFirst};
-ghost use Rattle.sum_words.specs.joins.Walk.{IsBehind, is_cluster};
+ghost use Rattle.sum_words.specs.Items.{a_word, name_part, value_part, long_option, name_or_fault, read_word};
+ghost use Rattle.sum_words.specs.Items.{attached_value, cluster, is_cluster, items_from, operands_of};
+ghost use Rattle.sum_words.specs.refinement.ItemIterator.{items_to_come, read_then, step_says, item_of, TakesFirst};
+ghost use Rattle.sum_words.specs.refinement.ItemIterator.{IsBehind};
 ghost use Rattle.sum_words.specs.declared.tool.Tool.{Tool};
 
 use crate::faults::WordFault;
@@ -55,7 +55,7 @@ enum Step<'a> {
 impl<'a> Model for Items<'a> {
     ghost use Rattle.std.specs.Prelude.{List, drop};
     ghost use Rattle.sum_words.specs.Items.{Item};
-    ghost use Rattle.sum_words.specs.joins.Walk.{items_to_come};
+    ghost use Rattle.sum_words.specs.refinement.ItemIterator.{items_to_come};
 
     ghost Value = { List Item };
 
@@ -90,6 +90,7 @@ impl<'a> Items<'a> {
 }
 
 // The word at a place, which goes on.
+#[tactic(auto, using(crate::proofs::CommandLineLemmas::drop_at_none, crate::proofs::CommandLineLemmas::drop_at_some))]
 fn take_word<'a>(words: &LentWords<'a>, at: &mut usize) -> Option<&'a str>
     ensures { TakesFirst (λ word. word) (drop at.old words.now) (option_copied result) (drop at.new words.now) }
 {
@@ -150,7 +151,7 @@ fn word_step<'a>(tool: Tool, word: &'a str) -> Step<'a>
 // What a long option makes of reading, its two dashes left out.
 fn long_step<'a>(tool: Tool, text: &'a str) -> Step<'a>
     ensures { (ws : List (List ℕ)) → step_says tool result ws
-        ≡ read_then tool (long (resolved tool (name_part text.now)) (value_part text.now)) ws }
+        ≡ read_then tool (long_option (name_or_fault tool (name_part text.now)) (value_part text.now)) ws }
 {
     let (name, value) = name_and_value(text);
     let flag = match Flag::of_name(tool, name) {
@@ -175,14 +176,21 @@ fn letter_step<'a>(tool: Tool, letter: char, rest: &'a str) -> Step<'a>
 {
     match Flag::of_letter(tool, letter) {
         None => Step::Say(Item::Fault(WordFault::UnknownShort(letter)), State::Ended),
-        Some(Flag::Length) => {
-            if rest.is_empty() {
-                Step::Value(false)
-            } else {
-                Step::Say(Item::Length(rest), State::Word)
-            }
-        }
+        Some(Flag::Length) => attached_value(rest),
         Some(flag) => Step::Say(Item::Flag(flag), rest_of_cluster(rest)),
+    }
+}
+
+// What the letter of an option that takes a value makes of reading: the rest of the word is the value, if any is left.
+#[tactic(auto, using(crate::proofs::WordLemmas::no_value, crate::proofs::WordLemmas::own_value))]
+fn attached_value(rest: &str) -> Step<'_>
+    ensures { (t : Tool) (ws : List (List ℕ)) →
+        step_says t result ws ≡ read_then t (attached_value (chars rest.now)) ws }
+{
+    if rest.is_empty() {
+        Step::Value(false)
+    } else {
+        Step::Say(Item::Length(rest), State::Word)
     }
 }
 
@@ -206,6 +214,7 @@ fn letters_of(word: &str) -> Option<(char, &str)>
 }
 
 // The first character of a text, and what stands behind it; `None` where it is empty.
+#[tactic(auto, using(crate::proofs::WordLemmas::first_char))]
 fn first(text: &str) -> Option<(char, &str)>
     ensures { MatchOption result ((text.now ≡ []) × (chars text.now ≡ []))
         (λ p. chars text.now ≡ p.0 ∷ chars p.1.now) }
@@ -215,12 +224,13 @@ fn first(text: &str) -> Option<(char, &str)>
     Some((letter, rest.as_str()))
 }
 
-// What stands behind a front of a word.
-fn behind<'a>(front: &str, word: &'a str) -> Option<&'a str>
-    ensures { MatchOption result (starts_with ◌==◌ word.now front.now ≡ false)
-        (λ rest. IsBehind front.now word.now rest.now) }
+// What stands behind a prefix of a word.
+#[tactic(auto, using(crate::proofs::WordLemmas::behind_prefix))]
+fn behind<'a>(prefix: &str, word: &'a str) -> Option<&'a str>
+    ensures { MatchOption result (starts_with ◌==◌ word.now prefix.now ≡ false)
+        (λ rest. IsBehind prefix.now word.now rest.now) }
 {
-    word.strip_prefix(front)
+    word.strip_prefix(prefix)
 }
 
 // A long option's name, and the value behind its first `=`.

@@ -8,7 +8,7 @@ mod faults;
 mod items;
 pub mod laws;
 mod options;
-mod reading;
+mod request;
 #[cfg(test)]
 mod tests;
 mod texts;
@@ -20,7 +20,7 @@ pub use command_line::{CommandLine, NotRead, read_command_line};
 pub use faults::{WordFault, put_fault, put_stop, put_unknown};
 pub use items::{Item, Items, Operands};
 pub use options::Flag;
-pub use reading::{Job, Request, read_words};
+pub use request::{Job, Request, read_words};
 pub use texts::{put_help, put_version};
 pub use tool::Tool;
 pub use words::{LentWords, NoRoom, Words};

@@ -3,8 +3,9 @@ ghost use Rattle.std.specs.Prelude.{◌≡◌, ◌==◌, map, find};
 ghost use Rattle.std.specs.Option.{option_map};
 ghost use Rattle.std.specs.List.{filter, starts_with};
 ghost use Rattle.std.specs.Str.{bytes_eq};
-ghost use Rattle.sum_words.specs.Items.{row_of, table, takes_value, lettered, the_one, resolved};
-ghost use Rattle.sum_words.specs.joins.Walk.{full_name, letter_text, has_letter, resolution};
+ghost use Rattle.sum_words.specs.Items.{row_of, table, takes_value, full_names};
+ghost use Rattle.sum_words.specs.Items.{has_letter, option_of_letter, the_one, name_or_fault};
+ghost use Rattle.sum_words.specs.refinement.ItemIterator.{full_name, letter_text, resolution};
 
 use crate::faults::WordFault;
 use crate::tool::Tool;
@@ -83,7 +84,7 @@ impl Flag {
 
     /// The option that a long name means: the one that has it in full, else the only one that begins with it.
     pub fn of_name(tool: Tool, name: &str) -> Result<Flag, WordFault<'_>>
-        ensures { resolution result ≡ resolved tool name.now }
+        ensures { resolution result ≡ name_or_fault tool name.now }
     {
         let flags = flags(tool);
         match first_named(flags, name) {
@@ -93,8 +94,9 @@ impl Flag {
     }
 
     /// The option that a letter means.
+    #[tactic(auto, unfolding(crate::specs::Items::option_of_letter))]
     pub fn of_letter(tool: Tool, letter: char) -> Option<Flag>
-        ensures { option_map full_name result ≡ lettered tool letter }
+        ensures { option_map full_name result ≡ option_of_letter tool letter }
     {
         first_lettered(flags(tool), letter)
     }
@@ -112,7 +114,8 @@ fn flags(tool: Tool) -> &'static [Flag]
 
 // The option that has this letter.
 fn first_lettered(flags: &[Flag], letter: char) -> Option<Flag>
-    ensures { option_map row_of result ≡ find (has_letter letter) (map row_of flags.now) }
+    ensures { option_map full_name result
+        ≡ option_map (λ row. row.1) (find (has_letter letter) (map row_of flags.now)) }
 {
     for flag in flags {
         if has_letter(*flag, letter) {
@@ -131,7 +134,7 @@ fn has_letter(flag: Flag, letter: char) -> bool
 
 // The option that has this full name.
 fn first_named(flags: &[Flag], name: &str) -> Option<Flag>
-    ensures { option_map full_name result ≡ find (bytes_eq name.now) (map full_name flags.now) }
+    ensures { option_map full_name result ≡ find (bytes_eq name.now) (full_names (map row_of flags.now)) }
 {
     for flag in flags {
         if name == flag.name() {
@@ -141,6 +144,7 @@ fn first_named(flags: &[Flag], name: &str) -> Option<Flag>
     None
 }
 
+#[tactic(auto, using(std::proofs::lemmas::Str::Pattern::starts_text))]
 fn begins(flag: Flag, name: &str) -> bool
     ensures { result ≡ starts_with ◌==◌ (full_name flag) name.now }
 {
@@ -150,7 +154,7 @@ fn begins(flag: Flag, name: &str) -> bool
 // The only option whose full name begins with this text.
 fn only_begun<'a>(flags: &[Flag], name: &'a str) -> Result<Flag, WordFault<'a>>
     ensures { resolution result ≡ the_one name.now
-        (filter (λ full. starts_with ◌==◌ full name.now) (map full_name flags.now)) }
+        (filter (λ full. starts_with ◌==◌ full name.now) (full_names (map row_of flags.now))) }
 {
     let mut found = None;
     for flag in flags {

@@ -1,7 +1,8 @@
 //! The help and the version text.
 ghost use Rattle.std.specs.Prelude.{◌≡◌, ◌++◌};
 ghost use Rattle.sum_lines.specs.Sinks.{Writes};
-ghost use Rattle.sum_words.specs.Texts.{help, version, length_help};
+ghost use Rattle.sum_words.specs.Texts.{help, purpose, version, length_help};
+ghost use Rattle.sum_words.specs.Tools.{algos_of};
 
 use crate::tool::Tool;
 use digest_kinds::Algos;
@@ -12,6 +13,7 @@ use sum_lines::{Part, Sink, SinkFault, put_parts};
 pub fn put_help<O: Sink>(out: &mut O, tool: Tool) -> Result<(), SinkFault>
     ensures { Writes O.written O.held O.failures out.old out.new (help tool) result }
 {
+    let (prefix, tag, back) = purpose(tool);
     let usage = Part::Bytes(b"Usage: ");
     let name = Part::Bytes(tool.name().as_bytes());
     let operands = Part::Bytes(b" [OPTION]... [FILE]...\n");
@@ -19,25 +21,24 @@ pub fn put_help<O: Sink>(out: &mut O, tool: Tool) -> Result<(), SinkFault>
     let first = Part::Bytes(FIRST_OPTIONS.as_bytes());
     let length = Part::Bytes(length_line(tool).as_bytes());
     let last = Part::Bytes(LAST_OPTIONS.as_bytes());
+    let prefix = Part::Bytes(prefix.as_bytes());
+    let tag = Part::Bytes(tag.as_bytes());
+    let back = Part::Bytes(back.as_bytes());
+    put_parts(
+        out,
+        &[
+            usage, name, operands, prefix, tag, back, input, first, length, last,
+        ],
+    )
+}
+
+// What the tool is for: the algorithm's tag, and what stands before and behind it.
+fn purpose(tool: Tool) -> (&'static str, &'static str, &'static str)
+    ensures { result.0.now ++ result.1.now ++ result.2.now ≡ purpose (algos_of tool) }
+{
     match tool.algos() {
-        Algos::One(algo) => {
-            let print = Part::Bytes(b"Print or check ");
-            let tag = Part::Bytes(algo.tag().as_bytes());
-            let check = Part::Bytes(b" checksums.");
-            put_parts(
-                out,
-                &[
-                    usage, name, operands, print, tag, check, input, first, length, last,
-                ],
-            )
-        }
-        Algos::Any => {
-            let check = Part::Bytes(b"Check checksums of tagged lines.");
-            put_parts(
-                out,
-                &[usage, name, operands, check, input, first, length, last],
-            )
-        }
+        Algos::One(algo) => ("Print or check ", algo.tag(), " checksums."),
+        Algos::Any => ("Check checksums of tagged lines.", "", ""),
     }
 }
 

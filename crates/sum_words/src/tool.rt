@@ -1,5 +1,5 @@
 //! The tools, and what each is called.
-ghost use Rattle.std.specs.Prelude.{◌≡◌, ◌↔◌, Some};
+ghost use Rattle.std.specs.Prelude.{◌≡◌, ◌↔◌, Some, IfSome};
 ghost use Rattle.sum_words.specs.declared.tool.Tool.{Tool};
 ghost use Rattle.sum_words.specs.Tools.{name_of, algos_of, tool_called};
 ghost use Rattle.std.specs.List.{find};
@@ -41,8 +41,10 @@ impl Tool {
     }
 
     /// The tool whose name these bytes are; `None` where they are none's.
+    #[tactic(auto, unfolding(crate::specs::Tools::tool_called))]
     pub fn of_name(name: &[u8]) -> Option<Tool>
-        ensures { result ≡ tool_called name.now }
+        ensures tool { result ≡ tool_called name.now }
+        ensures named { IfSome result (λ tool. name_of tool ≡ name.now) }
     {
         first_called(&TOOLS, name)
     }
@@ -82,7 +84,8 @@ impl Tool {
 
 // The first of these tools that has this name.
 fn first_called(tools: &[Tool], name: &[u8]) -> Option<Tool>
-    ensures { result ≡ find (λ tool. bytes_eq (name_of tool) name.now) tools.now }
+    ensures tool { result ≡ find (λ tool. bytes_eq (name_of tool) name.now) tools.now }
+    ensures named { IfSome result (λ tool. name_of tool ≡ name.now) }
 {
     for tool in tools {
         if tool.name().as_bytes() == name {

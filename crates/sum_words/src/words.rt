@@ -2,7 +2,7 @@
 ghost use Rattle.std.specs.Prelude.{◌≡◌, ◌<◌, [], ◌∷◌, ◌++◌, ◌+◌, ◌^◌, OnOk, OnErr, OnSome, length, slice_get};
 ghost use Rattle.std.specs.Prelude.{slice_index};
 ghost use Rattle.std.specs.Option.{option_copied};
-ghost use Rattle.sum_words.specs.joins.Pieces.{texts_cut, CutsAt};
+ghost use Rattle.sum_words.specs.refinement.Pieces.{texts_cut, CutsAt};
 
 use std::alloc::Allocator;
 use std::marker::Model;
@@ -18,7 +18,7 @@ pub struct Words<A: Allocator> {
 impl<A: Allocator> Model for Words<A> {
     ghost use Rattle.std.specs.Prelude.{List, ℕ};
     ghost use Rattle.std.specs.String.{string_bytes};
-    ghost use Rattle.sum_words.specs.joins.Pieces.{texts_cut, CutsAt};
+    ghost use Rattle.sum_words.specs.refinement.Pieces.{texts_cut, CutsAt};
 
     ghost Value = { List (List ℕ) };
 
@@ -83,7 +83,7 @@ pub struct LentWords<'a> {
 
 impl<'a> Model for LentWords<'a> {
     ghost use Rattle.std.specs.Prelude.{List, ℕ};
-    ghost use Rattle.sum_words.specs.joins.Pieces.{texts_cut, CutsAt};
+    ghost use Rattle.sum_words.specs.refinement.Pieces.{texts_cut, CutsAt};
 
     ghost Value = { List (List ℕ) };
 

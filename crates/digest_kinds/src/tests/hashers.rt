@@ -4,7 +4,7 @@ ghost use Rattle.std.specs.Prelude.{[], ◌<◌, length};
 
 use crate::{
     Algo, AnyHasher, Hasher, Kind, Md5Hasher, Sha1Hasher, Sha224Hasher, Sha256Hasher, Sha384Hasher,
-    Sha512Hasher,
+    Sha512Hasher, laws,
 };
 use blake2b_core::Blake2b;
 use std::process::Abort;
@@ -109,35 +109,57 @@ fn blake2b(rt: HostRuntime) {
     }
 }
 
+// The algorithm, its tag and its digest of "abc".
 #[test]
-fn any(rt: HostRuntime) {
+fn each_algorithm(rt: HostRuntime) {
     let table = [
-        (Algo::Md5, b"900150983cd24fb0d6963f7d28e17f72".as_slice()),
-        (Algo::Sha1, b"a9993e364706816aba3e25717850c26c9cd0d89d"),
+        (
+            Algo::Md5,
+            "MD5",
+            b"900150983cd24fb0d6963f7d28e17f72".as_slice(),
+        ),
+        (
+            Algo::Sha1,
+            "SHA1",
+            b"a9993e364706816aba3e25717850c26c9cd0d89d",
+        ),
         (
             Algo::Sha224,
+            "SHA224",
             b"23097d223405d8228642a477bda255b32aadbce4bda0b3f7e36c9da7",
         ),
         (
             Algo::Sha256,
+            "SHA256",
             b"ba7816bf8f01cfea414140de5dae2223b00361a396177a9cb410ff61f20015ad",
         ),
         (
             Algo::Sha384,
+            "SHA384",
             b"cb00753f45a35e8bb5a03d699ac65007272c32ab0eded1631a8b605a43ff5bed8086072ba1e7cc2358baeca134c825a7",
         ),
         (
             Algo::Sha512,
+            "SHA512",
             b"ddaf35a193617abacc417349ae20413112e6fa4e89a97ea20a9eeee64b55d39a\
               2192992a274fc1a836ba3c23a3feebbd454d4423643ce80e2a9ac94fa54ca49f",
         ),
         (
             Algo::Blake2b,
+            "BLAKE2b",
             b"ba80a53f981c4d0d6a2797b69f12f6e94c212f14685ac4b74b12bb6fdbffa2d1\
               7d87c5392aab792dc252d5de4533cc9518d38aa8dbf1925ab92386edd4009923",
         ),
     ];
-    for (algo, digits) in table {
-        assert_digest(&rt, AnyHasher::new(Kind::of(algo)), b"abc", digits);
+    for (algo, tag, digits) in table {
+        let kind = Kind::of(algo);
+        assert_eq!(rt; kind.algo(), algo);
+        assert_eq!(rt; kind.tag(), tag);
+        assert_eq!(rt; algo.tag(), tag);
+        assert_eq!(rt; 2 * kind.len(), digits.len());
+        assert_eq!(rt; kind.bits(), 4 * digits.len() as u64);
+        assert_eq!(rt; Algo::of_tag_prefix(tag.as_bytes()), Some(algo));
+        assert_digest(&rt, AnyHasher::new(kind), b"abc", digits);
     }
+    laws::tags_apart();
 }

@@ -1,28 +1,5 @@
-//! Algorithms, their tags, and kinds.
-use crate::{Algo, Kind, LengthFault, laws};
-
-#[test]
-fn kinds(rt: HostRuntime) {
-    let table = [
-        (Algo::Md5, "MD5", 16),
-        (Algo::Sha1, "SHA1", 20),
-        (Algo::Sha224, "SHA224", 28),
-        (Algo::Sha256, "SHA256", 32),
-        (Algo::Sha384, "SHA384", 48),
-        (Algo::Sha512, "SHA512", 64),
-        (Algo::Blake2b, "BLAKE2b", 64),
-    ];
-    for (algo, tag, len) in table {
-        let kind = Kind::of(algo);
-        assert_eq!(rt; kind.algo(), algo);
-        assert_eq!(rt; kind.tag(), tag);
-        assert_eq!(rt; algo.tag(), tag);
-        assert_eq!(rt; kind.len(), len);
-        assert_eq!(rt; kind.bits(), 8 * len as u64);
-        assert_eq!(rt; Algo::of_tag_prefix(tag.as_bytes()), Some(algo));
-    }
-    laws::tags_apart();
-}
+//! Tags in front of bytes, and the lengths of BLAKE2b digests.
+use crate::{Algo, Kind, LengthFault};
 
 #[test]
 fn lengths_in_bits(rt: HostRuntime) {

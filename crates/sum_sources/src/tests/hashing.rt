@@ -82,8 +82,8 @@ fn faults(rt: HostRuntime) -> Result<(), Fail> {
     }
     for len in 0..=300 {
         for piece in PIECES {
-            let front = content.get(..len).ok_or("short")?;
-            let mut input = Told::new(front, Ending::Broken(Fault::Denied), piece);
+            let prefix = content.get(..len).ok_or("short")?;
+            let mut input = Told::new(prefix, Ending::Broken(Fault::Denied), piece);
             assert!(rt;
                 hash_input(&mut input, Md5Hasher::new()).err() == Some(Fault::Denied),
                 "at {len}"

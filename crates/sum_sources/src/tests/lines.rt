@@ -71,11 +71,11 @@ fn breaks_off(rt: HostRuntime) -> Result<(), Fail> {
         b"900150983cd24fb0d6963f7d28e17f72  e",
     ];
     for count in 0..=116 {
-        let front = manifest.get(..count).ok_or("count")?;
-        let ended = front.iter().filter(|byte| **byte == b'\n').count();
+        let prefix = manifest.get(..count).ok_or("count")?;
+        let ended = prefix.iter().filter(|byte| **byte == b'\n').count();
         reads(
             &rt,
-            front,
+            prefix,
             Ending::Broken(Fault::Other),
             lines.get(..ended).ok_or("ended")?,
             Err(LineStop::Fault(Fault::Other)),

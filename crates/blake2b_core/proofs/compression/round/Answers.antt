@@ -1,5 +1,5 @@
 use Rattle.std.proofs.Common.{refl}
-use Rattle.blake2b_core.specs.joins.Columns.{columns, diagonals, scheduled}
+use Rattle.blake2b_core.specs.refinement.Columns.{columns, diagonals, scheduled}
 use Rattle.blake2b_core.specs.Compression.{round}
 use Rattle.blake2b_core.proofs.compression.round.Goals as goal
 

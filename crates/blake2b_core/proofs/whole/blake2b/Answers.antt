@@ -1,8 +1,8 @@
 use Rattle.std.proofs.Common.{◌≡◌, ◌+◌, ◌-◌, ◌*◌, ◌/◌, ◌≤◌, length, ap, sym, subst, ◌∙◌, arith, refl}
 use Rattle.std.proofs.lemmas.List.{take_rest}
 use Rattle.blake2b_core.specs.Digest.{blocks}
-use Rattle.blake2b_core.specs.joins.Chaining.{hash_after}
-use Rattle.blake2b_core.specs.joins.Holding.{AreBlocksFrom}
+use Rattle.blake2b_core.specs.refinement.Chaining.{hash_after}
+use Rattle.blake2b_core.specs.refinement.Holding.{AreBlocksFrom}
 use Rattle.blake2b_core.proofs.BlockLemmas.{IsLast, are_blocks, blake2b-from}
 use Rattle.blake2b_core.proofs.whole.blake2b.Goals as goal
 

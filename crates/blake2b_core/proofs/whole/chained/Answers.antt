@@ -1,6 +1,6 @@
 use Rattle.std.proofs.Common.{◌≡◌, ◌+◌, ◌*◌, ap, sym, ◌∙◌, arith}
 use Rattle.blake2b_core.specs.Digest.{blocks}
-use Rattle.blake2b_core.specs.joins.Chaining.{hash_after}
+use Rattle.blake2b_core.specs.refinement.Chaining.{hash_after}
 use Rattle.blake2b_core.proofs.BlockLemmas.{hash_after-more}
 use Rattle.blake2b_core.proofs.whole.chained.Goals as goal
 

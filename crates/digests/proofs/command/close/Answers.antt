@@ -1,16 +1,18 @@
 use Rattle.std.proofs.Common.{refl}
-use Rattle.digests.specs.Program.{Failing}
-use Rattle.digests.specs.joins.Endings.{line_of}
+use Rattle.digests.specs.Program.{FailureCounts}
+use Rattle.digests.specs.refinement.Endings.{line_of}
 use Rattle.digests.proofs.EndingLemmas.{closes-stop}
 use Rattle.digests.proofs.command.close.Goals as goal
 
 -- the run stopped, or a flush failed at its end
 pub returns-in-Err-clause-gives : goal.returns-in-Err-clause-gives
 returns-in-Err-clause-gives g c =
-    let first : Failing = record { out = g.O.Sink.failures c.args.out.now; err = g.E.Sink.failures c.args.err.now } in
-    let settled : Failing =
+    let first : FailureCounts =
+    record { out = g.O.Sink.failures c.args.out.now; err = g.E.Sink.failures c.args.err.now } in
+    let settled : FailureCounts =
     record { out = g.O.Sink.failures c.settle.new.out; err = g.E.Sink.failures c.settle.new.err } in
-    let last : Failing = record { out = g.O.Sink.failures c.settle.new.out; err = g.E.Sink.failures c.tell.new.err } in
+    let last : FailureCounts =
+    record { out = g.O.Sink.failures c.settle.new.out; err = g.E.Sink.failures c.tell.new.err } in
     λ out err.
     let bytes = c.in-Err.ensures.bytes out err in
     let none = c.in-Err.ensures.none out err in

@@ -1,4 +1,5 @@
-use Rattle.digests.proofs.EndingLemmas.{Keeps-refl, flushed-none, dropped-none}
+use Rattle.std.proofs.KnownBytes.{Keeps-refl}
+use Rattle.digests.proofs.EndingLemmas.{flushed-none, dropped-none}
 use Rattle.digests.proofs.ending.settle.Goals as goal
 
 -- the flush of standard output failed

@@ -1,5 +1,5 @@
-use Rattle.sum_words.specs.joins.Reading.{result_of}
-use Rattle.sum_engine.proofs.SceneLemmas.{seen_of}
+use Rattle.sum_words.specs.refinement.Request.{result_of}
+use Rattle.sum_engine.proofs.RunStateLemmas.{seen_of}
 use Rattle.digests.proofs.OneTextLemmas.{told_on_out, told_on_err, told-refused}
 use Rattle.digests.proofs.run.answer.Goals as goal
 

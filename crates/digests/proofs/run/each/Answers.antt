@@ -1,9 +1,9 @@
 use Rattle.std.proofs.Common.{◌≡◌, refl, ◌∙◌}
 use Rattle.std.specs.Prelude.{◌&&◌}
-use Rattle.sum_engine.specs.Scenes.{scene}
+use Rattle.sum_engine.specs.RunStates.{run_state}
 use Rattle.sum_words.specs.Tools.{name_of}
 use Rattle.digests.specs.Meaning.{one_of, or_dash}
-use Rattle.digests.specs.Headline.{Refused}
+use Rattle.digests.specs.Headline.{RefusalsOfJob}
 use Rattle.digests.proofs.OperandLemmas.{Operands, reached_start, reached_step, reached_end, reached_stop, refused-since}
 use Rattle.digests.proofs.run.each.Goals as goal
 use Rattle.digests.proofs.run.each.Goals.{then-good, else-good}
@@ -26,9 +26,9 @@ pub returns-in-Err-clause-gives : goal.returns-in-Err-clause-gives
 returns-in-Err-clause-gives g c =
     let all : Operands =
     record { one = one_of c.args.job.now (name_of c.args.tool); names = or_dash c.args.operands } in
-    let first = scene g.I.Input.content g.S.Source.told g.O.Sink.written g.E.Sink.written c.args.streams.now in
-    let here = scene g.I.Input.content g.S.Source.told g.O.Sink.written g.E.Sink.written c.operands.streams in
-    let last = scene g.I.Input.content g.S.Source.told g.O.Sink.written g.E.Sink.written c.one.new.streams in
+    let first = run_state g.I.Input.content g.S.Source.told g.O.Sink.written g.E.Sink.written c.args.streams.now in
+    let here = run_state g.I.Input.content g.S.Source.told g.O.Sink.written g.E.Sink.written c.operands.streams in
+    let last = run_state g.I.Input.content g.S.Source.told g.O.Sink.written g.E.Sink.written c.one.new.streams in
     let so_far = c.operands.invariant in
     λ hold. reached_stop all _ _ _ c.in-Err.stop c.operands.good c.operands.name.now c.operands.operands first here
     last so_far.refusals (so_far.reached hold)
@@ -37,7 +37,7 @@ returns-in-Err-clause-gives g c =
 -- its refusals are those of the run
 pub returns-in-Err-clause-refusals : goal.returns-in-Err-clause-refusals
 returns-in-Err-clause-refusals g c =
-    refused-since (Refused c.args.job.now) _ c.in-Err.stop c.operands.invariant.refusals c.in-Err.ensures.refusals
+    refused-since (RefusalsOfJob c.args.job.now) _ c.in-Err.stop c.operands.invariant.refusals c.in-Err.ensures.refusals
 
 -- nothing is held then
 pub returns-in-Err-clause-none : goal.returns-in-Err-clause-none
@@ -53,9 +53,9 @@ operands-preserved g c =
     ] in
     let all : Operands =
     record { one = one_of c.args.job.now (name_of c.args.tool); names = or_dash c.args.operands } in
-    let first = scene g.I.Input.content g.S.Source.told g.O.Sink.written g.E.Sink.written c.args.streams.now in
-    let here = scene g.I.Input.content g.S.Source.told g.O.Sink.written g.E.Sink.written c.operands.streams in
-    let last = scene g.I.Input.content g.S.Source.told g.O.Sink.written g.E.Sink.written c.one.new.streams in
+    let first = run_state g.I.Input.content g.S.Source.told g.O.Sink.written g.E.Sink.written c.args.streams.now in
+    let here = run_state g.I.Input.content g.S.Source.told g.O.Sink.written g.E.Sink.written c.operands.streams in
+    let last = run_state g.I.Input.content g.S.Source.told g.O.Sink.written g.E.Sink.written c.one.new.streams in
     let so_far = c.operands.invariant in
     record {
       reached = λ hold. rw (is, ← c.in-Some.ensures) (reached_step all 0 0 c.operands.good c.in-Ok.this
@@ -77,9 +77,9 @@ returns-in-None-clause-gives g c =
     ] in
     let all : Operands =
     record { one = one_of c.args.job.now (name_of c.args.tool); names = or_dash c.args.operands } in
-    let first = scene g.I.Input.content g.S.Source.told g.O.Sink.written g.E.Sink.written c.args.streams.now in
-    let here = scene g.I.Input.content g.S.Source.told g.O.Sink.written g.E.Sink.written c.operands.streams in
-    let last = scene g.I.Input.content g.S.Source.told g.O.Sink.written g.E.Sink.written c.one.new.streams in
+    let first = run_state g.I.Input.content g.S.Source.told g.O.Sink.written g.E.Sink.written c.args.streams.now in
+    let here = run_state g.I.Input.content g.S.Source.told g.O.Sink.written g.E.Sink.written c.operands.streams in
+    let last = run_state g.I.Input.content g.S.Source.told g.O.Sink.written g.E.Sink.written c.one.new.streams in
     let so_far = c.operands.invariant in
     λ hold.
     let reached = reached_step all 0 0 c.operands.good c.in-Ok.this c.operands.name.now c.operands.operands first here

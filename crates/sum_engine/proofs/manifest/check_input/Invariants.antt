@@ -1,20 +1,21 @@
 use Rattle.std.proofs.Common.{◌≡◌, ◌^◌, ◌-◌, None}
 use Rattle.std.specs.Option.{option_map}
 use Rattle.sum_sources.specs.Contents.{clip}
-use Rattle.sum_engine.specs.Scenes.{scene, HoldNothing}
+use Rattle.sum_engine.specs.RunStates.{run_state, HoldNothing}
 use Rattle.sum_engine.specs.Checkers.{now_of}
-use Rattle.sum_engine.specs.joins.Listings.{rules_in}
+use Rattle.sum_engine.specs.refinement.Listings.{rules_in}
 use Rattle.sum_engine.proofs.ManifestLemmas.{Comes}
 use Rattle.sum_engine.proofs.manifest.check_input.Given as goal
 
 abbrev pub invariant-lines : goal.invariant-lines
 invariant-lines g l =
-    let first = scene g.J.Input.content g.S.Source.told g.O.Sink.written g.E.Sink.written l.fn.streams in
-    let here = scene g.J.Input.content g.S.Source.told g.O.Sink.written g.E.Sink.written l.streams in
+    let first = run_state g.J.Input.content g.S.Source.told g.O.Sink.written g.E.Sink.written l.fn.streams in
+    let here = run_state g.J.Input.content g.S.Source.told g.O.Sink.written g.E.Sink.written l.streams in
     let r = rules_in l.fn.listing in
     record {
       comes : HoldNothing g.O.Sink.held g.E.Sink.held l.fn.streams
-          → Comes r (option_map clip (g.I.Input.content l.fn.input)) first (now_of g.I.Input.content l.checker.place here);
+          → Comes r (option_map clip (g.I.Input.content l.fn.input)) first
+          (now_of g.I.Input.content l.checker.place here);
       none : HoldNothing g.O.Sink.held g.E.Sink.held l.fn.streams → HoldNothing g.O.Sink.held g.E.Sink.held l.streams;
       rules : l.checker.place.rules ≡ r;
       going : l.checker.answer ≡ None;

@@ -1,20 +1,20 @@
-use Rattle.std.proofs.Common.{◌≡◌, true, false, refl, rules}
+use Rattle.std.proofs.Common.{◌≡◌, true, false, Ok, Err, refl, rules}
 use Rattle.std.proofs.lemmas.Result.{err_from_is_err_and}
 use Rattle.sum_engine.specs.Worlds.{is_dash}
-use Rattle.sum_engine.proofs.ManifestLemmas.{Call, check_gives, rules_of_call-dash, rules_of_call-file, dash_opened, file_opened, refused_told, refused_cut, no_room}
-use Rattle.sum_engine.proofs.SceneLemmas.{seen_of}
+use Rattle.sum_engine.proofs.ManifestLemmas.{Call, check_gives, dash_opened, file_opened, refused, no_room}
+use Rattle.sum_engine.proofs.RunStateLemmas.{seen_of}
 use Rattle.sum_engine.proofs.manifest.check_one.Goals as goal
 
 -- the manifest is standard input
-pub returns-then-eq-clause-gives : goal.returns-then-eq-clause-gives
-returns-then-eq-clause-gives g c =
+pub returns-then-is_dash-clause-gives : goal.returns-then-is_dash-clause-gives
+returns-then-is_dash-clause-gives g c =
     let call : Call = record { settings = c.args.settings; tool = c.args.tool.now; name = c.args.name.now } in
     let first = seen_of g.J.Input.content g.S.Source.told g.O.Sink.written g.E.Sink.written c.args.streams.now in
     let dash : is_dash call.name ≡ true = search rules in
     let opened = dash_opened call.name (g.S.Source.told c.args.streams.now.source) _ first dash in
     λ hold.
     let run = rw (c.take-input.ensures.given, c.take-input.ensures.taken) at (c.check_input.ensures.gives hold) in
-    check_gives call _ _ _ _ _ _ _ _ _ (rules_of_call-dash call dash) refl opened run
+    check_gives call true _ _ _ _ _ _ _ _ dash refl opened run
 
 -- there was no memory to open it
 pub returns-in-Err-Memory-clause-gives : goal.returns-in-Err-Memory-clause-gives
@@ -34,8 +34,8 @@ returns-in_ok-put_fault_line-in-Err-Fault-clause-gives g c =
     let dash : is_dash call.name ≡ false = search rules in
     let answer = rw c.in-Err-Fault.field-0-is at c.in-Err-Fault.ensures.answer in
     let told = rw c.in-Err-Fault.fault-is at c.in_ok-put_fault_line-in-Err-Fault.ensures.text in
-    λ hold. refused_told g.S.File.Input.content call (g.S.Source.told c.args.streams.now.source) _ _
-    c.in-Err-Fault.fault first _ 0 0 dash answer (told hold.1).1
+    λ hold. refused g.S.File.Input.content call (g.S.Source.told c.args.streams.now.source) _ _
+    c.in-Err-Fault.fault first _ 0 0 (Ok tt) dash answer (told hold.1).1
 
 -- the line of its fault was cut off
 pub returns-in_err-put_fault_line-in-Err-Fault-clause-gives :
@@ -47,8 +47,8 @@ returns-in_err-put_fault_line-in-Err-Fault-clause-gives g c =
     let answer = rw c.in-Err-Fault.field-0-is at c.in-Err-Fault.ensures.answer in
     let cut = rw c.in-Err-Fault.fault-is at c.in_err-put_fault_line-in-Err-Fault.ensures.text in
     let stop = err_from_is_err_and c.from_residual.result c.from_residual.ensures.1 in
-    λ hold. rw (stop.1, stop.2) (refused_cut g.S.File.Input.content call (g.S.Source.told c.args.streams.now.source) _ _
-    c.in-Err-Fault.fault first _ 0 0 dash answer (cut hold.1).1)
+    λ hold. rw (stop.1, stop.2) (refused g.S.File.Input.content call (g.S.Source.told c.args.streams.now.source) _ _
+    c.in-Err-Fault.fault first _ 0 0 (Err tt) dash answer (cut hold.1).1)
 
 -- it is a file
 pub returns-in-Ok-clause-gives : goal.returns-in-Ok-clause-gives
@@ -58,5 +58,5 @@ returns-in-Ok-clause-gives g c =
     let dash : is_dash call.name ≡ false = search rules in
     let opened = file_opened g.S.File.Input.content call.name (g.S.Source.told c.args.streams.now.source) _ _
     c.in-Ok.file first dash c.in-Ok.ensures.answer in
-    λ hold. check_gives call _ _ _ _ _ _ _ _ _ (rules_of_call-file call dash) c.in-Ok.ensures.refusals opened
+    λ hold. check_gives call false _ _ _ _ _ _ _ _ dash c.in-Ok.ensures.refusals opened
     (c.check_input-in-Ok.ensures.gives hold)

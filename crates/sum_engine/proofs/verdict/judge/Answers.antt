@@ -1,10 +1,10 @@
 use Rattle.std.proofs.Common.{◌≡◌, ◌&&◌, false, slice_range, refl, rules}
 use Rattle.sum_lines.specs.Entries.{Spelled}
 use Rattle.sum_engine.specs.Worlds.{is_dash}
-use Rattle.sum_engine.specs.joins.Listings.{rules_in}
+use Rattle.sum_engine.specs.refinement.Listings.{rules_in}
 use Rattle.sum_engine.proofs.VerdictLemmas.{judged_entry}
 use Rattle.sum_engine.proofs.verdict.judge.Goals as goal
-use Rattle.sum_engine.proofs.verdict.judge.Goals.{else-listing-via-then-listing+else-eq, else-listing-via-else-listing}
+use Rattle.sum_engine.proofs.verdict.judge.Goals.{else-listing-via-then-listing+else-is_dash, else-listing-via-else-listing}
 
 pub returns-in-Some-clause-gives : goal.returns-in-Some-clause-gives
 returns-in-Some-clause-gives g c =
@@ -14,7 +14,7 @@ returns-in-Some-clause-gives g c =
     let s : Spelled = record { algo = kind.algo; digest = c.in-Entry.digest; name = name } in
     let dash : c.args.listing.now.from_stdin && is_dash name ≡ false =
     elim c.else-listing.branch [
-      | else-listing-via-then-listing+else-eq w ↦ search rules
+      | else-listing-via-then-listing+else-is_dash w ↦ search rules
       | else-listing-via-else-listing
           w ↦ search rules
     ] in

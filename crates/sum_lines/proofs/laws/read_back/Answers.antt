@@ -1,4 +1,4 @@
-use Rattle.sum_lines.proofs.WrittenLemmas.{read_back}
+use Rattle.sum_lines.proofs.LineFormatLemmas.{read_back}
 use Rattle.sum_lines.proofs.laws.read_back.Goals as goal
 
 -- what is written is read back

@@ -1,4 +1,4 @@
-use Rattle.sum_lines.proofs.SaysLemmas.{says_is}
+use Rattle.sum_lines.proofs.ParsedLineLemmas.{says_is}
 use Rattle.sum_lines.proofs.laws.says_is.Goals as goal
 
 -- what a line says is what the grammar has

@@ -13,7 +13,7 @@ returns-then-unspell-clause-names g c =
       fits = c.requires.within;
       cut_is = c.truncate.ensures.items;
       name = rw c.if-unspell.true at c.unspell.ensures.name;
-      front = c.unspell.ensures.front;
+      prefix = c.unspell.ensures.prefix;
     } in
     names-kept c.has_nul.result left (rw rest at c.has_nul.ensures.no) (rw rest at c.has_nul.ensures.yes)
 
@@ -27,6 +27,6 @@ returns-else-unspell-clause-names g c =
       fits = c.requires.within;
       cut_is = c.truncate.ensures.items;
       name = rw c.if-unspell.false at c.unspell.ensures.name;
-      front = c.unspell.ensures.front;
+      prefix = c.unspell.ensures.prefix;
     } in
     rw c.if-unspell.false (names-refused left)

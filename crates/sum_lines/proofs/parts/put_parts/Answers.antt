@@ -1,7 +1,7 @@
 use Rattle.std.proofs.Common.{arith}
 use Rattle.std.proofs.lemmas.List.{at_drop_more}
 use Rattle.std.proofs.lemmas.Result.{err_from_is_err_and}
-use Rattle.sum_lines.specs.joins.PartTexts.{parts_text}
+use Rattle.sum_lines.specs.refinement.PartTexts.{parts_text}
 use Rattle.sum_lines.proofs.SinkLemmas.{Left-step, Left-stop}
 use Rattle.sum_lines.proofs.parts.put_parts.Goals as goal
 

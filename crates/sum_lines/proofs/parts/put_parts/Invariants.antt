@@ -1,5 +1,5 @@
 use Rattle.std.proofs.Common.{drop}
-use Rattle.sum_lines.specs.joins.PartTexts.{parts_text}
+use Rattle.sum_lines.specs.refinement.PartTexts.{parts_text}
 use Rattle.sum_lines.specs.Sinks.{state}
 use Rattle.sum_lines.proofs.SinkLemmas.{Left}
 use Rattle.sum_lines.proofs.parts.put_parts.Given as goal

@@ -18,7 +18,7 @@ returns-in_err-count-clause-offers g c =
     let some : 0 < length c.loop-rest.rest.now = search rules in
     Offered-last _ c.loop-rest.invariant.offered c.in_err-count.ensures.offers some
 
--- the sink took a front of the rest
+-- the sink took a prefix of the rest
 pub loop-rest-preserved : goal.loop-rest-preserved
 loop-rest-preserved g c =
     let rest = c.loop-rest.rest.now in

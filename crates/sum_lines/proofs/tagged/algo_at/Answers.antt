@@ -1,7 +1,7 @@
-use Rattle.sum_lines.proofs.ScanLemmas.{algo_is}
+use Rattle.digest_kinds.proofs.TagLemmas.{search-is}
 use Rattle.sum_lines.proofs.tagged.algo_at.Goals as goal
 
 -- the algorithm is the one that the search by tags finds
 pub returns-in-Any : goal.returns-in-Any
 returns-in-Any c = rw c.in-Any.is
-    (algo_is c.args.s.now c.of_tag_prefix.result c.of_tag_prefix.ensures.tagged c.of_tag_prefix.ensures.found)
+    (search-is c.args.s.now c.of_tag_prefix.result c.of_tag_prefix.ensures.tagged c.of_tag_prefix.ensures.found)

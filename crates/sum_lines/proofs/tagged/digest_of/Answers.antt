@@ -1,10 +1,10 @@
-use Rattle.std.proofs.Common.{refl, arith}
+use Rattle.std.proofs.Common.{arith}
 use Rattle.sum_lines.proofs.ScanLemmas.{digest_other, digest_from}
 use Rattle.sum_lines.proofs.tagged.digest_of.Goals as goal
 
 -- another number of digits than a digest has
 pub returns-then-digits-len : goal.returns-then-digits-len
-returns-then-digits-len c = rw (digest_other c.args.digits.now c.args.len (λ same. omega arith)) refl
+returns-then-digits-len c = digest_other c.args.digits.now c.args.len (λ same. omega arith)
 
 -- as many digits as a digest has
 pub returns : goal.returns

@@ -1,16 +1,20 @@
 use Rattle.std.proofs.Common.{◌≡◌, ℕ, ◌^◌, ◌<◌, ◌-◌, List}
+use Rattle.sum_sources.specs.Contents.{WhereTold, clip, limit}
+use Rattle.sum_sources.specs.LineReaders.{clip_to}
 use Rattle.sum_sources.proofs.ContentLemmas.{Gave}
 use Rattle.sum_sources.proofs.hashing.hash_input_over.Given as goal
 
 -- the hasher holds the bytes that the input has given
-abbrev pub invariant-loop-one : goal.invariant-loop-one
-invariant-loop-one g l = record {
+abbrev pub invariant-loop-hasher : goal.invariant-loop-hasher
+invariant-loop-hasher g l = record {
   held : (m : List ℕ) × g.H.Hasher.holds l.hasher m
-      × Gave (g.I.Input.content l.fn.input) (g.I.Input.content l.input) m;
-  few : g.H.Hasher.taken_of l.hasher < 2 ^ 61;
+      × WhereTold (g.I.Input.content l.fn.input) (g.I.Input.content l.limited.input.now)
+      (λ c d. Gave (clip c) (clip_to (limit - l.limited.taken) d) m);
+  taken : g.H.Hasher.taken_of l.hasher ≡ l.limited.taken;
+  few : l.limited.taken < 2 ^ 61;
   kind : g.H.Hasher.kind_of l.hasher ≡ g.H.Hasher.kind_of l.fn.hasher;
 }
 
 -- the bytes that may still come
-abbrev pub decreases-loop-one : goal.decreases-loop-one
-decreases-loop-one g l = 2 ^ 61 - g.H.Hasher.taken_of l.hasher
+abbrev pub decreases-loop-hasher : goal.decreases-loop-hasher
+decreases-loop-hasher g l = 2 ^ 61 - l.limited.taken

@@ -1,6 +1,6 @@
 use Rattle.std.proofs.Common.{◌≡◌, drop, map}
 use Rattle.sum_sources.specs.InMemory.{first_reply}
-use Rattle.sum_sources.specs.joins.ToldPairs.{pair_of}
+use Rattle.sum_sources.specs.refinement.ToldPairs.{pair_of}
 use Rattle.sum_sources.proofs.told_source.answer_to.Given as goal
 
 -- none of the pairs so far has the name

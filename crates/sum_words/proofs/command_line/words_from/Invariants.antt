@@ -1,5 +1,5 @@
 use Rattle.std.proofs.Common.{◌<◌}
-use Rattle.sum_words.specs.joins.Arguments.{WordsUpTo, IsThere}
+use Rattle.sum_words.specs.refinement.Arguments.{WordsUpTo, IsThere}
 use Rattle.sum_words.proofs.command_line.words_from.Given as goal
 
 -- the words before the place were read, and where it isn't the first place there is one

@@ -1,4 +1,4 @@
-use Rattle.sum_lines.specs.joins.PartTexts.{part_text}
+use Rattle.sum_lines.specs.refinement.PartTexts.{part_text}
 use Rattle.sum_words.proofs.TextLemmas.{fault_parts}
 use Rattle.sum_words.proofs.faults.put_lines.Goals as goal
 

@@ -1,6 +1,5 @@
 use Rattle.std.proofs.Common.{◌≡◌, drop, map, find}
-use Rattle.sum_words.specs.Items.{row_of}
-use Rattle.sum_words.specs.joins.Walk.{has_letter}
+use Rattle.sum_words.specs.Items.{row_of, has_letter}
 use Rattle.sum_words.proofs.options.first_lettered.Given as goal
 
 -- none of the options so far has the letter

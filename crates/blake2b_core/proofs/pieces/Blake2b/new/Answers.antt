@@ -1,5 +1,5 @@
 use Rattle.std.proofs.Common.{refl}
-use Rattle.blake2b_core.specs.joins.Chaining.{hash_after}
+use Rattle.blake2b_core.specs.refinement.Chaining.{hash_after}
 use Rattle.blake2b_core.proofs.pieces.Blake2b.new.Goals as goal
 
 -- a new state holds the empty message

@@ -1,6 +1,6 @@
 use Rattle.std.proofs.Common.{◌≡◌, ℕ, ◌+◌, ◌-◌, List, ◌++◌, length, take, drop, ap, subst, arith, length-append}
 use Rattle.std.proofs.lemmas.List.{length-drop, nil_from_length, take_rest}
-use Rattle.blake2b_core.specs.joins.Holding.{HoldsSoFar}
+use Rattle.blake2b_core.specs.refinement.Holding.{HoldsSoFar}
 use Rattle.blake2b_core.proofs.HeldLemmas.{three_parts, none_left}
 use Rattle.blake2b_core.proofs.pieces.Blake2b.update.Goals as goal
 

@@ -1,6 +1,6 @@
 use Rattle.std.proofs.Common.{rules, [], ap, arith, ◌∙◌}
 use Rattle.sum_sources.specs.declared.lines.State.TheVariants.{Stopped}
-use Rattle.sum_sources.proofs.FillLemmas.{some_buffered}
+use Rattle.sum_sources.proofs.PieceLemmas.{some_buffered}
 use Rattle.sum_sources.proofs.LineLemmas.{gives_ended, gives_stopped, gives_line, gives_no_more, gives_stop}
 use Rattle.sum_sources.proofs.lines.LineReader.next_line.Goals as goal
 

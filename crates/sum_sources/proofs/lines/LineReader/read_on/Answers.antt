@@ -1,5 +1,5 @@
-use Rattle.std.proofs.Common.{rules, false}
-use Rattle.sum_sources.proofs.ReadOnLemmas.{LineSoFar, LineSoFar-piece, Took, PieceOf-last, PieceOf-fault}
+use Rattle.std.proofs.Common.{rules}
+use Rattle.sum_sources.proofs.ReadOnLemmas.{LineSoFar, LineSoFar-piece, PieceOf-last, PieceOf-fault}
 use Rattle.sum_sources.proofs.lines.LineReader.read_on.Given as given
 use Rattle.sum_sources.proofs.lines.LineReader.read_on.Goals as goal
 use Rattle.sum_sources.proofs.lines.LineReader.read_on.Goals.{In-Ok-false}
@@ -8,19 +8,9 @@ use Rattle.sum_sources.proofs.lines.LineReader.read_on.Goals.{In-Ok-false}
 moved : (g : given.Over) (c : In-Ok-false g)
     → LineSoFar g.I.Input.content c.args.self.now c.take_piece.new.self c.take_piece.new.line.items
 moved g c =
-    let so_far : LineSoFar g.I.Input.content c.args.self.now c.loop-self.self c.loop-self.line.items = record {
-      came = c.loop-self.invariant.came;
-      plain = c.loop-self.invariant.plain;
-      going = c.loop-self.invariant.going;
-    } in
-    let took : Took false c.loop-self.self c.take_piece.new.self c.loop-self.line.items c.take_piece.new.line.items =
-    record {
-      input = c.in-Ok-false.ensures.input;
-      taken = c.in-Ok-false.ensures.taken;
-      answer = c.in-Ok-false.ensures.answer;
-      piece = rw c.in-Ok-false.field-0-test at c.in-Ok-false.ensures.piece;
-    } in
-    LineSoFar-piece so_far took
+    let piece = rw c.in-Ok-false.field-0-test at c.in-Ok-false.ensures.piece in
+    LineSoFar-piece c.loop-self.invariant.so_far c.in-Ok-false.ensures.input c.in-Ok-false.ensures.taken
+    c.in-Ok-false.ensures.answer piece
 
 -- the input has ended
 pub returns-in-Ok-false-fill-clause-piece : goal.returns-in-Ok-false-fill-clause-piece

@@ -1,16 +1,13 @@
-use Rattle.std.proofs.Common.{◌≡◌, length, ◌^◌, ◌-◌, ◌+◌, None}
+use Rattle.std.proofs.Common.{◌≡◌, length, ◌^◌, ◌-◌, ◌+◌}
 use Rattle.sum_sources.specs.Contents.{WhereTold}
-use Rattle.sum_sources.specs.LineReaders.{coming, used}
-use Rattle.sum_sources.specs.ManifestLines.{NoNewline}
-use Rattle.sum_sources.proofs.ReadOnLemmas.{Came}
+use Rattle.sum_sources.specs.LineReaders.{used}
+use Rattle.sum_sources.proofs.ReadOnLemmas.{LineSoFar}
 use Rattle.sum_sources.proofs.lines.LineReader.read_on.Given as goal
 
 -- what came of the line so far, and the sums that stay
 abbrev pub invariant-loop-self : goal.invariant-loop-self
 invariant-loop-self g l = record {
-  came : WhereTold (coming g.I.Input.content l.fn.self) (coming g.I.Input.content l.self) (λ c d. Came c d l.line.items);
-  plain : NoNewline l.line.items;
-  going : l.self.answer ≡ None;
+  so_far : LineSoFar g.I.Input.content l.fn.self l.self l.line.items;
   input : WhereTold (g.I.Input.content l.fn.self.input) (g.I.Input.content l.self.input)
       (λ c d. l.self.taken + length d.bytes ≡ l.fn.self.taken + length c.bytes);
   used : used l.self ≡ used l.fn.self + length l.line.items;

@@ -1,7 +1,6 @@
 use Rattle.std.proofs.Common.{arith}
 use Rattle.std.proofs.lemmas.Bool.{eqb-true}
-use Rattle.sum_sources.proofs.FillLemmas.{length-buffered}
-use Rattle.sum_sources.proofs.PieceLemmas.{plain_piece, plain_front, cut_buffer}
+use Rattle.sum_sources.proofs.PieceLemmas.{length-buffered, plain_piece, plain_prefix, cut_buffer}
 use Rattle.sum_sources.proofs.lines.LineReader.take_piece.Goals as goal
 
 -- the piece up to the newline
@@ -12,7 +11,7 @@ returns-in_ok-extend_from_slice-in-Some-clause-piece g c =
     (omega (arith, c.self.invariant.end_in, c.self.told)) in
     rw (← c.self.view_is) (
       _,
-      plain_front _ _ found.0.high found.0.before,
+      plain_prefix _ _ found.0.high found.0.before,
       cut_buffer c.self.inside.buf _ _ _ (omega (arith, c.self.invariant.end_in, c.self.told))
           (omega (arith, found.0.high, size)) (eqb-true _ _ found.1),
       c.in_ok-extend_from_slice-in-Some.ensures.items,

@@ -10,5 +10,5 @@ returns-clause-bytes c =
     let argument = c.in-Some.argument.now in
     let found = c.in-Some.ensures.lookup in
     let there = slice_get_read all (length all) c.args.place argument refl found.3.0 found.1 in
-    let front = take_at argument.now (drop (length argument.now) c.args.buffer.now) (length argument.now) refl in
-    rw (c.copy_from_slice.ensures.after, front, ← c.self.view_is, slice_get-map, there) refl
+    let prefix = take_at argument.now (drop (length argument.now) c.args.buffer.now) (length argument.now) refl in
+    rw (c.copy_from_slice.ensures.after, prefix, ← c.self.view_is, slice_get-map, there) refl

@@ -5,4 +5,6 @@ use Rattle.sum_words.proofs.tool.Tool.from_word.Goals as goal
 
 -- the tool of this name, and no other
 pub returns : goal.returns
-returns c = named c.args.word.now c.of_name.result (c.of_name.ensures ∙ ap tool_called c.as_bytes.ensures.value)
+returns c =
+    named c.args.word.now c.of_name.result (c.of_name.ensures.tool ∙ ap tool_called c.as_bytes.ensures.value)
+    (rw c.as_bytes.ensures.value at c.of_name.ensures.named)

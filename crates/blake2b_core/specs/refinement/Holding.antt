@@ -1,0 +1,30 @@
+-- Joins `new`, `update` and `finish` of `Blake2b`: which message a state holds.
+use Rattle.std.specs.Prelude.{◌≡◌, ℕ, ◌+◌, ◌*◌, ◌<◌, List, [], length, take, drop, slice_index_or}
+use Rattle.blake2b_core.specs.Digest.{blocks}
+use Rattle.blake2b_core.specs.refinement.Chaining.{hash_after}
+use Rattle.blake2b_core.specs.declared.pieces.Blake2b.{Blake2b}
+
+-- bs are the blocks of the message m from block k on
+abbrev pub AreBlocksFrom : List ℕ → ℕ → List (List ℕ) → Type 0
+AreBlocksFrom m k bs = (i : ℕ) → i < length bs → slice_index_or bs i [] ≡ slice_index_or (blocks m) (k + i) []
+
+-- the length of the digest that the state is made for, and how many bytes it has taken
+abbrev pub digest_len : Blake2b → ℕ
+digest_len s = s.len
+
+abbrev pub taken : Blake2b → ℕ
+taken s = s.taken
+
+-- some blocks of the message m, counted by `done`, were compressed, and the bytes behind them are held
+pub record HoldsSoFar (s : Blake2b) (m : List ℕ) : Type 0 where
+  pub taken : s.taken ≡ length m
+  pub done : ℕ
+  pub count : 128 * done + s.used ≡ length m
+  pub hash : s.h ≡ hash_after s.len (blocks m) done
+  pub rest : take s.used s.held ≡ drop (128 * done) m
+
+-- the state s holds the message m: besides, the last block is held, so that only the empty message
+-- leaves nothing held
+pub record Holds (s : Blake2b) (m : List ℕ) : Type 0 where
+  pub so_far : HoldsSoFar s m
+  pub none_held : s.used ≡ 0 → m ≡ []

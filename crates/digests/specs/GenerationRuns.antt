@@ -1,0 +1,71 @@
+-- What is written is good: manifests that generation wrote, checked while the files stay as they were.
+use Rattle.std.specs.Prelude.{ℕ, ◌≡◌, ◌<◌, true, false, List, [], IsTrue, length, flat_map}
+use Rattle.std.specs.List.{All}
+use Rattle.digest_kinds.specs.Kinds.{has_len}
+use Rattle.digest_kinds.specs.declared.algo.Algos.{Algos}
+use Rattle.sum_sources.specs.declared.fault.Ending.TheVariants.{Whole}
+use Rattle.sum_sources.specs.Contents.{limit}
+use Rattle.sum_sources.specs.Sources.{Reply, Given}
+use Rattle.sum_lines.specs.Laws.{ReadBy}
+use Rattle.sum_engine.specs.declared.settings.Settings.{Settings}
+use Rattle.sum_engine.specs.declared.settings.CheckSettings.{CheckSettings}
+use Rattle.sum_engine.specs.Worlds.{World, is_dash, reply}
+use Rattle.sum_engine.specs.Runs.{outs, errs}
+use Rattle.sum_engine.specs.Generation.{generate_run}
+use Rattle.sum_engine.specs.Reports.{right_line}
+use Rattle.sum_engine.specs.Checking.{check_run}
+use Rattle.sum_words.specs.Items.{Text}
+use Rattle.digests.specs.Meaning.{all_of}
+
+-- a name that isn't empty, holds no NUL and isn't `-`, and whose file is whole and not too long
+pub record Listable (answer : Text → Reply) (name : Text) : Type 0 where
+  pub some : 0 < length name
+  pub no_nul : All (λ b. 0 < b) name
+  pub no_dash : is_dash name ≡ false
+  pub bytes : List ℕ
+  pub content : answer name ≡ Given (record { bytes = bytes; ending = Whole })
+  pub fits : length bytes < limit
+
+-- a run of generation: its settings, the tool's name and the names
+pub record GenerationRun : Type 0 where
+  pub settings : Settings
+  pub tool : Text
+  pub names : List Text
+
+-- what it writes on standard output in a world
+abbrev pub generation_output : World → GenerationRun → Text
+generation_output w g = outs (all_of (generate_run g.settings g.tool) w g.names)
+
+abbrev pub names_of : GenerationRun → List Text
+names_of g = g.names
+
+-- What a run wrote in the world w can be checked in the world v: its lines end with newlines; who checks reads them, as
+-- the tool itself does in whatever style, and `anysum` where they are tagged; and its files are the same in both.
+pub record Checkable (algos : Algos) (w v : World) (g : GenerationRun) : Type 0 where
+  pub newlines : g.settings.style.zero ≡ false
+  pub has : IsTrue (has_len g.settings.kind.algo g.settings.kind.len)
+  pub read_by : ReadBy algos g.settings.style.mode g.settings.kind.algo
+  pub listable : All (Listable w.answer) g.names
+  pub same : All (λ name. v.answer name ≡ w.answer name) g.names
+
+-- Checking the manifest of that name finds it good, and writes `NAME: OK` for each name, where the report setting has
+-- such lines, and nothing else.
+pub record IsGood (check : CheckSettings) (tool : Text) (v : World) (manifest : Text) (names : List Text) : Type 0 where
+  pub good : (check_run check tool v manifest).good ≡ true
+  pub out : outs (check_run check tool v manifest) ≡ flat_map (right_line check.report) names
+  pub err : errs (check_run check tool v manifest) ≡ []
+
+-- what generation wrote for one name or more is good as a manifest, where it isn't too long
+abbrev pub WrittenIsGood : Type 0
+WrittenIsGood = (check : CheckSettings) (tool manifest : Text) (w v : World) (g : GenerationRun)
+    → Checkable check.algo w v g → 0 < length g.names → length (generation_output w g) < limit
+    → reply v manifest ≡ Given (record { bytes = generation_output w g; ending = Whole })
+    → IsGood check tool v manifest g.names
+
+-- so is what several runs wrote, one behind the other
+abbrev pub JoinedIsGood : Type 0
+JoinedIsGood = (check : CheckSettings) (tool manifest : Text) (w v : World) (gs : List GenerationRun)
+    → All (Checkable check.algo w v) gs → 0 < length (flat_map names_of gs)
+    → length (flat_map (generation_output w) gs) < limit
+    → reply v manifest ≡ Given (record { bytes = flat_map (generation_output w) gs; ending = Whole })
+    → IsGood check tool v manifest (flat_map names_of gs)

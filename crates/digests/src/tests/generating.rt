@@ -1,0 +1,66 @@
+//! Hashing names.
+use super::{add_files, assert_broken, assert_rows, run_line};
+use std::test::Fail;
+use sum_engine::Stop;
+use sum_sources::{Ending, Fault, Told, ToldSource};
+
+#[test]
+fn names(rt: HostRuntime) -> Result<(), Fail> {
+    let rows = [
+        ("sha256sum", "$S  -\n", "", 0),
+        (
+            "md5sum a x e",
+            "$M  a\n$E  e\n",
+            "md5sum: x: No such file or directory\n",
+            1,
+        ),
+        ("md5sum -z q\\\nz", "$M  q\\\nz\0", "", 0),
+        ("b2sum -l 256 --tag e", "BLAKE2b-256 (e) = $B\n", "", 0),
+    ];
+    assert_rows(&rt, "abc", &[], &rows)
+}
+
+// No digest of a prefix is printed.
+#[test]
+fn broken_inputs(rt: HostRuntime) -> Result<(), Fail> {
+    let row = ("sha256sum", "", "sha256sum: -: Input/output error\n", 1);
+    assert_broken(&rt, b"abc", Fault::Other, row)?;
+    let bytes = vec![in rt.alloc(); b'x'; 300]?;
+    let row = ("md5sum f", "", "md5sum: f: Permission denied\n", 1);
+    for count in 0..=300 {
+        assert_broken(&rt, bytes.get(..count).ok_or("count")?, Fault::Denied, row)?;
+    }
+    Ok(())
+}
+
+// An output that stops holds a prefix of its text, and nothing more is written to either.
+#[test]
+fn stopped_outputs(rt: HostRuntime) -> Result<(), Fail> {
+    let rows = [
+        ("sha256sum", (10, 1024), "e3b0c44298", ""),
+        ("md5sum a e", (10, 1024), "900150983c", ""),
+        ("md5sum x a", (1024, 10), "", "md5sum: x:"),
+        ("md5sum --help", (10, 1024), "Usage: md5", ""),
+        ("md5sum --version", (10, 1024), "md5sum (di", ""),
+        ("md5sum --foo", (1024, 10), "", "md5sum: un"),
+    ];
+    for (line, stops, out, err) in rows {
+        let mut files = ToldSource::new(rt.alloc(), 8192);
+        add_files(&mut files)?;
+        let run = run_line(
+            rt.alloc(),
+            line,
+            Told::new(b"", Ending::Whole, 8192),
+            files,
+            stops,
+        )?;
+        assert_eq!(rt;
+            run.out.bytes(),
+            out.as_bytes(),
+            "standard output of {line}"
+        );
+        assert_eq!(rt; run.err.bytes(), err.as_bytes(), "standard error of {line}");
+        assert_eq!(rt; run.answer, Err(Stop::Write), "the answer of {line}");
+    }
+    Ok(())
+}

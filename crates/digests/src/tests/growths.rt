@@ -1,0 +1,279 @@
+//! Memory that is refused: each growth in turn, on heaps that are each a little larger.
+use super::{ENOUGH, Row, add_all, assert_as, heap_of, run_line_on, spelled, taken};
+use digest_kinds::{Algo, Algos};
+use std::alloc::{Allocator, Global};
+use std::process::Abort;
+use std::test::Fail;
+use sum_engine::{CheckSettings, Checker, Progress, Report, Stop, Streams};
+use sum_lines::ToldSink;
+use sum_sources::{Ending, Stdin, Told, ToldSource};
+
+// A line of each verdict: right, a comment, bad, missing, wrong. Each name has 8 bytes.
+const VERDICTS: &str = "$M  abc.text\n#c\njunk\n$M *gone.txt\n$M  none.txt\n";
+
+const REPORTS: &str = "abc.text: OK\ngone.txt: FAILED open or read\nnone.txt: FAILED\n";
+
+const MISSING: &str = "md5sum: gone.txt: No such file or directory\n";
+
+const WARNINGS: &str = "md5sum: gone.txt: No such file or directory\n\
+                        md5sum: WARNING: 1 line is improperly formatted\n\
+                        md5sum: WARNING: 1 listed file could not be read\n\
+                        md5sum: WARNING: 1 computed checksum did NOT match\n";
+
+// A place between two operands or two lines of a manifest: the texts up to there, and how many names were asked.
+type Place<'a> = (&'a str, &'a str, usize);
+
+// Whether these are the names that were asked.
+fn asked<A: Allocator + Copy>(files: &ToldSource<A>, names: &[&str]) -> bool {
+    for (i, name) in names.iter().enumerate() {
+        if files.asked_name(i) != Some(name.as_bytes()) {
+            return false;
+        }
+    }
+    files.asked_name(names.len()).is_none()
+}
+
+// At which of the places the outputs and the names asked stand.
+fn place_of<A: Allocator + Copy>(
+    alloc: Global,
+    (out, err): (&[u8], &[u8]),
+    files: &ToldSource<A>,
+    names: &[&str],
+    places: &[Place],
+) -> Result<usize, Fail> {
+    for (i, (out_there, err_there, count)) in places.iter().enumerate() {
+        if out == spelled(alloc, out_there)?.as_bytes()
+            && err == spelled(alloc, err_there)?.as_bytes()
+            && asked(files, names.get(..*count).ok_or("names")?)
+        {
+            return Ok(i);
+        }
+    }
+    Err(Fail::from("the outputs and the names asked stand at none of the places"))
+}
+
+// What becomes of a run on a heap.
+#[derive(Drop)]
+enum Turn {
+    // There was no room for the files or for the words.
+    NoRoom,
+    // It stopped at this place.
+    StoppedAt(usize),
+    // It did as it does with memory enough, and took so many bytes.
+    Finished(usize),
+}
+
+// Runs the row's line over the file `abc.text`, the empty file `none.txt` and the manifest `list.md5`. The files, the
+// words and the run have one heap, with room for so many times 8 bytes.
+fn run_within(
+    rt: &(impl Abort + AllocGlobal),
+    units: usize,
+    manifest: &[u8],
+    names: &[&str],
+    places: &[Place],
+    row: Row,
+) -> Result<Turn, Fail> {
+    let all: [(&[u8], &[u8]); 3] = [
+        (b"abc.text", b"abc"),
+        (b"none.txt", b""),
+        (b"list.md5", manifest),
+    ];
+    let heap = heap_of(rt.alloc(), units)?;
+    let mut files = ToldSource::new(&heap, 8192);
+    if add_all(&mut files, &all).is_err() {
+        return Ok(Turn::NoRoom);
+    }
+    let input = Told::new(b"abc", Ending::Whole, 8192);
+    let Some((run, files)) = run_line_on(&heap, row.0, input, files, (1024, 1024))? else {
+        return Ok(Turn::NoRoom);
+    };
+    if run.answer == Err(Stop::Memory) {
+        let texts = (run.out.bytes(), run.err.bytes());
+        let place = place_of(rt.alloc(), texts, &files, names, places)?;
+        return Ok(Turn::StoppedAt(place));
+    }
+    assert!(rt; asked(&files, names));
+    assert_as(rt, &run, row)?;
+    Ok(Turn::Finished(taken(&heap, units)))
+}
+
+// Runs the row's line on a heap of each size, so that each growth in turn is refused. The places come in their order,
+// and none is left out; then come runs that do as the row says.
+fn assert_each_growth(
+    rt: &(impl Abort + AllocGlobal),
+    manifest: &str,
+    names: &[&str],
+    places: &[Place],
+    row: Row,
+) -> Result<(), Fail> {
+    let manifest = spelled(rt.alloc(), manifest)?;
+    let mut reached: usize = 0;
+    let mut whole = None;
+    for units in 0..=ENOUGH {
+        match run_within(rt, units, manifest.as_bytes(), names, places, row)? {
+            Turn::NoRoom => assert_eq!(rt; reached, 0),
+            Turn::StoppedAt(place) => {
+                let next = place.saturating_add(1);
+                assert!(rt; next == reached || place == reached, "in {units} units");
+                assert_eq!(rt; whole, None);
+                reached = next;
+            }
+            Turn::Finished(bytes) => {
+                assert_eq!(rt; reached, places.len());
+                assert_eq!(rt; *whole.get_or_insert(bytes), bytes);
+            }
+        }
+    }
+    assert!(rt; whole.is_some());
+    Ok(())
+}
+
+#[test]
+fn growths_of_generating(rt: HostRuntime) -> Result<(), Fail> {
+    let places = [
+        ("", "", 0),
+        ("$M  abc.text\n", "", 1),
+        ("$M  abc.text\n", MISSING, 2),
+    ];
+    let row = (
+        "md5sum abc.text gone.txt none.txt",
+        "$M  abc.text\n$E  none.txt\n",
+        MISSING,
+        1,
+    );
+    let names = ["abc.text", "gone.txt", "none.txt"];
+    assert_each_growth(&rt, "", &names, &places, row)
+}
+
+#[test]
+fn growths_of_checking(rt: HostRuntime) -> Result<(), Fail> {
+    let places = [
+        ("", "", 0),
+        ("", "", 1),
+        ("abc.text: OK\n", "", 2),
+        ("abc.text: OK\ngone.txt: FAILED open or read\n", MISSING, 3),
+    ];
+    let row = ("md5sum -c list.md5", REPORTS, WARNINGS, 1);
+    let names = ["list.md5", "abc.text", "gone.txt", "none.txt"];
+    assert_each_growth(&rt, VERDICTS, &names, &places, row)
+}
+
+#[test]
+fn growths_of_two_manifests(rt: HostRuntime) -> Result<(), Fail> {
+    let places = [
+        ("", "", 0),
+        ("", "", 1),
+        ("-: OK\n", "", 1),
+        ("-: OK\n", "", 2),
+    ];
+    let row = (
+        "md5sum -c list.md5 list.md5",
+        "-: OK\n-: FAILED\n",
+        "md5sum: WARNING: 1 computed checksum did NOT match\n",
+        1,
+    );
+    assert_each_growth(&rt, "$M  -\n", &["list.md5", "list.md5"], &places, row)
+}
+
+// A growth for the second line is refused: the first line's report stands.
+#[test]
+fn long_line_refused(rt: HostRuntime) -> Result<(), Fail> {
+    let long = "a_name_that_is_so_long_that_the_vector_of_the_line_before_has_no_room_for_this_one";
+    let manifest = format!(in rt.alloc(); "$M  abc.text\n$M  {long}\n")?;
+    let out = format!(in rt.alloc(); "abc.text: OK\n{long}: FAILED open or read\n")?;
+    let err = format!(in rt.alloc();
+        "md5sum: {long}: No such file or directory\n\
+        md5sum: WARNING: 1 listed file could not be read\n"
+    )?;
+    let places = [("", "", 0), ("", "", 1), ("abc.text: OK\n", "", 2)];
+    let row = ("md5sum -c list.md5", out.as_str(), err.as_str(), 1);
+    let names = ["list.md5", "abc.text", long];
+    assert_each_growth(&rt, manifest.as_str(), &names, &places, row)
+}
+
+const CHECK: CheckSettings = CheckSettings {
+    algo: Algos::One(Algo::Md5),
+    report: Report::All,
+    strict: false,
+    ignore_missing: false,
+};
+
+// Where a checker of all verdicts stands after so many lines, and after the end.
+const AFTER_STEPS: [Place<'static>; 7] = [
+    ("", "", 0),
+    ("abc.text: OK\n", "", 1),
+    ("abc.text: OK\n", "", 1),
+    ("abc.text: OK\n", "", 1),
+    ("abc.text: OK\ngone.txt: FAILED open or read\n", MISSING, 2),
+    (REPORTS, MISSING, 3),
+    (REPORTS, WARNINGS, 3),
+];
+
+// Steps over all verdicts on a heap with room for so many times 8 bytes, and three times more once it has stopped or
+// ended, with memory enough. It stops at as many lines as it has done.
+fn steps(rt: &(impl Abort + AllocGlobal), units: usize) -> Result<Turn, Fail> {
+    let manifest = spelled(rt.alloc(), VERDICTS)?;
+    let heap = heap_of(rt.alloc(), units)?;
+    let mut files = ToldSource::new(&heap, 8192);
+    if add_all(&mut files, &[(b"abc.text", b"abc"), (b"none.txt", b"")]).is_err() {
+        return Ok(Turn::NoRoom);
+    }
+    let mut streams = Streams {
+        stdin: Stdin::new(Told::new(b"", Ending::Whole, 1)),
+        source: files,
+        out: ToldSink::<1024>::new(1024),
+        err: ToldSink::<1024>::new(1024),
+    };
+    let input = Told::new(manifest.as_bytes(), Ending::Whole, 8192);
+    let mut checker = Checker::new(CHECK, "md5sum", b"list.md5", false, input);
+    let mut line = Vec::new(&heap);
+    let mut lines: usize = 0;
+    let mut answer = Ok(Progress::Going);
+    for _ in 0..9 {
+        let before = answer;
+        answer = checker.step(&mut line, &mut streams);
+        if before != Ok(Progress::Going) {
+            assert_eq!(rt; answer, before, "in {units} units");
+        } else if answer == Err(Stop::Memory) {
+            heap.set_allocation_limit(None);
+        } else {
+            lines = lines.saturating_add(1);
+        }
+        let there = AFTER_STEPS.get(lines..=lines).ok_or("lines")?;
+        let texts = (streams.out.bytes(), streams.err.bytes());
+        let names = ["abc.text", "gone.txt", "none.txt"];
+        place_of(rt.alloc(), texts, &streams.source, &names, there)?;
+    }
+    if answer == Err(Stop::Memory) {
+        return Ok(Turn::StoppedAt(lines));
+    }
+    assert_eq!(rt;
+        (lines, answer),
+        (6, Ok(Progress::Ended(false))),
+        "in {units} units"
+    );
+    Ok(Turn::Finished(taken(&heap, units)))
+}
+
+// Memory is wanted for the first line and for each file that is opened, so a checker stops before the first line, the
+// fourth and the fifth, and nowhere else.
+#[test]
+fn growths_step_by_step(rt: HostRuntime) -> Result<(), Fail> {
+    let mut stops = Vec::new(rt.alloc());
+    let mut whole = None;
+    for units in 0..=ENOUGH {
+        match steps(&rt, units)? {
+            Turn::NoRoom => assert!(rt; stops.is_empty()),
+            Turn::StoppedAt(lines) => {
+                assert_eq!(rt; whole, None);
+                if stops.last() != Some(&lines) {
+                    stops.push(lines)?;
+                }
+            }
+            Turn::Finished(bytes) => assert_eq!(rt; *whole.get_or_insert(bytes), bytes),
+        }
+    }
+    assert!(rt; whole.is_some());
+    assert_eq!(rt; stops.as_slice(), [0, 3, 4].as_slice());
+    Ok(())
+}

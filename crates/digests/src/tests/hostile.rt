@@ -1,0 +1,196 @@
+//! Outputs that stop at any byte, manifests that break off anywhere, and hostile ones.
+use super::checking::VERDICTS;
+use super::{add_files, assert_broken, assert_rows, run_line, spelled};
+use crate::run::run;
+use std::alloc::Global;
+use std::ops::RangeInclusive;
+use std::process::Abort;
+use std::test::Fail;
+use sum_engine::{Stop, Streams};
+use sum_lines::ToldSink;
+use sum_sources::{Answer, Ending, Fault, Stdin, Told, ToldSource};
+use sum_words::{Tool, Words};
+
+const REPORTS: &str = "a: OK\nx: FAILED open or read\ne: FAILED\n";
+
+const WARNINGS: &str = "md5sum: x: No such file or directory\n\
+                        md5sum: WARNING: 1 line is improperly formatted\n\
+                        md5sum: WARNING: 1 listed file could not be read\n\
+                        md5sum: WARNING: 1 computed checksum did NOT match\n";
+
+// Checks all verdicts with outputs that stop so, and asserts the answer, prefixes of both texts and so many bytes on
+// each output.
+fn assert_stopped(
+    rt: &(impl Abort + AllocGlobal),
+    stops: (usize, usize),
+    answer: Result<u8, Stop>,
+    (out, err): (RangeInclusive<usize>, RangeInclusive<usize>),
+) -> Result<(), Fail> {
+    let manifest = spelled(rt.alloc(), VERDICTS)?;
+    let mut files = ToldSource::new(rt.alloc(), 8192);
+    add_files(&mut files)?;
+    files.add(b"l", Answer::Content(manifest.as_bytes(), Ending::Whole))?;
+    let input = Told::new(b"", Ending::Whole, 8192);
+    let run = run_line(rt.alloc(), "md5sum -c l", input, files, stops)?;
+    assert_eq!(rt; run.answer, answer);
+    assert!(rt; REPORTS.as_bytes().starts_with(run.out.bytes()));
+    assert!(rt; WARNINGS.as_bytes().starts_with(run.err.bytes()));
+    assert!(rt;
+        out.contains(&run.out.bytes().len()),
+        "standard output at {}",
+        stops.0
+    );
+    assert!(rt;
+        err.contains(&run.err.bytes().len()),
+        "standard error at {}",
+        stops.1
+    );
+    Ok(())
+}
+
+// The output that stops holds just these bytes, the other one all of the lines that were handled and none of later
+// ones. Only of the line of `x`, which both outputs tell of, it may hold a part.
+#[test]
+fn each_byte_the_last(rt: HostRuntime) -> Result<(), Fail> {
+    for stop in 0..39 {
+        let err = if stop < 6 {
+            0..=0
+        } else if stop < 29 {
+            0..=37
+        } else {
+            37..=37
+        };
+        assert_stopped(&rt, (stop, 1024), Err(Stop::Write), (stop..=stop, err))?;
+    }
+    for stop in 0..185 {
+        let out = if stop < 37 { 6..=29 } else { 39..=39 };
+        assert_stopped(&rt, (1024, stop), Err(Stop::Write), (out, stop..=stop))?;
+    }
+    for stops in [(39, 1024), (1024, 185), (39, 185)] {
+        assert_stopped(&rt, stops, Ok(1), (39..=39, 185..=185))?;
+    }
+    Ok(())
+}
+
+// The reports of the lines that a newline ended, then the fault, and no summary.
+#[test]
+fn cut_manifest(rt: HostRuntime) -> Result<(), Fail> {
+    let manifest = spelled(rt.alloc(), VERDICTS)?;
+    let reports = [
+        "",
+        "a: OK\n",
+        "a: OK\n",
+        "a: OK\n",
+        "a: OK\nx: FAILED open or read\n",
+        REPORTS,
+    ];
+    for count in 0..=116 {
+        let prefix = manifest.as_bytes().get(..count).ok_or("count")?;
+        let lines = prefix.iter().filter(|byte| **byte == b'\n').count();
+        let err = if lines < 4 {
+            "md5sum: f: Input/output error\n"
+        } else {
+            "md5sum: x: No such file or directory\nmd5sum: f: Input/output error\n"
+        };
+        let out = *reports.get(lines).ok_or("lines")?;
+        assert_broken(&rt, prefix, Fault::Other, ("md5sum -c f", out, err, 1))?;
+    }
+    Ok(())
+}
+
+// A text of one character so many times.
+fn repeated(alloc: Global, character: char, count: usize) -> Result<String, Fail> {
+    let mut text = String::new(alloc);
+    for _ in 0..count {
+        text.push(character)?;
+    }
+    Ok(text)
+}
+
+#[test]
+fn nothing_readable(rt: HostRuntime) -> Result<(), Fail> {
+    let row = (
+        "md5sum -c h",
+        "",
+        "md5sum: h: no properly formatted checksum lines found\n",
+        1,
+    );
+    let mut nuls = repeated(rt.alloc(), '\0', 1000)?;
+    nuls.push('\n')?;
+    let letters = repeated(rt.alloc(), 'x', 1_000_000)?;
+    let newlines = repeated(rt.alloc(), '\n', 100_000)?;
+    for text in [
+        letters.as_str(),
+        nuls.as_str(),
+        "   \t\n",
+        newlines.as_str(),
+    ] {
+        assert_rows(&rt, "", &[("h", text)], &[row])?;
+    }
+    Ok(())
+}
+
+// The one line, which no newline ends, names a file of nearly 100,000 letters.
+#[test]
+fn long_name(rt: HostRuntime) -> Result<(), Fail> {
+    let name = repeated(rt.alloc(), 'y', 99_966)?;
+    let mut manifest = spelled(rt.alloc(), "$M  ")?;
+    manifest.push_str(name.as_str())?;
+    let mut report = name.clone()?;
+    report.push_str(": FAILED open or read\n")?;
+    let mut warning = String::from_str(rt.alloc(), "md5sum: ")?;
+    warning.push_str(name.as_str())?;
+    warning.push_str(
+        ": No such file or directory\nmd5sum: WARNING: 1 listed file could not be read\n",
+    )?;
+    let mut words = Words::new(rt.alloc());
+    words.add("-c")?;
+    words.add("h")?;
+    for piece in [1, 8192] {
+        let mut files = ToldSource::new(rt.alloc(), piece);
+        files.add(b"h", Answer::Content(manifest.as_bytes(), Ending::Whole))?;
+        let mut streams = Streams {
+            stdin: Stdin::new(Told::new(b"", Ending::Whole, piece)),
+            source: files,
+            out: ToldSink::<100_100>::new(100_100),
+            err: ToldSink::<100_100>::new(100_100),
+        };
+        let answer = run(rt.alloc(), Tool::Md5sum, &words, &mut streams);
+        assert_eq!(rt; answer, Ok(1));
+        assert!(rt; streams.out.bytes() == report.as_bytes());
+        assert!(rt; streams.err.bytes() == warning.as_bytes());
+    }
+    Ok(())
+}
+
+#[test]
+fn odd_manifests(rt: HostRuntime) -> Result<(), Fail> {
+    let mut comments = String::new(rt.alloc());
+    for count in [8191, 8192, 8193] {
+        comments.push_str(repeated(rt.alloc(), '#', count)?.as_str())?;
+        comments.push('\n')?;
+    }
+    comments.push_str("$M  a\n")?;
+    let manifests = [
+        ("backslashes", "\\\n\\\\$M  a\n\\$M  a\\\n$M a\n$M  a\n"),
+        ("mixed", "MD5 (a) = $M\n$M a\nMD5 (e) = $E\n$M  a\n"),
+        ("comments", comments.as_str()),
+    ];
+    let rows = [
+        (
+            "md5sum -c backslashes",
+            "a: OK\n",
+            "md5sum: WARNING: 4 lines are improperly formatted\n",
+            0,
+        ),
+        (
+            "md5sum -c mixed",
+            "a: OK\na: OK\ne: OK\n a: FAILED open or read\n",
+            "md5sum:  a: No such file or directory\n\
+             md5sum: WARNING: 1 listed file could not be read\n",
+            1,
+        ),
+        ("md5sum -c comments", "a: OK\n", "", 0),
+    ];
+    assert_rows(&rt, "", &manifests, &rows)
+}

@@ -1,8 +1,0 @@
--- What joins one function to the next. The headline reaches none of it; contracts of calls that a user of the crate
--- meets by themselves name some.
-pub mod Asking
-pub mod Telling
-pub mod Handling
-pub mod Judging
-pub mod Listings
-pub mod Positions

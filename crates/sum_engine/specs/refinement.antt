@@ -1,0 +1,8 @@
+-- How the code's values stand for those of the definitions. The headline reaches none of it; contracts of calls that a
+-- user of the crate meets by themselves name some.
+pub mod Asking
+pub mod Telling
+pub mod Handling
+pub mod Judging
+pub mod Listings
+pub mod Positions

@@ -1,0 +1,42 @@
+-- Joins asking one name to the world.
+use Rattle.std.specs.Prelude.{ℕ, ◌≡◌, List, [], ◌∷◌, length, Option, None, Some, Ok, Err, ⊤}
+use Rattle.digest_kinds.specs.Kinds.{KindValue}
+use Rattle.sum_sources.specs.Contents.{Content, WhereTold}
+use Rattle.sum_sources.specs.Sources.{Reply, Refused, Given}
+use Rattle.sum_engine.specs.declared.asking.Asked.{Asked}
+use Rattle.sum_engine.specs.declared.asking.Asked.TheVariants as asked
+use Rattle.sum_engine.specs.Worlds.{World, after, digest_or_fault, reply}
+use Rattle.sum_sources.specs.Sources.{Telling}
+use Rattle.sum_sources.specs.Standard.{left_in}
+use Rattle.sum_engine.specs.RunStates.{world_by}
+
+-- the world, where the source and standard input tell
+abbrev pub world : {I : Type 0} → (I → Option Content) → Option Telling → Option I → Option World
+world content told stdin = world_by told (left_in content stdin)
+
+-- what came of a reply
+abbrev pub IsAsked : KindValue → Reply → Asked → Type 0
+IsAsked kind r (asked.Read d) = (c : Content) × (r ≡ Given c) × (digest_or_fault kind (Given c) ≡ Ok d)
+IsAsked kind r (asked.Refused f) = r ≡ Refused f
+IsAsked kind r (asked.Broken f) = (c : Content) × (r ≡ Given c) × (digest_or_fault kind (Given c) ≡ Err f)
+
+-- what was read of a content
+abbrev pub IsRead : KindValue → Content → Asked → Type 0
+IsRead kind c (asked.Read d) = digest_or_fault kind (Given c) ≡ Ok d
+IsRead kind c (asked.Refused f) = ⊥
+IsRead kind c (asked.Broken f) = digest_or_fault kind (Given c) ≡ Err f
+
+-- the name was asked, and this came of it; without memory it wasn't asked
+abbrev pub AskOf : KindValue → World → World → List ℕ → Option Asked → Type 0
+AskOf kind w v name None = v ≡ w
+AskOf kind w v name (Some a) = (v ≡ after w (name ∷ [])) × IsAsked kind (reply w name) a
+
+abbrev pub AskGives : KindValue → Option World → Option World → List ℕ → Option Asked → Type 0
+AskGives kind w v name r = WhereTold w v (λ w v. AskOf kind w v name r)
+
+-- a digest has the kind's length
+abbrev pub Sized : KindValue → Option Asked → Type 0
+Sized kind None = ⊤
+Sized kind (Some (asked.Read d)) = length d ≡ kind.len
+Sized kind (Some (asked.Refused f)) = ⊤
+Sized kind (Some (asked.Broken f)) = ⊤

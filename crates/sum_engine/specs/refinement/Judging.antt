@@ -1,0 +1,51 @@
+-- Joins what the code finds of a line to what the line says, and to its verdict.
+use Rattle.std.specs.Prelude.{ℕ, ◌≡◌, ◌≤◌, Bool, List, length, slice_range, Option, None, Some, ⊤, if◌then◌else◌}
+use Rattle.std.specs.Str.{bytes_eq}
+use Rattle.sum_sources.specs.declared.fault.Fault.TheVariants.{NotFound, Denied, Other}
+use Rattle.sum_sources.specs.Contents.{WhereTold}
+use Rattle.sum_lines.specs.declared.line_reading.Reading.{Reading}
+use Rattle.sum_lines.specs.declared.line_reading.Reading.TheVariants as readings
+use Rattle.sum_engine.specs.declared.asking.Asked.{Asked}
+use Rattle.sum_engine.specs.declared.asking.Asked.TheVariants as asked
+use Rattle.sum_engine.specs.declared.verdict.Judgement.{Judgement}
+use Rattle.sum_engine.specs.declared.verdict.Verdict.{Verdict}
+use Rattle.sum_engine.specs.declared.verdict.Verdict.TheVariants.{Right, Wrong, Missing, Unread}
+use Rattle.sum_lines.specs.ParsedLines.{ParsedLine, Nothing, Improper, WithEntry}
+use Rattle.sum_engine.specs.Worlds.{World, after}
+use Rattle.sum_engine.specs.Verdicts.{Rules, judge, asks_by}
+
+-- what a reading says, whose name stands in the line's vector
+abbrev pub parsed_line_by : List ℕ → Reading → ParsedLine
+parsed_line_by line readings.Ignored = Nothing
+parsed_line_by line readings.Bad = Improper
+parsed_line_by line (readings.Entry kind digest start stop) =
+    WithEntry (record { algo = kind.algo; digest = digest; name = slice_range line start stop })
+
+-- the name stands in the line, and the digest is as long as the kind's
+abbrev pub Within : List ℕ → Reading → Type 0
+Within line readings.Ignored = ⊤
+Within line readings.Bad = ⊤
+Within line (readings.Entry kind digest start stop) = (start ≤ stop) × (stop ≤ length line) × (length digest ≡ kind.len)
+
+abbrev pub judgement_asks : Judgement → List (List ℕ)
+judgement_asks j = asks_by j.verdict j.name.now
+
+-- the verdict by what came of asking the name
+abbrev pub compared : Bool → List ℕ → Asked → Verdict
+compared ignore d (asked.Read found) = if bytes_eq found d then Right else Wrong
+compared ignore d (asked.Refused NotFound) = if ignore then Missing else Unread NotFound
+compared ignore d (asked.Refused Denied) = Unread Denied
+compared ignore d (asked.Refused Other) = Unread Other
+compared ignore d (asked.Broken f) = Unread f
+
+-- a line that says this has this verdict and name, whatever its number, and the name was asked where that asks it
+abbrev pub IsJudged : Rules → World → World → ParsedLine → Verdict → List ℕ → Type 0
+IsJudged r w v x verdict name = ((n : ℕ) → judge r w n x ≡ record { number = n; verdict = verdict; name = name })
+    × (v ≡ after w (asks_by verdict name))
+
+abbrev pub JudgeOf : Rules → World → World → ParsedLine → Option Judgement → Type 0
+JudgeOf r w v x None = v ≡ w
+JudgeOf r w v x (Some j) = IsJudged r w v x j.verdict j.name.now
+
+abbrev pub JudgeGives : Rules → Option World → Option World → ParsedLine → Option Judgement → Type 0
+JudgeGives r w v x j = WhereTold w v (λ w v. JudgeOf r w v x j)

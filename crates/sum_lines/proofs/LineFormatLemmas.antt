@@ -1,0 +1,118 @@
+-- A line that is written is read back.
+use Rattle.std.proofs.Common.{ℕ, ◌≡◌, true, List, [], ◌∷◌, ◌++◌, refl, ap, sym, ◌∙◌, ◌⊎◌, inl, inr, append_assoc}
+use Rattle.std.specs.List.{All}
+use Rattle.std.proofs.lemmas.List.{append-nil}
+use Rattle.hex.specs.Hex.{encode_lower}
+use Rattle.digest_kinds.specs.Kinds.{KindValue, tag}
+use Rattle.digest_kinds.specs.declared.algo.Algo.{Algo}
+use Rattle.digest_kinds.specs.declared.algo.Algos.{Algos}
+use Rattle.digest_kinds.specs.declared.algo.Algos.TheVariants.{One, Any}
+use Rattle.sum_lines.specs.declared.line_reading.Form.{Form}
+use Rattle.sum_lines.specs.declared.line_reading.Form.TheVariants.{Undecided, Standard}
+use Rattle.sum_lines.specs.declared.line_format.Mode.{Mode}
+use Rattle.sum_lines.specs.declared.line_format.Mode.TheVariants as modes
+use Rattle.sum_lines.specs.Escape.{escape, escape_differs}
+use Rattle.sum_lines.specs.Lines as lines
+use Rattle.sum_lines.specs.Shapes.{mark, Width, Allows}
+use Rattle.sum_lines.specs.Entries.{Spelled, ByTag, Entry, line_form, form}
+use Rattle.sum_lines.specs.Laws.{ReadBy, Writable, SpellsBack, ReadBack}
+use Rattle.sum_lines.proofs.PlainLemmas.{apart}
+use Rattle.sum_lines.proofs.EntryLemmas.{one_entry, decides-form, decides-or, form-alone, form-append}
+use Rattle.sum_lines.proofs.InlineLemmas.{Inline, inline}
+use Rattle.sum_lines.proofs.LineFormatShapes.{line-tag, plain_line, tagged_line, written_for, is_space_or_star, plain-decides, plain-entry, tagged-by, tagged-entry, Inline-plain, Inline-tagged}
+
+-- a line that ends with a newline, without it
+abbrev pub prefix_of : Mode → KindValue → List ℕ → List ℕ → List ℕ
+prefix_of mode kind name digest =
+    mark (escape_differs name) ++ lines.layout mode kind (escape name) (encode_lower digest)
+
+-- ---- the form behind a written line
+
+-- lines of either form may be followed by written ones
+abbrev Readable : Form → Type 0
+Readable f = (f ≡ Undecided) ⊎ (f ≡ Standard)
+
+-- a line that makes a list Standard does so behind any readable lines
+form-after : (algos : Algos) (before later : List (List ℕ)) (line : List ℕ) → line_form algos line ≡ Standard
+    → Readable (form algos before) → form algos (before ++ (line ∷ later)) ≡ Standard
+form-after algos before later line h (inl undecided) = rw (form-append algos before (line ∷ later), undecided, h) refl
+form-after algos before later line h (inr standard) = rw (form-append algos before (line ∷ later), standard) refl
+
+-- a line that decides nothing leaves the form as it is
+form-kept : (algos : Algos) (before : List (List ℕ)) (line : List ℕ) → line_form algos line ≡ Undecided
+    → Readable (form algos before) → Readable (form algos (before ++ (line ∷ [])))
+form-kept algos before line h (inl undecided) =
+    inl (rw (form-append algos before (line ∷ []), undecided) (form-alone algos line ∙ h))
+form-kept algos before line h (inr standard) = inr (rw (form-append algos before (line ∷ []), standard) refl)
+
+-- a tagged line is no plain one, and decides nothing
+tagged-mute : (algos : Algos) (line : List ℕ) (s : Spelled) → ByTag escape algos line s
+    → line_form algos line ≡ Undecided
+tagged-mute algos line s by = elim (decides-or algos line) [
+  | inl d ↦ absurd (apart d.plain by.tagged)
+  | inr mute ↦ mute.0
+]
+
+-- ---- the law
+
+-- a line with an entry is read back, since a line spells at most one
+back : {algos : Algos} {before later : List (List ℕ)} {kind : KindValue} {name digest prefix : List ℕ}
+    → All Inline prefix
+    → Entry escape algos (form algos (before ++ (prefix ∷ later))) prefix (written_for kind name digest)
+    → Readable (form algos (before ++ (prefix ∷ [])))
+    → SpellsBack algos before later (prefix ++ (10 ∷ [])) kind name digest
+back {algos} {before} {later} {kind} {name} {digest} {prefix} one entry keeps =
+    let f : Form = form algos (before ++ (prefix ∷ later)) in
+    let s : Spelled = written_for kind name digest in
+    record {
+      prefix = prefix;
+      whole = refl;
+      one_line = one;
+      spells = λ t. (λ e. one_entry algos f prefix t s e entry, λ same. rw same entry);
+      keeps = keeps;
+    }
+
+module _ {kind : KindValue} {name digest : List ℕ} (before later : List (List ℕ)) (w : Writable kind name digest) where
+  -- a plain line
+  plain-back : (x : ℕ) → is_space_or_star x ≡ true → inline x ≡ true → Readable (form (One kind.algo) before)
+      → SpellsBack (One kind.algo) before later (plain_line x name digest ++ (10 ∷ [])) kind name digest
+  plain-back x star one_line readable =
+      let line : List ℕ = plain_line x name digest in
+      let decides = decides-form (plain-decides w x star) in
+      let now : (others : List (List ℕ)) → form (One kind.algo) (before ++ (line ∷ others)) ≡ Standard =
+      λ others. form-after (One kind.algo) before others line decides.0 readable in
+      back (Inline-plain w x one_line) (plain-entry w x _ star (now later)) (inr (now []))
+
+  -- and a tagged one
+  tagged-back : (algos : Algos) (width : List ℕ) → Allows algos kind.algo → Width kind width
+      → Readable (form algos before)
+      → SpellsBack algos before later (tagged_line kind width name digest ++ (10 ∷ [])) kind name digest
+  tagged-back algos width allowed is_width readable =
+      let line : List ℕ = tagged_line kind width name digest in
+      let mute = tagged-mute algos line (written_for kind name digest) (tagged-by w algos width allowed is_width) in
+      back (Inline-tagged w width is_width) (tagged-entry w algos width _ allowed is_width)
+      (form-kept algos before line mute readable)
+
+-- a line without a tag is read by the tool of its algorithm
+plain-reads : (algos : Algos) (mode : Mode) (algo : Algo) → (mode ≡ modes.Tag → ⊥) → ReadBy algos mode algo
+    → algos ≡ One algo
+plain-reads (One a) mode algo other by = ap One by
+plain-reads Any mode algo other by = absurd (other by)
+
+-- a line with a tag also by the one that takes any algorithm
+tag-reads : (algos : Algos) (algo : Algo) → ReadBy algos modes.Tag algo → Allows algos algo
+tag-reads (One a) algo by = sym by
+tag-reads Any algo by = tt
+
+-- each of the three layouts is read back
+pub read_back : ReadBack
+read_back algos modes.Text kind name digest before later by w readable =
+    let one = plain-reads algos modes.Text kind.algo (λ e. cc) by in
+    rw (one, append-nil (escape name)) (plain-back before later w 32 refl refl (rw one at readable))
+read_back algos modes.Binary kind name digest before later by w readable =
+    let one = plain-reads algos modes.Binary kind.algo (λ e. cc) by in
+    rw (one, append-nil (escape name)) (plain-back before later w 42 refl refl (rw one at readable))
+read_back algos modes.Tag kind name digest before later by w readable =
+    let t = line-tag kind.algo kind.len w.has in
+    rw (t.is, append-nil (encode_lower digest), append_assoc (tag kind.algo) t.width)
+    (tagged-back before later w algos t.width (tag-reads algos kind.algo by) t.is_width readable)

@@ -1,0 +1,193 @@
+-- What is computed of a line's entry is what the relation Entry allows.
+use Rattle.std.proofs.Common.{◌≡◌, ℕ, Bool, true, false, cond, List, [], ◌∷◌, drop, Option, None, Some, refl, ap, sym, ◌∙◌, inl, inr, ◌⊎◌}
+use Rattle.std.specs.Prelude.{option_map, unwrap_or}
+use Rattle.std.specs.Option.{option_or}
+use Rattle.std.proofs.lemmas.Option.{cond_some}
+use Rattle.digest_kinds.specs.Kinds.{KindValue}
+use Rattle.digest_kinds.specs.declared.algo.Algos.{Algos}
+use Rattle.sum_lines.specs.declared.line_reading.Form.{Form}
+use Rattle.sum_lines.specs.declared.line_reading.Form.TheVariants.{Undecided, Standard, Reversed}
+use Rattle.sum_lines.specs.Profiles.{Profile}
+use Rattle.sum_lines.specs.Escape.{escape_by}
+use Rattle.sum_lines.specs.Shapes.{Plain}
+use Rattle.sum_lines.specs.Entries.{Spelled, Entry, ByTag, ByTail, RawOf, begins_standard, is_ignored_by}
+use Rattle.sum_lines.specs.PartsOfLines.{◌>>=◌, Parts, tagged_parts, plain_parts}
+use Rattle.sum_lines.specs.ParsedLines.{with_raw, entry_of_parts, entry_of, ParsedLine, Nothing, Improper, WithEntry}
+use Rattle.sum_lines.specs.Laws.{SaysIs}
+use Rattle.sum_lines.proofs.PrefixLemmas.{bind_some}
+use Rattle.sum_lines.proofs.PlainLemmas.{apart, plain_is_read, read_is_plain}
+use Rattle.sum_lines.proofs.TaggedLemmas.{tagged_is_read}
+use Rattle.sum_lines.proofs.TaggedParts.{read_is_tagged}
+use Rattle.sum_lines.proofs.EntryLemmas.{tag_parts, tail_parts, plain-speaks, tagged-speaks}
+use Rattle.sum_lines.proofs.UnescapeOf.{spelled-is, is-spelled}
+
+-- ---- the raw name
+
+-- the entry by what was found of a line
+abbrev pub entry_by : Profile → Form → Option Parts → Option Parts → Option Spelled
+entry_by p f t q = option_or t (q >>= with_raw f) >>= entry_of_parts p
+
+-- the parts with another text
+abbrev with_text : Parts → List ℕ → Parts
+with_text t raw = record { escaped = t.escaped; kind = t.kind; digest = t.digest; text = raw }
+
+-- the raw name of a tail is found
+raw-is : (f : Form) (t : Parts) (raw : List ℕ) → RawOf f t.text raw → with_raw f t ≡ Some (with_text t raw)
+raw-is Undecided t raw h = absurd h
+raw-is Reversed t raw h = ap (λ l. Some (with_text t l)) (sym h)
+raw-is Standard t raw h = rw h.0 (ap (λ l. Some (with_text t (drop 1 l))) h.2)
+
+-- in a Standard list it is all but the tail's first byte
+standard-raw : (tail : List ℕ) → begins_standard tail ≡ true → RawOf Standard tail (drop 1 tail)
+standard-raw [] h = cc
+standard-raw (x ∷ xs) h = (h, x, refl)
+
+-- the parts with the raw name of a tail
+record RawParts (f : Form) (t q : Parts) : Type 0 where
+  raw : List ℕ
+  is_raw : RawOf f t.text raw
+  are : with_text t raw ≡ q
+
+-- what is found in place of a tail is its raw name
+is-raw : (f : Form) (t q : Parts) → with_raw f t ≡ Some q → RawParts f t q
+is-raw Undecided t q h = cc
+is-raw Reversed t q h = record { raw = t.text; is_raw = refl; are = cc }
+is-raw Standard t q h =
+    let e = cond_some (begins_standard t.text) (with_text t (drop 1 t.text)) q h in
+    record { raw = drop 1 t.text; is_raw = standard-raw t.text e.0; are = e.1 }
+
+-- ---- the entry that a line has is computed
+
+-- a plain line isn't found to be tagged
+not-tagged : {algos : Algos} {line : List ℕ} {e : Bool} {kind : KindValue} {d tail : List ℕ} (o : Option Parts)
+    → Plain algos line e kind d tail → tagged_parts algos line ≡ o → o ≡ None
+not-tagged None plain h = refl
+not-tagged (Some q) plain h = absurd (apart plain (read_is_tagged h))
+
+-- an entry by its tag or by its tail
+pub entry_value : (p : Profile) (algos : Algos) (f : Form) (line : List ℕ) (s : Spelled)
+    → Entry (escape_by p) algos f line s → entry_of p algos f line ≡ Some s
+unfolding entry_of
+entry_value p algos f line s (_, inl t) =
+    rw (tagged_is_read (tag_parts t) t.tagged) (spelled-is p (tag_parts t) s.name t.spells)
+entry_value p algos f line s (_, inr t) =
+    let q = tail_parts t in
+    rw (not-tagged (tagged_parts algos line) t.plain refl, plain_is_read q t.plain, raw-is f q t.raw t.is_raw)
+    (spelled-is p (with_text q t.raw) s.name t.spells)
+
+-- ---- the entry that is computed is the line's
+
+-- what a tagged line's parts spell
+by-tag : (p : Profile) (algos : Algos) (line : List ℕ) (s : Spelled) (t : Parts) → tagged_parts algos line ≡ Some t
+    → entry_of_parts p t ≡ Some s → ByTag (escape_by p) algos line s
+by-tag p algos line s t found h =
+    let name = is-spelled p t s h in
+    let tagged = read_is_tagged found in
+    rw (← name.2) (record {
+      escaped = t.escaped;
+      raw = t.text;
+      tagged = rw tagged.size tagged;
+      spells = name.1;
+    })
+
+-- what a plain line's spell, with the raw name of its tail
+by-tail : (p : Profile) (algos : Algos) (f : Form) (line : List ℕ) (s : Spelled) (t : Parts) (raw : List ℕ)
+    → plain_parts algos line ≡ Some t → RawOf f t.text raw → entry_of_parts p (with_text t raw) ≡ Some s
+    → ByTail (escape_by p) algos f line s
+by-tail p algos f line s t raw found is h =
+    let name = is-spelled p (with_text t raw) s h in
+    let plain = read_is_plain found in
+    rw (← name.2) (record {
+      escaped = t.escaped;
+      tail = t.text;
+      raw = raw;
+      plain = rw plain.size plain;
+      is_raw = is;
+      spells = name.1;
+    })
+
+-- either of them, as a line is found to be tagged or only plain
+by-parts : (p : Profile) (algos : Algos) (f : Form) (line : List ℕ) (s : Spelled) (t q : Option Parts)
+    → tagged_parts algos line ≡ t → plain_parts algos line ≡ q → entry_by p f t q ≡ Some s
+    → ByTag (escape_by p) algos line s ⊎ ByTail (escape_by p) algos f line s
+by-parts p algos f line s (Some t) q tagged plain h = inl (by-tag p algos line s t tagged h)
+by-parts p algos f line s None None tagged plain h = cc
+by-parts p algos f line s None (Some q) tagged plain h =
+    let named = bind_some (with_raw f q) (entry_of_parts p) h in
+    let raw = is-raw f q named.0 named.1 in
+    inr (by-tail p algos f line s q raw.raw plain raw.is_raw (ap (entry_of_parts p) raw.are ∙ named.2))
+
+-- such a line isn't ignored
+spoken : (p : Profile) (algos : Algos) (f : Form) (line : List ℕ) (s : Spelled)
+    → ByTag (escape_by p) algos line s ⊎ ByTail (escape_by p) algos f line s → Entry (escape_by p) algos f line s
+spoken p algos f line s (inl t) = (tagged-speaks t.tagged, inl t)
+spoken p algos f line s (inr t) = (plain-speaks t.plain, inr t)
+
+-- so what is computed is an entry of the line
+pub value_entry : (p : Profile) (algos : Algos) (f : Form) (line : List ℕ) (s : Spelled)
+    → entry_of p algos f line ≡ Some s → Entry (escape_by p) algos f line s
+unfolding entry_of
+value_entry p algos f line s h =
+    spoken p algos f line s (by-parts p algos f line s (tagged_parts algos line) (plain_parts algos line) refl refl h)
+
+-- ---- what a line says
+
+-- what an entry says, where there is one
+abbrev pub parsed_line_of : Option Spelled → ParsedLine
+parsed_line_of o = unwrap_or (option_map WithEntry o) Improper
+
+-- it isn't nothing, it spells that entry, and without one it is improper
+nothing-not : (o : Option Spelled) → parsed_line_of o ≡ Nothing → ⊥
+nothing-not None h = cc
+nothing-not (Some s) h = cc
+
+-- it has the entry that it spells
+parsed_line-entry : (o : Option Spelled) (s : Spelled) → parsed_line_of o ≡ WithEntry s → o ≡ Some s
+parsed_line-entry None s h = cc
+parsed_line-entry (Some t) s h = cc
+
+-- and none where it is improper
+parsed_line-improper : (o : Option Spelled) → parsed_line_of o ≡ Improper → o ≡ None
+parsed_line-improper None h = refl
+parsed_line-improper (Some t) h = cc
+
+-- a line without an entry is improper
+no-entry : (p : Profile) (algos : Algos) (f : Form) (line : List ℕ) (o : Option Spelled)
+    → ((s : Spelled) → Entry (escape_by p) algos f line s → ⊥) → entry_of p algos f line ≡ o → parsed_line_of o
+    ≡ Improper
+no-entry p algos f line None none is = refl
+no-entry p algos f line (Some s) none is = absurd (none s (value_entry p algos f line s is))
+
+-- a line that says something isn't ignored, and one that says nothing is
+record Heard (i : Bool) (x y : ParsedLine) : Type 0 where
+  heard : i ≡ false
+  says : x ≡ y
+
+-- a line that says something says what its entry does
+heard-by : (i : Bool) (x y : ParsedLine) → (Nothing ≡ y → ⊥) → cond i Nothing x ≡ y → Heard i x y
+heard-by true x y other h = absurd (other h)
+heard-by false x y other h = record { heard = refl; says = h }
+
+-- a line that says nothing is ignored
+ignored-by : (i : Bool) (x : ParsedLine) → (x ≡ Nothing → ⊥) → cond i Nothing x ≡ Nothing → i ≡ true
+ignored-by true x other h = refl
+ignored-by false x other h = absurd (other h)
+
+-- what a line says is computed, whichever the profile
+pub says_is : SaysIs
+says_is p algos f line =
+    let i = is_ignored_by p line in
+    let o = entry_of p algos f line in
+    record {
+      nothing = (ignored-by i (parsed_line_of o) (nothing-not o), λ h. rw h refl);
+      spells = λ s. (
+        λ h. let k = heard-by i (parsed_line_of o) (WithEntry s) (λ e. cc) h in
+            (k.heard, value_entry p algos f line s (parsed_line-entry o s k.says)),
+        λ h. rw (h.0, entry_value p algos f line s h.1) refl,
+      );
+      improper = (
+        λ h. let k = heard-by i (parsed_line_of o) Improper (λ e. cc) h in
+            (k.heard, λ s e. let bad = sym (entry_value p algos f line s e) ∙ parsed_line-improper o k.says in cc),
+        λ h. rw h.0 (no-entry p algos f line o h.1 refl),
+      );
+    }

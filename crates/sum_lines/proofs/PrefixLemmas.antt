@@ -1,0 +1,188 @@
+-- The longest prefix that passes, and what stands behind a text or a byte.
+use Rattle.std.proofs.Common.{ℕ, zero, suc, ◌≡◌, ◌+◌, ◌-◌, ◌<◌, ◌≤◌, not, Bool, true, false, eq-eqb, ◌==◌, List, [], ◌∷◌, ◌++◌, length, take, drop, get_or, Option, None, Some, Result, Ok, Err, refl, ap, sym, ◌∙◌, arith, inl, inr, append_assoc, length-append}
+use Rattle.std.specs.List.{AllPass, prefix_len, starts_with, take_while}
+use Rattle.std.specs.Option.{option_map, option_or}
+use Rattle.std.specs.Result.{result_ok}
+use Rattle.std.specs.Path.{rsplit_once, rfind_below}
+use Rattle.std.proofs.Math.Seq.{get_or-append_seam}
+use Rattle.std.proofs.lemmas.Bool.{cases_Bool, not-true}
+use Rattle.std.proofs.lemmas.Bool.Decides.{Decides-eqb, eqb_tells}
+use Rattle.std.proofs.lemmas.List.{take-append-drop, take_at, drop_at, drop_more, get_or-append-add}
+use Rattle.std.proofs.lemmas.List.Sums.{take_while-cons}
+use Rattle.std.proofs.lemmas.List.Elements.{All-cons, All-get_or, All-head, All-tail, All-nil}
+use Rattle.std.proofs.lemmas.Option.{cond_some, same_Some}
+use Rattle.std.proofs.lemmas.Slice.Eq.{starts_is}
+use Rattle.sum_lines.specs.PartsOfLines.{◌>>=◌, after_while, strip_prefix, mark_and_rest}
+use Rattle.sum_lines.specs.Shapes.{mark, optional}
+
+-- a step that gives something had something to go on with
+pub bind_some : {A B : Type 0} {y : B} (o : Option A) (f : A → Option B) → (o >>= f) ≡ Some y
+    → (x : A) × (o ≡ Some x) × (f x ≡ Some y)
+bind_some None f h = cc
+bind_some (Some x) f h = (x, refl, h)
+
+-- a mapped option holds what its own element gives
+pub map_some : {A B : Type 0} {y : B} (f : A → B) (o : Option A) → option_map f o ≡ Some y
+    → (x : A) × (o ≡ Some x) × (f x ≡ y)
+map_some f None h = cc
+map_some f (Some x) h = (x, refl, same_Some _ _ h)
+
+-- a result that gives something is good
+pub ok_some : {X E : Type 0} (r : Result X E) (x : X) → result_ok r ≡ Some x → r ≡ Ok x
+ok_some (Ok y) x h = cc
+ok_some (Err e) x h = cc
+
+-- what cannot give anything gives nothing
+pub none_of : {A : Type 0} (o : Option A) → ((x : A) → o ≡ Some x → ⊥) → None ≡ o
+none_of None h = refl
+none_of (Some x) h = absurd (h x refl)
+
+-- ---- the longest prefix that passes
+
+-- its bytes pass
+pub prefix-passes : (p : ℕ → Bool) (xs : List ℕ) → AllPass p (take_while p xs)
+prefix-passes p [] = All-nil (λ x. p x ≡ true)
+prefix-passes p (x ∷ xs) = elim (cases_Bool (p x)) [
+  | inl pass ↦ rw (take_while-cons p x xs, pass)
+      (All-cons (λ x. p x ≡ true) x (take_while p xs) pass (prefix-passes p xs))
+  | inr stop ↦ rw (take_while-cons p x xs, stop) (All-nil (λ x. p x ≡ true))
+]
+
+-- it joins with what stands behind it
+pub prefix-and-rest : (p : ℕ → Bool) (xs : List ℕ) → xs ≡ take_while p xs ++ after_while p xs
+prefix-and-rest p xs = sym (take-append-drop (prefix_len p xs) xs)
+
+-- it ends at the first byte that doesn't pass
+pub prefix_len-stop : (p : ℕ → Bool) (xs : List ℕ) (y : ℕ) (ys : List ℕ) → AllPass p xs → p y ≡ false
+    → prefix_len p (xs ++ (y ∷ ys)) ≡ length xs
+prefix_len-stop p [] y ys all stop = rw stop refl
+prefix_len-stop p (x ∷ xs) y ys all stop =
+    let head : p x ≡ true = All-head (λ x. p x ≡ true) x xs all in
+    let more = prefix_len-stop p xs y ys (All-tail (λ x. p x ≡ true) x xs all) stop in
+    rw head (omega arith)
+
+-- or else at the end
+pub prefix_len-all : (p : ℕ → Bool) (xs : List ℕ) → AllPass p xs → prefix_len p xs ≡ length xs
+prefix_len-all p [] all = refl
+prefix_len-all p (x ∷ xs) all =
+    let head : p x ≡ true = All-head (λ x. p x ≡ true) x xs all in
+    let more = prefix_len-all p xs (All-tail (λ x. p x ≡ true) x xs all) in
+    rw head (omega arith)
+
+-- so that byte parts the prefix from the rest
+pub prefix-at : (p : ℕ → Bool) (xs : List ℕ) (y : ℕ) (ys : List ℕ) → AllPass p xs → p y ≡ false
+    → take_while p (xs ++ (y ∷ ys)) ≡ xs
+prefix-at p xs y ys all stop =
+    take_at xs (y ∷ ys) (prefix_len p (xs ++ (y ∷ ys))) (sym (prefix_len-stop p xs y ys all stop))
+
+-- and begins the rest
+pub rest-at : (p : ℕ → Bool) (xs : List ℕ) (y : ℕ) (ys : List ℕ) → AllPass p xs → p y ≡ false
+    → after_while p (xs ++ (y ∷ ys)) ≡ y ∷ ys
+rest-at p xs y ys all stop =
+    drop_at xs (y ∷ ys) (prefix_len p (xs ++ (y ∷ ys))) (sym (prefix_len-stop p xs y ys all stop))
+
+-- ---- a byte or a text in front
+
+-- a line's text is its backslash, where it has one, and what stands behind that
+pub mark_and_rest-is : (xs : List ℕ) → xs ≡ mark (mark_and_rest xs).0 ++ (mark_and_rest xs).1
+mark_and_rest-is [] = refl
+mark_and_rest-is (x ∷ xs) = elim (eqb_tells x 92) [
+  | inl same ↦ rw same.1 refl
+  | inr other ↦ rw other.0 refl
+]
+
+-- what was passed over stood in front
+pub strip_prefix-some : (xs ys zs : List ℕ) → strip_prefix xs ys ≡ Some zs → ys ≡ xs ++ zs
+strip_prefix-some xs ys zs h =
+    let e = cond_some (starts_with ◌==◌ ys xs) (drop (length xs) ys) zs h in
+    (starts_is Decides-eqb ys xs (starts_with ◌==◌ ys xs) refl).0 e.0 ∙ ap (λ l. xs ++ l) e.1
+
+-- and what stands in front is passed over
+pub strip_prefix-append : (xs ys : List ℕ) → strip_prefix xs (xs ++ ys) ≡ Some ys
+strip_prefix-append xs ys =
+    let here = (starts_is Decides-eqb (xs ++ ys) xs (starts_with ◌==◌ (xs ++ ys) xs) refl).1 ys refl in
+    rw (here, drop_at xs ys (length xs) refl) refl
+
+-- the parenthesis is found, with a space before it or without
+pub opened-some : (s inner : List ℕ) → option_or (strip_prefix (32 ∷ 40 ∷ []) s) (strip_prefix (40 ∷ []) s) ≡ Some inner
+    → (gap : Bool) × (s ≡ optional gap (32 ∷ []) ++ (40 ∷ inner))
+opened-some s inner h = go (strip_prefix (32 ∷ 40 ∷ []) s) refl h
+  where
+    go : (o : Option (List ℕ)) → strip_prefix (32 ∷ 40 ∷ []) s ≡ o → option_or o (strip_prefix (40 ∷ []) s) ≡ Some inner
+        → (gap : Bool) × (s ≡ optional gap (32 ∷ []) ++ (40 ∷ inner))
+    go (Some t) e k = (true, strip_prefix-some (32 ∷ 40 ∷ []) s inner (e ∙ k))
+    go None e k = (false, strip_prefix-some (40 ∷ []) s inner k)
+
+-- and what stands there so is found
+pub opened-at : (gap : Bool) (inner : List ℕ) → let s = optional gap (32 ∷ []) ++ (40 ∷ inner) in
+    option_or (strip_prefix (32 ∷ 40 ∷ []) s) (strip_prefix (40 ∷ []) s) ≡ Some inner
+opened-at true inner = refl
+opened-at false inner = refl
+
+-- ---- the last such byte
+
+-- whether a byte is another
+abbrev pub isn't : ℕ → ℕ → Bool
+isn't c x = not (x == c)
+
+-- a search from the end passes over other bytes
+pub rfind-none : (c : ℕ) (s : List ℕ) (n : ℕ) → ((i : ℕ) → i < n → (get_or s i 0 == c) ≡ false)
+    → rfind_below c s n ≡ None
+rfind-none c s zero other = refl
+rfind-none c s (suc n) other =
+    rw (other n (omega arith)) (rfind-none c s n (λ i less. other i (omega (arith, less))))
+
+-- it stops at the first such byte that it meets
+pub rfind-at : (c : ℕ) (s : List ℕ) (k j : ℕ) → get_or s k 0 ≡ c
+    → ((i : ℕ) → k < i → i < k + 1 + j → (get_or s i 0 == c) ≡ false) → rfind_below c s (k + 1 + j) ≡ Some k
+rfind-at c s k zero here other =
+    let n : k + 1 + 0 ≡ suc k = omega arith in
+    ap (rfind_below c s) n ∙ rw (eq-eqb (get_or s k 0) c here) refl
+rfind-at c s k (suc j) here other =
+    let n : k + 1 + suc j ≡ suc (k + 1 + j) = omega arith in
+    ap (rfind_below c s) n ∙ rw (other (k + 1 + j) (omega arith) (omega arith))
+    (rfind-at c s k j here (λ i more less. other i more (omega (arith, less))))
+
+-- and nowhere else
+rfind-some : (c : ℕ) (s : List ℕ) (n k : ℕ) → n ≤ length s → rfind_below c s n ≡ Some k
+    → (k < length s) × (get_or s k 0 ≡ c)
+rfind-some c s zero k le h = cc
+rfind-some c s (suc n) k le h = elim (eqb_tells (get_or s n 0) c) [
+  | inl here ↦
+      let same : n ≡ k = same_Some n k (rw here.0 at h) in
+      (omega (arith, le, same), rw (← same) here.1)
+  | inr other ↦ rfind-some c s n k (omega (arith, le)) (rw other.0 at h)
+]
+
+-- what is split joins again, with that byte between
+pub rsplit-some : (c : ℕ) (s : List ℕ) (p : List ℕ × List ℕ) → rsplit_once c s ≡ Some p → s ≡ p.0 ++ (c ∷ p.1)
+unfolding rsplit_once
+rsplit-some c s p h = go (rfind_below c s (length s)) refl h
+  where
+    go : (o : Option ℕ) → rfind_below c s (length s) ≡ o
+        → option_map (λ i. (take i s, drop (i + 1) s)) o ≡ Some p → s ≡ p.0 ++ (c ∷ p.1)
+    go None e k = cc
+    go (Some i) e k =
+        let at = rfind-some c s (length s) i (omega arith) e in
+        rw (← same_Some (take i s, drop (i + 1) s) p k) (sym (take-append-drop i s)
+        ∙ ap (λ l. take i s ++ l) (drop_more s i 0 at.0 ∙ ap (λ x. x ∷ drop (i + 1) s) at.1))
+
+-- what stands behind a byte
+pub rest-seam : (xs : List ℕ) (b : ℕ) (ys : List ℕ) → drop (length xs + 1) (xs ++ (b ∷ ys)) ≡ ys
+rest-seam xs b ys =
+    ap (drop (length xs + 1)) (sym (append_assoc xs (b ∷ []) ys))
+    ∙ drop_at (xs ++ (b ∷ [])) ys (length xs + 1) (length-append xs (b ∷ []))
+
+-- where what follows a byte has none of it, the split is there
+pub rsplit-at : (c : ℕ) (xs ys : List ℕ) → AllPass (isn't c) ys → rsplit_once c (xs ++ (c ∷ ys)) ≡ Some (xs, ys)
+unfolding rsplit_once
+rsplit-at c xs ys all =
+    let s : List ℕ = xs ++ (c ∷ ys) in
+    let n : length s ≡ length xs + 1 + length ys = length-append xs (c ∷ ys) ∙ omega arith in
+    let other : (i : ℕ) → length xs < i → i < length xs + 1 + length ys → (get_or s i 0 == c) ≡ false =
+    λ i more less. let at : get_or s i 0 ≡ get_or ys (i - (length xs + 1)) 0 =
+    ap (λ k. get_or s k 0) (omega (arith, more)) ∙ get_or-append-add xs (c ∷ ys) (suc (i - (length xs + 1))) 0 in
+    rw at (not-true (get_or ys (i - (length xs + 1)) 0 == c)
+    (All-get_or (λ x. isn't c x ≡ true) ys (i - (length xs + 1)) 0 (omega (arith, more, less)) all)) in
+    let found = ap (rfind_below c s) n ∙ rfind-at c s (length xs) (length ys) (get_or-append_seam xs c ys 0) other in
+    rw (found, take_at xs (c ∷ ys) (length xs) refl, rest-seam xs c ys) refl

@@ -1,0 +1,48 @@
+-- What a line says, computed; it need not be believed: the law `says_is` ties it to the relation `Entry`.
+use Rattle.std.specs.Prelude.{ℕ, ◌==◌, List, ◌∷◌, drop, nat_lt, bytes_eq, Option, None, Some, option_map, unwrap_or, if◌then◌else◌}
+use Rattle.std.specs.Option.{option_or}
+use Rattle.std.specs.List.{list_all}
+use Rattle.digest_kinds.specs.declared.algo.Algos.{Algos}
+use Rattle.sum_lines.specs.declared.line_reading.Form.{Form}
+use Rattle.sum_lines.specs.declared.line_reading.Form.TheVariants.{Undecided, Standard, Reversed}
+use Rattle.sum_lines.specs.Profiles.{Profile}
+use Rattle.sum_lines.specs.Escape.{escape_by}
+use Rattle.sum_lines.specs.Entries.{Spelled, begins_standard, is_ignored_by}
+use Rattle.sum_lines.specs.PartsOfLines.{◌>>=◌, Parts, tagged_parts, plain_parts}
+
+-- the bytes, where a backslash (92) and the byte behind it stand for one
+abbrev pub unescaped_bytes : List ℕ → List ℕ
+unescaped_bytes (b ∷ c ∷ cs) =
+    if b == 92 then (if c == 110 then 10 else if c == 114 then 13 else c) ∷ unescaped_bytes cs
+    else b ∷ unescaped_bytes (c ∷ cs)
+unescaped_bytes bytes = bytes
+
+-- the name whose escape the bytes are
+abbrev pub unescape : Profile → List ℕ → Option (List ℕ)
+unescape p bytes = if bytes_eq (escape_by p (unescaped_bytes bytes)) bytes then Some (unescaped_bytes bytes) else None
+
+-- a plain line's parts, with the raw name in place of its tail
+abbrev pub with_raw : Form → Parts → Option Parts
+with_raw Reversed q = Some q
+with_raw Standard q = if begins_standard q.text then Some (record q { text = drop 1 q.text }) else None
+with_raw Undecided q = None
+
+-- the entry that a line's parts spell: its name holds no NUL
+abbrev pub entry_of_parts : Profile → Parts → Option Spelled
+entry_of_parts p t = do
+  name ← if t.escaped then unescape p t.text else Some t.text
+  if list_all (nat_lt 0) name then Some (record { algo = t.kind.algo; digest = t.digest; name = name }) else None
+
+unfoldable pub entry_of : Profile → Algos → Form → List ℕ → Option Spelled
+entry_of p algos f line =
+    option_or (tagged_parts algos line) (plain_parts algos line >>= with_raw f) >>= entry_of_parts p
+
+-- what a line says: nothing, an entry, or something improper
+pub data ParsedLine : Type 0 where
+  Nothing : ParsedLine
+  Improper : ParsedLine
+  WithEntry : Spelled → ParsedLine
+
+abbrev pub parse_line : Profile → Algos → Form → List ℕ → ParsedLine
+parse_line p algos f line =
+    if is_ignored_by p line then Nothing else unwrap_or (option_map WithEntry (entry_of p algos f line)) Improper

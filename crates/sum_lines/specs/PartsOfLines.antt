@@ -1,0 +1,87 @@
+-- What a line of either shape holds, computed; it need not be believed: the law `says_is` ties it to the relations.
+use Rattle.std.specs.Prelude.{ℕ, ◌*◌, ◌==◌, ◌&&◌, nat_lt, Bool, true, false, List, [], ◌∷◌, length, drop, bytes_eq, codes, decimal, Option, None, Some, option_map, if◌then◌else◌}
+use Rattle.std.specs.Char.{is_ascii_digit}
+use Rattle.std.specs.Option.{option_or, option_and_then}
+use Rattle.std.specs.Result.{result_ok}
+use Rattle.std.specs.List.{prefix_len, take_while, range_with_len, starts_with, before_first, after_first, find}
+use Rattle.std.specs.Path.{rsplit_once}
+use Rattle.hex.specs.Hex.{decode_of}
+use Rattle.digest_kinds.specs.Kinds.{KindValue, all_algos, full_kind, blake2b_kind, has_len, tag}
+use Rattle.digest_kinds.specs.declared.algo.Algo.{Algo}
+use Rattle.digest_kinds.specs.declared.algo.Algo.TheVariants.{Blake2b}
+use Rattle.digest_kinds.specs.declared.algo.Algos.{Algos}
+use Rattle.digest_kinds.specs.declared.algo.Algos.TheVariants.{One, Any}
+use Rattle.sum_lines.specs.Shapes.{is_blank}
+
+infixl 10 ◌>>=◌
+abbrev pub ◌>>=◌ : {A B : Type 0} → Option A → (A → Option B) → Option B
+o >>= f = option_and_then f o
+
+-- what a line was found to hold; the text is the raw name of a tagged line, the tail of a plain one
+pub record Parts : Type 0 where
+  pub escaped : Bool
+  pub kind : KindValue
+  pub digest : List ℕ
+  pub text : List ℕ
+
+-- what stands behind the longest prefix that passes
+abbrev pub after_while : (ℕ → Bool) → List ℕ → List ℕ
+after_while p xs = drop (prefix_len p xs) xs
+
+-- whether a backslash stands in front, and what stands behind it
+abbrev pub mark_and_rest : List ℕ → Bool × List ℕ
+mark_and_rest [] = (false, [])
+mark_and_rest (b ∷ bs) = if b == 92 then (true, bs) else (false, b ∷ bs)
+
+-- a plain line, without its blanks and its backslash: the digits up to its first blank, and its tail behind that
+unfoldable pub plain_as : Algo → Bool → List ℕ → Option Parts
+plain_as a e s = do
+  d ← result_ok (decode_of (before_first is_blank s))
+  let tail = after_first is_blank s
+  if has_len a (length d) && nat_lt 0 (length tail)
+      then Some (record { escaped = e; kind = record { algo = a; len = length d }; digest = d; text = tail }) else None
+
+abbrev pub plain_parts : Algos → List ℕ → Option Parts
+plain_parts (One a) line = let text = mark_and_rest (after_while is_blank line) in plain_as a text.0 text.1
+plain_parts Any line = None
+
+-- what stands behind that text, where it stands in front
+abbrev pub strip_prefix : List ℕ → List ℕ → Option (List ℕ)
+strip_prefix text s = if starts_with ◌==◌ s text then Some (drop (length text) s) else None
+
+-- the algorithm whose tag is looked for
+abbrev pub algo_at : Algos → List ℕ → Option Algo
+algo_at (One a) s = Some a
+algo_at Any s = find (λ a. starts_with ◌==◌ s (tag a)) all_algos
+
+-- BLAKE2b with as many bits as these digits write
+abbrev pub kind_at : List ℕ → Option KindValue
+kind_at ds = option_map blake2b_kind (find (λ n. bytes_eq (decimal (8 * n)) ds) (range_with_len 1 64))
+
+-- the kind behind a tag, and what follows it: for BLAKE2b a `-` (45) may lead to its bits
+abbrev pub width_at : Algo → List ℕ → Option (KindValue × List ℕ)
+width_at Blake2b (b ∷ bs) =
+    if b == 45 then option_map (λ k. (k, after_while is_ascii_digit bs)) (kind_at (take_while is_ascii_digit bs))
+    else Some (full_kind Blake2b, b ∷ bs)
+width_at a s = Some (full_kind a, s)
+
+-- the digest of n bytes that the digits spell
+abbrev pub digest_at : ℕ → List ℕ → Option (List ℕ)
+digest_at n digits = result_ok (decode_of digits) >>= (λ d. if length d == n then Some d else None)
+
+-- a tagged line behind its tag; the last parenthesis ends the name
+unfoldable pub tagged_as : Algo → Bool → List ℕ → Option Parts
+tagged_as a e s = do
+  w ← width_at a s
+  inner ← option_or (strip_prefix (codes " (") w.1) (strip_prefix (codes "(") w.1)
+  name ← rsplit_once 41 inner
+  digits ← strip_prefix (codes "=") (after_while is_blank name.1)
+  d ← digest_at w.0.len (after_while is_blank digits)
+  if nat_lt 0 (length name.0)
+      then Some (record { escaped = e; kind = w.0; digest = d; text = name.0 }) else None
+
+unfoldable pub tagged_parts : Algos → List ℕ → Option Parts
+tagged_parts algos line = let text = mark_and_rest (after_while is_blank line) in do
+  a ← algo_at algos text.1
+  s ← strip_prefix (tag a) text.1
+  tagged_as a text.0 s

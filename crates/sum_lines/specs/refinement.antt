@@ -1,0 +1,7 @@
+-- How the code's values stand for those of the definitions. The headline reaches little of it; contracts of calls that
+-- a user of the crate meets by themselves name some.
+pub mod PartTexts
+pub mod Found
+pub mod ToldSinks
+pub mod Emptying
+pub mod Growing

@@ -1,0 +1,114 @@
+//! The line that is written for a name and its digest.
+ghost use Rattle.std.specs.Prelude.{◌≡◌, ◌++◌, length};
+ghost use Rattle.sum_lines.specs.Sinks.{Writes};
+
+use crate::escape::needs_escape;
+use crate::parts::{Part, put_parts};
+use crate::sink::{Sink, SinkFault, put_all};
+use digest_kinds::{Digest, Kind};
+
+/// The form of a line (coreutils manual, "md5sum invocation").
+#[derive(Clone, Copy, Debug, PartialEq, Eq)]
+pub enum Mode {
+    /// The digits, two spaces, the name.
+    Text,
+    /// The digits, a space, `*`, the name.
+    Binary,
+    /// The tag, the name in parentheses, `=`, the digits.
+    Tag,
+}
+
+/// How lines are written.
+#[derive(Clone, Copy, Debug, PartialEq, Eq)]
+pub struct Style {
+    /// The form.
+    pub mode: Mode,
+    /// Whether lines end with NUL and names aren't escaped.
+    pub zero: bool,
+}
+
+ghost use Rattle.sum_lines.specs.Lines.{layout, line, line_tag};
+ghost use Rattle.hex.specs.Hex.{encode_lower};
+ghost use Rattle.sum_lines.specs.refinement.PartTexts.{part_text};
+ghost use Rattle.sum_lines.specs.Escape.{escape, escape_differs};
+ghost use Rattle.sum_lines.specs.Shapes.{mark};
+
+/// Writes the line of a name and its digest, which has the kind's length. A fault where a write failed; of what was
+/// held and of the line a proper prefix is then handed on, and nothing is held.
+pub fn put_line<S: Sink>(
+    sink: &mut S,
+    style: Style,
+    kind: Kind,
+    name: &[u8],
+    digest: &Digest,
+) -> Result<(), SinkFault>
+    requires { length digest.now ≡ kind.len }
+    ensures { Writes S.written S.held S.failures sink.old sink.new (line style kind name.now digest.now) result }
+{
+    let mut buffer = [0; 128];
+    let digits = digits_of(digest, &mut buffer);
+    if style.zero {
+        put_form(sink, style.mode, kind, Part::Bytes(name), digits)?;
+        return put_all(sink, b"\0");
+    }
+    let (mark, name) = mark_and_name(name);
+    put_all(sink, mark)?;
+    put_form(sink, style.mode, kind, name, digits)?;
+    put_all(sink, b"\n")
+}
+
+// The digits of a digest.
+fn digits_of<'a>(digest: &Digest, buffer: &'a mut [u8; 128]) -> &'a [u8]
+    ensures { result.now ≡ encode_lower digest.now }
+{
+    let count = digest.hex_into(buffer);
+    &buffer[..count]
+}
+
+// What stands before a line, and its name, escaped. A name that is its own escape is searched once.
+fn mark_and_name(name: &[u8]) -> (&'static [u8], Part<'_>)
+    ensures mark { result.0.now ≡ mark (escape_differs name.now) }
+    ensures name { part_text result.1 ≡ escape name.now }
+{
+    if needs_escape(name) {
+        (b"\\", Part::Escaped(name))
+    } else {
+        (b"", Part::Bytes(name))
+    }
+}
+
+// Writes a line without its end and without a backslash before it.
+fn put_form<'a, S: Sink>(
+    sink: &mut S,
+    mode: Mode,
+    kind: Kind,
+    name: Part<'a>,
+    digits: &'a [u8],
+) -> Result<(), SinkFault>
+    ensures { Writes S.written S.held S.failures sink.old sink.new
+        (layout mode kind (part_text name.entry) digits.now) result }
+{
+    let digits = Part::Bytes(digits);
+    match mode {
+        Mode::Text => put_parts(sink, &[digits, Part::Bytes(b"  "), name]),
+        Mode::Binary => put_parts(sink, &[digits, Part::Bytes(b" *"), name]),
+        Mode::Tag => {
+            put_tag(sink, kind)?;
+            put_parts(
+                sink,
+                &[Part::Bytes(b" ("), name, Part::Bytes(b") = "), digits],
+            )
+        }
+    }
+}
+
+// Writes the tag, for a BLAKE2b digest that isn't full with its bits.
+fn put_tag<S: Sink>(sink: &mut S, kind: Kind) -> Result<(), SinkFault>
+    ensures { Writes S.written S.held S.failures sink.old sink.new (line_tag kind) result }
+{
+    let tag = Part::Bytes(kind.tag().as_bytes());
+    if kind.len() == Kind::of(kind.algo()).len() {
+        return put_parts(sink, &[tag]);
+    }
+    put_parts(sink, &[tag, Part::Bytes(b"-"), Part::Number(kind.bits())])
+}

@@ -1,0 +1,83 @@
+-- What a read makes of the bytes that count, up to the limit.
+use Rattle.std.proofs.Common.{◌≡◌, ℕ, ◌+◌, ◌-◌, ◌^◌, ◌<◌, ◌≤◌, List, [], ◌++◌, length, take, Ok, Err, ap, sym, ◌∙◌}
+use Rattle.std.proofs.Common.{Option, None, Some, refl, arith, nat_lt, inl, inr, length-append}
+use Rattle.std.proofs.lemmas.Bool.{cond-true, cond-false, lt-ltb, le-ltb, cases_lt}
+use Rattle.std.proofs.lemmas.List.{length-take-le, take-append-le}
+use Rattle.std.proofs.Math.Seq.{take-append-add}
+use Rattle.sum_sources.specs.declared.fault.Fault.{Fault}
+use Rattle.sum_sources.specs.declared.fault.Fault.TheVariants.{Other}
+use Rattle.sum_sources.specs.declared.fault.Ending.TheVariants.{Broken}
+use Rattle.sum_sources.specs.Contents.{Content, limit, WhereTold, ReadsFrom}
+use Rattle.sum_sources.specs.LineReaders.{clip_to, with_prefix}
+use Rattle.sum_sources.proofs.ContentLemmas.{content-same, limit-value}
+
+-- a content of fewer than n bytes stays whole
+clip_to-short : (n : ℕ) (c : Content) → length c.bytes < n → clip_to n c ≡ c
+clip_to-short n c short = cond-true (nat_lt (length c.bytes) n) c _ (lt-ltb _ _ short)
+
+-- a longer one is cut
+clip_to-long : (n : ℕ) (c : Content) → n ≤ length c.bytes
+    → clip_to n c ≡ record { bytes = take (n - 1) c.bytes; ending = Broken Other }
+clip_to-long n c long = cond-false (nat_lt (length c.bytes) n) c _ (le-ltb _ _ long)
+
+-- bytes in front of a content may be clipped with it or before it
+clip_to-behind : (n k : ℕ) (prefix : List ℕ) (c : Content) → n ≡ length prefix + k → 0 < k
+    → clip_to n (with_prefix prefix c) ≡ with_prefix prefix (clip_to k c)
+clip_to-behind n k prefix c sum some = elim (cases_lt (length c.bytes) k) [
+  | inl short ↦
+      clip_to-short n (with_prefix prefix c) (omega (arith, length-append prefix c.bytes))
+      ∙ ap (with_prefix prefix) (sym (clip_to-short k c short))
+  | inr long ↦
+      let size : n - 1 ≡ length prefix + (k - 1) = omega arith in
+      let cut : take (n - 1) (prefix ++ c.bytes) ≡ prefix ++ take (k - 1) c.bytes =
+      rw size (take-append-add prefix c.bytes (k - 1)) in
+      let longer : n ≤ length (prefix ++ c.bytes) = omega (arith, length-append prefix c.bytes) in
+      rw (clip_to-long n (with_prefix prefix c) longer, clip_to-long k c long, cut) refl
+]
+
+-- bytes that all count, or the end
+pub clipped-bytes : (c d : Content) (part rest : List ℕ) (n t : ℕ) → n ≤ length part → 0 < length part
+    → t + n < 2 ^ 61 → ReadsFrom c d (Ok n) part
+    → ReadsFrom (clip_to (limit - t) c) (clip_to (limit - (t + n)) d) (Ok n) (part ++ rest)
+clipped-bytes c d part rest n t few some fits read =
+    let size : length (take n part) ≡ n = length-take-le n part few in
+    let split : c ≡ with_prefix (take n part) d = content-same c (with_prefix (take n part) d) read.0 (sym read.1) in
+    let cut : clip_to (limit - t) c ≡ with_prefix (take n part) (clip_to (limit - (t + n)) d) =
+    rw split (clip_to-behind (limit - t) (limit - (t + n)) (take n part) d
+    (rw limit-value (omega arith)) (rw limit-value (omega arith))) in (
+      rw (take-append-le n part rest few) (ap (λ (x : Content). x.bytes) cut),
+      sym (ap (λ (x : Content). x.ending) cut),
+      λ none _.
+          let end = read.2 none some in
+          rw (clip_to-short (limit - t) c (rw (end.0, limit-value) (omega arith))) end,
+    )
+
+-- a fault
+pub clipped-fault : (c d : Content) (f : Fault) (t : ℕ) → t < 2 ^ 61 → ReadsFrom c d (Err f) []
+    → ReadsFrom (clip_to (limit - t) c) (clip_to (limit - t) d) (Err f) []
+clipped-fault c d f t few read =
+    rw (read.2, clip_to-short (limit - t) c (rw (read.0, limit-value) (omega arith))) (read.0, read.1, refl)
+
+-- what is left once a byte didn't count
+clip_to-none : (c : Content) → clip_to 0 c ≡ record { bytes = []; ending = Broken Other }
+clip_to-none c = clip_to-long 0 c (omega arith)
+
+-- the byte that doesn't count
+pub clipped-long : (c d : Content) (part : List ℕ) (n t : ℕ) → n ≤ length part → n ≡ 1 → t + n ≡ 2 ^ 61
+    → ReadsFrom c d (Ok n) part
+    → ReadsFrom (clip_to (limit - t) c) (clip_to (limit - (t + n)) d) (Err Other) []
+clipped-long c d part n t few one full read =
+    let size : length c.bytes ≡ length (take n part) + length d.bytes =
+    ap length read.0 ∙ length-append (take n part) d.bytes in
+    let left : limit - t ≡ 1 = rw limit-value (omega arith) in
+    let none : limit - (t + n) ≡ 0 = rw limit-value (omega arith) in
+    let long : 1 ≤ length c.bytes = omega (arith, size, length-take-le n part few) in
+    rw (left, none, clip_to-long 1 c long, clip_to-none d) (refl, refl, refl)
+
+-- nothing more is read then
+pub clipped-none : (x : Option Content) (t : ℕ) → t ≡ 2 ^ 61
+    → WhereTold x x (λ c d. ReadsFrom (clip_to (limit - t) c) (clip_to (limit - t) d) (Err Other) [])
+clipped-none None t full = tt
+clipped-none (Some c) t full =
+    let none : limit - t ≡ 0 = rw limit-value (omega arith) in
+    rw (none, clip_to-none c) (refl, refl, refl)

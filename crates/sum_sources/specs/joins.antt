@@ -1,5 +1,0 @@
--- What joins one function to the next. The headline reaches little of it; contracts of calls that a user of the crate
--- meets by themselves name some.
-pub mod LineReading
-pub mod LineStates
-pub mod ToldPairs

@@ -1,0 +1,16 @@
+use Rattle.std.proofs.Common.{◌≡◌, length}
+use Rattle.sum_words.specs.Items.{a_word, items_from}
+use Rattle.sum_words.specs.Request.{early_answer}
+use Rattle.sum_words.specs.refinement.Request.{IsChosenBy}
+use Rattle.sum_words.proofs.request.read_options.Given as goal
+
+-- the running values and the items still to come say what all items say
+abbrev pub invariant-loop-item : goal.invariant-loop-item
+invariant-loop-item g l = record {
+  says : IsChosenBy l.chosen l.items (items_from l.fn.tool a_word l.words);
+  ending : early_answer l.items ≡ early_answer (items_from l.fn.tool a_word l.words);
+}
+
+-- the items still to come
+abbrev pub decreases-loop-item : goal.decreases-loop-item
+decreases-loop-item g l = length l.items

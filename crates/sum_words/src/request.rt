@@ -1,0 +1,281 @@
+//! What the words ask for.
+ghost use Rattle.std.specs.Prelude.{◌≡◌, ◌∷◌, List, [], None, Some, MatchResult};
+ghost use Rattle.std.specs.Option.{option_copied, option_map, option_transpose};
+ghost use Rattle.std.specs.Str.{all_ascii_digits};
+ghost use Rattle.sum_words.specs.Items.{Item as ItemSaid, a_word, items_from, option, options_of};
+ghost use Rattle.sum_words.specs.refinement.ItemIterator.{fault_of, full_name};
+ghost use Rattle.sum_words.specs.Request.{early_answer, length_kind, mode_of, report_of, first_fault, job_of, request};
+ghost use Rattle.sum_words.specs.refinement.Request.{IsChosenBy, result_of, IsNumberOf};
+
+use crate::faults::WordFault;
+use crate::items::{Item, Items, Operands};
+use crate::options::Flag;
+use crate::tool::Tool;
+use crate::words::Words;
+use digest_kinds::{Algos, Kind, LengthFault};
+use std::alloc::Allocator;
+use sum_engine::{CheckSettings, Report, Settings};
+use sum_lines::{Mode, Style};
+
+/// What is done with each operand.
+#[derive(Clone, Copy)]
+pub enum Job {
+    /// Its line is written.
+    Generate(Settings),
+    /// It is a manifest, which is checked.
+    Check(CheckSettings),
+}
+
+/// What a command line asks for.
+#[derive(Drop)]
+pub enum Request<'a> {
+    /// To do this with each operand.
+    Work(Job, Operands<'a>),
+    /// The help text.
+    Help,
+    /// The version text.
+    Version,
+}
+
+/// What a tool's words ask for (coreutils manual, "md5sum invocation" and "b2sum invocation"). An unknown, ambiguous or
+/// incomplete option, `--help` and `--version` decide where they come first; else the first fault holds in the order of
+/// [`WordFault`]. It takes no memory.
+pub fn read_words<'a, A: Allocator>(
+    tool: Tool,
+    words: &'a Words<A>,
+) -> Result<Request<'a>, WordFault<'a>>
+    ensures { result_of result ≡ request tool words.now }
+{
+    let chosen = match read_options(tool, words) {
+        Ok(chosen) => chosen,
+        Err(answer) => return answer,
+    };
+    let kind = match asked_kind(chosen.length) {
+        Ok(kind) => kind,
+        Err(fault) => return Err(fault),
+    };
+    if let Some(fault) = fault_of_options(&chosen) {
+        return Err(fault);
+    }
+    match asked_job(tool.algos(), kind, &chosen) {
+        Ok(job) => Ok(Request::Work(job, Operands::new(tool, words))),
+        Err(fault) => Err(fault),
+    }
+}
+
+// What the options say, as far as they were read. A mode, a report setting and a length are the last of theirs.
+#[derive(Clone, Copy)]
+struct Chosen<'a> {
+    mode: Option<Mode>,
+    report: Option<Report>,
+    length: Option<&'a str>,
+    binary: bool,
+    check: bool,
+    tag: bool,
+    text: bool,
+    zero: bool,
+    ignore_missing: bool,
+    strict: bool,
+}
+
+// What all options say, or the answer where one of the words decides it.
+fn read_options<'a, A: Allocator>(
+    tool: Tool,
+    words: &'a Words<A>,
+) -> Result<Chosen<'a>, Result<Request<'a>, WordFault<'a>>>
+    ensures read { MatchResult result (λ c. IsChosenBy c [] (items_from tool a_word words.now))
+        (λ r. early_answer (items_from tool a_word words.now) ≡ Some (result_of r)) }
+    ensures none { MatchResult result (λ _. early_answer (items_from tool a_word words.now) ≡ None) (λ _. Unit {0}) }
+{
+    let mut items = Items::new(tool, words);
+    let mut chosen = Chosen {
+        mode: None,
+        report: None,
+        length: None,
+        binary: false,
+        check: false,
+        tag: false,
+        text: false,
+        zero: false,
+        ignore_missing: false,
+        strict: false,
+    };
+    while let Some(item) = items.next() {
+        match item {
+            Item::Fault(fault) => return Err(Err(fault)),
+            Item::Flag(flag) => match flag {
+                Flag::Help => return Err(Ok(Request::Help)),
+                Flag::Version => return Err(Ok(Request::Version)),
+                _ => chosen = with_flag(chosen, flag),
+            },
+            Item::Length(value) => chosen.length = Some(value),
+            Item::Operand(_) => {}
+        }
+    }
+    Ok(chosen)
+}
+
+fn with_flag(chosen: Chosen<'_>, flag: Flag) -> Chosen<'_>
+    ensures { (rest all : List ItemSaid) → IsChosenBy chosen.entry (option (full_name flag) ∷ rest) all →
+        IsChosenBy result rest all }
+{
+    let mut chosen = chosen;
+    match flag {
+        Flag::Binary => {
+            chosen.mode = Some(Mode::Binary);
+            chosen.binary = true;
+        }
+        Flag::Text => {
+            chosen.mode = Some(Mode::Text);
+            chosen.text = true;
+        }
+        Flag::Tag => {
+            chosen.mode = Some(Mode::Tag);
+            chosen.tag = true;
+        }
+        Flag::Check => chosen.check = true,
+        Flag::Zero => chosen.zero = true,
+        Flag::IgnoreMissing => chosen.ignore_missing = true,
+        Flag::Quiet => chosen.report = Some(Report::Quiet),
+        Flag::Status => chosen.report = Some(Report::Status),
+        Flag::Warn => chosen.report = Some(Report::Warn),
+        Flag::Strict => chosen.strict = true,
+        Flag::Help | Flag::Version | Flag::Length => {}
+    }
+    chosen
+}
+
+// The kind that the last length value asks for, if there is one.
+fn asked_kind(length: Option<&str>) -> Result<Option<Kind>, WordFault<'_>>
+    ensures { result_of result ≡ option_transpose (option_map length_kind (option_copied length.entry)) }
+{
+    match length {
+        None => Ok(None),
+        Some(value) => match length_kind(value) {
+            Ok(kind) => Ok(Some(kind)),
+            Err(fault) => Err(fault),
+        },
+    }
+}
+
+// The kind that a length value asks for.
+fn length_kind(value: &str) -> Result<Kind, WordFault<'_>>
+    ensures { result_of result ≡ length_kind value.now }
+{
+    let Some(bits) = number(value) else {
+        return Err(WordFault::LengthInvalid(value));
+    };
+    match Kind::blake2b_bits(bits) {
+        Ok(kind) => Ok(kind),
+        Err(LengthFault::TooLong) => Err(WordFault::LengthInvalid(value)),
+        Err(LengthFault::NotBytes) => Err(WordFault::LengthNotBytes(value)),
+    }
+}
+
+// The number that digits write; `None` where there is another character or none, and for 2^64 and more.
+#[tactic(auto, using(crate::proofs::RequestLemmas::number_parsed))]
+fn number(value: &str) -> Option<u64>
+    ensures { IsNumberOf value.now result }
+{
+    if !all_digits(value.as_bytes()) {
+        return None;
+    }
+    value.parse::<u64>().ok()
+}
+
+fn all_digits(bytes: &[u8]) -> bool
+    ensures { result ≡ all_ascii_digits bytes.now }
+{
+    for byte in bytes {
+        if !byte.is_ascii_digit() {
+            return false;
+        }
+    }
+    true
+}
+
+// The first fault of the options themselves, of which `--check` needs none and several need it.
+fn fault_of_options(chosen: &Chosen<'_>) -> Option<WordFault<'static>>
+    ensures { (xs : List ItemSaid) → IsChosenBy chosen.now [] xs →
+        option_map fault_of result ≡ first_fault (options_of xs) }
+{
+    if chosen.tag && matches!(chosen.mode, Some(Mode::Text)) {
+        return Some(WordFault::TagWithText);
+    }
+    if chosen.zero && chosen.check {
+        return Some(WordFault::ZeroWithCheck);
+    }
+    if chosen.tag && chosen.check {
+        return Some(WordFault::TagWithCheck);
+    }
+    if (chosen.binary || chosen.text) && chosen.check {
+        return Some(WordFault::ModeWithCheck);
+    }
+    if chosen.check {
+        return None;
+    }
+    if chosen.ignore_missing {
+        return Some(WordFault::IgnoreWithoutCheck);
+    }
+    match chosen.report {
+        Some(Report::Status) => Some(WordFault::StatusWithoutCheck),
+        Some(Report::Warn) => Some(WordFault::WarnWithoutCheck),
+        Some(Report::Quiet) => Some(WordFault::QuietWithoutCheck),
+        _ => {
+            if chosen.strict {
+                Some(WordFault::StrictWithoutCheck)
+            } else {
+                None
+            }
+        }
+    }
+}
+
+// What is done with each operand, where none of these faults holds.
+fn asked_job(
+    algos: Algos,
+    kind: Option<Kind>,
+    chosen: &Chosen<'_>,
+) -> Result<Job, WordFault<'static>>
+    ensures { (xs : List ItemSaid) → IsChosenBy chosen.now [] xs →
+        result_of result ≡ job_of algos kind (options_of xs) }
+{
+    if chosen.check {
+        return Ok(Job::Check(CheckSettings {
+            algo: algos,
+            report: report(chosen),
+            strict: chosen.strict,
+            ignore_missing: chosen.ignore_missing,
+        }));
+    }
+    match algos {
+        Algos::Any => Err(WordFault::CheckNeeded),
+        Algos::One(algo) => Ok(Job::Generate(Settings {
+            kind: kind.unwrap_or(Kind::of(algo)),
+            style: Style {
+                mode: mode(chosen),
+                zero: chosen.zero,
+            },
+        })),
+    }
+}
+
+// The form of the lines that are written.
+fn mode(chosen: &Chosen<'_>) -> Mode
+    ensures { (xs : List ItemSaid) → IsChosenBy chosen.now [] xs → result ≡ mode_of (options_of xs) }
+{
+    if chosen.tag {
+        return Mode::Tag;
+    }
+    match chosen.mode {
+        Some(Mode::Binary) => Mode::Binary,
+        _ => Mode::Text,
+    }
+}
+
+// How much is reported.
+fn report(chosen: &Chosen<'_>) -> Report
+    ensures { (xs : List ItemSaid) → IsChosenBy chosen.now [] xs → result ≡ report_of (options_of xs) }
+{
+    chosen.report.unwrap_or(Report::All)
+}
