@@ -15,7 +15,7 @@ from repository import DEFAULT, FAST, Repository
 BOTH = ["crates/low lib", "crates/digests run -- sha256sum", f"out/place/crates/digests run --cpu {FAST} -- sha256sum"]
 OF_A = Ran(0, f"{M}  a\n".encode(), b"")
 HIDDEN = "glibc.cpu.hwcaps=-AVX2"
-BUILD_SECONDS = 600  # of a program over kept proofs, on a busy machine
+BUILD_SECONDS = 1200  # of a program over kept proofs, on a busy machine
 
 
 class Stale(Repository):

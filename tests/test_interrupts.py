@@ -9,7 +9,7 @@ from tracing import Traced, needs_strace, sizes
 
 WRITE_ERROR = b"md5sum: write error\n"
 FEW = "1..999"  # a thousand interruptions in a row are a fault
-ENDLESS = 15  # seconds in which a run that is always interrupted has to end
+ENDLESS = 240  # seconds in which a run that is always interrupted has to end
 
 
 @needs_strace
