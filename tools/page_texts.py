@@ -1,7 +1,7 @@
 """What the manual pages say, and the one table of the tools and of their options, from which pages and completions are
 made."""
 
-DATE = "2026-11-23"  # of the last change of these texts
+DATE = "2026-11-24"  # of the last change of these texts
 
 # Tool: its standard, the algorithm's name there, and the bits of its digest. The last has none of its own.
 TOOLS = {
@@ -27,8 +27,8 @@ OPTIONS = {
     "length": (EITHER, "Make a digest of {BITS} bits: a multiple of 8 from 8 to 512; 0 means 512. A shorter digest "
                "isn't the beginning of a longer one. With `--check` the number is looked at and has no further effect, "
                "since each line says its length by its digits."),
-    "tag": (WITHOUT, "Write lines of the tagged form, which name the algorithm. With `--text` after it, it is "
-            "refused."),
+    "tag": (WITHOUT, "Write lines of the tagged form, which name the algorithm. It is refused where `--text` is the "
+            "last of `--binary`, `--tag` and `--text`."),
     "text": (WITHOUT, "Put a space before each name in the lines that are written, as is done without it. Of "
              "`--binary` and `--text` the last counts."),
     "zero": (WITHOUT, "End each line by a byte 0 in place of a newline, and write each name as it is. Such lines "
@@ -36,8 +36,8 @@ OPTIONS = {
     "ignore-missing": (WITH, "Pass over a listed file that isn't there. A manifest of which no file has the right "
                        "checksum is still a failure."),
     "quiet": (WITH, "Print no line for a file that has the right checksum."),
-    "status": (WITH, "Print no line for any file and no warning: the exit status tells. Files and manifests that "
-               "can't be read are still told of. Of `--quiet`, `--status` and `--warn` the last counts."),
+    "status": (WITH, "Print no line for any file and no warning: the exit status tells. What can't be read, and a "
+               "manifest that lists nothing, is still told of. Of `--quiet`, `--status` and `--warn` the last counts."),
     "strict": (WITH, "Fail where a line of a manifest is improperly formatted."),
     "warn": (WITH, "Name each line of a manifest that is improperly formatted, by its number."),
     "help": (EITHER, "Print a short help, and end."),
@@ -68,13 +68,14 @@ CHECKING = (
     "Each {FILE} is a manifest: a list of lines as they are written without `--zero`. Each line is checked and "
     "reported before the next one is read. A listed name is looked up from the present folder, not from the "
     "manifest's: `cd` {FOLDER} comes first where the list was written in {FOLDER}. A listed file named `-` is standard "
-    "input, except in a manifest that comes from there itself.",
+    "input; in a manifest that comes from there itself, such a line is improperly formatted.",
     "Empty lines, and lines that begin with `#`, are passed over. A carriage return at a line's end is dropped. Blanks "
     "at its beginning are passed over, and digits of either case are read. In the tagged form the space before the "
     "parenthesis may be missing, and there may be none or several about the equals sign.",
     "On standard output, for each listed file:",
-    "At the end of each manifest, standard error tells how many lines were improperly formatted, how many files could "
-    "not be read, and how many checksums did not match. Not with `--status`.",
+    "Behind the last line of a manifest, standard error tells how many lines were improperly formatted, how many files "
+    "could not be read, and how many checksums did not match. Not with `--status`. Of a manifest that lists nothing it "
+    "tells that alone, with every option.",
 )
 
 # How a line is read, between the first and the last paragraphs of that.
@@ -95,9 +96,10 @@ REPORTS = {
 }
 
 STATUSES = {
-    "0": "Every file was read and its line written; or, with `--check`, every manifest was read to its end, lists a "
-         "file that has the right checksum, and none that has another or couldn't be read; and with `--strict` no line "
-         "is improperly formatted.",
+    "0": "Every file was read and its line written. With `--check`: every manifest was read to its end, lists a file "
+         "that has the right checksum, and none that has another or couldn't be read (with `--ignore-missing`, one may "
+         "be missing); and with `--strict` no line is improperly formatted. With `--help` or `--version`: the text was "
+         "written.",
     "1": "Anything else: also a fault of the options, memory that is refused, or an output that fails.",
     "127": "The program was built for later processors than this machine's. Nothing was done. Where the message names "
            "`x86-64-v3`, install the level `default`. Where it names `x86-64-v2`, that is the level `default`: there "
@@ -114,12 +116,14 @@ DIAGNOSTICS = {
                                   "standard input that is closed, or that has nothing ready and is set not to wait, "
                                   "and a device that fails. The other files are still read.",
     "{FILE}: {N}: improperly formatted {TAG} checksum line": "With `--warn`: line number {N} of the manifest.",
-    "{FILE}: no properly formatted checksum lines found": "The manifest lists nothing.",
+    "{FILE}: no properly formatted checksum lines found": "The manifest lists nothing. Also with `--status`.",
     "{FILE}: no file was verified": "With `--ignore-missing`: no listed file has the right checksum.",
     "WARNING: 1 listed file could not be read": "How many; and the like for lines and for checksums.",
-    "memory exhausted": "Memory was refused. The run ends there; what was written stands.",
+    "memory exhausted": "Memory was refused, as for a long line or for opening a file. The run ends there; what was "
+                        "written stands.",
     "write error": "An output failed, or its reader went away. The run ends there.",
-    "unrecognized option '--{NAME}'": "And the like: a fault of the options. Nothing was read.",
+    "unrecognized option '--{NAME}'": "And the like: a fault of the options, with a second line that names `--help`. "
+                                      "Nothing was read.",
 }
 
 LIMITS = (
@@ -129,17 +133,17 @@ LIMITS = (
     "Lines that were written with `--zero` can't be checked.",
     "A file of 2^61 bytes or more is an `Input/output error`.",
     "One line is held in memory at a time, however long the manifest is.",
-    "The stack has to have 64 KiB, and more where the environment is large. With 48 KiB a signal ends the program, "
+    "The stack has to have 64 KiB, and more where the environment is large. With 48 KiB a signal may end the program, "
     "without a word.",
-    "A line of up to 8,192 bytes goes to the system in one piece, so that lines of several runs into one file are "
-    "never torn. Into one pipe, Linux keeps up to 4,096 bytes together. A longer line may be torn.",
+    "A line of up to 8,192 bytes goes to the system in one piece. So where several runs share one file, as under `xargs "
+    "-P`, no such line is torn. Into one pipe, Linux keeps up to 4,096 bytes together. A longer line may be torn.",
 )
 
 SECURITY = {
     "broken": "{0} is broken for forgery: anyone can make two files with the same checksum, and for a signed or "
               "trusted list that is enough. It still finds damage by chance. Where somebody might cheat, use "
               "`sha256sum`(1) or `b2sum`(1).",
-    "good": "No way is known to make two files with the same {0} checksum.",
+    "good": "No practical way is known to make two files with the same {0} checksum.",
     "length": "With `--length` two such files can be found by about 2^({BITS}/2) tries: give 256 or more where somebody "
               "might cheat.",
     "any": "Under this tool a manifest chooses the algorithm line by line. MD5 and SHA-1 are broken for forgery: "
@@ -153,16 +157,25 @@ SECURITY = {
 }
 
 DIFFERENCES = (
-    "Names in messages and reports stand as they do in lines, with backslash, newline and carriage return escaped; "
-    "GNU's tools quote some names there as a shell does, those with control bytes among them.",
-    "A directory is an `Input/output error` in place of `Is a directory`.",
+    "These were found beside GNU coreutils 9.1. LIMITS has others.",
+    "Names in messages and reports stand as they do in lines, with backslash, newline and carriage return escaped. "
+    "GNU's tools quote some names in messages as a shell does, as one with a space or a control byte; in reports they "
+    "escape a name only where it holds a newline.",
+    "But for `No such file or directory` and `Permission denied`, each fault of a file is an `Input/output error`; GNU's "
+    "tools name it, as `Is a directory`.",
+    "In each manifest the first line that begins with its digits decides how such lines are read. With GNU's tools the "
+    "first such line of a call decides for all manifests.",
+    "A line that lists a file and holds a byte 0 is improperly formatted. GNU's tools take the name up to there: of a "
+    "list that was written with `--zero` they may check the first file alone, and answer 0.",
     "A reader that goes away, as `head`(1) does, is a write error with status 1; GNU's tools are ended by a signal.",
     "The language that is set and `POSIXLY_CORRECT` have no effect.",
-    "`--help` and `--version` print other texts.",
+    "`--help` and `--version` print other texts. Of an option that is cut too short, the message doesn't name those "
+    "that are possible.",
 )
 
 DIFFERENCE_OF_LENGTH = (
-    "The tag `BLAKE2b-512` is read, too, and a fault of `--length` is told in other words.")
+    "The number of `--length` is digits alone, and a fault of it is told in other words. GNU's tool takes blanks or a "
+    "plus sign before it, too.")
 
 DIFFERENCE_OF_ANYSUM = "GNU has no tool of this name. The nearest is `cksum`(1), whose lines name the algorithm."
 
@@ -265,8 +278,9 @@ PROGRAM_USES = ("`digests` {TOOL}", "{TOOL}")
 PROGRAM = (
     "One program holds eight tools that write and check the checksums of files. {TOOL} says which of them it is to be; "
     "each has a page of its own, with its options.",
-    "Called by a link that has a tool's name, as those beside the installed program, it is that tool. What it writes "
-    "is proved by machine-checked contracts, from its arguments to its exit status.",
+    "Called by a link that has a tool's name, as those beside the installed program, it is that tool. From its "
+    "arguments to its exit status, machine-checked contracts say what it writes; how real files and streams behave is "
+    "tested.",
 )
 
 PROGRAM_OPTIONS = (
