@@ -169,5 +169,5 @@ class Made(Case):
         self.write("program", f"#!/bin/sh\n'{harness.PROGRAM}' \"$@\"\necho '      --other             some words'\n")
         os.chmod(self.path("program"), 0o755)
         ran = self.run_command([self.path("tools/pages.py"), "--check", "--program", self.path("program")])
-        self.assertNotEqual(ran.status, 0)
-        self.assertIn(b"other", ran.err)
+        said = b"pages.py: page_texts.py has no text for these options: other\n"
+        self.assertEqual(ran, Ran(1, b"", said))

@@ -135,8 +135,9 @@ LIMITS = (
     "One line is held in memory at a time, however long the manifest is.",
     "The stack has to have 64 KiB, and more where the environment is large. With 48 KiB a signal may end the program, "
     "without a word.",
-    "A line of up to 8,192 bytes goes to the system in one piece. So where several runs share one file, as under `xargs "
-    "-P`, no such line is torn. Into one pipe, Linux keeps up to 4,096 bytes together. A longer line may be torn.",
+    "A line of up to 8,192 bytes goes to the system in one piece. So where several runs share one file, as under "
+    "`xargs -P`, no such line is torn. Into one pipe, Linux keeps up to 4,096 bytes together. A longer line may be "
+    "torn.",
 )
 
 SECURITY = {
@@ -149,8 +150,8 @@ SECURITY = {
     "any": "Under this tool a manifest chooses the algorithm line by line. MD5 and SHA-1 are broken for forgery: "
            "anyone can make two files with the same checksum. Where somebody might cheat, look at the lines' tags.",
     "manifest": "A checksum proves no more than the manifest: one that comes from the same place as the files shows "
-                "damage, and no forgery. A listed name may hold control bytes, and a terminal obeys some. But for newline "
-                "and carriage return they are written as they are: look at a manifest that isn't trusted with "
+                "damage, and no forgery. A listed name may hold control bytes, and a terminal obeys some. But for "
+                "newline and carriage return they are written as they are: look at a manifest that isn't trusted with "
                 "`cat -v` before you check it, or write both outputs of the check to a file, and look at that so. "
                 "The tools are not for secrets: the time that a run takes may depend on what "
                 "is read, and memory isn't wiped.",
@@ -161,8 +162,8 @@ DIFFERENCES = (
     "Names in messages and reports stand as they do in lines, with backslash, newline and carriage return escaped. "
     "GNU's tools quote some names in messages as a shell does, as one with a space or a control byte; in reports they "
     "escape a name only where it holds a newline.",
-    "But for `No such file or directory` and `Permission denied`, each fault of a file is an `Input/output error`; GNU's "
-    "tools name it, as `Is a directory`.",
+    "But for `No such file or directory` and `Permission denied`, each fault of a file is an `Input/output error`; "
+    "GNU's tools name it, as `Is a directory`.",
     "In each manifest the first line that begins with its digits decides how such lines are read. With GNU's tools the "
     "first such line of a call decides for all manifests.",
     "A line that lists a file and holds a byte 0 is improperly formatted. GNU's tools take the name up to there: of a "

@@ -1,8 +1,9 @@
 #!/usr/bin/env python3
 """Writes the manual pages in man/ and the completions in completions/: `pages.py [--check] [--program FILE]`.
 
-They are made from one table (page_texts.py) and from what the built program says to --help. With --check nothing is
-written, and the status is 1 where a file of the tree is another, is missing or is one too many."""
+They are made from one table (page_texts.py) and from what the program says to --help, which is built first where it is
+stale. With --check nothing is written, and the status is 1 where a file of the tree is another, is missing or is one
+too many."""
 
 import argparse
 import os
@@ -19,6 +20,14 @@ from roff import inline, item, page, section, shown  # noqa: E402
 TOP = os.path.dirname(os.path.dirname(os.path.abspath(__file__)))
 OPTION = re.compile(r"  (?:-(?P<short>\w), |    )--(?P<long>[a-z-]+)(?:=(?P<value>[A-Z]+))? +(?P<help>.*)")
 CHECKS = [name for name, (where, _) in texts.OPTIONS.items() if where == texts.WITH]
+
+
+def built_program():
+    """The repository's own program, built where it is stale."""
+    built = subprocess.run(["sh", "-c", 'top=$1; . "$top/build.sh"; build_program default', "sh", TOP])
+    if built.returncode:
+        sys.exit("pages.py: there is no program")
+    return os.path.join(TOP, "out", "default", "digests")
 
 
 def options_of(program, tool):
@@ -169,6 +178,9 @@ def page_of_program():
 def made(program):
     """Each file's name in the repository, and its text."""
     known = {tool: options_of(program, tool) for tool in texts.TOOLS}
+    unknown = {one["long"] for options in known.values() for one in options} - set(texts.OPTIONS)
+    if unknown:
+        sys.exit(f"pages.py: page_texts.py has no text for these options: {', '.join(sorted(unknown))}")
     files = {f"man/{tool}.1": page_of_tool(tool, known[tool]) for tool in texts.TOOLS}
     files["man/digests.1"] = page_of_program()
     files.update({f"completions/{name}": text for name, text in shells.completions(known).items()})
@@ -194,9 +206,9 @@ def main():
     reader.add_argument("--check", action="store_true", help="write nothing, and say what isn't as it is to be")
     reader.add_argument("--program", help="the built program; without it, this repository's own")
     asked = reader.parse_args()
-    program = asked.program or os.path.join(TOP, "out", "default", "digests")
+    program = asked.program or built_program()
     if not os.access(program, os.X_OK):
-        sys.exit(f"pages.py: {program} is no program: ./digests builds it")
+        sys.exit(f"pages.py: {program} is no program")
     files = made(program)
     others = [name for name in files if not write(os.path.join(TOP, name), files[name], asked.check)]
     there = {f"{folder}/{name}" for folder in ("man", "completions") for name in os.listdir(os.path.join(TOP, folder))}
