@@ -145,8 +145,8 @@ SECURITY = {
               "trusted list that is enough. It still finds damage by chance. Where somebody might cheat, use "
               "`sha256sum`(1) or `b2sum`(1).",
     "good": "No practical way is known to make two files with the same {0} checksum.",
-    "length": "With `--length` two such files can be found by about 2^({BITS}/2) tries: give 256 or more where somebody "
-              "might cheat.",
+    "length": "With `--length` two such files can be found by about 2^({BITS}/2) tries: give 256 or more where "
+              "somebody might cheat.",
     "any": "Under this tool a manifest chooses the algorithm line by line. MD5 and SHA-1 are broken for forgery: "
            "anyone can make two files with the same checksum. Where somebody might cheat, look at the lines' tags.",
     "manifest": "A checksum proves no more than the manifest: one that comes from the same place as the files shows "

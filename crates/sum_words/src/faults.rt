@@ -28,7 +28,7 @@ pub enum WordFault<'a> {
     LengthInvalid(&'a str),
     /// A length that isn't a multiple of 8.
     LengthNotBytes(&'a str),
-    /// `--tag`, with `--text` after it.
+    /// `--tag`, where `--text` is the last of `--binary`, `--tag` and `--text`.
     TagWithText,
     /// `--zero` with `--check`.
     ZeroWithCheck,
