@@ -4,7 +4,7 @@ use sum_lines::SinkFault;
 use thiserror::Error;
 
 /// Why a run stopped before its end: `Memory` where a growth was refused, `Write` where a write to an output failed.
-/// Nothing is written after it.
+/// The call that answers it writes nothing after it.
 #[derive(Clone, Copy, Debug, PartialEq, Eq, Error)]
 pub enum Stop {
     #[error("memory exhausted")]
