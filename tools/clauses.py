@@ -146,7 +146,7 @@ class Round:
         missed, maybe = {}, []
         for name in (it for it in found if found[it] == "fails"):
             own = [it for it in group if name in {held.path for held in self.source.held_to(it)}]
-            called = group if len(group) == 1 else self.called(name, group)
+            called = group if len(group) == 1 else self.called(name, group) or group
             if len(called) == 1 and not own:
                 missed[called[0].key] = name
             else:
