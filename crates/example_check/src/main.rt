@@ -2,42 +2,32 @@
 #![tactic(auto)]
 
 use digest_kinds::{Algo, Algos};
-use sum_engine::{CheckSettings, Checker, Progress, Report, Streams};
-use sum_sources::{Files, FromRead, Stdin};
-
-#[derive(Drop)]
-struct Noted(bool); // whether anything was written
-
-impl sum_lines::Sink for Noted {
-    ghost failures = { λ _. 0 };
-
-    fn write(&mut self, piece: &[u8]) -> Result<usize, sum_lines::SinkFault> {
-        self.0 |= !piece.is_empty();
-        Ok(piece.len())
-    }
-
-    fn flush(&mut self) -> Result<(), sum_lines::SinkFault> {
-        Ok(())
-    }
-}
+use sum_engine::{CheckSettings, Report, Verdict, Verdicts};
+use sum_sources::{Fault, Files, FromRead, Stdin};
 
 fn main(rt: HostRuntime) -> anyhow::Result<()> {
     let settings = CheckSettings {
         algo: Algos::One(Algo::Sha256),
-        report: Report::Quiet, // nothing for a line that holds
+        report: Report::Status, // nothing is reported, whatever stands here
         strict: true,
         ignore_missing: false,
     };
-    let (mut stdin, mut line) = (Stdin::new(FromRead::new(rt.stdin())), Vec::new(rt.alloc()));
-    let mut checker = Checker::new(settings, "check", b"stdin", true, stdin.take());
-    let mut streams = Streams::new(stdin, Files::new(rt), Noted(false), Noted(false));
-    for number in 1..u64::MAX {
-        streams.out = Noted(false);
-        match checker.step(&mut line, &mut streams)? {
-            Progress::Going if streams.out.0 => println!(rt; "line {number} doesn't hold")?,
-            Progress::Going => {}
-            Progress::Ended(good) => return Ok(println!(rt; "all in all it holds: {good}")?),
-        }
+    let (mut stdin, mut files) = (Stdin::new(FromRead::new(rt.stdin())), Files::new(rt));
+    let mut verdicts = Verdicts::new(settings, true, stdin.take());
+    let mut line = Vec::new(rt.alloc());
+    for _ in 0..u64::MAX {
+        let Some(found) = verdicts.next(&mut line, &mut stdin, &mut files)? else {
+            return Ok(println!(rt; "all in all it holds: {}", verdicts.is_good())?);
+        };
+        let why = match found.verdict {
+            Verdict::Ignored | Verdict::Right | Verdict::Missing => continue,
+            Verdict::Bad => "improperly formatted",
+            Verdict::Wrong => "another digest",
+            Verdict::Unread(Fault::NotFound) => "not there",
+            Verdict::Unread(_) => "can't be read",
+        };
+        let name = String::from_utf8_lossy(rt.alloc(), &line[found.start..found.stop])?;
+        println!(rt; "line {}, {name:?}: {why}", found.number)?;
     }
     Ok(())
 }

@@ -15,14 +15,15 @@ use Rattle.sum_engine.specs.declared.progress.Progress.TheVariants.{Going, Ended
 use Rattle.sum_engine.specs.declared.stop.Stop.{Stop}
 use Rattle.sum_engine.specs.declared.stop.Stop.TheVariants.{Memory, Write}
 use Rattle.sum_engine.specs.declared.summary.Counts.{Counts}
-use Rattle.sum_engine.specs.declared.verdict.Judgement.{Judgement}
+use Rattle.sum_engine.specs.declared.verdict.LineVerdict.{LineVerdict}
 use Rattle.sum_engine.specs.Worlds.{is_dash}
 use Rattle.sum_engine.specs.Runs.{Step}
 use Rattle.sum_engine.specs.Verdicts.{Rules, asks_of}
 use Rattle.sum_engine.specs.Reports.{err_by, out_of, err_of, counts_with, end_text, good}
 use Rattle.sum_engine.specs.RunStates.{RunState, refusals_over}
 use Rattle.sum_engine.specs.Steps.{Now, now_by, Moves, StepGives, next_judged, rest_verdicts}
-use Rattle.sum_engine.specs.refinement.Judging.{JudgeGives, judgement_asks}
+use Rattle.sum_engine.specs.LineVerdicts.{judged_in}
+use Rattle.sum_engine.specs.refinement.Finding.{LineGives}
 use Rattle.sum_engine.specs.refinement.Telling.{out_by, HandsBoth}
 use Rattle.sum_engine.specs.refinement.Handling.{events_by, HandleGives}
 use Rattle.sum_sources.specs.declared.fault.Ending.{Ending}
@@ -33,16 +34,16 @@ use Rattle.sum_engine.proofs.RestLemmas.{line_step, first_step, line_first, line
 -- ---- one line was handled
 
 -- its name was asked, and its report handed on, whereupon it was counted, or a prefix of the report
-pub handled : (r : Rules) (said : ParsedLine) (n : ℕ) (c d : Counts) (a b : Seen) (j : Judgement) (x : Writing)
-    → JudgeGives r a.world b.world said (Some j) → b.taken ≡ a.taken || list_any is_dash (judgement_asks j)
-    → OnOk x (d ≡ counts_with c j.verdict)
-    → HandsBoth a.err b.err a.out b.out (err_by r n j.verdict j.name.now)
-    (out_by r.profile r.settings.report j.verdict j.name.now) x
+pub handled : (r : Rules) (said : ParsedLine) (n : ℕ) (c d : Counts) (vector : List ℕ) (a b : Seen) (v : LineVerdict)
+    (x : Writing) → LineGives r said n c d vector a.world b.world (Some v)
+    → b.taken ≡ a.taken || list_any is_dash (asks_of (judged_in vector v))
+    → HandsBoth a.err b.err a.out b.out (err_by r v.number v.verdict (judged_in vector v).name)
+    (out_by r.profile r.settings.report v.verdict (judged_in vector v).name) x
     → HandleGives r said n c d (seen a) (seen b) (answered x (tt {0}))
-handled r said n c d a b j (Ok u) h taken count hands = seen-told a b _ h (λ w v judged.
-    rw (judged.0 n) (count, came_by _ _ (judgement_asks j) _ _ (Ok u) judged.1 taken hands))
-handled r said n c d a b j (Err e) h taken count hands = seen-told a b _ h (λ w v judged.
-    rw (judged.0 n) (came_by _ _ (judgement_asks j) _ _ (Err e) judged.1 taken hands))
+handled r said n c d vector a b v (Ok u) h taken hands = seen-told a b _ h (λ w v' judged.
+    rw (judged.0) (judged.2, came_by _ _ (asks_of (judged_in vector v)) _ _ (Ok u) judged.1 taken hands))
+handled r said n c d vector a b v (Err e) h taken hands = seen-told a b _ h (λ w v' judged.
+    rw (judged.0) (came_by _ _ (asks_of (judged_in vector v)) _ _ (Err e) judged.1 taken hands))
 
 -- ---- where a checker stands
 
@@ -116,7 +117,7 @@ abbrev pub now : Rules → Rules
 now r = record { profile = present; settings = r.settings; tool = r.tool; shown = r.shown; from_stdin = r.from_stdin }
 
 -- what a line says, read at that place
-abbrev parsed_line_at : Rules → Standing → List ℕ → ParsedLine
+abbrev pub parsed_line_at : Rules → Standing → List ℕ → ParsedLine
 parsed_line_at r a line = parse_line present r.settings.algo (form_then a.form (line_form r.settings.algo line)) line
 
 -- a line, which was handled

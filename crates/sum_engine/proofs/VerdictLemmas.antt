@@ -49,12 +49,12 @@ verdict_is : (r : Rules) (w : World) (s : Spelled) (a : Asked) → r.from_stdin 
 verdict_is r w s a dash h =
     rw dash (by_asked r.settings.ignore_missing (kind_of s) s.digest (reply w s.name) a h)
 
--- an entry's judgement, by what came of asking its name
-pub judged_entry : (r : Rules) (w v : Option World) (s : Spelled) (a : Asked) (verdict : Verdict) (name : List ℕ)
+-- an entry's verdict, by what came of asking its name
+pub judged_entry : (r : Rules) (w v : Option World) (s : Spelled) (a : Asked) (verdict : Verdict)
     → r.from_stdin && is_dash s.name ≡ false → AskGives (kind_of s) w v s.name (Some a)
-    → verdict ≡ compared r.settings.ignore_missing s.digest a → name ≡ s.name
-    → WhereTold w v (λ w v. IsJudged r w v (WithEntry s) verdict name)
-judged_entry r w v s a verdict name dash h is same = WhereTold-map w v (λ w v asked. (
-  λ n. rw (is, same, verdict_is r w s a dash asked.1) refl,
-  rw (is, same, asks_compared r.settings.ignore_missing s.digest a s.name) asked.0,
+    → verdict ≡ compared r.settings.ignore_missing s.digest a
+    → WhereTold w v (λ w v. IsJudged r w v (WithEntry s) verdict)
+judged_entry r w v s a verdict dash h is = WhereTold-map w v (λ w v asked. (
+  λ n. rw (is, verdict_is r w s a dash asked.1) refl,
+  rw (is, asks_compared r.settings.ignore_missing s.digest a s.name) asked.0,
 )) h

@@ -8,6 +8,7 @@ pub mod Checking
 pub mod RunStates
 pub mod Steps
 pub mod Checkers
+pub mod LineVerdicts
 pub mod Manifests
 pub mod Laws
 pub mod OldVerdicts

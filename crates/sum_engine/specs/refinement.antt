@@ -6,3 +6,4 @@ pub mod Handling
 pub mod Judging
 pub mod Listings
 pub mod Positions
+pub mod Finding

@@ -18,6 +18,7 @@ mod telling;
 #[cfg(test)]
 mod tests;
 mod verdict;
+mod verdicts;
 
 pub use checker::Checker;
 pub use generate::generate_one;
@@ -26,3 +27,5 @@ pub use progress::Progress;
 pub use settings::{CheckSettings, Report, Settings};
 pub use stop::Stop;
 pub use streams::Streams;
+pub use verdict::{LineVerdict, Verdict};
+pub use verdicts::Verdicts;

@@ -1,5 +1,6 @@
 //! Where the checking of a manifest stands.
-ghost use Rattle.std.specs.Prelude.{◌≡◌, ◌≤◌, ◌<◌, Ok, Err, None, [], length, Option};
+ghost use Rattle.std.specs.Prelude.{◌≡◌, ◌≤◌, ◌<◌, ◌||◌, Ok, Err, None, [], length, Option, MatchOption, is_none, IfSome, IfOk};
+ghost use Rattle.sum_sources.specs.Sources.{after_refusal};
 ghost use Rattle.digest_kinds.specs.Limits.{LIMIT};
 ghost use Rattle.sum_lines.specs.Profiles.{present};
 ghost use Rattle.sum_engine.specs.Reports.{total};
@@ -10,11 +11,11 @@ use crate::report::{put_fault_line, put_report};
 use crate::stop::Stop;
 use crate::streams::Streams;
 use crate::summary::{Counts, is_good, put_summary};
-use crate::verdict::{judge, read};
+use crate::verdict::{LineVerdict, Verdict, judge, name_place, read};
 use digest_kinds::LIMIT;
 use std::alloc::Allocator;
-use sum_lines::{Form, Reading, Sink};
-use sum_sources::{Input, LineReader, LineStop, Next, PIECE, Source};
+use sum_lines::{Form, Sink};
+use sum_sources::{Input, LineReader, LineStop, Next, PIECE, Source, Stdin};
 
 /// A manifest, its lines so far, and what is still to come of it.
 #[derive(Drop)]
@@ -37,7 +38,15 @@ impl<'a, I: Input> Position<'a, I> {
     ghost use Rattle.sum_engine.specs.RunStates.{RunState, run_state, HoldNothing, Failures, refusals_over};
     ghost use Rattle.sum_engine.specs.Steps.{no_line, StepGives, WantsMemory};
     ghost use Rattle.sum_engine.specs.Checkers.{now_of, Reads};
+    ghost use Rattle.sum_sources.specs.declared.fault.Ending.TheVariants.{Whole};
+    ghost use Rattle.sum_engine.specs.Reports.{good};
+    ghost use Rattle.std.specs.List.{list_any};
+    ghost use Rattle.sum_engine.specs.Worlds.{is_dash};
+    ghost use Rattle.sum_engine.specs.Verdicts.{asks_of};
+    ghost use Rattle.sum_engine.specs.refinement.Asking.{world};
+    ghost use Rattle.sum_engine.specs.LineVerdicts.{asking_state, judged_in, Names, FindGives, progress_of};
     ghost use Rattle.sum_engine.specs.refinement.Handling.{HandleGives};
+    ghost use Rattle.sum_engine.specs.refinement.Finding.{LineGives};
     ghost use Rattle.sum_engine.specs.refinement.Listings.{rules_in};
     ghost use Rattle.sum_engine.specs.refinement.Positions.{place_of};
 
@@ -63,6 +72,13 @@ impl<'a, I: Input> Position<'a, I> {
         ensures most { result ≤ LIMIT }
     {
         self.reader.taken()
+    }
+
+    /// Whether the manifest is good by its lines so far.
+    pub(crate) fn is_good(&self) -> bool
+        ensures { result ≡ good (rules_in self.now.listing) Whole self.now.counts }
+    {
+        is_good(&self.listing, self.counts)
     }
 
     /// Handles the next line, or the end.
@@ -137,31 +153,91 @@ impl<'a, I: Input> Position<'a, I> {
         ensures reader { self.new.reader ≡ self.old.reader }
         ensures rules { rules_in self.new.listing ≡ rules_in self.old.listing }
     {
-        let (reading, form) = read(self.listing.settings.algo, self.form, line);
-        self.form = form;
-        if let Reading::Ignored = reading {
-            return Ok(());
-        }
-        let Some(judgement) = judge(
-            &self.listing,
-            line,
-            &reading,
-            &mut streams.stdin,
-            &mut streams.source,
-            &mut self.buffer,
-        ) else {
+        let Some(found) = self.judge_line(line, &mut streams.stdin, &mut streams.source) else {
             return Err(Stop::Memory);
         };
-        let number = self.number();
+        if let Verdict::Ignored = found.verdict {
+            return Ok(());
+        }
         put_report(
             &mut streams.out,
             &mut streams.err,
             &self.listing,
-            number,
-            judgement.verdict,
-            judgement.name,
+            found.number,
+            found.verdict,
+            &line[found.start..found.stop],
         )?;
-        self.counts = self.counts.counted(judgement.verdict);
         Ok(())
+    }
+
+    // The verdict of a line that was read, which is counted. None where the source had no memory to open its name.
+    fn judge_line<A: Allocator, J: Input + Drop, S: Source>(
+        &mut self,
+        line: &mut Vec<u8, A>,
+        stdin: &mut Stdin<J>,
+        source: &mut S,
+    ) -> Option<LineVerdict>
+        requires room { total self.old.counts < self.old.reader.lines }
+        requires few { self.old.reader.lines ≤ LIMIT }
+        ensures gives { LineGives (rules_in self.old.listing) (parse_line present self.old.listing.settings.algo
+            (form_then self.old.form (line_form self.old.listing.settings.algo line.old.items)) line.old.items)
+            self.old.reader.lines self.old.counts self.new.counts line.new.items
+            (world J.content (S.told source.old) stdin.old) (world J.content (S.told source.new) stdin.new) result }
+        ensures taken { MatchOption result (stdin.new ≡ stdin.old) (λ v. is_none stdin.new
+            ≡ is_none stdin.old || list_any is_dash (asks_of (judged_in line.new.items v))) }
+        ensures names { IfSome result (λ v. Names line.new.items v) }
+        ensures form { self.new.form
+            ≡ form_then self.old.form (line_form self.old.listing.settings.algo line.old.items) }
+        ensures held { length line.new.items ≤ length line.old.items }
+        ensures refusals { MatchOption result (S.refusals source.new ≡ after_refusal (S.refusals source.old))
+            (λ _. S.refusals source.new ≡ S.refusals source.old) }
+        ensures reader { self.new.reader ≡ self.old.reader }
+        ensures rules { rules_in self.new.listing ≡ rules_in self.old.listing }
+    {
+        let (reading, form) = read(self.listing.settings.algo, self.form, line);
+        self.form = form;
+        let Some(verdict) = judge(
+            &self.listing,
+            line,
+            &reading,
+            stdin,
+            source,
+            &mut self.buffer,
+        ) else {
+            return None;
+        };
+        self.counts = self.counts.counted(verdict);
+        let (start, stop) = name_place(&reading);
+        Some(LineVerdict {
+            number: self.number(),
+            verdict,
+            start,
+            stop,
+        })
+    }
+
+    /// The verdict of the next line, or None where no line is left. Nothing is written.
+    pub(crate) fn find<A: Allocator, J: Input + Drop, S: Source>(
+        &mut self,
+        line: &mut Vec<u8, A>,
+        stdin: &mut Stdin<J>,
+        source: &mut S,
+    ) -> Result<Option<LineVerdict>, LineStop>
+        ensures gives { FindGives (rules_in self.old.listing) line.new.items
+            (now_of I.content (place_of self.old) (asking_state J.content S.told stdin.old source.old))
+            (now_of I.content (place_of self.new) (asking_state J.content S.told stdin.new source.new)) result }
+        ensures names { IfOk result (λ found. IfSome found (λ v. Names line.new.items v)) }
+        ensures wants { WantsMemory (S.refusals source.old) (S.refusals source.new) (coming I.content self.old.reader)
+            (progress_of result) }
+        ensures reads { Reads I.content (place_of self.old) (place_of self.new) (progress_of result) }
+    {
+        match self.reader.next_line(line) {
+            Err(stop) => Err(stop),
+            Ok(Next::NoMore) => Ok(None),
+            Ok(Next::Line) => match self.judge_line(line, stdin, source) {
+                Some(verdict) => Ok(Some(verdict)),
+                None => Err(LineStop::Memory),
+            },
+        }
     }
 }

@@ -1,4 +1,5 @@
 //! Worked rows of hashing and checking, over told files.
 mod checking;
+mod finding;
 mod hashing;
 mod stepping;

@@ -1,9 +1,10 @@
 //! The verdict of a line.
-ghost use Rattle.std.specs.Prelude.{◌≡◌, ◌||◌, ◌≤◌, length, MatchOption, is_none};
+ghost use Rattle.std.specs.Prelude.{◌≡◌, ◌||◌, ◌≤◌, ℕ, List, length, slice_range, MatchOption, is_none};
 ghost use Rattle.std.specs.List.{list_any};
 ghost use Rattle.sum_sources.specs.Sources.{after_refusal};
 ghost use Rattle.sum_lines.specs.Entries.{form_then, line_form};
 ghost use Rattle.sum_engine.specs.Worlds.{is_dash};
+ghost use Rattle.sum_engine.specs.Verdicts.{asks_by};
 ghost use Rattle.sum_lines.specs.Profiles.{present};
 ghost use Rattle.sum_lines.specs.ParsedLines.{parse_line};
 ghost use Rattle.sum_engine.specs.refinement.Asking.{world};
@@ -17,7 +18,7 @@ use sum_sources::{Fault, Input, PIECE, Source, Stdin};
 
 /// What checking finds of a manifest's line.
 #[derive(Clone, Copy, Debug, PartialEq, Eq)]
-pub(crate) enum Verdict {
+pub enum Verdict {
     /// The line says nothing.
     Ignored,
     /// It is improperly formatted.
@@ -32,15 +33,18 @@ pub(crate) enum Verdict {
     Unread(Fault),
 }
 
-/// A line's verdict, and the name of its entry.
-#[derive(Drop)]
-pub(crate) struct Judgement<'a> {
+/// A line's number (the first is 1), its verdict, and where the name of its entry stands in the line's vector: from
+/// `start` up to `stop`. That is empty where the line has no entry.
+#[derive(Clone, Copy, Debug, PartialEq, Eq)]
+pub struct LineVerdict {
+    pub number: u64,
     pub verdict: Verdict,
-    pub name: &'a [u8],
+    pub start: usize,
+    pub stop: usize,
 }
 
 ghost use Rattle.sum_engine.specs.refinement.Listings.{rules_in};
-ghost use Rattle.sum_engine.specs.refinement.Judging.{parsed_line_by, Within, JudgeGives, compared, judgement_asks};
+ghost use Rattle.sum_engine.specs.refinement.Judging.{parsed_line_by, name_said, Within, JudgeGives, compared};
 
 /// Reads a line, in a list of the form that the lines before it have.
 pub(crate) fn read<A: Allocator>(algos: Algos, form: Form, line: &mut Vec<u8, A>) -> (Reading, Form)
@@ -53,31 +57,26 @@ pub(crate) fn read<A: Allocator>(algos: Algos, form: Form, line: &mut Vec<u8, A>
 }
 
 /// The verdict of a line that was read. None where the source had no memory to open the name; nothing was then asked.
-pub(crate) fn judge<'a, I: Input + Drop, S: Source>(
+pub(crate) fn judge<I: Input + Drop, S: Source>(
     listing: &Listing,
-    line: &'a [u8],
+    line: &[u8],
     reading: &Reading,
     stdin: &mut Stdin<I>,
     source: &mut S,
     buffer: &mut [u8; PIECE],
-) -> Option<Judgement<'a>>
+) -> Option<Verdict>
     requires { Within line.now reading.now }
     ensures gives { JudgeGives (rules_in listing.now) (world I.content (S.told source.old) stdin.old)
         (world I.content (S.told source.new) stdin.new) (parsed_line_by line.now reading.now) result }
     ensures taken { MatchOption result (stdin.new ≡ stdin.old)
-        (λ j. is_none stdin.new ≡ is_none stdin.old || list_any is_dash (judgement_asks j)) }
+        (λ v. is_none stdin.new
+        ≡ is_none stdin.old || list_any is_dash (asks_by v (name_said (parsed_line_by line.now reading.now)))) }
     ensures refusals { MatchOption result (S.refusals source.new ≡ after_refusal (S.refusals source.old))
         (λ _. S.refusals source.new ≡ S.refusals source.old) }
 {
     match reading {
-        Reading::Ignored => Some(Judgement {
-            verdict: Verdict::Ignored,
-            name: b"",
-        }),
-        Reading::Bad => Some(Judgement {
-            verdict: Verdict::Bad,
-            name: b"",
-        }),
+        Reading::Ignored => Some(Verdict::Ignored),
+        Reading::Bad => Some(Verdict::Bad),
         Reading::Entry {
             kind,
             digest,
@@ -86,16 +85,12 @@ pub(crate) fn judge<'a, I: Input + Drop, S: Source>(
         } => {
             let name = &line[*start..*stop];
             if listing.from_stdin && is_dash(name) {
-                return Some(Judgement {
-                    verdict: Verdict::Bad,
-                    name,
-                });
+                return Some(Verdict::Bad);
             }
             let Some(asked) = ask(*kind, name, stdin, source, buffer) else {
                 return None;
             };
-            let verdict = compare(&asked, digest, listing.settings.ignore_missing);
-            Some(Judgement { verdict, name })
+            Some(compare(&asked, digest, listing.settings.ignore_missing))
         }
     }
 }
@@ -114,5 +109,16 @@ fn compare(asked: &Asked, digest: &Digest, ignore_missing: bool) -> Verdict
         Asked::Refused(Fault::NotFound) if ignore_missing => Verdict::Missing,
         Asked::Refused(fault) => Verdict::Unread(*fault),
         Asked::Broken(fault) => Verdict::Unread(*fault),
+    }
+}
+
+/// Where a line's name stands in its vector.
+pub(crate) fn name_place(reading: &Reading) -> (usize, usize)
+    ensures name { (line : List ℕ) → slice_range line result.0 result.1 ≡ name_said (parsed_line_by line reading.now) }
+    ensures within { (line : List ℕ) → Within line reading.now → (result.0 ≤ result.1) × (result.1 ≤ length line) }
+{
+    match reading {
+        Reading::Entry { start, stop, .. } => (*start, *stop),
+        _ => (0, 0),
     }
 }

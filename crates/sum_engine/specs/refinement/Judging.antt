@@ -1,5 +1,5 @@
 -- Joins what the code finds of a line to what the line says, and to its verdict.
-use Rattle.std.specs.Prelude.{ℕ, ◌≡◌, ◌≤◌, Bool, List, length, slice_range, Option, None, Some, ⊤, if◌then◌else◌}
+use Rattle.std.specs.Prelude.{ℕ, ◌≡◌, ◌≤◌, Bool, List, [], length, slice_range, Option, None, Some, ⊤, if◌then◌else◌}
 use Rattle.std.specs.Str.{bytes_eq}
 use Rattle.sum_sources.specs.declared.fault.Fault.TheVariants.{NotFound, Denied, Other}
 use Rattle.sum_sources.specs.Contents.{WhereTold}
@@ -7,7 +7,6 @@ use Rattle.sum_lines.specs.declared.line_reading.Reading.{Reading}
 use Rattle.sum_lines.specs.declared.line_reading.Reading.TheVariants as readings
 use Rattle.sum_engine.specs.declared.asking.Asked.{Asked}
 use Rattle.sum_engine.specs.declared.asking.Asked.TheVariants as asked
-use Rattle.sum_engine.specs.declared.verdict.Judgement.{Judgement}
 use Rattle.sum_engine.specs.declared.verdict.Verdict.{Verdict}
 use Rattle.sum_engine.specs.declared.verdict.Verdict.TheVariants.{Right, Wrong, Missing, Unread}
 use Rattle.sum_lines.specs.ParsedLines.{ParsedLine, Nothing, Improper, WithEntry}
@@ -27,8 +26,11 @@ Within line readings.Ignored = ⊤
 Within line readings.Bad = ⊤
 Within line (readings.Entry kind digest start stop) = (start ≤ stop) × (stop ≤ length line) × (length digest ≡ kind.len)
 
-abbrev pub judgement_asks : Judgement → List (List ℕ)
-judgement_asks j = asks_by j.verdict j.name.now
+-- the name in what a line says, or nothing
+abbrev pub name_said : ParsedLine → List ℕ
+name_said Nothing = []
+name_said Improper = []
+name_said (WithEntry s) = s.name
 
 -- the verdict by what came of asking the name
 abbrev pub compared : Bool → List ℕ → Asked → Verdict
@@ -38,14 +40,14 @@ compared ignore d (asked.Refused Denied) = Unread Denied
 compared ignore d (asked.Refused Other) = Unread Other
 compared ignore d (asked.Broken f) = Unread f
 
--- a line that says this has this verdict and name, whatever its number, and the name was asked where that asks it
-abbrev pub IsJudged : Rules → World → World → ParsedLine → Verdict → List ℕ → Type 0
-IsJudged r w v x verdict name = ((n : ℕ) → judge r w n x ≡ record { number = n; verdict = verdict; name = name })
-    × (v ≡ after w (asks_by verdict name))
+-- a line that says this has this verdict, whatever its number, and its name was asked where that asks it
+abbrev pub IsJudged : Rules → World → World → ParsedLine → Verdict → Type 0
+IsJudged r w v x verdict = ((n : ℕ) → judge r w n x ≡ record { number = n; verdict = verdict; name = name_said x })
+    × (v ≡ after w (asks_by verdict (name_said x)))
 
-abbrev pub JudgeOf : Rules → World → World → ParsedLine → Option Judgement → Type 0
+abbrev pub JudgeOf : Rules → World → World → ParsedLine → Option Verdict → Type 0
 JudgeOf r w v x None = v ≡ w
-JudgeOf r w v x (Some j) = IsJudged r w v x j.verdict j.name.now
+JudgeOf r w v x (Some verdict) = IsJudged r w v x verdict
 
-abbrev pub JudgeGives : Rules → Option World → Option World → ParsedLine → Option Judgement → Type 0
+abbrev pub JudgeGives : Rules → Option World → Option World → ParsedLine → Option Verdict → Type 0
 JudgeGives r w v x j = WhereTold w v (λ w v. JudgeOf r w v x j)

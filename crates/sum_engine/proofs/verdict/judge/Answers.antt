@@ -18,5 +18,5 @@ returns-in-Some-clause-gives g c =
       | else-listing-via-else-listing
           w ↦ search rules
     ] in
-    rw c.in-Entry.is (judged_entry (rules_in c.args.listing.now) _ _ s c.in-Some.asked _ _ dash
-    (rw (← within.2) at c.in-Some.ensures.gives) c.compare-verdict.ensures refl)
+    rw c.in-Entry.is (judged_entry (rules_in c.args.listing.now) _ _ s c.in-Some.asked _ dash
+    (rw (← within.2) at c.in-Some.ensures.gives) c.compare.ensures)

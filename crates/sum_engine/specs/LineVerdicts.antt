@@ -1,0 +1,85 @@
+-- What judging the lines of a manifest gives, one after the other, with no text written.
+use Rattle.std.specs.Prelude.{ℕ, ◌≡◌, ◌≤◌, List, [], ◌∷◌, map, length, slice_range, Bool, true, false, is_none}
+use Rattle.std.specs.Prelude.{Option, None, Some, Result, Ok, Err}
+use Rattle.sum_sources.specs.declared.fault.Ending.{Ending}
+use Rattle.sum_sources.specs.declared.fault.Ending.TheVariants.{Whole, Broken}
+use Rattle.sum_sources.specs.declared.lines.LineReader.{LineReader}
+use Rattle.sum_sources.specs.declared.lines.LineStop.{LineStop}
+use Rattle.sum_sources.specs.declared.lines.LineStop.TheVariants.{Fault, Memory}
+use Rattle.sum_sources.specs.Contents.{Content, WhereTold}
+use Rattle.sum_sources.specs.ManifestLines.{past_line}
+use Rattle.sum_sources.specs.Sources.{Telling}
+use Rattle.sum_sources.specs.Standard.{left_in}
+use Rattle.sum_engine.specs.declared.progress.Progress.{Progress}
+use Rattle.sum_engine.specs.declared.progress.Progress.TheVariants.{Going, Ended}
+use Rattle.sum_engine.specs.declared.stop.Stop.{Stop}
+use Rattle.sum_engine.specs.declared.stop.Stop.TheVariants as stops
+use Rattle.sum_engine.specs.declared.verdict.LineVerdict.{LineVerdict}
+use Rattle.sum_engine.specs.Runs.{Opens}
+use Rattle.sum_engine.specs.Verdicts.{Rules, Judged, asks_of}
+use Rattle.sum_engine.specs.Reports.{counts_with}
+use Rattle.sum_engine.specs.RunStates.{RunState, world_by, run_state_by, Did}
+use Rattle.sum_engine.specs.Steps.{Now, rest_verdicts}
+use Rattle.sum_engine.specs.Checkers.{Place}
+
+-- the verdicts of a manifest: where its checking stands; whether memory was wanted, which every later call answers; and
+-- whether the last call found that it had ended, and not by a fault
+pub record Finding (I : Type 0) : Type 0 where
+  pub place : Place I
+  pub short : Bool
+  pub whole : Bool
+
+-- the run state of a call that writes to no output
+abbrev pub asking_state : {I S : Type 0} → (I → Option Content) → (S → Option Telling) → Option I → S → Option RunState
+asking_state content told stdin source =
+    run_state_by (world_by (told source) (left_in content stdin)) (is_none stdin) None None
+
+-- the judged line: its name stands in the vector
+abbrev pub judged_in : List ℕ → LineVerdict → Judged
+judged_in vector v = record { number = v.number; verdict = v.verdict; name = slice_range vector v.start v.stop }
+
+-- its name stands within the vector
+pub record Names (vector : List ℕ) (v : LineVerdict) : Type 0 where
+  pub start : v.start ≤ v.stop
+  pub stop : v.stop ≤ length vector
+
+-- a line was judged, which is the first of those that were to come; its name was opened, where its verdict asks that
+pub record Finds (r : Rules) (a b : Now) (j : Judged) : Type 0 where
+  pub first : rest_verdicts r a ≡ j ∷ rest_verdicts r b
+  pub did : Did a.run_state b.run_state (map Opens (asks_of j))
+  pub counts : b.counts ≡ counts_with a.counts j.verdict
+  pub rest : b.rest ≡ past_line a.rest
+
+-- none is to come, and the manifest ends so; nothing was opened
+pub record FindsNone (r : Rules) (e : Ending) (a b : Now) : Type 0 where
+  pub none : rest_verdicts r a ≡ []
+  pub ending : a.rest.ending ≡ e
+  pub same : b.run_state ≡ a.run_state
+  pub counts : b.counts ≡ a.counts
+
+abbrev pub FindOf : Rules → List ℕ → Now → Now → Result (Option LineVerdict) LineStop → Type 0
+FindOf r vector a b (Ok (Some v)) = Finds r a b (judged_in vector v)
+FindOf r vector a b (Ok None) = FindsNone r Whole a b
+FindOf r vector a b (Err (Fault f)) = FindsNone r (Broken f) a b
+FindOf r vector a b (Err Memory) = b.run_state ≡ a.run_state
+
+-- what the next verdict is, where the manifest and the world tell
+abbrev pub FindGives : Rules → List ℕ → Option Now → Option Now → Result (Option LineVerdict) LineStop → Type 0
+FindGives r vector a b x = WhereTold a b (λ a b. FindOf r vector a b x)
+
+-- the same answer as a step's: a line, the end, or want of memory
+abbrev pub progress_of : Result (Option LineVerdict) LineStop → Result Progress Stop
+progress_of (Ok (Some v)) = Ok Going
+progress_of (Ok None) = Ok (Ended true)
+progress_of (Err (Fault f)) = Ok (Ended false)
+progress_of (Err Memory) = Err stops.Memory
+
+-- whether memory was wanted
+abbrev pub is_short : Result (Option LineVerdict) LineStop → Bool
+is_short (Err Memory) = true
+is_short x = false
+
+-- whether no line is left
+abbrev pub is_whole : Result (Option LineVerdict) LineStop → Bool
+is_whole (Ok None) = true
+is_whole x = false

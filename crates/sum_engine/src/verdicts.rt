@@ -1,0 +1,124 @@
+//! The verdicts of a manifest, without any text.
+ghost use Rattle.std.specs.Prelude.{◌≡◌, ◌≤◌, ◌&&◌, [], true, false, None, Some, Err, Option, IfOk, IfSome};
+ghost use Rattle.sum_lines.specs.Profiles.{present};
+ghost use Rattle.sum_engine.specs.Steps.{no_line, WantsMemory};
+
+use crate::listing::Listing;
+use crate::position::Position;
+use crate::settings::CheckSettings;
+use crate::summary::is_good;
+use crate::verdict::LineVerdict;
+use digest_kinds::LIMIT;
+use std::alloc::Allocator;
+use std::marker::Model;
+use sum_sources::{Input, LineStop, Source, Stdin};
+
+/// The verdicts of a manifest's lines, one at a time, for a program that shows them in its own way. Nothing is written;
+/// what the settings say of reports doesn't matter.
+#[derive(Drop)]
+pub struct Verdicts<I> {
+    position: Position<'static, I>,
+    // memory was wanted, which every later call answers again
+    short: bool,
+    // the last call found that the manifest had ended, and not by a fault
+    whole: bool,
+}
+
+impl<I> Model for Verdicts<I> {
+    ghost use Rattle.sum_engine.specs.LineVerdicts.{Finding};
+
+    ghost Value = { Finding I };
+
+    ghost use Rattle.sum_engine.specs.refinement.Positions.{place_of};
+
+    ghost view = { λ v. record { place = place_of v.position; short = v.short; whole = v.whole } };
+}
+
+impl<I: Input> Verdicts<I> {
+    ghost use Rattle.std.specs.Option.{option_map};
+    ghost use Rattle.sum_sources.specs.declared.fault.Ending.TheVariants.{Whole};
+    ghost use Rattle.sum_sources.specs.Contents.{clip};
+    ghost use Rattle.sum_sources.specs.LineReaders.{coming};
+    ghost use Rattle.sum_engine.specs.Reports.{good};
+    ghost use Rattle.sum_engine.specs.RunStates.{RunState};
+    ghost use Rattle.sum_engine.specs.Checkers.{now_of, Reads};
+    ghost use Rattle.sum_engine.specs.LineVerdicts.{asking_state, Names, FindGives, progress_of, is_short, is_whole};
+
+    /// In front of the first line of the manifest that `input` gives; `from_stdin` says whether it came from standard
+    /// input, where a line that names `-` is improperly formatted.
+    pub fn new(settings: CheckSettings, from_stdin: bool, input: I) -> Self
+        ensures rules { result.place.rules ≡ record {
+          profile = present;
+          settings = settings;
+          tool = [];
+          shown = [];
+          from_stdin = from_stdin;
+        } }
+        ensures now { (s : Option RunState) → now_of I.content result.place s
+            ≡ no_line (option_map clip (I.content input)) s }
+        ensures short { result.short ≡ false }
+        ensures whole { result.whole ≡ false }
+        ensures reader { result.place.reader
+            ≡ record { input = input; ahead = []; taken = 0; lines = 0; answer = None } }
+    {
+        let listing = Listing {
+            settings,
+            tool: "",
+            shown: b"",
+            from_stdin,
+        };
+        Verdicts {
+            position: Position::new(listing, input),
+            short: false,
+            whole: false,
+        }
+    }
+
+    /// How many bytes the manifest's input has given.
+    pub fn taken(&self) -> u64
+        ensures value { result ≡ self.now.place.reader.taken }
+        ensures most { result ≤ LIMIT }
+    {
+        self.position.taken()
+    }
+
+    /// Reads the next line, and finds its verdict: None where no line is left. `line` is grown for the line, and holds
+    /// the name of its entry; what it held before doesn't matter. `stdin` is what the name `-` stands for in a manifest
+    /// that didn't come from there, and `source` is where files are opened.
+    ///
+    /// `LineStop::Fault` where the manifest ended by that fault. `LineStop::Memory` where there was no memory for the line
+    /// or for opening the file that it names; each later call then answers the same and does nothing.
+    pub fn next<A: Allocator, J: Input + Drop, S: Source>(
+        &mut self,
+        line: &mut Vec<u8, A>,
+        stdin: &mut Stdin<J>,
+        source: &mut S,
+    ) -> Result<Option<LineVerdict>, LineStop>
+        ensures gives { self.old.short ≡ false → FindGives self.old.place.rules line.new.items
+            (now_of I.content self.old.place (asking_state J.content S.told stdin.old source.old))
+            (now_of I.content self.new.place (asking_state J.content S.told stdin.new source.new)) result }
+        ensures names { IfOk result (λ found. IfSome found (λ v. Names line.new.items v)) }
+        ensures again { self.old.short ≡ true → (result ≡ Err LineStop.Memory) × (self.new ≡ self.old)
+            × (stdin.new ≡ stdin.old) × (source.new ≡ source.old) }
+        ensures short { self.old.short ≡ false → self.new.short ≡ is_short result }
+        ensures whole { self.old.short ≡ false → self.new.whole ≡ is_whole result }
+        ensures wants { self.old.short ≡ false → WantsMemory (S.refusals source.old) (S.refusals source.new)
+            (coming I.content self.old.place.reader) (progress_of result) }
+        ensures reads { self.old.short ≡ false → Reads I.content self.old.place self.new.place (progress_of result) }
+    {
+        if self.short {
+            return Err(LineStop::Memory);
+        }
+        let found = self.position.find(line, stdin, source);
+        self.short = found == Err(LineStop::Memory);
+        self.whole = found == Ok(None);
+        found
+    }
+
+    /// Whether the manifest is good. It isn't before `next` has answered that no line is left.
+    pub fn is_good(&self) -> bool
+        ensures { result ≡ self.now.whole && good self.now.place.rules Whole self.now.place.counts }
+    {
+        self.whole && self.position.is_good()
+    }
+}
