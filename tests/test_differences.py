@@ -116,7 +116,8 @@ class Checks(Described):
         self.write("one", [f"{M} a"])
         self.write("two", [f"{M}  a"])
         missing = ["md5sum: ' a': No such file or directory", "md5sum: WARNING: 1 listed file could not be read"]
-        self.expect_both("md5sum -c one two", (0, ["a: OK"] * 2, b""), (1, ["a: OK", " a: FAILED open or read"], missing))
+        theirs = (1, ["a: OK", " a: FAILED open or read"], missing)
+        self.expect_both("md5sum -c one two", (0, ["a: OK"] * 2, b""), theirs)
         none = ["md5sum: one: no properly formatted checksum lines found"]
         self.expect_both("md5sum -c two one", (0, ["a: OK"] * 2, b""), (1, ["a: OK"], none))
         for name in ("one", "two"):
@@ -213,7 +214,8 @@ class Writing(Described):
         """It ends the run here; GNU's tools still read the other files."""
         missing = "md5sum: x: No such file or directory"
         with self.full() as full:
-            self.expect_both("md5sum a x", (1, b"", WRITE_ERROR), (1, b"", [missing, "md5sum: write error"]), stdout=full)
+            theirs = (1, b"", [missing, "md5sum: write error"])
+            self.expect_both("md5sum a x", (1, b"", WRITE_ERROR), theirs, stdout=full)
 
     def test_a_reader_that_goes_away(self):
         """A write error with status 1; GNU's tools are ended by a signal."""
@@ -228,6 +230,6 @@ class Writing(Described):
         for words, theirs in (("md5sum a e a", 3), ("md5sum --tag a e a", 3), ("md5sum -z a e a", 1)):
             self.assertEqual(self.writes_of(words), (0, 3))
             with open(self.path("out"), "wb") as out:
-                before = self.writes_so_far()
-                subprocess.run(harness.as_words(words), executable=gnu("md5sum"), stdout=out, cwd=self.folder, check=True)
+                command, before = harness.as_words(words), self.writes_so_far()
+                subprocess.run(command, executable=gnu("md5sum"), stdout=out, cwd=self.folder, check=True)
                 self.assertEqual(self.writes_so_far() - before, theirs, words)

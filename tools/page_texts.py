@@ -97,8 +97,8 @@ REPORTS = {
 
 STATUSES = {
     "0": "Every file was read and its line written. With `--check`: every manifest was read to its end, lists a file "
-         "that has the right checksum, and none that has another or couldn't be read (with `--ignore-missing`, files may "
-         "be missing); and with `--strict` no line is improperly formatted. With `--help` or `--version`: the text was "
+         "that has the right checksum, and none that has another or couldn't be read (with `--ignore-missing`, files "
+         "may be missing); and with `--strict` no line is improperly formatted. With `--help` or `--version`: the text was "
          "written.",
     "1": "Anything else: also a fault of the options, memory that is refused, or an output that fails.",
     "127": "The program was built for later processors than this machine's. Nothing was done. Where the message names "
@@ -174,8 +174,8 @@ DIFFERENCES = (
     "An output that fails ends the run with a write error and status 1, and so does a reader that goes away, as "
     "`head`(1). GNU's tools still read all other files; a signal ends them where the reader goes away.",
     "The language that is set and `POSIXLY_CORRECT` have no effect.",
-    "`--help` and `--version` print other texts. The message of an option that is cut too short doesn't name those that "
-    "are possible, and that of an unknown one not its value.",
+    "`--help` and `--version` print other texts. The message of an option that is cut too short doesn't name those "
+    "that are possible, and that of an unknown one not its value.",
 )
 
 DIFFERENCE_OF_LENGTH = (
