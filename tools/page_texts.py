@@ -84,9 +84,9 @@ CHECKING_OF_ANYSUM = (
     "with `--strict`, or where no line lists a file.")
 
 CHECKING_OF_OTHERS = (
-    "The first line that begins with its digits decides how all such lines of the manifest are read: where a space or "
-    "a star and then more follow the blank behind the digits, the name begins behind that; otherwise it begins behind "
-    "the blank. A line that can't be read so is improperly formatted: it is counted, and fails the check only with "
+    "The first line that begins with its digits decides how all such lines of the manifest are read. Where a blank, then "
+    "a space or a star, then more stands behind its digits, names begin behind the first two; otherwise behind the "
+    "blank. A line that can't be read so is improperly formatted: it is counted, and fails the check only with "
     "`--strict`, or where no line lists a file.")
 
 REPORTS = {
@@ -182,7 +182,7 @@ DIFFERENCE_OF_LENGTH = (
     "The number of `--length` is digits alone, and a fault of it is told in other words. GNU's tool takes blanks or a "
     "plus sign before it, too.")
 
-DIFFERENCE_OF_ANYSUM = "GNU has no tool of this name. The nearest is `cksum -c`, which reads tagged lines, too."
+DIFFERENCE_OF_ANYSUM = "GNU has no tool of this name. The nearest is `cksum -c` of coreutils 9.1, which reads tagged lines."
 
 # Recipes: what each is for, and its lines. Each has one status, which is 0 only where all that it is for was done.
 # {tool} stands for the tool that checks, {writes} for what writes lines, {of} for the program where it has to be named,
@@ -306,4 +306,4 @@ PROGRAM_SECURITY = (
     "cheat, use `sha256sum`(1) or `b2sum`(1), and a manifest that comes from a place that can be trusted.")
 
 PROGRAM_DIFFERENCES = (
-    "GNU's tools are a program each; the pages say what else differs. The nearest to `anysum`(1) is `cksum -c`.")
+    "GNU's tools are a program each; the pages say what else differs.")
