@@ -84,9 +84,9 @@ CHECKING_OF_ANYSUM = (
     "with `--strict`, or where no line lists a file.")
 
 CHECKING_OF_OTHERS = (
-    "The first line that begins with its digits decides how all such lines of the manifest are read. Where a blank, then "
-    "a space or a star, then more stands behind its digits, names begin behind the first two; otherwise behind the "
-    "blank. A line that can't be read so is improperly formatted: it is counted, and fails the check only with "
+    "The first line that begins with its digits decides how all such lines of the manifest are read. Where a blank, "
+    "then a space or a star, then more stands behind its digits, names begin behind the first two; otherwise behind "
+    "the blank. A line that can't be read so is improperly formatted: it is counted, and fails the check only with "
     "`--strict`, or where no line lists a file.")
 
 REPORTS = {
@@ -98,8 +98,8 @@ REPORTS = {
 STATUSES = {
     "0": "Every file was read and its line written. With `--check`: every manifest was read to its end, lists a file "
          "that has the right checksum, and none that has another or couldn't be read (with `--ignore-missing`, files "
-         "may be missing); and with `--strict` no line is improperly formatted. With `--help` or `--version`: the text was "
-         "written.",
+         "may be missing); and with `--strict` no line is improperly formatted. With `--help` or `--version`: the text "
+         "was written.",
     "1": "Anything else: also a fault of the options, memory that is refused, or an output that fails.",
     "127": "The program was built for later processors than this machine's. Nothing was done. Where the message names "
            "`x86-64-v3`, install the level `default`. Where it names `x86-64-v2`, that is the level `default`: there "
@@ -182,7 +182,8 @@ DIFFERENCE_OF_LENGTH = (
     "The number of `--length` is digits alone, and a fault of it is told in other words. GNU's tool takes blanks or a "
     "plus sign before it, too.")
 
-DIFFERENCE_OF_ANYSUM = "GNU has no tool of this name. The nearest is `cksum -c` of coreutils 9.1, which reads tagged lines."
+DIFFERENCE_OF_ANYSUM = (
+    "GNU has no tool of this name. The nearest is `cksum -c` of coreutils 9.1, which reads tagged lines.")
 
 # Recipes: what each is for, and its lines. Each has one status, which is 0 only where all that it is for was done.
 # {tool} stands for the tool that checks, {writes} for what writes lines, {of} for the program where it has to be named,
