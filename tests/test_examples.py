@@ -1,9 +1,8 @@
 """The small programs in crates/example_*: short, with next to no proof files, and no part of the program."""
 
 import os
-import re
 
-from harness import TOP, Case, Ran
+from harness import TOP, Case
 from repository import Repository
 from test_build import BOTH
 
@@ -30,16 +29,6 @@ class Examples(Case):
         contract = source[source.index("pub fn same"):source.index("{\n    let left_digest")]
         shown = "".join(f"    {line}\n" for line in contract.splitlines())
         self.assertIn("\n\n" + shown + "\n", self.read(os.path.join(TOP, "docs", "LIBRARY.md")).decode())
-
-    def test_the_one_that_the_page_calls(self):
-        """In its folder `data`, where it is built, it writes what its `stdout` holds."""
-        folder = os.path.join(TOP, "crates", "example_check")
-        if not os.access(os.path.join(folder, "out", "example_check"), os.X_OK):
-            self.skipTest("example_check isn't built")
-        page = self.read(os.path.join(TOP, "docs", "LIBRARY.md")).decode()
-        command = re.search(r"(?m)^    cd data && (.*)$", page)[1]
-        ran = self.run_command(["sh", "-c", command], cwd=os.path.join(folder, "data"))
-        self.assertEqual(ran, Ran(0, self.read(os.path.join(folder, "stdout")), b""))
 
 
 class Building(Repository):
