@@ -73,9 +73,10 @@ def description(tool):
                 "`--tag`, and says which of the listed files have the checksum that stands there. One manifest may "
                 "have lines of all seven algorithms. `--check` is always needed.")
     else:
+        shorter = ", or a shorter one by `--length`" if tool == "b2sum" else ""
         does = (f"`{tool}` writes a line with the {tag} checksum ({standard}) of each {{FILE}}: a digest of {bits} "
-                f"bits, in {bits // 4} hexadecimal digits. With `--check` it reads such lines, and says which files "
-                "still have theirs.")
+                f"bits, in {bits // 4} hexadecimal digits{shorter}. With `--check` it reads such lines, and says which "
+                "files still have theirs.")
     return section("DESCRIPTION", does, "With no {FILE}, or where {FILE} is `-`, standard input is read; it is given "
                    "once, and a second `-` is an empty file.")
 
