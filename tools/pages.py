@@ -163,8 +163,10 @@ def page_of_tool(tool, known):
 
 def page_of_program():
     """The page of the program that holds all tools."""
+    fewer = {"b2sum": " or fewer"}
     tools = [item(f"`{tool}`", "Lines of all the other tools' algorithms, checked." if tag is None else
-                  f"{tag} ({standard}), {bits} bits{' or fewer' if tool == 'b2sum' else ''}.") for tool, (standard, tag, bits) in texts.TOOLS.items()]
+                  f"{tag} ({standard}), {bits} bits{fewer.get(tool, '')}.")
+             for tool, (standard, tag, bits) in texts.TOOLS.items()]
     return page("digests", texts.DATE, f"digests {version()}",
                 section("NAME", ["digests \\- print or check checksums"]),
                 section("SYNOPSIS", [".nf", *(inline(f"{use} [{{WORD}}]...") for use in texts.PROGRAM_USES), ".fi"]),
