@@ -6,6 +6,7 @@ import subprocess
 
 import harness
 from harness import E, M, Case, Ran, as_bytes, gnu, needs_check
+from tracing import needs_strace, strace
 
 VERSION = b" (GNU coreutils) 9.1\n"
 WRITE_ERROR = b"md5sum: write error\n"
@@ -224,6 +225,16 @@ class Writing(Described):
             os.close(reads)
             with os.fdopen(writes, "wb") as pipe:
                 self.expect_both(words, (1, b"", WRITE_ERROR), (-13, b"", b""), stdout=pipe)
+
+    @needs_strace
+    def test_a_loss_that_a_close_tells(self):
+        """It isn't seen here; GNU's tools see it."""
+        for command, status in (([harness.PROGRAM, "md5sum", "a"], 0), ([gnu("md5sum"), "a"], 1)):
+            with open(self.path("out"), "wb") as out:
+                options = ["-P", self.path("out"), "-e", "trace=close", "-e", "inject=close:error=EIO"]
+                ran = self.run_command([strace(), "-qq", "-o", os.devnull, *options, *command], stdout=out)
+            found = ran.status, self.read("out"), bool(ran.err)
+            self.assertEqual(found, (status, as_bytes([f"{M}  a"]), status == 1))
 
     def test_one_write_a_line(self):
         """GNU's tools write each line of standard output at once, as ours do; but not with `--zero`."""

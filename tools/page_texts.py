@@ -139,6 +139,8 @@ LIMITS = (
     "A line of up to 8,192 bytes goes to the system in one piece. So where several runs share one file, as under "
     "`xargs -P`, no such line is torn. Into one pipe, Linux keeps up to 4,096 bytes together. A longer line may be "
     "torn.",
+    "A loss that the system tells only when standard output is closed, as some network file systems do, isn't seen: "
+    "the status is 0. GNU's tools see it.",
 )
 
 SECURITY = {
