@@ -87,6 +87,13 @@ class Messages(Described):
             self.assertEqual((ours.status, ours.out, theirs.status, theirs.out), (1, b"", 1, b""))
             self.assertNotEqual(ours.err, theirs.err)
 
+    def test_several_lengths(self):
+        """The last alone is looked at, and not where `--help` or `--version` stands; GNU's tool looks at each."""
+        for words in ("-l x -l 256 e", "-l 7 -l 256 e", "-l x --help", "-l 7 --version"):
+            ours, theirs = self.both(f"b2sum {words}")
+            self.assertEqual((ours.status, ours.err, theirs.status, theirs.out), (0, b"", 1, b""), words)
+        self.expect_alike("b2sum -l 8 -l 256 e", 0, [f"{harness.B}  e"])
+
     def test_what_has_no_effect(self):
         """The language changes GNU's quotes, and POSIXLY_CORRECT makes every word behind a name one; here neither."""
         ran = [self.both("b2sum -l x e", env={**os.environ, "LC_ALL": name}) for name in ("C", "C.UTF-8")]

@@ -182,7 +182,8 @@ DIFFERENCES = (
 
 DIFFERENCE_OF_LENGTH = (
     "The number of `--length` is digits alone, and a fault of it is told in other words. GNU's tool takes blanks or a "
-    "plus sign before it, too.")
+    "plus sign before it, too. Of several numbers the last alone is looked at, and not where `--help` or `--version` "
+    "stands; GNU's tool looks at each, in its place.")
 
 DIFFERENCE_OF_ANYSUM = (
     "GNU has no tool of this name. The nearest is `cksum -c` of coreutils 9.1, which reads tagged lines.")
