@@ -276,7 +276,7 @@ def memory(bench):
 
 
 def lines(bench):
-    """Improperly formatted lines of several lengths, 64 MiB of them in all: the time for a byte stays level."""
+    """Improperly formatted lines of several lengths, 64 MiB of them in all: the time for a byte."""
     manifest = os.path.join(bench.folder, "long")
     rows = []
     for name, length in (("1 KiB", 1 << 10), ("1 MiB", MIB), ("64 MiB", 64 * MIB)):

@@ -87,6 +87,31 @@ class Documents(Case):
             found = turned(path)
             self.assertEqual(found, [1] * max(1, len(found)), path)
 
+    def test_paths_that_are_named(self):
+        """Each path of the repository that a document names is there, from the top or from a crate's folder."""
+        found = 0
+        for name in [os.path.join(harness.TOP, "README.md"), *glob.glob(os.path.join(harness.TOP, "docs", "*.md"))]:
+            with open(name, encoding="utf-8") as it:
+                named = set(re.findall(r"`([a-z][\w.]*/[\w./]+)`", it.read()))
+            for path in named:
+                if re.search(r"(^|/)(out|stage|NAME|C|TOOL)\b", path):
+                    continue
+                there = [glob.glob(os.path.join(harness.TOP, above, path + ending))
+                         for above in ("", "crates", "crates/*", "crates/*/specs") for ending in ("", ".antt")]
+                self.assertTrue(any(there), f"{name} names {path}")
+                found += 1
+        self.assertGreater(found, 50)
+
+    def test_where_a_text_is_spelled(self):
+        """The command of docs/CHANGING.md finds what has to follow where a diagnostic text changes."""
+        with open(os.path.join(harness.TOP, "docs", "CHANGING.md"), encoding="utf-8") as it:
+            command = re.search(r"(?m)^    (grep -rnF .*)$", it.read())[1]
+        ran = self.run_command(["sh", "-c", command], cwd=harness.TOP)
+        found = {line.split(b":")[0] for line in ran.out.splitlines()}
+        wanted = {b"crates/sum_sources/specs/Faults.antt", b"crates/sum_sources/src/fault.rt", b"tests/harness.py",
+                  b"crates/digests/proofs/MeaningRows.antt", b"tools/page_texts.py"}
+        self.assertEqual((ran.status, ran.err, wanted - found), (0, b"", set()))
+
     def test_crates_are_in_the_documents(self):
         """Every crate of the program stands in the map, in the promises and in the README."""
         with open(os.path.join(harness.TOP, "crates.txt"), encoding="utf-8") as it:

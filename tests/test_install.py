@@ -269,6 +269,24 @@ class Install(Repository):
         self.assertEqual(self.read(page), b"theirs")
         self.assertFalse(os.path.exists(self.bin))
 
+    def test_a_foreign_note(self):
+        """A file in the place of the note that isn't one, and those whose names only look like ours, stay."""
+        self.put("man/b2sum.1", "ours")
+        note, page = (os.path.join(self.prefix, "share", name) for name in ("digests/installed", "man/man1/b2sum.1"))
+        for path in (note, f"{note}.new", f"{page}.new"):
+            os.makedirs(os.path.dirname(path), exist_ok=True)
+            self.write(path, "theirs")
+        before = self.tree()
+        self.assertIn(f"\n{note}\n", self.installs(status=1))
+        self.assertIn("nothing is installed", self.installs("--remove", self.prefix, status=1))
+        self.assertEqual(self.tree(), before)
+        os.remove(note)
+        self.installs()
+        self.assertEqual([self.read(path) for path in (f"{note}.new", f"{page}.new")], [b"theirs"] * 2)
+        self.removes()
+        before.pop("share/digests/installed")
+        self.assertEqual(self.tree(), before)
+
     def test_foreign_files_are_not_overwritten(self):
         for name, make in (("md5sum", lambda path: self.write(path, "theirs")),
                            ("digests", lambda path: self.write(path, "theirs")),

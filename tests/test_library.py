@@ -79,6 +79,26 @@ class Library(Case):
                     self.assertRegex(page, rf"(?m)^- `trait {trait}`.*\n.*\n  \*Implemented by:\* .*`{name}`")
         self.assertGreater(found, 20)
 
+    def test_taking_one_elsewhere(self):
+        """The page's commands take just the crates, without what the kit keeps, and just their lines."""
+        commands = re.findall(r"(?m)^    ((?:cp|rm|grep) .*)$", self.read("docs/LIBRARY.md").decode())
+        self.assertEqual(len(commands), 3)
+        for name in ("blake2b_core", "digest_kinds"):
+            os.makedirs(self.path(f"crates/{name}/out/some"))
+        os.makedirs(self.path("here/crates/own"))
+        self.write("here/crates.txt", "own: digest_kinds\n")
+        for command in commands:
+            command = command.replace("THERE", "..")
+            self.assertEqual(self.run_command(["sh", "-c", command], cwd=self.path("here")), Ran(0, b"", b""), command)
+        taken = ["blake2b_core", "digest_kinds"]
+        self.assertEqual(sorted(os.listdir(self.path("here/crates"))), [os.fsencode(it) for it in [*taken, "own"]])
+        lines = [line.split(":") for line in self.read("here/crates.txt").decode().splitlines()]
+        self.assertEqual([name for name, _ in lines], ["own", *taken])
+        for name, needs in lines[1:]:
+            self.assertEqual(sorted(os.listdir(os.path.join(self.folder, "here/crates", name))), ["specs", "src"])
+            ours = [need for need in needs.split() if os.path.exists(self.path(f"crates/{need}"))]
+            self.assertLessEqual(set(ours), set(taken), name)
+
     def test_a_change(self):
         for old, new in (("/// A digest, of 1 to 64 bytes.", "/// Another sentence."),
                          ("pub fn from_hex(text: &[u8])", "pub fn from_hex(text: &[u16])"),

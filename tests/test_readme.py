@@ -1,5 +1,6 @@
 """README: the commands that it shows do what it shows, and a stranger who goes its way arrives."""
 
+import base64
 import hashlib
 import os
 import re
@@ -68,6 +69,19 @@ class Page(Case):
                                 ("crate", "a crate is a part of the source")):
             self.assertLessEqual(text.index(explained) - text.index(word), 40, word)
         self.assertNotIn(" told ", text)
+
+    def test_base64(self):
+        """The recipe gives the digest in base64; where the file can't be read it gives nothing, and fails."""
+        recipe, = commands("The tools")
+        if shutil.which("bash") is None or shutil.which("basenc") is None:
+            self.skipTest("bash or basenc isn't installed")
+        os.mkdir(self.path("folder"))
+        os.symlink(harness.PROGRAM, self.path("digests"))
+        env = {**os.environ, "PATH": self.folder + os.pathsep + os.environ["PATH"]}
+        digest = base64.b64encode(hashlib.sha256(b"abc").digest()) + b"\n"
+        for name, wanted in (("a", (0, digest)), ("x", (1, b"")), ("folder", (1, b""))):
+            ran = self.run_command(["bash", "-c", recipe.replace("FILE", name)], env=env)
+            self.assertEqual((ran.status, ran.out), wanted, name)
 
     def test_files_that_are_named(self):
         for name in set(re.findall(r"`((?:docs|bench|crates|man)/[\w./]+)`", readme())):

@@ -81,13 +81,13 @@ CHECKING = (
 # How a line is read, between the first and the last paragraphs of that.
 CHECKING_OF_ANYSUM = (
     "Any other line is improperly formatted, also one that names no algorithm: it is counted, and fails the check only "
-    "with `--strict`, or where there is no other.")
+    "with `--strict`, or where no line lists a file.")
 
 CHECKING_OF_OTHERS = (
-    "The first line that begins with its digits decides how all such lines of the manifest are read: where a space or "
-    "a star follows the blank behind the digits, that isn't part of the name; otherwise the name begins at once. A "
-    "line that can't be read so is improperly formatted: it is counted, and fails the check only with `--strict`, or "
-    "where there is no other.")
+    "The first line that begins with its digits decides how all such lines of the manifest are read. Where a blank, "
+    "then a space or a star, then more stands behind its digits, names begin behind the first two; otherwise behind "
+    "the blank. A line that can't be read so is improperly formatted: it is counted, and fails the check only with "
+    "`--strict`, or where no line lists a file.")
 
 REPORTS = {
     "{NAME}: OK": "It has this checksum. Not with `--quiet` or `--status`.",
@@ -97,9 +97,9 @@ REPORTS = {
 
 STATUSES = {
     "0": "Every file was read and its line written. With `--check`: every manifest was read to its end, lists a file "
-         "that has the right checksum, and none that has another or couldn't be read (with `--ignore-missing`, one may "
-         "be missing); and with `--strict` no line is improperly formatted. With `--help` or `--version`: the text was "
-         "written.",
+         "that has the right checksum, and none that has another or couldn't be read (with `--ignore-missing`, files "
+         "may be missing); and with `--strict` no line is improperly formatted. With `--help` or `--version`: the text "
+         "was written.",
     "1": "Anything else: also a fault of the options, memory that is refused, or an output that fails.",
     "127": "The program was built for later processors than this machine's. Nothing was done. Where the message names "
            "`x86-64-v3`, install the level `default`. Where it names `x86-64-v2`, that is the level `default`: there "
@@ -117,7 +117,8 @@ DIAGNOSTICS = {
                                   "and a device that fails. The other files are still read.",
     "{FILE}: {N}: improperly formatted {TAG} checksum line": "With `--warn`: line number {N} of the manifest.",
     "{FILE}: no properly formatted checksum lines found": "The manifest lists nothing. Also with `--status`.",
-    "{FILE}: no file was verified": "With `--ignore-missing`: no listed file has the right checksum.",
+    "{FILE}: no file was verified": "With `--ignore-missing`: no listed file has the right checksum. Not with "
+                                    "`--status`.",
     "WARNING: 1 listed file could not be read": "How many; and the like for lines and for checksums.",
     "memory exhausted": "Memory was refused, as for a long line or for opening a file. The run ends there; what was "
                         "written stands.",
@@ -138,11 +139,13 @@ LIMITS = (
     "A line of up to 8,192 bytes goes to the system in one piece. So where several runs share one file, as under "
     "`xargs -P`, no such line is torn. Into one pipe, Linux keeps up to 4,096 bytes together. A longer line may be "
     "torn.",
+    "A loss that the system tells only when standard output is closed, as some network file systems do, isn't seen: "
+    "the status is 0. GNU's tools see it.",
 )
 
 SECURITY = {
-    "broken": "{0} is broken for forgery: anyone can make two files with the same checksum, and for a signed or "
-              "trusted list that is enough. It still finds damage by chance. Where somebody might cheat, use "
+    "broken": "{0} is broken for forgery: anyone can make two files with the same checksum, and a signed or trusted "
+              "list then holds for both. It still finds damage by chance. Where somebody might cheat, use "
               "`sha256sum`(1) or `b2sum`(1).",
     "good": "No practical way is known to make two files with the same {0} checksum.",
     "length": "With `--length` two such files can be found by about 2^({BITS}/2) tries: give 256 or more where "
@@ -163,22 +166,27 @@ DIFFERENCES = (
     "GNU's tools quote some names in messages as a shell does, as one with a space or a control byte; in reports they "
     "escape a name only where it holds a newline.",
     "But for `No such file or directory` and `Permission denied`, each fault of a file is an `Input/output error`; "
-    "GNU's tools name it, as `Is a directory`.",
+    "GNU's tools name most of them, as `Is a directory`.",
     "In each manifest the first line that begins with its digits decides how such lines are read. With GNU's tools the "
     "first such line of a call decides for all manifests.",
     "A line that lists a file and holds a byte 0 is improperly formatted. GNU's tools take the name up to there: of a "
     "list that was written with `--zero` they may check the first file alone, and answer 0.",
-    "A reader that goes away, as `head`(1) does, is a write error with status 1; GNU's tools are ended by a signal.",
+    "A line whose name is empty is improperly formatted. GNU's tools take some for a listed file, as `MD5 () =` and "
+    "digits, and fail.",
+    "An output that fails ends the run with a write error and status 1, and so does a reader that goes away, as "
+    "`head`(1). GNU's tools still read all other files; a signal ends them where the reader goes away.",
     "The language that is set and `POSIXLY_CORRECT` have no effect.",
-    "`--help` and `--version` print other texts. Of an option that is cut too short, the message doesn't name those "
-    "that are possible.",
+    "`--help` and `--version` print other texts. The message of an option that is cut too short doesn't name those "
+    "that are possible, and that of an unknown one not its value.",
 )
 
 DIFFERENCE_OF_LENGTH = (
     "The number of `--length` is digits alone, and a fault of it is told in other words. GNU's tool takes blanks or a "
-    "plus sign before it, too.")
+    "plus sign before it, too. Of several numbers the last alone is looked at, and not where `--help` or `--version` "
+    "stands; GNU's tool looks at each, in its place.")
 
-DIFFERENCE_OF_ANYSUM = "GNU has no tool of this name. The nearest is `cksum`(1), whose lines name the algorithm."
+DIFFERENCE_OF_ANYSUM = (
+    "GNU has no tool of this name. The nearest is `cksum -c` of coreutils 9.1, which reads tagged lines.")
 
 # Recipes: what each is for, and its lines. Each has one status, which is 0 only where all that it is for was done.
 # {tool} stands for the tool that checks, {writes} for what writes lines, {of} for the program where it has to be named,
@@ -302,4 +310,4 @@ PROGRAM_SECURITY = (
     "cheat, use `sha256sum`(1) or `b2sum`(1), and a manifest that comes from a place that can be trusted.")
 
 PROGRAM_DIFFERENCES = (
-    "GNU's tools are a program each; the pages say what else differs. `anysum`(1) has no counterpart there.")
+    "GNU's tools are a program each; the pages say what else differs.")

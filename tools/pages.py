@@ -73,9 +73,10 @@ def description(tool):
                 "`--tag`, and says which of the listed files have the checksum that stands there. One manifest may "
                 "have lines of all seven algorithms. `--check` is always needed.")
     else:
+        shorter = ", or a shorter one by `--length`" if tool == "b2sum" else ""
         does = (f"`{tool}` writes a line with the {tag} checksum ({standard}) of each {{FILE}}: a digest of {bits} "
-                f"bits, in {bits // 4} hexadecimal digits. With `--check` it reads such lines, and says which files "
-                "still have theirs.")
+                f"bits, in {bits // 4} hexadecimal digits{shorter}. With `--check` it reads such lines, and says which "
+                "files still have theirs.")
     return section("DESCRIPTION", does, "With no {FILE}, or where {FILE} is `-`, standard input is read; it is given "
                    "once, and a second `-` is an empty file.")
 
@@ -120,8 +121,9 @@ def exit_status():
 
 
 def diagnostics(tool):
+    named = {mark.replace("{TAG}", texts.TOOLS[tool][1] or "tagged"): text for mark, text in texts.DIAGNOSTICS.items()}
     return section("DIAGNOSTICS", f"Each is a line on standard error that begins with `{tool}:` and a space. Names are "
-                   "escaped as in the lines of checksums.", *lines_of(texts.DIAGNOSTICS))
+                   "escaped as in the lines of checksums.", *lines_of(named))
 
 
 def examples(name):
@@ -161,8 +163,10 @@ def page_of_tool(tool, known):
 
 def page_of_program():
     """The page of the program that holds all tools."""
+    fewer = {"b2sum": " or fewer"}
     tools = [item(f"`{tool}`", "Lines of all the other tools' algorithms, checked." if tag is None else
-                  f"{tag} ({standard}), {bits} bits.") for tool, (standard, tag, bits) in texts.TOOLS.items()]
+                  f"{tag} ({standard}), {bits} bits{fewer.get(tool, '')}.")
+             for tool, (standard, tag, bits) in texts.TOOLS.items()]
     return page("digests", texts.DATE, f"digests {version()}",
                 section("NAME", ["digests \\- print or check checksums"]),
                 section("SYNOPSIS", [".nf", *(inline(f"{use} [{{WORD}}]...") for use in texts.PROGRAM_USES), ".fi"]),

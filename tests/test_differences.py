@@ -1,0 +1,253 @@
+"""What the manual pages and documents say of GNU coreutils 9.1, where that version is installed: each statement is
+tried with its tools and with ours."""
+
+import os
+import subprocess
+
+import harness
+from harness import E, M, Case, Ran, as_bytes, gnu, needs_check
+from tracing import needs_strace, strace
+
+VERSION = b" (GNU coreutils) 9.1\n"
+WRITE_ERROR = b"md5sum: write error\n"
+
+
+class Described(Case):
+    """A folder of files, and both tools."""
+
+    def setUp(self):
+        super().setUp()
+        for tool in ("md5sum", "b2sum", "cksum"):
+            if gnu(tool) is None or VERSION not in self.run_command([gnu(tool), "--version"]).out:
+                self.skipTest("GNU coreutils 9.1 isn't installed")
+        os.mkdir(self.path("d"))
+
+    def both(self, words, **how):
+        """What ours and theirs answer to the same words, the first of which is the tool."""
+        words = harness.as_words(words)
+        return self.run_words(words, **how), self.run_command(words, executable=gnu(words[0]), **how)
+
+    def expect_both(self, words, ours, theirs, **how):
+        """Expects of each a status, what it writes to standard output and, as lines, to standard error."""
+        wanted = tuple(Ran(status, as_bytes(out), as_bytes(err)) for status, out, err in (ours, theirs))
+        self.assertEqual(self.both(words, **how), wanted, words)
+
+    def expect_alike(self, words, status, out=(), err=(), **how):
+        self.expect_both(words, (status, out, err), (status, out, err), **how)
+
+
+class Messages(Described):
+    """Texts on standard error."""
+
+    def test_quoted_names(self):
+        """GNU's tools quote some names in messages as a shell does, as one with a space or a control byte."""
+        for name, ours, theirs in (("x", "x", "x"), ("x y", "x y", "'x y'"), ("x\ty", "x\ty", "'x'$'\\t''y'"),
+                                   ("x\ny", "x\\ny", "'x'$'\\n''y'"), ("x\\y", "x\\\\y", "'x\\y'")):
+            said = [(1, b"", [f"md5sum: {shown}: No such file or directory"]) for shown in (ours, theirs)]
+            self.expect_both(["md5sum", name], *said)
+
+    def test_other_faults(self):
+        """Each is an `Input/output error` with us; GNU's tools name most of them."""
+        os.symlink("loop", self.path("loop"))
+        self.write("list", [f"{M}  d"])
+        for name, theirs in (("d", "Is a directory"), ("a/x", "Not a directory"), ("n" * 300, "File name too long"),
+                             ("loop", "Too many levels of symbolic links")):
+            said = [(1, b"", [f"md5sum: {name}: {fault}"]) for fault in ("Input/output error", theirs)]
+            self.expect_both(["md5sum", name], *said)
+        said = [(1, b"", [f"md5sum: d: {fault}"]) for fault in ("Input/output error", "read error")]
+        self.expect_both("md5sum -c d", *said)
+
+    def test_help_and_version(self):
+        """Both print other texts."""
+        for option in ("--help", "--version"):
+            ours, theirs = self.both(["md5sum", option])
+            self.assertEqual((ours.status, ours.err, theirs.status, theirs.err), (0, b"", 0, b""))
+            self.assertNotEqual(ours.out, theirs.out)
+
+    def test_options_that_are_cut_too_short(self):
+        """GNU's tools name those that are possible."""
+        more = "Try 'md5sum --help' for more information."
+        said = "md5sum: option '--st' is ambiguous"
+        theirs = f"{said}; possibilities: '--status' '--strict'"
+        self.expect_both("md5sum -c --st a", (1, b"", [said, more]), (1, b"", [theirs, more]))
+
+    def test_unknown_options(self):
+        """GNU's tools name the value of one, too."""
+        more = "Try 'md5sum --help' for more information."
+        ours, theirs = (f"md5sum: unrecognized option '--{name}'" for name in ("other", "other=x"))
+        self.expect_both("md5sum --other=x a", (1, b"", [ours, more]), (1, b"", [theirs, more]))
+
+    def test_lengths(self):
+        """GNU's tool takes blanks or a plus sign before the number, and tells of a fault in other words."""
+        for value in (" 256", "\t256", "+256"):
+            ours, theirs = self.both(["b2sum", "-l", value, "e"])
+            self.assertEqual((ours.status, theirs.status, theirs.out), (1, 0, f"{harness.B}  e\n".encode()))
+        for value in ("x", "520", "12", "-8", ""):
+            ours, theirs = self.both(["b2sum", "-l", value, "e"])
+            self.assertEqual((ours.status, ours.out, theirs.status, theirs.out), (1, b"", 1, b""))
+            self.assertNotEqual(ours.err, theirs.err)
+
+    def test_several_lengths(self):
+        """The last alone is looked at, and not where `--help` or `--version` stands; GNU's tool looks at each."""
+        for words in ("-l x -l 256 e", "-l 7 -l 256 e", "-l x --help", "-l 7 --version"):
+            ours, theirs = self.both(f"b2sum {words}")
+            self.assertEqual((ours.status, ours.err, theirs.status, theirs.out), (0, b"", 1, b""), words)
+        self.expect_alike("b2sum -l 8 -l 256 e", 0, [f"{harness.B}  e"])
+
+    def test_what_has_no_effect(self):
+        """The language changes GNU's quotes, and POSIXLY_CORRECT makes every word behind a name one; here neither."""
+        ran = [self.both("b2sum -l x e", env={**os.environ, "LC_ALL": name}) for name in ("C", "C.UTF-8")]
+        self.assertEqual(ran[0][0], ran[1][0])
+        if ran[0][1] != ran[1][1]:  # where that language is there
+            self.assertIn("\u2018x\u2019", ran[1][1].err.decode())
+        theirs = (1, [f"{M}  a"], ["md5sum: -b: No such file or directory"])
+        env = {**os.environ, "POSIXLY_CORRECT": "1"}
+        self.expect_both("md5sum a -b", (0, [f"{M} *a"], b""), theirs, env=env)
+        self.expect_alike("md5sum a -b", 0, [f"{M} *a"])
+
+
+@needs_check
+class Checks(Described):
+    """Checking."""
+
+    def test_reports(self):
+        """GNU's tools escape a name only where it holds a newline."""
+        for name, ours, theirs in (("x", "x", "x"), ("x y", "x y", "x y"), ("x\\y", "\\x\\\\y", "x\\y"),
+                                   ("x\ry", "\\x\\ry", "x\ry"), ("x\n\\y", "\\x\\n\\\\y", "\\x\\n\\\\y")):
+            self.write(name, "abc")
+            self.write("list", self.run_words(["md5sum", name]).out)
+            said = [(0, [f"{shown}: OK"], b"") for shown in (ours, theirs)]
+            self.expect_both("md5sum -c --strict list", *said)
+
+    def test_forms(self):
+        """With GNU's tools the first line that begins with its digits decides for all manifests of the call."""
+        self.write("one", [f"{M} a"])
+        self.write("two", [f"{M}  a"])
+        missing = ["md5sum: ' a': No such file or directory", "md5sum: WARNING: 1 listed file could not be read"]
+        theirs = (1, ["a: OK", " a: FAILED open or read"], missing)
+        self.expect_both("md5sum -c one two", (0, ["a: OK"] * 2, b""), theirs)
+        none = ["md5sum: one: no properly formatted checksum lines found"]
+        self.expect_both("md5sum -c two one", (0, ["a: OK"] * 2, b""), (1, ["a: OK"], none))
+        for name in ("one", "two"):
+            self.expect_alike(["md5sum", "-c", name], 0, ["a: OK"])
+
+    def test_names_of_one_byte(self):
+        """A space or a star that nothing follows is a name."""
+        for name in (" ", "*"):
+            self.write(name, "abc")
+            self.write("list", [f"{M} {name}", f"{M} a"])
+            self.expect_alike("md5sum -c --strict list", 0, [f"{name}: OK", "a: OK"])
+
+    def test_a_byte_0(self):
+        """GNU's tools take a name up to it; of a list written with `--zero` they check the first file, and answer 0."""
+        self.write("b", "other")
+        for command in ([harness.PROGRAM, "md5sum"], [gnu("md5sum")]):
+            self.write("list", self.run_command([*command, "-z", "a", "b", "e"]).out)
+            self.write("b", "changed")
+            said = [f"md5sum: list: {text}" for text in ("1: improperly formatted MD5 checksum line",
+                                                         "no properly formatted checksum lines found")]
+            self.expect_both("md5sum -c -w --strict list", (1, b"", said), (0, ["a: OK"], b""))
+        self.write("list", f"{M}  a\0b\n{E}  e\n")
+        ours = (0, ["e: OK"], ["md5sum: WARNING: 1 line is improperly formatted"])
+        self.expect_both("md5sum -c list", ours, (0, ["a: OK", "e: OK"], b""))
+
+    def test_an_empty_name(self):
+        """GNU's tools take some lines for one that lists a file, and fail."""
+        self.write("list", [f"MD5 () = {E}", f"{M}  a"])
+        ours = (0, ["a: OK"], ["md5sum: WARNING: 1 line is improperly formatted"])
+        missing = ["md5sum: '': No such file or directory", "md5sum: WARNING: 1 listed file could not be read"]
+        self.expect_both("md5sum -c list", ours, (1, [": FAILED open or read", "a: OK"], missing))
+
+    def test_what_status_still_tells(self):
+        """What can't be read, and a manifest that lists nothing; not that no file was verified."""
+        self.write("list", [f"{M}  x", f"{M}  e", "junk"])
+        self.write("junk", ["junk"])
+        self.write("gone", [f"{M}  x"])
+        self.expect_alike("md5sum -c --status list", 1, err=["md5sum: x: No such file or directory"])
+        self.expect_alike("md5sum -c --status x", 1, err=["md5sum: x: No such file or directory"])
+        for option in ("--status", "--quiet", "--strict"):
+            none = ["md5sum: junk: no properly formatted checksum lines found"]
+            self.expect_alike(["md5sum", "-c", option, "junk"], 1, err=none)
+        self.expect_alike("md5sum -c --status --ignore-missing gone", 1)
+        self.expect_alike("md5sum -c --ignore-missing gone", 1, err=["md5sum: gone: no file was verified"])
+
+    def test_the_last_of_three(self):
+        """Of `--quiet`, `--status` and `--warn` the last counts."""
+        self.write("list", [f"{M}  a", f"{M}  e", "junk"])
+        for words in ("--quiet --status", "--status --quiet", "-w --status", "--status -w", "--quiet -w", "-w --quiet"):
+            ours, theirs = self.both(f"md5sum -c {words} list")
+            self.assertEqual(ours, theirs, words)
+            self.assertEqual(ours, self.both(f"md5sum -c {words.split(' ')[-1]} list")[0], words)
+
+    def test_statuses(self):
+        """Status 0 means the same, and comes alike."""
+        self.write("good", [f"{M}  a", f"{E}  e"])
+        self.write("none", ["#", "", "junk"])
+        self.write("damaged", [f"{M}  a", "junk"])
+        self.write("some", [f"{M}  a", f"{M}  x"])
+        self.write("gone", [f"{M}  x"])
+        self.write("wrong", [f"{M}  a", f"{M}  e"])
+        for words, status in (("a e", 0), ("a x e", 1), ("d", 1), ("--help", 0), ("--version", 0), ("--other", 1),
+                              ("-c good", 0), ("-c none", 1), ("-c good none", 1), ("-c x good", 1), ("-c e", 1),
+                              ("-c damaged", 0), ("-c --strict damaged", 1), ("-c some", 1), ("-c gone", 1),
+                              ("-c --ignore-missing some", 0), ("-c --ignore-missing gone", 1),
+                              ("-c --ignore-missing good gone", 1), ("-c wrong", 1), ("-c --ignore-missing wrong", 1)):
+            for more in ((), ("--status",), ("--quiet",)) if words.startswith("-c") else ((),):
+                ours, theirs = self.both(["md5sum", *words.split(" "), *more])
+                self.assertEqual((ours.status, theirs.status), (status, status), (words, more))
+
+    def test_cksum(self):
+        """`cksum -c` reads tagged lines of several algorithms, as `anysum -c` does, and no plain ones."""
+        lines = [self.run_words([tool, "--tag", "a"]).out for tool in harness.TOOLS]
+        lines += [self.run_words("b2sum -l 256 --tag a").out, f"{M}  a\n".encode()]
+        self.write("list", b"".join(lines))
+        theirs = self.run_command(["cksum", "-c", "list"], executable=gnu("cksum"))
+        ours = self.run_words("anysum -c list")
+        self.assertEqual((ours.status, ours.out), (0, b"a: OK\n" * (len(harness.TOOLS) + 1)))
+        self.assertEqual((theirs.status, theirs.out), (ours.status, ours.out))
+
+
+class Writing(Described):
+    """Lines and outputs."""
+
+    def test_tag_and_text(self):
+        """`--tag` is refused where `--text` is the last of `--binary`, `--tag` and `--text`, and only there."""
+        tagged, more = [f"MD5 (a) = {M}"], "Try 'md5sum --help' for more information."
+        for words in ("--tag", "-t --tag", "--tag -b", "--tag -t -b", "-t --tag -b", "-b -t --tag", "-t -b --tag"):
+            self.expect_alike(f"md5sum {words} a", 0, tagged)
+        for words in ("--tag -t", "--tag -b -t", "-b --tag -t", "-t --tag -t"):
+            self.expect_alike(f"md5sum {words} a", 1, err=["md5sum: --tag does not support --text mode", more])
+
+    def test_an_output_that_fails(self):
+        """It ends the run here; GNU's tools still read the other files."""
+        missing = "md5sum: x: No such file or directory"
+        with self.full() as full:
+            theirs = (1, b"", [missing, "md5sum: write error"])
+            self.expect_both("md5sum a x", (1, b"", WRITE_ERROR), theirs, stdout=full)
+
+    def test_a_reader_that_goes_away(self):
+        """A write error with status 1; GNU's tools are ended by a signal."""
+        for words in ("md5sum a", "md5sum --help"):
+            reads, writes = os.pipe()
+            os.close(reads)
+            with os.fdopen(writes, "wb") as pipe:
+                self.expect_both(words, (1, b"", WRITE_ERROR), (-13, b"", b""), stdout=pipe)
+
+    @needs_strace
+    def test_a_loss_that_a_close_tells(self):
+        """It isn't seen here; GNU's tools see it."""
+        for command, status in (([harness.PROGRAM, "md5sum", "a"], 0), ([gnu("md5sum"), "a"], 1)):
+            with open(self.path("out"), "wb") as out:
+                options = ["-P", self.path("out"), "-e", "trace=close", "-e", "inject=close:error=EIO"]
+                ran = self.run_command([strace(), "-qq", "-o", os.devnull, *options, *command], stdout=out)
+            found = ran.status, self.read("out"), bool(ran.err)
+            self.assertEqual(found, (status, as_bytes([f"{M}  a"]), status == 1))
+
+    def test_one_write_a_line(self):
+        """GNU's tools write each line of standard output at once, as ours do; but not with `--zero`."""
+        for words, theirs in (("md5sum a e a", 3), ("md5sum --tag a e a", 3), ("md5sum -z a e a", 1)):
+            self.assertEqual(self.writes_of(words), (0, 3))
+            with open(self.path("out"), "wb") as out:
+                command, before = harness.as_words(words), self.writes_so_far()
+                subprocess.run(command, executable=gnu("md5sum"), stdout=out, cwd=self.folder, check=True)
+                self.assertEqual(self.writes_so_far() - before, theirs, words)
