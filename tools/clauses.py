@@ -136,6 +136,19 @@ class Round:
     def __init__(self, source, place, crate, note):
         self.source, self.place, self.crate, self.note, self.dropped = source, place, crate, note, {}
 
+    def all_parts(self, clauses, known):
+        """The three parts, each also with what an earlier run left to it."""
+        kept = self.timed("in the crate", self.in_the_crate, [it for it in clauses if it.key not in known])
+        kept += [it for it in clauses if known.get(it.key) == "not here"]
+        kept = self.timed("above", self.above, kept) + [it for it in clauses if known.get(it.key) == "not above"]
+        self.timed("edits", self.edits, kept)
+
+    def timed(self, name, part, clauses):
+        begun = time.monotonic()
+        kept = part(clauses)
+        print(f"  {self.crate}, {name}: {len(clauses)} clauses, {time.monotonic() - begun:.0f} s", flush=True)
+        return kept
+
     def called(self, name, clauses):
         """The clauses whose functions a function may call; of a text that is no function's, all."""
         found = [it for it in self.source.functions if it.path == name]
@@ -259,14 +272,13 @@ class Round:
 
     def edits_of(self, clause):
         """The wrong bodies that change a function which has to meet the clause."""
+        held = {it.path: it for it in self.source.held_to(clause)}
         found = []
         for path in sorted(glob.glob(os.path.join(TOP, "crates", self.crate, "must-fail", "*.edit"))):
             changes = changes_of(self.crate, read(path))
-            for it in self.source.held_to(clause):
-                text = self.source.texts[it.crate, it.file]
-                if any(it.start <= text.find(old) < it.end for file, old, _ in changes if file == (it.crate, it.file)):
-                    found.append(Edit(os.path.basename(path), it, changes))
-                    break
+            name = next((it for it in self.source.changed_by(changes) if it in held), None)
+            if name:
+                found.append(Edit(os.path.basename(path), held[name], changes))
         return found
 
 
@@ -317,10 +329,7 @@ def main():
     for crate in wanted_crates(source, given.words):
         clauses = [it for it in wanted if it.function.crate == crate]
         print(f"{crate}: {len(clauses)} clauses", flush=True)
-        tries = Round(source, place, crate, note)
-        kept = tries.in_the_crate([it for it in clauses if it.key not in known])
-        kept = tries.above(kept + [it for it in clauses if known.get(it.key) == "not here"])
-        tries.edits(kept + [it for it in clauses if known.get(it.key) == "not above"])
+        Round(source, place, crate, note).all_parts(clauses, known)
     lines = [it for it in read(given.results).split("\n") if re.search(r"\t(nobody|unclear)\t", it)]
     print(f"nobody misses, or it stays unclear: {len(lines)}", *lines, sep="\n")
 
