@@ -2,9 +2,9 @@
 """Which clauses of contracts nobody would miss: `clauses.py [--place FOLDER] [--results FILE] [CRATE | CRATE::PATH]..`.
 
 It makes each `ensures` of each public function say nothing (`⊤`), in a copy of the repository, and looks who misses
-it: another function of the crate, then one of a crate above, then a wrong body of must-fail/, which nothing refuses any
-more. The function's own proof doesn't count, and of it the answers to the emptied clause are left out. Laws aren't
-tried: nothing stands on them. A line a clause goes into the results, and what stands there isn't tried again.
+it: another function of the crate, then a wrong body of must-fail/, which nothing refuses any more, then a function of a
+crate above. The function's own proof doesn't count, and of it the answers to the emptied clause are left out. Laws
+aren't tried: nothing stands on them. A line a clause goes into the results, and what stands there isn't tried again.
 
 Clauses that no function of the crate can mix up are emptied together; what stays unclear is tried alone."""
 
@@ -22,7 +22,7 @@ sys.dont_write_bytecode = True
 
 from functions import TOP, Function, Source, read  # noqa: E402  (nothing is to be left beside these files)
 
-STATUS = re.compile(r"(?m)^fn (\S+): (proved|not proved|could not tell|no proof)(.*)$")
+STATUS = re.compile(r"(?m)^(?:fn|impl) (\S+): (proved|not proved|could not tell|no proof)(.*)$")
 
 
 def write(path, text):
@@ -83,8 +83,8 @@ class Place:
         return True
 
     def check(self, crate):
-        """Proves a crate: what each function came to, where not all is proved. Of a function that waits for another one
-        nothing is known."""
+        """Proves a crate: what each function came to, where not all is proved, and each type's part in a trait, which
+        has to meet the trait's own clauses. Of one that waits for another nothing is known."""
         begun = time.monotonic()
         ran = subprocess.run(["rt", "check"], cwd=os.path.join(self.folder, "crates", crate), stdin=subprocess.DEVNULL,
                              stdout=subprocess.PIPE, stderr=subprocess.STDOUT, errors="replace")
@@ -94,7 +94,7 @@ class Place:
             return {}
         found = {}
         for name, status, more in STATUS.findall(ran.stdout):
-            waits = status == "no proof" and "did not prove" not in more and "which" in more
+            waits = "waits for" in more or status == "no proof" and "did not prove" not in more and "which" in more
             if status != "proved":
                 found[name] = "waits" if waits else "fails"
         return found or {"?": "fails"}
@@ -131,7 +131,7 @@ class Edit(NamedTuple):
 
 
 class Round:
-    """Tries the clauses of one crate. What comes out of each is noted; of `not here` and `not above` more follows."""
+    """Tries the clauses of one crate. What comes out of each is noted; of `not here` and `no edit` more follows."""
 
     def __init__(self, source, place, crate, note):
         self.source, self.place, self.crate, self.note, self.dropped = source, place, crate, note, {}
@@ -140,8 +140,8 @@ class Round:
         """The three parts, each also with what an earlier run left to it."""
         kept = self.timed("in the crate", self.in_the_crate, [it for it in clauses if it.key not in known])
         kept += [it for it in clauses if known.get(it.key) == "not here"]
-        kept = self.timed("above", self.above, kept) + [it for it in clauses if known.get(it.key) == "not above"]
-        self.timed("edits", self.edits, kept)
+        kept = self.timed("edits", self.edits, kept) + [it for it in clauses if known.get(it.key) == "no edit"]
+        self.timed("above", self.above, kept)
 
     def timed(self, name, part, clauses):
         begun = time.monotonic()
@@ -150,9 +150,11 @@ class Round:
         return kept
 
     def called(self, name, clauses):
-        """The clauses whose functions a function may call; of a text that is no function's, all."""
+        """The clauses whose functions a function may call, or that a type's part in a trait states; of a text that is
+        neither, all."""
+        stated = [it for it in clauses if it.function.path.startswith(f"{name}::")]
         found = [it for it in self.source.functions if it.path == name]
-        return [it for it in clauses if not found or self.source.may_call(found[0], it.function)]
+        return stated or [it for it in clauses if not found or self.source.may_call(found[0], it.function)]
 
     def judged(self, found, group):
         """Of a group's clauses those that somebody misses, each with who does, and those that may be missed."""
@@ -210,9 +212,9 @@ class Round:
                 self.dropped.setdefault(clause.key, []).extend(goals[-1:])
 
     def above(self, clauses):
-        """The clauses that no crate above misses either. All are empty at once: one that is missed is put back, and of
+        """Looks which clauses a crate above misses. All are empty at once: one that is missed is put back, and of
         several that may be missed all but one, which come later."""
-        kept, left = [], clauses
+        left = clauses
         while left:
             group, later, crates = left, [], [self.crate, *self.source.above[self.crate]]
             while group and crates:
@@ -225,9 +227,8 @@ class Round:
                 later += out
                 crates = crates if found else crates[1:]
             for it in group:
-                self.note(it, "not above", "")
-            kept, left = kept + group, later
-        return kept
+                self.note(it, "nobody", "")
+            left = later
 
     def missed_above(self, found, group):
         """Of a group's clauses those that somebody misses, each with who does, and those that are to be tried again."""
@@ -241,7 +242,8 @@ class Round:
         return missed, [it for it in out if it not in missed]
 
     def edits(self, clauses):
-        """Tries the wrong bodies of the functions that have to meet a clause, with the clause empty."""
+        """Tries the wrong bodies of the functions that have to meet a clause, with the clause empty, and answers the
+        clauses that none of them misses."""
         left, missed = [(it, edit) for it in clauses for edit in self.edits_of(it)], set()
         while left:
             group, used = [], set()
@@ -253,9 +255,10 @@ class Round:
                                                     or self.source.may_call(it, edit.function)}
             missed |= self.edits_tried(group)
             left = [it for it in left if it not in group and it[0].key not in missed]
-        for it in clauses:
-            if it.key not in missed:
-                self.note(it, "nobody", "tried: " + (" ".join(edit.name for edit in self.edits_of(it)) or "no edit"))
+        kept = [it for it in clauses if it.key not in missed]
+        for it in kept:
+            self.note(it, "no edit", " ".join(edit.name for edit in self.edits_of(it)))
+        return kept
 
     def edits_tried(self, group):
         """Tries some wrong bodies at once, each with its clause empty, and answers the clauses that one misses."""
