@@ -274,13 +274,13 @@ class Round:
         return {clause.key for clause, _ in missed}
 
     def edits_of(self, clause):
-        """The wrong bodies that change a function which has to meet the clause."""
+        """The wrong bodies that change a function which has to meet the clause, without those that name its text."""
         held = {it.path: it for it in self.source.held_to(clause)}
-        found = []
+        found, text = [], self.source.texts[self.crate, clause.function.file][clause.start : clause.end]
         for path in sorted(glob.glob(os.path.join(TOP, "crates", self.crate, "must-fail", "*.edit"))):
             changes = changes_of(self.crate, read(path))
             name = next((it for it in self.source.changed_by(changes) if it in held), None)
-            if name:
+            if name and not any(text in old for _, old, _ in changes):
                 found.append(Edit(os.path.basename(path), held[name], changes))
         return found
 
