@@ -20,7 +20,7 @@ from typing import NamedTuple
 
 sys.dont_write_bytecode = True
 
-from functions import TOP, Function, Source, read  # noqa: E402  (nothing is to be left beside these files)
+from functions import TOP, Source, read  # noqa: E402  (nothing is to be left beside these files)
 
 STATUS = re.compile(r"(?m)^(?:fn|impl) (\S+): (proved|not proved|could not tell|no proof)(.*)$")
 
@@ -123,10 +123,10 @@ def groups(clauses, touched):
 
 
 class Edit(NamedTuple):
-    """A wrong body: the function that it changes, and each change as a file, what stands there and what instead."""
+    """A wrong body: the functions that it changes, and each change as a file, what stands there and what instead."""
 
     name: str
-    function: Function
+    functions: tuple
     changes: tuple
 
 
@@ -248,11 +248,11 @@ class Round:
         while left:
             group, used = [], set()
             for clause, edit in left:
-                if edit.function.path not in used:
+                paths = {it.path for it in edit.functions}
+                if not used & paths:
                     group.append((clause, edit))
-                    used |= {edit.function.path} | {it.path for it in self.source.functions
-                                                    if self.source.may_call(edit.function, it)
-                                                    or self.source.may_call(it, edit.function)}
+                    used |= paths | {it.path for it in self.source.functions for its in edit.functions
+                                     if self.source.may_call(its, it) or self.source.may_call(it, its)}
             missed |= self.edits_tried(group)
             left = [it for it in left if it not in group and it[0].key not in missed]
         kept = [it for it in clauses if it.key not in missed]
@@ -266,22 +266,26 @@ class Round:
         found = {"?": "fails"}
         if self.place.empty([it for it, _ in group], self.dropped, changes):
             found = self.place.check(self.crate)
-        if "?" in found and len(group) > 1:
+        changed = {path: it for it in group for path in (its.path for its in it[1].functions)}
+        failed = {it for it in found if found[it] == "fails"}
+        if len(group) > 1 and failed - changed.keys():
             return {key for it in group for key in self.edits_tried([it])}
-        missed = [it for it in group if not found or len(group) > 1 and it[1].function.path not in found]
+        refused = [changed[it] for it in failed if it in changed]
+        missed = [it for it in group if not found or len(group) > 1 and it not in refused]
         for clause, edit in missed:
             self.note(clause, "edit", edit.name)
         return {clause.key for clause, _ in missed}
 
     def edits_of(self, clause):
         """The wrong bodies that change a function which has to meet the clause, without those that name its text."""
-        held = {it.path: it for it in self.source.held_to(clause)}
+        held = {it.path for it in self.source.held_to(clause)}
         found, text = [], self.source.texts[self.crate, clause.function.file][clause.start : clause.end]
         for path in sorted(glob.glob(os.path.join(TOP, "crates", self.crate, "must-fail", "*.edit"))):
             changes = changes_of(self.crate, read(path))
-            name = next((it for it in self.source.changed_by(changes) if it in held), None)
-            if name and not any(text in old for _, old, _ in changes):
-                found.append(Edit(os.path.basename(path), held[name], changes))
+            names = self.source.changed_by(changes)
+            if any(it in held for it in names) and not any(text in old for _, old, _ in changes):
+                functions = tuple(it for it in self.source.functions if it.path in names)
+                found.append(Edit(os.path.basename(path), functions, changes))
         return found
 
 
