@@ -2,9 +2,9 @@
 """Which clauses of contracts nobody would miss: `clauses.py [--place FOLDER] [--results FILE] [CRATE | CRATE::PATH]..`.
 
 It makes each `ensures` of each public function say nothing (`⊤`), in a copy of the repository, and looks who misses
-it: another function of the crate, then one of a crate above, then a wrong body of must-fail/, which nothing refuses any
-more. The function's own proof doesn't count, and of it the answers to the emptied clause are left out. Laws aren't
-tried: nothing stands on them. A line a clause goes into the results, and what stands there isn't tried again.
+it: another function of the crate, then a wrong body of must-fail/, which nothing refuses any more, then a function of a
+crate above. The function's own proof doesn't count, and of it the answers to the emptied clause are left out. Laws
+aren't tried: nothing stands on them. A line a clause goes into the results, and what stands there isn't tried again.
 
 Clauses that no function of the crate can mix up are emptied together; what stays unclear is tried alone."""
 
@@ -20,9 +20,9 @@ from typing import NamedTuple
 
 sys.dont_write_bytecode = True
 
-from functions import TOP, Function, Source, read  # noqa: E402  (nothing is to be left beside these files)
+from functions import TOP, Source, read  # noqa: E402  (nothing is to be left beside these files)
 
-STATUS = re.compile(r"(?m)^fn (\S+): (proved|not proved|could not tell|no proof)(.*)$")
+STATUS = re.compile(r"(?m)^(?:fn|impl) (\S+): (proved|not proved|could not tell|no proof)(.*)$")
 
 
 def write(path, text):
@@ -83,8 +83,8 @@ class Place:
         return True
 
     def check(self, crate):
-        """Proves a crate: what each function came to, where not all is proved. Of a function that waits for another one
-        nothing is known."""
+        """Proves a crate: what each function came to, where not all is proved, and each type's part in a trait, which
+        has to meet the trait's own clauses. Of one that waits for another nothing is known."""
         begun = time.monotonic()
         ran = subprocess.run(["rt", "check"], cwd=os.path.join(self.folder, "crates", crate), stdin=subprocess.DEVNULL,
                              stdout=subprocess.PIPE, stderr=subprocess.STDOUT, errors="replace")
@@ -94,7 +94,7 @@ class Place:
             return {}
         found = {}
         for name, status, more in STATUS.findall(ran.stdout):
-            waits = status == "no proof" and "did not prove" not in more and "which" in more
+            waits = "waits for" in more or status == "no proof" and "did not prove" not in more and "which" in more
             if status != "proved":
                 found[name] = "waits" if waits else "fails"
         return found or {"?": "fails"}
@@ -123,23 +123,38 @@ def groups(clauses, touched):
 
 
 class Edit(NamedTuple):
-    """A wrong body: the function that it changes, and each change as a file, what stands there and what instead."""
+    """A wrong body: the functions that it changes, and each change as a file, what stands there and what instead."""
 
     name: str
-    function: Function
+    functions: tuple
     changes: tuple
 
 
 class Round:
-    """Tries the clauses of one crate. What comes out of each is noted; of `not here` and `not above` more follows."""
+    """Tries the clauses of one crate. What comes out of each is noted; of `not here` and `no edit` more follows."""
 
     def __init__(self, source, place, crate, note):
         self.source, self.place, self.crate, self.note, self.dropped = source, place, crate, note, {}
 
+    def all_parts(self, clauses, known):
+        """The three parts, each also with what an earlier run left to it."""
+        kept = self.timed("in the crate", self.in_the_crate, [it for it in clauses if it.key not in known])
+        kept += [it for it in clauses if known.get(it.key) == "not here"]
+        kept = self.timed("edits", self.edits, kept) + [it for it in clauses if known.get(it.key) == "no edit"]
+        self.timed("above", self.above, kept)
+
+    def timed(self, name, part, clauses):
+        begun = time.monotonic()
+        kept = part(clauses)
+        print(f"  {self.crate}, {name}: {len(clauses)} clauses, {time.monotonic() - begun:.0f} s", flush=True)
+        return kept
+
     def called(self, name, clauses):
-        """The clauses whose functions a function may call; of a text that is no function's, all."""
+        """The clauses whose functions a function may call, or that a type's part in a trait states; of a text that is
+        neither, all."""
+        stated = [it for it in clauses if it.function.path.startswith(f"{name}::")]
         found = [it for it in self.source.functions if it.path == name]
-        return [it for it in clauses if not found or self.source.may_call(found[0], it.function)]
+        return stated or [it for it in clauses if not found or self.source.may_call(found[0], it.function)]
 
     def judged(self, found, group):
         """Of a group's clauses those that somebody misses, each with who does, and those that may be missed."""
@@ -197,9 +212,9 @@ class Round:
                 self.dropped.setdefault(clause.key, []).extend(goals[-1:])
 
     def above(self, clauses):
-        """The clauses that no crate above misses either. All are empty at once: one that is missed is put back, and of
+        """Looks which clauses a crate above misses. All are empty at once: one that is missed is put back, and of
         several that may be missed all but one, which come later."""
-        kept, left = [], clauses
+        left = clauses
         while left:
             group, later, crates = left, [], [self.crate, *self.source.above[self.crate]]
             while group and crates:
@@ -212,9 +227,8 @@ class Round:
                 later += out
                 crates = crates if found else crates[1:]
             for it in group:
-                self.note(it, "not above", "")
-            kept, left = kept + group, later
-        return kept
+                self.note(it, "nobody", "")
+            left = later
 
     def missed_above(self, found, group):
         """Of a group's clauses those that somebody misses, each with who does, and those that are to be tried again."""
@@ -228,21 +242,23 @@ class Round:
         return missed, [it for it in out if it not in missed]
 
     def edits(self, clauses):
-        """Tries the wrong bodies of the functions that have to meet a clause, with the clause empty."""
+        """Tries the wrong bodies of the functions that have to meet a clause, with the clause empty, and answers the
+        clauses that none of them misses."""
         left, missed = [(it, edit) for it in clauses for edit in self.edits_of(it)], set()
         while left:
             group, used = [], set()
             for clause, edit in left:
-                if edit.function.path not in used:
+                paths = {it.path for it in edit.functions}
+                if not used & paths:
                     group.append((clause, edit))
-                    used |= {edit.function.path} | {it.path for it in self.source.functions
-                                                    if self.source.may_call(edit.function, it)
-                                                    or self.source.may_call(it, edit.function)}
+                    used |= paths | {it.path for it in self.source.functions for its in edit.functions
+                                     if self.source.may_call(its, it) or self.source.may_call(it, its)}
             missed |= self.edits_tried(group)
             left = [it for it in left if it not in group and it[0].key not in missed]
-        for it in clauses:
-            if it.key not in missed:
-                self.note(it, "nobody", "tried: " + (" ".join(edit.name for edit in self.edits_of(it)) or "no edit"))
+        kept = [it for it in clauses if it.key not in missed]
+        for it in kept:
+            self.note(it, "no edit", " ".join(edit.name for edit in self.edits_of(it)))
+        return kept
 
     def edits_tried(self, group):
         """Tries some wrong bodies at once, each with its clause empty, and answers the clauses that one misses."""
@@ -250,23 +266,26 @@ class Round:
         found = {"?": "fails"}
         if self.place.empty([it for it, _ in group], self.dropped, changes):
             found = self.place.check(self.crate)
-        if "?" in found and len(group) > 1:
+        changed = {path: it for it in group for path in (its.path for its in it[1].functions)}
+        failed = {it for it in found if found[it] == "fails"}
+        if len(group) > 1 and failed - changed.keys():
             return {key for it in group for key in self.edits_tried([it])}
-        missed = [it for it in group if not found or len(group) > 1 and it[1].function.path not in found]
+        refused = [changed[it] for it in failed if it in changed]
+        missed = [it for it in group if not found or len(group) > 1 and it not in refused]
         for clause, edit in missed:
             self.note(clause, "edit", edit.name)
         return {clause.key for clause, _ in missed}
 
     def edits_of(self, clause):
-        """The wrong bodies that change a function which has to meet the clause."""
-        found = []
+        """The wrong bodies that change a function which has to meet the clause, without those that name its text."""
+        held = {it.path for it in self.source.held_to(clause)}
+        found, text = [], self.source.texts[self.crate, clause.function.file][clause.start : clause.end]
         for path in sorted(glob.glob(os.path.join(TOP, "crates", self.crate, "must-fail", "*.edit"))):
             changes = changes_of(self.crate, read(path))
-            for it in self.source.held_to(clause):
-                text = self.source.texts[it.crate, it.file]
-                if any(it.start <= text.find(old) < it.end for file, old, _ in changes if file == (it.crate, it.file)):
-                    found.append(Edit(os.path.basename(path), it, changes))
-                    break
+            names = self.source.changed_by(changes)
+            if any(it in held for it in names) and not any(text in old for _, old, _ in changes):
+                functions = tuple(it for it in self.source.functions if it.path in names)
+                found.append(Edit(os.path.basename(path), functions, changes))
         return found
 
 
@@ -317,10 +336,7 @@ def main():
     for crate in wanted_crates(source, given.words):
         clauses = [it for it in wanted if it.function.crate == crate]
         print(f"{crate}: {len(clauses)} clauses", flush=True)
-        tries = Round(source, place, crate, note)
-        kept = tries.in_the_crate([it for it in clauses if it.key not in known])
-        kept = tries.above(kept + [it for it in clauses if known.get(it.key) == "not here"])
-        tries.edits(kept + [it for it in clauses if known.get(it.key) == "not above"])
+        Round(source, place, crate, note).all_parts(clauses, known)
     lines = [it for it in read(given.results).split("\n") if re.search(r"\t(nobody|unclear)\t", it)]
     print(f"nobody misses, or it stays unclear: {len(lines)}", *lines, sep="\n")
 

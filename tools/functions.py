@@ -107,9 +107,14 @@ def functions_of(crate, file, text):
         yield made, [Clause(made, name, start, end, len(facts) == 1) for name, start, end in facts]
 
 
+def texts_by_path(crate, file, text):
+    """The text of each function of a file, with its contract."""
+    return {it.path: text[it.start : it.end].rstrip() for it, _ in functions_of(crate, file, text)}
+
+
 class Source:
-    """The crates that the program is made of, the lowest first, with their functions and clauses and what stands above
-    each."""
+    """The crates that the program is made of, the lowest first, with their functions and clauses, and those above each:
+    all that crates.txt has stand on it, since proofs and definitions can cite what no body names."""
 
     def __init__(self):
         lines = re.findall(r"(?m)^(\w+):(.*)$", read(os.path.join(TOP, "crates.txt")).split("\n# Small")[0])
@@ -128,11 +133,7 @@ class Source:
         for it in self.functions:
             self.types.setdefault(it.name, set()).add(it.type)
         self.stating = {it.function.path for it in self.clauses}
-        self.above = {it: [] for it in self.crates}
-        for (crate, _), text in self.texts.items():
-            for it in self.crates[: self.crates.index(crate)]:
-                if re.search(rf"\b{it}\b", text) and crate not in self.above[it]:
-                    self.above[it].append(crate)
+        self.above = {it: [name for name, below in lines if it in below.split()] for it in self.crates}
 
     def may_call(self, one, other):
         return one.may_call(other, self.types[other.name])
@@ -146,3 +147,17 @@ class Source:
         its = clause.function
         return [it for it in self.functions if it.path == its.path or its.owner == its.trait == it.trait
                 and it.name == its.name and it.path not in self.stating]
+
+    def changed_by(self, changes):
+        """The functions that changes alter, each change a file, what stands there and what instead; all of a file where
+        what they alter there is no function's."""
+        altered = {}
+        for file, old, new in changes:
+            if file in self.texts:
+                altered[file] = altered.get(file, self.texts[file]).replace(old, new)
+        names = []
+        for (crate, file), text in altered.items():
+            before = texts_by_path(crate, file, self.texts[crate, file])
+            after = texts_by_path(crate, file, re.sub(r"(?s)/\*.*?\*/", "", text))
+            names += [it for it in before if before[it] != after.get(it)] or list(before)
+        return names

@@ -35,7 +35,6 @@ impl Blake2b {
         ensures none { IsNone result ↔ ((len ≡ 0) ⊎ (64 < len)) }
         ensures holds { IfSome result (λ s. Holds s []) }
         ensures len { IfSome result (λ s. digest_len s ≡ len) }
-        ensures taken { IfSome result (λ s. taken s ≡ 0) }
     {
         if len == 0 || len > 64 {
             return None;
@@ -51,17 +50,14 @@ impl Blake2b {
 
     /// The digest's length in bytes, 1 to 64.
     pub fn len(&self) -> usize
-        ensures value { result ≡ digest_len self.now }
-        ensures some { 1 ≤ result }
-        ensures few { result ≤ 64 }
+        ensures { result ≡ digest_len self.now }
     {
         self.len
     }
 
     /// The length of the message so far, in bytes.
     pub fn taken(&self) -> u64
-        ensures value { result ≡ taken self.now }
-        ensures length { (m : List ℕ) → Holds self.now m → result ≡ length m }
+        ensures { result ≡ taken self.now }
     {
         self.taken
     }

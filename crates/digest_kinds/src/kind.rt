@@ -1,7 +1,7 @@
 //! An algorithm with its digest's length.
 
-ghost use Rattle.std.specs.Prelude.{◌≡◌, ◌↔◌, ◌⊎◌, ◌*◌, ◌<◌, ◌≤◌, IsTrue, IsNone, IfSome};
-ghost use Rattle.digest_kinds.specs.Kinds.{blake2b_kind, full_kind, has_len, tag};
+ghost use Rattle.std.specs.Prelude.{◌≡◌, ◌↔◌, ◌⊎◌, ◌*◌, ◌<◌, ◌≤◌, IsNone, IfSome};
+ghost use Rattle.digest_kinds.specs.Kinds.{blake2b_kind, full_kind, tag};
 ghost use Rattle.digest_kinds.specs.Lengths.{blake2b_of_bits};
 
 use crate::algo::Algo;
@@ -105,9 +105,7 @@ impl Kind {
 
     /// The number of bits of the digest.
     pub fn bits(self) -> u64
-        ensures value { result ≡ 8 * self.len }
-        ensures some { 8 ≤ result }
-        ensures few { result ≤ 512 }
+        ensures { result ≡ 8 * self.len }
     {
         8 * self.len as u64
     }
@@ -117,7 +115,6 @@ impl Kind {
         ensures value { result ≡ self.len }
         ensures some { 1 ≤ result }
         ensures few { result ≤ 64 }
-        ensures fits { IsTrue (has_len self.algo self.len) }
     {
         self.len
     }

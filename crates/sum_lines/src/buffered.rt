@@ -121,7 +121,6 @@ impl<S: Sink> Sink for Buffered<S> {
         ensures bytes { Flushes (buffer_state S.written S.held S.failures self.old)
             (buffer_state S.written S.held S.failures self.new) result }
         ensures hands { HandsOn (S.offered self.old.sink) (S.offered self.new.sink) self.old.held }
-        ensures own { self.new.held ≡ [] }
     {
         self.empty()?;
         self.sink.flush()

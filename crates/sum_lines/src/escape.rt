@@ -1,6 +1,6 @@
 //! The escape of names in lines and diagnostics.
 ghost use Rattle.std.specs.Prelude.{◌≡◌, ◌≢◌, ◌↔◌, ◌+◌, ◌<◌, ◌≤◌, ◌++◌, ℕ, List, length, vec_len, take, drop};
-ghost use Rattle.std.specs.Prelude.{slice_index, is_some, true, IsTrue, IfSome, IfNone, MatchOption};
+ghost use Rattle.std.specs.Prelude.{slice_index, is_some, true, IfSome, IfNone, MatchOption};
 ghost use Rattle.sum_lines.specs.Sinks.{Writes};
 ghost use Rattle.sum_lines.specs.Profiles.{present};
 ghost use Rattle.sum_lines.specs.Escape.{IsEscaped, escape, escape_of, escape_differs};
@@ -61,7 +61,6 @@ pub fn unescape_in<A: Allocator>(line: &mut Vec<u8, A>, from: usize) -> bool
     requires { from ≤ vec_len line.old }
     ensures name { (n : List ℕ) → (drop from line.old.items ≡ escape n)
         ↔ ((result ≡ true) × (line.new.items ≡ take from line.old.items ++ n)) }
-    ensures found { IsTrue result ↔ IsEscaped (drop from line.old.items) }
     ensures before { take from line.new.items ≡ take from line.old.items }
     ensures len { vec_len line.new ≤ vec_len line.old }
 {
