@@ -170,7 +170,7 @@ no_digits Blake2b x y xs rest h k e = let same : y ≡ 76 = cc in let bad = rw s
 no_digits sha x y xs rest h k e = let same : x ≡ 83 = cc in let bad = rw same at h in cc
 
 -- so a plain line's digits begin none
-no_prefix : (a : Algo) (ds s rest : List ℕ) → AllPass is_hex_digit ds → 2 ≤ length ds → ds ++ s ≡ tag a ++ rest → ⊥
+pub no_prefix : (a : Algo) (ds s rest : List ℕ) → AllPass is_hex_digit ds → 2 ≤ length ds → ds ++ s ≡ tag a ++ rest → ⊥
 no_prefix a (x ∷ y ∷ xs) s rest all two e =
     no_digits a x y (xs ++ s) rest (All-head Hex x (y ∷ xs) all) (All-head Hex y xs (All-tail Hex x (y ∷ xs) all)) e
 no_prefix a ds s rest all two e = absurd (omega arith)

@@ -2,6 +2,7 @@
 -- a user of the crate meets by themselves name some.
 pub mod PartTexts
 pub mod Found
+pub mod Beginnings
 pub mod ToldSinks
 pub mod Emptying
 pub mod Growing

@@ -1,6 +1,7 @@
 //! Lines of checksums: where they are written, how a name is escaped in them, and how they are read.
 #![tactic(auto)]
 
+mod beginnings;
 mod buffered;
 mod escape;
 mod from_write;

@@ -4,7 +4,9 @@ ghost use Rattle.std.specs.Prelude.{◌≡◌, ◌≤◌, false, if◌then◌els
 ghost use Rattle.sum_lines.specs.Entries.{begins_standard, form_of_tail, form_then, is_ignored};
 ghost use Rattle.sum_lines.specs.refinement.Found.{NamesEntry, NamesTail, text_of};
 ghost use Rattle.sum_lines.specs.Readings.{Reads, form_after};
+ghost use Rattle.sum_lines.specs.refinement.Beginnings.{LeadsTo};
 
+use crate::beginnings::{Beginning, find_beginning};
 use crate::names::name_in;
 use crate::plain::plain;
 use crate::scanning::{LineParts, text_in};
@@ -63,25 +65,37 @@ pub fn read_line<A: Allocator>(algos: Algos, form: Form, line: &mut Vec<u8, A>) 
     if is_ignored(line) {
         return (Reading::Ignored, form);
     }
-    read_spoken(algos, form, line)
+    match find_beginning(algos, line) {
+        Some(beginning) => read_begun(algos, form, line, beginning),
+        None => (Reading::Bad, form),
+    }
 }
 
-// Reads a line that isn't ignored. A call of its own, since each call clears all that its parts may need, which an
-// ignored line doesn't.
+// Reads a line that isn't ignored and begins so. A call of its own, since each call clears all that its parts may need,
+// which an ignored line and most bad ones don't.
 #[inline(never)]
-fn read_spoken<A: Allocator>(algos: Algos, form: Form, line: &mut Vec<u8, A>) -> (Reading, Form)
-    requires { is_ignored line.old.items ≡ false }
+fn read_begun<A: Allocator>(
+    algos: Algos,
+    form: Form,
+    line: &mut Vec<u8, A>,
+    beginning: Beginning,
+) -> (Reading, Form)
+    requires heard { is_ignored line.old.items ≡ false }
+    requires leads { LeadsTo algos line.old.items beginning }
     ensures form { result.1 ≡ form_after algos form line.old.items }
     ensures reads { Reads algos result.1 line.old.items line.new.items result.0 }
     ensures len { vec_len line.new ≤ vec_len line.old }
 {
     let (escaped, text) = text_in(line);
-    if let Some(found) = tagged(algos, line, escaped, text) {
-        (read_name(line, found), form)
-    } else if let Some(found) = plain(algos, line, escaped, text) {
-        read_tail(form, line, found)
-    } else {
-        (Reading::Bad, form)
+    match beginning {
+        Beginning::Tag(algo) => match tagged(algo, line, escaped, &text[algo.tag().len()..]) {
+            Some(found) => (read_name(line, found), form),
+            None => (Reading::Bad, form),
+        },
+        Beginning::Digits(at) => match plain(algos, line, escaped, text, at) {
+            Some(found) => read_tail(form, line, found),
+            None => (Reading::Bad, form),
+        },
     }
 }
 

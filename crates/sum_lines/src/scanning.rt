@@ -23,7 +23,7 @@ pub(crate) struct LineParts {
 }
 
 /// Whether the byte is a space or a tab.
-fn is_blank(byte: u8) -> bool
+pub(crate) fn is_blank(byte: u8) -> bool
     ensures { result ≡ is_blank byte }
 {
     matches!(byte, b' ' | b'\t')

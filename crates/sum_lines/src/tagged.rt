@@ -4,33 +4,16 @@ ghost use Rattle.std.specs.Prelude.{◌≡◌, ◌≤◌, codes, length, IfSome}
 ghost use Rattle.std.specs.Char.{is_ascii_digit as is_digit};
 ghost use Rattle.std.specs.List.{AllPass, prefix_len, take_while};
 ghost use Rattle.std.specs.Option.{option_copied, option_map, option_or};
-ghost use Rattle.sum_lines.specs.PartsOfLines.{after_while, strip_prefix, mark_and_rest};
-ghost use Rattle.sum_lines.specs.PartsOfLines.{algo_at, digest_at, kind_at, tagged_as, tagged_parts, width_at};
-ghost use Rattle.sum_lines.specs.Shapes.{is_blank};
+ghost use Rattle.sum_lines.specs.PartsOfLines.{after_while, strip_prefix};
+ghost use Rattle.sum_lines.specs.PartsOfLines.{digest_at, kind_at, tagged_as, width_at};
 ghost use Rattle.sum_lines.specs.refinement.Found.{line_parts, number_of, EndsIn};
 
 use crate::scanning::{LineParts, past_text, skip_blanks, split_at_last};
-use digest_kinds::{Algo, Algos, Digest, Kind};
+use digest_kinds::{Algo, Digest, Kind};
 
-/// Reads a tagged line of these algorithms, whose text stands behind its blanks and its mark. None where the line isn't
-/// tagged.
-#[tactic(auto, unfolding(crate::specs::PartsOfLines::tagged_parts))]
-pub(crate) fn tagged(algos: Algos, line: &[u8], escaped: bool, text: &[u8]) -> Option<LineParts>
-    requires text { (escaped, text.now) ≡ mark_and_rest (after_while is_blank line.now) }
-    requires ends { EndsIn line.now text.now }
-    ensures parts { option_map (line_parts line.now) result ≡ tagged_parts algos line.now }
-    ensures range { IfSome result (λ t. (t.start ≤ t.stop) × (t.stop ≤ length line.now)) }
-{
-    let algo = algo_at(algos, text)?;
-    let behind_tag = past_text(algo.tag().as_bytes(), text)?;
-    tagged_as(algo, line, escaped, behind_tag)
-}
-
-// Reads a tagged line of that algorithm behind its tag. A call of its own, so that a line without a tag needn't make
-// room for what a tagged one holds.
-#[inline(never)]
+/// Reads a tagged line of that algorithm behind its tag. None where the line isn't tagged.
 #[tactic(auto, unfolding(crate::specs::PartsOfLines::tagged_as))]
-fn tagged_as(algo: Algo, line: &[u8], escaped: bool, behind_tag: &[u8]) -> Option<LineParts>
+pub(crate) fn tagged(algo: Algo, line: &[u8], escaped: bool, behind_tag: &[u8]) -> Option<LineParts>
     requires { EndsIn line.now behind_tag.now }
     ensures parts { option_map (line_parts line.now) result ≡ tagged_as algo escaped behind_tag.now }
     ensures range { IfSome result (λ t. (t.start ≤ t.stop) × (t.stop ≤ length line.now)) }
@@ -55,16 +38,6 @@ fn tagged_as(algo: Algo, line: &[u8], escaped: bool, behind_tag: &[u8]) -> Optio
         start,
         stop: start + raw.len(),
     })
-}
-
-// The algorithm whose tag is looked for.
-fn algo_at(algos: Algos, s: &[u8]) -> Option<Algo>
-    ensures { result ≡ algo_at algos s.now }
-{
-    match algos {
-        Algos::One(algo) => Some(algo),
-        Algos::Any => Algo::of_tag_prefix(s),
-    }
 }
 
 // The kind by what follows the tag, and what stands behind that.

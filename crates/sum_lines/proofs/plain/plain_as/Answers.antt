@@ -1,12 +1,36 @@
-use Rattle.sum_lines.proofs.BlankLemmas.{plain_as-none, searched-none, searched-some}
+use Rattle.std.proofs.Common.{◌≡◌, ◌+◌, ◌/◌, length, take, drop, arith, sym}
+use Rattle.std.proofs.lemmas.List.{take-append-drop, take_rest}
+use Rattle.sum_lines.proofs.BeginningLemmas.{plain_at-none, plain_at-read, spelled-size}
+use Rattle.sum_lines.proofs.ScanLemmas.{decoded-digits, ends-behind, tail-place}
 use Rattle.sum_lines.proofs.plain.plain_as.Goals as goal
 
--- no blank among the first bytes: a plain line has one
-pub returns-in_err-at-clause-parts : goal.returns-in_err-at-clause-parts
-returns-in_err-at-clause-parts c = rw c.from_residual.ensures
-    (plain_as-none c.args.algo c.args.escaped c.args.text.now
-    (λ p cut. searched-none c.min.ensures c.in_err-at.ensures cut))
+-- no digest has that length
+pub returns-in_err-kind-clause-parts : goal.returns-in_err-kind-clause-parts
+returns-in_err-kind-clause-parts c = rw c.from_residual.ensures
+    (plain_at-none c.args.algo c.args.escaped c.args.at c.args.text.now (λ p is.
+    let within = c.requires.within in
+    let size = spelled-size is (omega (arith, within)) in
+    let two = size.0 in
+    let half : c.args.at / 2 ≡ length p.digest = omega (arith, two) in
+    let none = c.in_err-kind.ensures in
+    let bad = rw (half, is.has) at none in cc))
 
--- the one that was found is the first
-pub plain_cut-requires-clause-first : goal.plain_cut-requires-clause-first
-plain_cut-requires-clause-first c = (searched-some c.args.text.now c.min.ensures c.in_ok-at.ensures).0
+-- what stands before it spells no digest
+pub returns-in_err-digest-clause-parts : goal.returns-in_err-digest-clause-parts
+returns-in_err-digest-clause-parts c = rw c.from_residual-in_err-digest.ensures
+    (plain_at-none c.args.algo c.args.escaped c.args.at c.args.text.now (λ p is.
+    let within = c.requires.within in
+    let size = spelled-size is (omega (arith, within)) in
+    let digits = decoded-digits (take c.args.at c.args.text.now) p.digest is.spelled size.2 size.1 in
+    let bad = c.in_err-digest.ensures.found.1 digits in cc))
+
+-- the parts that were found are the line's
+pub returns-clause-parts : goal.returns-clause-parts
+returns-clause-parts c =
+    let s = c.args.text.now in
+    let at = c.args.at in
+    let within = c.requires.within in
+    let ends = ends-behind (take (at + 1) s) (drop (at + 1) s) c.requires.ends (sym (take-append-drop (at + 1) s)) in
+    rw (take_rest s (at + 1), tail-place ends)
+    (plain_at-read c.args.algo c.args.escaped s c.in_ok-kind.kind (omega (arith, within))
+    c.in_ok-digest.ensures.value c.in_ok-kind.ensures)

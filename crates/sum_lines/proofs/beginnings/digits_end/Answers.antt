@@ -1,0 +1,26 @@
+use Rattle.std.proofs.Common.{arith, rules}
+use Rattle.sum_lines.proofs.BeginningLemmas.{end-none, end-some}
+use Rattle.sum_lines.proofs.beginnings.digits_end.Goals as goal
+
+-- a blank stands there, and something behind it
+pub returns-in-Some-clause-some : goal.returns-in-Some-clause-some
+returns-in-Some-clause-some c =
+    end-some c.args.algo c.args.text.now c.in_ok-at.at c.in_ok-at.ensures.some c.if-at-text.true (search rules)
+
+-- nothing behind it
+pub returns-in_default-clause-none : goal.returns-in_default-clause-none
+returns-in_default-clause-none c =
+    end-none c.args.algo c.args.text.now c.in_ok-at.at c.in_ok-at.ensures.some (λ some blank. omega arith)
+
+-- another byte
+pub returns-in_default-2-clause-none : goal.returns-in_default-2-clause-none
+returns-in_default-2-clause-none c =
+    end-none c.args.algo c.args.text.now c.in_ok-at.at c.in_ok-at.ensures.some (λ some blank.
+    let here = rw (← c.in-Some.ensures.lookup.3.1 0) at blank in
+    let other = c.if-is_blank.ensures in cc)
+
+-- the text's end
+pub returns-in_default-3-clause-none : goal.returns-in_default-3-clause-none
+returns-in_default-3-clause-none c =
+    end-none c.args.algo c.args.text.now c.in_ok-at.at c.in_ok-at.ensures.some (λ some blank.
+    let bad = rw c.in_default.is at (c.get.ensures.lookup.2 (omega arith)) in cc)

@@ -1,0 +1,79 @@
+//! What a line begins with. Most bad lines are told by that, and none of the rest is read.
+
+ghost use Rattle.std.specs.Prelude.{◌≡◌, Bool, IfNone, IfSome, None};
+ghost use Rattle.std.specs.List.{position_or_len};
+ghost use Rattle.sum_lines.specs.PartsOfLines.{plain_as, plain_parts, tagged_parts};
+ghost use Rattle.sum_lines.specs.Shapes.{is_blank};
+ghost use Rattle.sum_lines.specs.refinement.Beginnings.{LeadsTo, EndsDigits, tag_in};
+
+use crate::scanning::{is_blank, text_in};
+use digest_kinds::{Algo, Algos, Kind};
+use memchr::memchr2;
+
+// The digits of the longest digest.
+const MOST_DIGITS: usize = 128;
+
+/// What stands in a line behind its blanks and its mark, where that can be an entry.
+#[derive(Clone, Copy)]
+pub(crate) enum Beginning {
+    /// The algorithm's tag.
+    Tag(Algo),
+    /// As many bytes as the one algorithm has digits, and a blank at that place.
+    Digits(usize),
+}
+
+/// What a line of these algorithms begins with. None where it is neither tagged nor plain.
+pub(crate) fn find_beginning(algos: Algos, line: &[u8]) -> Option<Beginning>
+    ensures tagged { IfNone result (None ≡ tagged_parts algos line.now) }
+    ensures plain { IfNone result (None ≡ plain_parts algos line.now) }
+    ensures leads { IfSome result (LeadsTo algos line.now) }
+{
+    let (_, text) = text_in(line);
+    if let Some(algo) = tag_in(algos, text) {
+        return Some(Beginning::Tag(algo));
+    }
+    match algos {
+        Algos::One(algo) => Some(Beginning::Digits(digits_end(algo, text)?)),
+        Algos::Any => None,
+    }
+}
+
+// The algorithm whose tag stands in front.
+fn tag_in(algos: Algos, text: &[u8]) -> Option<Algo>
+    ensures { result ≡ tag_in algos text.now }
+{
+    // No tag begins with another letter.
+    if !matches!(text, [b'M' | b'S' | b'B', ..]) {
+        return None;
+    }
+    match algos {
+        Algos::One(algo) if text.starts_with(algo.tag().as_bytes()) => Some(algo),
+        Algos::One(_) => None,
+        Algos::Any => Algo::of_tag_prefix(text),
+    }
+}
+
+// The place of the blank behind the digits, where something stands behind that. None where no plain line has such a
+// text. The digits themselves aren't looked at.
+fn digits_end(algo: Algo, text: &[u8]) -> Option<usize>
+    ensures none { IfNone result ((e : Bool) → None ≡ plain_as algo e text.now) }
+    ensures some { IfSome result (EndsDigits algo text.now) }
+{
+    let at = digits_len(algo, text)?;
+    match text.get(at) {
+        Some(blank) if is_blank(*blank) && at + 1 < text.len() => Some(at),
+        _ => None,
+    }
+}
+
+// How many digits stand in front, where the line is plain.
+fn digits_len(algo: Algo, text: &[u8]) -> Option<usize>
+    ensures none { IfNone result ((e : Bool) → None ≡ plain_as algo e text.now) }
+    ensures some { IfSome result (λ n. (e : Bool) → IfSome (plain_as algo e text.now)
+        (λ _. n ≡ position_or_len is_blank text.now)) }
+{
+    match algo {
+        Algo::Blake2b => memchr2(b' ', b'\t', &text[..text.len().min(MOST_DIGITS + 1)]),
+        _ => Some(2 * Kind::of(algo).len()),
+    }
+}
