@@ -14,7 +14,7 @@ use crate::summary::{Counts, is_good, put_summary};
 use crate::verdict::{LineVerdict, Verdict, judge, name_place, read};
 use digest_kinds::LIMIT;
 use std::alloc::Allocator;
-use sum_lines::{Form, Sink};
+use sum_lines::{Form, Reading, Sink};
 use sum_sources::{Input, LineReader, LineStop, Next, PIECE, Source, Stdin};
 
 /// A manifest, its lines so far, and what is still to come of it.
@@ -196,6 +196,14 @@ impl<'a, I: Input> Position<'a, I> {
     {
         let (reading, form) = read(self.listing.settings.algo, self.form, line);
         self.form = form;
+        if let Reading::Ignored = reading {
+            return Some(LineVerdict {
+                number: self.number(),
+                verdict: Verdict::Ignored,
+                start: 0,
+                stop: 0,
+            });
+        }
         let Some(verdict) = judge(
             &self.listing,
             line,

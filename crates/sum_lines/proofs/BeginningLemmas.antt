@@ -145,7 +145,8 @@ first-blank s d at within blank spelled =
     let are = (decode_of-ok (take at s) d spelled).1 in
     let len = length-take at s in
     position_or_len_is is_blank s at 0 (omega (arith, within))
-    (λ k less. let hex = All-get_or (λ x. is_hex_digit x ≡ true) (take at s) k 0 (omega (arith, len, less, within)) are in
+    (λ k less. let hex =
+    All-get_or (λ x. is_hex_digit x ≡ true) (take at s) k 0 (omega (arith, len, less, within)) are in
     hex-no_blank (get_or s k 0) (rw (get_or-take at s k 0 less) at hex))
     (λ _. blank)
 

@@ -1,5 +1,5 @@
 //! `Verdicts`.
-use super::checking::{ALL, CHECK, files, told};
+use super::checking::{ALL, CHECK, files};
 use super::hashing::Refusing;
 use crate::{LineVerdict, Verdict, Verdicts};
 use linked_list_allocator::LocalHeap;
@@ -14,17 +14,18 @@ fn finds(
     lines: &[(Verdict, &[u8])],
     (end, good): (Result<Option<LineVerdict>, LineStop>, bool),
 ) -> Result<(), Fail> {
-    let mut streams = told(b"abc", files(rt.alloc(), 1, b"", Ending::Whole)?);
+    let mut stdin = Stdin::new(Told::new(b"abc", Ending::Whole, 1));
+    let mut source = files(rt.alloc(), 1, b"", Ending::Whole)?;
     let mut line = Vec::new(rt.alloc());
     for (i, (verdict, name)) in lines.iter().enumerate() {
-        let found = verdicts.next(&mut line, &mut streams.stdin, &mut streams.source)?;
+        let found = verdicts.next(&mut line, &mut stdin, &mut source)?;
         let found = found.ok_or("no line")?;
         assert!(rt; found.number == i as u64 + 1 && found.verdict == *verdict);
         assert_eq!(rt; &line[found.start..found.stop], *name);
         assert!(rt; !verdicts.is_good());
     }
     for _ in 0..2 {
-        assert!(rt; verdicts.next(&mut line, &mut streams.stdin, &mut streams.source) == end);
+        assert!(rt; verdicts.next(&mut line, &mut stdin, &mut source) == end);
         assert!(rt; verdicts.is_good() == good);
     }
     Ok(())
@@ -107,15 +108,16 @@ fn no_memory_for_a_line(rt: HostRuntime) -> Result<(), Fail> {
     )?;
     let name = vec![in rt.alloc(); b'x'; 5000]?;
     manifest.extend_from_slice(&name)?;
-    let mut streams = told(b"", files(rt.alloc(), 8192, b"", Ending::Whole)?);
+    let mut stdin = Stdin::new(Told::new(b"", Ending::Whole, 1));
+    let mut source = files(rt.alloc(), 8192, b"", Ending::Whole)?;
     let input = Told::new(&manifest, Ending::Whole, 8192);
     let mut verdicts = Verdicts::new(CHECK, false, input);
     let heap = LocalHeap::new(rt.alloc(), 256)?;
     let mut line = Vec::new(&heap);
-    let first = verdicts.next(&mut line, &mut streams.stdin, &mut streams.source)?;
+    let first = verdicts.next(&mut line, &mut stdin, &mut source)?;
     assert!(rt; first.ok_or("no line")?.verdict == Verdict::Right);
     for _ in 0..3 {
-        let found = verdicts.next(&mut line, &mut streams.stdin, &mut streams.source);
+        let found = verdicts.next(&mut line, &mut stdin, &mut source);
         assert!(rt; found == Err(LineStop::Memory) && !verdicts.is_good());
     }
     Ok(())

@@ -20,7 +20,7 @@ returns-clause-gives g c =
     let judged = rw (ap (λ l. parsed_line_by l c.read-reading.result.0) c.deref.ensures.value ∙ said)
     at c.in-Some.ensures.gives in
     line_found (rules_in old.listing) _ old.reader.lines _ old.counts _ vector _ _ _ _ _ judged
-    c.counted-self.ensures (c.name_place-start.ensures.name vector ∙ ap name_said said) c.number.ensures
+    c.counted-self.ensures (c.name_place-start.ensures.name vector ∙ ap name_said said) c.number-2.ensures
 
 -- its name stands in the vector
 pub returns-clause-taken : goal.returns-clause-taken
