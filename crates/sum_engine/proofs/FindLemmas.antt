@@ -1,5 +1,5 @@
 -- The next verdict of a manifest, by what reading and judging its line did.
-use Rattle.std.proofs.Common.{◌≡◌, ℕ, ◌+◌, ◌≤◌, ◌||◌, List, [], ◌∷◌, length, map, slice_range, Option, None, Some, Ok, Err, refl, ap, sym, ◌∙◌, append-nil}
+use Rattle.std.proofs.Common.{◌≡◌, ℕ, ◌+◌, ◌≤◌, ◌||◌, List, [], length, map, slice_range, Option, Some, Ok, refl, ◌∙◌, append-nil}
 use Rattle.std.specs.List.{list_any}
 use Rattle.std.proofs.KnownBytes.{Appends-nil}
 use Rattle.sum_sources.specs.declared.lines.Next.TheVariants.{Line}
@@ -13,7 +13,7 @@ use Rattle.sum_engine.specs.declared.verdict.LineVerdict.{LineVerdict}
 use Rattle.sum_engine.specs.declared.verdict.Verdict.{Verdict}
 use Rattle.sum_engine.specs.Worlds.{World, is_dash}
 use Rattle.sum_engine.specs.Runs.{Opens}
-use Rattle.sum_engine.specs.Verdicts.{Rules, judge, asks_by, asks_of}
+use Rattle.sum_engine.specs.Verdicts.{Rules, judge, asks_of}
 use Rattle.sum_engine.specs.Reports.{counts_with}
 use Rattle.sum_engine.specs.RunStates.{RunState, Did}
 use Rattle.sum_engine.specs.Steps.{Now, Moves, next_judged}

@@ -1,5 +1,5 @@
 -- One step of a checker, by what its parts did.
-use Rattle.std.proofs.Common.{◌≡◌, ℕ, ◌+◌, ◌≤◌, ◌<◌, ◌||◌, Bool, List, [], length, Option, None, Some, Ok, Err, OnOk, refl, sym, ◌∙◌, inl, inr, subst}
+use Rattle.std.proofs.Common.{◌≡◌, ℕ, ◌+◌, ◌≤◌, ◌<◌, ◌||◌, Bool, List, [], length, Option, None, Some, Ok, Err, refl, sym, ◌∙◌, inl, inr, subst}
 use Rattle.std.specs.List.{list_any}
 use Rattle.sum_sources.specs.declared.lines.Next.TheVariants.{Line}
 use Rattle.sum_sources.specs.Contents.{Content, WhereTold}
@@ -19,7 +19,7 @@ use Rattle.sum_engine.specs.declared.verdict.LineVerdict.{LineVerdict}
 use Rattle.sum_engine.specs.Worlds.{is_dash}
 use Rattle.sum_engine.specs.Runs.{Step}
 use Rattle.sum_engine.specs.Verdicts.{Rules, asks_of}
-use Rattle.sum_engine.specs.Reports.{err_by, out_of, err_of, counts_with, end_text, good}
+use Rattle.sum_engine.specs.Reports.{err_by, out_of, err_of, end_text, good}
 use Rattle.sum_engine.specs.RunStates.{RunState, refusals_over}
 use Rattle.sum_engine.specs.Steps.{Now, now_by, Moves, StepGives, next_judged, rest_verdicts}
 use Rattle.sum_engine.specs.LineVerdicts.{judged_in}

@@ -1,4 +1,4 @@
-use Rattle.std.proofs.Common.{◌≡◌, ◌&&◌, false, slice_range, refl, rules}
+use Rattle.std.proofs.Common.{◌≡◌, ◌&&◌, false, slice_range, rules}
 use Rattle.sum_lines.specs.Entries.{Spelled}
 use Rattle.sum_engine.specs.Worlds.{is_dash}
 use Rattle.sum_engine.specs.refinement.Listings.{rules_in}

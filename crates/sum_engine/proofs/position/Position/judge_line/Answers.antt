@@ -1,10 +1,6 @@
-use Rattle.std.proofs.Common.{ap, ◌∙◌, ◌||◌, ◌≡◌}
-use Rattle.std.specs.List.{list_any}
-use Rattle.std.specs.Prelude.{is_none}
+use Rattle.std.proofs.Common.{ap, ◌∙◌}
 use Rattle.sum_lines.specs.Profiles.{present}
 use Rattle.sum_lines.specs.ParsedLines.{parse_line}
-use Rattle.sum_engine.specs.Worlds.{is_dash}
-use Rattle.sum_engine.specs.Verdicts.{asks_by}
 use Rattle.sum_engine.specs.refinement.Judging.{parsed_line_by, name_said}
 use Rattle.sum_engine.specs.refinement.Listings.{rules_in}
 use Rattle.sum_engine.proofs.FindLemmas.{line_found}
