@@ -1,5 +1,6 @@
 //! Where the checking of a manifest stands.
-ghost use Rattle.std.specs.Prelude.{◌≡◌, ◌≤◌, ◌<◌, ◌||◌, Ok, Err, None, [], length, Option, MatchOption, is_none, IfSome, IfOk};
+ghost use Rattle.std.specs.Prelude.{◌≡◌, ◌≤◌, ◌<◌, ◌||◌, Ok, Err, None, [], length, Option, MatchOption};
+ghost use Rattle.std.specs.Prelude.{is_none, IfSome, IfOk};
 ghost use Rattle.sum_sources.specs.Sources.{after_refusal};
 ghost use Rattle.digest_kinds.specs.Limits.{LIMIT};
 ghost use Rattle.sum_lines.specs.Profiles.{present};

@@ -86,8 +86,8 @@ impl<I: Input> Verdicts<I> {
     /// the name of its entry; what it held before doesn't matter. `stdin` is what the name `-` stands for in a manifest
     /// that didn't come from there, and `source` is where files are opened.
     ///
-    /// `LineStop::Fault` where the manifest ended by that fault. `LineStop::Memory` where there was no memory for the line
-    /// or for opening the file that it names; each later call then answers the same and does nothing.
+    /// `LineStop::Fault` where the manifest ended by that fault. `LineStop::Memory` where there was no memory for the
+    /// line or for opening the file that it names; each later call then answers the same and does nothing.
     pub fn next<A: Allocator, J: Input + Drop, S: Source>(
         &mut self,
         line: &mut Vec<u8, A>,

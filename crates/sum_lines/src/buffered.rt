@@ -9,8 +9,8 @@ use std::marker::Model;
 pub const ROOM: usize = 8192;
 
 /// A buffer over a sink. It holds what it takes until there is no room for more or it is flushed, and then hands on all
-/// that it holds in one piece. So a line of at most [`ROOM`] bytes is one write, where nothing was held before it and it
-/// is flushed at its end.
+/// that it holds in one piece. So a line of at most [`ROOM`] bytes is one write, where nothing was held before it and
+/// it is flushed at its end.
 #[derive(Drop)]
 pub struct Buffered<S> {
     sink: S,
