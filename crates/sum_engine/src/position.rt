@@ -4,7 +4,7 @@ ghost use Rattle.std.specs.Prelude.{is_none, IfSome, IfOk};
 ghost use Rattle.sum_sources.specs.Sources.{after_refusal};
 ghost use Rattle.digest_kinds.specs.Limits.{LIMIT};
 ghost use Rattle.sum_lines.specs.Profiles.{present};
-ghost use Rattle.sum_engine.specs.Reports.{total};
+ghost use Rattle.sum_engine.specs.Reports.{total, counts_with};
 
 use crate::listing::Listing;
 use crate::progress::Progress;
@@ -12,7 +12,7 @@ use crate::report::{put_fault_line, put_report};
 use crate::stop::Stop;
 use crate::streams::Streams;
 use crate::summary::{Counts, is_good, put_summary};
-use crate::verdict::{LineVerdict, Verdict, judge, name_place, read};
+use crate::verdict::{LineVerdict, Verdict, judge, read};
 use digest_kinds::LIMIT;
 use std::alloc::Allocator;
 use sum_lines::{Form, Reading, Sink};
@@ -197,32 +197,51 @@ impl<'a, I: Input> Position<'a, I> {
     {
         let (reading, form) = read(self.listing.settings.algo, self.form, line);
         self.form = form;
-        if let Reading::Ignored = reading {
-            return Some(LineVerdict {
-                number: self.number(),
-                verdict: Verdict::Ignored,
-                start: 0,
-                stop: 0,
-            });
+        match reading {
+            Reading::Ignored => Some(self.found(Verdict::Ignored, 0, 0)),
+            Reading::Bad => Some(self.found(Verdict::Bad, 0, 0)),
+            Reading::Entry {
+                kind,
+                digest,
+                start,
+                stop,
+            } => {
+                let name = &line[start..stop];
+                let listing = &self.listing;
+                let Some(verdict) = judge(
+                    listing,
+                    kind,
+                    &digest,
+                    name,
+                    stdin,
+                    source,
+                    &mut self.buffer,
+                ) else {
+                    return None;
+                };
+                Some(self.found(verdict, start, stop))
+            }
         }
-        let Some(verdict) = judge(
-            &self.listing,
-            line,
-            &reading,
-            stdin,
-            source,
-            &mut self.buffer,
-        ) else {
-            return None;
-        };
+    }
+
+    // The verdict of the line that was read last, which is counted, and where its name stands.
+    fn found(&mut self, verdict: Verdict, start: usize, stop: usize) -> LineVerdict
+        requires room { total self.old.counts < self.old.reader.lines }
+        requires few { self.old.reader.lines ≤ LIMIT }
+        ensures is { result
+            ≡ record { number = self.old.reader.lines; verdict = verdict; start = start; stop = stop } }
+        ensures counts { self.new.counts ≡ counts_with self.old.counts verdict }
+        ensures form { self.new.form ≡ self.old.form }
+        ensures reader { self.new.reader ≡ self.old.reader }
+        ensures rules { rules_in self.new.listing ≡ rules_in self.old.listing }
+    {
         self.counts = self.counts.counted(verdict);
-        let (start, stop) = name_place(&reading);
-        Some(LineVerdict {
+        LineVerdict {
             number: self.number(),
             verdict,
             start,
             stop,
-        })
+        }
     }
 
     /// The verdict of the next line, or None where no line is left. Nothing is written.

@@ -1,17 +1,17 @@
 //! The verdict of a line.
-ghost use Rattle.std.specs.Prelude.{◌≡◌, ◌||◌, ◌≤◌, ℕ, List, length, slice_range, MatchOption, is_none};
+ghost use Rattle.std.specs.Prelude.{◌≡◌, ◌||◌, ◌≤◌, length, MatchOption, is_none};
 ghost use Rattle.std.specs.List.{list_any};
 ghost use Rattle.sum_sources.specs.Sources.{after_refusal};
 ghost use Rattle.sum_lines.specs.Entries.{form_then, line_form};
 ghost use Rattle.sum_engine.specs.Worlds.{is_dash};
 ghost use Rattle.sum_engine.specs.Verdicts.{asks_by};
 ghost use Rattle.sum_lines.specs.Profiles.{present};
-ghost use Rattle.sum_lines.specs.ParsedLines.{parse_line};
+ghost use Rattle.sum_lines.specs.ParsedLines.{parse_line, WithEntry};
 ghost use Rattle.sum_engine.specs.refinement.Asking.{world};
 
 use crate::asking::{Asked, ask, is_dash};
 use crate::listing::Listing;
-use digest_kinds::{Algos, Digest};
+use digest_kinds::{Algos, Digest, Kind};
 use std::alloc::Allocator;
 use sum_lines::{Form, Reading, read_line};
 use sum_sources::{Fault, Input, PIECE, Source, Stdin};
@@ -44,7 +44,7 @@ pub struct LineVerdict {
 }
 
 ghost use Rattle.sum_engine.specs.refinement.Listings.{rules_in};
-ghost use Rattle.sum_engine.specs.refinement.Judging.{parsed_line_by, name_said, Within, JudgeGives, compared};
+ghost use Rattle.sum_engine.specs.refinement.Judging.{parsed_line_by, Within, JudgeGives, compared};
 
 /// Reads a line, in a list of the form that the lines before it have.
 pub(crate) fn read<A: Allocator>(algos: Algos, form: Form, line: &mut Vec<u8, A>) -> (Reading, Form)
@@ -56,43 +56,32 @@ pub(crate) fn read<A: Allocator>(algos: Algos, form: Form, line: &mut Vec<u8, A>
     read_line(algos, form, line)
 }
 
-/// The verdict of a line that was read. None where the source had no memory to open the name; nothing was then asked.
+/// The verdict of an entry. None where the source had no memory to open the name; nothing was then asked.
 pub(crate) fn judge<I: Input + Drop, S: Source>(
     listing: &Listing,
-    line: &[u8],
-    reading: &Reading,
+    kind: Kind,
+    digest: &Digest,
+    name: &[u8],
     stdin: &mut Stdin<I>,
     source: &mut S,
     buffer: &mut [u8; PIECE],
 ) -> Option<Verdict>
-    requires { Within line.now reading.now }
+    requires { length digest.now ≡ kind.len }
     ensures gives { JudgeGives (rules_in listing.now) (world I.content (S.told source.old) stdin.old)
-        (world I.content (S.told source.new) stdin.new) (parsed_line_by line.now reading.now) result }
+        (world I.content (S.told source.new) stdin.new)
+        (WithEntry (record { algo = kind.algo; digest = digest.now; name = name.now })) result }
     ensures taken { MatchOption result (stdin.new ≡ stdin.old)
-        (λ v. is_none stdin.new
-        ≡ is_none stdin.old || list_any is_dash (asks_by v (name_said (parsed_line_by line.now reading.now)))) }
+        (λ v. is_none stdin.new ≡ is_none stdin.old || list_any is_dash (asks_by v name.now)) }
     ensures refusals { MatchOption result (S.refusals source.new ≡ after_refusal (S.refusals source.old))
         (λ _. S.refusals source.new ≡ S.refusals source.old) }
 {
-    match reading {
-        Reading::Ignored => Some(Verdict::Ignored),
-        Reading::Bad => Some(Verdict::Bad),
-        Reading::Entry {
-            kind,
-            digest,
-            start,
-            stop,
-        } => {
-            let name = &line[*start..*stop];
-            if listing.from_stdin && is_dash(name) {
-                return Some(Verdict::Bad);
-            }
-            let Some(asked) = ask(*kind, name, stdin, source, buffer) else {
-                return None;
-            };
-            Some(compare(&asked, digest, listing.settings.ignore_missing))
-        }
+    if listing.from_stdin && is_dash(name) {
+        return Some(Verdict::Bad);
     }
+    let Some(asked) = ask(kind, name, stdin, source, buffer) else {
+        return None;
+    };
+    Some(compare(&asked, digest, listing.settings.ignore_missing))
 }
 
 fn compare(asked: &Asked, digest: &Digest, ignore_missing: bool) -> Verdict
@@ -109,16 +98,5 @@ fn compare(asked: &Asked, digest: &Digest, ignore_missing: bool) -> Verdict
         Asked::Refused(Fault::NotFound) if ignore_missing => Verdict::Missing,
         Asked::Refused(fault) => Verdict::Unread(*fault),
         Asked::Broken(fault) => Verdict::Unread(*fault),
-    }
-}
-
-/// Where a line's name stands in its vector.
-pub(crate) fn name_place(reading: &Reading) -> (usize, usize)
-    ensures name { (line : List ℕ) → slice_range line result.0 result.1 ≡ name_said (parsed_line_by line reading.now) }
-    ensures within { (line : List ℕ) → Within line reading.now → (result.0 ≤ result.1) × (result.1 ≤ length line) }
-{
-    match reading {
-        Reading::Entry { start, stop, .. } => (*start, *stop),
-        _ => (0, 0),
     }
 }

@@ -22,7 +22,9 @@ pub(crate) enum Beginning {
     Digits(usize),
 }
 
-/// What a line of these algorithms begins with. None where it is neither tagged nor plain.
+/// What a line of these algorithms begins with. None where it is neither tagged nor plain. A call
+/// of its own, so that an ignored line needs no room for it.
+#[inline(never)]
 pub(crate) fn find_beginning(algos: Algos, line: &[u8]) -> Option<Beginning>
     ensures tagged { IfNone result (None ≡ tagged_parts algos line.now) }
     ensures plain { IfNone result (None ≡ plain_parts algos line.now) }

@@ -65,25 +65,14 @@ pub fn read_line<A: Allocator>(algos: Algos, form: Form, line: &mut Vec<u8, A>) 
     if is_ignored(line) {
         return (Reading::Ignored, form);
     }
-    read_spoken(algos, form, line)
-}
-
-// Reads a line that isn't ignored. A call of its own, as the next is, since each call clears all that its parts may
-// need: an ignored line needs none of it.
-#[inline(never)]
-fn read_spoken<A: Allocator>(algos: Algos, form: Form, line: &mut Vec<u8, A>) -> (Reading, Form)
-    requires { is_ignored line.old.items ≡ false }
-    ensures form { result.1 ≡ form_after algos form line.old.items }
-    ensures reads { Reads algos result.1 line.old.items line.new.items result.0 }
-    ensures len { vec_len line.new ≤ vec_len line.old }
-{
     match find_beginning(algos, line) {
         Some(beginning) => read_begun(algos, form, line, beginning),
         None => (Reading::Bad, form),
     }
 }
 
-// Reads a line that isn't ignored and begins so, which most bad ones don't.
+// Reads a line that isn't ignored and begins so, which most bad ones don't. A call of its own, since it clears room for
+// all that an entry holds.
 #[inline(never)]
 fn read_begun<A: Allocator>(
     algos: Algos,
