@@ -113,7 +113,7 @@ class Documents(Case):
         self.assertEqual((ran.status, ran.err, wanted - found), (0, b"", set()))
 
     def test_crates_are_in_the_documents(self):
-        """Every crate of the program stands in the map, in the promises and in the README."""
+        """Every crate stands in the map and in the README."""
         with open(os.path.join(harness.TOP, "crates.txt"), encoding="utf-8") as it:
             crates = re.findall(r"^(\w+):", it.read(), re.MULTILINE)
         for name in ("README.md", "docs/ARCHITECTURE.md"):
