@@ -284,6 +284,16 @@ class Recipes(Case):
                 self.assertEqual(self.fails(recipe, shell).out, b"")
             self.assertEqual(self.fails(self.recipe(page, "unlisted")), Ran(1, b"./image.iso\n", b""))
 
+    def test_a_name_within_another(self):
+        """One file's check doesn't pass by another whose name holds its own as a line would."""
+        for page in KINDS_OF_PAGES:
+            self.make(good=False, more=["y  ./image.iso", "z (./image.iso) = ", "z (./image.iso) = 0", "x ./image.iso"])
+            self.passes(self.recipe(page, "list"))
+            self.assertEqual(self.fails(self.recipe(page, "check one")).out, b"")
+            self.put("image.iso", IMAGE)
+            self.passes(self.recipe(page, "list"))
+            self.passes(self.recipe(page, "check one"), b"./image.iso: OK\n")
+
     def expect_failures(self, page, sorts, command, script):
         """With a script in the place of a command these recipes fail, and make nothing."""
         for recipe, sort, shell in self.each(page, *sorts):
