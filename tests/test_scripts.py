@@ -126,8 +126,13 @@ class Sums(Repository):
         self.assertEqual((ran.status, ran.out), (1, b"out/default/digests: FAILED\nout/x86-64-v3/digests: OK\n"))
 
     def test_other_words(self):
-        ran = self.script("tools/sums", "--other")
-        self.assertEqual((ran.status, ran.out), (2, b""))
+        """They are refused before anything is built."""
+        self.put("crates/low/src/Some.antt", "changed\n")
+        self.write(self.notes, "")
+        for script, word in (("tools/sums", "--other"), ("tools/sums", "--help"), ("tools/build", "--help")):
+            ran = self.script(script, word)
+            self.assertEqual((ran.status, ran.out, self.calls()), (2, b"", []), script)
+            self.assertTrue(ran.err.startswith(f"usage: {script}".encode()), ran.err)
 
 
 class Words(Repository):
