@@ -158,6 +158,17 @@ class Checks(Described):
         missing = ["md5sum: '': No such file or directory", "md5sum: WARNING: 1 listed file could not be read"]
         self.expect_both("md5sum -c list", ours, (1, [": FAILED open or read", "a: OK"], missing))
 
+    def test_lines_that_they_do_not_write(self):
+        """GNU's tools read a carriage return as it is in a name behind a leading backslash."""
+        self.write("q\\\rz", "abc")
+        self.write("list", f"\\{M}  q\\\\\rz\n{M}  a\n")
+        ours = (0, ["a: OK"], ["md5sum: WARNING: 1 line is improperly formatted"])
+        self.expect_both("md5sum -c list", ours, (0, ["q\\\rz: OK", "a: OK"], b""))
+        written = self.run_command(["md5sum", "q\\\rz"], executable=gnu("md5sum")).out
+        self.assertEqual(written, f"\\{M}  q\\\\\\rz\n".encode())
+        self.write("list", written)
+        self.expect_both("md5sum -c list", (0, ["\\q\\\\\\rz: OK"], b""), (0, ["q\\\rz: OK"], b""))
+
     def test_what_status_still_tells(self):
         """What can't be read, and a manifest that lists nothing; not that no file was verified."""
         self.write("list", [f"{M}  x", f"{M}  e", "junk"])

@@ -128,8 +128,8 @@ DIAGNOSTICS = {
 }
 
 LIMITS = (
-    "A word of the command line that isn't UTF-8 can't be read: the answer is `digests: words not read`. Then no file "
-    "of that call is read, and no line is written. A name in a manifest that isn't UTF-8 can't be opened.",
+    "A word of the command line that isn't UTF-8 can't be read: the answer is `digests: words not read` alone, and no "
+    "file of that call is read. A name in a manifest that isn't UTF-8 can't be opened.",
     "A directory is an `Input/output error`.",
     "Lines that were written with `--zero` can't be checked.",
     "A file of 2^61 bytes or more is an `Input/output error`.",
@@ -173,6 +173,8 @@ DIFFERENCES = (
     "list that was written with `--zero` they may check the first file alone, and answer 0.",
     "A line whose name is empty is improperly formatted. GNU's tools take some for a file that is listed and isn't "
     "there, as `MD5 () =` and digits.",
+    "GNU's tools read some lines that they don't write and that are improperly formatted here, as one that begins with "
+    "a backslash and whose name holds a carriage return as it is.",
     "An output that fails ends the run with a write error and status 1, and so does a reader that goes away, as "
     "`head`(1). GNU's tools still read all other files; a signal ends them where the reader goes away.",
     "The language that is set and `POSIXLY_CORRECT` have no effect.",
@@ -267,7 +269,7 @@ EXAMPLES_OF_PROGRAM = (RECIPE_OF_A_FILE, RECIPE_OF_ITS_CHECK, *RECIPES_OF_SEVERA
 
 # For lines of the plain and of the tagged form: how sed takes them down to their names, and how grep finds one.
 PLAIN = (r"s/^\\?[0-9a-f]+ [ *]//", r"grep -x '[0-9a-f]*  \./image\.iso'")
-TAGGED = (r"s/^\\?[^(]+\((.*)\) = [0-9a-f]+$/\1/", r"grep -x '[^ ]* (\./image\.iso) = [0-9a-f]*'")
+TAGGED = (r"s/^\\?[^#(]+\((.*)\) = [0-9a-f]+$/\1/", r"grep -x '[^ ]* (\./image\.iso) = [0-9a-f]*'")
 
 
 def examples(name):
