@@ -78,7 +78,7 @@ class Messages(Described):
         self.expect_both("md5sum --other=x a", (1, b"", [ours, more]), (1, b"", [theirs, more]))
 
     def test_lengths(self):
-        """GNU's tool takes blanks or a plus sign before the number, and tells of a fault in other words."""
+        """GNU's tool takes blanks or a plus sign before the number, and tells of a fault in other lines."""
         for value in (" 256", "\t256", "+256"):
             ours, theirs = self.both(["b2sum", "-l", value, "e"])
             self.assertEqual((ours.status, theirs.status, theirs.out), (1, 0, f"{harness.B}  e\n".encode()))

@@ -183,7 +183,7 @@ DIFFERENCES = (
 )
 
 DIFFERENCE_OF_LENGTH = (
-    "The number of `--length` is digits alone, and a fault of it is told in other words. GNU's tool takes blanks or a "
+    "The number of `--length` is digits alone, and a fault of it is told in other lines. GNU's tool takes blanks or a "
     "plus sign before it, too. Of several numbers the last alone is looked at, and not where `--help` or `--version` "
     "stands; GNU's tool looks at each, in its place.")
 
