@@ -78,7 +78,7 @@ class Messages(Described):
         self.expect_both("md5sum --other=x a", (1, b"", [ours, more]), (1, b"", [theirs, more]))
 
     def test_lengths(self):
-        """GNU's tool takes blanks or a plus sign before the number, and tells of a fault in other words."""
+        """GNU's tool takes blanks or a plus sign before the number, and tells of a fault in other lines."""
         for value in (" 256", "\t256", "+256"):
             ours, theirs = self.both(["b2sum", "-l", value, "e"])
             self.assertEqual((ours.status, theirs.status, theirs.out), (1, 0, f"{harness.B}  e\n".encode()))
@@ -157,6 +157,17 @@ class Checks(Described):
         ours = (0, ["a: OK"], ["md5sum: WARNING: 1 line is improperly formatted"])
         missing = ["md5sum: '': No such file or directory", "md5sum: WARNING: 1 listed file could not be read"]
         self.expect_both("md5sum -c list", ours, (1, [": FAILED open or read", "a: OK"], missing))
+
+    def test_lines_that_they_do_not_write(self):
+        """GNU's tools read a carriage return as it is in a name behind a leading backslash."""
+        self.write("q\\\rz", "abc")
+        self.write("list", f"\\{M}  q\\\\\rz\n{M}  a\n")
+        ours = (0, ["a: OK"], ["md5sum: WARNING: 1 line is improperly formatted"])
+        self.expect_both("md5sum -c list", ours, (0, ["q\\\rz: OK", "a: OK"], b""))
+        written = self.run_command(["md5sum", "q\\\rz"], executable=gnu("md5sum")).out
+        self.assertEqual(written, f"\\{M}  q\\\\\\rz\n".encode())
+        self.write("list", written)
+        self.expect_both("md5sum -c list", (0, ["\\q\\\\\\rz: OK"], b""), (0, ["q\\\rz: OK"], b""))
 
     def test_what_status_still_tells(self):
         """What can't be read, and a manifest that lists nothing; not that no file was verified."""

@@ -86,6 +86,11 @@ class Pages(Case):
             self.assertEqual(marked, [], name)  # those braces are typed, behind -exec of find
             self.assertTrue(lines[0].startswith(f"{name.upper()}(1)"), lines[0])
 
+    def test_what_is_typed_is_not_cut(self):
+        """Within a word the sign that keeps a word whole would be a place to cut it at."""
+        for name in NAMES:
+            self.assertNotRegex(self.read(path_of(name)).decode(), r"\S\\%", name)
+
     def test_version(self):
         with open(os.path.join(TOP, "build.sh"), encoding="utf-8") as file:
             version = re.search(r"(?m)^version=(.*)$", file.read())[1]

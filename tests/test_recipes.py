@@ -279,10 +279,21 @@ class Recipes(Case):
                 self.put("SUMS", b"".join(damaged if line == image else line for line in whole))
                 for recipe, _, shell in self.each(page, "check list", "check list on all", "check one"):
                     self.fails(recipe, shell)
-            self.put("SUMS", b"".join(line for line in whole if line != image))
-            for recipe, _, shell in self.each(page, "check one"):
-                self.assertEqual(self.fails(recipe, shell).out, b"")
-            self.assertEqual(self.fails(self.recipe(page, "unlisted")), Ran(1, b"./image.iso\n", b""))
+            for other in (b"", b"#" + image, b"# " + image):
+                self.put("SUMS", b"".join(other if line == image else line for line in whole))
+                for recipe, _, shell in self.each(page, "check one"):
+                    self.assertEqual(self.fails(recipe, shell).out, b"")
+                self.assertEqual(self.fails(self.recipe(page, "unlisted")), Ran(1, b"./image.iso\n", b""))
+
+    def test_a_name_within_another(self):
+        """One file's check doesn't pass by another whose name holds its own as a line would."""
+        for page in KINDS_OF_PAGES:
+            self.make(good=False, more=["y  ./image.iso", "z (./image.iso) = ", "z (./image.iso) = 0", "x ./image.iso"])
+            self.passes(self.recipe(page, "list"))
+            self.assertEqual(self.fails(self.recipe(page, "check one")).out, b"")
+            self.put("image.iso", IMAGE)
+            self.passes(self.recipe(page, "list"))
+            self.passes(self.recipe(page, "check one"), b"./image.iso: OK\n")
 
     def expect_failures(self, page, sorts, command, script):
         """With a script in the place of a command these recipes fail, and make nothing."""

@@ -126,8 +126,30 @@ class Sums(Repository):
         self.assertEqual((ran.status, ran.out), (1, b"out/default/digests: FAILED\nout/x86-64-v3/digests: OK\n"))
 
     def test_other_words(self):
-        ran = self.script("tools/sums", "--other")
-        self.assertEqual((ran.status, ran.out), (2, b""))
+        """They are refused before anything is built."""
+        self.put("crates/low/src/Some.antt", "changed\n")
+        self.write(self.notes, "")
+        for script, word in (("tools/sums", "--other"), ("tools/sums", "--help"), ("tools/build", "--help")):
+            ran = self.script(script, word)
+            self.assertEqual((ran.status, ran.out, self.calls()), (2, b"", []), script)
+            self.assertTrue(ran.err.startswith(f"usage: {script}".encode()), ran.err)
+
+
+class Clauses(Case):
+    """The words of `tools/clauses.py`."""
+
+    of_the_repository = True
+
+    def test_names(self):
+        """Where one names no clause, nothing is tried."""
+        clauses = os.path.join(TOP, "tools", "clauses.py")
+        ran = self.run_command([clauses, "--list", "sum_words"])
+        self.assertEqual((ran.status, ran.err), (0, b""))
+        self.assertTrue(ran.out.startswith(b"sum_words::"))
+        for words in (["sum_word"], ["sum_words", "other"], ["--list", "sum_words::wor"]):
+            ran = self.run_command([clauses, *words])
+            self.assertEqual((ran.status, ran.out), (2, b""))
+            self.assertIn(b"no clause is of '%s'" % words[-1].encode(), ran.err)
 
 
 class Words(Repository):

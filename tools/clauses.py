@@ -320,8 +320,12 @@ def main():
     known = {}
     for line in (read(given.results) if os.path.isfile(given.results) else "").split("\n"):
         known[line.split("\t")[0]] = line.split("\t")[1] if line else ""
-    wanted = [it for it in source.clauses if not given.words or any(f"{it.function.path}::".startswith(f"{word}::")
-                                                                   for word in given.words)]
+    found = {word: [it for it in source.clauses if f"{it.function.path}::".startswith(f"{word}::")]
+             for word in given.words}
+    for word in given.words:
+        if not found[word]:
+            said.error(f"no clause is of '{word}'")
+    wanted = [it for it in source.clauses if not given.words or any(it in found[word] for word in given.words)]
     if given.list:
         print("\n".join(it.key for it in wanted))
         return

@@ -27,8 +27,8 @@ OPTIONS = {
     "length": (EITHER, "Make a digest of {BITS} bits: a multiple of 8 from 8 to 512; 0 means 512. A shorter digest "
                "isn't the beginning of a longer one. With `--check` the number is looked at and has no further effect, "
                "since each line says its length by its digits."),
-    "tag": (WITHOUT, "Write lines of the tagged form, which name the algorithm. It is refused where `--text` is the "
-            "last of `--binary`, `--tag` and `--text`."),
+    "tag": (WITHOUT, "Write lines of the tagged form, which name the algorithm and have no star. It is refused where "
+            "`--text` is the last of `--binary`, `--tag` and `--text`."),
     "text": (WITHOUT, "Put a space before each name in the lines that are written, as is done without it. Of "
              "`--binary` and `--text` the last counts."),
     "zero": (WITHOUT, "End each line by a byte 0 in place of a newline, and write each name as it is. Such lines "
@@ -109,7 +109,7 @@ STATUSES = {
 
 DIAGNOSTICS = {
     "{FILE}: No such file or directory": "It isn't there. The other files are still read.",
-    "{FILE}: Permission denied": "It may not be opened. The other files are still read.",
+    "{FILE}: Permission denied": "It may not be read. The other files are still read.",
     "{FILE}: Input/output error": "It can't be read for another reason. Most often it is a directory. Other "
                                   "reasons are links that lead in a circle, a name that is too long, a name below a "
                                   "file that is no directory, a name in a manifest that isn't UTF-8, a socket, "
@@ -128,8 +128,8 @@ DIAGNOSTICS = {
 }
 
 LIMITS = (
-    "A word of the command line that isn't UTF-8 can't be read: the answer is `digests: words not read`. Then no file "
-    "of that call is read, and no line is written. A name in a manifest that isn't UTF-8 can't be opened.",
+    "A word of the command line that isn't UTF-8 can't be read: the answer is `digests: words not read` alone, and no "
+    "file of that call is read. A name in a manifest that isn't UTF-8 can't be opened.",
     "A directory is an `Input/output error`.",
     "Lines that were written with `--zero` can't be checked.",
     "A file of 2^61 bytes or more is an `Input/output error`.",
@@ -165,14 +165,16 @@ DIFFERENCES = (
     "Names in messages and reports stand as they do in lines, with backslash, newline and carriage return escaped. "
     "GNU's tools quote some names in messages as a shell does, as one with a space or a control byte; in reports they "
     "escape a name only where it holds a newline.",
-    "But for `No such file or directory` and `Permission denied`, each fault of a file is an `Input/output error`; "
-    "GNU's tools name most of them, as `Is a directory`.",
+    "A fault of a file is told as `No such file or directory`, as `Permission denied`, or else as `Input/output "
+    "error`; GNU's tools name most of the others, as `Is a directory`.",
     "In each manifest the first line that begins with its digits decides how such lines are read. With GNU's tools the "
     "first such line of a call decides for all manifests.",
     "A line that lists a file and holds a byte 0 is improperly formatted. GNU's tools take the name up to there: of a "
     "list that was written with `--zero` they may check the first file alone, and answer 0.",
-    "A line whose name is empty is improperly formatted. GNU's tools take some for a listed file, as `MD5 () =` and "
-    "digits, and fail.",
+    "A line whose name is empty is improperly formatted. GNU's tools take some for a file that is listed and isn't "
+    "there, as `MD5 () =` and digits.",
+    "GNU's tools read some lines that they don't write and that are improperly formatted here, as one that begins with "
+    "a backslash and whose name holds a carriage return as it is.",
     "An output that fails ends the run with a write error and status 1, and so does a reader that goes away, as "
     "`head`(1). GNU's tools still read all other files; a signal ends them where the reader goes away.",
     "The language that is set and `POSIXLY_CORRECT` have no effect.",
@@ -181,7 +183,7 @@ DIFFERENCES = (
 )
 
 DIFFERENCE_OF_LENGTH = (
-    "The number of `--length` is digits alone, and a fault of it is told in other words. GNU's tool takes blanks or a "
+    "The number of `--length` is digits alone, and a fault of it is told in other lines. GNU's tool takes blanks or a "
     "plus sign before it, too. Of several numbers the last alone is looked at, and not where `--help` or `--version` "
     "stands; GNU's tool looks at each, in its place.")
 
@@ -202,7 +204,7 @@ RECIPES_OF_FOLDERS = (
      "    -exec {writes} {} + > SUMS.new &&",
      "    [ -s SUMS.new ] && mv SUMS.new SUMS"),
     ("The same on all processors, in another order, in `bash`(1). With `pipefail` a pipe fails where any part of it "
-     "does. The answer of `xargs`(1) is 123 where a call failed:",
+     "does. Where a call answers 1, `xargs`(1) answers 123:",
      "(set -o pipefail",
      "find . -type f ! -path ./SUMS ! -path ./SUMS.new -print0 |",
      "    xargs -0 -r -n 32 -P \"$(nproc)\" {writes} > SUMS.new) &&",
@@ -219,8 +221,8 @@ RECIPES_OF_FOLDERS = (
      "`split`(1), so that is asked first:",
      "[ -s SUMS ] && split -e -n \"r/$(nproc)\" \\",
      "    --filter='{tool} -c --quiet --strict' SUMS"),
-    ("One of the listed files only. Where `grep`(1) finds no line, the check fails, since its list is empty. Give one "
-     "name at a time: of two, one that isn't found would not be missed.",
+    ("One of the listed files only, by its whole line. Where `grep`(1) finds none, the check fails, since its list is "
+     "empty. Give one name at a time: of two, one that isn't found would not be missed.",
      "{grep} SUMS | {tool} -c --strict"),
     ("Files that no line of the list names, as it would write them, in `bash`(1). A check doesn't tell of them. The "
      "status is 0 only where there is none:",
@@ -266,8 +268,8 @@ EXAMPLES_OF_PROGRAM = (RECIPE_OF_A_FILE, RECIPE_OF_ITS_CHECK, *RECIPES_OF_SEVERA
                        *RECIPES_OF_PIPES)
 
 # For lines of the plain and of the tagged form: how sed takes them down to their names, and how grep finds one.
-PLAIN = (r"s/^\\?[0-9a-f]+ [ *]//", r"grep '  \./image\.iso$'")
-TAGGED = (r"s/^\\?[^(]+\((.*)\) = [0-9a-f]+$/\1/", "grep -F ' (./image.iso) = '")
+PLAIN = (r"s/^\\?[0-9a-f]+ [ *]//", r"grep -x '[0-9a-f]*  \./image\.iso'")
+TAGGED = (r"s/^\\?[^#(]+\((.*)\) = [0-9a-f]+$/\1/", r"grep -x '[^ ]* (\./image\.iso) = [0-9a-f]*'")
 
 
 def examples(name):
@@ -295,12 +297,12 @@ PROGRAM = (
 PROGRAM_OPTIONS = (
     "It has none of its own, and each {WORD} is for the tool. `digests `{TOOL}` --help` lists the tool's.")
 
-PROGRAM_LINES = "Each tool writes and reads lines with digits and a name; its page has their forms."
+PROGRAM_LINES = "Lines have digits and a name. Each tool's page has the forms that it writes or reads."
 
 PROGRAM_CHECKING = "`--check` is an option of every tool; its page says what is read, and what is written."
 
 PROGRAM_DIAGNOSTICS = {
-    "digests: unknown tool": "The first word, or the link's name, is no tool's.",
+    "digests: unknown tool": "Neither the name that it was called by nor the first word is a tool's.",
     "digests: words not read": "A word isn't UTF-8, or there is no memory for the words.",
     "this machine lacks a feature of x86-64-v3": "And the like: the program was built for later processors.",
 }

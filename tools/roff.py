@@ -15,14 +15,15 @@ def escaped(text):
 
 
 def inline(text):
-    """A text with its marks as changes of the font; hyphens are those of words, except in what is typed."""
+    """A text with its marks as changes of the font; hyphens are those of words, except in what is typed. Such a word is
+    never cut, which roff wants said where the word begins: inside it that sign would be a place to cut at."""
     parts = re.split(r"(`[^`]*`|\{[^}]*\})", text)
     for place, part in enumerate(parts):
         if part.startswith("`"):
-            parts[place] = "\\%\\fB" + escaped(part[1:-1]).replace(" ", "\\ ") + "\\fR"
+            parts[place] = "\\fB" + escaped(part[1:-1]).replace(" ", "\\ ") + "\\fR"
         elif part.startswith("{"):
             parts[place] = "\\fI" + escaped(part[1:-1]) + "\\fR"
-    return "".join(parts)
+    return re.sub(r"(?<!\S)(?<!\\ )(?=[(\[]*(?:\\fI\S*)?\\fB)", r"\\%", "".join(parts))
 
 
 def paragraph(text):

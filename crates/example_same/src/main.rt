@@ -1,5 +1,5 @@
-//! Says of two files whether their contents are the same, and how many lines the first has. `same` and `count_lines`
-//! have contracts of their own, which follow from those of the libraries.
+//! Says of two files whether their contents have the same digest, and how many lines the first has. `same` and
+//! `count_lines` have contracts of their own, which follow from those of the libraries.
 #![tactic(auto)]
 
 ghost use Rattle.std.specs.Prelude.{◌≡◌, ◌↔◌, ◌⊎◌, length, IsTrue, IfSome, IfOk, IfErr, Err};

@@ -31,7 +31,7 @@ impl<S> Model for Buffered<S> {
 }
 
 impl<S> Buffered<S> {
-    /// A buffer over `sink`, which holds nothing yet.
+    /// An empty buffer over `sink`.
     pub fn new(sink: S) -> Self
         ensures { result ≡ record { sink = sink; held = [] } }
     {

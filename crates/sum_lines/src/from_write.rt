@@ -16,7 +16,7 @@ pub struct FromWrite<W> {
 }
 
 impl<W: Write> FromWrite<W> {
-    /// A sink over the writer, which holds what the writer holds.
+    /// A sink over the writer, which has handed on what the writer has taken so far.
     pub fn new(writer: W) -> Self
         ensures written { ⟦<FromWrite<W> as Sink>⟧.written result ≡ W.contents writer }
         ensures failures { ⟦<FromWrite<W> as Sink>⟧.failures result ≡ 0 }

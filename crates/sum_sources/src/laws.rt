@@ -3,9 +3,9 @@ ghost use Rattle.std.specs.Prelude.{◌≡◌, ℕ, ◌++◌, List, All};
 ghost use Rattle.sum_sources.specs.declared.fault.Ending.{Ending as EndingValue};
 ghost use Rattle.sum_sources.specs.ManifestLines.{CutsInto, NoNewline, bytes_of_pieces, last_line, pieces};
 
-/// The lines of a manifest in its bytes. Any bytes are pieces without a newline, each ended by one, and then a tail
-/// without a newline; and where bytes are such pieces and a tail, their lines, before a carriage return is dropped,
-/// are just these pieces and then the tail where it counts as the last line.
+/// Any bytes are pieces without a newline, each ended by one, and then a tail without a newline; and where bytes are
+/// such pieces and a tail, their lines, before a carriage return is dropped, are just these pieces and then the tail
+/// where it counts as the last line.
 pub fn pieces_of_bytes()
     ensures exist { (bytes : List ℕ) → (ended : List (List ℕ)) × (tail : List ℕ) × CutsInto bytes ended tail }
     ensures are { (ending : EndingValue) (ended : List (List ℕ)) (tail : List ℕ)

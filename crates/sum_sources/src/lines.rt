@@ -205,8 +205,8 @@ impl<I: Input> LineReader<I> {
         }
     }
 
-    /// Puts the next line into `line`, without its newline and without the one carriage return
-    /// before it. `NoMore` and each `LineStop` is answered again by every later call. What `line`
+    /// Puts the next line into `line`, without its newline and without one carriage return at its
+    /// end. `NoMore` and each `LineStop` is answered again by every later call. What `line`
     /// holds after these isn't said; what it held before doesn't matter.
     pub fn next_line<A: Allocator>(&mut self, line: &mut Vec<u8, A>) -> Result<Next, LineStop>
         ensures gives { WhereTold (coming I.content self.old) (coming I.content self.new)

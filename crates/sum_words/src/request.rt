@@ -26,7 +26,7 @@ pub enum Job {
     Check(CheckSettings),
 }
 
-/// What a command line asks for.
+/// What a tool's words ask for.
 #[derive(Drop)]
 pub enum Request<'a> {
     /// To do this with each operand.
