@@ -1,5 +1,6 @@
 //! Hashing names.
 use super::{add_files, assert_broken, assert_rows, run_line};
+use std::process::Abort;
 use std::test::Fail;
 use sum_engine::Stop;
 use sum_sources::{Ending, Fault, Told, ToldSource};
@@ -33,6 +34,29 @@ fn broken_inputs(rt: HostRuntime) -> Result<(), Fail> {
     Ok(())
 }
 
+// That the line, run over outputs that stop after so many bytes, writes just these texts, and that a write fails.
+fn assert_stops(
+    rt: &(impl Abort + AllocGlobal),
+    line: &str,
+    stops: (usize, usize),
+    (out, err): (&str, &str),
+) -> Result<(), Fail> {
+    let mut files = ToldSource::new(rt.alloc(), 8192);
+    add_files(&mut files)?;
+    let input = Told::new(b"", Ending::Whole, 8192);
+    let run = run_line(rt.alloc(), line, input, files, stops)?;
+    assert_eq!(rt; run.answer, Err(Stop::Write), "the answer of {line}");
+    assert!(rt;
+        run.out.bytes() == out.as_bytes(),
+        "standard output of {line}"
+    );
+    assert!(rt;
+        run.err.bytes() == err.as_bytes(),
+        "standard error of {line}"
+    );
+    Ok(())
+}
+
 // An output that stops holds a prefix of its text, and nothing more is written to either.
 #[test]
 fn stopped_outputs(rt: HostRuntime) -> Result<(), Fail> {
@@ -45,22 +69,7 @@ fn stopped_outputs(rt: HostRuntime) -> Result<(), Fail> {
         ("md5sum --foo", (1024, 10), "", "md5sum: un"),
     ];
     for (line, stops, out, err) in rows {
-        let mut files = ToldSource::new(rt.alloc(), 8192);
-        add_files(&mut files)?;
-        let run = run_line(
-            rt.alloc(),
-            line,
-            Told::new(b"", Ending::Whole, 8192),
-            files,
-            stops,
-        )?;
-        assert_eq!(rt;
-            run.out.bytes(),
-            out.as_bytes(),
-            "standard output of {line}"
-        );
-        assert_eq!(rt; run.err.bytes(), err.as_bytes(), "standard error of {line}");
-        assert_eq!(rt; run.answer, Err(Stop::Write), "the answer of {line}");
+        assert_stops(&rt, line, stops, (out, err))?;
     }
     Ok(())
 }

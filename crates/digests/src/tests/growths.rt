@@ -1,5 +1,6 @@
 //! Memory that is refused: each growth in turn, on heaps that are each a little larger.
 use super::{ENOUGH, Row, add_all, assert_as, heap_of, run_line_on, spelled, taken};
+use bumpalo::Bump;
 use digest_kinds::{Algo, Algos};
 use std::alloc::{Allocator, Global};
 use std::process::Abort;
@@ -209,6 +210,42 @@ const AFTER_STEPS: [Place<'static>; 7] = [
     (REPORTS, WARNINGS, 3),
 ];
 
+// What a checker of all verdicts works on.
+type Stage<'a, 'b> = Streams<Told<'a>, ToldSource<'a, &'b Bump>, ToldSink<1024>, ToldSink<1024>>;
+
+// How many lines a checker has done, and what its last step answered.
+type Reached = (usize, Result<Progress, Stop>);
+
+// One step more. Where it wants memory, the heap gets enough; what has stopped or ended stays so.
+fn step_on<'b>(
+    rt: &impl Abort,
+    heap: &'b Bump,
+    checker: &mut Checker<Told>,
+    line: &mut Vec<u8, &'b Bump>,
+    streams: &mut Stage<'_, 'b>,
+    (lines, before): Reached,
+) -> Reached {
+    let answer = checker.step(line, streams);
+    if before != Ok(Progress::Going) {
+        assert_eq!(rt; answer, before);
+        return (lines, answer);
+    }
+    if answer == Err(Stop::Memory) {
+        heap.set_allocation_limit(None);
+        return (lines, answer);
+    }
+    (lines.saturating_add(1), answer)
+}
+
+// That the outputs and the names asked stand where they do after so many lines.
+fn assert_there(alloc: Global, streams: &Stage, lines: usize) -> Result<(), Fail> {
+    let there = AFTER_STEPS.get(lines..=lines).ok_or("lines")?;
+    let texts = (streams.out.bytes(), streams.err.bytes());
+    let names = ["abc.text", "gone.txt", "none.txt"];
+    place_of(alloc, texts, &streams.source, &names, there)?;
+    Ok(())
+}
+
 // Steps over all verdicts on a heap with room for so many times 8 bytes, and three times more once it has stopped or
 // ended, with memory enough. It stops at as many lines as it has done.
 fn steps(rt: &(impl Abort + AllocGlobal), units: usize) -> Result<Turn, Fail> {
@@ -227,28 +264,16 @@ fn steps(rt: &(impl Abort + AllocGlobal), units: usize) -> Result<Turn, Fail> {
     let input = Told::new(manifest.as_bytes(), Ending::Whole, 8192);
     let mut checker = Checker::new(CHECK, "md5sum", b"list.md5", false, input);
     let mut line = Vec::new(&heap);
-    let mut lines: usize = 0;
-    let mut answer = Ok(Progress::Going);
+    let mut reached = (0, Ok(Progress::Going));
     for _ in 0..9 {
-        let before = answer;
-        answer = checker.step(&mut line, &mut streams);
-        if before != Ok(Progress::Going) {
-            assert_eq!(rt; answer, before, "in {units} units");
-        } else if answer == Err(Stop::Memory) {
-            heap.set_allocation_limit(None);
-        } else {
-            lines = lines.saturating_add(1);
-        }
-        let there = AFTER_STEPS.get(lines..=lines).ok_or("lines")?;
-        let texts = (streams.out.bytes(), streams.err.bytes());
-        let names = ["abc.text", "gone.txt", "none.txt"];
-        place_of(rt.alloc(), texts, &streams.source, &names, there)?;
+        reached = step_on(rt, &heap, &mut checker, &mut line, &mut streams, reached);
+        assert_there(rt.alloc(), &streams, reached.0)?;
     }
-    if answer == Err(Stop::Memory) {
-        return Ok(Turn::StoppedAt(lines));
+    if reached.1 == Err(Stop::Memory) {
+        return Ok(Turn::StoppedAt(reached.0));
     }
     assert_eq!(rt;
-        (lines, answer),
+        reached,
         (6, Ok(Progress::Ended(false))),
         "in {units} units"
     );
