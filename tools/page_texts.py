@@ -193,7 +193,8 @@ DIFFERENCE_OF_ANYSUM = (
 # Recipes: what each is for, and its lines. Each has one status, which is 0 only where all that it is for was done.
 # {tool} stands for the tool that checks, {writes} for what writes lines, {of} for the program where it has to be named,
 # {form} for how sed takes a line down to its name, and {grep} for how a line is found. Lists get their names only once
-# they are whole, so that no later recipe takes a short one for all. tests/test_recipes.py types each of them.
+# they are whole, so that no later recipe takes a short one for all; by `mv -T`, since a folder of that name would take
+# them in. tests/test_recipes.py types each of them.
 RECIPE_OF_A_FILE = ("A file's checksum:", "{writes} image.iso > image.sum")
 RECIPE_OF_ITS_CHECK = ("Later, whether the file still has it:", "{tool} -c image.sum")
 
@@ -202,14 +203,14 @@ RECIPES_OF_FOLDERS = (
      "read:",
      "find . -type f ! -path ./SUMS ! -path ./SUMS.new \\",
      "    -exec {writes} {} + > SUMS.new &&",
-     "    [ -s SUMS.new ] && mv SUMS.new SUMS"),
+     "    [ -s SUMS.new ] && mv -T SUMS.new SUMS"),
     ("The same on all processors, in another order, in `bash`(1). With `pipefail` a pipe fails where any part of it "
      "does. Where a call answers 1, `xargs`(1) answers 123. A line of more than 8,192 bytes may be torn: the list's "
      "check with `--strict` then fails.",
      "(set -o pipefail",
      "find . -type f ! -path ./SUMS ! -path ./SUMS.new -print0 |",
      "    xargs -0 -r -n 32 -P \"$(nproc)\" {writes} > SUMS.new) &&",
-     "    [ -s SUMS.new ] && mv SUMS.new SUMS"),
+     "    [ -s SUMS.new ] && mv -T SUMS.new SUMS"),
     ("A name that isn't UTF-8 stops the whole call that it was given to: no file of that call is read. Then both "
      "recipes above fail. This one shows such names, each with a byte 0 behind it. Its status is 0 where there is one, "
      "and 1 where there is none. The locale `C.UTF-8` has to be there: without it, none is found. Such a file can be "
@@ -241,7 +242,7 @@ RECIPES_OF_FOLDERS = (
 RECIPES_OF_PIPES = (
     ("A large file with a sign of progress, by `pv`(1), in `bash`(1). Without `pipefail` a file that can't be read "
      "would pass for an empty one:",
-     "(set -o pipefail; pv image.iso | {writes} > image.new) &&", "    mv image.new image.sum"),
+     "(set -o pipefail; pv image.iso | {writes} > image.new) &&", "    mv -T image.new image.sum"),
     ("Its check:", "(set -o pipefail; pv image.iso | {tool} -c image.sum)"),
 )
 
@@ -252,7 +253,7 @@ RECIPES_OF_SEVERAL = (
      "tee >({of}sha256sum --tag) >({of}b2sum --tag) \\",
      "    < image.iso > /dev/null |",
      "    sed 's/(-)/(image.iso)/' > image.new) &&",
-     "    [ \"$(wc -l < image.new)\" -eq 2 ] && mv image.new image.sum"),
+     "    [ \"$(wc -l < image.new)\" -eq 2 ] && mv -T image.new image.sum"),
     ("Their check:", "{of}anysum -c --strict image.sum"),
 )
 
@@ -260,7 +261,7 @@ EXAMPLES_OF_OTHERS = (RECIPE_OF_A_FILE, RECIPE_OF_ITS_CHECK, *RECIPES_OF_FOLDERS
 
 EXAMPLES_OF_ANYSUM = (
     ("A manifest of two algorithms:",
-     "sha256sum --tag image.iso > image.new &&", "    b2sum --tag image.iso >> image.new && mv image.new image.sum"),
+     "sha256sum --tag image.iso > image.new &&", "    b2sum --tag image.iso >> image.new && mv -T image.new image.sum"),
     ("Its check:", "{tool} -c --strict image.sum"),
     *RECIPES_OF_SEVERAL, *RECIPES_OF_FOLDERS, *RECIPES_OF_PIPES,
 )
