@@ -124,7 +124,7 @@ class Checks(Described):
             self.expect_both("md5sum -c --strict list", *said)
 
     def test_forms(self):
-        """With GNU's tools the first line that begins with its digits, a blank and more decides for all manifests of the
+        """With GNU's tools the first line that begins with its digits, a blank and more decides for all manifests of a
         call."""
         self.write("one", [f"{M} a"])
         self.write("two", [f"{M}  a"])
