@@ -88,11 +88,15 @@ class Messages(Described):
             self.assertNotEqual(ours.err, theirs.err)
 
     def test_several_lengths(self):
-        """The last alone is looked at, and not where `--help` or `--version` stands; GNU's tool looks at each."""
+        """The last alone is looked at, and not where `--help` or `--version` stands; GNU's tool refuses some of the
+        others, too, but not one that is a multiple of 8 over 512."""
         for words in ("-l x -l 256 e", "-l 7 -l 256 e", "-l x --help", "-l 7 --version"):
             ours, theirs = self.both(f"b2sum {words}")
             self.assertEqual((ours.status, ours.err, theirs.status, theirs.out), (0, b"", 1, b""), words)
-        self.expect_alike("b2sum -l 8 -l 256 e", 0, [f"{harness.B}  e"])
+        for words in ("-l 8 -l 256 e", "-l 520 -l 256 e"):
+            self.expect_alike(f"b2sum {words}", 0, [f"{harness.B}  e"])
+        for words in ("-l 520 --help", "-l 520 --version"):
+            self.assertEqual([ran.status for ran in self.both(f"b2sum {words}")], [0, 0], words)
 
     def test_what_has_no_effect(self):
         """The language changes GNU's quotes, and POSIXLY_CORRECT makes every word behind a name one; here neither."""
@@ -120,7 +124,8 @@ class Checks(Described):
             self.expect_both("md5sum -c --strict list", *said)
 
     def test_forms(self):
-        """With GNU's tools the first line that begins with its digits decides for all manifests of the call."""
+        """With GNU's tools the first line that begins with its digits, a blank and more decides for all manifests of a
+        call."""
         self.write("one", [f"{M} a"])
         self.write("two", [f"{M}  a"])
         missing = ["md5sum: ' a': No such file or directory", "md5sum: WARNING: 1 listed file could not be read"]
@@ -130,6 +135,9 @@ class Checks(Described):
         self.expect_both("md5sum -c two one", (0, ["a: OK"] * 2, b""), (1, ["a: OK"], none))
         for name in ("one", "two"):
             self.expect_alike(["md5sum", "-c", name], 0, ["a: OK"])
+        for first in (M, f"{M} ", f"{M}x y"):  # none of these decides
+            self.write("list", [first, f"{M}  a"])
+            self.expect_alike("md5sum -c list", 0, ["a: OK"], ["md5sum: WARNING: 1 line is improperly formatted"])
 
     def test_names_of_one_byte(self):
         """A space or a star that nothing follows is a name."""

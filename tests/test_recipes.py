@@ -246,6 +246,18 @@ class Recipes(Case):
             ran = self.fails(self.recipe(page, "unlisted"))
             self.assertEqual(ran.out.count(b"\n"), len(self.there()))
 
+    def test_a_folder_of_that_name(self):
+        """No list is made where a folder has its name, nor put into that folder."""
+        for page in KINDS_OF_PAGES:
+            for recipe, sort, shell in self.each(page):
+                if sort.startswith(("write", "list")):
+                    self.make()
+                    for name in ("SUMS", "image.sum"):
+                        os.mkdir(self.path(f"here/{name}"))
+                    self.fails(recipe, shell)
+                    for name in ("SUMS", "image.sum"):
+                        self.assertEqual(os.listdir(self.path(f"here/{name}")), [], recipe)
+
     def test_a_changed_file(self):
         """Each check tells of it; and those of a whole list, of any other file."""
         for page in NAMES:

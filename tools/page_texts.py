@@ -84,9 +84,9 @@ CHECKING_OF_ANYSUM = (
     "with `--strict`, or where no line lists a file.")
 
 CHECKING_OF_OTHERS = (
-    "The first line that begins with its digits decides how all such lines of the manifest are read. Where a blank, "
-    "then a space or a star, then more stands behind its digits, names begin behind the first two; otherwise behind "
-    "the blank. A line that can't be read so is improperly formatted: it is counted, and fails the check only with "
+    "The first line that begins with its digits, a blank and more decides how all such lines of the manifest are read. "
+    "Where a space or a star, then more stands behind the blank, names begin behind these two; otherwise behind the "
+    "blank. A line that can't be read so is improperly formatted: it is counted, and fails the check only with "
     "`--strict`, or where no line lists a file.")
 
 REPORTS = {
@@ -136,7 +136,7 @@ LIMITS = (
     "One line is held in memory at a time, however long the manifest is.",
     "The stack has to have 64 KiB, and more where the environment is large. With 48 KiB a signal may end the program, "
     "without a word.",
-    "A line of up to 8,192 bytes goes to the system in one piece. So where several runs share one file, as under "
+    "A line of up to 8,192 bytes goes to the system in one piece. So where several runs share one open file, as under "
     "`xargs -P`, no such line is torn. Into one pipe, Linux keeps up to 4,096 bytes together. A longer line may be "
     "torn.",
     "A loss that the system tells only when standard output is closed, as some network file systems do, isn't seen: "
@@ -167,8 +167,8 @@ DIFFERENCES = (
     "escape a name only where it holds a newline.",
     "A fault of a file is told as `No such file or directory`, as `Permission denied`, or else as `Input/output "
     "error`; GNU's tools name most of the others, as `Is a directory`.",
-    "In each manifest the first line that begins with its digits decides how such lines are read. With GNU's tools the "
-    "first such line of a call decides for all manifests.",
+    "In each manifest the first line that begins with its digits, a blank and more decides how such lines are read. "
+    "With GNU's tools the first such line of a call decides for all manifests.",
     "A line that lists a file and holds a byte 0 is improperly formatted. GNU's tools take the name up to there: of a "
     "list that was written with `--zero` they may check the first file alone, and answer 0.",
     "A line whose name is empty is improperly formatted. GNU's tools take some for a file that is listed and isn't "
@@ -185,7 +185,7 @@ DIFFERENCES = (
 DIFFERENCE_OF_LENGTH = (
     "The number of `--length` is digits alone, and a fault of it is told in other lines. GNU's tool takes blanks or a "
     "plus sign before it, too. Of several numbers the last alone is looked at, and not where `--help` or `--version` "
-    "stands; GNU's tool looks at each, in its place.")
+    "stands; GNU's tool refuses some of the others, too, as one that isn't a multiple of 8.")
 
 DIFFERENCE_OF_ANYSUM = (
     "GNU has no tool of this name. The nearest is `cksum -c` of coreutils 9.1, which reads tagged lines.")
@@ -193,7 +193,8 @@ DIFFERENCE_OF_ANYSUM = (
 # Recipes: what each is for, and its lines. Each has one status, which is 0 only where all that it is for was done.
 # {tool} stands for the tool that checks, {writes} for what writes lines, {of} for the program where it has to be named,
 # {form} for how sed takes a line down to its name, and {grep} for how a line is found. Lists get their names only once
-# they are whole, so that no later recipe takes a short one for all. tests/test_recipes.py types each of them.
+# they are whole, so that no later recipe takes a short one for all; by `mv -T`, since a folder of that name would take
+# them in. tests/test_recipes.py types each of them.
 RECIPE_OF_A_FILE = ("A file's checksum:", "{writes} image.iso > image.sum")
 RECIPE_OF_ITS_CHECK = ("Later, whether the file still has it:", "{tool} -c image.sum")
 
@@ -202,13 +203,14 @@ RECIPES_OF_FOLDERS = (
      "read:",
      "find . -type f ! -path ./SUMS ! -path ./SUMS.new \\",
      "    -exec {writes} {} + > SUMS.new &&",
-     "    [ -s SUMS.new ] && mv SUMS.new SUMS"),
+     "    [ -s SUMS.new ] && mv -T SUMS.new SUMS"),
     ("The same on all processors, in another order, in `bash`(1). With `pipefail` a pipe fails where any part of it "
-     "does. Where a call answers 1, `xargs`(1) answers 123:",
+     "does. Where a call answers 1, `xargs`(1) answers 123. A line of more than 8,192 bytes may be torn: the list's "
+     "check with `--strict` then fails.",
      "(set -o pipefail",
      "find . -type f ! -path ./SUMS ! -path ./SUMS.new -print0 |",
      "    xargs -0 -r -n 32 -P \"$(nproc)\" {writes} > SUMS.new) &&",
-     "    [ -s SUMS.new ] && mv SUMS.new SUMS"),
+     "    [ -s SUMS.new ] && mv -T SUMS.new SUMS"),
     ("A name that isn't UTF-8 stops the whole call that it was given to: no file of that call is read. Then both "
      "recipes above fail. This one shows such names, each with a byte 0 behind it. Its status is 0 where there is one, "
      "and 1 where there is none. The locale `C.UTF-8` has to be there: without it, none is found. Such a file can be "
@@ -240,7 +242,7 @@ RECIPES_OF_FOLDERS = (
 RECIPES_OF_PIPES = (
     ("A large file with a sign of progress, by `pv`(1), in `bash`(1). Without `pipefail` a file that can't be read "
      "would pass for an empty one:",
-     "(set -o pipefail; pv image.iso | {writes} > image.new) &&", "    mv image.new image.sum"),
+     "(set -o pipefail; pv image.iso | {writes} > image.new) &&", "    mv -T image.new image.sum"),
     ("Its check:", "(set -o pipefail; pv image.iso | {tool} -c image.sum)"),
 )
 
@@ -251,7 +253,7 @@ RECIPES_OF_SEVERAL = (
      "tee >({of}sha256sum --tag) >({of}b2sum --tag) \\",
      "    < image.iso > /dev/null |",
      "    sed 's/(-)/(image.iso)/' > image.new) &&",
-     "    [ \"$(wc -l < image.new)\" -eq 2 ] && mv image.new image.sum"),
+     "    [ \"$(wc -l < image.new)\" -eq 2 ] && mv -T image.new image.sum"),
     ("Their check:", "{of}anysum -c --strict image.sum"),
 )
 
@@ -259,7 +261,7 @@ EXAMPLES_OF_OTHERS = (RECIPE_OF_A_FILE, RECIPE_OF_ITS_CHECK, *RECIPES_OF_FOLDERS
 
 EXAMPLES_OF_ANYSUM = (
     ("A manifest of two algorithms:",
-     "sha256sum --tag image.iso > image.new &&", "    b2sum --tag image.iso >> image.new && mv image.new image.sum"),
+     "sha256sum --tag image.iso > image.new &&", "    b2sum --tag image.iso >> image.new && mv -T image.new image.sum"),
     ("Its check:", "{tool} -c --strict image.sum"),
     *RECIPES_OF_SEVERAL, *RECIPES_OF_FOLDERS, *RECIPES_OF_PIPES,
 )
