@@ -25,7 +25,8 @@ pub fn same_said()
     ensures form { SameForm }
 {}
 
-/// A line that was written, unless in zero style, spells the kind, the digest and the name that it was written for.
+/// A line that was written, unless in zero style, for a name that isn't empty and holds no NUL, spells the kind, the
+/// digest and the name that it was written for, where no line before it makes the manifest `Reversed`.
 pub fn read_back()
     ensures { ReadBack }
 {}
