@@ -26,7 +26,8 @@ pub fn same_said()
 {}
 
 /// A line that was written, unless in zero style, for a name that isn't empty and holds no NUL, spells the kind, the
-/// digest and the name that it was written for, where no line before it makes the manifest `Reversed`.
+/// digest and the name that it was written for, to its own algorithm and, where it is tagged, to any, where no line
+/// before it makes the manifest `Reversed`.
 pub fn read_back()
     ensures { ReadBack }
 {}
