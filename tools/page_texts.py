@@ -219,8 +219,8 @@ RECIPES_OF_FOLDERS = (
     ("Whether all listed files still have their checksums, with a line only for those that haven't. With `--strict` a "
      "damaged line fails, too:",
      "{tool} -c --quiet --strict SUMS"),
-    ("The same on all processors, where lines go to one run and the next in turn. An empty list would pass "
-     "`split`(1), so that is asked first:",
+    ("The same on all processors, for a list that was made as above: lines go to one run and the next in turn, and "
+     "each run takes its own for a whole list. An empty list would pass `split`(1), so that is asked first:",
      "[ -s SUMS ] && split -e -n \"r/$(nproc)\" \\",
      "    --filter='{tool} -c --quiet --strict' SUMS"),
     ("One of the listed files only, by its whole line. Where `grep`(1) finds none, the check fails, since its list is "
