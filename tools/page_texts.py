@@ -68,7 +68,7 @@ CHECKING = (
     "Each {FILE} is a manifest: a list of lines as they are written without `--zero`. Each line is checked and "
     "reported before the next one is read. A listed name is looked up from the present folder, not from the "
     "manifest's: `cd` {FOLDER} comes first where the list was written in {FOLDER}. A listed file named `-` is standard "
-    "input; in a manifest that comes from there itself, such a line is improperly formatted.",
+    "input; in a manifest that is `-` itself, or where no {FILE} is given, such a line is improperly formatted.",
     "Empty lines, and lines that begin with `#`, are passed over. A carriage return at a line's end is dropped. Blanks "
     "at its beginning are passed over, and digits of either case are read. In the tagged form the space before the "
     "parenthesis may be missing, and there may be none or several about the equals sign.",
