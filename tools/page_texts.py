@@ -68,7 +68,7 @@ CHECKING = (
     "Each {FILE} is a manifest: a list of lines as they are written without `--zero`. Each line is checked and "
     "reported before the next one is read. A listed name is looked up from the present folder, not from the "
     "manifest's: `cd` {FOLDER} comes first where the list was written in {FOLDER}. A listed file named `-` is standard "
-    "input; in a manifest that comes from there itself, such a line is improperly formatted.",
+    "input; in a manifest that is `-` itself, or where no {FILE} is given, such a line is improperly formatted.",
     "Empty lines, and lines that begin with `#`, are passed over. A carriage return at a line's end is dropped. Blanks "
     "at its beginning are passed over, and digits of either case are read. In the tagged form the space before the "
     "parenthesis may be missing, and there may be none or several about the equals sign.",
@@ -219,8 +219,8 @@ RECIPES_OF_FOLDERS = (
     ("Whether all listed files still have their checksums, with a line only for those that haven't. With `--strict` a "
      "damaged line fails, too:",
      "{tool} -c --quiet --strict SUMS"),
-    ("The same on all processors, where lines go to one run and the next in turn. An empty list would pass "
-     "`split`(1), so that is asked first:",
+    ("The same on all processors, for a list that was made as above: lines go to one run and the next in turn, and "
+     "each run takes its own for a whole list. An empty list would pass `split`(1), so that is asked first:",
      "[ -s SUMS ] && split -e -n \"r/$(nproc)\" \\",
      "    --filter='{tool} -c --quiet --strict' SUMS"),
     ("One of the listed files only, by its whole line. Where `grep`(1) finds none, the check fails, since its list is "
