@@ -21,7 +21,7 @@ abbrev pub all_of : (World → Text → Run) → World → List Text → Run
 all_of one w [] = record { steps = []; good = true }
 all_of one w (n ∷ ns) = run_then (one w n) (all_of one (after w (asks (one w n))) ns)
 
--- no operand counts as the one operand `-`
+-- where there is no operand, `-` is the one
 abbrev pub or_dash : List Text → List Text
 or_dash [] = codes "-" ∷ []
 or_dash (n ∷ ns) = n ∷ ns

@@ -70,7 +70,7 @@ fn tell_not_read<E: Sink>(err: &mut E) -> Result<(), SinkFault>
     err.flush()
 }
 
-// Ends a run that answered so: flushes both outputs once more, and tells of a stop where that can be written. Answers
+// Ends a run that answered so: flushes both outputs once more, unless it stopped, and tells of a stop. Answers
 // the exit status: that of the run, or 1 after a stop.
 fn close<O: Sink, E: Sink>(
     tool: Option<Tool>,

@@ -9,7 +9,7 @@ use sum_engine::Stop;
 use sum_lines::{Sink, SinkFault};
 use sum_words::{Tool, put_stop};
 
-/// A run's answer, once both outputs were flushed: the last of them may fail then, though nothing was held.
+/// A run's answer, once both outputs were flushed, unless it stopped: a flush may fail, though nothing was held.
 pub(crate) fn settle<O: Sink, E: Sink>(
     answer: Result<u8, Stop>,
     out: &mut O,

@@ -20,7 +20,7 @@ rules_of settings tool name = record {
   from_stdin = is_dash name;
 }
 
--- a step for each line, by these verdicts, the first in front of the content, and one for the end, which has that text
+-- a step for each line of the content, by these verdicts, one after another, and one for the end, which has that text
 abbrev pub line_steps : Rules → List ℕ → Content → List Judged → List Step
 line_steps r end c [] = record { names = []; err = end; out = []; left = length c.bytes } ∷ []
 line_steps r end c (j ∷ js) =

@@ -46,8 +46,8 @@ pub struct LineVerdict {
 ghost use Rattle.sum_engine.specs.refinement.Listings.{rules_in};
 ghost use Rattle.sum_engine.specs.refinement.Judging.{parsed_line_by, Within, JudgeGives, compared};
 
-/// Reads a line, in a list of the form that the lines before it have. Inlined, so that of a line without an entry no
-/// room for one is moved.
+/// Reads a line, in a list of the form that the lines before it have. Inlined, so that a line without an entry moves no
+/// room for one.
 #[inline(always)]
 pub(crate) fn read<A: Allocator>(algos: Algos, form: Form, line: &mut Vec<u8, A>) -> (Reading, Form)
     ensures form { result.1 ≡ form_then form (line_form algos line.old.items) }

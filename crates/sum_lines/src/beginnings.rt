@@ -18,7 +18,7 @@ const MOST_DIGITS: usize = 128;
 pub(crate) enum Beginning {
     /// The algorithm's tag.
     Tag(Algo),
-    /// As many bytes as the one algorithm has digits, and a blank at that place.
+    /// As many bytes as the one algorithm has digits, or for BLAKE2b those before the first blank; and a blank there.
     Digits(usize),
 }
 

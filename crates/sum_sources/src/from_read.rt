@@ -5,7 +5,7 @@ use crate::{Fault, Input};
 use std::io::{self, ErrorKind, Read};
 use std::marker::Model;
 
-/// How often in a row a reader may be interrupted before that is a fault.
+/// How many interruptions in a row are a fault.
 const INTERRUPTIONS: u32 = 1000;
 
 /// The fault that an error of std's is.

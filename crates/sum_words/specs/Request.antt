@@ -24,7 +24,7 @@ use Rattle.sum_words.specs.Tools.{algos_of}
 use Rattle.sum_words.specs.Faults.{Fault, length_invalid, length_not_bytes, tag_with_text, zero_with_check, tag_with_check, mode_with_check, without_check, check_needed}
 use Rattle.sum_words.specs.Items.{Text, Item, option, fault, has, a_word, items_from, options_of, values_of, operands_of}
 
--- of the options that set a mode the last that is given counts, and of those that set a report; [] stands for none
+-- the options that set a mode, those that set a report, and the last of such that is given; [] stands for none
 abbrev pub mode_names : List Text
 mode_names = codes "binary" ∷ codes "text" ∷ codes "tag" ∷ []
 

@@ -11,7 +11,8 @@ use crate::tool::Tool;
 use sum_engine::Stop;
 use sum_lines::{Part, Sink, SinkFault, put_all, put_parts};
 
-/// A fault in the words. Each holds what its text shows, and the faults stand in the order in which they count.
+/// A fault in the words. Each holds what its text shows. Of the first five, those of one option, the one counts that
+/// comes first among the words; the others count behind them, in the order in which they stand.
 #[derive(Clone, Copy, Debug, PartialEq, Eq)]
 pub enum WordFault<'a> {
     /// A long option, of this name as it was typed, that no option's name begins with.

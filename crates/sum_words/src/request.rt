@@ -37,9 +37,9 @@ pub enum Request<'a> {
     Version,
 }
 
-/// What a tool's words ask for (coreutils manual, "md5sum invocation" and "b2sum invocation"). An unknown, ambiguous or
-/// incomplete option, `--help` and `--version` decide where they come first; else the first fault holds in the order of
-/// [`WordFault`]. It takes no memory.
+/// What a tool's words ask for (coreutils manual, "md5sum invocation" and "b2sum invocation"). An option that is
+/// unknown or ambiguous, lacks its value or may have none, `--help` and `--version` decide where they come first; else
+/// the first fault holds in the order of [`WordFault`]. It takes no memory.
 pub fn read_words<'a, A: Allocator>(
     tool: Tool,
     words: &'a Words<A>,
@@ -194,7 +194,7 @@ fn all_digits(bytes: &[u8]) -> bool
     true
 }
 
-// The first fault of the options themselves, of which `--check` needs none and several need it.
+// The first fault of the options together: of some that don't go with others, or of one that needs `--check`.
 fn fault_of_options(chosen: &Chosen<'_>) -> Option<WordFault<'static>>
     ensures { (xs : List ItemSaid) → IsChosenBy chosen.now [] xs →
         option_map fault_of result ≡ first_fault (options_of xs) }

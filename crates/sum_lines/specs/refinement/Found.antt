@@ -1,4 +1,4 @@
--- This joins what the scanning functions answer to what they were found to hold.
+-- Joins what the scanning functions answer to what a line was found to hold.
 use Rattle.std.specs.Prelude.{ℕ, ◌≡◌, ◌≤◌, ◌+◌, ◌-◌, ◌*◌, ◌==◌, ◌&&◌, nat_lt, not, Bool, true, false, List, [], ◌∷◌, ◌++◌, length, slice_range, Option, None, Some, if◌then◌else◌}
 use Rattle.sum_lines.specs.declared.line_reading.Form.{Form}
 use Rattle.sum_lines.specs.declared.line_reading.Reading.{Reading}

@@ -3,7 +3,8 @@
 ghost use Rattle.std.specs.Prelude.{◌≡◌};
 ghost use Rattle.sum_lines.specs.Sinks.{after_failure};
 
-use crate::{Buffered, FromWrite, Mode, Sink, SinkFault, Style, ToldSink, put_all, put_line};
+use super::{flush, offer, put, told};
+use crate::{Buffered, FromWrite, Mode, Sink, SinkFault, Style, ToldSink, put_line};
 use digest_kinds::{Algo, Digest, Kind};
 use std::io;
 use std::io::{ErrorKind, Write};
@@ -50,8 +51,7 @@ impl Sink for Recorder {
 
     fn write(&mut self, piece: &[u8]) -> Result<usize, SinkFault> {
         self.writes = self.writes.saturating_add(1);
-        let is_noted = put_all(&mut self.asked, piece).is_ok()
-            && put_all(&mut self.asked, b"|").is_ok();
+        let is_noted = put(&mut self.asked, piece).is_ok() && put(&mut self.asked, b"|").is_ok();
         let count = piece.len().min(self.most);
         if piece.is_empty() {
             return Ok(0);
@@ -59,87 +59,58 @@ impl Sink for Recorder {
         if !is_noted || count == 0 || self.writes == self.fails_at {
             return Err(self.fault());
         }
-        match put_all(&mut self.taken, &piece[..count]) {
+        match put(&mut self.taken, &piece[..count]) {
             Ok(()) => Ok(count),
             Err(SinkFault) => Err(self.fault()),
         }
     }
 
     fn flush(&mut self) -> Result<(), SinkFault> {
-        match put_all(&mut self.asked, b"!") {
+        match put(&mut self.asked, b"!") {
             Ok(()) => Ok(()),
             Err(SinkFault) => Err(self.fault()),
         }
     }
 }
 
-// The sink below was asked this, and took this.
-fn check(rt: &impl Abort, buffer: &Buffered<Recorder>, asked: &[u8], taken: &[u8]) {
-    let below = buffer.sink();
-    assert_eq!(rt; below.asked.bytes(), asked);
-    assert_eq!(rt; below.taken.bytes(), taken);
+// A buffer over a sink that takes at most so many bytes of a piece and fails at one of its writes.
+fn recorded(most: usize, fails_at: u64) -> Buffered<Recorder> {
+    Buffered::new(Recorder::new(most, fails_at))
 }
 
-// Writes the line of the name twice, with a flush behind each, and wants it handed on as one piece.
-fn check_line(rt: &impl Abort, mode: Mode, zero: bool, name: &[u8], line: &[&[u8]]) {
-    let digest = Digest::from_hex(DIGITS).expect(rt, "digits");
-    assert_eq!(rt; digest.as_slice().len(), Kind::of(Algo::Md5).len());
-    let mut want = ToldSink::<256>::new(256);
-    for part in line {
-        assert_eq!(rt; put_all(&mut want, part), Ok(()));
+// What is done with a buffer and what it answers, or what is wanted of the sink below.
+#[derive(Clone, Copy)]
+enum Step<'a> {
+    Offer(&'a [u8], Result<usize, SinkFault>),
+    Flush(Result<(), SinkFault>),
+    // It was asked this.
+    Asked(&'a [u8]),
+    // The pieces that it was asked to take have these lengths, and then this stands.
+    Lens(&'a [usize], &'a [u8]),
+    // It failed so often.
+    Failed(u64),
+}
+
+use Step::{Asked, Failed, Flush, Lens, Offer};
+
+fn take(rt: &impl Abort, buffer: &mut Buffered<Recorder>, step: Step) {
+    match step {
+        Offer(piece, answer) => assert_eq!(rt; offer(buffer, piece), answer),
+        Flush(answer) => assert_eq!(rt; flush(buffer), answer),
+        Asked(asked) => assert_eq!(rt; buffer.sink().asked.bytes(), asked),
+        Lens(lens, end) => check_lens(rt, buffer, lens, end),
+        Failed(count) => assert_eq!(rt; buffer.sink().failures, count),
     }
-    let mut asked = ToldSink::<512>::new(512);
-    let mut taken = ToldSink::<512>::new(512);
-    let mut buffer = Buffered::new(Recorder::new(8192, 0));
-    for _ in 0..2 {
-        let style = Style { mode, zero };
-        let kind = Kind::of(Algo::Md5);
-        assert_eq!(rt; put_line(&mut buffer, style, kind, name, &digest), Ok(()));
-        check(rt, &buffer, asked.bytes(), taken.bytes());
-        assert_eq!(rt; buffer.flush(), Ok(()));
-        assert_eq!(rt; put_all(&mut asked, want.bytes()), Ok(()));
-        assert_eq!(rt; put_all(&mut asked, b"|!"), Ok(()));
-        assert_eq!(rt; put_all(&mut taken, want.bytes()), Ok(()));
-        check(rt, &buffer, asked.bytes(), taken.bytes());
+}
+
+// Takes the steps in turn, over a sink that takes at most so many bytes of a piece and fails at one of its writes. It
+// has taken this in the end.
+fn follow(rt: &impl Abort, (most, fails_at): (usize, u64), steps: &[Step], taken: &[u8]) {
+    let mut buffer = recorded(most, fails_at);
+    for step in steps {
+        take(rt, &mut buffer, *step);
     }
-}
-
-#[test]
-fn a_line_with_a_flush_behind_it_is_one_piece(rt: HostRuntime) {
-    check_line(&rt, Mode::Text, false, b"a", &[DIGITS, b"  a\n"]);
-    check_line(&rt, Mode::Binary, false, b"a", &[DIGITS, b" *a\n"]);
-    check_line(&rt, Mode::Tag, false, b"a", &[b"MD5 (a) = ", DIGITS, b"\n"]);
-    check_line(
-        &rt,
-        Mode::Text,
-        false,
-        b"q\\\nz\r",
-        &[b"\\", DIGITS, b"  q\\\\\\nz\\r\n"],
-    );
-    check_line(&rt, Mode::Binary, true, b"\n", &[DIGITS, b" *\n\0"]);
-    check_line(
-        &rt,
-        Mode::Tag,
-        true,
-        b"a\nb",
-        &[b"MD5 (a\nb) = ", DIGITS, b"\0"],
-    );
-}
-
-#[test]
-fn nothing_is_handed_on_before_a_flush(rt: HostRuntime) {
-    let mut buffer = Buffered::new(Recorder::new(8192, 0));
-    assert_eq!(rt; put_all(&mut buffer, b"a\n"), Ok(()));
-    assert_eq!(rt; put_all(&mut buffer, b"b\0"), Ok(()));
-    assert_eq!(rt; buffer.write(b"c"), Ok(1));
-    check(&rt, &buffer, b"", b"");
-    assert_eq!(rt; buffer.flush(), Ok(()));
-    check(&rt, &buffer, b"a\nb\0c|!", b"a\nb\0c");
-    assert_eq!(rt; buffer.flush(), Ok(()), "nothing is held any more");
-    check(&rt, &buffer, b"a\nb\0c|!!", b"a\nb\0c");
-    assert_eq!(rt; put_all(&mut buffer, b"d"), Ok(()));
-    check(&rt, &buffer, b"a\nb\0c|!!", b"a\nb\0c");
-    assert_eq!(rt; buffer.into_inner().taken.bytes(), b"a\nb\0c".as_slice());
+    assert_eq!(rt; buffer.into_inner().taken.bytes(), taken);
 }
 
 // The pieces that the sink below was asked to take have these lengths, and then this stands.
@@ -155,16 +126,81 @@ fn check_lens(rt: &impl Abort, buffer: &Buffered<Recorder>, lens: &[usize], end:
     assert_eq!(rt; asked, end);
 }
 
+fn put_md5_line(
+    rt: &impl Abort,
+    buffer: &mut Buffered<Recorder>,
+    style: Style,
+    name: &[u8],
+) -> Result<(), SinkFault> {
+    let md5 = Kind::of(Algo::Md5);
+    let digest = Digest::from_hex(DIGITS).expect(rt, "digits");
+    assert_eq!(rt; digest.as_slice().len(), md5.len());
+    put_line(buffer, style, md5, name, &digest)
+}
+
+// A line is handed on as one piece, once it is flushed.
+fn check_line(rt: &impl Abort, style: Style, name: &[u8], line: [&[u8]; 3]) {
+    let mut want: ToldSink<256> = told(256);
+    for part in line {
+        assert_eq!(rt; put(&mut want, part), Ok(()));
+    }
+    let mut buffer = recorded(8192, 0);
+    let answer = put_md5_line(rt, &mut buffer, style, name);
+    assert_eq!(rt; answer, Ok(()));
+    check_lens(rt, &buffer, &[], b"");
+    assert_eq!(rt; flush(&mut buffer), Ok(()));
+    check_lens(rt, &buffer, &[want.bytes().len()], b"!");
+    assert_eq!(rt; buffer.sink().taken.bytes(), want.bytes());
+}
+
+#[test]
+fn a_line_with_a_flush_behind_it_is_one_piece(rt: HostRuntime) {
+    let rows: [(Mode, bool, &[u8], [&[u8]; 3]); 6] = [
+        (Mode::Text, false, b"a", [b"", DIGITS, b"  a\n"]),
+        (Mode::Binary, false, b"a", [b"", DIGITS, b" *a\n"]),
+        (Mode::Tag, false, b"a", [b"MD5 (a) = ", DIGITS, b"\n"]),
+        (
+            Mode::Text,
+            false,
+            b"q\\\nz\r",
+            [b"\\", DIGITS, b"  q\\\\\\nz\\r\n"],
+        ),
+        (Mode::Binary, true, b"\n", [b"", DIGITS, b" *\n\0"]),
+        (Mode::Tag, true, b"a\nb", [b"MD5 (a\nb) = ", DIGITS, b"\0"]),
+    ];
+    for (mode, zero, name, line) in rows {
+        check_line(&rt, Style { mode, zero }, name, line);
+    }
+}
+
+#[test]
+fn nothing_is_handed_on_before_a_flush(rt: HostRuntime) {
+    let steps = [
+        Offer(b"a\n", Ok(2)),
+        Offer(b"b\0", Ok(2)),
+        Offer(b"c", Ok(1)),
+        Asked(b""),
+        Flush(Ok(())),
+        Asked(b"a\nb\0c|!"),
+        // nothing is held any more
+        Flush(Ok(())),
+        Asked(b"a\nb\0c|!!"),
+        Offer(b"d", Ok(1)),
+        Asked(b"a\nb\0c|!!"),
+    ];
+    follow(&rt, (8192, 0), &steps, b"a\nb\0c");
+}
+
 // Writes so many bytes, in pieces of at most so many. Wants pieces of the first of these lengths handed on before a
 // flush, and all of them once it was flushed.
 fn check_long(rt: &impl Abort, len: usize, step: usize, before: usize, lens: &[usize]) {
     let long = [b'x'; 20000];
-    let mut buffer = Buffered::new(Recorder::new(32768, 0));
+    let mut buffer = recorded(32768, 0);
     for piece in long[..len.min(20000)].chunks(step.max(1)) {
-        assert_eq!(rt; put_all(&mut buffer, piece), Ok(()));
+        assert_eq!(rt; put(&mut buffer, piece), Ok(()));
     }
     check_lens(rt, &buffer, &lens[..before.min(lens.len())], b"");
-    assert_eq!(rt; buffer.flush(), Ok(()));
+    assert_eq!(rt; flush(&mut buffer), Ok(()));
     check_lens(rt, &buffer, lens, b"!");
     assert_eq!(rt; buffer.sink().taken.bytes(), &long[..len.min(20000)]);
 }
@@ -183,86 +219,98 @@ fn long_texts_fill_the_buffer(rt: HostRuntime) {
     }
 }
 
+// As many letters as a buffer holds.
+const FULL: &[u8] = &[b'x'; 8192];
+
 #[test]
 fn a_piece_is_taken_as_far_as_there_is_room(rt: HostRuntime) {
-    let mut buffer = Buffered::new(Recorder::new(8192, 0));
-    assert_eq!(rt; put_all(&mut buffer, &[b'x'; 8190]), Ok(()));
-    assert_eq!(rt; buffer.write(b"abc"), Ok(2));
-    check_lens(&rt, &buffer, &[], b"");
-    assert_eq!(rt; buffer.write(b"c"), Ok(1));
-    check_lens(&rt, &buffer, &[8192], b"");
-    assert_eq!(rt; buffer.flush(), Ok(()));
-    check_lens(&rt, &buffer, &[8192], b"c|!");
-    assert!(rt; buffer.sink().taken.bytes().ends_with(b"xabc"));
+    let steps = [
+        Offer(&FULL[..8190], Ok(8190)),
+        Offer(b"abc", Ok(2)),
+        Lens(&[], b""),
+        Offer(b"c", Ok(1)),
+        Lens(&[8192], b""),
+        Flush(Ok(())),
+        Lens(&[8192], b"c|!"),
+    ];
+    let mut taken = [b'x'; 8193];
+    taken[8190] = b'a';
+    taken[8191] = b'b';
+    taken[8192] = b'c';
+    follow(&rt, (8192, 0), &steps, &taken);
 }
 
 #[test]
 fn empty_pieces_do_nothing(rt: HostRuntime) {
-    let mut buffer = Buffered::new(Recorder::new(8192, 1));
-    assert_eq!(rt; buffer.write(b""), Ok(0));
-    check(&rt, &buffer, b"", b"");
-    assert_eq!(rt; put_all(&mut buffer, &[b'x'; 8192]), Ok(()));
-    assert_eq!(rt; buffer.write(b""), Ok(0), "the buffer is full");
-    check(&rt, &buffer, b"", b"");
-    assert_eq!(rt; buffer.write(b"y"), Err(SinkFault));
-    check_lens(&rt, &buffer, &[8192], b"");
-    assert_eq!(rt; buffer.write(b""), Ok(0));
-    check_lens(&rt, &buffer, &[8192], b"");
+    let steps = [
+        Offer(b"", Ok(0)),
+        Asked(b""),
+        Offer(FULL, Ok(8192)),
+        // the buffer is full
+        Offer(b"", Ok(0)),
+        Asked(b""),
+        Offer(b"y", Err(SinkFault)),
+        Lens(&[8192], b""),
+        Offer(b"", Ok(0)),
+        Lens(&[8192], b""),
+    ];
+    follow(&rt, (8192, 1), &steps, b"");
 }
 
 #[test]
 fn short_writes_lose_nothing(rt: HostRuntime) {
-    let mut buffer = Buffered::new(Recorder::new(3, 0));
-    assert_eq!(rt; put_all(&mut buffer, b"abcde"), Ok(()));
-    assert_eq!(rt; put_all(&mut buffer, b"fg\n"), Ok(()));
-    assert_eq!(rt; buffer.flush(), Ok(()));
-    check(&rt, &buffer, b"abcdefg\n|defg\n|g\n|!", b"abcdefg\n");
-    assert_eq!(rt; put_all(&mut buffer, b"hijk"), Ok(()));
-    assert_eq!(rt; buffer.flush(), Ok(()));
-    check(
-        &rt,
-        &buffer,
-        b"abcdefg\n|defg\n|g\n|!hijk|k|!",
-        b"abcdefg\nhijk",
-    );
+    let steps = [
+        Offer(b"abcde", Ok(5)),
+        Offer(b"fg\n", Ok(3)),
+        Flush(Ok(())),
+        Asked(b"abcdefg\n|defg\n|g\n|!"),
+        Offer(b"hijk", Ok(4)),
+        Flush(Ok(())),
+        Asked(b"abcdefg\n|defg\n|g\n|!hijk|k|!"),
+    ];
+    follow(&rt, (3, 0), &steps, b"abcdefg\nhijk");
 }
 
 #[test]
 fn a_flush_that_fails_drops_what_is_held(rt: HostRuntime) {
-    let mut buffer = Buffered::new(Recorder::new(2, 2));
-    assert_eq!(rt; buffer.write(b"abcde"), Ok(5));
-    assert_eq!(rt; buffer.flush(), Err(SinkFault));
-    check(&rt, &buffer, b"abcde|cde|", b"ab");
-    assert_eq!(rt; buffer.sink().failures, 1);
-    assert_eq!(rt; buffer.flush(), Ok(()), "nothing is tried again");
-    check(&rt, &buffer, b"abcde|cde|!", b"ab");
-    assert_eq!(rt; buffer.write(b"f"), Ok(1));
-    assert_eq!(rt; buffer.flush(), Ok(()));
-    check(&rt, &buffer, b"abcde|cde|!f|!", b"abf");
-    assert_eq!(rt; buffer.sink().failures, 1);
+    let steps = [
+        Offer(b"abcde", Ok(5)),
+        Flush(Err(SinkFault)),
+        Asked(b"abcde|cde|"),
+        Failed(1),
+        // nothing is tried again
+        Flush(Ok(())),
+        Asked(b"abcde|cde|!"),
+        Offer(b"f", Ok(1)),
+        Flush(Ok(())),
+        Asked(b"abcde|cde|!f|!"),
+        Failed(1),
+    ];
+    follow(&rt, (2, 2), &steps, b"abf");
 }
 
 #[test]
 fn a_write_that_fails_drops_what_is_held(rt: HostRuntime) {
-    let mut buffer = Buffered::new(Recorder::new(8192, 1));
-    assert_eq!(rt; put_all(&mut buffer, &[b'x'; 8192]), Ok(()));
-    assert_eq!(rt; buffer.write(b"abc"), Err(SinkFault));
-    assert_eq!(rt; buffer.sink().failures, 1);
-    assert_eq!(rt; buffer.write(b"de"), Ok(2));
-    assert_eq!(rt; buffer.flush(), Ok(()));
-    check_lens(&rt, &buffer, &[8192, 2], b"!");
-    assert_eq!(rt; buffer.into_inner().taken.bytes(), b"de".as_slice());
+    let steps = [
+        Offer(FULL, Ok(8192)),
+        Offer(b"abc", Err(SinkFault)),
+        Failed(1),
+        Offer(b"de", Ok(2)),
+        Flush(Ok(())),
+        Lens(&[8192, 2], b"!"),
+    ];
+    follow(&rt, (8192, 1), &steps, b"de");
 }
 
 #[test]
 fn a_full_sink_has_a_prefix(rt: HostRuntime) {
     let text = b"abc\ndef\n";
     for stop in 0..=text.len() {
-        let mut buffer = Buffered::new(ToldSink::<16>::new(stop));
-        assert_eq!(rt; put_all(&mut buffer, text), Ok(()));
+        let mut buffer = Buffered::new(told::<16>(stop));
+        assert_eq!(rt; put(&mut buffer, text), Ok(()));
         let whole = stop == text.len();
         let want = if whole { Ok(()) } else { Err(SinkFault) };
-        assert_eq!(rt; buffer.flush(), want);
+        assert_eq!(rt; flush(&mut buffer), want);
         assert_eq!(rt; buffer.into_inner().bytes(), &text[..stop]);
     }
 }
@@ -284,15 +332,16 @@ impl Write for Unflushed {
 #[test]
 fn a_flush_is_asked_below(rt: HostRuntime) {
     let mut unflushed = Buffered::new(FromWrite::new(Unflushed));
-    assert_eq!(rt; unflushed.write(b"a\n"), Ok(2));
-    assert_eq!(rt; unflushed.flush(), Err(SinkFault));
-    assert_eq!(rt;
-        unflushed.flush(),
-        Err(SinkFault),
-        "also where nothing is held"
-    );
-    let mut twice = Buffered::new(Buffered::new(Recorder::new(8192, 0)));
-    assert_eq!(rt; put_all(&mut twice, b"ab"), Ok(()));
-    assert_eq!(rt; twice.flush(), Ok(()));
-    check(&rt, twice.sink(), b"ab|!", b"ab");
+    assert_eq!(rt; offer(&mut unflushed, b"a\n"), Ok(2));
+    assert_eq!(rt; flush(&mut unflushed), Err(SinkFault));
+    // also where nothing is held
+    assert_eq!(rt; flush(&mut unflushed), Err(SinkFault));
+}
+
+#[test]
+fn a_buffer_stands_on_a_buffer(rt: HostRuntime) {
+    let mut twice = Buffered::new(recorded(8192, 0));
+    assert_eq!(rt; put(&mut twice, b"ab"), Ok(()));
+    assert_eq!(rt; flush(&mut twice), Ok(()));
+    check_lens(&rt, twice.sink(), &[2], b"!");
 }

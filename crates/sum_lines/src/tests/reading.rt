@@ -33,6 +33,11 @@ use Want::{Bad, Entry, Ignored};
 // with it.
 type Row<'a> = (&'a [u8], &'a [u8], &'a [u8], Want<'a>, Form);
 
+// What is said of the line. There is no contract, so that tests don't know more than they see.
+fn said(algos: Algos, form: Form, line: &mut Vec<u8>) -> (Reading, Form) {
+    read_line(algos, form, line)
+}
+
 // Reads the row's line in a manifest of that form, and answers the form with it.
 fn check_line(
     rt: &impl Abort,
@@ -44,7 +49,7 @@ fn check_line(
 ) -> Form {
     let (_, digits, _, want, after) = row;
     let before = line.len();
-    let (reading, form) = read_line(algos, form, line);
+    let (reading, form) = said(algos, form, line);
     assert_eq!(rt; form, after);
     assert!(rt; line.len() <= before);
     match reading {
@@ -265,29 +270,36 @@ fn a_blake2b_manifest(rt: HostRuntime) -> Result<(), Fail> {
 
 #[test]
 fn any_algorithm(rt: HostRuntime) -> Result<(), Fail> {
-    let bad: [Row; 2] = [
-        (b"", M, b"  a", Bad, Form::Undecided),
-        (b"SHA256 (e) = ", E, b"", Bad, Form::Undecided),
+    let short = Kind::blake2b_bits(256)?;
+    let rows: [(Kind, Row); 5] = [
+        (Kind::of(Algo::Md5), (b"", M, b"  a", Bad, Form::Undecided)),
+        (
+            Kind::of(Algo::Sha256),
+            (b"SHA256 (e) = ", E, b"", Bad, Form::Undecided),
+        ),
+        (
+            Kind::of(Algo::Md5),
+            (b"MD5 (a) = ", M, b"", Entry(b"a", 5, 6), Form::Undecided),
+        ),
+        (
+            Kind::of(Algo::Sha256),
+            (b"SHA256 (a) = ", S, b"", Entry(b"a", 8, 9), Form::Undecided),
+        ),
+        (
+            short,
+            (
+                b"BLAKE2b-256 (e) = ",
+                B,
+                b"",
+                Entry(b"e", 13, 14),
+                Form::Undecided,
+            ),
+        ),
     ];
-    check_manifest(&rt, rt.alloc(), Algos::Any, Kind::of(Algo::Md5), &bad)?;
-    let md5: [Row; 1] = [(b"MD5 (a) = ", M, b"", Entry(b"a", 5, 6), Form::Undecided)];
-    check_manifest(&rt, rt.alloc(), Algos::Any, Kind::of(Algo::Md5), &md5)?;
-    let sha256: [Row; 1] = [(b"SHA256 (a) = ", S, b"", Entry(b"a", 8, 9), Form::Undecided)];
-    check_manifest(&rt, rt.alloc(), Algos::Any, Kind::of(Algo::Sha256), &sha256)?;
-    let blake2b: [Row; 1] = [(
-        b"BLAKE2b-256 (e) = ",
-        B,
-        b"",
-        Entry(b"e", 13, 14),
-        Form::Undecided,
-    )];
-    check_manifest(
-        &rt,
-        rt.alloc(),
-        Algos::Any,
-        Kind::blake2b_bits(256)?,
-        &blake2b,
-    )
+    for (kind, row) in rows {
+        check_manifest(&rt, rt.alloc(), Algos::Any, kind, &[row])?;
+    }
+    Ok(())
 }
 
 #[test]

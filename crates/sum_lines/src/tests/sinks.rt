@@ -1,11 +1,10 @@
 //! What no contract says of sinks: when a real writer's interruptions, refusals and flushes become a fault.
 
-use crate::{
-    FromWrite, Part, Sink, SinkFault, ToldSink, put_all, put_escaped, put_number, put_parts,
-};
+use super::{flush, offer, put, told};
+use crate::{FromWrite, Part, Sink, SinkFault, ToldSink, put_escaped, put_number, put_parts};
 use std::io;
 use std::io::{ErrorKind, Write};
-use std::test::Fail;
+use std::process::Abort;
 
 // A writer that fails so often, with an error of this kind, before it takes anything.
 #[derive(Drop)]
@@ -26,20 +25,6 @@ impl Write for FailsFirst {
 
     fn flush(&mut self) -> io::Result<()> {
         Ok(())
-    }
-}
-
-// A writer that takes nothing, and that can't be flushed.
-#[derive(Drop)]
-struct TakesNothing;
-
-impl Write for TakesNothing {
-    fn write(&mut self, _buf: &[u8]) -> io::Result<usize> {
-        Ok(0)
-    }
-
-    fn flush(&mut self) -> io::Result<()> {
-        Err(ErrorKind::Interrupted.into())
     }
 }
 
@@ -82,6 +67,96 @@ impl Write for Counts {
     }
 }
 
+// A piece, and what a sink answers to it.
+type Turn<'a> = (&'a [u8], Result<usize, SinkFault>);
+
+// The sink answers so to these pieces in turn.
+fn check_turns(rt: &impl Abort, sink: &mut impl Sink, turns: &[Turn]) {
+    for (piece, answer) in turns {
+        assert_eq!(rt; offer(sink, piece), *answer);
+    }
+}
+
+// A sink over a writer that fails so often, with an error of this kind, answers so. What the writer took is `abc`.
+fn check_failures(rt: &(impl Abort + AllocGlobal), kind: ErrorKind, left: u32, turns: &[Turn]) {
+    let mut writer = FailsFirst {
+        kind,
+        left,
+        bytes: Vec::new(rt.alloc()),
+    };
+    check_turns(rt, &mut FromWrite::new(&mut writer), turns);
+    assert_eq!(rt; writer.bytes.as_slice(), b"abc".as_slice());
+}
+
+#[test]
+fn interruptions_end_a_write_after_a_thousand(rt: HostRuntime) {
+    check_failures(&rt, ErrorKind::Interrupted, 999, &[(b"abc", Ok(3))]);
+    // the next call tries again
+    let turns: [Turn; 2] = [(b"ab", Err(SinkFault)), (b"abc", Ok(3))];
+    check_failures(&rt, ErrorKind::Interrupted, 1000, &turns);
+}
+
+#[test]
+fn only_interruptions_are_tried_again(rt: HostRuntime) {
+    let turns: [Turn; 2] = [(b"ab", Err(SinkFault)), (b"abc", Ok(3))];
+    for kind in [
+        ErrorKind::PermissionDenied,
+        ErrorKind::WouldBlock,
+        ErrorKind::BrokenPipe,
+        ErrorKind::Other,
+    ] {
+        check_failures(&rt, kind, 1, &turns);
+    }
+}
+
+// A sink over a writer that takes at most so many bytes of a piece answers so, and the writer was then asked for so many
+// writes, of so many bytes in all.
+fn check_calls(rt: &impl Abort, most: usize, turns: &[Turn], asked: (u64, usize)) {
+    let mut writer = Counts::new(most, None);
+    check_turns(rt, &mut FromWrite::new(&mut writer), turns);
+    assert_eq!(rt; (writer.writes, writer.offered), asked);
+    assert_eq!(rt; writer.flushes, 0);
+}
+
+#[test]
+fn a_piece_is_one_call_of_the_writer(rt: HostRuntime) {
+    let piece = [b'x'; 100000];
+    check_calls(&rt, usize::MAX, &[(&piece, Ok(100000))], (1, 100000));
+    check_calls(&rt, 40000, &[(&piece, Ok(40000))], (1, 100000));
+    check_calls(&rt, usize::MAX, &[(b"", Ok(0))], (0, 0));
+    // one that takes nothing is asked once
+    check_calls(&rt, 0, &[(b"abc", Err(SinkFault))], (1, 3));
+    check_calls(&rt, 0, &[(b"", Ok(0))], (0, 0));
+}
+
+#[test]
+fn all_is_put_in_as_few_calls(rt: HostRuntime) {
+    let mut rests = Counts::new(40000, None);
+    let answer = put(&mut FromWrite::new(&mut rests), &[b'x'; 100000]);
+    assert_eq!(rt; answer, Ok(()));
+    assert_eq!(rt;
+        (rests.writes, rests.offered, rests.flushes),
+        (3, 180000, 0)
+    );
+}
+
+// A flush of a sink over a writer with this error of a flush answers so, and the writer is asked for one.
+fn check_flush(rt: &impl Abort, unflushed: Option<ErrorKind>, answer: Result<(), SinkFault>) {
+    let mut writer = Counts::new(usize::MAX, unflushed);
+    let mut sink = FromWrite::new(&mut writer);
+    assert_eq!(rt; offer(&mut sink, b"abc"), Ok(3));
+    assert_eq!(rt; flush(&mut sink), answer);
+    assert_eq!(rt; (writer.writes, writer.flushes), (1, 1));
+}
+
+#[test]
+fn a_flush_is_asked_once(rt: HostRuntime) {
+    check_flush(&rt, None, Ok(()));
+    for kind in [ErrorKind::Interrupted, ErrorKind::StorageFull] {
+        check_flush(&rt, Some(kind), Err(SinkFault));
+    }
+}
+
 // A writer of which each write fails.
 #[derive(Drop)]
 struct Refuses;
@@ -97,138 +172,66 @@ impl Write for Refuses {
 }
 
 #[test]
-fn interruptions_end_a_write_after_a_thousand(rt: HostRuntime) -> Result<(), Fail> {
-    let mut some = FailsFirst {
-        kind: ErrorKind::Interrupted,
-        left: 999,
-        bytes: Vec::new(rt.alloc()),
-    };
-    assert_eq!(rt; FromWrite::new(&mut some).write(b"abc"), Ok(3));
-    assert_eq!(rt; some.bytes.as_slice(), b"abc".as_slice());
-    let mut many = FailsFirst {
-        kind: ErrorKind::Interrupted,
-        left: 1000,
-        bytes: Vec::new(rt.alloc()),
-    };
-    let mut sink = FromWrite::new(&mut many);
-    assert_eq!(rt; sink.write(b"abc"), Err(SinkFault));
-    assert_eq!(rt; sink.write(b"abc"), Ok(3), "the next call tries again");
-    assert_eq!(rt; many.bytes.as_slice(), b"abc".as_slice());
-    Ok(())
-}
-
-#[test]
-fn only_interruptions_are_tried_again(rt: HostRuntime) -> Result<(), Fail> {
-    for kind in [
-        ErrorKind::PermissionDenied,
-        ErrorKind::WouldBlock,
-        ErrorKind::BrokenPipe,
-        ErrorKind::Other,
-    ] {
-        let mut writer = FailsFirst {
-            kind,
-            left: 1,
-            bytes: Vec::new(rt.alloc()),
-        };
-        let mut sink = FromWrite::new(&mut writer);
-        assert_eq!(rt; sink.write(b"abc"), Err(SinkFault));
-        assert_eq!(rt; sink.write(b"de"), Ok(2));
-        assert_eq!(rt; writer.bytes.as_slice(), b"de".as_slice());
-    }
-    Ok(())
-}
-
-#[test]
 fn refusals_of_a_writer_are_faults(rt: HostRuntime) {
-    let mut nothing = FromWrite::new(TakesNothing);
-    assert_eq!(rt; nothing.write(b""), Ok(0));
-    assert_eq!(rt; nothing.write(b"abc"), Err(SinkFault));
-    assert_eq!(rt; nothing.flush(), Err(SinkFault));
     let mut refuses = FromWrite::new(Refuses);
-    assert_eq!(rt; put_all(&mut refuses, b""), Ok(()));
-    assert_eq!(rt; put_all(&mut refuses, b"abc"), Err(SinkFault));
-    assert_eq!(rt; refuses.flush(), Ok(()));
+    assert_eq!(rt; put(&mut refuses, b""), Ok(()));
+    assert_eq!(rt; put(&mut refuses, b"abc"), Err(SinkFault));
+    assert_eq!(rt; flush(&mut refuses), Ok(()));
 }
 
-#[test]
-fn a_piece_is_one_call_of_the_writer(rt: HostRuntime) {
-    let piece = [b'x'; 100000];
-    let mut whole = Counts::new(usize::MAX, None);
-    assert_eq!(rt; FromWrite::new(&mut whole).write(&piece), Ok(100000));
-    assert_eq!(rt;
-        (whole.writes, whole.offered, whole.flushes),
-        (1, 100000, 0)
-    );
-    let mut short = Counts::new(40000, None);
-    let mut sink = FromWrite::new(&mut short);
-    assert_eq!(rt; sink.write(&piece), Ok(40000));
-    assert_eq!(rt;
-        (short.writes, short.offered, short.flushes),
-        (1, 100000, 0)
-    );
-    let mut rests = Counts::new(40000, None);
-    assert_eq!(rt; put_all(&mut FromWrite::new(&mut rests), &piece), Ok(()));
-    assert_eq!(rt;
-        (rests.writes, rests.offered, rests.flushes),
-        (3, 180000, 0)
-    );
-    let mut empty = Counts::new(usize::MAX, None);
-    assert_eq!(rt; FromWrite::new(&mut empty).write(b""), Ok(0));
-    assert_eq!(rt; (empty.writes, empty.offered, empty.flushes), (0, 0, 0));
-}
-
-#[test]
-fn a_writer_that_takes_nothing_is_asked_once(rt: HostRuntime) {
-    let mut nothing = Counts::new(0, None);
-    let mut sink = FromWrite::new(&mut nothing);
-    assert_eq!(rt; sink.write(b"abc"), Err(SinkFault));
-    assert_eq!(rt; (nothing.writes, nothing.offered), (1, 3));
-}
-
-#[test]
-fn a_flush_is_asked_once(rt: HostRuntime) {
-    let mut good = Counts::new(usize::MAX, None);
-    assert_eq!(rt; FromWrite::new(&mut good).flush(), Ok(()));
-    assert_eq!(rt; (good.writes, good.flushes), (0, 1));
-    for kind in [ErrorKind::Interrupted, ErrorKind::StorageFull] {
-        let mut bad = Counts::new(usize::MAX, Some(kind));
-        let mut sink = FromWrite::new(&mut bad);
-        assert_eq!(rt; sink.write(b"abc"), Ok(3));
-        assert_eq!(rt; sink.flush(), Err(SinkFault));
-        assert_eq!(rt; (bad.writes, bad.flushes), (1, 1));
-    }
+// A told sink with this stop answers so, and holds this.
+fn check_told(rt: &impl Abort, stop: usize, turns: &[Turn], bytes: &[u8]) {
+    let mut sink: ToldSink<8> = told(stop);
+    check_turns(rt, &mut sink, turns);
+    // it holds nothing back
+    assert_eq!(rt; flush(&mut sink), Ok(()));
+    assert_eq!(rt; sink.bytes(), bytes);
 }
 
 #[test]
 fn a_told_sink_stops_at_its_place(rt: HostRuntime) {
-    let mut sink = ToldSink::<8>::new(5);
-    assert_eq!(rt; sink.write(b"abc"), Ok(3));
-    assert_eq!(rt; sink.write(b"def"), Ok(2));
-    assert_eq!(rt; sink.write(b""), Ok(0));
-    assert_eq!(rt; sink.write(b"g"), Err(SinkFault));
-    assert_eq!(rt; sink.flush(), Ok(()), "it holds nothing back");
-    assert_eq!(rt; sink.bytes(), b"abcde".as_slice());
-    let mut small = ToldSink::<4>::new(5);
-    assert_eq!(rt; put_all(&mut small, b"abcde"), Err(SinkFault));
-    assert_eq!(rt; small.bytes(), b"abcd".as_slice());
+    let turns: [Turn; 4] = [
+        (b"abc", Ok(3)),
+        (b"def", Ok(2)),
+        (b"", Ok(0)),
+        (b"g", Err(SinkFault)),
+    ];
+    check_told(&rt, 5, &turns, b"abcde");
+    // it has room for 8 bytes
+    let turns: [Turn; 2] = [(b"abcdefghi", Ok(8)), (b"i", Err(SinkFault))];
+    check_told(&rt, 9, &turns, b"abcdefgh");
+}
+
+fn check_number(rt: &impl Abort, number: u64, text: &[u8]) {
+    let mut sink: ToldSink<64> = told(64);
+    assert_eq!(rt; put_number(&mut sink, number), Ok(()));
+    assert_eq!(rt; sink.bytes(), text);
+}
+
+#[test]
+fn numbers(rt: HostRuntime) {
+    check_number(&rt, 0, b"0");
+    check_number(&rt, 10, b"10");
+    check_number(&rt, u64::MAX, b"18446744073709551615");
+}
+
+#[test]
+fn escaped_names(rt: HostRuntime) {
+    let mut sink: ToldSink<64> = told(64);
+    assert_eq!(rt; put_escaped(&mut sink, b"\\a\n\rb"), Ok(()));
+    assert_eq!(rt; sink.bytes(), br"\\a\n\rb".as_slice());
+}
+
+// The parts, put into a sink that stops after so many bytes, leave this.
+fn check_parts(rt: &impl Abort, stop: usize, answer: Result<(), SinkFault>, text: &[u8]) {
+    let parts = [Part::Bytes(b"a\n"), Part::Escaped(b"a\n"), Part::Number(7)];
+    let mut sink: ToldSink<64> = told(stop);
+    assert_eq!(rt; put_parts(&mut sink, &parts), answer);
+    assert_eq!(rt; sink.bytes(), text);
 }
 
 #[test]
 fn texts_of_parts(rt: HostRuntime) {
-    let mut sink = ToldSink::<64>::new(64);
-    for number in [0, 10, u64::MAX] {
-        assert_eq!(rt; put_number(&mut sink, number), Ok(()));
-        assert_eq!(rt; put_all(&mut sink, b";"), Ok(()));
-    }
-    assert_eq!(rt; sink.bytes(), b"0;10;18446744073709551615;".as_slice());
-    let mut escaped = ToldSink::<64>::new(64);
-    assert_eq!(rt; put_escaped(&mut escaped, b"\\a\n\rb"), Ok(()));
-    assert_eq!(rt; escaped.bytes(), br"\\a\n\rb".as_slice());
-    let parts = [Part::Bytes(b"a\n"), Part::Escaped(b"a\n"), Part::Number(7)];
-    let mut joined = ToldSink::<64>::new(64);
-    assert_eq!(rt; put_parts(&mut joined, &parts), Ok(()));
-    assert_eq!(rt; joined.bytes(), b"a\na\\n7".as_slice());
-    let mut stopped = ToldSink::<64>::new(3);
-    assert_eq!(rt; put_parts(&mut stopped, &parts), Err(SinkFault));
-    assert_eq!(rt; stopped.bytes(), b"a\na".as_slice());
+    check_parts(&rt, 64, Ok(()), b"a\na\\n7");
+    check_parts(&rt, 3, Err(SinkFault), b"a\na");
 }

@@ -1,6 +1,7 @@
 //! Worked lines, and worked names that are read back.
 
-use crate::{Mode, SinkFault, Style, ToldSink, needs_escape, put_all, put_line, unescape_in};
+use super::{put, told};
+use crate::{Mode, SinkFault, Style, ToldSink, needs_escape, put_line, unescape_in};
 use digest_kinds::{Algo, Digest, Kind};
 use std::process::Abort;
 use std::test::Fail;
@@ -45,20 +46,25 @@ struct Row<'a> {
     behind: &'a [u8],
 }
 
-// Writes the row's line into a sink that stops after each count of bytes up to the line's length.
-fn check_row(rt: &impl Abort, row: &Row) {
+// Writes the row's line.
+fn put_row(rt: &impl Abort, sink: &mut ToldSink<256>, row: &Row) -> Result<(), SinkFault> {
     let digest = Digest::from_hex(row.digits).expect(rt, "digits");
     assert_eq!(rt; digest.as_slice().len(), row.kind.len());
-    let mut want = ToldSink::<256>::new(256);
+    put_line(sink, row.style, row.kind, row.name, &digest)
+}
+
+// Writes the row's line into a sink that stops after each count of bytes up to the line's length.
+fn check_row(rt: &impl Abort, row: &Row) {
+    let mut want: ToldSink<256> = told(256);
     for piece in [row.before, row.digits, row.behind] {
-        assert_eq!(rt; put_all(&mut want, piece), Ok(()));
+        assert_eq!(rt; put(&mut want, piece), Ok(()));
     }
     let want = want.bytes();
     for stop in 0..=want.len() {
-        let mut sink = ToldSink::<256>::new(stop);
-        let result = put_line(&mut sink, row.style, row.kind, row.name, &digest);
+        let mut sink: ToldSink<256> = told(stop);
+        let answer = put_row(rt, &mut sink, row);
         let whole = stop == want.len();
-        assert_eq!(rt; result, if whole { Ok(()) } else { Err(SinkFault) });
+        assert_eq!(rt; answer, if whole { Ok(()) } else { Err(SinkFault) });
         assert_eq!(rt; sink.bytes(), &want[..stop]);
     }
 }
@@ -129,6 +135,22 @@ fn tagged_blake2b_lines(rt: HostRuntime) -> Result<(), Fail> {
     Ok(())
 }
 
+// The bytes behind the first are read back as this name, or are no escaped name. The first is left as it is.
+fn check_read_back(
+    rt: &(impl Abort + AllocGlobal),
+    bytes: &[u8],
+    want: Option<&[u8]>,
+) -> Result<(), Fail> {
+    let mut line = bytes.to_vec(rt.alloc())?;
+    assert!(rt; line.len() >= 1);
+    assert_eq!(rt; unescape_in(&mut line, 1), want.is_some());
+    if let Some(name) = want {
+        assert_eq!(rt; line.as_slice(), name);
+    }
+    assert_eq!(rt; line.first(), Some(&b'x'));
+    Ok(())
+}
+
 #[test]
 fn escaped_names_are_read_back(rt: HostRuntime) -> Result<(), Fail> {
     let rows: [(&[u8], Option<&[u8]>); 8] = [
@@ -142,13 +164,7 @@ fn escaped_names_are_read_back(rt: HostRuntime) -> Result<(), Fail> {
         (b"x\r", None),
     ];
     for (bytes, want) in rows {
-        let mut line = bytes.to_vec(rt.alloc())?;
-        assert!(rt; line.len() >= 1);
-        assert_eq!(rt; unescape_in(&mut line, 1), want.is_some());
-        if let Some(name) = want {
-            assert_eq!(rt; line.as_slice(), name);
-        }
-        assert_eq!(rt; line.first(), Some(&b'x'));
+        check_read_back(&rt, bytes, want)?;
     }
     Ok(())
 }

@@ -2,10 +2,10 @@
 use crate::{Tool, put_help, put_stop, put_unknown, put_version};
 use std::test::Fail;
 use sum_engine::Stop;
-use sum_lines::ToldSink;
+use sum_lines::{SinkFault, ToldSink};
 
 #[test]
-fn tools(rt: HostRuntime) -> Result<(), Fail> {
+fn tools(rt: HostRuntime) {
     for (name, tool) in [
         ("md5sum", Tool::Md5sum),
         ("b2sum", Tool::B2sum),
@@ -16,21 +16,45 @@ fn tools(rt: HostRuntime) -> Result<(), Fail> {
     }
     assert_eq!(rt; Tool::from_word("shasum"), None);
     assert_eq!(rt; Tool::from_word(""), None);
+}
+
+#[test]
+fn no_tool(rt: HostRuntime) -> Result<(), Fail> {
     let mut err = ToldSink::<64>::new(64);
     put_unknown(&mut err)?;
     assert_eq!(rt; err.bytes(), b"digests: unknown tool\n".as_slice());
     Ok(())
 }
 
+// What a sink that stops after so many bytes holds of the line for a stop, and what is answered. Without a contract, so
+// that a test knows no more of it than it sees.
+fn stop_line(count: usize, stop: Stop) -> (ToldSink<64>, Result<(), SinkFault>) {
+    let mut err = ToldSink::new(count);
+    let answer = put_stop(&mut err, Tool::Sha256sum, stop);
+    (err, answer)
+}
+
 #[test]
-fn stops(rt: HostRuntime) -> Result<(), Fail> {
-    let mut err = ToldSink::<64>::new(64);
-    put_stop(&mut err, Tool::Sha256sum, Stop::Write)?;
-    assert_eq!(rt; err.bytes(), b"sha256sum: write error\n".as_slice());
-    let mut err = ToldSink::<64>::new(64);
-    put_stop(&mut err, Tool::Sha256sum, Stop::Memory)?;
-    assert_eq!(rt; err.bytes(), b"sha256sum: memory exhausted\n".as_slice());
-    Ok(())
+fn stops(rt: HostRuntime) {
+    for (stop, line) in [
+        (Stop::Write, b"sha256sum: write error\n".as_slice()),
+        (Stop::Memory, b"sha256sum: memory exhausted\n"),
+    ] {
+        let (err, answer) = stop_line(64, stop);
+        assert_eq!(rt; answer, Ok(()));
+        assert_eq!(rt; err.bytes(), line);
+    }
+}
+
+// A sink that stops holds exactly the bytes that it took.
+#[test]
+fn stopped_texts(rt: HostRuntime) {
+    let text = b"sha256sum: write error\n".as_slice();
+    for count in 0..text.len() {
+        let (err, answer) = stop_line(count, Stop::Write);
+        assert_eq!(rt; answer, Err(SinkFault));
+        assert_eq!(rt; Some(err.bytes()), text.get(..count));
+    }
 }
 
 const B2SUM_HELP_START: &str = "Usage: b2sum [OPTION]... [FILE]...
@@ -46,28 +70,26 @@ Check checksums of tagged lines. With no FILE, or when FILE is -, read standard 
   -b, --binary          mark each line as binary
 ";
 
+// The help of a tool. Without a contract, as above.
+fn help_of(tool: Tool) -> Result<ToldSink<1024>, Fail> {
+    let mut out = ToldSink::new(1024);
+    put_help(&mut out, tool)?;
+    Ok(out)
+}
+
 #[test]
 fn texts(rt: HostRuntime) -> Result<(), Fail> {
-    let mut out = ToldSink::<1024>::new(1024);
-    put_help(&mut out, Tool::B2sum)?;
-    assert!(rt; out.bytes().starts_with(B2SUM_HELP_START.as_bytes()));
-    let mut out = ToldSink::<1024>::new(1024);
-    put_help(&mut out, Tool::Anysum)?;
-    assert!(rt; out.bytes().starts_with(ANYSUM_HELP_START.as_bytes()));
-    let mut out = ToldSink::<64>::new(64);
-    put_version(&mut out, Tool::Sha1sum)?;
-    assert_eq!(rt; out.bytes(), b"sha1sum (digests), profile 2\n".as_slice());
+    let b2sum = help_of(Tool::B2sum)?;
+    assert!(rt; b2sum.bytes().starts_with(B2SUM_HELP_START.as_bytes()));
+    let anysum = help_of(Tool::Anysum)?;
+    assert!(rt; anysum.bytes().starts_with(ANYSUM_HELP_START.as_bytes()));
     Ok(())
 }
 
-// A sink that stops holds exactly the bytes that it took.
 #[test]
-fn stopped_texts(rt: HostRuntime) -> Result<(), Fail> {
-    let text = b"sha256sum: write error\n".as_slice();
-    for count in 0..text.len() {
-        let mut err = ToldSink::<64>::new(count);
-        assert!(rt; put_stop(&mut err, Tool::Sha256sum, Stop::Write).is_err());
-        assert_eq!(rt; Some(err.bytes()), text.get(..count));
-    }
+fn version(rt: HostRuntime) -> Result<(), Fail> {
+    let mut out = ToldSink::<64>::new(64);
+    put_version(&mut out, Tool::Sha1sum)?;
+    assert_eq!(rt; out.bytes(), b"sha1sum (digests), profile 2\n".as_slice());
     Ok(())
 }

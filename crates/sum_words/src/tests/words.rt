@@ -3,27 +3,42 @@ use crate::{NoRoom, Words};
 use std::alloc::Global;
 use std::test::Fail;
 
-/// The words of a line, parted by spaces.
+/// The words of a line, parted by single spaces.
 pub(crate) fn words_of(alloc: Global, line: &str) -> Result<Words<Global>, NoRoom> {
     let mut words = Words::new(alloc);
-    for word in line.split_whitespace() {
+    for word in line.split(' ') {
         words.add(word)?;
     }
     Ok(words)
 }
 
-// An empty word is a word, and NUL and newlines stand in words as any other character.
-#[test]
-fn words_are_any_texts(rt: HostRuntime) -> Result<(), Fail> {
-    let mut words = Words::new(rt.alloc());
-    assert_eq!(rt; words.get(0), None);
+/// An empty word, an option, a word with a NUL and a newline, and one beyond ASCII.
+pub(crate) fn odd_words(alloc: Global) -> Result<Words<Global>, NoRoom> {
+    let mut words = Words::new(alloc);
     for word in ["", "-z", "a\0b\n", "\u{e4}\u{20ac}"] {
         words.add(word)?;
     }
-    assert_eq!(rt; words.get(0), Some(""));
-    assert_eq!(rt; words.get(2), Some("a\0b\n"));
-    assert_eq!(rt; words.get(3), Some("\u{e4}\u{20ac}"));
-    assert_eq!(rt; words.get(4), None);
+    Ok(words)
+}
+
+// The word at a place. Without a contract, so that a test knows no more of it than it sees.
+fn word_at(words: &Words<Global>, i: usize) -> Option<&str> {
+    words.get(i)
+}
+
+// An empty word is a word, and NUL and newlines stand in words as any other character.
+#[test]
+fn words_are_any_texts(rt: HostRuntime) -> Result<(), Fail> {
+    let words = odd_words(rt.alloc())?;
+    for (i, want) in [
+        (0, Some("")),
+        (2, Some("a\0b\n")),
+        (3, Some("\u{e4}\u{20ac}")),
+        (4, None),
+    ] {
+        assert_eq!(rt; word_at(&words, i), want);
+    }
+    assert_eq!(rt; word_at(&Words::new(rt.alloc()), 0), None);
     Ok(())
 }
 
@@ -37,7 +52,7 @@ fn long_words(rt: HostRuntime) -> Result<(), Fail> {
             long.push('y')?;
         }
         words.add(long.as_str())?;
-        assert!(rt; words.get(i) == Some(long.as_str()));
+        assert!(rt; word_at(&words, i) == Some(long.as_str()));
     }
     Ok(())
 }
