@@ -147,7 +147,8 @@ class Checks(Described):
             self.expect_alike("md5sum -c --strict list", 0, [f"{name}: OK", "a: OK"])
 
     def test_a_byte_0(self):
-        """GNU's tools take a name up to it; of a list written with `--zero` they check the first file, and answer 0."""
+        """GNU's tools take a name that isn't escaped, or a tagged line's digits, up to it; of a list that was written
+        with `--zero` they check the first file, and answer 0. A line that begins with `#` may hold it."""
         self.write("b", "other")
         for command in ([harness.PROGRAM, "md5sum"], [gnu("md5sum")]):
             self.write("list", self.run_command([*command, "-z", "a", "b", "e"]).out)
@@ -158,6 +159,14 @@ class Checks(Described):
         self.write("list", f"{M}  a\0b\n{E}  e\n")
         ours = (0, ["e: OK"], ["md5sum: WARNING: 1 line is improperly formatted"])
         self.expect_both("md5sum -c list", ours, (0, ["a: OK", "e: OK"], b""))
+        for line in (f"MD5 (a\0b) = {M}", f"MD5 (a) = {M}\0", f"\\MD5 (a) = {M}\0more"):
+            self.write("list", [line])
+            self.expect_both("md5sum -c -w --strict list", (1, b"", said), (0, ["a: OK"], b""))
+        for line in (f"\\{M}  a\0b", f"\\MD5 (a\0b) = {M}", f"{M}\0  a", f"MD5 (a)\0 = {M}"):
+            self.write("list", [line])
+            self.expect_alike("md5sum -c -w --strict list", 1, err=said)
+        self.write("list", ["#\0", f"{M}  a"])
+        self.expect_alike("md5sum -c --strict list", 0, ["a: OK"])
 
     def test_an_empty_name(self):
         """GNU's tools take some lines for one that lists a file, and fail."""
