@@ -46,6 +46,13 @@ class Messages(Described):
             said = [(1, b"", [f"md5sum: {shown}: No such file or directory"]) for shown in (ours, theirs)]
             self.expect_both(["md5sum", name], *said)
 
+    def test_the_name_in_front(self):
+        """It is the tool's; GNU's tools begin a message as they were called."""
+        os.symlink(harness.PROGRAM, self.path("md5sum"))
+        missing = "x: No such file or directory\n"
+        for called, wanted in ((os.fsdecode(self.path("md5sum")), "md5sum"), (gnu("md5sum"), gnu("md5sum"))):
+            self.assertEqual(self.run_command([called, "x"]), Ran(1, b"", f"{wanted}: {missing}".encode()))
+
     def test_other_faults(self):
         """Each is an `Input/output error` with us; GNU's tools name most of them."""
         os.symlink("loop", self.path("loop"))
@@ -170,10 +177,21 @@ class Checks(Described):
 
     def test_an_empty_name(self):
         """GNU's tools take some lines for one that lists a file, and fail."""
-        self.write("list", [f"MD5 () = {E}", f"{M}  a"])
-        ours = (0, ["a: OK"], ["md5sum: WARNING: 1 line is improperly formatted"])
-        missing = ["md5sum: '': No such file or directory", "md5sum: WARNING: 1 listed file could not be read"]
-        self.expect_both("md5sum -c list", ours, (1, [": FAILED open or read", "a: OK"], missing))
+        for tool, (tag, of_nothing, of_abc) in harness.TOOLS.items():
+            self.write("list", [f"{tag} () = {of_nothing}", f"{of_abc}  a"])
+            ours = (0, ["a: OK"], [f"{tool}: WARNING: 1 line is improperly formatted"])
+            missing = [f"{tool}: '': No such file or directory", f"{tool}: WARNING: 1 listed file could not be read"]
+            self.expect_both([tool, "-c", "list"], ours, (1, [": FAILED open or read", "a: OK"], missing))
+
+    def test_digits_and_a_blank(self):
+        """GNU's b2sum takes them for a line with an empty name, which decides how names are read."""
+        for first in (f"{harness.B} ", f"{harness.B}\t", "ab "):
+            self.write("list", [first, f"{harness.B}  e"])
+            ours = (0, ["e: OK"], ["b2sum: WARNING: 1 line is improperly formatted"])
+            missing = [f"b2sum: '{name}': No such file or directory" for name in ("", " e")]
+            missing.append("b2sum: WARNING: 2 listed files could not be read")
+            theirs = (1, [f"{name}: FAILED open or read" for name in ("", " e")], missing)
+            self.expect_both("b2sum -c list", ours, theirs)
 
     def test_lines_that_they_do_not_write(self):
         """GNU's tools read a carriage return as it is in a name behind a leading backslash."""

@@ -163,6 +163,7 @@ SECURITY = {
 
 DIFFERENCES = (
     "These were found beside GNU coreutils 9.1. LIMITS has others.",
+    "A message begins with the tool's name. GNU's tools begin it as they were called, as with `/usr/bin/md5sum`.",
     "Names in messages and reports stand as they do in lines, with backslash, newline and carriage return escaped. "
     "GNU's tools quote some names in messages as a shell does, as one with a space or a control byte; in reports they "
     "escape a name only where it holds a newline.",
@@ -174,7 +175,7 @@ DIFFERENCES = (
     "escaped, or the digits of a tagged line, up to there: of a list that was written with `--zero` they may check the "
     "first file alone, and answer 0.",
     "A line whose name is empty is improperly formatted. GNU's tools take some for a file that is listed and isn't "
-    "there, as `MD5 () =` and digits.",
+    "there, as a tagged line with nothing between its parentheses.",
     "GNU's tools read some lines that they don't write and that are improperly formatted here, as one that begins with "
     "a backslash and whose name holds a carriage return as it is.",
     "An output that fails ends the run with a write error and status 1, and so does a reader that goes away, as "
@@ -184,10 +185,13 @@ DIFFERENCES = (
     "that are possible, and that of an unknown one not its value.",
 )
 
-DIFFERENCE_OF_LENGTH = (
+DIFFERENCES_OF_B2SUM = (
+    "GNU's tool takes digits and a blank alone for a line with an empty name, too; such a line decides how names are "
+    "read.",
     "The number of `--length` is digits alone, and a fault of it is told in other lines. GNU's tool takes blanks or a "
     "plus sign before it, too. Of several numbers the last alone is looked at, and not where `--help` or `--version` "
-    "stands; GNU's tool refuses some of the others, too, as one that isn't a multiple of 8.")
+    "stands; GNU's tool refuses some of the others, too, as one that isn't a multiple of 8.",
+)
 
 DIFFERENCE_OF_ANYSUM = (
     "GNU has no tool of this name. The nearest is `cksum -c` of coreutils 9.1, which reads tagged lines.")

@@ -145,7 +145,7 @@ def differences(tool):
     """How this isn't as GNU's tool of the same name."""
     if tool == "anysum":
         return section("DIFFERENCES FROM GNU", texts.DIFFERENCE_OF_ANYSUM)
-    more = [texts.DIFFERENCE_OF_LENGTH] if tool == "b2sum" else []
+    more = texts.DIFFERENCES_OF_B2SUM if tool == "b2sum" else ()
     return section("DIFFERENCES FROM GNU", *texts.DIFFERENCES, *more)
 
 
