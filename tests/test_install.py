@@ -357,6 +357,11 @@ class Install(Repository):
         self.assertEqual(self.run_command([installed + b"/md5sum", "a"]).out, f"{M}  a\n".encode())
         self.assertEqual(self.run_command([script, "--remove", "here/and\nthere/"], **how), Ran(0, b"", b""))
         self.assertEqual(os.listdir(self.path("inner")), [])
+        for prefix in ("one/two/.", "one/two/.//./"):
+            self.assertEqual(self.run_command([script, prefix], **how).status, 0)
+            self.assertEqual(set(os.listdir(self.path("inner/one/two"))), {b"bin", b"share"})
+            self.assertEqual(self.run_command([script, "--remove", prefix], **how), Ran(0, b"", b""))
+            self.assertEqual(os.listdir(self.path("inner")), [])
 
     def test_a_stage(self):
         """With DESTDIR all goes below that folder, and the note doesn't name it."""
