@@ -265,11 +265,13 @@ class Writing(Described):
             self.expect_alike(f"md5sum {words} a", 1, err=["md5sum: --tag does not support --text mode", more])
 
     def test_an_output_that_fails(self):
-        """It ends the run here; GNU's tools still read the other files."""
+        """It ends the run here; GNU's tools still read the other files, and tell the reason of some faults."""
         missing = "md5sum: x: No such file or directory"
         with self.full() as full:
             theirs = (1, b"", [missing, "md5sum: write error"])
             self.expect_both("md5sum a x", (1, b"", WRITE_ERROR), theirs, stdout=full)
+            theirs = (1, b"", ["md5sum: write error: No space left on device"])
+            self.expect_both("md5sum -z a", (1, b"", WRITE_ERROR), theirs, stdout=full)
 
     def test_a_reader_that_goes_away(self):
         """A write error with status 1; GNU's tools are ended by a signal."""

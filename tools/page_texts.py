@@ -110,7 +110,7 @@ STATUSES = {
 DIAGNOSTICS = {
     "{FILE}: No such file or directory": "It isn't there. The other files are still read.",
     "{FILE}: Permission denied": "It may not be read. The other files are still read.",
-    "{FILE}: Input/output error": "It can't be read for another reason. Most often it is a directory. Other "
+    "{FILE}: Input/output error": "It can't be read for another reason. Most often it is a directory. Among other "
                                   "reasons are links that lead in a circle, a name that is too long, a name below a "
                                   "file that is no directory, a name in a manifest that isn't UTF-8, a socket, "
                                   "standard input that is closed, or that has nothing ready and is set not to wait, "
@@ -179,7 +179,8 @@ DIFFERENCES = (
     "GNU's tools read some lines that they don't write and that are improperly formatted here, as one that begins with "
     "a backslash and whose name holds a carriage return as it is.",
     "An output that fails ends the run with a write error and status 1, and so does a reader that goes away, as "
-    "`head`(1). GNU's tools still read all other files; a signal ends them where the reader goes away.",
+    "`head`(1). GNU's tools still read all other files, and tell the reason of some write errors; a signal ends them "
+    "where the reader goes away.",
     "The language that is set and `POSIXLY_CORRECT` have no effect.",
     "`--help` and `--version` print other texts. The message of an option that is cut too short doesn't name those "
     "that are possible, and that of an unknown one not its value.",
