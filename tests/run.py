@@ -3,7 +3,7 @@
 
 The tests run the program from the outside, on real files, pipes, terminals and devices; some look at the repository.
 With no PROGRAM it is this repository's own, for each level for which it is built. The last line counts the tests; the
-status is 1 where one failed."""
+status is 1 where one failed, or none passed."""
 
 import argparse
 import collections
