@@ -131,7 +131,8 @@ LIMITS = (
     "A word of the command line that isn't UTF-8 can't be read: the answer is `digests: words not read` alone, and no "
     "file of that call is read. A name in a manifest that isn't UTF-8 can't be opened.",
     "A directory is an `Input/output error`.",
-    "Lines that were written with `--zero` can't be checked.",
+    "Lines that were written with `--zero` can't be checked: they are improperly formatted. But where a name holds a "
+    "newline, what stands before that is read as a line.",
     "A file of 2^61 bytes or more is an `Input/output error`.",
     "One line is held in memory at a time, however long the manifest is.",
     "The stack has to have 64 KiB, and more where the environment is large. With 48 KiB a signal may end the program, "
