@@ -1,5 +1,6 @@
 # shellcheck shell=sh disable=SC2034,SC2154  # what is set here is read by the scripts that take it in, and they set top
-# Read by digests, install, test, the scripts of tools/ and the benchmarks, with `top` set to the repository's folder.
+# Read by digests, install, test, tools/build, tools/sums, tools/pages.py and bench/run.py, with `top` set to the
+# repository's folder.
 # A level names the processors that a program is compiled for. The program of each stands in out/LEVEL, beside the list
 # of what it was made from; tools/build makes them.
 

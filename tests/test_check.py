@@ -183,6 +183,15 @@ class Lines(Case):
             with self.subTest(line=line):
                 self.expect("md5sum -c", stdin=[line], err=[f"md5sum: standard input: {NONE_FOUND}"], status=1)
 
+    def test_lines_of_zero(self):
+        """None can be read; but what stands before a newline in a name is a line."""
+        for words in ("-z a e", "-z a", "-bz a", "-z --tag a"):
+            written = self.run_words(f"md5sum {words}").out
+            self.expect("md5sum -c", stdin=written, err=[f"md5sum: standard input: {NONE_FOUND}"], status=1)
+        self.write("a\nb", "abc")
+        written = self.run_words(["md5sum", "-z", "a\nb"]).out
+        self.expect("md5sum -c", stdin=written, out=["a: OK"], err=[bad(1)])
+
     def test_another_tools_lines(self):
         manifest = [f"SHA512 (a) = {S}", f"SHA256 (a) = {S}"]
         self.expect("sha256sum -c", stdin=manifest, out=["a: OK"], err=[bad(1, "sha256sum")])

@@ -46,6 +46,13 @@ class Messages(Described):
             said = [(1, b"", [f"md5sum: {shown}: No such file or directory"]) for shown in (ours, theirs)]
             self.expect_both(["md5sum", name], *said)
 
+    def test_the_name_in_front(self):
+        """It is the tool's; GNU's tools begin a message as they were called."""
+        os.symlink(harness.PROGRAM, self.path("md5sum"))
+        missing = "x: No such file or directory\n"
+        for called, wanted in ((os.fsdecode(self.path("md5sum")), "md5sum"), (gnu("md5sum"), gnu("md5sum"))):
+            self.assertEqual(self.run_command([called, "x"]), Ran(1, b"", f"{wanted}: {missing}".encode()))
+
     def test_other_faults(self):
         """Each is an `Input/output error` with us; GNU's tools name most of them."""
         os.symlink("loop", self.path("loop"))
@@ -147,7 +154,8 @@ class Checks(Described):
             self.expect_alike("md5sum -c --strict list", 0, [f"{name}: OK", "a: OK"])
 
     def test_a_byte_0(self):
-        """GNU's tools take a name up to it; of a list written with `--zero` they check the first file, and answer 0."""
+        """GNU's tools take a name that isn't escaped, or a tagged line's digits, up to it; of a list that was written
+        with `--zero` they check the first file, and answer 0. A line that begins with `#` may hold it."""
         self.write("b", "other")
         for command in ([harness.PROGRAM, "md5sum"], [gnu("md5sum")]):
             self.write("list", self.run_command([*command, "-z", "a", "b", "e"]).out)
@@ -158,13 +166,32 @@ class Checks(Described):
         self.write("list", f"{M}  a\0b\n{E}  e\n")
         ours = (0, ["e: OK"], ["md5sum: WARNING: 1 line is improperly formatted"])
         self.expect_both("md5sum -c list", ours, (0, ["a: OK", "e: OK"], b""))
+        for line in (f"MD5 (a\0b) = {M}", f"MD5 (a) = {M}\0", f"\\MD5 (a) = {M}\0more"):
+            self.write("list", [line])
+            self.expect_both("md5sum -c -w --strict list", (1, b"", said), (0, ["a: OK"], b""))
+        for line in (f"\\{M}  a\0b", f"\\MD5 (a\0b) = {M}", f"{M}\0  a", f"MD5 (a)\0 = {M}"):
+            self.write("list", [line])
+            self.expect_alike("md5sum -c -w --strict list", 1, err=said)
+        self.write("list", ["#\0", f"{M}  a"])
+        self.expect_alike("md5sum -c --strict list", 0, ["a: OK"])
 
     def test_an_empty_name(self):
         """GNU's tools take some lines for one that lists a file, and fail."""
-        self.write("list", [f"MD5 () = {E}", f"{M}  a"])
-        ours = (0, ["a: OK"], ["md5sum: WARNING: 1 line is improperly formatted"])
-        missing = ["md5sum: '': No such file or directory", "md5sum: WARNING: 1 listed file could not be read"]
-        self.expect_both("md5sum -c list", ours, (1, [": FAILED open or read", "a: OK"], missing))
+        for tool, (tag, of_nothing, of_abc) in harness.TOOLS.items():
+            self.write("list", [f"{tag} () = {of_nothing}", f"{of_abc}  a"])
+            ours = (0, ["a: OK"], [f"{tool}: WARNING: 1 line is improperly formatted"])
+            missing = [f"{tool}: '': No such file or directory", f"{tool}: WARNING: 1 listed file could not be read"]
+            self.expect_both([tool, "-c", "list"], ours, (1, [": FAILED open or read", "a: OK"], missing))
+
+    def test_digits_and_a_blank(self):
+        """GNU's b2sum takes them for a line with an empty name, which decides how names are read."""
+        for first in (f"{harness.B} ", f"{harness.B}\t", "ab "):
+            self.write("list", [first, f"{harness.B}  e"])
+            ours = (0, ["e: OK"], ["b2sum: WARNING: 1 line is improperly formatted"])
+            missing = [f"b2sum: '{name}': No such file or directory" for name in ("", " e")]
+            missing.append("b2sum: WARNING: 2 listed files could not be read")
+            theirs = (1, [f"{name}: FAILED open or read" for name in ("", " e")], missing)
+            self.expect_both("b2sum -c list", ours, theirs)
 
     def test_lines_that_they_do_not_write(self):
         """GNU's tools read a carriage return as it is in a name behind a leading backslash."""
@@ -238,11 +265,13 @@ class Writing(Described):
             self.expect_alike(f"md5sum {words} a", 1, err=["md5sum: --tag does not support --text mode", more])
 
     def test_an_output_that_fails(self):
-        """It ends the run here; GNU's tools still read the other files."""
+        """It ends the run here; GNU's tools still read the other files, and tell the reason of some faults."""
         missing = "md5sum: x: No such file or directory"
         with self.full() as full:
             theirs = (1, b"", [missing, "md5sum: write error"])
             self.expect_both("md5sum a x", (1, b"", WRITE_ERROR), theirs, stdout=full)
+            theirs = (1, b"", ["md5sum: write error: No space left on device"])
+            self.expect_both("md5sum -z a", (1, b"", WRITE_ERROR), theirs, stdout=full)
 
     def test_a_reader_that_goes_away(self):
         """A write error with status 1; GNU's tools are ended by a signal."""

@@ -269,6 +269,20 @@ class Install(Repository):
         self.assertEqual(self.read(page), b"theirs")
         self.assertFalse(os.path.exists(self.bin))
 
+    def test_a_file_in_the_place_of_a_folder(self):
+        """It is named, and nothing is installed."""
+        self.put("man/b2sum.1", "ours")
+        for name in ("bin", "share", "share/digests", "share/man", "share/man/man1"):
+            path = os.path.join(self.prefix, name)
+            for make in (lambda path: self.write(path, "theirs"), lambda path: os.symlink("/nowhere", path)):
+                with self.subTest(name=name):
+                    shutil.rmtree(self.prefix, ignore_errors=True)
+                    os.makedirs(os.path.dirname(path))
+                    make(path)
+                    before = self.tree()
+                    self.assertIn(f"nothing was installed:\n{path}\ninstall: move", self.installs(status=1))
+                    self.assertEqual((self.tree(), self.told), (before, ""))
+
     def test_a_foreign_note(self):
         """A file in the place of the note that isn't one, and those whose names only look like ours, stay."""
         self.put("man/b2sum.1", "ours")
@@ -343,6 +357,11 @@ class Install(Repository):
         self.assertEqual(self.run_command([installed + b"/md5sum", "a"]).out, f"{M}  a\n".encode())
         self.assertEqual(self.run_command([script, "--remove", "here/and\nthere/"], **how), Ran(0, b"", b""))
         self.assertEqual(os.listdir(self.path("inner")), [])
+        for prefix in ("one/two/.", "one/two/.//./"):
+            self.assertEqual(self.run_command([script, prefix], **how).status, 0)
+            self.assertEqual(set(os.listdir(self.path("inner/one/two"))), {b"bin", b"share"})
+            self.assertEqual(self.run_command([script, "--remove", prefix], **how), Ran(0, b"", b""))
+            self.assertEqual(os.listdir(self.path("inner")), [])
 
     def test_a_stage(self):
         """With DESTDIR all goes below that folder, and the note doesn't name it."""

@@ -3,6 +3,7 @@ isn't. Its status is 0 only where all that it is for was done."""
 
 import hashlib
 import os
+import pwd
 import re
 import shutil
 
@@ -115,8 +116,8 @@ class Recipes(Case):
     def is_there(self, name):
         return os.path.exists(self.path(f"here/{name}"))
 
-    def type(self, recipe, shell="bash"):
-        return self.run_command([shell, "-c", recipe], cwd=self.path("here"), env=self.env)
+    def type(self, recipe, shell="bash", **how):
+        return self.run_command([shell, "-c", recipe], cwd=self.path("here"), env=self.env, **how)
 
     def fails(self, recipe, shell="bash"):
         """Types a recipe that mustn't pass."""
@@ -281,7 +282,8 @@ class Recipes(Case):
                     self.passes(recipe, shell=shell)
 
     def test_a_damaged_list(self):
-        """A line that can't be read is a file that isn't checked."""
+        """A line that can't be read is a file that isn't checked. One that says nothing passes, and its file isn't
+        listed."""
         for page in KINDS_OF_PAGES:
             self.make()
             self.passes(self.recipe(page, "list"))
@@ -291,10 +293,11 @@ class Recipes(Case):
                 self.put("SUMS", b"".join(damaged if line == image else line for line in whole))
                 for recipe, _, shell in self.each(page, "check list", "check list on all", "check one"):
                     self.fails(recipe, shell)
-            for other in (b"", b"#" + image, b"# " + image):
+            for other in (b"", b"\n", b"#" + image, b"# " + image):
                 self.put("SUMS", b"".join(other if line == image else line for line in whole))
                 for recipe, _, shell in self.each(page, "check one"):
                     self.assertEqual(self.fails(recipe, shell).out, b"")
+                self.passes(self.recipe(page, "check list"))
                 self.assertEqual(self.fails(self.recipe(page, "unlisted")), Ran(1, b"./image.iso\n", b""))
 
     def test_a_name_within_another(self):
@@ -348,6 +351,64 @@ class Recipes(Case):
                 self.assertFalse(self.is_there("image.sum"), name)
                 os.remove(self.path(f"commands/{name}"))
             os.symlink(harness.PROGRAM, self.path(f"commands/{command}"))
+
+    def test_a_folder_that_may_not_be_read(self):
+        """No list is made, and nothing passes for unlisted. Of names that aren't UTF-8 the status doesn't tell."""
+        how = {}
+        if os.getuid() == 0:  # who may read everything
+            try:
+                nobody = pwd.getpwnam("nobody")
+            except KeyError:
+                self.skipTest("there is no user nobody")
+            how = {"user": nobody.pw_uid, "group": nobody.pw_gid, "extra_groups": []}
+            for name in NAMES:
+                os.remove(self.path(f"commands/{name}"))
+                os.symlink("a copy", self.path(f"commands/{name}"))
+            shutil.copy(harness.PROGRAM, self.path("commands/a copy"))  # its own folder may be closed to others
+        os.mkdir(self.path("temporary"))
+        self.env["TMPDIR"] = os.fsdecode(self.path("temporary"))
+        for page in KINDS_OF_PAGES:
+            for recipe, sort, shell in self.each(page, "list", "list on all", "not UTF-8", "unlisted"):
+                self.make(more=["shut/more", b"shut/bad\xff"])
+                if sort == "unlisted":
+                    self.put("SUMS", "".join(f"0  {name}\n" for name in GOOD))
+                os.chmod(self.path("here/shut"), 0)
+                for name in ("here", "temporary") if how else ():
+                    os.chown(self.path(name), nobody.pw_uid, nobody.pw_gid)
+                ran = self.type(recipe, shell, **how)
+                self.assertEqual((ran.status, ran.out), (1, b""), recipe)
+                self.assertRegex(ran.err, rb"\Afind: [^\n]*\./shut[^\n]*: Permission denied\n\Z")
+                self.assertEqual(self.is_there("SUMS"), sort == "unlisted")
+                os.chmod(self.path("here/shut"), 0o755)
+
+    def test_what_is_no_file(self):
+        """Links, pipes and devices are left out, of a list and of what it lacks."""
+        for page in KINDS_OF_PAGES:
+            for recipe, sort, shell in self.each(page, "list", "list on all"):
+                self.make()
+                self.passes(recipe, shell=shell)
+                before = sorted(self.read("here/SUMS").splitlines())
+                os.symlink("image.iso", self.path("here/link"))
+                os.symlink("some folder", self.path("here/linked folder"))
+                os.mkfifo(self.path("here/pipe"))
+                self.passes(recipe, shell=shell)
+                self.assertEqual(sorted(self.read("here/SUMS").splitlines()), before)
+                self.passes(self.recipe(page, "unlisted"))
+
+    def test_runs_that_go_on(self):
+        """Where one run fails, `split` ends, and the lines of the others come later."""
+        self.command("nproc", "echo 2")
+        for page in KINDS_OF_PAGES:
+            tool = {"anysum": "sha512sum", "digests": "b2sum"}.get(page, page)
+            self.make(good=False, more=["a"])
+            self.put("SUMS", b"".join(line_of(tool, name, b"", page == "anysum") for name in (b"./a", b"./pipe")))
+            os.mkfifo(self.path("here/pipe"))
+            with open(self.path("out"), "wb") as out, open(self.path("err"), "wb") as err:
+                ran = self.type(self.recipe(page, "check list on all"), stdout=out, stderr=err)
+            self.assertEqual((ran.status, self.read("out")), (1, b"./a: FAILED\n"))
+            with self.fed("here/pipe") as pipe:
+                pipe.write(b"more")
+            self.until(lambda: self.read("out") == b"./a: FAILED\n./pipe: FAILED\n", "the other run's line")
 
     def test_another_shell(self):
         """One that doesn't have what bash has makes no list, and says so."""

@@ -117,7 +117,7 @@ class Sums(Repository):
                 self.assertEqual(written, f"# Changes\n\n## 2.0.0\n\n- New.\n\n{self.block}\n{old}")
 
     def test_checked_with_the_tool(self):
-        command = "grep -m 2 '  out/' CHANGELOG.md | ./digests sha256sum -c"
+        command = "grep -m 2 '  out/' CHANGELOG.md | ./digests sha256sum -c --strict"
         self.put("CHANGELOG.md", f"# Changes\n\n## 2.0.0\n\n{self.block}")
         ran = self.run_command(["sh", "-c", command], cwd=self.top, env=self.env)
         self.assertEqual(ran.status, 0)

@@ -3,6 +3,7 @@ operands."""
 
 import os
 import pty
+import signal
 import subprocess
 
 import harness
@@ -194,6 +195,12 @@ class EachByteTheLast(Case):
             self.assertEqual((ran, out), (Ran(1, b"", WRITE_ERROR), whole[:size]))
         ran, out = self.run_limited("md5sum a e", len(whole), "stdout")
         self.assertEqual((ran, out), (Ran(0, b"", b""), whole))
+
+    def test_a_signal_that_is_not_ignored(self):
+        """It ends the program, without a word."""
+        with open(self.path("limited"), "wb") as file:
+            ran = self.run_words("md5sum a e", stdout=file, preexec_fn=limits(file_size=10))
+        self.assertEqual((ran, self.read("limited")), (Ran(-signal.SIGXFSZ, b"", b""), b"900150983c"))
 
     @needs_check
     def test_checking_into_standard_output(self):

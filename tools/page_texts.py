@@ -74,8 +74,8 @@ CHECKING = (
     "parenthesis may be missing, and there may be none or several about the equals sign.",
     "On standard output, for each listed file:",
     "Behind the last line of a manifest, standard error tells how many lines were improperly formatted, how many files "
-    "could not be read, and how many checksums did not match. Not with `--status`. Of a manifest that lists nothing it "
-    "tells that alone, with every option.",
+    "could not be read, and how many checksums did not match. Not with `--status`. Of a manifest that lists nothing, "
+    "or that can't be read to its end, it tells that alone, with every option.",
 )
 
 # How a line is read, between the first and the last paragraphs of that.
@@ -110,7 +110,7 @@ STATUSES = {
 DIAGNOSTICS = {
     "{FILE}: No such file or directory": "It isn't there. The other files are still read.",
     "{FILE}: Permission denied": "It may not be read. The other files are still read.",
-    "{FILE}: Input/output error": "It can't be read for another reason. Most often it is a directory. Other "
+    "{FILE}: Input/output error": "It can't be read for another reason. Most often it is a directory. Among other "
                                   "reasons are links that lead in a circle, a name that is too long, a name below a "
                                   "file that is no directory, a name in a manifest that isn't UTF-8, a socket, "
                                   "standard input that is closed, or that has nothing ready and is set not to wait, "
@@ -131,11 +131,13 @@ LIMITS = (
     "A word of the command line that isn't UTF-8 can't be read: the answer is `digests: words not read` alone, and no "
     "file of that call is read. A name in a manifest that isn't UTF-8 can't be opened.",
     "A directory is an `Input/output error`.",
-    "Lines that were written with `--zero` can't be checked.",
+    "Lines that were written with `--zero` can't be checked: they are improperly formatted. But where a name holds a "
+    "newline, what stands before that is read as a line.",
     "A file of 2^61 bytes or more is an `Input/output error`.",
     "One line is held in memory at a time, however long the manifest is.",
     "The stack has to have 64 KiB, and more where the environment is large. With 48 KiB a signal may end the program, "
-    "without a word.",
+    "without a word. So does one where an output would grow past the limit on a file's size (`ulimit -f`), unless the "
+    "caller ignores it.",
     "A line of up to 8,192 bytes goes to the system in one piece. So where several runs share one open file, as under "
     "`xargs -P`, no such line is torn. Into one pipe, Linux keeps up to 4,096 bytes together. A longer line may be "
     "torn.",
@@ -162,6 +164,7 @@ SECURITY = {
 
 DIFFERENCES = (
     "These were found beside GNU coreutils 9.1. LIMITS has others.",
+    "A message begins with the tool's name. GNU's tools begin it as they were called, as with `/usr/bin/md5sum`.",
     "Names in messages and reports stand as they do in lines, with backslash, newline and carriage return escaped. "
     "GNU's tools quote some names in messages as a shell does, as one with a space or a control byte; in reports they "
     "escape a name only where it holds a newline.",
@@ -169,23 +172,28 @@ DIFFERENCES = (
     "error`; GNU's tools name most of the others, as `Is a directory`.",
     "In each manifest the first line that begins with its digits, a blank and more decides how such lines are read. "
     "With GNU's tools the first such line of a call decides for all manifests.",
-    "A line that lists a file and holds a byte 0 is improperly formatted. GNU's tools take the name up to there: of a "
-    "list that was written with `--zero` they may check the first file alone, and answer 0.",
+    "A line that holds a byte 0 is improperly formatted, unless it begins with `#`. GNU's tools take a name that isn't "
+    "escaped, or the digits of a tagged line, up to there: of a list that was written with `--zero` they may check the "
+    "first file alone, and answer 0.",
     "A line whose name is empty is improperly formatted. GNU's tools take some for a file that is listed and isn't "
-    "there, as `MD5 () =` and digits.",
+    "there, as a tagged line with nothing between its parentheses.",
     "GNU's tools read some lines that they don't write and that are improperly formatted here, as one that begins with "
     "a backslash and whose name holds a carriage return as it is.",
     "An output that fails ends the run with a write error and status 1, and so does a reader that goes away, as "
-    "`head`(1). GNU's tools still read all other files; a signal ends them where the reader goes away.",
+    "`head`(1). GNU's tools still read all other files, and tell the reason of some write errors; a signal ends them "
+    "where the reader goes away.",
     "The language that is set and `POSIXLY_CORRECT` have no effect.",
     "`--help` and `--version` print other texts. The message of an option that is cut too short doesn't name those "
     "that are possible, and that of an unknown one not its value.",
 )
 
-DIFFERENCE_OF_LENGTH = (
+DIFFERENCES_OF_B2SUM = (
+    "GNU's tool takes digits and a blank alone for a line with an empty name, too; such a line decides how names are "
+    "read.",
     "The number of `--length` is digits alone, and a fault of it is told in other lines. GNU's tool takes blanks or a "
     "plus sign before it, too. Of several numbers the last alone is looked at, and not where `--help` or `--version` "
-    "stands; GNU's tool refuses some of the others, too, as one that isn't a multiple of 8.")
+    "stands; GNU's tool refuses some of the others, too, as one that isn't a multiple of 8.",
+)
 
 DIFFERENCE_OF_ANYSUM = (
     "GNU has no tool of this name. The nearest is `cksum -c` of coreutils 9.1, which reads tagged lines.")
@@ -199,8 +207,8 @@ RECIPE_OF_A_FILE = ("A file's checksum:", "{writes} image.iso > image.sum")
 RECIPE_OF_ITS_CHECK = ("Later, whether the file still has it:", "{tool} -c image.sum")
 
 RECIPES_OF_FOLDERS = (
-    ("All files below a folder. The list gets the name {SUMS} only where there is a file, and all of them could be "
-     "read:",
+    ("All files below a folder; links, pipes and devices are left out. The list gets the name {SUMS} only where there "
+     "is a file, and all files and folders could be read:",
      "find . -type f ! -path ./SUMS ! -path ./SUMS.new \\",
      "    -exec {writes} {} + > SUMS.new &&",
      "    [ -s SUMS.new ] && mv -T SUMS.new SUMS"),
@@ -212,22 +220,23 @@ RECIPES_OF_FOLDERS = (
      "    xargs -0 -r -n 32 -P \"$(nproc)\" {writes} > SUMS.new) &&",
      "    [ -s SUMS.new ] && mv -T SUMS.new SUMS"),
     ("A name that isn't UTF-8 stops the whole call that it was given to: no file of that call is read. Then both "
-     "recipes above fail. This one shows such names, each with a byte 0 behind it. Its status is 0 where there is one, "
-     "and 1 where there is none. The locale `C.UTF-8` has to be there: without it, none is found. Such a file can be "
-     "renamed, or read as standard input.",
+     "recipes above fail. This one shows such names, each with a byte 0 behind it. Its status is 0 where it shows "
+     "one, and else 1: of a folder that may not be read, `find`(1) alone tells. The locale `C.UTF-8` has to be there: "
+     "without it, none is found. Such a file can be renamed, or read as standard input.",
      "find . -type f -print0 | LC_ALL=C.UTF-8 grep -zavx '.*'"),
     ("Whether all listed files still have their checksums, with a line only for those that haven't. With `--strict` a "
-     "damaged line fails, too:",
+     "damaged line fails, too, unless it is empty or begins with `#`:",
      "{tool} -c --quiet --strict SUMS"),
     ("The same on all processors, for a list that was made as above: lines go to one run and the next in turn, and "
-     "each run takes its own for a whole list. An empty list would pass `split`(1), so that is asked first:",
+     "each run takes its own for a whole list. An empty list would pass `split`(1), so that is asked first. "
+     "Where one run fails, `split` doesn't wait for the others, whose lines may come later:",
      "[ -s SUMS ] && split -e -n \"r/$(nproc)\" \\",
      "    --filter='{tool} -c --quiet --strict' SUMS"),
     ("One of the listed files only, by its whole line. Where `grep`(1) finds none, the check fails, since its list is "
      "empty. Give one name at a time: of two, one that isn't found would not be missed.",
      "{grep} SUMS | {tool} -c --strict"),
     ("Files that no line of the list names, as it would write them, in `bash`(1). A check doesn't tell of them. The "
-     "status is 0 only where there is none:",
+     "status is 0 only where there is none, and all folders could be read. Links, pipes and devices are left out:",
      "(set -o pipefail; export LC_ALL=C",
      "at=$(mktemp -d) && trap 'rm -r \"$at\"' EXIT &&",
      "find . -type f ! -path ./SUMS -print0 |",

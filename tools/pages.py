@@ -123,7 +123,8 @@ def exit_status():
 def diagnostics(tool):
     named = {mark.replace("{TAG}", texts.TOOLS[tool][1] or "tagged"): text for mark, text in texts.DIAGNOSTICS.items()}
     return section("DIAGNOSTICS", f"Each is a line on standard error that begins with `{tool}:` and a space. Names are "
-                   "escaped as in the lines of checksums.", *lines_of(named))
+                   "escaped as in the lines of checksums; a manifest that is `-` is named `standard input`.",
+                   *lines_of(named))
 
 
 def examples(name):
@@ -145,7 +146,7 @@ def differences(tool):
     """How this isn't as GNU's tool of the same name."""
     if tool == "anysum":
         return section("DIFFERENCES FROM GNU", texts.DIFFERENCE_OF_ANYSUM)
-    more = [texts.DIFFERENCE_OF_LENGTH] if tool == "b2sum" else []
+    more = texts.DIFFERENCES_OF_B2SUM if tool == "b2sum" else ()
     return section("DIFFERENCES FROM GNU", *texts.DIFFERENCES, *more)
 
 
