@@ -1,6 +1,6 @@
 //! Outputs that stop at any byte, manifests that break off anywhere, and hostile ones.
 use super::checking::VERDICTS;
-use super::{add_files, assert_broken, assert_rows, run_line, spelled};
+use super::{MD5_OF_ABC, add_files, assert_broken, assert_rows, run_line, spelled};
 use crate::run::run;
 use std::alloc::Global;
 use std::ops::RangeInclusive;
@@ -130,35 +130,45 @@ fn nothing_readable(rt: HostRuntime) -> Result<(), Fail> {
     Ok(())
 }
 
-// The one line, which no newline ends, names a file of nearly 100,000 letters.
-#[test]
-fn long_name(rt: HostRuntime) -> Result<(), Fail> {
-    let name = repeated(rt.alloc(), 'y', 99_966)?;
-    let mut manifest = spelled(rt.alloc(), "$M  ")?;
-    manifest.push_str(name.as_str())?;
-    let mut report = name.clone()?;
-    report.push_str(": FAILED open or read\n")?;
-    let mut warning = String::from_str(rt.alloc(), "md5sum: ")?;
-    warning.push_str(name.as_str())?;
-    warning.push_str(
-        ": No such file or directory\nmd5sum: WARNING: 1 listed file could not be read\n",
-    )?;
+// Runs `md5sum -c h` over this manifest `h` and no other file.
+fn check_alone(
+    rt: &(impl Abort + AllocGlobal),
+    manifest: &[u8],
+    piece: usize,
+    (out, err): (&[u8], &[u8]),
+) -> Result<(), Fail> {
     let mut words = Words::new(rt.alloc());
     words.add("-c")?;
     words.add("h")?;
+    let mut files = ToldSource::new(rt.alloc(), piece);
+    files.add(b"h", Answer::Content(manifest, Ending::Whole))?;
+    let mut streams = Streams {
+        stdin: Stdin::new(Told::new(b"", Ending::Whole, piece)),
+        source: files,
+        out: ToldSink::<100_100>::new(100_100),
+        err: ToldSink::<100_100>::new(100_100),
+    };
+    let answer = run(rt.alloc(), Tool::Md5sum, &words, &mut streams);
+    assert_eq!(rt; answer, Ok(1));
+    assert!(rt; streams.out.bytes() == out);
+    assert!(rt; streams.err.bytes() == err);
+    Ok(())
+}
+
+// The one line, which no newline ends, names a file of nearly 100,000 letters.
+#[test]
+fn long_name(rt: HostRuntime) -> Result<(), Fail> {
+    let text = repeated(rt.alloc(), 'y', 99_966)?;
+    let name = text.as_str();
+    let manifest = format!(in rt.alloc(); "{MD5_OF_ABC}  {name}")?;
+    let report = format!(in rt.alloc(); "{name}: FAILED open or read\n")?;
+    let warnings = format!(in rt.alloc();
+        "md5sum: {name}: No such file or directory\n\
+        md5sum: WARNING: 1 listed file could not be read\n"
+    )?;
     for piece in [1, 8192] {
-        let mut files = ToldSource::new(rt.alloc(), piece);
-        files.add(b"h", Answer::Content(manifest.as_bytes(), Ending::Whole))?;
-        let mut streams = Streams {
-            stdin: Stdin::new(Told::new(b"", Ending::Whole, piece)),
-            source: files,
-            out: ToldSink::<100_100>::new(100_100),
-            err: ToldSink::<100_100>::new(100_100),
-        };
-        let answer = run(rt.alloc(), Tool::Md5sum, &words, &mut streams);
-        assert_eq!(rt; answer, Ok(1));
-        assert!(rt; streams.out.bytes() == report.as_bytes());
-        assert!(rt; streams.err.bytes() == warning.as_bytes());
+        let texts = (report.as_bytes(), warnings.as_bytes());
+        check_alone(&rt, manifest.as_bytes(), piece, texts)?;
     }
     Ok(())
 }

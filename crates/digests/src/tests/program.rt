@@ -133,28 +133,38 @@ fn told_arguments(rt: HostRuntime) -> Result<(), Fail> {
     Ok(())
 }
 
-// Each output stops after each number of bytes: it holds just these, and the line for the stop stands where it can.
+// That a program whose outputs stop after so many bytes ends with status 1, and what it leaves.
+fn stops(alloc: Global, stops: (usize, usize)) -> Result<Ended, Fail> {
+    let input = Told::new(b"", Ending::Whole, 1);
+    let ended = call(alloc, alloc, &[b"md5sum", b"a", b"x"], input, stops)?;
+    if ended.status != 1 {
+        return Err(Fail::from("the status isn't 1"));
+    }
+    Ok(ended)
+}
+
+// Standard output stops after each number of bytes: it holds just these, and the line for the stop stands.
 #[test]
-fn outputs_that_stop(rt: HostRuntime) -> Result<(), Fail> {
+fn output_that_stops(rt: HostRuntime) -> Result<(), Fail> {
+    let line = format!(in rt.alloc(); "{MD5_OF_ABC}  a\n")?;
+    for count in 0..line.as_str().len() {
+        let ended = stops(rt.alloc(), (count, 1024))?;
+        let held = line.as_bytes().get(..count).ok_or("count")?;
+        assert_eq!(rt; ended.out.bytes(), held);
+        assert_eq!(rt; ended.err.bytes(), b"md5sum: write error\n".as_slice());
+    }
+    Ok(())
+}
+
+// Standard error stops after each number of bytes: it holds just these.
+#[test]
+fn errors_that_stop(rt: HostRuntime) -> Result<(), Fail> {
     let line = format!(in rt.alloc(); "{MD5_OF_ABC}  a\n")?;
     let fault = b"md5sum: x: No such file or directory\n";
-    let stop = b"md5sum: write error\n";
-    let arguments = [b"md5sum".as_slice(), b"a", b"x"];
-    for count in 0..line.as_str().len() {
-        let input = Told::new(b"", Ending::Whole, 1);
-        let ended = call(rt.alloc(), rt.alloc(), &arguments, input, (count, 1024))?;
-        assert_eq!(rt; ended.out.bytes().len(), count);
-        assert!(rt; line.as_bytes().starts_with(ended.out.bytes()));
-        assert_eq!(rt; ended.err.bytes(), stop.as_slice());
-        assert_eq!(rt; ended.status, 1);
-    }
     for count in 0..fault.len() {
-        let input = Told::new(b"", Ending::Whole, 1);
-        let ended = call(rt.alloc(), rt.alloc(), &arguments, input, (1024, count))?;
+        let ended = stops(rt.alloc(), (1024, count))?;
         assert_eq!(rt; ended.out.bytes(), line.as_bytes());
-        assert_eq!(rt; ended.err.bytes().len(), count);
-        assert!(rt; fault.starts_with(ended.err.bytes()));
-        assert_eq!(rt; ended.status, 1);
+        assert_eq!(rt; ended.err.bytes(), fault.get(..count).ok_or("count")?);
     }
     Ok(())
 }
@@ -173,62 +183,68 @@ impl Write for LosesAll {
     }
 }
 
+// Calls the program over a standard output that can't be flushed, over this input and the files of most rows, with its
+// words in the memory of the heap. What standard error holds, and the status.
+fn call_not_kept<A: Allocator + Copy>(
+    alloc: Global,
+    heap: A,
+    arguments: &[&[u8]],
+    input: &[u8],
+) -> Result<(ToldSink<64>, u8), Fail> {
+    let mut files = ToldSource::new(alloc, 100);
+    add_files(&mut files)?;
+    let mut streams = Streams {
+        stdin: Stdin::new(Told::new(input, Ending::Whole, 1)),
+        source: files,
+        out: Buffered::new(FromWrite::new(LosesAll)),
+        err: Buffered::new(ToldSink::new(64)),
+    };
+    let status = command(heap, &ToldArguments::new(arguments), &mut streams);
+    Ok((streams.err.into_inner(), status))
+}
+
 // What is told only when standard output is closed is a write error.
 #[test]
 fn output_that_is_not_kept(rt: HostRuntime) -> Result<(), Fail> {
-    let mut files = ToldSource::new(rt.alloc(), 100);
-    add_files(&mut files)?;
-    let mut streams = Streams {
-        stdin: Stdin::new(Told::new(b"", Ending::Whole, 1)),
-        source: files,
-        out: Buffered::new(FromWrite::new(LosesAll)),
-        err: Buffered::new(ToldSink::<64>::new(64)),
-    };
-    let arguments = [b"md5sum".as_slice(), b"a"];
-    let status = command(rt.alloc(), &ToldArguments::new(&arguments), &mut streams);
+    let (err, status) = call_not_kept(rt.alloc(), rt.alloc(), &[b"md5sum", b"a"], b"")?;
     assert_eq!(rt; status, 1);
-    assert_eq!(rt;
-        streams.err.sink().bytes(),
-        b"md5sum: write error\n".as_slice()
-    );
+    assert_eq!(rt; err.bytes(), b"md5sum: write error\n".as_slice());
     Ok(())
+}
+
+// What a program tells that checks this list on a heap with room for so many times 8 bytes, and over a standard output
+// that isn't kept: which of three texts it is, and how many bytes it took.
+fn told_within(
+    rt: &(impl Abort + AllocGlobal),
+    units: usize,
+    list: &[u8],
+) -> Result<(usize, usize), Fail> {
+    let told: [&[u8]; 3] = [
+        b"digests: words not read\n",
+        b"md5sum: memory exhausted\n",
+        b"md5sum: write error\n",
+    ];
+    let heap = heap_of(rt.alloc(), units)?;
+    let (err, status) = call_not_kept(rt.alloc(), &heap, &[b"md5sum", b"-c"], list)?;
+    assert_eq!(rt; status, 1);
+    let which = told.iter().position(|text| *text == err.bytes());
+    Ok((which.ok_or("the text")?, taken(&heap, units)))
 }
 
 // Memory is short for the manifest's line, and then standard output isn't kept: what is told is why the run stopped.
 #[test]
 fn stopped_and_not_kept(rt: HostRuntime) -> Result<(), Fail> {
     let line = format!(in rt.alloc(); "{MD5_OF_ABC}  a\n")?;
-    let arguments = [b"md5sum".as_slice(), b"-c"];
-    let told: [&[u8]; 3] = [
-        b"digests: words not read\n",
-        b"md5sum: memory exhausted\n",
-        b"md5sum: write error\n",
-    ];
     let mut reached: usize = 0;
     let mut whole = None;
     for units in 0..=ENOUGH {
-        let heap = heap_of(rt.alloc(), units)?;
-        let mut files = ToldSource::new(rt.alloc(), 100);
-        add_files(&mut files)?;
-        let mut streams = Streams {
-            stdin: Stdin::new(Told::new(line.as_bytes(), Ending::Whole, 1)),
-            source: files,
-            out: Buffered::new(FromWrite::new(LosesAll)),
-            err: Buffered::new(ToldSink::<64>::new(64)),
-        };
-        let status = command(&heap, &ToldArguments::new(&arguments), &mut streams);
-        assert_eq!(rt; status, 1);
-        let text = streams.err.sink().bytes();
-        if told.get(reached) != Some(&text) {
-            reached = reached.saturating_add(1);
-        }
-        assert_eq!(rt;
-            text,
-            told.get(reached).copied().ok_or("told")?,
+        let (which, bytes) = told_within(&rt, units, line.as_bytes())?;
+        assert!(rt;
+            which == reached || which == reached.saturating_add(1),
             "in {units} units"
         );
-        if reached == 2 {
-            let bytes = taken(&heap, units);
+        reached = which;
+        if which == 2 {
             assert_eq!(rt; *whole.get_or_insert(bytes), bytes);
         }
     }
@@ -255,34 +271,53 @@ fn closed_standard_input(rt: HostRuntime) -> Result<(), Fail> {
     Ok(())
 }
 
-// Each growth of the words in turn is refused; without words nothing is taken.
+// Calls the program on a heap with room for so many times 8 bytes: how many it took, or `None` where the words weren't
+// read.
+fn words_within(
+    rt: &(impl Abort + AllocGlobal),
+    units: usize,
+    arguments: &[&[u8]],
+    out: &str,
+) -> Result<Option<usize>, Fail> {
+    let heap = heap_of(rt.alloc(), units)?;
+    let input = Told::new(b"", Ending::Whole, 1);
+    let ended = call(rt.alloc(), &heap, arguments, input, AMPLE)?;
+    if ended.status == 0 {
+        assert_eq!(rt; ended.out.bytes(), out.as_bytes());
+        assert_eq!(rt; ended.err.bytes().len(), 0);
+        return Ok(Some(taken(&heap, units)));
+    }
+    assert_eq!(rt; ended.status, 1);
+    assert_eq!(rt; ended.out.bytes().len(), 0);
+    assert_eq!(rt; ended.err.bytes(), b"digests: words not read\n".as_slice());
+    Ok(None)
+}
+
+// Each growth of the words in turn is refused.
 #[test]
 fn memory_for_words(rt: HostRuntime) -> Result<(), Fail> {
     let arguments = [b"md5sum".as_slice(), b"a", b"-", b"a"];
     let out = format!(in rt.alloc(); "{MD5_OF_ABC}  a\n{MD5_OF_NOTHING}  -\n{MD5_OF_ABC}  a\n")?;
     let mut whole = None;
     for units in 0..=ENOUGH {
-        let heap = heap_of(rt.alloc(), units)?;
-        let input = Told::new(b"", Ending::Whole, 1);
-        let ended = call(rt.alloc(), &heap, &arguments, input, AMPLE)?;
-        if ended.status == 0 {
-            assert_eq!(rt; ended.out.bytes(), out.as_bytes());
-            assert_eq!(rt; ended.err.bytes().len(), 0);
-            let bytes = taken(&heap, units);
-            assert_eq!(rt; *whole.get_or_insert(bytes), bytes);
-        } else {
-            assert_eq!(rt; whole, None, "in {units} units");
-            assert_eq!(rt; ended.status, 1);
-            assert_eq!(rt; ended.out.bytes().len(), 0);
-            assert_eq!(rt; ended.err.bytes(), b"digests: words not read\n".as_slice());
+        match words_within(&rt, units, &arguments, out.as_str())? {
+            None => assert_eq!(rt; whole, None, "in {units} units"),
+            Some(bytes) => assert_eq!(rt; *whole.get_or_insert(bytes), bytes),
         }
     }
     assert!(rt; whole.is_some_and(|bytes| bytes > 0));
-    let heap = heap_of(rt.alloc(), ENOUGH)?;
-    let input = Told::new(b"abc", Ending::Whole, 1);
-    let ended = call(rt.alloc(), &heap, &[b"md5sum".as_slice()], input, AMPLE)?;
-    assert_eq!(rt; ended.status, 0);
-    assert_eq!(rt; taken(&heap, ENOUGH), 0);
+    Ok(())
+}
+
+// Without words nothing is taken.
+#[test]
+fn no_memory_without_words(rt: HostRuntime) -> Result<(), Fail> {
+    let out = format!(in rt.alloc(); "{MD5_OF_NOTHING}  -\n")?;
+    let arguments = [b"md5sum".as_slice()];
+    assert_eq!(rt;
+        words_within(&rt, ENOUGH, &arguments, out.as_str())?,
+        Some(0)
+    );
     Ok(())
 }
 
