@@ -93,6 +93,7 @@ enum Step<'a> {
 
 use Step::{Asked, Failed, Flush, Lens, Offer};
 
+// Takes one step.
 fn take(rt: &impl Abort, buffer: &mut Buffered<Recorder>, step: Step) {
     match step {
         Offer(piece, answer) => assert_eq!(rt; offer(buffer, piece), answer),
@@ -126,6 +127,7 @@ fn check_lens(rt: &impl Abort, buffer: &Buffered<Recorder>, lens: &[usize], end:
     assert_eq!(rt; asked, end);
 }
 
+// Writes the line of the name and a digest of MD5.
 fn put_md5_line(
     rt: &impl Abort,
     buffer: &mut Buffered<Recorder>,
