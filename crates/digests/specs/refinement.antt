@@ -1,4 +1,3 @@
--- How the code's values stand for those of the definitions. The headline reaches none of it; contracts of calls that a
--- user of the crate meets by themselves name some.
+-- How the code's values stand for those of the definitions. The headline and the program's contract reach none of it.
 pub mod Endings
 pub mod Operands

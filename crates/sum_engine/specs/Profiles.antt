@@ -5,6 +5,6 @@ use Rattle.sum_sources.specs.Contents.{Content}
 use Rattle.sum_sources.specs.ManifestLines.{lines, pieces}
 use Rattle.sum_lines.specs.Profiles.{Profile}
 
--- the lines of a content, each without a carriage return before its newline, unless the profile drops none
+-- the lines of a content, each without one carriage return at its end, unless the profile drops none
 abbrev pub lines_by : Profile → Content → List (List ℕ)
 lines_by p c = if p.drops_return then lines c else pieces c

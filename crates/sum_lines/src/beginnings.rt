@@ -22,8 +22,8 @@ pub(crate) enum Beginning {
     Digits(usize),
 }
 
-/// What a line of these algorithms begins with. None where it is neither tagged nor plain. A call
-/// of its own, so that an ignored line needs no room for it.
+/// What a line of these algorithms begins with. None only where it is neither tagged nor plain. A call of its own, so
+/// that an ignored line needs no room for it.
 #[inline(never)]
 pub(crate) fn find_beginning(algos: Algos, line: &[u8]) -> Option<Beginning>
     ensures tagged { IfNone result (None ≡ tagged_parts algos line.now) }
@@ -55,8 +55,8 @@ fn tag_in(algos: Algos, text: &[u8]) -> Option<Algo>
     }
 }
 
-// The place of the blank behind the digits, where something stands behind that. None where no plain line has such a
-// text. The digits themselves aren't looked at.
+// The place of the blank behind the digits, where something stands behind that. None only where no plain line has such
+// a text. The digits themselves aren't looked at.
 fn digits_end(algo: Algo, text: &[u8]) -> Option<usize>
     ensures none { IfNone result ((e : Bool) → None ≡ plain_as algo e text.now) }
     ensures some { IfSome result (EndsDigits algo text.now) }

@@ -170,7 +170,7 @@ impl<I: Input> LineReader<I> {
         }
     }
 
-    // Reads the next piece behind an empty line, with its carriage return.
+    // Reads the next piece, with its carriage return, into a line that is empty.
     fn read_on<A: Allocator>(&mut self, line: &mut Vec<u8, A>) -> Result<Next, LineStop>
         requires empty { line.old.items ≡ [] }
         requires going { self.old.answer ≡ None }

@@ -1,5 +1,5 @@
-//! What the program writes on standard error where it does nothing else: for a fault in the words, for a tool that it
-//! doesn't know, and for a run that stopped.
+//! What the program itself writes on standard error: for a fault in the words, for a tool that it doesn't know, and for
+//! a run that stopped.
 ghost use Rattle.std.specs.Prelude.{◌≡◌, ◌++◌, codes};
 ghost use Rattle.sum_lines.specs.Sinks.{Writes};
 ghost use Rattle.sum_lines.specs.refinement.PartTexts.{part_text};

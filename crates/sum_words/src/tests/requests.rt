@@ -16,7 +16,10 @@ fn asked<'a>(tool: Tool, words: &'a Words<Global>) -> Result<Request<'a>, WordFa
 // The settings and operands of a request for lines.
 fn generation<'a>(asked: Result<Request<'a>, WordFault<'a>>) -> Option<(Settings, Operands<'a>)> {
     match asked {
-        Ok(Request::Work(Job::Generate(settings), operands)) => Some((settings, operands)),
+        Ok(Request::Work(job, operands)) => match job {
+            Job::Generate(settings) => Some((settings, operands)),
+            Job::Check(_) => None,
+        },
         _ => None,
     }
 }
@@ -26,7 +29,10 @@ fn checking<'a>(
     asked: Result<Request<'a>, WordFault<'a>>,
 ) -> Option<(CheckSettings, Operands<'a>)> {
     match asked {
-        Ok(Request::Work(Job::Check(settings), operands)) => Some((settings, operands)),
+        Ok(Request::Work(job, operands)) => match job {
+            Job::Check(settings) => Some((settings, operands)),
+            Job::Generate(_) => None,
+        },
         _ => None,
     }
 }
