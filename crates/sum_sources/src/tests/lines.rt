@@ -1,57 +1,13 @@
 //! `LineReader` over told manifests.
-use super::{read, repeated, told};
 use crate::{Ending, Fault, Input, LineReader, LineStop, Next, Told};
 use linked_list_allocator::LocalHeap;
-use std::alloc::{Allocator, Global};
 use std::process::Abort;
 use std::test::Fail;
 
-fn reader_over<I: Input>(input: I) -> LineReader<I> {
-    LineReader::new(input)
-}
-
-// A reader of the lines of these bytes.
-fn reader_of<'a>(content: &'a [u8], ending: Ending, piece: usize) -> LineReader<Told<'a>> {
-    reader_over(told(content, ending, piece))
-}
-
-fn next(
-    reader: &mut LineReader<impl Input>,
-    line: &mut Vec<u8, impl Allocator>,
-) -> Result<Next, LineStop> {
-    reader.next_line(line)
-}
-
-fn taken(reader: &LineReader<impl Input>) -> u64 {
-    reader.taken()
-}
-
-fn lines_given(reader: &LineReader<impl Input>) -> u64 {
-    reader.lines()
-}
-
 // The reader gives this line.
-fn gives(
-    rt: &impl Abort,
-    reader: &mut LineReader<impl Input>,
-    line: &mut Vec<u8, impl Allocator>,
-    want: &[u8],
-) {
-    assert!(rt; next(reader, line) == Ok(Next::Line));
+fn gives(rt: &impl Abort, reader: &mut LineReader<impl Input>, line: &mut Vec<u8>, want: &[u8]) {
+    assert!(rt; reader.next_line(line) == Ok(Next::Line));
     assert_eq!(rt; line.as_slice(), want);
-}
-
-// The reader answers so, as often as this.
-fn ends_by(
-    rt: &impl Abort,
-    reader: &mut LineReader<impl Input>,
-    line: &mut Vec<u8, impl Allocator>,
-    end: Result<Next, LineStop>,
-    times: usize,
-) {
-    for _ in 0..times {
-        assert!(rt; next(reader, line) == end);
-    }
 }
 
 // The reader gives just these lines, and then answers `end` twice.
@@ -64,14 +20,16 @@ fn reads(
 ) {
     for piece in [1, 3, 8192] {
         let mut line = Vec::new(rt.alloc());
-        let mut reader = reader_of(content, ending, piece);
+        let mut reader = LineReader::new(Told::new(content, ending, piece));
         for want in lines {
             gives(rt, &mut reader, &mut line, want);
         }
-        assert!(rt; lines_given(&reader) == lines.len() as u64);
-        ends_by(rt, &mut reader, &mut line, end, 2);
-        assert!(rt; lines_given(&reader) == lines.len() as u64);
-        assert!(rt; taken(&reader) == content.len() as u64);
+        assert!(rt; reader.lines() == lines.len() as u64);
+        for _ in 0..2 {
+            assert!(rt; reader.next_line(&mut line) == end);
+        }
+        assert!(rt; reader.lines() == lines.len() as u64);
+        assert!(rt; reader.taken() == content.len() as u64);
     }
 }
 
@@ -153,51 +111,41 @@ fn carriage_returns(rt: HostRuntime) {
     );
 }
 
-// The same line so often, each time ended by a newline.
-fn lines_of(alloc: Global, line: &[u8], times: usize) -> Result<Vec<u8>, Fail> {
-    let mut content = Vec::new(alloc);
-    for _ in 0..times {
-        content.extend_from_slice(line)?;
-        content.push(b'\n')?;
-    }
-    Ok(content)
-}
-
-// These bytes are the long line three times, and no more is read ahead than the buffer holds.
-fn thrice(rt: &impl Abort, line: &mut Vec<u8>, content: &[u8], long: &[u8]) {
-    let mut reader = reader_of(content, Ending::Whole, 8192);
-    gives(rt, &mut reader, line, long);
-    let once = taken(&reader);
-    assert!(rt; once >= 6001 && once <= 14_193);
-    gives(rt, &mut reader, line, long);
-    gives(rt, &mut reader, line, long);
-    ends_by(rt, &mut reader, line, Ok(Next::NoMore), 1);
-    assert!(rt; taken(&reader) == 18_003);
-}
-
-// Lines longer than the buffer.
+// Lines longer than the buffer, and no more read ahead than that.
 #[test]
 fn long_lines(rt: HostRuntime) -> Result<(), Fail> {
-    let long = repeated(rt.alloc(), b'x', 6000)?;
-    let content = lines_of(rt.alloc(), &long, 3)?;
-    thrice(&rt, &mut Vec::new(rt.alloc()), &content, &long);
+    let mut content = Vec::new(rt.alloc());
+    let long = vec![in rt.alloc(); b'x'; 6000]?;
+    for _ in 0..3 {
+        content.extend_from_slice(&long)?;
+        content.push(b'\n')?;
+    }
+    let mut line = Vec::new(rt.alloc());
+    let mut reader = LineReader::new(Told::new(&content, Ending::Whole, 8192));
+    gives(&rt, &mut reader, &mut line, &long);
+    assert!(rt; reader.taken() >= 6001 && reader.taken() <= 14_193);
+    gives(&rt, &mut reader, &mut line, &long);
+    gives(&rt, &mut reader, &mut line, &long);
+    assert!(rt; reader.next_line(&mut line) == Ok(Next::NoMore));
+    assert!(rt; reader.taken() == 18_003);
     Ok(())
 }
 
-// There is room for the first line of these bytes and none for the second.
-fn second_refused(rt: &impl Abort, line: &mut Vec<u8, impl Allocator>, content: &[u8]) {
-    let mut reader = reader_of(content, Ending::Whole, 8192);
-    gives(rt, &mut reader, line, b"one");
-    ends_by(rt, &mut reader, line, Err(LineStop::Memory), 3);
-    assert!(rt; lines_given(&reader) == 1);
-}
-
+// The heap has room for the first line and none for the second.
 #[test]
 fn memory_refused(rt: HostRuntime) -> Result<(), Fail> {
     let mut content = Vec::from_slice(rt.alloc(), b"one\n")?;
-    content.extend_from_slice(&repeated(rt.alloc(), b'x', 5000)?)?;
+    let long = vec![in rt.alloc(); b'x'; 5000]?;
+    content.extend_from_slice(&long)?;
     let heap = LocalHeap::new(rt.alloc(), 256)?;
-    second_refused(&rt, &mut Vec::new(&heap), &content);
+    let mut line = Vec::new(&heap);
+    let mut reader = LineReader::new(Told::new(&content, Ending::Whole, 8192));
+    assert!(rt; reader.next_line(&mut line) == Ok(Next::Line));
+    assert_eq!(rt; line.as_slice(), b"one".as_slice());
+    for _ in 0..3 {
+        assert!(rt; reader.next_line(&mut line) == Err(LineStop::Memory));
+    }
+    assert!(rt; reader.lines() == 1);
     Ok(())
 }
 
@@ -205,11 +153,11 @@ fn memory_refused(rt: HostRuntime) -> Result<(), Fail> {
 #[test]
 fn input_given_back(rt: HostRuntime) {
     let mut line = Vec::new(rt.alloc());
-    let mut reader = reader_of(b"one\ntwo\nthree", Ending::Whole, 6);
+    let mut reader = LineReader::new(Told::new(b"one\ntwo\nthree", Ending::Whole, 6));
     gives(&rt, &mut reader, &mut line, b"one");
-    assert!(rt; taken(&reader) == 6);
+    assert!(rt; reader.taken() == 6);
     let mut buf = [0; 8];
     let mut input = reader.into_inner();
-    assert!(rt; read(&mut input, &mut buf) == Ok(6));
+    assert!(rt; input.read(&mut buf) == Ok(6));
     assert!(rt; buf.starts_with(b"o\nthre"));
 }

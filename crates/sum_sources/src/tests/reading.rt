@@ -1,9 +1,7 @@
 //! Inputs over readers, and the answers of told inputs.
-use super::{answers, fills, read, told};
-use crate::{Ending, Fault, FromRead, Given, LineStop, NoRoom, OpenFault, Stdin, Told};
-use std::fmt::Display;
+use crate::{Ending, Fault, FromRead, Given, Input, LineStop, NoRoom, OpenFault, Stdin, Told};
 use std::io::{self, ErrorKind, Read};
-use std::process::Abort;
+use std::test::Fail;
 
 // A reader that is interrupted so often before each read, and then gives one byte or fails.
 #[derive(Drop)]
@@ -44,9 +42,10 @@ fn interruptions(rt: HostRuntime) {
     let mut buf = [0; 4];
     let mut often = reader_of(999, Ok(7));
     for _ in 0..3 {
-        fills(&rt, &mut often, &mut buf, 1, &[7, 0, 0, 0]);
+        assert!(rt; often.read(&mut buf) == Ok(1));
+        assert_eq!(rt; buf, [7, 0, 0, 0]);
     }
-    answers(&rt, &mut reader_of(1000, Ok(7)), &[Err(Fault::Other)]);
+    assert!(rt; reader_of(1000, Ok(7)).read(&mut buf) == Err(Fault::Other));
 }
 
 #[test]
@@ -58,7 +57,7 @@ fn kinds_of_faults(rt: HostRuntime) {
         (ErrorKind::OutOfMemory, Fault::Other),
     ] {
         let mut input = reader_of(2, Err(io::Error::from(kind)));
-        answers(&rt, &mut input, &[Err(fault)]);
+        assert!(rt; input.read(&mut [0; 4]) == Err(fault));
     }
 }
 
@@ -89,64 +88,66 @@ impl Read for LateByte {
 fn nothing_yet(rt: HostRuntime) {
     let mut buf = [0; 4];
     let mut input = FromRead::new(LateByte { is_there: false });
-    assert!(rt; read(&mut input, &mut buf) == Err(Fault::Other));
+    assert!(rt; input.read(&mut buf) == Err(Fault::Other));
     assert_eq!(rt; buf, [0; 4]);
 }
 
-// The value is shown as this text.
-fn is_shown(rt: &(impl Abort + AllocGlobal), value: &impl Display, text: &str) {
-    let Ok(shown) = format!(in rt.alloc(); "{value}") else {
-        panic!(rt; "no memory");
-    };
-    assert!(rt; shown.as_str() == text);
-}
-
-// The fault has this text, and is shown by it, also as the reason for what failed.
-fn has_text(rt: &(impl Abort + AllocGlobal), fault: Fault, text: &str) {
-    assert_eq!(rt; fault.text(), text);
-    is_shown(rt, &fault, text);
-    is_shown(rt, &OpenFault::Fault(fault), text);
-    is_shown(rt, &LineStop::Fault(fault), text);
+#[test]
+fn texts_of_faults(rt: HostRuntime) -> Result<(), Fail> {
+    for (fault, text) in [
+        (Fault::NotFound, "No such file or directory"),
+        (Fault::Denied, "Permission denied"),
+        (Fault::Other, "Input/output error"),
+    ] {
+        assert_eq!(rt; fault.text(), text);
+        assert_eq!(rt; format!(in rt.alloc(); "{fault}")?.as_str(), text);
+        let opening = OpenFault::Fault(fault);
+        assert_eq!(rt; format!(in rt.alloc(); "{opening}")?.as_str(), text);
+        let reading = LineStop::Fault(fault);
+        assert_eq!(rt; format!(in rt.alloc(); "{reading}")?.as_str(), text);
+    }
+    let (opening, reading, adding) = (OpenFault::Memory, LineStop::Memory, NoRoom);
+    let texts = format!(in rt.alloc(); "{opening}, {reading}, {adding}")?;
+    assert_eq!(rt;
+        texts.as_str(),
+        "memory exhausted, memory exhausted, memory exhausted"
+    );
+    Ok(())
 }
 
 #[test]
-fn texts_of_faults(rt: HostRuntime) {
-    has_text(&rt, Fault::NotFound, "No such file or directory");
-    has_text(&rt, Fault::Denied, "Permission denied");
-    has_text(&rt, Fault::Other, "Input/output error");
-    is_shown(&rt, &OpenFault::Memory, "memory exhausted");
-    is_shown(&rt, &LineStop::Memory, "memory exhausted");
-    is_shown(&rt, &NoRoom, "memory exhausted");
-}
-
-#[test]
-fn reader_given_back(rt: HostRuntime) {
+fn reader_given_back(rt: HostRuntime) -> Result<(), Fail> {
     let mut buf = [0; 4];
     let mut input = FromRead::new(LateByte { is_there: false });
-    answers(&rt, &mut input, &[Err(Fault::Other)]);
+    assert!(rt; input.read(&mut buf) == Err(Fault::Other));
     let mut reader = input.into_inner();
     assert!(rt; reader.is_there);
     assert!(rt; reader.read(&mut buf).ok() == Some(1));
     assert_eq!(rt; buf, [7, 0, 0, 0]);
+    Ok(())
 }
 
 // Two bytes a read, a piece of 0 counting as 1.
 #[test]
 fn told_pieces(rt: HostRuntime) {
     let mut buf = [0; 4];
-    let mut input = told(b"abc", Ending::Broken(Fault::Denied), 2);
-    assert!(rt; read(&mut input, &mut []) == Ok(0));
-    fills(&rt, &mut input, &mut buf, 2, b"ab\0\0");
-    fills(&rt, &mut input, &mut buf, 1, b"cb\0\0");
-    answers(&rt, &mut input, &[Err(Fault::Denied)]);
-    answers(&rt, &mut told(b"abc", Ending::Whole, 0), &[Ok(1)]);
+    let mut input = Told::new(b"abc", Ending::Broken(Fault::Denied), 2);
+    assert!(rt; input.read(&mut []) == Ok(0));
+    assert!(rt; input.read(&mut buf) == Ok(2));
+    assert_eq!(rt; buf, *b"ab\0\0");
+    assert!(rt; input.read(&mut buf) == Ok(1));
+    assert_eq!(rt; buf, *b"cb\0\0");
+    assert!(rt; input.read(&mut buf) == Err(Fault::Denied));
+    assert!(rt; Told::new(b"abc", Ending::Whole, 0).read(&mut buf) == Ok(1));
 }
 
 #[test]
 fn standard_input_once(rt: HostRuntime) {
-    let mut stdin = Stdin::new(told(b"abc", Ending::Whole, 8));
+    let mut buf = [0; 4];
+    let mut stdin = Stdin::new(Told::new(b"abc", Ending::Whole, 8));
     let mut first: Given<Told> = stdin.take();
     let mut second = stdin.take();
-    answers(&rt, &mut second, &[Ok(0)]);
-    answers(&rt, &mut first, &[Ok(3), Ok(0)]);
+    assert!(rt; second.read(&mut buf) == Ok(0));
+    assert!(rt; first.read(&mut buf) == Ok(3));
+    assert!(rt; first.read(&mut buf) == Ok(0));
 }
