@@ -299,6 +299,10 @@ class Recipes(Case):
                     self.assertEqual(self.fails(recipe, shell).out, b"")
                 self.passes(self.recipe(page, "check list"))
                 self.assertEqual(self.fails(self.recipe(page, "unlisted")), Ran(1, b"./image.iso\n", b""))
+            for name in (b"./image.iso", b"  ./image.iso", b" (./image.iso) = "):
+                self.put("SUMS", b"".join(name + b"\n" if line == image else line for line in whole))
+                self.fails(self.recipe(page, "check list"))
+                self.assertEqual(self.fails(self.recipe(page, "unlisted")), Ran(1, b"./image.iso\n", b""))
 
     def test_a_name_within_another(self):
         """One file's check doesn't pass by another whose name holds its own as a line would."""

@@ -135,9 +135,9 @@ LIMITS = (
     "newline, what stands before that is read as a line.",
     "A file of 2^61 bytes or more is an `Input/output error`.",
     "One line is held in memory at a time, however long the manifest is.",
-    "The stack has to have 64 KiB, and more where the environment is large. With 48 KiB a signal may end the program, "
-    "without a word. So does one where an output would grow past the limit on a file's size (`ulimit -f`), unless the "
-    "caller ignores it.",
+    "The stack has to have 64 KiB, and more where the words or the environment are large. With 48 KiB a signal may "
+    "end the program, without a word. So does one where an output would grow past the limit on a file's size "
+    "(`ulimit -f`), unless the caller ignores it.",
     "A line of up to 8,192 bytes goes to the system in one piece. So where several runs share one open file, as under "
     "`xargs -P`, no such line is torn. Into one pipe, Linux keeps up to 4,096 bytes together. A longer line may be "
     "torn.",
@@ -183,8 +183,8 @@ DIFFERENCES = (
     "`head`(1). GNU's tools still read all other files, and tell the reason of some write errors; a signal ends them "
     "where the reader goes away.",
     "The language that is set and `POSIXLY_CORRECT` have no effect.",
-    "`--help` and `--version` print other texts. The message of an option that is cut too short doesn't name those "
-    "that are possible, and that of an unknown one not its value.",
+    "`--help` and `--version` print other texts. The message of an option that is unknown or cut too short doesn't "
+    "name its value, nor the options that are possible.",
 )
 
 DIFFERENCES_OF_B2SUM = (
@@ -235,14 +235,15 @@ RECIPES_OF_FOLDERS = (
     ("One of the listed files only, by its whole line. Where `grep`(1) finds none, the check fails, since its list is "
      "empty. Give one name at a time: of two, one that isn't found would not be missed.",
      "{grep} SUMS | {tool} -c --strict"),
-    ("Files that no line of the list names, as it would write them, in `bash`(1). A check doesn't tell of them. The "
-     "status is 0 only where there is none, and all folders could be read. Links, pipes and devices are left out:",
+    ("Files that no line of the list names, as it would write them, in `bash`(1). A check doesn't tell of them. Check "
+     "the list with `--strict` first: a line whose digits are damaged may name a file here. The status is 0 only where "
+     "there is none, and all folders could be read. Links, pipes and devices are left out:",
      "(set -o pipefail; export LC_ALL=C",
      "at=$(mktemp -d) && trap 'rm -r \"$at\"' EXIT &&",
      "find . -type f ! -path ./SUMS -print0 |",
      "    sed -z 's/\\\\/\\\\\\\\/g; s/\\n/\\\\n/g; s/\\r/\\\\r/g' |",
      "    tr '\\0' '\\n' | sort > \"$at/files\" &&",
-     "sed -E '{form}' SUMS |",
+     "sed -nE '{form}' SUMS |",
      "    sort > \"$at/listed\" &&",
      "comm -23 \"$at/files\" \"$at/listed\" > \"$at/others\" &&",
      "cat \"$at/others\" && [ ! -s \"$at/others\" ])"),
@@ -279,8 +280,8 @@ EXAMPLES_OF_PROGRAM = (RECIPE_OF_A_FILE, RECIPE_OF_ITS_CHECK, *RECIPES_OF_SEVERA
                        *RECIPES_OF_PIPES)
 
 # For lines of the plain and of the tagged form: how sed takes them down to their names, and how grep finds one.
-PLAIN = (r"s/^\\?[0-9a-f]+ [ *]//", r"grep -x '[0-9a-f]*  \./image\.iso'")
-TAGGED = (r"s/^\\?[^#(]+\((.*)\) = [0-9a-f]+$/\1/", r"grep -x '[^ ]* (\./image\.iso) = [0-9a-f]*'")
+PLAIN = (r"s/^\\?[0-9a-f]+ [ *]//p", r"grep -x '[0-9a-f]*  \./image\.iso'")
+TAGGED = (r"s/^\\?[^#(]+\((.*)\) = [0-9a-f]+$/\1/p", r"grep -x '[^ ]* (\./image\.iso) = [0-9a-f]*'")
 
 
 def examples(name):
