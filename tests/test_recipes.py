@@ -399,6 +399,16 @@ class Recipes(Case):
                 self.assertEqual(sorted(self.read("here/SUMS").splitlines()), before)
                 self.passes(self.recipe(page, "unlisted"))
 
+    def test_a_shell_that_does_nothing(self):
+        """A user's own shell may be a command that starts nothing and answers 0."""
+        self.env["SHELL"] = shutil.which("true")
+        for page in KINDS_OF_PAGES:
+            self.make()
+            self.passes(self.recipe(page, "list"))
+            self.put("-x", "changed")
+            for recipe, _, shell in self.each(page, "check list on all"):
+                self.assertEqual(self.fails(recipe, shell).out, b"./-x: FAILED\n")
+
     def test_runs_that_go_on(self):
         """Where one run fails, `split` ends, and the lines of the others come later."""
         self.command("nproc", "echo 2")
