@@ -72,7 +72,7 @@ CHECKING = (
     "Empty lines, and lines that begin with `#`, are passed over. A carriage return at a line's end is dropped. Blanks "
     "at its beginning are passed over, and digits of either case are read. In the tagged form the space before the "
     "parenthesis may be missing, and there may be none or several about the equals sign.",
-    "On standard output, for each listed file:",
+    "On standard output, for each listed file; where its name is escaped, a backslash stands before the line:",
     "Behind the last line of a manifest, standard error tells how many lines were improperly formatted, how many files "
     "could not be read, and how many checksums did not match. Not with `--status`. Of a manifest that lists nothing, "
     "or that can't be read to its end, it tells that alone, with every option.",

@@ -123,7 +123,8 @@ def exit_status():
 def diagnostics(tool):
     named = {mark.replace("{TAG}", texts.TOOLS[tool][1] or "tagged"): text for mark, text in texts.DIAGNOSTICS.items()}
     return section("DIAGNOSTICS", f"Each is a line on standard error that begins with `{tool}:` and a space. Names are "
-                   "escaped as in the lines of checksums; a manifest that is `-` is named `standard input`.",
+                   "escaped as in the lines of checksums, with no backslash before the line; a manifest that is `-` is "
+                   "named `standard input`.",
                    *lines_of(named))
 
 
