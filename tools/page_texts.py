@@ -95,11 +95,13 @@ REPORTS = {
     "{NAME}: FAILED open or read": "It couldn't be read; standard error tells why. Not with `--status`.",
 }
 
+# The status 0 where lines are written, which `anysum` doesn't do; and behind that.
+STATUS_OF_WRITING = "Every file was read and its line written. With `--check`: every"
+
 STATUSES = {
-    "0": "Every file was read and its line written. With `--check`: every manifest was read to its end, lists a file "
-         "that has the right checksum, and none that has another or couldn't be read (with `--ignore-missing`, files "
-         "may be missing); and with `--strict` no line is improperly formatted. With `--help` or `--version`: the text "
-         "was written.",
+    "0": "Every manifest was read to its end, lists a file that has the right checksum, and none that has another or "
+         "couldn't be read (with `--ignore-missing`, files may be missing); and with `--strict` no line is improperly "
+         "formatted. With `--help` or `--version`: the text was written.",
     "1": "Anything else: also a fault of the options, memory that is refused, or an output that fails.",
     "127": "The program was built for later processors than this machine's. Nothing was done. Where the message names "
            "`x86-64-v3`, install the level `default`. Where it names `x86-64-v2`, that is the level `default`: there "
@@ -132,7 +134,7 @@ LIMITS = (
     "file of that call is read. A name in a manifest that isn't UTF-8 can't be opened.",
     "A directory is an `Input/output error`.",
     "Lines that were written with `--zero` can't be checked: they are improperly formatted. But where a name holds a "
-    "newline, what stands before that is read as a line.",
+    "newline, what stands before that may be read as a line.",
     "A file of 2^61 bytes or more is an `Input/output error`.",
     "One line is held in memory at a time, however long the manifest is.",
     "The stack has to have 64 KiB, and more where the words or the environment are large. With 48 KiB a signal may "
