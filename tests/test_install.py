@@ -364,6 +364,16 @@ class Install(Repository):
                 self.assertEqual(self.run_command([script, "--remove", again], **how), Ran(0, b"", b""))
                 self.assertEqual(os.listdir(self.path("inner")), [])
 
+    def test_a_prefix_with_a_backslash(self):
+        """It is told as it is."""
+        prefix = os.path.join(self.folder, "a\\tb\\c")
+        said = self.installs(prefix)
+        self.assertEqual(said, self.not_on_path.replace(self.prefix, prefix))
+        self.assertEqual([line.startswith(prefix) for line in self.told.splitlines()], [True] * 3)
+        self.removes(prefix)
+        self.assertEqual(self.installs("--remove", prefix, status=1),
+                         f"install: nothing is installed in {prefix}\ninstall: {prefix}: failed\n")
+
     def test_a_run_that_fails(self):
         """Without a note it leaves nothing behind, and what was there stays; with one, all of it can be taken away."""
         self.put("man/b2sum.1", "ours")
