@@ -231,8 +231,8 @@ RECIPES_OF_FOLDERS = (
      "{tool} -c --quiet --strict SUMS"),
     ("The same on all processors, for a list that was made as above: lines go to one run and the next in turn, and "
      "each run takes its own for a whole list. An empty list would pass `split`(1), so that is asked first. "
-     "`split` starts the runs by the shell that `SHELL` names, so that is set. Where one run fails, it doesn't wait for "
-     "the others, whose lines may come later:",
+     "`split` starts the runs by the shell that `SHELL` names, so that is set. Where one run fails, it doesn't wait "
+     "for the others, whose lines may come later:",
      "[ -s SUMS ] && SHELL=/bin/sh split -e -n \"r/$(nproc)\" \\",
      "    --filter='{tool} -c --quiet --strict' SUMS"),
     ("One of the listed files only, by its whole line. Where `grep`(1) finds none, the check fails, since its list is "
