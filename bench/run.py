@@ -326,6 +326,8 @@ def print_conditions(bench, rounds):
     for name, first in (*OTHERS.items(), (OPENSSL, "openssl")):
         if shutil.which(first) is None:
             print(f"{name}: not installed, left out")
+    if bench.bare is None:
+        print(f"{BARE}: left out")
 
 
 def model():

@@ -2,8 +2,8 @@
 """Runs the end-to-end tests of the built program: `run.py [--without-check] [--only WORD] [PROGRAM..]`.
 
 The tests run the program from the outside, on real files, pipes, terminals and devices; some look at the repository.
-With no PROGRAM it is this repository's own, for each level for which it is built. The last line counts the tests; the
-status is 1 where one failed, or none passed."""
+With no PROGRAM it is this repository's own, for each level for which it is built. Where tests ran, the last line
+counts them; the status is 1 where one failed, or none passed."""
 
 import argparse
 import collections

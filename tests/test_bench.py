@@ -32,6 +32,7 @@ class Words(Case):
         """A part can be measured alone; every row has a speed beside GNU, where that is installed, and quartiles."""
         ran = self.bench("--no-bare", "--rounds", "2", "--only", "start", "--program", harness.PROGRAM)
         self.assertEqual((ran.status, ran.err), (0, b""))
+        self.assertIn(b"\nkit's loop: left out\n", ran.out)
         for work in ("`sha256sum`, start", "`md5sum /dev/null`, start"):
             rows = [line for line in ran.out.decode().splitlines() if line.startswith(f"| {work} |")]
             self.assertEqual(len(rows), 2, ran.out)

@@ -72,11 +72,12 @@ class Messages(Described):
             self.assertNotEqual(ours.out, theirs.out)
 
     def test_options_that_are_cut_too_short(self):
-        """GNU's tools name those that are possible."""
+        """GNU's tools name those that are possible, and a value."""
         more = "Try 'md5sum --help' for more information."
         said = "md5sum: option '--st' is ambiguous"
-        theirs = f"{said}; possibilities: '--status' '--strict'"
-        self.expect_both("md5sum -c --st a", (1, b"", [said, more]), (1, b"", [theirs, more]))
+        for value in ("", "=x"):
+            theirs = f"md5sum: option '--st{value}' is ambiguous; possibilities: '--status' '--strict'"
+            self.expect_both(f"md5sum -c --st{value} a", (1, b"", [said, more]), (1, b"", [theirs, more]))
 
     def test_unknown_options(self):
         """GNU's tools name the value of one, too."""

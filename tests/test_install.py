@@ -357,11 +357,44 @@ class Install(Repository):
         self.assertEqual(self.run_command([installed + b"/md5sum", "a"]).out, f"{M}  a\n".encode())
         self.assertEqual(self.run_command([script, "--remove", "here/and\nthere/"], **how), Ran(0, b"", b""))
         self.assertEqual(os.listdir(self.path("inner")), [])
-        for prefix in ("one/two/.", "one/two/.//./"):
-            self.assertEqual(self.run_command([script, prefix], **how).status, 0)
-            self.assertEqual(set(os.listdir(self.path("inner/one/two"))), {b"bin", b"share"})
-            self.assertEqual(self.run_command([script, "--remove", prefix], **how), Ran(0, b"", b""))
-            self.assertEqual(os.listdir(self.path("inner")), [])
+        for prefix in ("one/two/.", "one/two/.//./", "one/./two", "one//two", "other/../one/two", "one/two/three/.."):
+            for again in (prefix, "one/two"):
+                self.assertEqual(self.run_command([script, prefix], **how).status, 0)
+                self.assertEqual(set(os.listdir(self.path("inner/one/two"))), {b"bin", b"share"})
+                self.assertEqual(self.run_command([script, "--remove", again], **how), Ran(0, b"", b""))
+                self.assertEqual(os.listdir(self.path("inner")), [])
+
+    def test_a_prefix_with_a_backslash(self):
+        """It is told as it is."""
+        prefix = os.path.join(self.folder, "a\\tb\\c")
+        said = self.installs(prefix)
+        self.assertEqual(said, self.not_on_path.replace(self.prefix, prefix))
+        self.assertEqual([line.startswith(prefix) for line in self.told.splitlines()], [True] * 3)
+        self.removes(prefix)
+        self.assertEqual(self.installs("--remove", prefix, status=1),
+                         f"install: nothing is installed in {prefix}\ninstall: {prefix}: failed\n")
+
+    def test_a_run_that_fails(self):
+        """Without a note it leaves nothing behind, and what was there stays; with one, all of it can be taken away."""
+        self.put("man/b2sum.1", "ours")
+        for there in ("bin", "share/man", None):
+            for command, noted in (("cp", False), ("awk", False), ("ln", True)):
+                with self.subTest(there=there, command=command):
+                    if there:
+                        os.makedirs(os.path.join(self.prefix, there))
+                    before = self.tree()
+                    self.write(f"commands/{command}", "#!/bin/sh\nexit 1\n")
+                    os.chmod(self.path(f"commands/{command}"), 0o755)
+                    self.assertIn("failed\n", self.installs(status=1))
+                    os.remove(self.path(f"commands/{command}"))
+                    self.assertEqual(os.path.exists(os.path.join(self.prefix, "share/digests/installed")), noted)
+                    if noted:
+                        self.removes()
+                    self.assertEqual((self.tree(), os.path.exists(self.prefix)), (before, bool(there)))
+                    self.installs()
+                    self.removes()
+                    self.assertEqual((self.tree(), os.path.exists(self.prefix)), (before, bool(there)))
+                    shutil.rmtree(self.prefix, ignore_errors=True)
 
     def test_a_stage(self):
         """With DESTDIR all goes below that folder, and the note doesn't name it."""

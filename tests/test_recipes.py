@@ -299,6 +299,10 @@ class Recipes(Case):
                     self.assertEqual(self.fails(recipe, shell).out, b"")
                 self.passes(self.recipe(page, "check list"))
                 self.assertEqual(self.fails(self.recipe(page, "unlisted")), Ran(1, b"./image.iso\n", b""))
+            for name in (b"./image.iso", b"  ./image.iso", b" (./image.iso) = "):
+                self.put("SUMS", b"".join(name + b"\n" if line == image else line for line in whole))
+                self.fails(self.recipe(page, "check list"))
+                self.assertEqual(self.fails(self.recipe(page, "unlisted")), Ran(1, b"./image.iso\n", b""))
 
     def test_a_name_within_another(self):
         """One file's check doesn't pass by another whose name holds its own as a line would."""
@@ -394,6 +398,16 @@ class Recipes(Case):
                 self.passes(recipe, shell=shell)
                 self.assertEqual(sorted(self.read("here/SUMS").splitlines()), before)
                 self.passes(self.recipe(page, "unlisted"))
+
+    def test_a_shell_that_does_nothing(self):
+        """A user's own shell may be a command that starts nothing and answers 0."""
+        self.env["SHELL"] = shutil.which("true")
+        for page in KINDS_OF_PAGES:
+            self.make()
+            self.passes(self.recipe(page, "list"))
+            self.put("-x", "changed")
+            for recipe, _, shell in self.each(page, "check list on all"):
+                self.assertEqual(self.fails(recipe, shell).out, b"./-x: FAILED\n")
 
     def test_runs_that_go_on(self):
         """Where one run fails, `split` ends, and the lines of the others come later."""

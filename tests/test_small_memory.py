@@ -93,3 +93,18 @@ class SmallMemory(Case):
         warning = b"md5sum: WARNING: 1 computed checksum did NOT match\n"
         self.sweep("md5sum -c l", Ran(1, b"a: OK\ne: FAILED\n", warning), Ran(1, b"", NOT_READ), Ran(1, b"", stop),
                    Ran(1, b"a: OK\n", stop))
+
+
+@needs_check
+class SmallStack(Case):
+    """A limit on the stack, with no environment."""
+
+    def test_64_kib(self):
+        """That is enough, for each tool."""
+        for tool, (_, _, of_abc) in harness.TOOLS.items():
+            self.write("l", self.run_words([tool, "--tag", "a"]).out)
+            for words, out in (([tool, "a"], f"{of_abc}  a\n"), ([tool, "-c", "l"], "a: OK\n"),
+                               (["anysum", "-c", "l"], "a: OK\n")):
+                script = 'ulimit -s 64 || exit 125; exec env -i "$0" "$@"'
+                ran = self.run_command(["sh", "-c", script, harness.PROGRAM, *words])
+                self.assertEqual(ran, Ran(0, out.encode(), b""), words)

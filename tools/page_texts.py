@@ -72,7 +72,7 @@ CHECKING = (
     "Empty lines, and lines that begin with `#`, are passed over. A carriage return at a line's end is dropped. Blanks "
     "at its beginning are passed over, and digits of either case are read. In the tagged form the space before the "
     "parenthesis may be missing, and there may be none or several about the equals sign.",
-    "On standard output, for each listed file:",
+    "On standard output, for each listed file; where its name is escaped, a backslash stands before the line:",
     "Behind the last line of a manifest, standard error tells how many lines were improperly formatted, how many files "
     "could not be read, and how many checksums did not match. Not with `--status`. Of a manifest that lists nothing, "
     "or that can't be read to its end, it tells that alone, with every option.",
@@ -95,11 +95,13 @@ REPORTS = {
     "{NAME}: FAILED open or read": "It couldn't be read; standard error tells why. Not with `--status`.",
 }
 
+# The status 0 where lines are written, which `anysum` doesn't do; and behind that.
+STATUS_OF_WRITING = "Every file was read and its line written. With `--check`: every"
+
 STATUSES = {
-    "0": "Every file was read and its line written. With `--check`: every manifest was read to its end, lists a file "
-         "that has the right checksum, and none that has another or couldn't be read (with `--ignore-missing`, files "
-         "may be missing); and with `--strict` no line is improperly formatted. With `--help` or `--version`: the text "
-         "was written.",
+    "0": "Every manifest was read to its end, lists a file that has the right checksum, and none that has another or "
+         "couldn't be read (with `--ignore-missing`, files may be missing); and with `--strict` no line is improperly "
+         "formatted. With `--help` or `--version`: the text was written.",
     "1": "Anything else: also a fault of the options, memory that is refused, or an output that fails.",
     "127": "The program was built for later processors than this machine's. Nothing was done. Where the message names "
            "`x86-64-v3`, install the level `default`. Where it names `x86-64-v2`, that is the level `default`: there "
@@ -132,12 +134,12 @@ LIMITS = (
     "file of that call is read. A name in a manifest that isn't UTF-8 can't be opened.",
     "A directory is an `Input/output error`.",
     "Lines that were written with `--zero` can't be checked: they are improperly formatted. But where a name holds a "
-    "newline, what stands before that is read as a line.",
+    "newline, what stands before that may be read as a line.",
     "A file of 2^61 bytes or more is an `Input/output error`.",
     "One line is held in memory at a time, however long the manifest is.",
-    "The stack has to have 64 KiB, and more where the environment is large. With 48 KiB a signal may end the program, "
-    "without a word. So does one where an output would grow past the limit on a file's size (`ulimit -f`), unless the "
-    "caller ignores it.",
+    "The stack has to have 64 KiB, and more where the words or the environment are large. With 48 KiB a signal may "
+    "end the program, without a word. So does one where an output would grow past the limit on a file's size "
+    "(`ulimit -f`), unless the caller ignores it.",
     "A line of up to 8,192 bytes goes to the system in one piece. So where several runs share one open file, as under "
     "`xargs -P`, no such line is torn. Into one pipe, Linux keeps up to 4,096 bytes together. A longer line may be "
     "torn.",
@@ -183,8 +185,8 @@ DIFFERENCES = (
     "`head`(1). GNU's tools still read all other files, and tell the reason of some write errors; a signal ends them "
     "where the reader goes away.",
     "The language that is set and `POSIXLY_CORRECT` have no effect.",
-    "`--help` and `--version` print other texts. The message of an option that is cut too short doesn't name those "
-    "that are possible, and that of an unknown one not its value.",
+    "`--help` and `--version` print other texts. The message of an option that is unknown or cut too short doesn't "
+    "name its value, nor the options that are possible.",
 )
 
 DIFFERENCES_OF_B2SUM = (
@@ -229,20 +231,22 @@ RECIPES_OF_FOLDERS = (
      "{tool} -c --quiet --strict SUMS"),
     ("The same on all processors, for a list that was made as above: lines go to one run and the next in turn, and "
      "each run takes its own for a whole list. An empty list would pass `split`(1), so that is asked first. "
-     "Where one run fails, `split` doesn't wait for the others, whose lines may come later:",
-     "[ -s SUMS ] && split -e -n \"r/$(nproc)\" \\",
+     "`split` starts the runs by the shell that `SHELL` names, so that is set. Where one run fails, it doesn't wait "
+     "for the others, whose lines may come later:",
+     "[ -s SUMS ] && SHELL=/bin/sh split -e -n \"r/$(nproc)\" \\",
      "    --filter='{tool} -c --quiet --strict' SUMS"),
     ("One of the listed files only, by its whole line. Where `grep`(1) finds none, the check fails, since its list is "
      "empty. Give one name at a time: of two, one that isn't found would not be missed.",
      "{grep} SUMS | {tool} -c --strict"),
-    ("Files that no line of the list names, as it would write them, in `bash`(1). A check doesn't tell of them. The "
-     "status is 0 only where there is none, and all folders could be read. Links, pipes and devices are left out:",
+    ("Files that no line of the list names, as it would write them, in `bash`(1). A check doesn't tell of them. Check "
+     "the list with `--strict` first: a line whose digits are damaged may name a file here. The status is 0 only where "
+     "there is none, and all folders could be read. Links, pipes and devices are left out:",
      "(set -o pipefail; export LC_ALL=C",
      "at=$(mktemp -d) && trap 'rm -r \"$at\"' EXIT &&",
      "find . -type f ! -path ./SUMS -print0 |",
      "    sed -z 's/\\\\/\\\\\\\\/g; s/\\n/\\\\n/g; s/\\r/\\\\r/g' |",
      "    tr '\\0' '\\n' | sort > \"$at/files\" &&",
-     "sed -E '{form}' SUMS |",
+     "sed -nE '{form}' SUMS |",
      "    sort > \"$at/listed\" &&",
      "comm -23 \"$at/files\" \"$at/listed\" > \"$at/others\" &&",
      "cat \"$at/others\" && [ ! -s \"$at/others\" ])"),
@@ -279,8 +283,8 @@ EXAMPLES_OF_PROGRAM = (RECIPE_OF_A_FILE, RECIPE_OF_ITS_CHECK, *RECIPES_OF_SEVERA
                        *RECIPES_OF_PIPES)
 
 # For lines of the plain and of the tagged form: how sed takes them down to their names, and how grep finds one.
-PLAIN = (r"s/^\\?[0-9a-f]+ [ *]//", r"grep -x '[0-9a-f]*  \./image\.iso'")
-TAGGED = (r"s/^\\?[^#(]+\((.*)\) = [0-9a-f]+$/\1/", r"grep -x '[^ ]* (\./image\.iso) = [0-9a-f]*'")
+PLAIN = (r"s/^\\?[0-9a-f]+ [ *]//p", r"grep -x '[0-9a-f]*  \./image\.iso'")
+TAGGED = (r"s/^\\?[^#(]+\((.*)\) = [0-9a-f]+$/\1/p", r"grep -x '[^ ]* (\./image\.iso) = [0-9a-f]*'")
 
 
 def examples(name):

@@ -116,14 +116,18 @@ def checking(tool):
     return section("CHECKING", *before, lines, reports, *lines_of(texts.REPORTS), after)
 
 
-def exit_status():
-    return section("EXIT STATUS", *lines_of(texts.STATUSES))
+def exit_status(tool):
+    table = texts.STATUSES
+    if tool != "anysum":
+        table = {**table, "0": table["0"].replace("Every", texts.STATUS_OF_WRITING, 1)}
+    return section("EXIT STATUS", *lines_of(table))
 
 
 def diagnostics(tool):
     named = {mark.replace("{TAG}", texts.TOOLS[tool][1] or "tagged"): text for mark, text in texts.DIAGNOSTICS.items()}
     return section("DIAGNOSTICS", f"Each is a line on standard error that begins with `{tool}:` and a space. Names are "
-                   "escaped as in the lines of checksums; a manifest that is `-` is named `standard input`.",
+                   "escaped as in the lines of checksums, with no backslash before the line; a manifest that is `-` is "
+                   "named `standard input`.",
                    *lines_of(named))
 
 
@@ -157,7 +161,7 @@ def see_also(tool):
 
 def page_of_tool(tool, known):
     return page(tool, texts.DATE, f"digests {version()}", name_section(tool), synopsis(tool), description(tool),
-                options(tool, known), line_formats(tool), checking(tool), exit_status(),
+                options(tool, known), line_formats(tool), checking(tool), exit_status(tool),
                 diagnostics(tool), examples(tool), section("LIMITS", *texts.LIMITS), security(tool),
                 differences(tool), see_also(tool))
 
@@ -173,7 +177,7 @@ def page_of_program():
                 section("SYNOPSIS", [".nf", *(inline(f"{use} [{{WORD}}]...") for use in texts.PROGRAM_USES), ".fi"]),
                 section("DESCRIPTION", *texts.PROGRAM, *tools),
                 section("OPTIONS", texts.PROGRAM_OPTIONS), section("LINE FORMATS", texts.PROGRAM_LINES),
-                section("CHECKING", texts.PROGRAM_CHECKING), exit_status(),
+                section("CHECKING", texts.PROGRAM_CHECKING), exit_status("digests"),
                 section("DIAGNOSTICS", *lines_of(texts.PROGRAM_DIAGNOSTICS)),
                 examples("digests"), section("LIMITS", *texts.LIMITS), section("SECURITY", texts.PROGRAM_SECURITY),
                 section("DIFFERENCES FROM GNU", texts.PROGRAM_DIFFERENCES),
