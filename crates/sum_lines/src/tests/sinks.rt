@@ -109,8 +109,8 @@ fn only_interruptions_are_tried_again(rt: HostRuntime) {
     }
 }
 
-// A sink over a writer that takes at most so many bytes of a piece answers so, and the writer was then asked for so many
-// writes, of so many bytes in all.
+// A sink over a writer that takes at most so many bytes of a piece answers so, and the writer was then asked for so
+// many writes, of so many bytes in all.
 fn check_calls(rt: &impl Abort, most: usize, turns: &[Turn], asked: (u64, usize)) {
     let mut writer = Counts::new(most, None);
     check_turns(rt, &mut FromWrite::new(&mut writer), turns);
