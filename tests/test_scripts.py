@@ -169,8 +169,8 @@ class Words(Repository):
         self.assertEqual(self.calls(), [])
 
     def test_what_is_done(self):
-        """It says what it will do before it builds, and its last line is the gate's, which counts wrong bodies that are
-        refused by their shape alone as failed."""
+        """It says what it will do before it builds, and its last line is the gate's, which counts wrong bodies that no
+        contract refuses as failed."""
         self.put("tests/run.py", "print('the tests', flush=True)\n")
         self.write("commands/rt", self.read("commands/rt").replace(b"[ \"$1\" = version ]", b"""[ "$1" = ci ] && {
     echo "$PWD ci" >>"$RT_NOTES"
@@ -197,10 +197,15 @@ class Words(Repository):
         said = "rt: must-fail low/one.edit: refused, as it must be"
         ran = self.script("test", RT_SAYS=f"{said}: a goal (only because of it)\n{said}")
         self.assertEqual((ran.status, ran.out.splitlines()[-1:]), (0, [b"5 passed, 0 failed"]))
-        weak = f"{said} (only because a proof file names what the edit took away, so this says little)"
-        ran = self.script("test", RT_SAYS=f"{weak}: a file\n{said}")
-        self.assertEqual((ran.status, ran.out.splitlines()[-2:]),
-                         (1, [b"test: low/one.edit: refused by its shape alone", b"4 passed, 1 failed"]))
+        for why in ("because a proof file names what the edit took away, so this says little",
+                    "by a limit of the prover, which gave no verdict"):
+            ran = self.script("test", RT_SAYS=f"{said} (only {why}): a file\n{said}")
+            self.assertEqual((ran.status, ran.out.splitlines()[-2:]),
+                             (1, [b"test: low/one.edit: refused, but not by a contract", b"4 passed, 1 failed"]))
+        for name in ("must-fail low/one.edit", "crates/low/must-fail/one"):
+            ran = self.script("test", RT_SAYS=f"rt: {name}: BAD EDIT: the prover cannot read it\n{said}")
+            self.assertEqual((ran.status, ran.out.splitlines()[-2:]),
+                             (1, [f"test: {name.split()[-1]}: not read".encode(), b"5 passed, 1 failed"]))
 
     def test_what_it_needs(self):
         """Python first, then the kit: what is missing is told before anything is done."""

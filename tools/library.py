@@ -12,7 +12,8 @@ BEGIN = "<!-- From here on tools/library.py writes. -->\n"
 ITEM = re.compile(r"(    )?(?:pub (?:const )?)?(fn|struct|enum|trait|const|(?<=pub )type) (\w+)")
 OWNER = re.compile(r"(?:impl(?:<.*?>)? (?P<type>\w+)(?:<.*>)? \{|pub trait (?P<trait>\w+).*\{)$")
 CLAUSE = re.compile(r"\s*(?:requires|ensures|where|ghost)\b|\s*\{")
-IMPL = re.compile(r"(?m)^impl(?:<.*?>)? (?:\w+::)*(\w+(?:<\w+>)?) for (\w+)")
+IMPL = re.compile(r"(?m)^impl(?:<.*?>)? (?:\w+::)*(\w+(?:<\w+>)?) for (&mut \w+|\w+)")
+ALIAS = re.compile(r"(?m)^pub type (\w+) = (\w+)<")
 DERIVED = re.compile(r"(?m)^#\[derive\((.*)\)\]\n(?:#\[.*\]\n)*pub (?:struct|enum) (\w+)")
 
 
@@ -104,8 +105,9 @@ def parts_of(text, kind, name):
 
 
 def traits():
-    """Each type of the libraries with the traits that it has, by a derive or by an impl; `Model` is for contracts."""
-    has = {}
+    """Each type of the libraries with the traits that it has, by a derive or by an impl; `Model` is for contracts. A type
+    that is handed out by other names stands under these."""
+    has, aliases = {}, {}
     for crate in crates():
         folder = os.path.join(TOP, "crates", crate, "src")
         for file in sorted(os.listdir(folder)):
@@ -116,7 +118,9 @@ def traits():
             for name, trait in found + [(name, trait) for trait, name in IMPL.findall(text)]:
                 if trait != "Model" and trait not in has.setdefault(name, []):
                     has[name].append(trait)
-    return has
+            for alias, name in ALIAS.findall(text):
+                aliases.setdefault(name, []).append(alias)
+    return {alias: has[name] for name in has for alias in aliases.get(name, [name])}
 
 
 def more_of(text, item, has):

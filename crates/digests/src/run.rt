@@ -21,8 +21,8 @@ use sum_words::{
 };
 
 /// Runs a tool on its words: writes what they mean for what standard input and the source have to give, and answers the
-/// status, 0 where all is good and 1 where anything isn't (coreutils manual, "md5sum invocation"). Each line is handed
-/// on as soon as it is complete.
+/// status, 0 where all is good and 1 where anything isn't (coreutils manual, "md5sum invocation"). Each line, and
+/// the help and the two lines of a fault as one, is handed on as soon as it is complete.
 ///
 /// `Stop::Memory` where memory was refused; just the first steps of the run came about, up to an operand or, in
 /// checking, up to a line of a manifest or its end. `Stop::Write` where a write failed; one prefix of all
@@ -46,7 +46,6 @@ pub fn run<A: Allocator + Copy, I: Input + Drop, S: Source, O: Sink, E: Sink>(
     answer(alloc, tool, read_words(tool, words), streams)
 }
 
-// Does what was asked for.
 fn answer<A: Allocator + Copy, I: Input + Drop, S: Source, O: Sink, E: Sink>(
     alloc: A,
     tool: Tool,
@@ -105,7 +104,6 @@ fn tell_version<O: Sink>(out: &mut O, tool: Tool) -> Result<(), SinkFault>
     out.flush()
 }
 
-// One operand.
 fn one<A: Allocator + Copy, I: Input + Drop, S: Source, O: Sink, E: Sink>(
     alloc: A,
     job: &Job,
@@ -148,7 +146,6 @@ fn first_name<'a>(operands: &mut Operands<'a>) -> &'a [u8]
     }
 }
 
-// All operands, one after another.
 fn each<A: Allocator + Copy, I: Input + Drop, S: Source, O: Sink, E: Sink>(
     alloc: A,
     job: &Job,
@@ -181,7 +178,6 @@ fn each<A: Allocator + Copy, I: Input + Drop, S: Source, O: Sink, E: Sink>(
     }
 }
 
-// The status of a run over operands.
 fn status(good: bool) -> u8
     ensures { result ≡ status_of good }
 {

@@ -1,5 +1,4 @@
--- The lines of a manifest, by what versions of the tools make of them. The tools here have the present profile. Of the
--- older one speaks the law of old verdicts alone.
+-- The lines of a manifest, by what versions of the tools make of them. The tools here have the present profile.
 use Rattle.std.specs.Prelude.{ℕ, List, if◌then◌else◌}
 use Rattle.sum_sources.specs.Contents.{Content}
 use Rattle.sum_sources.specs.ManifestLines.{lines, pieces}

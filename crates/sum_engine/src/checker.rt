@@ -43,8 +43,7 @@ impl<'a, I: Input> Checker<'a, I> {
 
     /// A checker of the manifest that `input` gives. Its diagnostics begin with `tool`, as with `md5sum`, and call the
     /// manifest `shown`; `from_stdin` says whether it came from standard input, where a line that names `-` is
-    /// improperly formatted. The standard input of the streams that the steps are lent is what any other manifest's `-`
-    /// stands for: lend the one that `input` was taken from, where it was.
+    /// improperly formatted. The standard input of the streams is what `-` stands for in any other manifest.
     pub fn new(
         settings: CheckSettings,
         tool: &'a str,

@@ -68,7 +68,7 @@ fn digits_end(algo: Algo, text: &[u8]) -> Option<usize>
     }
 }
 
-// How many digits stand in front, where the line is plain.
+// If the line is plain, it has so many digits.
 fn digits_len(algo: Algo, text: &[u8]) -> Option<usize>
     ensures none { IfNone result ((e : Bool) → None ≡ plain_as algo e text.now) }
     ensures some { IfSome result (λ n. (e : Bool) → IfSome (plain_as algo e text.now)

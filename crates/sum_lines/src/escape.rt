@@ -73,7 +73,7 @@ pub fn unescape_in<A: Allocator>(line: &mut Vec<u8, A>, from: usize) -> bool
     }
 }
 
-// Writes the name whose escape the bytes are over the first of them, and answers its length.
+// Unescapes in place: the name comes to the front. Answers its length; None where the bytes are no escape.
 fn unescape(bytes: &mut [u8]) -> Option<usize>
     ensures len { IfSome result (λ len. len ≤ length bytes.old) }
     ensures name { IfSome result (λ len. bytes.old ≡ escape (take len bytes.new)) }

@@ -25,9 +25,9 @@ pub fn same_said()
     ensures form { SameForm }
 {}
 
-/// A line that was written, unless in zero style, for a name that isn't empty and holds no NUL, spells the kind, the
-/// digest and the name that it was written for, to its own algorithm and, where it is tagged, to any, where no line
-/// before it makes the manifest `Reversed`.
+/// A line that was written, not in zero style, for a name that isn't empty and holds no NUL, is read back by its own
+/// algorithm's tool and, where it is tagged, by any, where no line before it makes the manifest `Reversed`. It spells
+/// the kind, the digest and the name that it was written for.
 pub fn read_back()
     ensures { ReadBack }
 {}

@@ -51,7 +51,8 @@ abbrev pub coming : {I : Type 0} → (I → Option Content) → Reader I → Opt
 coming content r =
     option_map (λ c. left_by r.answer (with_prefix r.ahead (clip_to (limit - r.taken) c))) (content r.input)
 
--- what is answered again after an answer: at most the end after a line, and the same after the end and each stop
+-- what every later call answers, once this was answered: after a line nothing is settled, or the end; after the end or a
+-- stop, the same
 abbrev pub Settles : Result Next LineStop → Option (Result Next LineStop) → Type 0
 Settles (Ok Line) later = (later ≡ None) ⊎ (later ≡ Some (Ok NoMore))
 Settles answer later = later ≡ Some answer

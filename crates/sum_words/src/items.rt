@@ -89,7 +89,7 @@ impl<'a> Items<'a> {
     }
 }
 
-// The word at a place, which goes on.
+// The word at a place, which then moves on by one.
 #[tactic(auto, using(crate::proofs::CommandLineLemmas::drop_at_none, crate::proofs::CommandLineLemmas::drop_at_some))]
 fn take_word<'a>(words: &LentWords<'a>, at: &mut usize) -> Option<&'a str>
     ensures { TakesFirst (λ word. word) (drop at.old words.now) (option_copied result) (drop at.new words.now) }

@@ -1,5 +1,5 @@
-//! The words of a command line: the tools, what the arguments call for, what the words ask for, and the texts that
-//! answer words alone.
+//! The words of a command line: the tools, what the arguments call for, what the words ask for, and the program's own
+//! texts.
 #![tactic(auto)]
 
 mod arguments;

@@ -83,6 +83,7 @@ impl Flag {
     }
 
     /// The option that a long name means: the one that has it in full, else the only one that begins with it.
+    /// `UnknownLong` where none does, `AmbiguousLong` where several do.
     pub fn of_name(tool: Tool, name: &str) -> Result<Flag, WordFault<'_>>
         ensures { resolution result ≡ name_or_fault tool name.now }
     {

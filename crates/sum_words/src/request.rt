@@ -29,7 +29,7 @@ pub enum Job {
 /// What a tool's words ask for.
 #[derive(Drop)]
 pub enum Request<'a> {
-    /// To do this with each operand.
+    /// To do this with each operand; where there is none, with `-`, which is left to the caller.
     Work(Job, Operands<'a>),
     /// The help text.
     Help,
@@ -63,7 +63,7 @@ pub fn read_words<'a, A: Allocator>(
     }
 }
 
-// What the options say, as far as they were read. A mode, a report setting and a length are the last of theirs.
+// What the options say, as far as they were read. Of several modes, report settings or lengths the last counts.
 #[derive(Clone, Copy)]
 struct Chosen<'a> {
     mode: Option<Mode>,
