@@ -1,5 +1,5 @@
 #!/usr/bin/env python3
-"""Which clauses of contracts nobody would miss: `clauses.py [--place FOLDER] [--results FILE] [CRATE | CRATE::PATH]..`.
+"""Which clauses of contracts nobody would miss: `clauses.py [--list] [--place FOLDER] [--results FILE] [CRATE]..`.
 
 It makes each `ensures` of each public function say nothing (`⊤`), in a copy of the repository, and looks who misses
 it: another function of the crate, then a wrong body of must-fail/, which nothing refuses any more, then a function of a

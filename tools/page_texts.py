@@ -21,7 +21,7 @@ WITH, WITHOUT, EITHER = "with", "without", "either"
 # Long name: where it may stand, and what is said of it beyond the help's words.
 OPTIONS = {
     "binary": (WITHOUT, "Put a star before each name in the lines that are written. The bytes that are read are the "
-               "same: no system that this program runs on has files that are text for one and binary for another."),
+               "same."),
     "check": (EITHER, "Take each {FILE} for a manifest, read the files that it lists, and report which of them have "
               "the checksum that stands there; see CHECKING."),
     "length": (EITHER, "Make a digest of {BITS} bits: a multiple of 8 from 8 to 512; 0 means 512. A shorter digest "
@@ -61,12 +61,12 @@ LINE_FORMAT_OF_ZERO = " With `--zero` none of this is done."
 TAGS = {
     "b2sum": ("The tag of a digest that was shortened by `--length` is `BLAKE2b-`{BITS}.",),
     "anysum": ("{TAG} is `MD5`, `SHA1`, `SHA224`, `SHA256`, `SHA384`, `SHA512`, `BLAKE2b`, or `BLAKE2b-`{BITS} for a "
-               "shorter digest. Lines of the other forms don't say their algorithm: they are improperly formatted.",),
+               "shorter digest. A line without a tag is improperly formatted.",),
 }
 
 CHECKING = (
     "Each {FILE} is a manifest: a list of lines as they are written without `--zero`. Each line is checked and "
-    "reported before the next one is read. A listed name is looked up from the present folder, not from the "
+    "reported before the next one is looked at. A listed name is looked up from the present folder, not from the "
     "manifest's: `cd` {FOLDER} comes first where the list was written in {FOLDER}. A listed file named `-` is standard "
     "input; in a manifest that is `-` itself, or where no {FILE} is given, such a line is improperly formatted.",
     "Empty lines, and lines that begin with `#`, are passed over. A carriage return at a line's end is dropped. Blanks "
@@ -132,14 +132,13 @@ DIAGNOSTICS = {
 LIMITS = (
     "A word of the command line that isn't UTF-8 can't be read: the answer is `digests: words not read` alone, and no "
     "file of that call is read. A name in a manifest that isn't UTF-8 can't be opened.",
-    "A directory is an `Input/output error`.",
     "Lines that were written with `--zero` can't be checked: they are improperly formatted. But where a name holds a "
     "newline, what stands before that may be read as a line.",
     "A file of 2^61 bytes or more is an `Input/output error`.",
     "One line is held in memory at a time, however long the manifest is.",
     "The stack has to have 64 KiB, and more where the words or the environment are large. With 48 KiB a signal may "
-    "end the program, without a word. So does one where an output would grow past the limit on a file's size "
-    "(`ulimit -f`), unless the caller ignores it.",
+    "end the program, without a word. Where an output would grow past `ulimit -f`, a signal ends it, too, unless the "
+    "caller ignores that.",
     "A line of up to 8,192 bytes goes to the system in one piece. So where several runs share one open file, as under "
     "`xargs -P`, no such line is torn. Into one pipe, Linux keeps up to 4,096 bytes together. A longer line may be "
     "torn.",
@@ -149,13 +148,15 @@ LIMITS = (
 
 SECURITY = {
     "broken": "{0} is broken for forgery: anyone can make two files with the same checksum, and a signed or trusted "
-              "list then holds for both. It still finds damage by chance. Where somebody might cheat, use "
+              "list then holds for both. It still finds accidental damage. Where somebody might cheat, use "
               "`sha256sum`(1) or `b2sum`(1).",
     "good": "No practical way is known to make two files with the same {0} checksum.",
     "length": "With `--length` two such files can be found by about 2^({BITS}/2) tries: give 256 or more where "
-              "somebody might cheat.",
+              "somebody might cheat. A manifest may hold digests of 8 bits and more, and `--check` takes them: look at "
+              "their length.",
     "any": "Under this tool a manifest chooses the algorithm line by line. MD5 and SHA-1 are broken for forgery: "
-           "anyone can make two files with the same checksum. Where somebody might cheat, look at the lines' tags.",
+           "anyone can make two files with the same checksum. So it is with short digests, as of `BLAKE2b-8`. Where "
+           "somebody might cheat, look at the lines' tags.",
     "manifest": "A checksum proves no more than the manifest: one that comes from the same place as the files shows "
                 "damage, and no forgery. A listed name may hold control bytes, and a terminal obeys some. But for "
                 "newline and carriage return they are written as they are: look at a manifest that isn't trusted with "
@@ -215,8 +216,7 @@ RECIPES_OF_FOLDERS = (
      "    -exec {writes} {} + > SUMS.new &&",
      "    [ -s SUMS.new ] && mv -T SUMS.new SUMS"),
     ("The same on all processors, in another order, in `bash`(1). With `pipefail` a pipe fails where any part of it "
-     "does. Where a call answers 1, `xargs`(1) answers 123. A line of more than 8,192 bytes may be torn: the list's "
-     "check with `--strict` then fails.",
+     "does. Where a call answers 1, `xargs`(1) answers 123.",
      "(set -o pipefail",
      "find . -type f ! -path ./SUMS ! -path ./SUMS.new -print0 |",
      "    xargs -0 -r -n 32 -P \"$(nproc)\" {writes} > SUMS.new) &&",
@@ -238,7 +238,7 @@ RECIPES_OF_FOLDERS = (
     ("One of the listed files only, by its whole line. Where `grep`(1) finds none, the check fails, since its list is "
      "empty. Give one name at a time: of two, one that isn't found would not be missed.",
      "{grep} SUMS | {tool} -c --strict"),
-    ("Files that no line of the list names, as it would write them, in `bash`(1). A check doesn't tell of them. Check "
+    ("Files that the list doesn't name, in `bash`(1). Names are shown escaped, as in a line. A check doesn't tell of them. Check "
      "the list with `--strict` first: a line whose digits are damaged may name a file here. The status is 0 only where "
      "there is none, and all folders could be read. Links, pipes and devices are left out:",
      "(set -o pipefail; export LC_ALL=C",
