@@ -74,9 +74,10 @@ class Library(Case):
                     wanted = re.findall(r"(?m)^    ([A-Z]\w*)", body)
                     self.assertEqual(re.findall(r"(?:^|, )`(\w+)", part), wanted, enum)
                     found += 1
-                of_ours = r"(?m)^impl.*\b(Hasher|Input|Sink|Source|Arguments) for (\w+)"
+                of_ours = r"(?m)^impl.*\b(Hasher|Input|Sink|Source|Arguments) for ((?:&mut )?\w+)"
                 for trait, name in re.findall(of_ours, text):
-                    self.assertRegex(page, rf"(?m)^- `trait {trait}`.*\n.*\n  \*Implemented by:\* .*`{name}`")
+                    for it in re.findall(rf"(?m)^pub type (\w+) = {name}<", text) or [name]:
+                        self.assertRegex(page, rf"(?m)^- `trait {trait}`.*\n.*\n  \*Implemented by:\* .*`{it}`")
         self.assertGreater(found, 20)
 
     def test_taking_one_elsewhere(self):
