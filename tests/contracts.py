@@ -76,7 +76,7 @@ class Code:
         self.items = []
         for path in sorted(glob.glob(os.path.join(TOP, "crates", "*", "src", "**", "*.rt"), recursive=True)):
             crate, _, file = os.path.relpath(path, os.path.join(TOP, "crates")).split(os.sep, 2)
-            if "tests" not in file:
+            if "tests" not in f"{crate}/{file}":
                 self.read(path, crate, file)
 
     def read(self, path, crate, file):

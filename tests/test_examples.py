@@ -34,10 +34,12 @@ class Examples(Case):
 class Building(Repository):
     """A build of the program."""
 
-    def test_examples_are_left_out(self):
-        source = self.put("crates/example_some/src/main.rt", "fn main() {}\n")
-        self.put("crates.txt", "low: memchr\ndigests: low\nexample_some: low\n")
+    def test_examples_and_tests_are_left_out(self):
+        sources = [self.put("crates/example_some/src/main.rt", "fn main() {}\n"),
+                   self.put("crates/low_tests/src/lib.rt", "mod some;\n")]
+        self.put("crates.txt", "low: memchr\ndigests: low\nexample_some: low\nlow_tests: low\n")
         self.assertEqual(self.build(), BOTH)
         self.assertIn("crate 2 of 2, digests: ", self.said)
-        self.write(source, "another version")
-        self.assertEqual(self.build(), [])
+        for source in sources:
+            self.write(source, "another version")
+            self.assertEqual(self.build(), [])

@@ -26,10 +26,10 @@ class Item:
 
 
 def crates():
-    """The crates that are libraries, the lowest first."""
+    """The crates that are libraries, the lowest first; those of tests hand out nothing."""
     with open(os.path.join(TOP, "crates.txt"), encoding="utf-8") as file:
         names = re.findall(r"(?m)^(\w+):", file.read())
-    return [name for name in names if os.path.exists(source(name, "lib"))]
+    return [name for name in names if os.path.exists(source(name, "lib")) and not name.endswith("_tests")]
 
 
 def source(crate, module):

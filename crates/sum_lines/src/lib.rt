@@ -14,8 +14,6 @@ mod plain;
 mod scanning;
 mod sink;
 mod tagged;
-#[cfg(test)]
-mod tests;
 mod told_sink;
 
 pub use buffered::{Buffered, ROOM};

@@ -27,6 +27,3 @@ pub use source::{OpenFault, Source};
 pub use standard::{Given, Stdin};
 pub use told::Told;
 pub use told_source::{Answer, ToldSource};
-
-#[cfg(test)]
-mod tests;

@@ -1,10 +1,10 @@
 //! Worked lines of manifests.
 
-use crate::{Form, Reading, read_line};
 use digest_kinds::{Algo, Algos, Digest, Kind};
 use std::alloc::Global;
 use std::process::Abort;
 use std::test::Fail;
+use sum_lines::{Form, Reading, read_line};
 
 const MD5: Algos = Algos::One(Algo::Md5);
 

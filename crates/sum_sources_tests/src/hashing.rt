@@ -1,8 +1,8 @@
 //! `hash_input` and `hash_input_over` over told inputs.
-use crate::{Ending, Fault, PIECE, Told, hash_input, hash_input_over};
 use digest_kinds::{Hasher, Md5Hasher, Sha256Hasher};
 use std::process::Abort;
 use std::test::Fail;
+use sum_sources::{Ending, Fault, PIECE, Told, hash_input, hash_input_over};
 
 const PIECES: [usize; 4] = [1, 127, 8191, 8192];
 

@@ -1,10 +1,10 @@
 //! What no contract says of sinks: when a real writer's interruptions, refusals and flushes become a fault.
 
-use super::{flush, offer, put, told};
-use crate::{FromWrite, Part, Sink, SinkFault, ToldSink, put_escaped, put_number, put_parts};
+use crate::calls::{flush, offer, put, told};
 use std::io;
 use std::io::{ErrorKind, Write};
 use std::process::Abort;
+use sum_lines::{FromWrite, Part, Sink, SinkFault, ToldSink, put_escaped, put_number, put_parts};
 
 // A writer that fails so often, with an error of this kind, before it takes anything.
 #[derive(Drop)]

@@ -1,7 +1,9 @@
 //! Inputs over readers, and the answers of told inputs.
-use crate::{Ending, Fault, FromRead, Given, Input, LineStop, NoRoom, OpenFault, Stdin, Told};
 use std::io::{self, ErrorKind, Read};
 use std::test::Fail;
+use sum_sources::{
+    Ending, Fault, FromRead, Given, Input, LineStop, NoRoom, OpenFault, Stdin, Told,
+};
 
 // A reader that is interrupted so often before each read, and then gives one byte or fails.
 #[derive(Drop)]

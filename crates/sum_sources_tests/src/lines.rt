@@ -1,8 +1,8 @@
 //! `LineReader` over told manifests.
-use crate::{Ending, Fault, Input, LineReader, LineStop, Next, Told};
 use linked_list_allocator::LocalHeap;
 use std::process::Abort;
 use std::test::Fail;
+use sum_sources::{Ending, Fault, Input, LineReader, LineStop, Next, Told};
 
 // The reader gives this line.
 fn gives(rt: &impl Abort, reader: &mut LineReader<impl Input>, line: &mut Vec<u8>, want: &[u8]) {

@@ -1,13 +1,13 @@
 //! Told and real sources.
-use crate::{
-    Answer, Closable, Ending, Fault, Files, Input, NoRoom, OpenFault, Source, Told, ToldSource,
-};
 use linked_list_allocator::LocalHeap;
 use std::alloc::Allocator;
 use std::fs::{self, Metadata, OpenOptions};
 use std::io::{self, ErrorKind};
 use std::rt;
 use std::test::Fail;
+use sum_sources::{
+    Answer, Closable, Ending, Fault, Files, Input, NoRoom, OpenFault, Source, Told, ToldSource,
+};
 
 #[test]
 fn told_source(rt: HostRuntime) -> Result<(), Fail> {

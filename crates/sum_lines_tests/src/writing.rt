@@ -1,10 +1,10 @@
 //! Worked lines, and worked names that are read back.
 
-use super::{put, told};
-use crate::{Mode, SinkFault, Style, ToldSink, needs_escape, put_line, unescape_in};
+use crate::calls::{put, told};
 use digest_kinds::{Algo, Digest, Kind};
 use std::process::Abort;
 use std::test::Fail;
+use sum_lines::{Mode, SinkFault, Style, ToldSink, needs_escape, put_line, unescape_in};
 
 const ABC: &[u8] = b"900150983cd24fb0d6963f7d28e17f72";
 

@@ -3,12 +3,12 @@
 ghost use Rattle.std.specs.Prelude.{◌≡◌};
 ghost use Rattle.sum_lines.specs.Sinks.{after_failure};
 
-use super::{flush, offer, put, told};
-use crate::{Buffered, FromWrite, Mode, Sink, SinkFault, Style, ToldSink, put_line};
+use crate::calls::{flush, offer, put, told};
 use digest_kinds::{Algo, Digest, Kind};
 use std::io;
 use std::io::{ErrorKind, Write};
 use std::process::Abort;
+use sum_lines::{Buffered, FromWrite, Mode, Sink, SinkFault, Style, ToldSink, put_line};
 
 const DIGITS: &[u8] = b"900150983cd24fb0d6963f7d28e17f72";
 

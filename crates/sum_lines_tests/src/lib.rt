@@ -1,0 +1,13 @@
+//! Tests of `sum_lines`: worked lines, written and read, and what no contract says of sinks.
+#![tactic(auto)]
+
+#[cfg(test)]
+mod buffers;
+#[cfg(test)]
+mod calls;
+#[cfg(test)]
+mod reading;
+#[cfg(test)]
+mod sinks;
+#[cfg(test)]
+mod writing;
