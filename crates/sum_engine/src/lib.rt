@@ -15,8 +15,6 @@ mod stop;
 mod streams;
 mod summary;
 mod telling;
-#[cfg(test)]
-mod tests;
 mod verdict;
 mod verdicts;
 

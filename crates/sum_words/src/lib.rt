@@ -9,8 +9,6 @@ mod items;
 pub mod laws;
 mod options;
 mod request;
-#[cfg(test)]
-mod tests;
 mod texts;
 mod tool;
 mod words;

@@ -1,9 +1,9 @@
 //! `Checker::step`.
-use super::checking::{ALL, CHECK, files, told};
-use super::hashing::Refusing;
-use crate::{Checker, Progress, Stop};
+use crate::checking::{ALL, CHECK, files, told};
+use crate::hashing::Refusing;
 use linked_list_allocator::LocalHeap;
 use std::test::Fail;
+use sum_engine::{Checker, Progress, Stop};
 use sum_sources::{Ending, Told};
 
 #[test]

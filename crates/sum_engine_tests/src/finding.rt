@@ -1,10 +1,10 @@
 //! `Verdicts`.
-use super::checking::{ALL, CHECK, files};
-use super::hashing::Refusing;
-use crate::{LineVerdict, Verdict, Verdicts};
+use crate::checking::{ALL, CHECK, files};
+use crate::hashing::Refusing;
 use linked_list_allocator::LocalHeap;
 use std::process::Abort;
 use std::test::Fail;
+use sum_engine::{LineVerdict, Verdict, Verdicts};
 use sum_sources::{Ending, Fault, LineStop, Stdin, Told};
 
 // The lines of a manifest have these verdicts and names, and then it ends so.

@@ -1,9 +1,9 @@
 //! `check_one`.
-use crate::{CheckSettings, Report, Streams, check_one};
 use digest_kinds::{Algo, Algos};
 use std::alloc::{Allocator, Global};
 use std::process::Abort;
 use std::test::Fail;
+use sum_engine::{CheckSettings, Report, Streams, check_one};
 use sum_lines::ToldSink;
 use sum_sources::{Answer, Ending, Fault, NoRoom, Stdin, Told, ToldSource};
 

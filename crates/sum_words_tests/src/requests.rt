@@ -1,12 +1,12 @@
 //! What command lines without a fault ask for.
-use crate::tests::words::{odd_words, words_of};
-use crate::{Job, Operands, Request, Tool, WordFault, Words, read_words};
+use crate::words::{odd_words, words_of};
 use digest_kinds::{Algo, Algos, Kind};
 use std::alloc::Global;
 use std::process::Abort;
 use std::test::Fail;
 use sum_engine::{CheckSettings, Report, Settings};
 use sum_lines::{Mode, Style};
+use sum_words::{Job, Operands, Request, Tool, WordFault, Words, read_words};
 
 // What words ask for. Without a contract, so that a test knows no more of it than it sees.
 fn asked<'a>(tool: Tool, words: &'a Words<Global>) -> Result<Request<'a>, WordFault<'a>> {

@@ -1,10 +1,10 @@
 //! Faults of command lines, each with its text.
-use crate::tests::words::words_of;
-use crate::{Tool, Words, put_fault, read_words};
+use crate::words::words_of;
 use std::alloc::Global;
 use std::process::Abort;
 use std::test::Fail;
 use sum_lines::ToldSink;
+use sum_words::{Tool, Words, put_fault, read_words};
 
 // The lines of the fault that words have. Without a contract, so that a test knows no more of them than it sees.
 fn fault_of(tool: Tool, words: &Words<Global>) -> Result<ToldSink<256>, Fail> {

@@ -1,7 +1,7 @@
 //! `generate_one`.
-use crate::{Settings, Stop, Streams, generate_one};
 use digest_kinds::{Algo, Kind};
 use std::test::Fail;
+use sum_engine::{Settings, Stop, Streams, generate_one};
 use sum_lines::{Mode, Style, ToldSink};
 use sum_sources::{Answer, Ending, Fault, Input, OpenFault, Source, Stdin, Told, ToldSource};
 

@@ -1,6 +1,6 @@
 //! Command lines.
-use crate::{CommandLine, NotRead, ToldArguments, Tool, read_command_line};
 use std::test::Fail;
+use sum_words::{CommandLine, NotRead, ToldArguments, Tool, read_command_line};
 
 // Whichever word it is: the tool's, one behind a tool that there isn't, or one of a tool that the name says.
 #[test]

@@ -1,8 +1,8 @@
 //! Names of tools, and the texts that the program writes of its own.
-use crate::{Tool, put_help, put_stop, put_unknown, put_version};
 use std::test::Fail;
 use sum_engine::Stop;
 use sum_lines::{SinkFault, ToldSink};
+use sum_words::{Tool, put_help, put_stop, put_unknown, put_version};
 
 #[test]
 fn tools(rt: HostRuntime) {

@@ -1,7 +1,7 @@
 //! Lists of words.
-use crate::{NoRoom, Words};
 use std::alloc::Global;
 use std::test::Fail;
+use sum_words::{NoRoom, Words};
 
 /// The words of a line, parted by single spaces.
 pub(crate) fn words_of(alloc: Global, line: &str) -> Result<Words<Global>, NoRoom> {

@@ -1,0 +1,11 @@
+//! Tests of `sum_engine`: worked rows of hashing and checking, over told files.
+#![tactic(auto)]
+
+#[cfg(test)]
+mod checking;
+#[cfg(test)]
+mod finding;
+#[cfg(test)]
+mod hashing;
+#[cfg(test)]
+mod stepping;
