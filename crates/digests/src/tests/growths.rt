@@ -1,13 +1,15 @@
 //! Memory that is refused: each growth in turn, on heaps that are each a little larger.
-use super::{ENOUGH, Row, add_all, assert_as, heap_of, run_line_on, spelled, taken};
+use super::{
+    ENOUGH, File, Row, ToldStreams, add_all, assert_as, assert_same_taken, heap_of, run_line_on,
+    spelled, taken, told_streams,
+};
 use bumpalo::Bump;
 use digest_kinds::{Algo, Algos};
 use std::alloc::{Allocator, Global};
 use std::process::Abort;
 use std::test::Fail;
-use sum_engine::{CheckSettings, Checker, Progress, Report, Stop, Streams};
-use sum_lines::ToldSink;
-use sum_sources::{Ending, Stdin, Told, ToldSource};
+use sum_engine::{CheckSettings, Checker, Progress, Report, Stop};
+use sum_sources::{Ending, Told, ToldSource};
 
 // A line of each verdict: right, a comment, bad, missing, wrong. Each name has 8 bytes.
 const VERDICTS: &str = "$M  abc.text\n#c\njunk\n$M *gone.txt\n$M  none.txt\n";
@@ -74,10 +76,10 @@ fn run_within(
     places: &[Place],
     row: Row,
 ) -> Result<Turn, Fail> {
-    let all: [(&[u8], &[u8]); 3] = [
-        (b"abc.text", b"abc"),
-        (b"none.txt", b""),
-        (b"list.md5", manifest),
+    let all: [File; 3] = [
+        ("abc.text", b"abc", Ending::Whole),
+        ("none.txt", b"", Ending::Whole),
+        ("list.md5", manifest, Ending::Whole),
     ];
     let heap = heap_of(rt.alloc(), units)?;
     let mut files = ToldSource::new(&heap, 8192);
@@ -121,7 +123,7 @@ fn assert_each_growth(
             }
             Turn::Finished(bytes) => {
                 assert_eq!(rt; reached, places.len());
-                assert_eq!(rt; *whole.get_or_insert(bytes), bytes);
+                assert_same_taken(rt, &mut whole, bytes);
             }
         }
     }
@@ -211,10 +213,19 @@ const AFTER_STEPS: [Place<'static>; 7] = [
 ];
 
 // What a checker of all verdicts works on.
-type Stage<'a, 'b> = Streams<Told<'a>, ToldSource<'a, &'b Bump>, ToldSink<1024>, ToldSink<1024>>;
+type Stage<'a, 'b> = ToldStreams<'a, 'a, &'b Bump, 1024>;
 
 // How many lines a checker has done, and what its last step answered.
 type Reached = (usize, Result<Progress, Stop>);
+
+// A step itself. It has no contract, so that the proofs of its callers are spared that of `step`.
+fn step<'b>(
+    checker: &mut Checker<Told>,
+    line: &mut Vec<u8, &'b Bump>,
+    streams: &mut Stage<'_, 'b>,
+) -> Result<Progress, Stop> {
+    checker.step(line, streams)
+}
 
 // One step more. Where it wants memory, the heap gets enough; what has stopped or ended stays so.
 fn step_on<'b>(
@@ -225,7 +236,7 @@ fn step_on<'b>(
     streams: &mut Stage<'_, 'b>,
     (lines, before): Reached,
 ) -> Reached {
-    let answer = checker.step(line, streams);
+    let answer = step(checker, line, streams);
     if before != Ok(Progress::Going) {
         assert_eq!(rt; answer, before);
         return (lines, answer);
@@ -252,15 +263,14 @@ fn steps(rt: &(impl Abort + AllocGlobal), units: usize) -> Result<Turn, Fail> {
     let manifest = spelled(rt.alloc(), VERDICTS)?;
     let heap = heap_of(rt.alloc(), units)?;
     let mut files = ToldSource::new(&heap, 8192);
-    if add_all(&mut files, &[(b"abc.text", b"abc"), (b"none.txt", b"")]).is_err() {
+    let all: [File; 2] = [
+        ("abc.text", b"abc", Ending::Whole),
+        ("none.txt", b"", Ending::Whole),
+    ];
+    if add_all(&mut files, &all).is_err() {
         return Ok(Turn::NoRoom);
     }
-    let mut streams = Streams {
-        stdin: Stdin::new(Told::new(b"", Ending::Whole, 1)),
-        source: files,
-        out: ToldSink::<1024>::new(1024),
-        err: ToldSink::<1024>::new(1024),
-    };
+    let mut streams = told_streams(Told::new(b"", Ending::Whole, 1), files, (1024, 1024));
     let input = Told::new(manifest.as_bytes(), Ending::Whole, 8192);
     let mut checker = Checker::new(CHECK, "md5sum", b"list.md5", false, input);
     let mut line = Vec::new(&heap);
@@ -295,7 +305,7 @@ fn growths_step_by_step(rt: HostRuntime) -> Result<(), Fail> {
                     stops.push(lines)?;
                 }
             }
-            Turn::Finished(bytes) => assert_eq!(rt; *whole.get_or_insert(bytes), bytes),
+            Turn::Finished(bytes) => assert_same_taken(&rt, &mut whole, bytes),
         }
     }
     assert!(rt; whole.is_some());

@@ -1,15 +1,14 @@
 //! Outputs that stop at any byte, manifests that break off anywhere, and hostile ones.
 use super::checking::VERDICTS;
-use super::{MD5_OF_ABC, add_files, assert_broken, assert_rows, run_line, spelled};
-use crate::run::run;
-use std::alloc::Global;
+use super::{
+    MD5_OF_ABC, Run, add_all, assert_broken, assert_rows, first_of, repeated, run_line,
+    run_line_on, spelled,
+};
 use std::ops::RangeInclusive;
 use std::process::Abort;
 use std::test::Fail;
-use sum_engine::{Stop, Streams};
-use sum_lines::ToldSink;
-use sum_sources::{Answer, Ending, Fault, Stdin, Told, ToldSource};
-use sum_words::{Tool, Words};
+use sum_engine::Stop;
+use sum_sources::{Ending, Fault, Told, ToldSource};
 
 const REPORTS: &str = "a: OK\nx: FAILED open or read\ne: FAILED\n";
 
@@ -27,25 +26,37 @@ fn assert_stopped(
     (out, err): (RangeInclusive<usize>, RangeInclusive<usize>),
 ) -> Result<(), Fail> {
     let manifest = spelled(rt.alloc(), VERDICTS)?;
-    let mut files = ToldSource::new(rt.alloc(), 8192);
-    add_files(&mut files)?;
-    files.add(b"l", Answer::Content(manifest.as_bytes(), Ending::Whole))?;
-    let input = Told::new(b"", Ending::Whole, 8192);
-    let run = run_line(rt.alloc(), "md5sum -c l", input, files, stops)?;
+    let files = [("l", manifest.as_bytes(), Ending::Whole)];
+    let nothing = (b"".as_slice(), Ending::Whole);
+    let run = run_line(rt.alloc(), "md5sum -c l", nothing, &files, 8192, stops)?;
     assert_eq!(rt; run.answer, answer);
-    assert!(rt; REPORTS.as_bytes().starts_with(run.out.bytes()));
-    assert!(rt; WARNINGS.as_bytes().starts_with(run.err.bytes()));
-    assert!(rt;
-        out.contains(&run.out.bytes().len()),
-        "standard output at {}",
-        stops.0
+    assert_part(
+        rt,
+        run.out.bytes(),
+        REPORTS,
+        out,
+        ("standard output", stops.0),
     );
-    assert!(rt;
-        err.contains(&run.err.bytes().len()),
-        "standard error at {}",
-        stops.1
+    assert_part(
+        rt,
+        run.err.bytes(),
+        WARNINGS,
+        err,
+        ("standard error", stops.1),
     );
     Ok(())
+}
+
+// That the bytes of an output that stops so are a prefix of this text, and are so many.
+fn assert_part(
+    rt: &impl Abort,
+    bytes: &[u8],
+    text: &str,
+    counts: RangeInclusive<usize>,
+    (output, stop): (&str, usize),
+) {
+    assert!(rt; text.as_bytes().starts_with(bytes));
+    assert!(rt; counts.contains(&bytes.len()), "{output} at {stop}");
 }
 
 // The output that stops holds just these bytes, the other one all of the lines that were handled and none of later
@@ -85,7 +96,7 @@ fn cut_manifest(rt: HostRuntime) -> Result<(), Fail> {
         REPORTS,
     ];
     for count in 0..=116 {
-        let prefix = manifest.as_bytes().get(..count).ok_or("count")?;
+        let prefix = first_of(manifest.as_bytes(), count)?;
         let lines = prefix.iter().filter(|byte| **byte == b'\n').count();
         let err = if lines < 4 {
             "md5sum: f: Input/output error\n"
@@ -96,15 +107,6 @@ fn cut_manifest(rt: HostRuntime) -> Result<(), Fail> {
         assert_broken(&rt, prefix, Fault::Other, ("md5sum -c f", out, err, 1))?;
     }
     Ok(())
-}
-
-// A text of one character so many times.
-fn repeated(alloc: Global, character: char, count: usize) -> Result<String, Fail> {
-    let mut text = String::new(alloc);
-    for _ in 0..count {
-        text.push(character)?;
-    }
-    Ok(text)
 }
 
 #[test]
@@ -137,21 +139,20 @@ fn check_alone(
     piece: usize,
     (out, err): (&[u8], &[u8]),
 ) -> Result<(), Fail> {
-    let mut words = Words::new(rt.alloc());
-    words.add("-c")?;
-    words.add("h")?;
     let mut files = ToldSource::new(rt.alloc(), piece);
-    files.add(b"h", Answer::Content(manifest, Ending::Whole))?;
-    let mut streams = Streams {
-        stdin: Stdin::new(Told::new(b"", Ending::Whole, piece)),
-        source: files,
-        out: ToldSink::<100_100>::new(100_100),
-        err: ToldSink::<100_100>::new(100_100),
-    };
-    let answer = run(rt.alloc(), Tool::Md5sum, &words, &mut streams);
-    assert_eq!(rt; answer, Ok(1));
-    assert!(rt; streams.out.bytes() == out);
-    assert!(rt; streams.err.bytes() == err);
+    add_all(&mut files, &[("h", manifest, Ending::Whole)])?;
+    let input = Told::new(b"", Ending::Whole, piece);
+    let stops = (100_100, 100_100);
+    let (run, _): (Run<100_100>, _) = run_line_on(
+        rt.alloc(),
+        "md5sum -c h",
+        input,
+        files,
+        stops,
+    )?.ok_or("no room for the words")?;
+    assert_eq!(rt; run.answer, Ok(1));
+    assert!(rt; run.out.bytes() == out);
+    assert!(rt; run.err.bytes() == err);
     Ok(())
 }
 
