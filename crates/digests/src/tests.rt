@@ -50,6 +50,15 @@ fn first_of(bytes: &[u8], count: usize) -> Result<&[u8], Fail> {
     Ok(bytes.get(..count).ok_or("count")?)
 }
 
+// These texts, one after another.
+fn joined(alloc: Global, parts: &[&str]) -> Result<String, Fail> {
+    let mut text = String::new(alloc);
+    for part in parts {
+        text.push_str(part)?;
+    }
+    Ok(text)
+}
+
 // A text of one character so many times.
 fn repeated(alloc: Global, character: char, count: usize) -> Result<String, Fail> {
     let mut text = String::new(alloc);
@@ -84,6 +93,18 @@ fn add_files<A: Allocator + Copy>(source: &mut ToldSource<A>) -> Result<(), NoRo
     add_all(source, &files)
 }
 
+// A source of these files and those of most rows, which are read in pieces of at most so many bytes.
+fn source_of<'a>(
+    alloc: Global,
+    files: &[File<'_, 'a>],
+    piece: usize,
+) -> Result<ToldSource<'a, Global>, NoRoom> {
+    let mut source = ToldSource::new(alloc, piece);
+    add_files(&mut source)?;
+    add_all(&mut source, files)?;
+    Ok(source)
+}
+
 // What both outputs of one run hold, and its answer.
 #[derive(Drop)]
 struct Run<const N: usize> {
@@ -102,16 +123,25 @@ fn run_line(
     piece: usize,
     stops: (usize, usize),
 ) -> Result<Run<1024>, Fail> {
-    let mut source = ToldSource::new(alloc, piece);
-    add_files(&mut source)?;
-    add_all(&mut source, files)?;
+    let source = source_of(alloc, files, piece)?;
     let input = Told::new(input, ending, piece);
-    let (run, _) = run_line_on(alloc, line, input, source, stops)?.ok_or("no room for the words")?;
+    run_line_over(alloc, line, input, source, stops)
+}
+
+// The same over a source that is there already.
+fn run_line_over<const N: usize>(
+    alloc: Global,
+    line: &str,
+    input: Told,
+    files: ToldSource<Global>,
+    stops: (usize, usize),
+) -> Result<Run<N>, Fail> {
+    let (run, _) = run_line_on(alloc, line, input, files, stops)?.ok_or("no room for the words")?;
     Ok(run)
 }
 
-// Runs a line, whose first word is the tool and whose words are parted by single spaces, on a heap. What it did, and the
-// source afterwards: `None` where the heap has no room for the words.
+// Runs a line, whose first word is the tool and whose words are parted by single spaces, on a heap. What it did, and
+// the source afterwards: `None` where the heap has no room for the words.
 fn run_line_on<'a, A: Allocator + Copy, const N: usize>(
     heap: A,
     line: &str,
@@ -216,9 +246,9 @@ fn assert_as(rt: &(impl Abort + AllocGlobal), run: &Run<1024>, row: Row) -> Resu
 }
 
 // That the run of a line answered so, and wrote just these texts.
-fn assert_run(
+fn assert_run<const N: usize>(
     rt: &(impl Abort + AllocGlobal),
-    run: &Run<1024>,
+    run: &Run<N>,
     line: &str,
     answer: Result<u8, Stop>,
     (out, err): (&str, &str),
@@ -234,11 +264,15 @@ fn assert_text(
     rt: &(impl Abort + AllocGlobal),
     bytes: &[u8],
     text: &str,
-    (output, line): (&str, &str),
+    whose: (&str, &str),
 ) -> Result<(), Fail> {
-    let text = spelled(rt.alloc(), text)?;
-    assert_eq!(rt; bytes, text.as_bytes(), "{output} of {line}");
+    assert_bytes(rt, bytes, spelled(rt.alloc(), text)?.as_bytes(), whose);
     Ok(())
+}
+
+// That the bytes are these.
+fn assert_bytes(rt: &impl Abort, bytes: &[u8], wanted: &[u8], (output, line): (&str, &str)) {
+    assert_eq!(rt; bytes, wanted, "{output} of {line}");
 }
 
 // That a line does as its row says over this input, these files and those of most rows, in whatever pieces they are

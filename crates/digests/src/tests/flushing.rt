@@ -1,11 +1,11 @@
 //! How often the program flushes its outputs.
 use super::program::status_of;
-use super::{add_all, add_files, spelled};
+use super::{source_of, spelled};
 use std::alloc::Global;
 use std::test::Fail;
 use sum_engine::Streams;
 use sum_lines::{Sink, SinkFault};
-use sum_sources::{Ending, Stdin, Told, ToldSource};
+use sum_sources::{Ending, Stdin, Told};
 
 // A sink that takes everything, tells nothing, and counts how often it is flushed; the flush of one number fails.
 #[derive(Drop)]
@@ -48,9 +48,7 @@ fn count_flushes(
     (out_fails, err_fails): (u64, u64),
 ) -> Result<(u64, u64, u8), Fail> {
     let list = spelled(alloc, "$M  a\n")?;
-    let mut files = ToldSource::new(alloc, 100);
-    add_files(&mut files)?;
-    add_all(&mut files, &[("list", list.as_bytes(), Ending::Whole)])?;
+    let files = source_of(alloc, &[("list", list.as_bytes(), Ending::Whole)], 100)?;
     let mut streams = Streams {
         stdin: Stdin::new(Told::new(b"", Ending::Whole, 1)),
         source: files,

@@ -1,8 +1,8 @@
 //! Outputs that stop at any byte, manifests that break off anywhere, and hostile ones.
 use super::checking::VERDICTS;
 use super::{
-    MD5_OF_ABC, Run, add_all, assert_broken, assert_rows, first_of, repeated, run_line,
-    run_line_on, spelled,
+    MD5_OF_ABC, Run, add_all, assert_broken, assert_rows, assert_run, first_of, joined, repeated,
+    run_line, run_line_over, spelled,
 };
 use std::ops::RangeInclusive;
 use std::process::Abort;
@@ -137,23 +137,14 @@ fn check_alone(
     rt: &(impl Abort + AllocGlobal),
     manifest: &[u8],
     piece: usize,
-    (out, err): (&[u8], &[u8]),
+    texts: (&str, &str),
 ) -> Result<(), Fail> {
     let mut files = ToldSource::new(rt.alloc(), piece);
     add_all(&mut files, &[("h", manifest, Ending::Whole)])?;
     let input = Told::new(b"", Ending::Whole, piece);
     let stops = (100_100, 100_100);
-    let (run, _): (Run<100_100>, _) = run_line_on(
-        rt.alloc(),
-        "md5sum -c h",
-        input,
-        files,
-        stops,
-    )?.ok_or("no room for the words")?;
-    assert_eq!(rt; run.answer, Ok(1));
-    assert!(rt; run.out.bytes() == out);
-    assert!(rt; run.err.bytes() == err);
-    Ok(())
+    let run: Run<100_100> = run_line_over(rt.alloc(), "md5sum -c h", input, files, stops)?;
+    assert_run(rt, &run, "md5sum -c h", Ok(1), texts)
 }
 
 // The one line, which no newline ends, names a file of nearly 100,000 letters.
@@ -161,14 +152,17 @@ fn check_alone(
 fn long_name(rt: HostRuntime) -> Result<(), Fail> {
     let text = repeated(rt.alloc(), 'y', 99_966)?;
     let name = text.as_str();
-    let manifest = format!(in rt.alloc(); "{MD5_OF_ABC}  {name}")?;
-    let report = format!(in rt.alloc(); "{name}: FAILED open or read\n")?;
-    let warnings = format!(in rt.alloc();
-        "md5sum: {name}: No such file or directory\n\
-        md5sum: WARNING: 1 listed file could not be read\n"
-    )?;
+    let manifest = joined(rt.alloc(), &[MD5_OF_ABC, "  ", name])?;
+    let report = joined(rt.alloc(), &[name, ": FAILED open or read\n"])?;
+    let warnings = [
+        "md5sum: ",
+        name,
+        ": No such file or directory\n",
+        "md5sum: WARNING: 1 listed file could not be read\n",
+    ];
+    let warnings = joined(rt.alloc(), &warnings)?;
     for piece in [1, 8192] {
-        let texts = (report.as_bytes(), warnings.as_bytes());
+        let texts = (report.as_str(), warnings.as_str());
         check_alone(&rt, manifest.as_bytes(), piece, texts)?;
     }
     Ok(())

@@ -1,5 +1,8 @@
 //! The whole program, over told arguments.
-use super::{ENOUGH, add_files, assert_same_taken, first_of, heap_of, repeated, spelled, taken};
+use super::{
+    ENOUGH, assert_bytes, assert_same_taken, assert_text, first_of, heap_of, joined, repeated,
+    source_of, spelled, taken,
+};
 use crate::command::command;
 use std::alloc::{Allocator, Global};
 use std::env::FillError;
@@ -39,8 +42,7 @@ fn call<A: Allocator + Copy, I: Input + Drop>(
     input: I,
     (out_stop, err_stop): (usize, usize),
 ) -> Result<Ended, Fail> {
-    let mut files = ToldSource::new(alloc, 100);
-    add_files(&mut files)?;
+    let files = source_of(alloc, &[], 100)?;
     let mut streams = Streams {
         stdin: Stdin::new(input),
         source: files,
@@ -71,14 +73,19 @@ type Left<'a> = (&'a str, &'a str, u8);
 
 const NOT_READ: Left<'static> = ("", "digests: words not read\n", 1);
 
+// Whose bytes they are that are wrong, in the message of an assertion.
+const OUT: (&str, &str) = ("standard output", "the program");
+
+const ERR: (&str, &str) = ("standard error", "the program");
+
 // That a program that ended left this.
 fn assert_left(
     rt: &(impl Abort + AllocGlobal),
     ended: &Ended,
     (out, err, status): Left,
 ) -> Result<(), Fail> {
-    assert_eq!(rt; ended.out.bytes(), spelled(rt.alloc(), out)?.as_bytes());
-    assert_eq!(rt; ended.err.bytes(), err.as_bytes());
+    assert_text(rt, ended.out.bytes(), out, OUT)?;
+    assert_text(rt, ended.err.bytes(), err, ERR)?;
     assert_eq!(rt; ended.status, status);
     Ok(())
 }
@@ -136,9 +143,8 @@ fn words_that_are_no_text(rt: HostRuntime) -> Result<(), Fail> {
 // That a word of so many letters is an operand like any other.
 fn assert_long_word(rt: &(impl Abort + AllocGlobal), count: usize) -> Result<(), Fail> {
     let long = repeated(rt.alloc(), 'x', count)?;
-    let mut err = String::from_str(rt.alloc(), "md5sum: ")?;
-    err.push_str(long.as_str())?;
-    err.push_str(": No such file or directory\n")?;
+    let fault = ["md5sum: ", long.as_str(), ": No such file or directory\n"];
+    let err = joined(rt.alloc(), &fault)?;
     let arguments: [&[u8]; 3] = [b"md5sum", long.as_bytes(), b"a"];
     assert_ends(rt, &arguments, ("$M  a\n", err.as_str(), 1))
 }
@@ -174,8 +180,8 @@ fn assert_stopped(
     let input = Told::new(b"", Ending::Whole, 1);
     let arguments: [&[u8]; 3] = [b"md5sum", b"a", b"x"];
     let ended = call(rt.alloc(), rt.alloc(), &arguments, input, stops)?;
-    assert_eq!(rt; ended.out.bytes(), out);
-    assert_eq!(rt; ended.err.bytes(), err);
+    assert_bytes(rt, ended.out.bytes(), out, OUT);
+    assert_bytes(rt, ended.err.bytes(), err, ERR);
     assert_eq!(rt; ended.status, 1);
     Ok(())
 }
@@ -225,8 +231,7 @@ fn call_not_kept<A: Allocator + Copy>(
     arguments: &[&[u8]],
     input: &[u8],
 ) -> Result<(ToldSink<64>, u8), Fail> {
-    let mut files = ToldSource::new(alloc, 100);
-    add_files(&mut files)?;
+    let files = source_of(alloc, &[], 100)?;
     let mut streams = Streams {
         stdin: Stdin::new(Told::new(input, Ending::Whole, 1)),
         source: files,
@@ -242,7 +247,7 @@ fn call_not_kept<A: Allocator + Copy>(
 fn output_that_is_not_kept(rt: HostRuntime) -> Result<(), Fail> {
     let (err, status) = call_not_kept(rt.alloc(), rt.alloc(), &[b"md5sum", b"a"], b"")?;
     assert_eq!(rt; status, 1);
-    assert_eq!(rt; err.bytes(), b"md5sum: write error\n".as_slice());
+    assert_bytes(&rt, err.bytes(), b"md5sum: write error\n", ERR);
     Ok(())
 }
 
