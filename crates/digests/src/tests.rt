@@ -1,5 +1,6 @@
 //! Worked command lines, run over told input and told files into told sinks.
 mod checking;
+mod flushing;
 mod generating;
 mod growths;
 mod hostile;
@@ -31,73 +32,139 @@ const PIECES: [usize; 3] = [1, 100, 8192];
 
 // A text with the digests that it names.
 fn spelled(alloc: Global, text: &str) -> Result<String, Fail> {
-    let mut all = String::new(alloc);
-    for (i, part) in text.split('$').enumerate() {
-        let mut rest = part.chars();
-        if i > 0 {
-            all.push_str(match rest.next() {
-                Some('M') => MD5_OF_ABC,
-                Some('E') => MD5_OF_NOTHING,
-                Some('S') => SHA256_OF_ABC,
-                _ => BLAKE2B_256_OF_NOTHING,
-            })?;
-        }
-        all.push_str(rest.as_str())?;
+    let digests = [
+        ("$M", MD5_OF_ABC),
+        ("$E", MD5_OF_NOTHING),
+        ("$S", SHA256_OF_ABC),
+        ("$B", BLAKE2B_256_OF_NOTHING),
+    ];
+    let mut all = String::from_str(alloc, text)?;
+    for (name, digest) in digests {
+        all = all.as_str().replace(alloc, name, digest)?;
     }
     Ok(all)
 }
 
-// Adds files of these names and contents.
+// The first bytes, so many of them.
+fn first_of(bytes: &[u8], count: usize) -> Result<&[u8], Fail> {
+    Ok(bytes.get(..count).ok_or("count")?)
+}
+
+// These texts, one after another.
+fn joined(alloc: Global, parts: &[&str]) -> Result<String, Fail> {
+    let mut text = String::new(alloc);
+    for part in parts {
+        text.push_str(part)?;
+    }
+    Ok(text)
+}
+
+// A text of one character so many times.
+fn repeated(alloc: Global, character: char, count: usize) -> Result<String, Fail> {
+    let mut text = String::new(alloc);
+    for _ in 0..count {
+        text.push(character)?;
+    }
+    Ok(text)
+}
+
+// A name, and what a file of that name gives.
+type File<'n, 'c> = (&'n str, &'c [u8], Ending);
+
+// Adds these files.
 fn add_all<'a, A: Allocator + Copy>(
-    files: &mut ToldSource<'a, A>,
-    all: &[(&[u8], &'a [u8])],
+    source: &mut ToldSource<'a, A>,
+    files: &[File<'_, 'a>],
 ) -> Result<(), NoRoom> {
-    for (name, content) in all {
-        files.add(name, Answer::Content(content, Ending::Whole))?;
+    for (name, content, ending) in files {
+        source.add(name.as_bytes(), Answer::Content(content, *ending))?;
     }
     Ok(())
 }
 
 // Adds the files of most rows. There is no `x`.
-fn add_files<A: Allocator + Copy>(files: &mut ToldSource<A>) -> Result<(), NoRoom> {
-    let all: [(&[u8], &[u8]); 4] = [
-        (b"a", b"abc"),
-        (b"e", b""),
-        (b"q\\\nz", b"abc"),
-        (b"a\rb", b"abc"),
+fn add_files<A: Allocator + Copy>(source: &mut ToldSource<A>) -> Result<(), NoRoom> {
+    let files: [File; 4] = [
+        ("a", b"abc", Ending::Whole),
+        ("e", b"", Ending::Whole),
+        ("q\\\nz", b"abc", Ending::Whole),
+        ("a\rb", b"abc", Ending::Whole),
     ];
-    add_all(files, &all)
+    add_all(source, &files)
+}
+
+// A source of these files and those of most rows, which are read in pieces of at most so many bytes.
+fn source_of<'a>(
+    alloc: Global,
+    files: &[File<'_, 'a>],
+    piece: usize,
+) -> Result<ToldSource<'a, Global>, NoRoom> {
+    let mut source = ToldSource::new(alloc, piece);
+    add_files(&mut source)?;
+    add_all(&mut source, files)?;
+    Ok(source)
 }
 
 // What both outputs of one run hold, and its answer.
 #[derive(Drop)]
-struct Run {
-    out: ToldSink<1024>,
-    err: ToldSink<1024>,
+struct Run<const N: usize> {
+    out: ToldSink<N>,
+    err: ToldSink<N>,
     answer: Result<u8, Stop>,
 }
 
-// Runs a line, whose first word is the tool and whose words are parted by single spaces. Each output stops
-// after so many bytes.
+// Runs a line over this input, these files and those of most rows, which are read in pieces of at most so many bytes.
+// Each output stops after so many bytes.
 fn run_line(
+    alloc: Global,
+    line: &str,
+    (input, ending): (&[u8], Ending),
+    files: &[File],
+    piece: usize,
+    stops: (usize, usize),
+) -> Result<Run<1024>, Fail> {
+    let source = source_of(alloc, files, piece)?;
+    let input = Told::new(input, ending, piece);
+    run_line_over(alloc, line, input, source, stops)
+}
+
+// The same over a source that is there already.
+fn run_line_over<const N: usize>(
     alloc: Global,
     line: &str,
     input: Told,
     files: ToldSource<Global>,
     stops: (usize, usize),
-) -> Result<Run, Fail> {
+) -> Result<Run<N>, Fail> {
     let (run, _) = run_line_on(alloc, line, input, files, stops)?.ok_or("no room for the words")?;
     Ok(run)
 }
 
-// The same on a heap, and the source afterwards: `None` where the heap has no room for the words.
-fn run_line_on<'a, A: Allocator + Copy>(
+// Runs a line, whose first word is the tool and whose words are parted by single spaces, on a heap. What it did, and
+// the source afterwards: `None` where the heap has no room for the words.
+fn run_line_on<'a, A: Allocator + Copy, const N: usize>(
     heap: A,
     line: &str,
     input: Told,
     files: ToldSource<'a, A>,
-    (out_stop, err_stop): (usize, usize),
-) -> Result<Option<(Run, ToldSource<'a, A>)>, Fail> {
+    stops: (usize, usize),
+) -> Result<Option<(Run<N>, ToldSource<'a, A>)>, Fail> {
+    let Some((tool, words)) = read_line(heap, line)? else {
+        return Ok(None);
+    };
+    let mut streams = told_streams(input, files, stops);
+    let answer = run_words(heap, tool, &words, &mut streams);
+    let Streams {
+        stdin: _,
+        source,
+        out,
+        err,
+    } = streams;
+    Ok(Some((Run { out, err, answer }, source)))
+}
+
+// The tool and the words of a line: `None` where the heap has no room for them.
+fn read_line<A: Allocator + Copy>(heap: A, line: &str) -> Result<Option<(Tool, Words<A>)>, Fail> {
     let mut parts = line.split(' ');
     let tool = Tool::from_word(parts.next().unwrap_or("")).ok_or("no such tool")?;
     let mut words = Words::new(heap);
@@ -106,20 +173,38 @@ fn run_line_on<'a, A: Allocator + Copy>(
             return Ok(None);
         }
     }
-    let mut streams = Streams {
+    Ok(Some((tool, words)))
+}
+
+// What a run works on: told input, told files, and outputs that stop after so many bytes.
+type ToldStreams<'i, 'f, A, const N: usize> = Streams<
+    Told<'i>,
+    ToldSource<'f, A>,
+    ToldSink<N>,
+    ToldSink<N>,
+>;
+
+fn told_streams<'i, 'f, A: Allocator + Copy, const N: usize>(
+    input: Told<'i>,
+    files: ToldSource<'f, A>,
+    (out_stop, err_stop): (usize, usize),
+) -> ToldStreams<'i, 'f, A, N> {
+    Streams {
         stdin: Stdin::new(input),
         source: files,
         out: ToldSink::new(out_stop),
         err: ToldSink::new(err_stop),
-    };
-    let answer = run(heap, tool, &words, &mut streams);
-    let Streams {
-        stdin: _,
-        source,
-        out,
-        err,
-    } = streams;
-    Ok(Some((Run { out, err, answer }, source)))
+    }
+}
+
+// The run itself. It has no contract, so that the proofs of its callers are spared that of `run`.
+fn run_words<A: Allocator + Copy, const N: usize>(
+    heap: A,
+    tool: Tool,
+    words: &Words<A>,
+    streams: &mut ToldStreams<A, N>,
+) -> Result<u8, Stop> {
+    run(heap, tool, words, streams)
 }
 
 // How many times 8 bytes are more than what any run takes that is made on a heap of `heap_of`.
@@ -146,27 +231,66 @@ fn taken(heap: &Bump, units: usize) -> usize {
         .saturating_sub(heap.chunk_capacity())
 }
 
+// That of all runs that are refused nothing each takes as many bytes as the first.
+fn assert_same_taken(rt: &impl Abort, whole: &mut Option<usize>, bytes: usize) {
+    assert_eq!(rt; *whole.get_or_insert(bytes), bytes);
+}
+
 // A line, what it writes on standard output and on standard error, and the status that it answers.
 type Row<'a> = (&'a str, &'a str, &'a str, u8);
 
 // That a run wrote and answered what the row says.
-fn assert_as(rt: &(impl Abort + AllocGlobal), run: &Run, row: Row) -> Result<(), Fail> {
+fn assert_as(rt: &(impl Abort + AllocGlobal), run: &Run<1024>, row: Row) -> Result<(), Fail> {
     let (line, out, err, status) = row;
-    assert_eq!(rt;
-        run.out.bytes(),
-        spelled(rt.alloc(), out)?.as_bytes(),
-        "standard output of {line}"
-    );
-    assert_eq!(rt;
-        run.err.bytes(),
-        spelled(rt.alloc(), err)?.as_bytes(),
-        "standard error of {line}"
-    );
-    assert_eq!(rt; run.answer, Ok(status), "the answer of {line}");
+    assert_run(rt, run, line, Ok(status), (out, err))
+}
+
+// That the run of a line answered so, and wrote just these texts.
+fn assert_run<const N: usize>(
+    rt: &(impl Abort + AllocGlobal),
+    run: &Run<N>,
+    line: &str,
+    answer: Result<u8, Stop>,
+    (out, err): (&str, &str),
+) -> Result<(), Fail> {
+    assert_text(rt, run.out.bytes(), out, ("standard output", line))?;
+    assert_text(rt, run.err.bytes(), err, ("standard error", line))?;
+    assert_eq!(rt; run.answer, answer, "the answer of {line}");
     Ok(())
 }
 
-// That each line does over this input and these manifests as its row says, in whatever pieces they are read.
+// That the bytes are this text, once it is spelled.
+fn assert_text(
+    rt: &(impl Abort + AllocGlobal),
+    bytes: &[u8],
+    text: &str,
+    whose: (&str, &str),
+) -> Result<(), Fail> {
+    assert_bytes(rt, bytes, spelled(rt.alloc(), text)?.as_bytes(), whose);
+    Ok(())
+}
+
+// That the bytes are these.
+fn assert_bytes(rt: &impl Abort, bytes: &[u8], wanted: &[u8], (output, line): (&str, &str)) {
+    assert_eq!(rt; bytes, wanted, "{output} of {line}");
+}
+
+// That a line does as its row says over this input, these files and those of most rows, in whatever pieces they are
+// read.
+fn assert_in_pieces(
+    rt: &(impl Abort + AllocGlobal),
+    input: (&[u8], Ending),
+    files: &[File],
+    row: Row,
+) -> Result<(), Fail> {
+    for piece in PIECES {
+        let run = run_line(rt.alloc(), row.0, input, files, piece, (1024, 1024))?;
+        assert_as(rt, &run, row)?;
+    }
+    Ok(())
+}
+
+// That each line does as its row says, over this input and these manifests, once they are spelled.
 fn assert_rows(
     rt: &(impl Abort + AllocGlobal),
     input: &str,
@@ -174,26 +298,34 @@ fn assert_rows(
     rows: &[Row],
 ) -> Result<(), Fail> {
     let input = spelled(rt.alloc(), input)?;
-    let mut contents = Vec::new(rt.alloc());
-    for (_, content) in manifests {
-        contents.push(spelled(rt.alloc(), content)?)?;
-    }
+    let contents = spelled_all(rt.alloc(), manifests)?;
+    let files = files_of(rt.alloc(), manifests, &contents)?;
     for row in rows {
-        for piece in PIECES {
-            let mut files = ToldSource::new(rt.alloc(), piece);
-            add_files(&mut files)?;
-            for ((name, _), content) in manifests.iter().zip(contents.iter()) {
-                files.add(
-                    name.as_bytes(),
-                    Answer::Content(content.as_bytes(), Ending::Whole),
-                )?;
-            }
-            let input = Told::new(input.as_bytes(), Ending::Whole, piece);
-            let run = run_line(rt.alloc(), row.0, input, files, (1024, 1024))?;
-            assert_as(rt, &run, *row)?;
-        }
+        assert_in_pieces(rt, (input.as_bytes(), Ending::Whole), &files, *row)?;
     }
     Ok(())
+}
+
+// The contents of manifests, spelled.
+fn spelled_all(alloc: Global, manifests: &[(&str, &str)]) -> Result<Vec<String>, Fail> {
+    let mut contents = Vec::new(alloc);
+    for (_, content) in manifests {
+        contents.push(spelled(alloc, content)?)?;
+    }
+    Ok(contents)
+}
+
+// Files with the names of manifests and these contents.
+fn files_of<'n, 'c>(
+    alloc: Global,
+    manifests: &[(&'n str, &str)],
+    contents: &'c [String],
+) -> Result<Vec<File<'n, 'c>>, Fail> {
+    let mut files = Vec::new(alloc);
+    for ((name, _), content) in manifests.iter().zip(contents.iter()) {
+        files.push((*name, content.as_bytes(), Ending::Whole))?;
+    }
+    Ok(files)
 }
 
 // That a line whose input and whose file `f` give these bytes and then a fault does as its row says.
@@ -204,18 +336,5 @@ fn assert_broken(
     row: Row,
 ) -> Result<(), Fail> {
     let ending = Ending::Broken(fault);
-    for piece in PIECES {
-        let mut files = ToldSource::new(rt.alloc(), piece);
-        add_files(&mut files)?;
-        files.add(b"f", Answer::Content(bytes, ending))?;
-        let run = run_line(
-            rt.alloc(),
-            row.0,
-            Told::new(bytes, ending, piece),
-            files,
-            (1024, 1024),
-        )?;
-        assert_as(rt, &run, row)?;
-    }
-    Ok(())
+    assert_in_pieces(rt, (bytes, ending), &[("f", bytes, ending)], row)
 }

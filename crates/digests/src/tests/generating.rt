@@ -1,9 +1,9 @@
 //! Hashing names.
-use super::{add_files, assert_broken, assert_rows, run_line};
+use super::{assert_broken, assert_rows, assert_run, first_of, repeated, run_line};
 use std::process::Abort;
 use std::test::Fail;
 use sum_engine::Stop;
-use sum_sources::{Ending, Fault, Told, ToldSource};
+use sum_sources::{Ending, Fault};
 
 #[test]
 fn names(rt: HostRuntime) -> Result<(), Fail> {
@@ -26,10 +26,10 @@ fn names(rt: HostRuntime) -> Result<(), Fail> {
 fn broken_inputs(rt: HostRuntime) -> Result<(), Fail> {
     let row = ("sha256sum", "", "sha256sum: -: Input/output error\n", 1);
     assert_broken(&rt, b"abc", Fault::Other, row)?;
-    let bytes = vec![in rt.alloc(); b'x'; 300]?;
+    let text = repeated(rt.alloc(), 'x', 300)?;
     let row = ("md5sum f", "", "md5sum: f: Permission denied\n", 1);
     for count in 0..=300 {
-        assert_broken(&rt, bytes.get(..count).ok_or("count")?, Fault::Denied, row)?;
+        assert_broken(&rt, first_of(text.as_bytes(), count)?, Fault::Denied, row)?;
     }
     Ok(())
 }
@@ -39,22 +39,11 @@ fn assert_stops(
     rt: &(impl Abort + AllocGlobal),
     line: &str,
     stops: (usize, usize),
-    (out, err): (&str, &str),
+    texts: (&str, &str),
 ) -> Result<(), Fail> {
-    let mut files = ToldSource::new(rt.alloc(), 8192);
-    add_files(&mut files)?;
-    let input = Told::new(b"", Ending::Whole, 8192);
-    let run = run_line(rt.alloc(), line, input, files, stops)?;
-    assert_eq!(rt; run.answer, Err(Stop::Write), "the answer of {line}");
-    assert!(rt;
-        run.out.bytes() == out.as_bytes(),
-        "standard output of {line}"
-    );
-    assert!(rt;
-        run.err.bytes() == err.as_bytes(),
-        "standard error of {line}"
-    );
-    Ok(())
+    let nothing = (b"".as_slice(), Ending::Whole);
+    let run = run_line(rt.alloc(), line, nothing, &[], 8192, stops)?;
+    assert_run(rt, &run, line, Err(Stop::Write), texts)
 }
 
 // An output that stops holds a prefix of its text, and nothing more is written to either.

@@ -1,13 +1,15 @@
 //! Memory that is refused: each growth in turn, on heaps that are each a little larger.
-use super::{ENOUGH, Row, add_all, assert_as, heap_of, run_line_on, spelled, taken};
+use super::{
+    ENOUGH, File, Row, Run, ToldStreams, add_all, assert_as, assert_same_taken, heap_of, joined,
+    run_line_on, spelled, taken, told_streams,
+};
 use bumpalo::Bump;
 use digest_kinds::{Algo, Algos};
 use std::alloc::{Allocator, Global};
 use std::process::Abort;
 use std::test::Fail;
-use sum_engine::{CheckSettings, Checker, Progress, Report, Stop, Streams};
-use sum_lines::ToldSink;
-use sum_sources::{Ending, Stdin, Told, ToldSource};
+use sum_engine::{CheckSettings, Checker, Progress, Report, Stop};
+use sum_sources::{Ending, Told, ToldSource};
 
 // A line of each verdict: right, a comment, bad, missing, wrong. Each name has 8 bytes.
 const VERDICTS: &str = "$M  abc.text\n#c\njunk\n$M *gone.txt\n$M  none.txt\n";
@@ -64,8 +66,50 @@ enum Turn {
     Finished(usize),
 }
 
-// Runs the row's line over the file `abc.text`, the empty file `none.txt` and the manifest `list.md5`. The files, the
-// words and the run have one heap, with room for so many times 8 bytes.
+// A source of these files on a heap, where it has room for them.
+fn source_on<'a, 'b>(heap: &'b Bump, files: &[File<'_, 'a>]) -> Option<ToldSource<'a, &'b Bump>> {
+    let mut source = ToldSource::new(heap, 8192);
+    add_all(&mut source, files).ok()?;
+    Some(source)
+}
+
+// Runs a line over the file `abc.text`, the empty file `none.txt` and the manifest `list.md5`. The files, the words and
+// the run have one heap: `None` where it has no room for the files or for the words.
+fn run_on<'a, 'b>(
+    heap: &'b Bump,
+    manifest: &'a [u8],
+    line: &str,
+) -> Result<Option<(Run<1024>, ToldSource<'a, &'b Bump>)>, Fail> {
+    let all: [File; 3] = [
+        ("abc.text", b"abc", Ending::Whole),
+        ("none.txt", b"", Ending::Whole),
+        ("list.md5", manifest, Ending::Whole),
+    ];
+    let Some(files) = source_on(heap, &all) else {
+        return Ok(None);
+    };
+    let input = Told::new(b"abc", Ending::Whole, 8192);
+    run_line_on(heap, line, input, files, (1024, 1024))
+}
+
+// At which of the places a run stopped that was refused memory. Where none was refused it did as the row says: `None`.
+fn stopped_at<A: Allocator + Copy>(
+    rt: &(impl Abort + AllocGlobal),
+    (run, files): (&Run<1024>, &ToldSource<A>),
+    names: &[&str],
+    places: &[Place],
+    row: Row,
+) -> Result<Option<usize>, Fail> {
+    if run.answer == Err(Stop::Memory) {
+        let texts = (run.out.bytes(), run.err.bytes());
+        return Ok(Some(place_of(rt.alloc(), texts, files, names, places)?));
+    }
+    assert!(rt; asked(files, names));
+    assert_as(rt, run, row)?;
+    Ok(None)
+}
+
+// Runs the row's line on a heap with room for so many times 8 bytes.
 fn run_within(
     rt: &(impl Abort + AllocGlobal),
     units: usize,
@@ -74,28 +118,14 @@ fn run_within(
     places: &[Place],
     row: Row,
 ) -> Result<Turn, Fail> {
-    let all: [(&[u8], &[u8]); 3] = [
-        (b"abc.text", b"abc"),
-        (b"none.txt", b""),
-        (b"list.md5", manifest),
-    ];
     let heap = heap_of(rt.alloc(), units)?;
-    let mut files = ToldSource::new(&heap, 8192);
-    if add_all(&mut files, &all).is_err() {
-        return Ok(Turn::NoRoom);
-    }
-    let input = Told::new(b"abc", Ending::Whole, 8192);
-    let Some((run, files)) = run_line_on(&heap, row.0, input, files, (1024, 1024))? else {
+    let Some((run, files)) = run_on(&heap, manifest, row.0)? else {
         return Ok(Turn::NoRoom);
     };
-    if run.answer == Err(Stop::Memory) {
-        let texts = (run.out.bytes(), run.err.bytes());
-        let place = place_of(rt.alloc(), texts, &files, names, places)?;
-        return Ok(Turn::StoppedAt(place));
+    match stopped_at(rt, (&run, &files), names, places, row)? {
+        Some(place) => Ok(Turn::StoppedAt(place)),
+        None => Ok(Turn::Finished(taken(&heap, units))),
     }
-    assert!(rt; asked(&files, names));
-    assert_as(rt, &run, row)?;
-    Ok(Turn::Finished(taken(&heap, units)))
 }
 
 // Runs the row's line on a heap of each size, so that each growth in turn is refused. The places come in their order,
@@ -121,7 +151,7 @@ fn assert_each_growth(
             }
             Turn::Finished(bytes) => {
                 assert_eq!(rt; reached, places.len());
-                assert_eq!(rt; *whole.get_or_insert(bytes), bytes);
+                assert_same_taken(rt, &mut whole, bytes);
             }
         }
     }
@@ -180,12 +210,16 @@ fn growths_of_two_manifests(rt: HostRuntime) -> Result<(), Fail> {
 #[test]
 fn long_line_refused(rt: HostRuntime) -> Result<(), Fail> {
     let long = "a_name_that_is_so_long_that_the_vector_of_the_line_before_has_no_room_for_this_one";
-    let manifest = format!(in rt.alloc(); "$M  abc.text\n$M  {long}\n")?;
-    let out = format!(in rt.alloc(); "abc.text: OK\n{long}: FAILED open or read\n")?;
-    let err = format!(in rt.alloc();
-        "md5sum: {long}: No such file or directory\n\
-        md5sum: WARNING: 1 listed file could not be read\n"
-    )?;
+    let manifest = joined(rt.alloc(), &["$M  abc.text\n$M  ", long, "\n"])?;
+    let reports = ["abc.text: OK\n", long, ": FAILED open or read\n"];
+    let out = joined(rt.alloc(), &reports)?;
+    let warnings = [
+        "md5sum: ",
+        long,
+        ": No such file or directory\n",
+        "md5sum: WARNING: 1 listed file could not be read\n",
+    ];
+    let err = joined(rt.alloc(), &warnings)?;
     let places = [("", "", 0), ("", "", 1), ("abc.text: OK\n", "", 2)];
     let row = ("md5sum -c list.md5", out.as_str(), err.as_str(), 1);
     let names = ["list.md5", "abc.text", long];
@@ -211,10 +245,24 @@ const AFTER_STEPS: [Place<'static>; 7] = [
 ];
 
 // What a checker of all verdicts works on.
-type Stage<'a, 'b> = Streams<Told<'a>, ToldSource<'a, &'b Bump>, ToldSink<1024>, ToldSink<1024>>;
+type Stage<'a, 'b> = ToldStreams<'a, 'a, &'b Bump, 1024>;
 
 // How many lines a checker has done, and what its last step answered.
 type Reached = (usize, Result<Progress, Stop>);
+
+// A checker of a manifest `list.md5`, and a step of it. They have no contracts, so that the proofs of their callers are
+// spared those of `new` and `step`.
+fn checker_of<'a>(manifest: Told<'a>) -> Checker<'static, Told<'a>> {
+    Checker::new(CHECK, "md5sum", b"list.md5", false, manifest)
+}
+
+fn step<'b>(
+    checker: &mut Checker<Told>,
+    line: &mut Vec<u8, &'b Bump>,
+    streams: &mut Stage<'_, 'b>,
+) -> Result<Progress, Stop> {
+    checker.step(line, streams)
+}
 
 // One step more. Where it wants memory, the heap gets enough; what has stopped or ended stays so.
 fn step_on<'b>(
@@ -225,7 +273,7 @@ fn step_on<'b>(
     streams: &mut Stage<'_, 'b>,
     (lines, before): Reached,
 ) -> Reached {
-    let answer = checker.step(line, streams);
+    let answer = step(checker, line, streams);
     if before != Ok(Progress::Going) {
         assert_eq!(rt; answer, before);
         return (lines, answer);
@@ -246,29 +294,38 @@ fn assert_there(alloc: Global, streams: &Stage, lines: usize) -> Result<(), Fail
     Ok(())
 }
 
+// Nine steps over this manifest: six do all of it, so a checker that has stopped or ended steps three times more.
+fn nine_steps<'b>(
+    rt: &(impl Abort + AllocGlobal),
+    heap: &'b Bump,
+    manifest: Told,
+    streams: &mut Stage<'_, 'b>,
+) -> Result<Reached, Fail> {
+    let mut checker = checker_of(manifest);
+    let mut line = Vec::new(heap);
+    let mut reached = (0, Ok(Progress::Going));
+    for _ in 0..9 {
+        reached = step_on(rt, heap, &mut checker, &mut line, streams, reached);
+        assert_there(rt.alloc(), streams, reached.0)?;
+    }
+    Ok(reached)
+}
+
 // Steps over all verdicts on a heap with room for so many times 8 bytes, and three times more once it has stopped or
 // ended, with memory enough. It stops at as many lines as it has done.
 fn steps(rt: &(impl Abort + AllocGlobal), units: usize) -> Result<Turn, Fail> {
     let manifest = spelled(rt.alloc(), VERDICTS)?;
     let heap = heap_of(rt.alloc(), units)?;
-    let mut files = ToldSource::new(&heap, 8192);
-    if add_all(&mut files, &[(b"abc.text", b"abc"), (b"none.txt", b"")]).is_err() {
+    let all: [File; 2] = [
+        ("abc.text", b"abc", Ending::Whole),
+        ("none.txt", b"", Ending::Whole),
+    ];
+    let Some(files) = source_on(&heap, &all) else {
         return Ok(Turn::NoRoom);
-    }
-    let mut streams = Streams {
-        stdin: Stdin::new(Told::new(b"", Ending::Whole, 1)),
-        source: files,
-        out: ToldSink::<1024>::new(1024),
-        err: ToldSink::<1024>::new(1024),
     };
+    let mut streams = told_streams(Told::new(b"", Ending::Whole, 1), files, (1024, 1024));
     let input = Told::new(manifest.as_bytes(), Ending::Whole, 8192);
-    let mut checker = Checker::new(CHECK, "md5sum", b"list.md5", false, input);
-    let mut line = Vec::new(&heap);
-    let mut reached = (0, Ok(Progress::Going));
-    for _ in 0..9 {
-        reached = step_on(rt, &heap, &mut checker, &mut line, &mut streams, reached);
-        assert_there(rt.alloc(), &streams, reached.0)?;
-    }
+    let reached = nine_steps(rt, &heap, input, &mut streams)?;
     if reached.1 == Err(Stop::Memory) {
         return Ok(Turn::StoppedAt(reached.0));
     }
@@ -295,7 +352,7 @@ fn growths_step_by_step(rt: HostRuntime) -> Result<(), Fail> {
                     stops.push(lines)?;
                 }
             }
-            Turn::Finished(bytes) => assert_eq!(rt; *whole.get_or_insert(bytes), bytes),
+            Turn::Finished(bytes) => assert_same_taken(&rt, &mut whole, bytes),
         }
     }
     assert!(rt; whole.is_some());

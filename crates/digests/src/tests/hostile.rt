@@ -1,15 +1,14 @@
 //! Outputs that stop at any byte, manifests that break off anywhere, and hostile ones.
 use super::checking::VERDICTS;
-use super::{MD5_OF_ABC, add_files, assert_broken, assert_rows, run_line, spelled};
-use crate::run::run;
-use std::alloc::Global;
+use super::{
+    MD5_OF_ABC, Run, add_all, assert_broken, assert_rows, assert_run, first_of, joined, repeated,
+    run_line, run_line_over, spelled,
+};
 use std::ops::RangeInclusive;
 use std::process::Abort;
 use std::test::Fail;
-use sum_engine::{Stop, Streams};
-use sum_lines::ToldSink;
-use sum_sources::{Answer, Ending, Fault, Stdin, Told, ToldSource};
-use sum_words::{Tool, Words};
+use sum_engine::Stop;
+use sum_sources::{Ending, Fault, Told, ToldSource};
 
 const REPORTS: &str = "a: OK\nx: FAILED open or read\ne: FAILED\n";
 
@@ -27,25 +26,37 @@ fn assert_stopped(
     (out, err): (RangeInclusive<usize>, RangeInclusive<usize>),
 ) -> Result<(), Fail> {
     let manifest = spelled(rt.alloc(), VERDICTS)?;
-    let mut files = ToldSource::new(rt.alloc(), 8192);
-    add_files(&mut files)?;
-    files.add(b"l", Answer::Content(manifest.as_bytes(), Ending::Whole))?;
-    let input = Told::new(b"", Ending::Whole, 8192);
-    let run = run_line(rt.alloc(), "md5sum -c l", input, files, stops)?;
+    let files = [("l", manifest.as_bytes(), Ending::Whole)];
+    let nothing = (b"".as_slice(), Ending::Whole);
+    let run = run_line(rt.alloc(), "md5sum -c l", nothing, &files, 8192, stops)?;
     assert_eq!(rt; run.answer, answer);
-    assert!(rt; REPORTS.as_bytes().starts_with(run.out.bytes()));
-    assert!(rt; WARNINGS.as_bytes().starts_with(run.err.bytes()));
-    assert!(rt;
-        out.contains(&run.out.bytes().len()),
-        "standard output at {}",
-        stops.0
+    assert_part(
+        rt,
+        run.out.bytes(),
+        REPORTS,
+        out,
+        ("standard output", stops.0),
     );
-    assert!(rt;
-        err.contains(&run.err.bytes().len()),
-        "standard error at {}",
-        stops.1
+    assert_part(
+        rt,
+        run.err.bytes(),
+        WARNINGS,
+        err,
+        ("standard error", stops.1),
     );
     Ok(())
+}
+
+// That the bytes of an output that stops so are a prefix of this text, and are so many.
+fn assert_part(
+    rt: &impl Abort,
+    bytes: &[u8],
+    text: &str,
+    counts: RangeInclusive<usize>,
+    (output, stop): (&str, usize),
+) {
+    assert!(rt; text.as_bytes().starts_with(bytes));
+    assert!(rt; counts.contains(&bytes.len()), "{output} at {stop}");
 }
 
 // The output that stops holds just these bytes, the other one all of the lines that were handled and none of later
@@ -85,7 +96,7 @@ fn cut_manifest(rt: HostRuntime) -> Result<(), Fail> {
         REPORTS,
     ];
     for count in 0..=116 {
-        let prefix = manifest.as_bytes().get(..count).ok_or("count")?;
+        let prefix = first_of(manifest.as_bytes(), count)?;
         let lines = prefix.iter().filter(|byte| **byte == b'\n').count();
         let err = if lines < 4 {
             "md5sum: f: Input/output error\n"
@@ -96,15 +107,6 @@ fn cut_manifest(rt: HostRuntime) -> Result<(), Fail> {
         assert_broken(&rt, prefix, Fault::Other, ("md5sum -c f", out, err, 1))?;
     }
     Ok(())
-}
-
-// A text of one character so many times.
-fn repeated(alloc: Global, character: char, count: usize) -> Result<String, Fail> {
-    let mut text = String::new(alloc);
-    for _ in 0..count {
-        text.push(character)?;
-    }
-    Ok(text)
 }
 
 #[test]
@@ -135,24 +137,14 @@ fn check_alone(
     rt: &(impl Abort + AllocGlobal),
     manifest: &[u8],
     piece: usize,
-    (out, err): (&[u8], &[u8]),
+    texts: (&str, &str),
 ) -> Result<(), Fail> {
-    let mut words = Words::new(rt.alloc());
-    words.add("-c")?;
-    words.add("h")?;
     let mut files = ToldSource::new(rt.alloc(), piece);
-    files.add(b"h", Answer::Content(manifest, Ending::Whole))?;
-    let mut streams = Streams {
-        stdin: Stdin::new(Told::new(b"", Ending::Whole, piece)),
-        source: files,
-        out: ToldSink::<100_100>::new(100_100),
-        err: ToldSink::<100_100>::new(100_100),
-    };
-    let answer = run(rt.alloc(), Tool::Md5sum, &words, &mut streams);
-    assert_eq!(rt; answer, Ok(1));
-    assert!(rt; streams.out.bytes() == out);
-    assert!(rt; streams.err.bytes() == err);
-    Ok(())
+    add_all(&mut files, &[("h", manifest, Ending::Whole)])?;
+    let input = Told::new(b"", Ending::Whole, piece);
+    let stops = (100_100, 100_100);
+    let run: Run<100_100> = run_line_over(rt.alloc(), "md5sum -c h", input, files, stops)?;
+    assert_run(rt, &run, "md5sum -c h", Ok(1), texts)
 }
 
 // The one line, which no newline ends, names a file of nearly 100,000 letters.
@@ -160,14 +152,17 @@ fn check_alone(
 fn long_name(rt: HostRuntime) -> Result<(), Fail> {
     let text = repeated(rt.alloc(), 'y', 99_966)?;
     let name = text.as_str();
-    let manifest = format!(in rt.alloc(); "{MD5_OF_ABC}  {name}")?;
-    let report = format!(in rt.alloc(); "{name}: FAILED open or read\n")?;
-    let warnings = format!(in rt.alloc();
-        "md5sum: {name}: No such file or directory\n\
-        md5sum: WARNING: 1 listed file could not be read\n"
-    )?;
+    let manifest = joined(rt.alloc(), &[MD5_OF_ABC, "  ", name])?;
+    let report = joined(rt.alloc(), &[name, ": FAILED open or read\n"])?;
+    let warnings = [
+        "md5sum: ",
+        name,
+        ": No such file or directory\n",
+        "md5sum: WARNING: 1 listed file could not be read\n",
+    ];
+    let warnings = joined(rt.alloc(), &warnings)?;
     for piece in [1, 8192] {
-        let texts = (report.as_bytes(), warnings.as_bytes());
+        let texts = (report.as_str(), warnings.as_str());
         check_alone(&rt, manifest.as_bytes(), piece, texts)?;
     }
     Ok(())

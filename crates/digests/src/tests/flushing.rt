@@ -1,0 +1,82 @@
+//! How often the program flushes its outputs.
+use super::program::status_of;
+use super::{source_of, spelled};
+use std::alloc::Global;
+use std::test::Fail;
+use sum_engine::Streams;
+use sum_lines::{Sink, SinkFault};
+use sum_sources::{Ending, Stdin, Told};
+
+// A sink that takes everything, tells nothing, and counts how often it is flushed; the flush of one number fails.
+#[derive(Drop)]
+struct CountsFlushes {
+    count: u64,
+    fails_at: u64,
+    failures: u64,
+}
+
+impl Sink for CountsFlushes {
+    ghost failures = { λ s. s.failures };
+
+    fn write(&mut self, piece: &[u8]) -> Result<usize, SinkFault> {
+        Ok(piece.len())
+    }
+
+    fn flush(&mut self) -> Result<(), SinkFault> {
+        self.count = self.count.saturating_add(1);
+        if self.count == self.fails_at {
+            self.failures = self.failures.saturating_add(1);
+            return Err(SinkFault);
+        }
+        Ok(())
+    }
+}
+
+// A sink of which the flush of this number fails.
+fn sink(fails_at: u64) -> CountsFlushes {
+    CountsFlushes {
+        count: 0,
+        fails_at,
+        failures: 0,
+    }
+}
+
+// Calls the program over two such sinks, and answers how often each was flushed, and the status.
+fn count_flushes(
+    alloc: Global,
+    arguments: &[&[u8]],
+    (out_fails, err_fails): (u64, u64),
+) -> Result<(u64, u64, u8), Fail> {
+    let list = spelled(alloc, "$M  a\n")?;
+    let files = source_of(alloc, &[("list", list.as_bytes(), Ending::Whole)], 100)?;
+    let mut streams = Streams {
+        stdin: Stdin::new(Told::new(b"", Ending::Whole, 1)),
+        source: files,
+        out: sink(out_fails),
+        err: sink(err_fails),
+    };
+    let status = status_of(alloc, arguments, &mut streams);
+    Ok((streams.out.count, streams.err.count, status))
+}
+
+// Each line is flushed at its end, and both outputs once more at the end of the run, also where nothing was written. No
+// contract shows the last two, since a flush of an output that holds nothing changes nothing that it tells.
+#[test]
+fn flushed_once_more(rt: HostRuntime) -> Result<(), Fail> {
+    let hash: [&[u8]; 2] = [b"md5sum", b"a"];
+    let missing: [&[u8]; 2] = [b"md5sum", b"x"];
+    let silent: [&[u8]; 4] = [b"md5sum", b"-c", b"--status", b"list"];
+    let rows = [
+        (hash.as_slice(), (0, 0), (2, 1, 0)),
+        (missing.as_slice(), (0, 0), (1, 2, 1)),
+        (silent.as_slice(), (0, 0), (1, 1, 0)),
+        // the last flush of either output fails: one more of standard error tells of it
+        (silent.as_slice(), (1, 0), (1, 1, 1)),
+        (silent.as_slice(), (0, 1), (1, 2, 1)),
+        (hash.as_slice(), (2, 0), (2, 1, 1)),
+    ];
+    for (arguments, fails, counts) in rows {
+        assert_eq!(rt; count_flushes(rt.alloc(), arguments, fails)?, counts);
+    }
+    Ok(())
+}
