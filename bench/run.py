@@ -2,10 +2,10 @@
 """Measures the built programs beside GNU coreutils and other tools, in one run:
 `bench/run.py [--size MIB] [--rounds N] [--only PART].. [--program FILE].. [--no-bare]`.
 
-The program of each level that runs on this machine is measured, or each `--program`; beside GNU's tools, beside uutils,
-busybox and OpenSSL, and beside a bare loop over the kit's digest. What isn't installed is left out. Times are processor
-time on one processor, in rounds in which the programs take turns. A speed is GNU's least time divided by the program's
-own: 1.00 is as fast as GNU, 2.00 twice as fast. The tables are as `docs/PERFORMANCE.md` has them."""
+The program of each level that runs on this machine is measured, or each `--program`, beside GNU's tools; in the
+part `hashing` also beside uutils, busybox, OpenSSL and a bare loop over the kit's digest. What isn't installed is left
+out. Times are processor time on one processor, in rounds in which the programs take turns. A speed is GNU's least time
+divided by the program's own: 1.00 is as fast as GNU, 2.00 twice as fast. `docs/PERFORMANCE.md` has the tables."""
 
 import argparse
 import os

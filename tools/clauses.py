@@ -1,5 +1,5 @@
 #!/usr/bin/env python3
-"""Which clauses of contracts nobody would miss: `clauses.py [--list] [--place FOLDER] [--results FILE] [CRATE]..`.
+"""Which clauses of contracts nobody would miss.
 
 It makes each `ensures` of each public function say nothing (`⊤`), in a copy of the repository, and looks who misses
 it: another function of the crate, then a wrong body of must-fail/, which nothing refuses any more, then a function of a

@@ -105,8 +105,8 @@ def parts_of(text, kind, name):
 
 
 def traits():
-    """Each type of the libraries with the traits that it has, by a derive or by an impl; `Model` is for contracts. A type
-    that is handed out by other names stands under these."""
+    """Each type of the libraries with the traits that it has, by a derive or by an impl; `Model` is for contracts. A
+    type that is handed out by other names stands under these."""
     has, aliases = {}, {}
     for crate in crates():
         folder = os.path.join(TOP, "crates", crate, "src")

@@ -238,9 +238,9 @@ RECIPES_OF_FOLDERS = (
     ("One of the listed files only, by its whole line. Where `grep`(1) finds none, the check fails, since its list is "
      "empty. Give one name at a time: of two, one that isn't found would not be missed.",
      "{grep} SUMS | {tool} -c --strict"),
-    ("Files that the list doesn't name, in `bash`(1). Names are shown escaped, as in a line. A check doesn't tell of them. Check "
-     "the list with `--strict` first: a line whose digits are damaged may name a file here. The status is 0 only where "
-     "there is none, and all folders could be read. Links, pipes and devices are left out:",
+    ("Files that the list doesn't name, in `bash`(1). A check doesn't tell of them. Their names are shown escaped, as in "
+     "a line. Check the list with `--strict` first: a line whose digits are damaged may name a file here. The status is "
+     "0 only where there is none, and all folders could be read. Links, pipes and devices are left out:",
      "(set -o pipefail; export LC_ALL=C",
      "at=$(mktemp -d) && trap 'rm -r \"$at\"' EXIT &&",
      "find . -type f ! -path ./SUMS -print0 |",

@@ -14,8 +14,9 @@ use sum_sources::{Input, Source};
 use sum_words::{Arguments, CommandLine, NotRead, Tool, put_unknown, read_command_line};
 
 /// Does what the program was called for, and answers its exit status. The tool is the one by whose name the program was
-/// called, as by a link, or else the one that the first word names; the other words are the tool's. Each line, and
-/// the help and the two lines of a fault as one, is handed on as soon as it is complete. Where the run didn't stop, both outputs are flushed once more at the end.
+/// called, as by a link, or else the one that the first word names; the other words are the tool's. Each line, and the
+/// help and the two lines of a fault as one, is handed on as soon as it is complete. Where the run didn't stop, both
+/// outputs are flushed once more at the end.
 ///
 /// Where a word isn't UTF-8, it writes `digests: words not read` to standard error, and the status is 1. Otherwise that
 /// comes only where memory is needed for the words. Where there is no such tool, it writes `digests: unknown tool`, and

@@ -21,8 +21,8 @@ use sum_words::{
 };
 
 /// Runs a tool on its words: writes what they mean for what standard input and the source have to give, and answers the
-/// status, 0 where all is good and 1 where anything isn't (coreutils manual, "md5sum invocation"). Each line, and
-/// the help and the two lines of a fault as one, is handed on as soon as it is complete.
+/// status, 0 where all is good and 1 where anything isn't (coreutils manual, "md5sum invocation"). Each line, and the
+/// help and the two lines of a fault as one, is handed on as soon as it is complete.
 ///
 /// `Stop::Memory` where memory was refused; just the first steps of the run came about, up to an operand or, in
 /// checking, up to a line of a manifest or its end. `Stop::Write` where a write failed; one prefix of all
