@@ -1,5 +1,5 @@
-//! The words of a command line: the tools, what the arguments call for, what the words ask for, and the texts of faults,
-//! help, version, an unknown tool and a stop.
+//! The words of a command line: the tools, what the arguments call for, what the words ask for, and the texts of
+//! faults, help, version, an unknown tool and a stop.
 #![tactic(auto)]
 
 mod arguments;
