@@ -29,7 +29,7 @@ PROMISES = os.path.join(TOP, "docs", "PROMISES.md")
 CLAIMS = [("digests", "run", "The headline"), ("digests", "command", "The program")]
 HASHES = """\
 Where a *hash* changed, there is something new to believe: it is a prefix of the SHA-256 of the text of a row's
-definitions, without comments and with white space folded.""".replace("\n", " ")
+definitions, without comments and with white space folded, and of where the names in it come from.""".replace("\n", " ")
 MARKS = "<!-- made by tests/believed.py: what stands below -->\n", "\n<!-- and above this line -->"
 
 
@@ -113,7 +113,8 @@ def text_of(page):
     for title, files in in_order(page, specs):
         yield f"-- ======== {title}: {counted(sum(files.values(), []))}"
         for (crate, file), definitions in files.items():
-            yield "\n".join(["", f"-- ---- {crate} {file}: {counted(definitions)}", *definitions[0].module.head])
+            head = [f"-- ---- {crate} {file}: {counted(definitions)}", *definitions[0].module.head]
+            yield "\n".join(["", *head, *renamed(definitions)])
             for definition in definitions:
                 yield "\n".join(["", *definition.lines])
         yield ""
@@ -128,8 +129,17 @@ def counted(definitions):
 
 
 def hash_of(definitions):
-    """Changes with the text of the definitions, but for comments and white space."""
-    return hashlib.sha256("\n".join(it.said for it in definitions).encode()).hexdigest()[:8]
+    """Changes with the text of the definitions, but for comments and white space, and with where its names come from."""
+    said = "\n".join(f"{it.said}\n{it.origins()}" for it in definitions)
+    return hashlib.sha256(said.encode()).hexdigest()[:8]
+
+
+def renamed(definitions):
+    """The names in definitions of one file that stand for another name, or for a module, each with what it is."""
+    origins = {name: it for definition in definitions for name, it in definition.origins().items()}
+    for name, (module, there) in sorted(origins.items()):
+        if there not in (name, None) or there is None and module.split(".")[-1] != name:
+            yield f"-- here {name} is {module}{'.' + there if there else ''}"
 
 
 def rows_of(page):

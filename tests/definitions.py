@@ -29,6 +29,11 @@ def imports_of(line):
             yield (other or name).strip(), (module, name)
 
 
+def spellings(name):
+    """How a name may stand in a `use` line or a declaration: as it is, or as an operator."""
+    return name, f"◌{name}◌", f"{name}◌", f"◌{name}"
+
+
 class Token(NamedTuple):
     """A mark, or a name with what follows it behind a dot; where it stands in its line, and whether it begins it."""
 
@@ -179,6 +184,13 @@ class Definition:
     def file(self):
         return self.module.crate, self.module.file
 
+    def origins(self):
+        """Where the names in it come from that a `use` line brings in: each as it stands there, with the module and the
+        name in that, which is None for a module itself."""
+        imports = self.module.imports
+        named = {spelled for token in tokens_of(self.text) for spelled in spellings(token.text)}
+        return {spelled: imports[spelled] for spelled in sorted(named & imports.keys())}
+
     def constructors(self):
         """The constructors of a type."""
         return re.findall(r"^  (?:pub )?(\S+) :", self.text, re.MULTILINE) if self.kind == "data" else []
@@ -232,8 +244,7 @@ class Specs:
         """The definition of that name in a module, or that of the type whose constructor it is; and whether it is a
         constructor."""
         there = self.modules.get(module)
-        spellings = (name, f"◌{name}◌", f"{name}◌", f"◌{name}")
-        for spelled in spellings if there else ():
+        for spelled in spellings(name) if there else ():
             if spelled in there.definitions:
                 return there.definitions[spelled], False
             if (module, spelled) in self.owners:

@@ -24,9 +24,10 @@ WITHOUT_CHECK = False
 NOT_FOR_THIS_MACHINE = 127  # the status of a program for later processors than the machine's
 TOP = os.path.dirname(os.path.dirname(os.path.abspath(__file__)))
 
-# Against what never ends, and far above what anything takes: a machine that stands still for minutes fails no test.
+# Against what never ends, and far above what anything takes: a machine that stands still for a while fails no test.
 RUN_SECONDS = 600
 TEST_SECONDS = 1200
+SOON = 60  # for what is there at once
 
 M = "900150983cd24fb0d6963f7d28e17f72"  # MD5 of "abc"
 E = "d41d8cd98f00b204e9800998ecf8427e"  # MD5 of nothing
@@ -213,7 +214,7 @@ class Case(unittest.TestCase):
         os.close(writes)
         return reads
 
-    def shown(self, descriptor, text, seconds=10):
+    def shown(self, descriptor, text, seconds=SOON):
         """Waits until a terminal or pipe has given so many bytes as the text has, and compares them."""
         wanted, got = as_bytes(text), b""
         stop = time.monotonic() + seconds
@@ -238,7 +239,7 @@ class Case(unittest.TestCase):
             near = slice(max(0, place - 40), place + 80)
             self.fail(f"at byte {place} of {len(got)}, {len(wanted)} wanted: {got[near]!r} != {wanted[near]!r}")
 
-    def until(self, condition, what, seconds=20):
+    def until(self, condition, what, seconds=SOON):
         """Waits until the condition holds; the test fails, saying what was awaited, where it doesn't in that time."""
         stop = time.monotonic() + seconds
         while not condition():

@@ -9,8 +9,6 @@ import subprocess
 import harness
 from harness import E, M, VERDICTS, X_MISSING, Case, as_bytes, needs_check
 
-SOON = 5  # seconds in which a line has to be there
-
 
 class FirstLines(Case):
     """A pipe with a name, which nobody feeds yet, holds the program at the next name."""
@@ -28,7 +26,7 @@ class FirstLines(Case):
     def test_a_line_before_the_next_file_is_there(self):
         """`md5sum a fifo | while read line` shows the first line at once."""
         started = self.start("md5sum a p e", stdout=subprocess.PIPE)
-        self.shown(started.stdout.fileno(), [f"{M}  a"], SOON)
+        self.shown(started.stdout.fileno(), [f"{M}  a"])
         self.assertIsNone(started.poll())
         self.finish(started, 0)
         self.shown(started.stdout.fileno(), [f"{M}  p", f"{E}  e"])
@@ -36,7 +34,7 @@ class FirstLines(Case):
     def test_a_line_with_a_nul_at_its_end(self):
         """The same under -z."""
         started = self.start("md5sum -z a p", stdout=subprocess.PIPE)
-        self.shown(started.stdout.fileno(), f"{M}  a\0", SOON)
+        self.shown(started.stdout.fileno(), f"{M}  a\0")
         self.finish(started, 0)
         self.shown(started.stdout.fileno(), f"{M}  p\0")
 
@@ -54,7 +52,7 @@ class FirstLines(Case):
         """`md5sum -c | while read line` shows the first report at once."""
         self.write("l", [f"{M}  a", f"{M}  p", f"{E}  e"])
         started = self.start("md5sum -c l", stdout=subprocess.PIPE)
-        self.shown(started.stdout.fileno(), ["a: OK"], SOON)
+        self.shown(started.stdout.fileno(), ["a: OK"])
         self.finish(started, 0)
         self.shown(started.stdout.fileno(), ["p: OK", "e: OK"])
 
@@ -65,8 +63,8 @@ class FirstLines(Case):
         for line, report in ((f"{M}  a", "a: OK"), (f"{M}  e", "e: FAILED"), (f"{M}  x", "x: FAILED open or read")):
             started.stdin.write(as_bytes([line]))
             started.stdin.flush()
-            self.shown(started.stdout.fileno(), [report], SOON)
-        self.shown(started.stderr.fileno(), [X_MISSING], SOON)
+            self.shown(started.stdout.fileno(), [report])
+        self.shown(started.stderr.fileno(), [X_MISSING])
         self.assertIsNone(started.poll())
         started.stdin.close()
         self.assertEqual(started.wait(timeout=harness.RUN_SECONDS), 1)

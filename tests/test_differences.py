@@ -106,6 +106,14 @@ class Messages(Described):
         for words in ("-l 520 --help", "-l 520 --version"):
             self.assertEqual([ran.status for ran in self.both(f"b2sum {words}")], [0, 0], words)
 
+    def test_standard_input_twice(self):
+        """A second `-` is an empty file; GNU's tools read on, and tell a fault again."""
+        folder = os.open(self.path("d"), os.O_RDONLY)
+        self.addCleanup(os.close, folder)
+        ours, theirs = ([f"md5sum: -: {fault}"] for fault in ("Input/output error", "Is a directory"))
+        self.expect_both("md5sum - -", (1, [f"{E}  -"], ours), (1, b"", theirs * 2), stdin=folder)
+        self.expect_alike("md5sum - -", 0, [f"{M}  -", f"{E}  -"], stdin=b"abc")
+
     def test_what_has_no_effect(self):
         """The language changes GNU's quotes, and POSIXLY_CORRECT makes every word behind a name one; here neither."""
         ran = [self.both("b2sum -l x e", env={**os.environ, "LC_ALL": name}) for name in ("C", "C.UTF-8")]
@@ -174,6 +182,13 @@ class Checks(Described):
             self.write("list", [line])
             self.expect_alike("md5sum -c -w --strict list", 1, err=said)
         self.write("list", ["#\0", f"{M}  a"])
+        self.expect_alike("md5sum -c --strict list", 0, ["a: OK"])
+
+    def test_a_name_that_hides_what_follows(self):
+        """Where a list was written with `--zero`, a newline and `#` in a name hide all that follows, in both."""
+        self.write("a\n#", "abc")
+        self.write("list", self.run_words(["md5sum", "-z", "a\n#", "e"]).out)
+        self.write("e", "changed")
         self.expect_alike("md5sum -c --strict list", 0, ["a: OK"])
 
     def test_an_empty_name(self):
@@ -293,9 +308,11 @@ class Writing(Described):
             self.assertEqual(found, (status, as_bytes([f"{M}  a"]), status == 1))
 
     def test_one_write_a_line(self):
-        """GNU's tools write each line of standard output at once, as ours do; but not with `--zero`."""
-        for words, theirs in (("md5sum a e a", 3), ("md5sum --tag a e a", 3), ("md5sum -z a e a", 1)):
-            self.assertEqual(self.writes_of(words), (0, 3))
+        """GNU's tools write each line of standard output at once, as ours do; but not with `--zero`, nor where one has
+        over 4,096 bytes."""
+        for words, ours, theirs in (("md5sum a e a", 3, 3), ("md5sum --tag a e a", 3, 3), ("md5sum -z a e a", 3, 1),
+                                    (f"md5sum {'./' * 2030}a", 1, 1), (f"md5sum {'./' * 2031}a", 1, 2)):
+            self.assertEqual(self.writes_of(words), (0, ours))
             with open(self.path("out"), "wb") as out:
                 command, before = harness.as_words(words), self.writes_so_far()
                 subprocess.run(command, executable=gnu("md5sum"), stdout=out, cwd=self.folder, check=True)

@@ -73,6 +73,17 @@ class Documents(Case):
         for claim in believed.claims(page, specs):
             self.assertLessEqual(claim.reached, above, claim.function)
 
+    def test_hashes(self):
+        """A row's hash changes with its definitions' text, and with where a name in it comes from."""
+        line = Specs().modules["Rattle.sum_engine.specs.Reports"].definitions["verdict_line"]
+        hashes = [believed.hash_of([line])]
+        for name, (module, there) in line.origins().items():
+            line.module.imports[name] = module, f"{there}_of_another"
+            hashes.append(believed.hash_of([line]))
+        self.assertGreater(len(hashes), 5)
+        self.assertEqual(len(set(hashes)), len(hashes))
+        self.assertEqual([it.split()[2] for it in believed.renamed([line])], sorted(line.origins()))
+
     def test_names_that_stand_free(self):
         """A name stands for a definition where no binder, pattern, field or text has it."""
         for text, free in FREE:

@@ -132,7 +132,6 @@ class Install(Repository):
                 self.installs()
                 self.installs()
                 self.removes()
-                before.pop("share/digests", None)  # it is this program's own
                 self.assertEqual(self.tree(), before)
                 shutil.rmtree(self.prefix)
 
@@ -311,7 +310,7 @@ class Install(Repository):
     def test_a_run_that_fails(self):
         """Without a note it leaves nothing behind, and what was there stays; with one, all of it can be taken away."""
         self.put("man/b2sum.1", "ours")
-        for there in ("bin", "share/man", None):
+        for there in ("bin", "share/man", "share/digests", None):
             for command, noted in (("cp", False), ("awk", False), ("ln", True)):
                 with self.subTest(there=there, command=command):
                     if there:
@@ -319,7 +318,9 @@ class Install(Repository):
                     before = self.tree()
                     self.write(f"commands/{command}", "#!/bin/sh\nexit 1\n")
                     os.chmod(self.path(f"commands/{command}"), 0o755)
-                    self.assertIn("failed\n", self.installs(status=1))
+                    said = self.installs(status=1)
+                    self.assertIn("failed\n", said)
+                    self.assertEqual("--remove takes away what was put there" in said, noted)
                     os.remove(self.path(f"commands/{command}"))
                     self.assertEqual(os.path.exists(os.path.join(self.prefix, "share/digests/installed")), noted)
                     if noted:

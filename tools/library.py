@@ -129,10 +129,9 @@ def more_of(text, item, has):
         return [f"*{mark}:* " + ", ".join(f"`{name}`" for name in names)] if names else []
     if item.kind == "trait":
         return listed("Implemented by", [name for name in has if item.name in has[name]])
-    if item.kind not in ("struct", "enum"):
-        return []
-    mark = {"struct": "Fields", "enum": "Variants"}[item.kind]
-    return listed(mark, parts_of(text, item.kind, item.name)) + listed("Traits", has.get(item.name, []))
+    mark = {"struct": "Fields", "enum": "Variants"}.get(item.kind)
+    parts = listed(mark, parts_of(text, item.kind, item.name)) if mark else []
+    return parts + (listed("Traits", has.get(item.name, [])) if mark or item.kind == "type" else [])
 
 
 def things_of(crate):

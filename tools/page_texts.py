@@ -67,8 +67,8 @@ TAGS = {
 CHECKING = (
     "Each {FILE} is a manifest: a list of lines as they are written without `--zero`. Each line is checked and "
     "reported before the next one is looked at. A listed name is looked up from the present folder, not from the "
-    "manifest's: `cd` {FOLDER} comes first where the list was written in {FOLDER}. A listed file named `-` is standard "
-    "input; in a manifest that is `-` itself, or where no {FILE} is given, such a line is improperly formatted.",
+    "manifest's: `cd` {FOLDER} comes first where the list was written in {FOLDER}. A listed name `-` means standard "
+    "input. Where the manifest itself comes from there, such a line is improperly formatted.",
     "Empty lines, and lines that begin with `#`, are passed over. A carriage return at a line's end is dropped. Blanks "
     "at its beginning are passed over, and digits of either case are read. In the tagged form the space before the "
     "parenthesis may be missing, and there may be none or several about the equals sign.",
@@ -85,7 +85,7 @@ CHECKING_OF_ANYSUM = (
 
 CHECKING_OF_OTHERS = (
     "The first line that begins with its digits, a blank and more decides how all such lines of the manifest are read. "
-    "Where a space or a star, then more stands behind the blank, names begin behind these two; otherwise behind the "
+    "Where a space or a star, and then more, follows its blank, names begin behind both; otherwise right behind the "
     "blank. A line that can't be read so is improperly formatted: it is counted, and fails the check only with "
     "`--strict`, or where no line lists a file.")
 
@@ -103,10 +103,10 @@ STATUSES = {
          "couldn't be read (with `--ignore-missing`, files may be missing); and with `--strict` no line is improperly "
          "formatted. With `--help` or `--version`: the text was written.",
     "1": "Anything else: also a fault of the options, memory that is refused, or an output that fails.",
-    "127": "The program was built for later processors than this machine's. Nothing was done. Where the message names "
-           "`x86-64-v3`, install the level `default`. Where it names `x86-64-v2`, that is the level `default`: there "
-           "is none for older processors. The option `--cpu` in the message is the compiler's, and not that of "
-           "`install`.",
+    "127": "The program could not begin: the system could not load it, as with too little memory, or it was built for "
+           "later processors than this machine's. Nothing was done. Where the message names `x86-64-v3`, install the "
+           "level `default`. Where it names `x86-64-v2`, that is the level `default`: there is none for older "
+           "processors. The option `--cpu` in the message is the compiler's, and not that of `install`.",
 }
 
 DIAGNOSTICS = {
@@ -132,8 +132,9 @@ DIAGNOSTICS = {
 LIMITS = (
     "A word of the command line that isn't UTF-8 can't be read: the answer is `digests: words not read` alone, and no "
     "file of that call is read. A name in a manifest that isn't UTF-8 can't be opened.",
-    "Lines that were written with `--zero` can't be checked: they are improperly formatted. But where a name holds a "
-    "newline, what stands before that may be read as a line.",
+    "Lines that were written with `--zero` can't be checked: most are improperly formatted. But where a name holds a "
+    "newline, what stands before that may be read as a line, and what follows is passed over where it begins with `#`: "
+    "the status may then be 0, even with `--strict`.",
     "A file of 2^61 bytes or more is an `Input/output error`.",
     "One line is held in memory at a time, however long the manifest is.",
     "The stack has to have 64 KiB, and more where the words or the environment are large. With 48 KiB a signal may "
@@ -185,6 +186,8 @@ DIFFERENCES = (
     "An output that fails ends the run with a write error and status 1, and so does a reader that goes away, as "
     "`head`(1). GNU's tools still read all other files, and tell the reason of some write errors; a signal ends them "
     "where the reader goes away.",
+    "Standard input is given once: a second `-` of a call is an empty file. GNU's tools read on there, at a terminal for "
+    "instance, and tell a fault again.",
     "The language that is set and `POSIXLY_CORRECT` have no effect.",
     "`--help` and `--version` print other texts. The message of an option that is unknown or cut too short doesn't "
     "name its value, nor the options that are possible.",
@@ -203,9 +206,9 @@ DIFFERENCE_OF_ANYSUM = (
 
 # Recipes: what each is for, and its lines. Each has one status, which is 0 only where all that it is for was done.
 # {tool} stands for the tool that checks, {writes} for what writes lines, {of} for the program where it has to be named,
-# {form} for how sed takes a line down to its name, and {grep} for how a line is found. Lists get their names only once
-# they are whole, so that no later recipe takes a short one for all; by `mv -T`, since a folder of that name would take
-# them in. tests/test_recipes.py types each of them.
+# {form} for how sed takes a line down to its name, and {grep} for how a line is found. Lists, but for that of one file,
+# get their names only once they are whole, so that no later recipe takes a short one for all; by `mv -T`, since a folder
+# of that name would take them in. tests/test_recipes.py types each of them.
 RECIPE_OF_A_FILE = ("A file's checksum:", "{writes} image.iso > image.sum")
 RECIPE_OF_ITS_CHECK = ("Later, whether the file still has it:", "{tool} -c image.sum")
 

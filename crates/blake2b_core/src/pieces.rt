@@ -6,8 +6,8 @@ use crate::compression::compress;
 use crate::output::Output;
 use crate::whole::{BLOCK, chained, followed_blocks, initial, zero_filled};
 
-/// A message has fewer bytes than this. FIPS 180-4 defines SHA-1, SHA-224 and SHA-256 for messages of fewer than 2^64
-/// bits, which is 2^61 bytes; BLAKE2b would allow more, and has the same bound here.
+/// A message that comes in pieces has fewer bytes than this. FIPS 180-4 defines SHA-1, SHA-224 and SHA-256 for messages
+/// of fewer than 2^64 bits, which is 2^61 bytes; BLAKE2b would allow more, and has the same bound here.
 pub const LIMIT: u64 = 1 << 61;
 
 /// A BLAKE2b digest in the making: the message so far, of which at most one block is kept back.

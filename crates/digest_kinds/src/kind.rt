@@ -8,8 +8,8 @@ use crate::algo::Algo;
 use std::marker::Model;
 use thiserror::Error;
 
-/// Why no BLAKE2b digest has so many bits: `TooLong` where there are more than 512, `NotBytes` where they are no
-/// multiple of 8.
+/// Why no BLAKE2b digest has so many bits: `TooLong` where there are more than 512, and otherwise `NotBytes` where they
+/// are no multiple of 8.
 #[derive(Clone, Copy, Debug, PartialEq, Eq, Error)]
 pub enum LengthFault {
     #[error("a BLAKE2b digest has at most 512 bits")]

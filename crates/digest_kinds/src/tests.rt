@@ -1,4 +1,4 @@
-//! The vectors of the standards, by each hasher, and one call of each function with an answer from outside.
+//! Published digests, by each hasher, and one call of each function with an answer from outside.
 mod digests;
 mod hashers;
 mod kinds;

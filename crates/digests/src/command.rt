@@ -19,10 +19,10 @@ use sum_words::{Arguments, CommandLine, NotRead, Tool, put_unknown, read_command
 /// outputs are flushed once more at the end.
 ///
 /// Where a word isn't UTF-8, it writes `digests: words not read` to standard error, and the status is 1. Otherwise that
-/// comes only where memory is needed for the words. Where there is no such tool, it writes `digests: unknown tool`, and
-/// the status is 1. After a stop of a tool's run it writes `TOOL: memory exhausted` or `TOOL: write error`, as far as
-/// standard error takes it, and the status is 1. What the clauses say of bytes holds of outputs that hold nothing when
-/// they are lent.
+/// comes only where memory is needed for the arguments. Where there is no such tool, it writes `digests: unknown tool`,
+/// and the status is 1. After a stop of a tool's run, or where that last flush fails, it writes
+/// `TOOL: memory exhausted` or `TOOL: write error`, as far as standard error takes it, and the status is 1. What the
+/// clauses say of bytes holds of outputs that hold nothing when they are lent.
 pub fn command<A: Allocator + Copy, G: Arguments, I: Input + Drop, S: Source, O: Sink, E: Sink>(
     alloc: A,
     arguments: &G,
@@ -72,7 +72,7 @@ fn tell_not_read<E: Sink>(err: &mut E) -> Result<(), SinkFault>
 }
 
 // Ends a run that answered so: flushes both outputs once more, unless it stopped, and tells of a stop. Answers
-// the exit status: that of the run, or 1 after a stop.
+// the exit status: that of the run, or 1 after a stop or a flush that failed.
 fn close<O: Sink, E: Sink>(
     tool: Option<Tool>,
     answer: Result<u8, Stop>,

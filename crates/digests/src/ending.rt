@@ -9,8 +9,8 @@ use sum_engine::Stop;
 use sum_lines::{Sink, SinkFault};
 use sum_words::{Tool, put_stop};
 
-/// Flushes both outputs, unless the run stopped. Answers as the run did, or `Stop::Write` where a flush failed, which
-/// can be though nothing was held.
+/// Flushes both outputs, unless the run stopped or the first flush fails. Answers as the run did, or `Stop::Write`
+/// where a flush failed, which can be though nothing was held.
 pub(crate) fn settle<O: Sink, E: Sink>(
     answer: Result<u8, Stop>,
     out: &mut O,

@@ -17,7 +17,7 @@ use sum_lines::ToldSink;
 use sum_sources::{Answer, Ending, Fault, Stdin, Told, ToldSource};
 use sum_words::{NoRoom, Tool, Words};
 
-// Digests of the standards (RFC 1321, FIPS 180-4, RFC 7693). In the texts of rows `$M` stands for the first, and so on.
+// Published digests (of MD5, SHA-2 and BLAKE2b). In the texts of rows `$M` stands for the first, and so on.
 const MD5_OF_ABC: &str = "900150983cd24fb0d6963f7d28e17f72";
 
 const MD5_OF_NOTHING: &str = "d41d8cd98f00b204e9800998ecf8427e";

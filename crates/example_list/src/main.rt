@@ -1,4 +1,5 @@
-//! Lists what a manifest on standard input says: of each entry its algorithm, its digest and its file's name.
+//! Lists what the tagged lines of a manifest on standard input say: of each entry its algorithm, its digest and its
+//! file's name.
 #![tactic(auto)]
 
 use digest_kinds::Algos;

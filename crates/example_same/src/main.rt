@@ -14,7 +14,7 @@ use std::env;
 use sum_sources::{Ending, Fault, Files, Input, LineReader, LineStop, Next, Source, hash_input};
 
 /// Whether the two inputs have the same digest of this kind; or the fault that the left one ends by or, where that ends
-/// whole, the right one.
+/// whole, the right one. An input of 2^61 bytes or more counts as one that ends by a fault.
 pub fn same<L: Input, R: Input>(kind: Kind, left: &mut L, right: &mut R) -> Result<bool, Fault>
     ensures whole { IfOk result (λ _. IfSome (L.content left.old) (λ l. (clip l).ending ≡ Ending.Whole)
         × IfSome (R.content right.old) (λ r. (clip r).ending ≡ Ending.Whole)) }
@@ -29,7 +29,7 @@ pub fn same<L: Input, R: Input>(kind: Kind, left: &mut L, right: &mut R) -> Resu
     Ok(left_digest.same(&right_digest))
 }
 
-/// How many lines the input has. Memory is wanted for one line at a time.
+/// How many lines the input has; or the fault that it ends by. Memory is wanted for one line at a time.
 pub fn count_lines<I: Input + Drop, A: Allocator>(input: I, alloc: A) -> Result<u64, LineStop>
     ensures count { IfOk result (λ count. IfSome (I.content input) (λ c.
         ((clip c).ending ≡ Ending.Whole) × (count ≡ length (lines (clip c))))) }

@@ -66,7 +66,7 @@ FindOf r vector a b (Err Memory) = b.run_state ≡ a.run_state
 abbrev pub FindGives : Rules → List ℕ → Option Now → Option Now → Result (Option LineVerdict) LineStop → Type 0
 FindGives r vector a b x = WhereTold a b (λ a b. FindOf r vector a b x)
 
--- the same answer as a step's: a line, the end, or want of memory
+-- a step's answer, but for whether the manifest is good: a line, the end, or want of memory
 abbrev pub progress_of : Result (Option LineVerdict) LineStop → Result Progress Stop
 progress_of (Ok (Some v)) = Ok Going
 progress_of (Ok None) = Ok (Ended true)
@@ -78,7 +78,7 @@ abbrev pub is_short : Result (Option LineVerdict) LineStop → Bool
 is_short (Err Memory) = true
 is_short x = false
 
--- whether no line is left
+-- whether no line is left, and no fault ended the manifest
 abbrev pub is_whole : Result (Option LineVerdict) LineStop → Bool
 is_whole (Ok None) = true
 is_whole x = false

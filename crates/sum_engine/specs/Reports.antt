@@ -78,7 +78,7 @@ counts_with c Wrong = record c { wrong = c.wrong + 1 }
 counts_with c Missing = record c { missing = c.missing + 1 }
 counts_with c (Unread f) = record c { unread = c.unread + 1 }
 
--- how many lines have each verdict, and so many before them
+-- how many lines have each verdict but `Ignored`, and so many before them
 abbrev pub counts : Counts → List Judged → Counts
 counts c [] = c
 counts c (j ∷ js) = counts (counts_with c j.verdict) js

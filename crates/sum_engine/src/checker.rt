@@ -15,7 +15,7 @@ use std::marker::Model;
 use sum_lines::Sink;
 use sum_sources::{Input, Source};
 
-/// A manifest that is being checked. It reads a line, handles it, and only then reads on.
+/// A manifest that is being checked. It takes a line, handles it, and only then takes the next.
 #[derive(Drop)]
 pub struct Checker<'a, I> {
     position: Position<'a, I>,

@@ -27,10 +27,10 @@ pub fn same_front()
 {}
 
 /// A manifest without an empty line and without a carriage return, in its own name, as a byte or as the escape `\r` in
-/// a name behind a leading backslash, has the same verdicts under the older profile and the present one. Older versions
-/// of the tools escaped no carriage return in names, dropped none before a line's end and held empty lines to be
-/// improperly formatted. The verdicts are those after the same asks; the reports and the summary are the same, too, and
-/// the manifest is good under both or under neither.
+/// a name or a plain line's tail behind a leading backslash, has the same verdicts under the older profile and the
+/// present one. Older versions of the tools escaped no carriage return in names, dropped none before a line's end and
+/// held empty lines to be improperly formatted. The verdicts are those after the same asks; the reports and the summary
+/// are the same, too, and the manifest is good under both or under neither.
 pub fn old_verdicts()
     ensures verdicts { OldVerdicts }
     ensures outcomes { OldOutcomes }

@@ -19,7 +19,8 @@ use sum_lines::Sink;
 use sum_sources::{Input, OpenFault, Source};
 
 /// Checks the manifest that stands under one name, where `-` is standard input, and answers whether it is good. The
-/// reports of its lines and its summary go to `out` and `err` (coreutils manual, "md5sum invocation", `--check`).
+/// reports of its lines and its summary go to `out` and `err` (coreutils manual, "md5sum invocation", `--check`). One
+/// that can't be opened, or read to its end, isn't good, and its fault goes to `err`.
 ///
 /// `Stop::Memory` where there was no memory for a line, or where the source had none to open a file; what was written
 /// is then the reports of the lines handled so far. `Stop::Write` where a write failed; one prefix of all that is to be

@@ -7,7 +7,7 @@ use crate::telling::tell;
 use crate::verdict::Verdict;
 use sum_lines::{Part, Sink, SinkFault};
 
-/// How many lines of a manifest have each verdict.
+/// How many lines of a manifest have each verdict but `Ignored`.
 #[derive(Clone, Copy, Debug, PartialEq, Eq)]
 pub(crate) struct Counts {
     pub right: u64,

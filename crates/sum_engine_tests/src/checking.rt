@@ -14,7 +14,7 @@ pub(crate) const CHECK: CheckSettings = CheckSettings {
     ignore_missing: false,
 };
 
-/// A manifest in which every verdict comes.
+/// A manifest of which each line comes to another verdict.
 pub(crate) const ALL: &[u8] = b"900150983cd24fb0d6963f7d28e17f72  a\n\
     #c\n\
     junk\n\

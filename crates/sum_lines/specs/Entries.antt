@@ -47,7 +47,8 @@ pub record Spells (escape : List ℕ → List ℕ) (escaped : Bool) (raw name : 
   pub no_nul : All (λ b. 0 < b) name
   pub is : raw ≡ (if escaped then escape name else name)
 
--- the raw name in a plain line's tail: in a Reversed list the whole of it, in a Standard one all but its first byte
+-- the raw name in a plain line's tail: in a Reversed list the whole of it; in a Standard one all but its first byte,
+-- where that is a space or a star and more follows
 abbrev pub RawOf : Form → List ℕ → List ℕ → Type 0
 RawOf Undecided tail raw = ⊥
 RawOf Reversed tail raw = raw ≡ tail

@@ -17,7 +17,7 @@ use Rattle.sum_lines.specs.Shapes.{Plain, Tagged}
 use Rattle.sum_lines.specs.Entries.{Spelled, Entry, IsForm, is_ignored_by, form}
 use Rattle.sum_lines.specs.ParsedLines.{Nothing, Improper, WithEntry, parse_line}
 
--- a line spells at most one entry
+-- for given algorithms and a given form a line spells at most one entry
 abbrev pub OneEntry : Type 0
 OneEntry = (algos : Algos) (f : Form) (line : List ℕ) (s t : Spelled) → Entry escape algos f line s
     → Entry escape algos f line t → s ≡ t

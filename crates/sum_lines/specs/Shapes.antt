@@ -38,8 +38,8 @@ pub record Plain (algos : Algos) (line : List ℕ) (e : Bool) (kind : KindValue)
 abbrev pub optional : Bool → List ℕ → List ℕ
 optional there bytes = if there then bytes else []
 
--- What may stand between the tag and the name: nothing for the full length; for BLAKE2b a `-` and the number
--- of bits, which are 8 to 512, in decimal
+-- What may stand directly behind the tag: nothing for the full length; for BLAKE2b a `-` and the number of bits,
+-- which are 8 to 512, in decimal
 abbrev pub Width : KindValue → List ℕ → Type 0
 Width kind width = ((width ≡ []) × (kind.len ≡ full_len kind.algo))
     ⊎ ((width ≡ codes "-" ++ decimal (8 * kind.len)) × (kind.algo ≡ Blake2b) × IsTrue (has_len Blake2b kind.len))

@@ -40,7 +40,7 @@ pub(crate) fn find_beginning(algos: Algos, line: &[u8]) -> Option<Beginning>
     }
 }
 
-// The algorithm whose tag stands in front.
+// The one of these algorithms whose tag stands in front.
 fn tag_in(algos: Algos, text: &[u8]) -> Option<Algo>
     ensures { result ≡ tag_in algos text.now }
 {

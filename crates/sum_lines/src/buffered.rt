@@ -8,9 +8,9 @@ use std::marker::Model;
 /// How many bytes a buffer has room for.
 pub const ROOM: usize = 8192;
 
-/// A buffer over a sink. It holds what it takes until there is no room for more or it is flushed, and then hands on all
-/// that it holds in one piece. So a line of at most [`ROOM`] bytes is one write, where nothing was held before it and
-/// it is flushed at its end.
+/// A buffer over a sink. It holds what it takes until it is flushed, or a byte comes that it has no room for; then it
+/// offers the sink all that it holds, in one piece. So a line of at most [`ROOM`] bytes is offered in one piece, where
+/// nothing was held before it and it is flushed at its end.
 #[derive(Drop)]
 pub struct Buffered<S> {
     sink: S,
@@ -98,7 +98,7 @@ impl<S: Sink> Sink for Buffered<S> {
     ghost failures = { λ s. S.failures s.sink };
 
     /// Takes as much of the piece as there is room for. Where there is no room at all, what is held is handed on
-    /// before.
+    /// before. A fault where the sink below fails then.
     fn write(&mut self, piece: &[u8]) -> Result<usize, SinkFault>
         ensures bytes { WritesSome (buffer_state S.written S.held S.failures self.old)
             (buffer_state S.written S.held S.failures self.new) piece.now result }
@@ -116,7 +116,7 @@ impl<S: Sink> Sink for Buffered<S> {
         Ok(count)
     }
 
-    /// Hands on all that is held in one piece, and flushes the sink below.
+    /// Hands on all that is held, which is offered in one piece, and flushes the sink below. A fault where that fails.
     fn flush(&mut self) -> Result<(), SinkFault>
         ensures bytes { Flushes (buffer_state S.written S.held S.failures self.old)
             (buffer_state S.written S.held S.failures self.new) result }

@@ -42,8 +42,8 @@ impl<W: Write> Sink for FromWrite<W> {
 
     ghost failures = { λ s. s.failures };
 
-    /// Hands the piece to the writer, again after each interruption. A fault where the writer fails, takes
-    /// nothing of a piece that isn't empty, or is interrupted a thousand times in a row.
+    /// Hands a piece that isn't empty to the writer, again after each interruption. A fault where the writer fails,
+    /// takes nothing of it, or is interrupted a thousand times in a row.
     fn write(&mut self, piece: &[u8]) -> Result<usize, SinkFault> {
         if piece.is_empty() {
             return Ok(0);

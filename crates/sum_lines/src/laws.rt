@@ -2,7 +2,8 @@
 
 ghost use Rattle.sum_lines.specs.Laws.{Apart, OneEntry, OneForm, ReadBack, SameForm, SameSaid, SaysIs};
 
-/// A line spells at most one entry, and no line is both plain and tagged.
+/// For given algorithms and a given form a line spells at most one entry; and no line is both plain and tagged,
+/// whichever algorithms these are.
 pub fn one_entry()
     ensures once { OneEntry }
     ensures apart { Apart }
@@ -14,7 +15,7 @@ pub fn one_form()
 {}
 
 /// What a line says, as it is computed, is what the line grammar has, whichever the profile: nothing exactly where the
-/// line is ignored, an entry exactly where the grammar has it, and something improper exactly where it has none.
+/// line is ignored; otherwise the entry that the grammar has or, where it has none, something improper.
 pub fn says_is()
     ensures { SaysIs }
 {}
@@ -26,8 +27,8 @@ pub fn same_said()
 {}
 
 /// A line that was written, not in zero style, for a name that isn't empty and holds no NUL, is read back by its own
-/// algorithm's tool and, where it is tagged, by any, where no line before it makes the manifest `Reversed`. It spells
-/// the kind, the digest and the name that it was written for.
+/// algorithm's tool and, where it is tagged, by the one that takes any algorithm, where no line before it makes the
+/// manifest `Reversed`. It spells the kind, the digest and the name that it was written for.
 pub fn read_back()
     ensures { ReadBack }
 {}

@@ -49,8 +49,9 @@ pub enum Reading {
 /// A line is ignored where it is empty or `#` stands first. Before any other may stand blanks (spaces and tabs) and
 /// then one backslash: the name is escaped behind it (`\\`, `\n`, `\r`). What follows is
 ///
-/// - tagged, `TAG (NAME) = DIGITS`: an algorithm's tag, for BLAKE2b with `-` and the digest's bits, which may be left
-///   out where it is full; a space or none; a name, which ends at the last parenthesis; and between blanks or none `=`;
+/// - tagged, `TAG (NAME) = DIGITS`: the tag of one of these algorithms, for BLAKE2b with `-` and the digest's bits,
+///   which may be left out where it is full; a space or none; a name, which ends at the last parenthesis; and between
+///   blanks or none `=`;
 /// - or, where there is one algorithm, plain, `DIGITS TAIL`: one blank, and a tail that isn't empty. The first plain
 ///   line decides the form of all. Where its tail begins with a space or `*` and goes on, that is `Standard`, and a
 ///   name stands behind such a byte; else it is `Reversed`, and the tail is the name.

@@ -1,5 +1,5 @@
 //! A sink that keeps its bytes in an array.
-ghost use Rattle.std.specs.Prelude.{◌≡◌, ◌≤◌, ◌+◌, ◌<◌, [], length, min, Some, IfOk, IsErr};
+ghost use Rattle.std.specs.Prelude.{◌≡◌, ◌≤◌, ◌+◌, ◌<◌, [], length, min, Some, IfOk, IsErr, OnErr};
 ghost use Rattle.std.specs.Prelude.{◌↔◌};
 
 use crate::sink::{Sink, SinkFault};
@@ -48,13 +48,15 @@ impl<const N: usize> Sink for ToldSink<N> {
 
     ghost failures = { λ s. s.failures };
 
-    /// Takes what there is room for. A fault exactly where there is none and the piece isn't empty.
+    /// Takes what there is room for. A fault exactly where there is none and the piece isn't empty; then there is none
+    /// afterwards, either.
     fn write(&mut self, piece: &[u8]) -> Result<usize, SinkFault>
         ensures bytes { WritesSome (told_state self.old) (told_state self.new) piece.now result }
         ensures empty { piece.now ≡ [] → result ≡ Ok 0 }
         ensures all { IfOk result (λ n. n ≡ min (room self.old) (length piece.now)) }
         ensures full { IsErr result ↔ ((room self.old ≡ 0) × (0 < length piece.now)) }
         ensures room { IfOk result (λ n. room self.new + n ≡ room self.old) }
+        ensures stays { OnErr result (room self.new ≡ room self.old) }
     {
         if piece.is_empty() {
             return Ok(0);

@@ -21,7 +21,7 @@ first_reply [] name = Refused NotFound
 first_reply (p ∷ ps) name = if bytes_eq p.name name then p.reply else first_reply ps name
 
 -- a source in memory: its pairs in the order in which they were added, the names asked, the most bytes that one read of
--- its files gives, and how often memory was refused
+-- its files gives, and how often an opening was refused memory
 pub record ToldFiles : Type 0 where
   pub pairs : List Pair
   pub asked : List (List ℕ)

@@ -16,12 +16,12 @@ use Rattle.sum_sources.specs.Standard.{empty_content}
 -- a reader of lines
 pub record Reader (I : Type 0) : Type 0 where
   pub input : I  -- its input, past the bytes that it has given
-  pub ahead : List ℕ  -- of these bytes, those that no line has used yet
+  pub ahead : List ℕ  -- of these bytes, those that were not moved into a line
   pub taken : ℕ  -- how many bytes the input has given
   pub lines : ℕ  -- how many lines were answered
   pub answer : Option (Result Next LineStop)  -- what every later call answers again, where there is one
 
--- how many bytes the lines have used, newlines included
+-- how many bytes the lines have used, newlines included; after a stop also those of a line that was begun
 abbrev pub used : {I : Type 0} → Reader I → ℕ
 used r = r.taken - length r.ahead
 
@@ -51,8 +51,8 @@ abbrev pub coming : {I : Type 0} → (I → Option Content) → Reader I → Opt
 coming content r =
     option_map (λ c. left_by r.answer (with_prefix r.ahead (clip_to (limit - r.taken) c))) (content r.input)
 
--- what every later call answers, once this was answered: after a line nothing is settled, or the end; after the end or a
--- stop, the same
+-- what every later call answers, once this was answered: after a line nothing is settled, or the end; after the end or
+-- a stop, the same
 abbrev pub Settles : Result Next LineStop → Option (Result Next LineStop) → Type 0
 Settles (Ok Line) later = (later ≡ None) ⊎ (later ≡ Some (Ok NoMore))
 Settles answer later = later ≡ Some answer

@@ -42,7 +42,8 @@ where
 
     ghost refusals = { λ s. s };
 
-    /// Opens the file; a name that isn't UTF-8 is `Fault::Other`, since the runtime's paths are texts.
+    /// Opens the file; a name that isn't UTF-8 is `Fault::Other`, since the runtime's paths are texts. Other faults are
+    /// those of the system; `OpenFault::Memory` where the runtime has no memory for the call.
     fn open_file(&mut self, name: &[u8]) -> Result<FromRead<R::File>, OpenFault>
         ensures refusals { self.new ≡ refusals_after self.old result }
         ensures text { (IsUtf8 name.now → ⊥) → result ≡ Err (OpenFault.Fault Fault.Other) }

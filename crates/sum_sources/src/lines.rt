@@ -205,9 +205,10 @@ impl<I: Input> LineReader<I> {
         }
     }
 
-    /// Puts the next line into `line`, without its newline and without one carriage return at its
-    /// end. `NoMore` and each `LineStop` is answered again by every later call. What `line`
-    /// holds after these isn't said; what it held before doesn't matter.
+    /// Puts the next line into `line`, without its newline and without one carriage return at its end. `NoMore` where
+    /// none is left and the input ended whole. `LineStop::Fault` where it ended by that fault, `LineStop::Memory` where
+    /// memory for the line was refused. Each of these is answered again by every later call. What `line` holds after
+    /// them isn't said; what it held before doesn't matter.
     pub fn next_line<A: Allocator>(&mut self, line: &mut Vec<u8, A>) -> Result<Next, LineStop>
         ensures gives { WhereTold (coming I.content self.old) (coming I.content self.new)
             (λ c d. LineOf c d result line.new.items) }

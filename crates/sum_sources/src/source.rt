@@ -22,11 +22,11 @@ pub trait Source {
     /// What the source answers for each name, and the names asked so far, where it tells them.
     ghost told: { Self → Option Telling } = { λ _. None };
 
-    /// How often memory was refused to it. At 2^64 - 1 it stays there.
+    /// How often an opening was refused memory. At 2^64 - 1 it stays there.
     ghost refusals: { Self → ℕ };
 
-    /// Opens the file of that name. `OpenFault::Memory` comes only where memory was refused; then
-    /// the name doesn't count as asked.
+    /// Opens the file of that name. `OpenFault::Fault` where it can't be opened. `OpenFault::Memory` comes only where
+    /// memory was refused; then the name doesn't count as asked.
     fn open_file(&mut self, name: &[u8]) -> Result<Self::File, OpenFault>
         ensures answer { OpenGives Self.File.content (told self.old) (told self.new) name.now result }
         ensures refusals { refusals self.new ≡ refusals_after (refusals self.old) result };

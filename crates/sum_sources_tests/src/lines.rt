@@ -111,7 +111,7 @@ fn carriage_returns(rt: HostRuntime) {
     );
 }
 
-// Lines longer than the buffer, and no more read ahead than that.
+// Lines of which a buffer doesn't hold two, and no more read ahead than one buffer.
 #[test]
 fn long_lines(rt: HostRuntime) -> Result<(), Fail> {
     let mut content = Vec::new(rt.alloc());

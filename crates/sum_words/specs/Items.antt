@@ -117,7 +117,7 @@ read_word t word =
     else if is_cluster word then cluster t (chars (drop 1 word))
     else (operand word ∷ [], a_word)
 
--- all words; those behind "--" are operands
+-- all words; those behind a "--" that is no option's value are operands
 abbrev pub items_from : Tool → NextWord → List Text → List Item
 items_from t no_word words = []
 items_from t a_word [] = []

@@ -14,6 +14,6 @@ abbrev pub PlainWordsAreOperands : Type 0
 PlainWordsAreOperands = (t : Tool) (words more : List Text) → AllPass is_plain words →
     items_from t a_word (words ++ more) ≡ map operand words ++ items_from t a_word more
 
--- behind two dashes every word is one
+-- behind two dashes that are no option's value every word is one
 abbrev pub WordsBehindAreOperands : Type 0
 WordsBehindAreOperands = (t : Tool) (words : List Text) → items_from t a_word (codes "--" ∷ words) ≡ map operand words

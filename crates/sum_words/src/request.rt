@@ -63,7 +63,7 @@ pub fn read_words<'a, A: Allocator>(
     }
 }
 
-// What the options say, as far as they were read. Of several modes, report settings or lengths the last counts.
+// What the options say, as far as they were read. Of several report settings or lengths the last counts.
 #[derive(Clone, Copy)]
 struct Chosen<'a> {
     mode: Option<Mode>,

@@ -40,7 +40,7 @@ impl<A: Allocator + Copy> Words<A> {
 }
 
 impl<A: Allocator> Words<A> {
-    /// Adds a word at the end. On `NoRoom` the list is as it was.
+    /// Adds a word at the end. `NoRoom` where memory is refused; the list is then as it was.
     pub fn add(&mut self, word: &str) -> Result<(), NoRoom>
         ensures ok { OnOk result (self.new ≡ self.old ++ word.now ∷ []) }
         ensures err { OnErr result (self.new ≡ self.old) }

@@ -4,7 +4,7 @@ use Rattle.blake2b_core.specs.Digest.{blocks}
 use Rattle.blake2b_core.specs.refinement.Chaining.{hash_after}
 use Rattle.blake2b_core.specs.declared.pieces.Blake2b.{Blake2b}
 
--- bs are the blocks of the message m from block k on
+-- bs are blocks of the message m, one after another from block k on
 abbrev pub AreBlocksFrom : List ℕ → ℕ → List (List ℕ) → Type 0
 AreBlocksFrom m k bs = (i : ℕ) → i < length bs → slice_index_or bs i [] ≡ slice_index_or (blocks m) (k + i) []
 

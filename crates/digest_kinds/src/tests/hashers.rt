@@ -1,4 +1,4 @@
-//! The vectors of the standards, by each hasher.
+//! Published digests, by each hasher.
 
 ghost use Rattle.std.specs.Prelude.{[], ◌<◌, length};
 

@@ -294,7 +294,8 @@ fn assert_there(alloc: Global, streams: &Stage, lines: usize) -> Result<(), Fail
     Ok(())
 }
 
-// Nine steps over this manifest: six do all of it, so a checker that has stopped or ended steps three times more.
+// Nine steps over this manifest: six do all of it, so a checker that has stopped or ended steps at least three times
+// more.
 fn nine_steps<'b>(
     rt: &(impl Abort + AllocGlobal),
     heap: &'b Bump,
@@ -311,8 +312,8 @@ fn nine_steps<'b>(
     Ok(reached)
 }
 
-// Steps over all verdicts on a heap with room for so many times 8 bytes, and three times more once it has stopped or
-// ended, with memory enough. It stops at as many lines as it has done.
+// Steps over all verdicts on a heap with room for so many times 8 bytes, and at least three times more once it has
+// stopped or ended, with memory enough. It stops at as many lines as it has done.
 fn steps(rt: &(impl Abort + AllocGlobal), units: usize) -> Result<Turn, Fail> {
     let manifest = spelled(rt.alloc(), VERDICTS)?;
     let heap = heap_of(rt.alloc(), units)?;

@@ -149,7 +149,7 @@ fn assert_long_word(rt: &(impl Abort + AllocGlobal), count: usize) -> Result<(),
     assert_ends(rt, &arguments, ("$M  a\n", err.as_str(), 1))
 }
 
-// Words that are longer than the page that arguments are read through, and longer than what it grows to first.
+// Words about as long as the page that arguments are read through, and longer than what it grows to first.
 #[test]
 fn long_words(rt: HostRuntime) -> Result<(), Fail> {
     for count in [4095, 4096, 4097, 8192, 8193, 16_000] {
@@ -242,7 +242,7 @@ fn call_not_kept<A: Allocator + Copy>(
     Ok((held_in(streams.err), status))
 }
 
-// What is told only when standard output is closed is a write error.
+// A standard output that can't be flushed is a write error.
 #[test]
 fn output_that_is_not_kept(rt: HostRuntime) -> Result<(), Fail> {
     let (err, status) = call_not_kept(rt.alloc(), rt.alloc(), &[b"md5sum", b"a"], b"")?;

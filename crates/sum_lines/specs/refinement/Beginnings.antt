@@ -12,7 +12,7 @@ use Rattle.sum_lines.specs.declared.beginnings.Beginning.TheVariants as beginnin
 use Rattle.sum_lines.specs.Shapes.{is_blank}
 use Rattle.sum_lines.specs.PartsOfLines.{◌>>=◌, Parts, after_while, mark_and_rest, plain_as, plain_parts, tagged_as, tagged_parts}
 
--- the algorithm whose tag stands in front
+-- the one of these algorithms whose tag stands in front
 abbrev pub tag_in : Algos → List ℕ → Option Algo
 tag_in (One a) s = if starts_with ◌==◌ s (tag a) then Some a else None
 tag_in Any s = find (λ a. starts_with ◌==◌ s (tag a)) all_algos
