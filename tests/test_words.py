@@ -100,11 +100,33 @@ class LongOptions(Case):
         self.expect_fault("md5sum --t=1 a", "option '--t' is ambiguous")
         self.expect_fault("md5sum --=x a", "option '--' is ambiguous")
 
-    def test_abbreviations(self):
-        self.expect("md5sum --te a", out=[f"{M}  a"])
-        self.expect("md5sum --b a", out=[f"{M} *a"])
-        self.expect("md5sum --z a", out=f"{M}  a\0")
-        self.expect("b2sum --l=256 e", out=[f"{B}  e"])
+    def test_each_form(self):
+        """Each option by its letter, by its name, and by the shortest cut that is left of that."""
+        for forms, out in ((("-b", "--binary", "--b"), [f"{M} *a"]), (("-bt", "-b --text", "-b --te"), [f"{M}  a"]),
+                           (("--tag", "--ta"), [f"MD5 (a) = {M}"]), (("-z", "--zero", "--z"), f"{M}  a\0")):
+            for form in forms:
+                self.expect(f"md5sum {form} a", out=out)
+        for form in ("-l 256", "-l256", "--length 256", "--length=256", "--l 256", "--l=256"):
+            self.expect(f"b2sum {form} e", out=[f"{B}  e"])
+
+    @needs_check
+    def test_each_form_of_checking(self):
+        self.write("l", [f"{M}  a", "junk"])
+        self.write("some", [f"{M}  a", f"{M}  x"])
+        warning = "md5sum: WARNING: 1 line is improperly formatted"
+        for form in ("-c", "--check", "--c"):
+            self.expect(f"md5sum {form} l", out=["a: OK"], err=[warning])
+            self.expect(f"md5sum {form} --strict l", out=["a: OK"], err=[warning], status=1)
+            self.expect(f"md5sum {form} --str l", out=["a: OK"], err=[warning], status=1)
+            for named in ("-w", "--warn", "--w"):
+                line = "md5sum: l: 2: improperly formatted MD5 checksum line"
+                self.expect(f"md5sum {form} {named} l", out=["a: OK"], err=[line, warning])
+            for quiet in ("--quiet", "--q"):
+                self.expect(f"md5sum {form} {quiet} l", err=[warning])
+            for silent in ("--status", "--sta"):
+                self.expect(f"md5sum {form} {silent} l")
+            for passed in ("--ignore-missing", "--i"):
+                self.expect(f"md5sum {form} {passed} some", out=["a: OK"])
 
     def test_value_not_allowed(self):
         for word, full in (("--tag=", "tag"), ("--ta=1", "tag"), ("--help=1", "help"),
