@@ -9,6 +9,8 @@ TOP = os.path.dirname(os.path.dirname(os.path.realpath(__file__)))
 START = re.compile(r"(?:abbrev|unfoldable|irreducible|infixl|infixr|infix|pub|record|data)(?= (?!use |mod ))")
 NAMED = re.compile(r"(?:(?:abbrev|unfoldable|irreducible) )*(?:pub )?(?:(record|data) )?([^\s:({]+)")
 WORD = r'[^\s(){}\[\];,.:λ→×⊎"]+'
+# Marks in a text, and the name by which a `use` line brings in what they stand for.
+SPELLED = {"if": "if◌then◌else◌", "[": "[]", "do": ">>="}
 TOKEN = re.compile(rf'\n|"(?:\\.|[^"\\])*"|({WORD}|[)}}\]])(?:\.({WORD}))?(?:\.{WORD})*|[({{\[;,.:λ→×⊎]')
 
 
@@ -188,7 +190,7 @@ class Definition:
         """Where the names in it come from that a `use` line brings in: each as it stands there, with the module and the
         name in that, which is None for a module itself."""
         imports = self.module.imports
-        named = {spelled for token in tokens_of(self.text) for spelled in spellings(token.text)}
+        named = {spelled for token in tokens_of(self.text) for spelled in spellings(SPELLED.get(token.text, token.text))}
         return {spelled: imports[spelled] for spelled in sorted(named & imports.keys())}
 
     def constructors(self):

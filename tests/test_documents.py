@@ -84,6 +84,15 @@ class Documents(Case):
         self.assertEqual(len(set(hashes)), len(hashes))
         self.assertEqual([it.split()[2] for it in believed.renamed([line])], sorted(line.origins()))
 
+    def test_where_names_come_from(self):
+        """What a file's `use` lines bring in is known of the definitions there that name it, but for what is only handed
+        on."""
+        unknown = []
+        for name, module in Specs().modules.items():
+            known = {it for definition in module.definitions.values() for it in definition.origins()}
+            unknown += [(name, it) for it in module.imports.keys() - known]
+        self.assertEqual(unknown, [("Rattle.digest_kinds.specs.Limits", "LIMIT")])
+
     def test_names_that_stand_free(self):
         """A name stands for a definition where no binder, pattern, field or text has it."""
         for text, free in FREE:
