@@ -96,7 +96,7 @@ impl Kind {
         self.algo
     }
 
-    /// The algorithm's tag, which begins a tagged line.
+    /// The algorithm's tag, by which a tagged line names it.
     pub fn tag(self) -> &'static str
         ensures { result.now ≡ tag self.algo }
     {
