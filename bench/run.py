@@ -69,12 +69,12 @@ def built_bare():
 
 
 def gnu_tool(tool):
-    """The path of GNU coreutils' tool and its version, or None and None."""
-    path = shutil.which(tool)
-    if path is None:
-        return None, None
-    said = subprocess.run([path, "--version"], stdout=subprocess.PIPE, stderr=subprocess.DEVNULL, text=True).stdout
-    return (path, said.splitlines()[0]) if "GNU coreutils" in said else (None, None)
+    """The path of GNU coreutils' tool, the first on the PATH, and its version, or None and None."""
+    for path in filter(None, (shutil.which(tool, path=folder) for folder in os.get_exec_path())):
+        said = subprocess.run([path, "--version"], stdout=subprocess.PIPE, stderr=subprocess.DEVNULL, text=True).stdout
+        if "GNU coreutils" in said:
+            return path, said.splitlines()[0]
+    return None, None
 
 
 def works(words):

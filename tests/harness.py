@@ -90,12 +90,13 @@ def as_words(words):
 
 @functools.lru_cache
 def gnu(tool):
-    """The path of GNU coreutils' tool of that name, or None where it is not installed."""
-    path = shutil.which(tool)
-    if path is None or os.path.realpath(path) == os.path.realpath(PROGRAM):
-        return None
-    said = subprocess.run([path, "--version"], stdout=subprocess.PIPE, stderr=subprocess.DEVNULL, timeout=RUN_SECONDS)
-    return path if b"GNU coreutils" in said.stdout else None
+    """The path of GNU coreutils' tool of that name, the first on the PATH, or None where it is not installed."""
+    quiet = {"stdin": subprocess.DEVNULL, "stdout": subprocess.PIPE, "stderr": subprocess.DEVNULL}
+    for path in filter(None, (shutil.which(tool, path=folder) for folder in os.get_exec_path())):
+        said = subprocess.run([path, "--version"], **quiet, timeout=RUN_SECONDS)
+        if b"GNU coreutils" in said.stdout:
+            return path
+    return None
 
 
 # "All verdicts": a manifest that comes to every verdict, what it writes to both outputs, and its words.

@@ -13,9 +13,9 @@ BENCH = os.path.join(TOP, "bench", "run.py")
 class Words(Case):
     """What `bench/run.py` is called with."""
 
-    def bench(self, *words):
+    def bench(self, *words, **how):
         """Runs the benchmark with these words."""
-        return self.run_command([sys.executable, BENCH, *words])
+        return self.run_command([sys.executable, BENCH, *words], **how)
 
     def test_wrong_words(self):
         """Each fault is one line that names the option."""
@@ -29,14 +29,19 @@ class Words(Case):
                 self.assertIn(words[0].partition("=")[0].encode(), ran.err)
 
     def test_one_part(self):
-        """A part can be measured alone; every row has a speed beside GNU, where that is installed, and quartiles."""
-        ran = self.bench("--no-bare", "--rounds", "2", "--only", "start", "--program", harness.PROGRAM)
+        """A part can be measured alone; every row has a speed beside GNU, where that is installed, also behind ours on
+        the PATH, and quartiles."""
+        for tool in ("md5sum", "sha256sum"):
+            os.symlink(harness.PROGRAM, self.path(tool))
+        how = {"env": {**os.environ, "PATH": f"{self.folder}:{os.environ['PATH']}"}}
+        ran = self.bench("--no-bare", "--rounds", "2", "--only", "start", "--program", harness.PROGRAM, **how)
         self.assertEqual((ran.status, ran.err), (0, b""))
         self.assertIn(b"\nkit's loop: left out\n", ran.out)
         for work in ("`sha256sum`, start", "`md5sum /dev/null`, start"):
             rows = [line for line in ran.out.decode().splitlines() if line.startswith(f"| {work} |")]
             self.assertEqual(len(rows), 2, ran.out)
-            self.assertRegex(rows[0], r"\| (\d+\.\d\d|-) \| the start of a process \|$")
+            speed = r"\d+\.\d\d" if harness.gnu("md5sum") else "-"
+            self.assertRegex(rows[0], rf"\| {speed} \| the start of a process \|$")
             self.assertRegex(rows[1], r"\| \d+\.\d\d, \d+\.\d\d \d+\.\d\d \d+\.\d\d \|$")
 
     def test_two_programs(self):

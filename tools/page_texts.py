@@ -68,8 +68,8 @@ CHECKING = (
     "Each {FILE} is a manifest: a list of lines as they are written without `--zero`. Each line is checked and "
     "reported before the next one is looked at. A listed name is looked up from the present folder, not from the "
     "manifest's: `cd` {FOLDER} comes first where the list was written in {FOLDER}. A listed name `-` means standard "
-    "input. Where the manifest itself comes from there, such a line is improperly formatted.",
-    "Empty lines, and lines that begin with `#`, are passed over. A carriage return at a line's end is dropped. Blanks "
+    "input. Where {FILE} is `-`, or none is given, such a line is improperly formatted.",
+    "Empty lines, and lines whose first byte is `#`, are passed over. A carriage return at a line's end is dropped. Blanks "
     "at its beginning are passed over, and digits of either case are read. In the tagged form the space before the "
     "parenthesis may be missing, and there may be none or several about the equals sign.",
     "On standard output, for each listed file; where its name is escaped, a backslash stands before the line:",
@@ -102,11 +102,13 @@ STATUSES = {
     "0": "Every manifest was read to its end, lists a file that has the right checksum, and none that has another or "
          "couldn't be read (with `--ignore-missing`, files may be missing); and with `--strict` no line is improperly "
          "formatted. With `--help` or `--version`: the text was written.",
-    "1": "Anything else: also a fault of the options, memory that is refused, or an output that fails.",
-    "127": "The program could not begin: the system could not load it, as with too little memory, or it was built for "
-           "later processors than this machine's. Nothing was done. Where the message names `x86-64-v3`, install the "
-           "level `default`. Where it names `x86-64-v2`, that is the level `default`: there is none for older "
-           "processors. The option `--cpu` in the message is the compiler's, and not that of `install`.",
+    "1": "Anything else, unless a signal ends the program: also a fault of the options, memory that is refused, an output "
+         "that fails, or a C library that is too old.",
+    "127": "The program could not begin: the C library, or memory to load it, is missing (with still less memory, a "
+           "signal ends it), or it was built for later processors than this machine's. Nothing was done. Where the "
+           "message names `x86-64-v3`, install the level `default`. Where it names `x86-64-v2`, that is the level "
+           "`default`: there is none for older processors. The option `--cpu` in the message is the compiler's, and not "
+           "that of `install`.",
 }
 
 DIAGNOSTICS = {
@@ -230,7 +232,7 @@ RECIPES_OF_FOLDERS = (
      "without it, none is found. Such a file can be renamed, or read as standard input.",
      "find . -type f -print0 | LC_ALL=C.UTF-8 grep -zavx '.*'"),
     ("Whether all listed files still have their checksums, with a line only for those that haven't. With `--strict` a "
-     "damaged line fails, too, unless it is empty or begins with `#`:",
+     "line that can't be read fails, too:",
      "{tool} -c --quiet --strict SUMS"),
     ("The same on all processors, for a list that was made as above: lines go to one run and the next in turn, and "
      "each run takes its own for a whole list. An empty list would pass `split`(1), so that is asked first. "
@@ -241,8 +243,8 @@ RECIPES_OF_FOLDERS = (
     ("One of the listed files only, by its whole line. Where `grep`(1) finds none, the check fails, since its list is "
      "empty. Give one name at a time: of two, one that isn't found would not be missed.",
      "{grep} SUMS | {tool} -c --strict"),
-    ("Files that the list doesn't name, in `bash`(1). A check doesn't tell of them. Their names are shown escaped, as in "
-     "a line. Check the list with `--strict` first: a line whose digits are damaged may name a file here. The status is "
+    ("Files that a list made as above doesn't name, in `bash`(1). A check doesn't tell of them. Their names are shown "
+     "escaped, as in a line. Check the list with `--strict` first: a line whose digits are damaged may name a file here. The status is "
      "0 only where there is none, and all folders could be read. Links, pipes and devices are left out:",
      "(set -o pipefail; export LC_ALL=C",
      "at=$(mktemp -d) && trap 'rm -r \"$at\"' EXIT &&",
