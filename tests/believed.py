@@ -3,15 +3,17 @@
 
     tests/believed.py            prints, for the headline, the program and each law, the files and their lines
     tests/believed.py --names    the definitions' names too
-    tests/believed.py --text     prints the definitions themselves, each behind those that it stands on
+    tests/believed.py --text     prints the contracts and the definitions, each behind those that it stands on, with what
+                                 they name of the code
     tests/believed.py --write    makes the tables of docs/PROMISES.md anew
 
 What a contract says of a value is said in words that others give a meaning: the clauses of the traits that bound the
 function's parameters, and the models through which it sees their types. So their definitions count too.
 
-A definition is counted with the comment above it and without blank lines. What the toolchain's own libraries define,
-and the types that the code declares, are not counted."""
+A definition is counted with the comment above it, without blank lines and those that say how an operator binds. What
+the toolchain's own libraries define, and the types and constants that the code declares, are not counted."""
 
+import functools
 import hashlib
 import os
 import re
@@ -28,14 +30,16 @@ PROMISES = os.path.join(TOP, "docs", "PROMISES.md")
 # What is believed besides the laws, in the order of the page: a function's crate and name, and what the page calls it.
 CLAIMS = [("digests", "run", "The headline"), ("digests", "command", "The program")]
 HASHES = """\
-Where a *hash* changed, there is something new to believe: it is a prefix of the SHA-256 of the text of a row's
-definitions, without comments and with white space folded, and of where the names in it come from.""".replace("\n", " ")
+Where a *hash* changed, there is something new to believe: it is a prefix of the SHA-256 of a text, without comments and
+with white space folded, and of where the names in it come from. The text of a row is that of its definitions and of the
+code's types and constants that they name; that of a contract is the function with its clauses, and the traits and types
+that it names. A law's has both.""".replace("\n", " ")
 MARKS = "<!-- made by tests/believed.py: what stands below -->\n", "\n<!-- and above this line -->"
 
 
 class Claim(NamedTuple):
-    """A function whose contract is believed, with what the page calls it: what gives its words a meaning, the
-    definitions that it reaches, and those of them that no claim before it reaches, by their files."""
+    """A function whose contract is believed, with what the page calls it: the function itself and what gives its words
+    a meaning, the definitions that it reaches, and those of them that no claim before it reaches, by their files."""
 
     function: str
     crate: str
@@ -43,6 +47,24 @@ class Claim(NamedTuple):
     behind: list
     reached: set
     files: dict
+
+
+@functools.lru_cache(maxsize=None)
+def code():
+    return Code()
+
+
+@functools.lru_cache(maxsize=None)
+def every_definition():
+    return Specs()
+
+
+def declared(definitions):
+    """The types and constants of the code that definitions name, and what these name, each once."""
+    found = []
+    for origin in (it for definition in definitions for it in definition.origins().values()):
+        found += [it for it in code().declared(*every_definition().origin(*origin)) if it not in found]
+    return found
 
 
 def cited(specs, item):
@@ -85,34 +107,46 @@ def place_by(page):
 
 def claims(page, specs=None):
     """The headline, the program and each law in turn."""
-    specs, code, before, place = specs or Specs(), Code(), set(), place_by(page)
-    listed = [(code.function(crate, name), title) for crate, name, title in CLAIMS]
-    for function, title in listed + [(law, None) for law in code.laws()]:
-        behind = code.behind(function)
+    specs, before, place = specs or every_definition(), set(), place_by(page)
+    listed = [(code().function(crate, name), title) for crate, name, title in CLAIMS]
+    for function, title in listed + [(law, None) for law in code().laws()]:
+        behind = code().behind(function)
         reached = specs.reached(found for item in behind for found in cited(specs, item))
-        yield Claim(function.name, function.crate, title, behind[1:], reached, in_files(specs, reached - before, place))
+        yield Claim(function.name, function.crate, title, behind, reached, in_files(specs, reached - before, place))
         if title:
             before |= reached
 
 
 def in_order(page, specs):
     """All that is believed, in the order in which it can be read: the files of the headline, of the program and of all
-    laws, with what each of the three is."""
-    every, laws = list(claims(page, specs)), set()
+    laws, with what each of the three is, and the contracts."""
+    every, laws, contracts = list(claims(page, specs)), set(), []
     for claim in every:
         if claim.title:
-            yield f"{claim.title} ({claim.function} of {claim.crate})", claim.files
+            yield f"{claim.title} ({claim.function} of {claim.crate})", claim.behind, claim.files
         else:
             laws.update(*claim.files.values())
-    yield "The laws, besides what stands above", in_files(specs, laws, place_by(page))
+            contracts += claim.behind
+    yield "The laws, besides what stands above", contracts, in_files(specs, laws, place_by(page))
 
 
 def text_of(page):
-    """The definitions themselves, behind what their files say of themselves."""
-    specs = Specs()
-    for title, files in in_order(page, specs):
+    """The contracts, and the definitions themselves behind what their files say of themselves; before each what it names
+    of the code, which is shown once and without comments."""
+    specs, shown = every_definition(), []
+
+    def code_of(items):
+        for item in items:
+            if item not in shown:
+                shown.append(item)
+                lines = re.sub(r"\n\s*\n", "\n\n", item.text.replace("{\n\n", "{\n")).strip()
+                yield f"\n-- {item.crate} src/{item.file}\n{lines}"
+
+    for title, contracts, files in in_order(page, specs):
         yield f"-- ======== {title}: {counted(sum(files.values(), []))}"
+        yield from code_of(contracts)
         for (crate, file), definitions in files.items():
+            yield from code_of(declared(definitions))
             head = [f"-- ---- {crate} {file}: {counted(definitions)}", *definitions[0].module.head]
             yield "\n".join(["", *head, *renamed(definitions)])
             for definition in definitions:
@@ -128,10 +162,12 @@ def counted(definitions):
     return f"{len(definitions)} definition{'s' * (len(definitions) != 1)}, {lines_of(definitions):,} lines"
 
 
-def hash_of(definitions):
-    """Changes with the text of the definitions, but for comments and white space, and with where its names come from."""
-    said = "\n".join(f"{it.said}\n{it.origins()}" for it in definitions)
-    return hashlib.sha256(said.encode()).hexdigest()[:8]
+def hash_of(definitions, items=()):
+    """Changes with the text of the definitions, of what they name of the code, and of these items, but for comments and
+    white space, and with where its names come from."""
+    said = [it.said() for it in [*items, *declared(definitions)]]
+    said += [f"{it.said}\n{it.origins()}" for it in definitions]
+    return hashlib.sha256("\n".join(said).encode()).hexdigest()[:16]
 
 
 def renamed(definitions):
@@ -152,14 +188,14 @@ def meaning_of(claim):
     """The traits and the models that give the words of a claim's contract a meaning."""
     means = []
     for kind, what in (("trait", "the clauses of"), ("Model", "the views of")):
-        names = [f"`{it.name}`" for it in claim.behind if it.kind == kind]
+        names = [f"`{it.name}`" for it in claim.behind[1:] if it.kind == kind]
         listed = " and ".join([", ".join(names[:-1]), *names[-1:]] if names[1:] else names)
         means += [f"{what} {listed}"] if names else []
     return ", with " + " and ".join(means) if means else ""
 
 
 def head_of(claim):
-    what = f"`{claim.function}` of `{claim.crate}`{meaning_of(claim)}"
+    what = f"`{claim.function}` of `{claim.crate}`{meaning_of(claim)}; hash `{hash_of([], claim.behind)}`"
     return f"**{claim.title}** ({what}) reaches {counted(claim.reached)}"
 
 
@@ -173,8 +209,9 @@ def table_of(claim, says):
 
 def row_of(law):
     names = [f"`{file}` of `{crate}` ({lines_of(them)})" for (crate, file), them in law.files.items()]
-    besides = f"{', '.join(names)} | `{hash_of(sum(law.files.values(), []))}`" if names else "nothing |"
-    return f"| `{law.function}` of `{law.crate}` | {counted(law.reached)} | {besides} |"
+    hashed = hash_of(sum(law.files.values(), []), law.behind)
+    besides = ", ".join(names) or "nothing"
+    return f"| `{law.function}` of `{law.crate}` | {counted(law.reached)} | {besides} | `{hashed}` |"
 
 
 def tables(page):

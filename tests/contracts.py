@@ -5,12 +5,15 @@ import os
 import re
 from typing import NamedTuple
 
-from definitions import TOP, imports_of
+from definitions import TOP, imports_of, origins_in
 
 ITEM = re.compile(
     r"^(?:pub (fn)|(?:pub(?:\([^)]*\))? )?(trait|struct|enum|type)|impl\b[^{;]*?\b(Model) for) (\w+)", re.MULTILINE
 )
 ENSURES = re.compile(r"\s*\b(?:ensures|requires)\b(?:\s+\w+)?\s*(?=\{)")
+CONSTANT = re.compile(r"^(?:pub(?:\([^)]*\))? )?(const) (\w+): [^;]*;", re.MULTILINE)
+# The module of definitions that stands for a type of the code, for its variants, or for the constants of a file.
+DECLARED = re.compile(r"Rattle\.(\w+)\.specs\.declared\.([\w.]+?)\.(\w+?)(?:\.The(?:Variants|Inside))?")
 # What stands before a clause: in a contract, and before the type and the value of a ghost member.
 CLAUSE = re.compile(ENSURES.pattern + r"|\bghost\s+(?!use\b)\w+\s*[:=]\s*(?=\{)|(?<=\})\s*=\s*(?=\{)")
 
@@ -37,7 +40,7 @@ def end_of(text, start, kind):
 
 
 class Item(NamedTuple):
-    """A function with its contract, a trait, a type or a type's model, as the code has it."""
+    """A function with its contract, a trait, a type, a type's model or a constant, as the code has it."""
 
     kind: str
     name: str
@@ -46,6 +49,11 @@ class Item(NamedTuple):
     uses: dict
     clauses: tuple
     around: str
+    text: str
+
+    def said(self):
+        """Its text with white space folded, and where the names in it come from that a `ghost use` brings in."""
+        return f"{' '.join(self.text.split())}\n{origins_in(self.text, self.uses)}"
 
     @property
     def bound(self):
@@ -60,7 +68,8 @@ def item_of(kind, name, crate, file, outside, text):
         around += text[end : it.end()]
         end = behind_brace(text, it.end())
     uses = {**outside, **uses_of(r"^\s+", text)}
-    return Item(kind, name, crate, file, uses, tuple(clauses), re.sub(r"\bghost use [^;]*;", "", around + text[end:]))
+    around = re.sub(r"\bghost use [^;]*;", "", around + text[end:])
+    return Item(kind, name, crate, file, uses, tuple(clauses), around, text)
 
 
 def uses_of(before, text):
@@ -87,6 +96,8 @@ class Code:
             kind = it[1] or it[2] or it[3]
             item = text[it.start() : end_of(text, it.start(), kind)]
             self.items.append(item_of(kind, it[4], crate, file, uses, item))
+        for it in CONSTANT.finditer(text):
+            self.items.append(Item(it[1], it[2], crate, file, {}, (), "", it[0]))
 
     def laws(self):
         """Each law: a function of a module `laws`."""
@@ -98,11 +109,21 @@ class Code:
     def named(self, item):
         """The traits, types and models that an item names outside its clauses: its crate's own or else another's."""
         for name in re.findall(r"\b[A-Z]\w*", item.around):
-            found = [it for it in self.items if it.kind != "fn" and it.name == name]
+            found = [it for it in self.items if it.kind not in ("fn", "const") and it.name == name]
             found = [it for it in found if it.crate == item.crate] or found
             if len({it.crate for it in found}) > 1:
                 raise ValueError(f"{name}, which {item.name} of {item.crate} names, is of several crates")
             yield from found
+
+    def declared(self, module, name):
+        """The type or constant that a definition means by a name from a module, if it is one of the code, with the
+        types and traits that it names."""
+        found = DECLARED.fullmatch(module)
+        if not found or not any(it.crate == found[1] for it in self.items):
+            return []
+        crate, file, owner = found.groups()
+        wanted = crate, file.replace(".", "/") + ".rt", name if owner == "TheConstants" else owner
+        return self.behind(next(it for it in self.items if (it.crate, it.file, it.name) == wanted))
 
     def behind(self, function):
         """A function, and what its contract's words mean: the traits that bound its parameters with those that these

@@ -60,6 +60,12 @@ def tokens_of(text):
     return found
 
 
+def origins_in(text, imports):
+    """The names in a text that are brought in, each with where it comes from."""
+    named = {spelled for token in tokens_of(text) for spelled in spellings(SPELLED.get(token.text, token.text))}
+    return {spelled: imports[spelled] for spelled in sorted(named & imports.keys())}
+
+
 class Names:
     """Reads a definition, or a clause of a contract, from the front, and keeps in `free` the names that nothing there
     binds, each with its field. What a binder `(x y : A)`, a `λ`, a `let` or a `←` binds holds to the end of the
@@ -189,9 +195,7 @@ class Definition:
     def origins(self):
         """Where the names in it come from that a `use` line brings in: each as it stands there, with the module and the
         name in that, which is None for a module itself."""
-        imports = self.module.imports
-        named = {spelled for token in tokens_of(self.text) for spelled in spellings(SPELLED.get(token.text, token.text))}
-        return {spelled: imports[spelled] for spelled in sorted(named & imports.keys())}
+        return origins_in(self.text, self.module.imports)
 
     def constructors(self):
         """The constructors of a type."""
@@ -254,6 +258,14 @@ class Specs:
             if there.imports.get(spelled, (None, None))[1]:
                 return self.find(*there.imports[spelled])
         return None, False
+
+    def origin(self, module, name):
+        """Where a name of a module comes from, through files that only hand it on."""
+        there = self.modules.get(module)
+        while there and name not in there.definitions and name in there.imports:
+            module, name = there.imports[name]
+            there = self.modules.get(module)
+        return module, name
 
     def named(self, text, find, imports, bound=()):
         """The definitions that a text names, where `find` finds those of its names, and where these are imported."""

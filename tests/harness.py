@@ -1,5 +1,5 @@
 """What the end-to-end tests share: a folder for each test, a run of the program with a time limit, and the values that
-the tests expect. The values are those of the standards, and were not taken from any output of the program."""
+the tests expect. The values are published digests, and were not taken from any output of the program."""
 
 import errno
 import functools
@@ -34,7 +34,7 @@ E = "d41d8cd98f00b204e9800998ecf8427e"  # MD5 of nothing
 B = "0e5751c026e543b2e8ab2eb06099daa1d1e5df47778f7787faab45cdf12fe3a8"  # BLAKE2b-256 of nothing
 S = "ba7816bf8f01cfea414140de5dae2223b00361a396177a9cb410ff61f20015ad"  # SHA-256 of "abc"
 
-# Tool: tag, digest of nothing, digest of "abc" (RFC 1321, FIPS 180-4, RFC 7693).
+# Tool: tag, digest of nothing, digest of "abc", as they were published.
 TOOLS = {
     "md5sum": ("MD5", E, M),
     "sha1sum": ("SHA1", "da39a3ee5e6b4b0d3255bfef95601890afd80709", "a9993e364706816aba3e25717850c26c9cd0d89d"),

@@ -83,7 +83,7 @@ def print_counts(what, counts, seconds):
 def main():
     reader = argparse.ArgumentParser(description="Tests the built program from the outside.")
     reader.add_argument("program", nargs="*", help="the program digests; without it, this repository's own")
-    reader.add_argument("--without-check", action="store_true", help="leave out what calls the checker")
+    reader.add_argument("--without-check", action="store_true", help="leave out the tests of --check")
     reader.add_argument("--only", default="", metavar="WORD", help="run only the tests whose name holds WORD")
     reader.add_argument("--verbose", action="store_true", help="name each test")
     asked = reader.parse_args()

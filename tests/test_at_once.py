@@ -101,7 +101,7 @@ class Ended(Case):
                 self.same(self.ended_at_the_pipe("md5sum -c l", number), ["a: OK"] * 500)
 
     def test_at_any_moment(self):
-        """A run that is ended while it writes leaves whole lines alone."""
+        """A run that is ended while it writes leaves whole lines, and at most one that is cut at the end of a page."""
         line = as_bytes([f"{M}  a"])
         for number in (signal.SIGTERM, signal.SIGKILL):
             with self.subTest(signal=number):

@@ -65,7 +65,7 @@ class Documents(Case):
     def test_definitions_stand_on_those_above_them(self):
         """The order of the page and of `--text` is one in which a definition uses only those before it."""
         page, specs, above = believed.page()[0], Specs(), set()
-        for _, files in believed.in_order(page, specs):
+        for _, _, files in believed.in_order(page, specs):
             for definition in (it for them in files.values() for it in them):
                 below = [it.name for it in specs.meant(definition) - above]
                 self.assertEqual(below, [], f"{definition.name} of {definition.file} stands above these")

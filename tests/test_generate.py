@@ -16,7 +16,7 @@ SPECIAL_SHOWN = "q\\\\\\nz"
 class Digests(Case):
     """The bytes of each digest."""
 
-    def test_vectors_of_the_standards(self):
+    def test_published_digests(self):
         for tool, (_, of_nothing, of_abc) in TOOLS.items():
             with self.subTest(tool=tool):
                 self.expect([tool], out=[f"{of_nothing}  -"])

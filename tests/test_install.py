@@ -274,12 +274,17 @@ class Install(Repository):
 
     def test_what_an_older_version_installed_is_taken_away(self):
         """Its note names the program and the links alone."""
-        self.installs()
-        note = os.path.join(self.prefix, "share/digests/installed")
-        lines = [line for line in self.read(note).splitlines(True) if line.startswith((b"program ", b"link "))]
-        self.write(note, b"".join(lines))
-        self.removes()
-        self.assertEqual(self.tree(), {"bin": None, "share": None})
+        self.put("man/b2sum.1", "ours")
+        for again in (False, True):
+            self.installs()
+            note = os.path.join(self.prefix, "share/digests/installed")
+            lines = [line for line in self.read(note).splitlines(True) if line.startswith((b"program ", b"link "))]
+            self.write(note, b"".join(lines))
+            shutil.rmtree(os.path.join(self.prefix, "share/man"))
+            if again:
+                self.installs()
+            self.removes()
+            self.assertEqual(self.tree(), {"bin": None, "share": None})
 
     def test_prefixes(self):
         os.mkdir(self.path("inner"))

@@ -132,8 +132,9 @@ DIAGNOSTICS = {
 }
 
 LIMITS = (
-    "A word of the command line that isn't UTF-8 can't be read: the answer is `digests: words not read` alone, and no "
-    "file of that call is read. A name in a manifest that isn't UTF-8 can't be opened.",
+    "A word of the command line that isn't UTF-8, or that there is no memory for, can't be read: the answer is "
+    "`digests: words not read` alone, and no file of that call is read. A name in a manifest that isn't UTF-8 can't be "
+    "opened.",
     "Lines that were written with `--zero` can't be checked: most are improperly formatted. But where a name holds a "
     "newline, what stands before that may be read as a line, and what follows is passed over where it begins with `#`: "
     "the status may then be 0, even with `--strict`.",

@@ -100,7 +100,7 @@ impl<'a, I: Input> Checker<'a, I> {
     /// ended. `line` is grown for the line; what it held before doesn't matter, and what it holds after isn't said.
     ///
     /// `Stop::Memory` where there was no memory for the line or for opening the file that it names; nothing is then
-    /// written. `Stop::Write` where a write failed; a prefix of the step's texts is then handed on. After `Ended` and
+    /// written. `Stop::Write` where an output failed; a prefix of the step's texts is then handed on. After `Ended` and
     /// after a stop each step answers the same again and writes nothing. What is said of bytes and of what is held is
     /// said of outputs that hold nothing when they are lent.
     pub fn step<A: Allocator, J: Input + Drop, S: Source, O: Sink, E: Sink>(

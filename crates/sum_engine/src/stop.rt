@@ -3,9 +3,8 @@
 use sum_lines::SinkFault;
 use thiserror::Error;
 
-/// Why a run stopped before its end: `Memory` where a growth or an opening was refused memory, `Write` where a write to
-/// an output failed.
-/// The call that answers it writes nothing after it.
+/// Why a run stopped before its end: `Memory` where a growth or an opening was refused memory, `Write` where an output
+/// failed. The call that answers it writes nothing after it.
 #[derive(Clone, Copy, Debug, PartialEq, Eq, Error)]
 pub enum Stop {
     #[error("memory exhausted")]
