@@ -3,8 +3,8 @@
 
     tests/believed.py            prints, for the headline, the program and each law, the files and their lines
     tests/believed.py --names    the definitions' names too
-    tests/believed.py --text     prints the contracts and the definitions, each behind those that it stands on, with what
-                                 they name of the code
+    tests/believed.py --text     prints the contracts, and the definitions, each behind those that it stands on, with
+                                 what both name of the code
     tests/believed.py --write    makes the tables of docs/PROMISES.md anew
 
 What a contract says of a value is said in words that others give a meaning: the clauses of the traits that bound the
