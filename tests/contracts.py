@@ -11,7 +11,7 @@ ITEM = re.compile(
     r"^(?:pub (fn)|(?:pub(?:\([^)]*\))? )?(trait|struct|enum|type)|impl\b[^{;]*?\b(Model) for) (\w+)", re.MULTILINE
 )
 ENSURES = re.compile(r"\s*\b(?:ensures|requires)\b(?:\s+\w+)?\s*(?=\{)")
-CONSTANT = re.compile(r"^(?:pub(?:\([^)]*\))? )?(const) (\w+): [^;]*;", re.MULTILINE)
+CONSTANT = re.compile(r"^(?:pub(?:\([^)]*\))? )?(const) (\w+): (?:\[[^\]]*\]|[^;\[])*;", re.MULTILINE)
 # The module of definitions that stands for a type of the code, for its variants, or for the constants of a file.
 DECLARED = re.compile(r"Rattle\.(\w+)\.specs\.declared\.([\w.]+?)\.(\w+?)(?:\.The(?:Variants|Inside))?")
 # What stands before a clause: in a contract, and before the type and the value of a ghost member.

@@ -18,8 +18,8 @@ use sum_sources::{Input, PIECE, Source};
 /// Hashes what stands under one name, where `-` is standard input, and answers whether it was read to its end. Its line
 /// goes to `out`, or a line with the fault to `err` (coreutils manual, "md5sum invocation"), and is handed on at once.
 ///
-/// `Stop::Memory` where the source had no memory to open it; nothing is then written. `Stop::Write` where an
-/// output failed; a prefix of the line is then handed on. What is said of bytes and of what is held is said of outputs that
+/// `Stop::Memory` where the source had no memory to open it; nothing is then written. `Stop::Write` where an output
+/// failed; a prefix of the line is then handed on. What is said of bytes and of what is held is said of outputs that
 /// hold nothing when they are lent.
 pub fn generate_one<I: Input + Drop, S: Source, O: Sink, E: Sink>(
     settings: &Settings,

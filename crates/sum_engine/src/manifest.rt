@@ -23,8 +23,8 @@ use sum_sources::{Input, OpenFault, Source};
 /// that can't be opened, or read to its end, isn't good, and its fault goes to `err`.
 ///
 /// `Stop::Memory` where there was no memory for a line, or where the source had none to open a file; what was written
-/// is then the reports of the lines handled so far. `Stop::Write` where an output failed; one prefix of all that is to be
-/// written, in its order, is then handed on. What is said of bytes and of what is held is said of outputs that hold
+/// is then the reports of the lines handled so far. `Stop::Write` where an output failed; one prefix of all that is to
+/// be written, in its order, is then handed on. What is said of bytes and of what is held is said of outputs that hold
 /// nothing when they are lent.
 pub fn check_one<A: Allocator + Copy, J: Input + Drop, S: Source, O: Sink, E: Sink>(
     alloc: A,

@@ -82,9 +82,9 @@ impl<I: Input> Verdicts<I> {
         self.position.taken()
     }
 
-    /// Reads the next line, and finds its verdict: None where none is left and the manifest ended whole. `line` is grown
-    /// for the line, and holds the name of its entry; what it held before doesn't matter. `stdin` is what the name `-`
-    /// stands for in a manifest that didn't come from there, and `source` is where files are opened.
+    /// Reads the next line, and finds its verdict: None where none is left and the manifest ended whole. `line` is
+    /// grown for the line, and holds the name of its entry; what it held before doesn't matter. `stdin` is what the
+    /// name `-` stands for in a manifest that didn't come from there, and `source` is where files are opened.
     ///
     /// `LineStop::Fault` where the manifest ended by that fault. `LineStop::Memory` where there was no memory for the
     /// line or for opening the file that it names; each later call then answers the same and does nothing.
