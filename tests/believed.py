@@ -30,10 +30,10 @@ PROMISES = os.path.join(TOP, "docs", "PROMISES.md")
 # What is believed besides the laws, in the order of the page: a function's crate and name, and what the page calls it.
 CLAIMS = [("digests", "run", "The headline"), ("digests", "command", "The program")]
 HASHES = """\
-Where a *hash* changed, there is something new to believe: it is a prefix of the SHA-256 of a text, without comments and
-with white space folded, and of where the names in it come from. The text of a row is that of its definitions and of the
+Where a *hash* changed, there may be something new to believe: it is a prefix of the SHA-256 of a text, without comments
+and with white space folded, and of where the names in it come from. The text of a row is that of its definitions and of the
 code's types and constants that they name; that of a contract is the function with its clauses, and the traits and types
-that it names. A law's has both.""".replace("\n", " ")
+that it and these name. A law's has both.""".replace("\n", " ")
 MARKS = "<!-- made by tests/believed.py: what stands below -->\n", "\n<!-- and above this line -->"
 
 
@@ -59,10 +59,11 @@ def every_definition():
     return Specs()
 
 
-def declared(definitions):
-    """The types and constants of the code that definitions name, and what these name, each once."""
+def declared(those):
+    """The types and constants of the code that definitions, or the clauses of contracts, name, and what these name,
+    each once."""
     found = []
-    for origin in (it for definition in definitions for it in definition.origins().values()):
+    for origin in (origin for it in those for origin in it.origins().values()):
         found += [it for it in code().declared(*every_definition().origin(*origin)) if it not in found]
     return found
 
@@ -131,8 +132,8 @@ def in_order(page, specs):
 
 
 def text_of(page):
-    """The contracts, and the definitions themselves behind what their files say of themselves; before each what it names
-    of the code, which is shown once and without comments."""
+    """The contracts, and the definitions themselves behind what their files say of themselves; behind each contract and
+    before each file what it names of the code, which is shown once and without comments."""
     specs, shown = every_definition(), []
 
     def code_of(items):
@@ -140,11 +141,11 @@ def text_of(page):
             if item not in shown:
                 shown.append(item)
                 lines = re.sub(r"\n\s*\n", "\n\n", item.text.replace("{\n\n", "{\n")).strip()
-                yield f"\n-- {item.crate} src/{item.file}\n{lines}"
+                yield "\n".join(["", f"-- {item.crate} src/{item.file}", *renamed([item]), lines])
 
     for title, contracts, files in in_order(page, specs):
         yield f"-- ======== {title}: {counted(sum(files.values(), []))}"
-        yield from code_of(contracts)
+        yield from code_of([*contracts, *declared(contracts)])
         for (crate, file), definitions in files.items():
             yield from code_of(declared(definitions))
             head = [f"-- ---- {crate} {file}: {counted(definitions)}", *definitions[0].module.head]
@@ -165,14 +166,15 @@ def counted(definitions):
 def hash_of(definitions, items=()):
     """Changes with the text of the definitions, of what they name of the code, and of these items, but for comments and
     white space, and with where its names come from."""
-    said = [it.said() for it in [*items, *declared(definitions)]]
-    said += [f"{it.said}\n{it.origins()}" for it in definitions]
-    return hashlib.sha256("\n".join(said).encode()).hexdigest()[:16]
+    every = [*items, *declared([*items, *definitions]), *definitions]
+    said = "\n".join(f"{it.said}\n{it.origins()}" for it in every)
+    return hashlib.sha256(said.encode()).hexdigest()[:16]
 
 
-def renamed(definitions):
-    """The names in definitions of one file that stand for another name, or for a module, each with what it is."""
-    origins = {name: it for definition in definitions for name, it in definition.origins().items()}
+def renamed(those):
+    """The names in definitions or items of one file that stand for another name, or for a module, each with what it
+    is."""
+    origins = {name: origin for it in those for name, origin in it.origins().items()}
     for name, (module, there) in sorted(origins.items()):
         if there not in (name, None) or there is None and module.split(".")[-1] != name:
             yield f"-- here {name} is {module}{'.' + there if there else ''}"

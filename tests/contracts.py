@@ -51,9 +51,14 @@ class Item(NamedTuple):
     around: str
     text: str
 
+    @property
     def said(self):
-        """Its text with white space folded, and where the names in it come from that a `ghost use` brings in."""
-        return f"{' '.join(self.text.split())}\n{origins_in(self.text, self.uses)}"
+        """Its text with white space folded."""
+        return " ".join(self.text.split())
+
+    def origins(self):
+        """Where the names in it come from that a `ghost use` brings in."""
+        return origins_in(self.text, self.uses)
 
     @property
     def bound(self):
@@ -91,6 +96,9 @@ class Code:
     def read(self, path, crate, file):
         with open(path, encoding="utf-8") as it:
             text = re.sub(r"^\s*//.*", "", it.read(), flags=re.MULTILINE)
+        # A type or trait is found by its name, so no other may stand for it.
+        if re.search(r"^\s*(?:pub(?:\([^)]*\))? )?use [^;]* as [^_]|/\*", text, re.MULTILINE):
+            raise ValueError(f"{path} gives a name to what has another, or has a comment that isn't known here")
         uses = uses_of("^", text)
         for it in ITEM.finditer(text):
             kind = it[1] or it[2] or it[3]
@@ -104,7 +112,10 @@ class Code:
         return [it for it in self.items if (it.kind, it.file) == ("fn", "laws.rt")]
 
     def function(self, crate, name):
-        return next(it for it in self.items if (it.kind, it.crate, it.name) == ("fn", crate, name))
+        found = [it for it in self.items if (it.kind, it.crate, it.name) == ("fn", crate, name)]
+        if len(found) != 1:
+            raise ValueError(f"{crate} has {len(found)} functions {name}")
+        return found[0]
 
     def named(self, item):
         """The traits, types and models that an item names outside its clauses: its crate's own or else another's."""

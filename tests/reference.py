@@ -1,8 +1,8 @@
 """The rules of the tools, read once more: what hashing and checking write and answer, by Python's own means. The words
 that ask for it are read in `reference_words.py`.
 
-It follows the manual and the decisions in `docs/DECISIONS.md` and knows nothing of the crates: a rule that both misread,
-they would have to misread alike. Files are those of the current folder."""
+It follows the manual and the decisions in `docs/DECISIONS.md` and knows nothing of the crates: a rule that both
+misread, they would have to misread alike. Files are those of the current folder."""
 
 import errno
 import hashlib

@@ -85,8 +85,8 @@ class Documents(Case):
         self.assertEqual([it.split()[2] for it in believed.renamed([line])], sorted(line.origins()))
 
     def test_where_names_come_from(self):
-        """What a file's `use` lines bring in is known of the definitions there that name it, but for what is only handed
-        on."""
+        """What a file's `use` lines bring in is known of the definitions there that name it, but for what is only
+        handed on."""
         unknown = []
         for name, module in Specs().modules.items():
             known = {it for definition in module.definitions.values() for it in definition.origins()}

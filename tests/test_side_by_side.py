@@ -101,7 +101,8 @@ class SideBySide(Case):
         """Starts eight runs, each over 40 names of missing files for which it says lines of just that size."""
         rest = b"md5sum: : No such file or directory\n"
         names = [b"./" * ((size - len(rest) - 9) // 2) for _ in range(8)]
-        names = [name + b"missing%d" % run + b"x" * (size - len(rest) - 8 - len(name)) for run, name in enumerate(names)]
+        names = [name + b"missing%d" % run + b"x" * (size - len(rest) - 8 - len(name))
+                 for run, name in enumerate(names)]
         started = [self.start(["md5sum", *[os.fsdecode(name)] * 40], stderr=stderr) for name in names]
         return started, sorted(40 * [b"md5sum: " + name + b": No such file or directory" for name in names])
 

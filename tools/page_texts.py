@@ -69,8 +69,8 @@ CHECKING = (
     "reported before the next one is looked at. A listed name is looked up from the present folder, not from the "
     "manifest's: `cd` {FOLDER} comes first where the list was written in {FOLDER}. A listed name `-` means standard "
     "input. Where {FILE} is `-`, or none is given, such a line is improperly formatted.",
-    "Empty lines, and lines whose first byte is `#`, are passed over. A carriage return at a line's end is dropped. Blanks "
-    "at its beginning are passed over, and digits of either case are read. In the tagged form the space before the "
+    "Empty lines, and lines whose first byte is `#`, are passed over. A carriage return at a line's end is dropped. "
+    "Blanks at its beginning are passed over, and digits of either case are read. In the tagged form the space before the "
     "parenthesis may be missing, and there may be none or several about the equals sign.",
     "On standard output, for each listed file; where its name is escaped, a backslash stands before the line:",
     "Behind the last line of a manifest, standard error tells how many lines were improperly formatted, how many files "
@@ -102,13 +102,13 @@ STATUSES = {
     "0": "Every manifest was read to its end, lists a file that has the right checksum, and none that has another or "
          "couldn't be read (with `--ignore-missing`, files may be missing); and with `--strict` no line is improperly "
          "formatted. With `--help` or `--version`: the text was written.",
-    "1": "Anything else, unless a signal ends the program: also a fault of the options, memory that is refused, an output "
-         "that fails, or a C library that is too old.",
+    "1": "Anything else, unless a signal ends the program: also a fault of the options, memory that is refused, an "
+         "output that fails, or a C library that is too old.",
     "127": "The program could not begin: the C library, or memory to load it, is missing (with still less memory, a "
            "signal ends it), or it was built for later processors than this machine's. Nothing was done. Where the "
            "message names `x86-64-v3`, install the level `default`. Where it names `x86-64-v2`, that is the level "
-           "`default`: there is none for older processors. The option `--cpu` in the message is the compiler's, and not "
-           "that of `install`.",
+           "`default`: there is none for older processors. The option `--cpu` in the message is the compiler's, and "
+           "not that of `install`.",
 }
 
 DIAGNOSTICS = {
@@ -189,8 +189,8 @@ DIFFERENCES = (
     "An output that fails ends the run with a write error and status 1, and so does a reader that goes away, as "
     "`head`(1). GNU's tools still read all other files, and tell the reason of some write errors; a signal ends them "
     "where the reader goes away.",
-    "Standard input is given once: a second `-` of a call is an empty file. GNU's tools read on there, at a terminal for "
-    "instance, and tell a fault again.",
+    "Standard input is given once: a second `-` of a call is an empty file. GNU's tools read on there, at a terminal "
+    "for instance, and tell a fault again.",
     "The language that is set and `POSIXLY_CORRECT` have no effect.",
     "`--help` and `--version` print other texts. The message of an option that is unknown or cut too short doesn't "
     "name its value, nor the options that are possible.",
@@ -210,8 +210,8 @@ DIFFERENCE_OF_ANYSUM = (
 # Recipes: what each is for, and its lines. Each has one status, which is 0 only where all that it is for was done.
 # {tool} stands for the tool that checks, {writes} for what writes lines, {of} for the program where it has to be named,
 # {form} for how sed takes a line down to its name, and {grep} for how a line is found. Lists, but for that of one file,
-# get their names only once they are whole, so that no later recipe takes a short one for all; by `mv -T`, since a folder
-# of that name would take them in. tests/test_recipes.py types each of them.
+# get their names only once they are whole, so that no later recipe takes a short one for all; by `mv -T`, since a
+# folder of that name would take them in. tests/test_recipes.py types each of them.
 RECIPE_OF_A_FILE = ("A file's checksum:", "{writes} image.iso > image.sum")
 RECIPE_OF_ITS_CHECK = ("Later, whether the file still has it:", "{tool} -c image.sum")
 
@@ -245,8 +245,8 @@ RECIPES_OF_FOLDERS = (
      "empty. Give one name at a time: of two, one that isn't found would not be missed.",
      "{grep} SUMS | {tool} -c --strict"),
     ("Files that a list made as above doesn't name, in `bash`(1). A check doesn't tell of them. Their names are shown "
-     "escaped, as in a line. Check the list with `--strict` first: a line whose digits are damaged may name a file here. The status is "
-     "0 only where there is none, and all folders could be read. Links, pipes and devices are left out:",
+     "escaped, as in a line. Check the list with `--strict` first: a line whose digits are damaged may name a file "
+     "here. The status is 0 only where there is none, and all folders could be read. Links, pipes and devices are left out:",
      "(set -o pipefail; export LC_ALL=C",
      "at=$(mktemp -d) && trap 'rm -r \"$at\"' EXIT &&",
      "find . -type f ! -path ./SUMS -print0 |",
