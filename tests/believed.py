@@ -31,9 +31,9 @@ PROMISES = os.path.join(TOP, "docs", "PROMISES.md")
 CLAIMS = [("digests", "run", "The headline"), ("digests", "command", "The program")]
 HASHES = """\
 Where a *hash* changed, there may be something new to believe: it is a prefix of the SHA-256 of a text, without comments
-and with white space folded, and of where the names in it come from. The text of a row is that of its definitions and of the
-code's types and constants that they name; that of a contract is the function with its clauses, and the traits and types
-that it and these name. A law's has both.""".replace("\n", " ")
+and with white space folded, and of where the names in it come from. The text of a row is that of its definitions and of
+the code's types and constants that they name; that of a contract is the function with its clauses, and the traits and
+types that it and these name. A law's has both.""".replace("\n", " ")
 MARKS = "<!-- made by tests/believed.py: what stands below -->\n", "\n<!-- and above this line -->"
 
 

@@ -70,8 +70,8 @@ CHECKING = (
     "manifest's: `cd` {FOLDER} comes first where the list was written in {FOLDER}. A listed name `-` means standard "
     "input. Where {FILE} is `-`, or none is given, such a line is improperly formatted.",
     "Empty lines, and lines whose first byte is `#`, are passed over. A carriage return at a line's end is dropped. "
-    "Blanks at its beginning are passed over, and digits of either case are read. In the tagged form the space before the "
-    "parenthesis may be missing, and there may be none or several about the equals sign.",
+    "Blanks at its beginning are passed over, and digits of either case are read. In the tagged form the space before "
+    "the parenthesis may be missing, and there may be none or several about the equals sign.",
     "On standard output, for each listed file; where its name is escaped, a backslash stands before the line:",
     "Behind the last line of a manifest, standard error tells how many lines were improperly formatted, how many files "
     "could not be read, and how many checksums did not match. Not with `--status`. Of a manifest that lists nothing, "
@@ -246,7 +246,8 @@ RECIPES_OF_FOLDERS = (
      "{grep} SUMS | {tool} -c --strict"),
     ("Files that a list made as above doesn't name, in `bash`(1). A check doesn't tell of them. Their names are shown "
      "escaped, as in a line. Check the list with `--strict` first: a line whose digits are damaged may name a file "
-     "here. The status is 0 only where there is none, and all folders could be read. Links, pipes and devices are left out:",
+     "here. The status is 0 only where there is none, and all folders could be read. Links, pipes and devices are left "
+     "out:",
      "(set -o pipefail; export LC_ALL=C",
      "at=$(mktemp -d) && trap 'rm -r \"$at\"' EXIT &&",
      "find . -type f ! -path ./SUMS -print0 |",
