@@ -343,7 +343,7 @@ def main():
     reader = Reader(description="Measures the programs beside others.", allow_abbrev=False)
     number = {"type": at_least_one, "metavar": "N"}
     reader.add_argument("--size", default=256, help="size of the large input in MiB (256)", **number)
-    reader.add_argument("--rounds", default=5, help="rounds of which the least counts (5)", **number)
+    reader.add_argument("--rounds", default=5, help="rounds at least, of which the least counts (5)", **number)
     reader.add_argument("--only", choices=[*TIMED, *OTHER], action="append", help="only this part; may be repeated")
     reader.add_argument("--program", type=program, metavar="FILE", action="append",
                         help="this program, in place of the two levels'; may be repeated")

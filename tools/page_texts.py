@@ -309,7 +309,7 @@ def examples(name):
 PROGRAM_USES = ("`digests` {TOOL}", "{TOOL}")
 
 PROGRAM = (
-    "One program holds eight tools that write and check the checksums of files. {TOOL} says which of them it is to be; "
+    "One program holds eight tools that write or check the checksums of files. {TOOL} says which of them it is to be; "
     "each has a page of its own, with its options.",
     "Called by a link that has a tool's name, as those beside the installed program, it is that tool. From its "
     "arguments to its exit status, machine-checked contracts say what it writes; how real files and streams behave is "
