@@ -89,7 +89,8 @@ class Bench:
     def __init__(self, asked, folder):
         named = {path: os.path.abspath(path) for path in asked.program or ()}
         self.ours = named or built_programs()
-        self.bare = None if asked.no_bare else built_bare()
+        hashes = not asked.only or "hashing" in asked.only
+        self.bare = built_bare() if hashes and not asked.no_bare else None
         self.rounds = asked.rounds
         self.size = asked.size
         self.folder = folder

@@ -112,6 +112,9 @@ def claims(page, specs=None):
     listed = [(code().function(crate, name), title) for crate, name, title in CLAIMS]
     for function, title in listed + [(law, None) for law in code().laws()]:
         behind = code().behind(function)
+        unknown = [name for it in behind for name in code().unknown(it)]
+        if unknown:
+            raise ValueError(f"the contract of {function.name} names {unknown}, and no use line brings that in")
         reached = specs.reached(found for item in behind for found in cited(specs, item))
         yield Claim(function.name, function.crate, title, behind, reached, in_files(specs, reached - before, place))
         if title:
@@ -134,22 +137,23 @@ def in_order(page, specs):
 def text_of(page):
     """The contracts, and the definitions themselves behind what their files say of themselves; behind each contract and
     before each file what it names of the code, which is shown once and without comments."""
-    specs, shown = every_definition(), []
+    shown, parts = [], list(in_order(page, every_definition()))
+    several = of_several(it for _, _, files in parts for them in files.values() for it in them)
 
     def code_of(items):
         for item in items:
             if item not in shown:
                 shown.append(item)
                 lines = re.sub(r"\n\s*\n", "\n\n", item.text.replace("{\n\n", "{\n")).strip()
-                yield "\n".join(["", f"-- {item.crate} src/{item.file}", *renamed([item]), lines])
+                yield "\n".join(["", f"-- {item.crate} src/{item.file}", *renamed([item], several), lines])
 
-    for title, contracts, files in in_order(page, specs):
+    for title, contracts, files in parts:
         yield f"-- ======== {title}: {counted(sum(files.values(), []))}"
         yield from code_of([*contracts, *declared(contracts)])
         for (crate, file), definitions in files.items():
             yield from code_of(declared(definitions))
             head = [f"-- ---- {crate} {file}: {counted(definitions)}", *definitions[0].module.head]
-            yield "\n".join(["", *head, *renamed(definitions)])
+            yield "\n".join(["", *head, *renamed(definitions, several)])
             for definition in definitions:
                 yield "\n".join(["", *definition.lines])
         yield ""
@@ -171,13 +175,24 @@ def hash_of(definitions, items=()):
     return hashlib.sha256(said.encode()).hexdigest()[:16]
 
 
-def renamed(those):
-    """The names in definitions or items of one file that stand for another name, or for a module, each with what it
-    is."""
+def renamed(those, several=()):
+    """The names in definitions or items of one file that stand for another name, or for a module, or for several things
+    in all, each with what it is."""
     origins = {name: origin for it in those for name, origin in it.origins().items()}
     for name, (module, there) in sorted(origins.items()):
-        if there not in (name, None) or there is None and module.split(".")[-1] != name:
+        if name in several or there not in (name, None) or there is None and module.split(".")[-1] != name:
             yield f"-- here {name} is {module}{'.' + there if there else ''}"
+
+
+def of_several(definitions):
+    """The names that mean several things in definitions, at least one of them of this repository."""
+    means = {}
+    for definition in definitions:
+        means.setdefault(definition.name, set()).add((definition.module.name, definition.name))
+        for name, origin in definition.origins().items():
+            means.setdefault(name, set()).add(every_definition().origin(*origin))
+    ours = {module.split(".")[1] for module in every_definition().modules}
+    return {name for name, them in means.items() if len(them) > 1 and any(it[0].split(".")[1] in ours for it in them)}
 
 
 def rows_of(page):

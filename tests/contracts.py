@@ -31,11 +31,15 @@ def behind_brace(text, start):
 def end_of(text, start, kind):
     """Where an item ends that begins there: a function's contract before its body, and all else behind its braces."""
     if kind != "fn":
-        first = re.compile(r"[{;]").search(text, start)
+        first = re.compile(r"[{;\[]").search(text, start)
+        if first[0] == "[":
+            raise ValueError(f"an array in a type without braces can't be read: {text[start:first.end()]}")
         return first.end() if first[0] == ";" else behind_brace(text, first.start())
     end = re.compile(r"\{|\b(?:ensures|requires)\b").search(text, start).start()
     while ENSURES.match(text, end):
         end = behind_brace(text, end)
+    if not re.compile(r"\s*\{").match(text, end):
+        raise ValueError(f"behind this contract stands neither a clause nor a body: {text[start:end]}")
     return end
 
 
@@ -105,6 +109,8 @@ class Code:
             item = text[it.start() : end_of(text, it.start(), kind)]
             self.items.append(item_of(kind, it[4], crate, file, uses, item))
         for it in CONSTANT.finditer(text):
+            if re.search(r"\b[A-Z][A-Z_]+\b", re.sub(r'"(?:\\.|[^"\\])*"', "", it[0].split("=", 1)[1])):
+                raise ValueError(f"a constant that names another can't be read: {it[0]}")
             self.items.append(Item(it[1], it[2], crate, file, {}, (), "", it[0]))
 
     def laws(self):
@@ -129,12 +135,21 @@ class Code:
     def declared(self, module, name):
         """The type or constant that a definition means by a name from a module, if it is one of the code, with the
         types and traits that it names."""
-        found = DECLARED.fullmatch(module)
-        if not found or not any(it.crate == found[1] for it in self.items):
+        of = re.match(r"Rattle\.(\w+)\.specs\.declared\b", module)
+        if not of or not any(it.crate == of[1] for it in self.items):
             return []
+        found = DECLARED.fullmatch(module)
+        if not found:
+            raise ValueError(f"what {module} stands for can't be read")
         crate, file, owner = found.groups()
         wanted = crate, file.replace(".", "/") + ".rt", name if owner == "TheConstants" else owner
         return self.behind(next(it for it in self.items if (it.crate, it.file, it.name) == wanted))
+
+    def unknown(self, item):
+        """The types and constants that an item's clauses name, and no `ghost use` brings in."""
+        named = re.findall(r"(?<!\.)\b[A-Z]\w+\b", " ".join(item.clauses))
+        return [it for it in named if it not in item.uses and it not in item.bound
+                and any(it == other.name for other in self.items if other.kind not in ("fn", "Model"))]
 
     def behind(self, function):
         """A function, and what its contract's words mean: the traits that bound its parameters with those that these

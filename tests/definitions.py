@@ -1,4 +1,5 @@
-"""The definitions of `specs/`: their lines, and the other definitions that they name, or that a clause names."""
+"""The definitions of `specs/`: their lines, and the other definitions that they name, or that a clause names. What can't
+be read here raises a ValueError, so that nothing is left out unseen."""
 
 import glob
 import os
@@ -22,7 +23,9 @@ def cleared(text, pattern, instead):
 def imports_of(line):
     """The names that a `use` line brings in, each with a module and the name there, which a module itself hasn't."""
     said = re.match(r"(?:pub\s+)?use\s+([\w.-]+?)(?:\.\{(.*)\}|\s+as\s+(\S+?))?\s*;?$", line)
-    module, names, alias = said.groups() if said else ("", "", None)
+    if not said:
+        raise ValueError(f"this is no line of names: {line}")
+    module, names, alias = said.groups()
     if module and names is None:
         yield alias or module.split(".")[-1], (module, None)
     for name in (names or "").split(","):
@@ -221,7 +224,7 @@ class Module:
                 self.add(comment, fixity, block)
                 comment, fixity, block = [], [], []
             if not line.strip() or re.match(r"(pub )?use ", line):
-                self.imports.update(imports_of(line))
+                self.imports.update(imports_of(line) if line.strip() else [])
                 self.head = self.head or ([] if self.definitions else comment)
                 comment = []
             elif line.startswith("--"):
@@ -230,6 +233,8 @@ class Module:
                 fixity.append(line)
             elif starts or block:
                 block.append(line)
+            elif not line.startswith("pub mod "):
+                raise ValueError(f"in {self.name} this belongs to no definition: {line}")
 
     def add(self, comment, fixity, block):
         kind, name = NAMED.match(block[0]).groups()

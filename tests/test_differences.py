@@ -1,4 +1,4 @@
-"""What the manual pages and documents say of GNU coreutils 9.1, where that version is installed: each statement is
+"""What the manual pages and documents say of GNU coreutils 9.1, where that version is installed: most statements are
 tried with its tools and with ours."""
 
 import os

@@ -6,7 +6,7 @@ import re
 
 import believed
 import harness
-from definitions import Names, Specs
+from definitions import Module, Names, Specs
 from harness import Case
 
 # Clauses and declarations, and which of `form`, `good`, `says` and the constructor `some` stand free in them.
@@ -83,6 +83,16 @@ class Documents(Case):
         self.assertGreater(len(hashes), 5)
         self.assertEqual(len(set(hashes)), len(hashes))
         self.assertEqual([it.split()[2] for it in believed.renamed([line])], sorted(line.origins()))
+
+    def test_what_cannot_be_read(self):
+        """It is refused, so that no line of a definition is left out unseen."""
+        for lines in (["abbrev pub f : A → B", "f a = b", "-- why", "f c = d"], ["mutual", "abbrev pub f : A", "f = a"],
+                      ["use Rattle.std.specs.Prelude.{ℕ,", "  List}"]):
+            module = object.__new__(Module)
+            module.crate, module.file, module.name = "crate", "File", "Rattle.crate.specs.File"
+            module.imports, module.definitions, module.head = {}, {}, []
+            with self.assertRaises(ValueError, msg=lines):
+                module.read(lines)
 
     def test_where_names_come_from(self):
         """What a file's `use` lines bring in is known of the definitions there that name it, but for what is only

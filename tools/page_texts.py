@@ -1,7 +1,7 @@
 """What the manual pages say, and the one table of the tools and of their options, from which pages and completions are
 made."""
 
-DATE = "2026-11-24"  # of the last change of these texts
+DATE = "2026-11-25"  # of the last change of these texts
 
 # Tool: its standard, the algorithm's name there, and the bits of its digest. The last has none of its own.
 TOOLS = {
