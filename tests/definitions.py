@@ -1,5 +1,5 @@
-"""The definitions of `specs/`: their lines, and the other definitions that they name, or that a clause names. What can't
-be read here raises a ValueError, so that nothing is left out unseen."""
+"""The definitions of `specs/`: their lines, and the other definitions that they name, or that a clause names. What
+can't be read here raises a ValueError, so that nothing is left out unseen."""
 
 import glob
 import os
