@@ -28,6 +28,15 @@ def behind_brace(text, start):
     return len(text)
 
 
+def without_variants(text):
+    """The text of an enum without the names of its variants, which are no types."""
+    depth, rest = 0, ""
+    for it in re.finditer(r"[({\[]|[)}\]]|\b[A-Z]\w*|[^A-Z(){}\[\]]+|.", text):
+        depth += (it[0] in "({[") - (it[0] in ")}]")
+        rest += "" if depth == 1 and it[0][0].isupper() else it[0]
+    return rest
+
+
 def end_of(text, start, kind):
     """Where an item ends that begins there: a function's contract before its body, and all else behind its braces."""
     if kind != "fn":
@@ -125,7 +134,8 @@ class Code:
 
     def named(self, item):
         """The traits, types and models that an item names outside its clauses: its crate's own or else another's."""
-        for name in re.findall(r"\b[A-Z]\w*", item.around):
+        said = without_variants(item.around) if item.kind == "enum" else item.around
+        for name in re.findall(r"\b[A-Z]\w*", said):
             found = [it for it in self.items if it.kind not in ("fn", "const") and it.name == name]
             found = [it for it in found if it.crate == item.crate] or found
             if len({it.crate for it in found}) > 1:

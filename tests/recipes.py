@@ -28,6 +28,10 @@ SORTS = {
 OF_ALL = set(SORTS) - {"write", "write two", "write at once"}
 SORTS_OF = {"anysum": OF_ALL | {"write two", "write at once"}, "digests": OF_ALL | {"write", "write at once"}}
 
+# What recipes call besides a tool, and the tests in their names: without one of them no recipe is typed.
+COMMANDS = ("bash", "cat", "comm", "find", "grep", "mktemp", "mv", "nproc", "rm", "sed", "sh", "sort", "split", "tee",
+            "tr", "wc", "xargs")
+
 # What bash has, and another shell may not have.
 OF_BASH = re.compile(r"pipefail|>\(")
 
@@ -65,7 +69,7 @@ class Typed(Case):
 
     def setUp(self):
         super().setUp()
-        for command in ("bash", "find", "xargs", "split", "comm", "tee", "nproc"):
+        for command in COMMANDS:
             if shutil.which(command) is None:
                 self.skipTest(f"{command} isn't installed")
         os.mkdir(self.path("commands"))

@@ -33,7 +33,11 @@ def why_not(program):
     """What keeps a program from running on this machine, or nothing."""
     if not os.path.isfile(program) or not os.access(program, os.X_OK):
         sys.exit(f"run.py: {program} is no program")
-    ran = subprocess.run([program, "md5sum", "--version"], stdout=subprocess.PIPE, stderr=subprocess.PIPE)
+    quiet = {"stdin": subprocess.DEVNULL, "stdout": subprocess.PIPE, "stderr": subprocess.PIPE}
+    try:
+        ran = subprocess.run([program, "md5sum", "--version"], timeout=harness.RUN_SECONDS, **quiet)
+    except subprocess.TimeoutExpired:
+        sys.exit(f"run.py: {program} doesn't end")
     if ran.returncode != harness.NOT_FOR_THIS_MACHINE:
         return ""
     return ran.stderr.decode(errors="replace").strip() or "it doesn't run on this machine"

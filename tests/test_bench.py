@@ -13,6 +13,7 @@ BENCH = os.path.join(TOP, "bench", "run.py")
 class Words(Case):
     """What `bench/run.py` is called with."""
 
+    of_the_repository = True
     def bench(self, *words, **how):
         """Runs the benchmark with these words."""
         return self.run_command([sys.executable, BENCH, *words], **how)

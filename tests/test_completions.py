@@ -16,14 +16,16 @@ COMPLETIONS = os.path.join(TOP, "completions")
 def taken(tool, *words):
     """Whether the program takes these words, which read nothing but standard input."""
     ran = subprocess.run([harness.PROGRAM, tool, *words], stdin=subprocess.DEVNULL, stdout=subprocess.PIPE,
-                         stderr=subprocess.PIPE)
+                         stderr=subprocess.PIPE, timeout=harness.RUN_SECONDS)
     return b"\nTry '" not in ran.stderr
 
 
 def wanted_options(tool, *before):
     """The options of the tool's help that the program takes after some words."""
-    said = subprocess.run([harness.PROGRAM, tool, "--help"], stdout=subprocess.PIPE, check=True).stdout.decode()
-    words = [word for pair in re.findall(r"(?m)^  +(?:(-\w), )?(--[a-z-]+)", said) for word in pair if word]
+    ran = subprocess.run([harness.PROGRAM, tool, "--help"], stdout=subprocess.PIPE, check=True,
+                         timeout=harness.RUN_SECONDS)
+    pairs = re.findall(r"(?m)^  +(?:(-\w), )?(--[a-z-]+)", ran.stdout.decode())
+    words = [word for pair in pairs for word in pair if word]
     value = {"-l": ["8"], "--length": ["8"]}
     return {word for word in words if taken(tool, *before, word, *value.get(word, []))}
 

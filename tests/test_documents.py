@@ -6,6 +6,7 @@ import re
 
 import believed
 import harness
+from contracts import Code
 from definitions import Module, Names, Specs
 from harness import Case
 
@@ -102,6 +103,15 @@ class Documents(Case):
             known = {it for definition in module.definitions.values() for it in definition.origins()}
             unknown += [(name, it) for it in module.imports.keys() - known]
         self.assertEqual(unknown, [("Rattle.digest_kinds.specs.Limits", "LIMIT")])
+
+    def test_variants(self):
+        """A variant's name is no type's: `Blake2b` is a variant of `Algo`, and a struct that no definition means."""
+        items = Code().items
+        algo, verdict, fault = ([it for it in items if (it.kind, it.name) == ("enum", name)]
+                                for name in ("Algo", "Verdict", "Fault"))
+        self.assertTrue([it for it in items if (it.kind, it.name) == ("struct", "Blake2b")])
+        self.assertEqual(Code().behind(*algo), algo)
+        self.assertEqual(Code().behind(*verdict), verdict + fault)
 
     def test_names_that_stand_free(self):
         """A name stands for a definition where no binder, pattern, field or text has it."""

@@ -17,7 +17,8 @@ HELP = re.compile(r"  (?:-(\w), |    )--([a-z-]+)(?:=([A-Z]+))? ")
 
 def options_of_help(tool):
     """The options that the program's help lists: short and long name, and the value's."""
-    ran = subprocess.run([harness.PROGRAM, tool, "--help"], stdout=subprocess.PIPE, check=True)
+    ran = subprocess.run([harness.PROGRAM, tool, "--help"], stdout=subprocess.PIPE, check=True,
+                         timeout=harness.RUN_SECONDS)
     return HELP.findall(ran.stdout.decode())
 
 

@@ -1,5 +1,6 @@
 """The repository's own scripts: their words, the shell that they name, the version that they tell."""
 
+import hashlib
 import os
 import re
 import shutil
@@ -10,6 +11,19 @@ import harness
 from harness import TOP, Case, Ran
 from repository import DEFAULT, FAST, Repository
 
+# A file of tests with one that doesn't end.
+ENDLESS = """
+import time
+
+from harness import Case
+
+
+class Endless(Case):
+    def test_parts(self):
+        for part in (1, 2, 3):
+            with self.subTest(part=part):
+                time.sleep(3600)
+"""
 
 def files_of_git():
     """The files of the repository, as git knows them, or None where it can't say."""
@@ -100,8 +114,7 @@ class Sums(Repository):
         self.block = f"Built with `a kit`:\n\n{self.lines}"
 
     def sum_of(self, level):
-        ran = self.run_command([harness.PROGRAM, "sha256sum", self.in_top(f"out/{level}/digests")])
-        return ran.out.split()[0].decode()
+        return hashlib.sha256(self.read(self.in_top(f"out/{level}/digests"))).hexdigest()
 
     def test_printed(self):
         self.assertEqual(self.script("tools/sums"), Ran(0, self.block.encode(), b""))
@@ -251,6 +264,26 @@ class Runner(Repository):
         self.assertRegex(lines[-1], r"^in all: 2 end-to-end tests passed, 0 failed, 0 skipped, in \d+ s$")
         ran = self.runner("--only", "test_scripts.Layout.test_ignored")  # looks at the repository, so once is enough
         self.assertRegex(ran.out.decode(), r"(?m)^in all: 1 end-to-end tests passed, 0 failed")
+
+    def hasten(self):
+        """A second is all that a test, or a run of the program, has from here on."""
+        path = self.in_top("tests/harness.py")
+        self.write(path, re.sub(rb"(?m)^(RUN|TEST)_SECONDS = \d+$", rb"\1_SECONDS = 1", self.read(path)))
+
+    def test_a_test_that_takes_too_long(self):
+        """It ends and fails; of its parts none begins any more."""
+        self.hasten()
+        self.write(self.in_top("tests/test_endless.py"), ENDLESS)
+        ran = self.runner("--only", "test_endless", harness.PROGRAM)
+        self.assertIn(b"digests: 0 end-to-end tests passed, 1 failed, 0 skipped, in ", ran.out)
+        self.assertEqual((ran.status, ran.err, ran.out.count(b"(part=1)"), ran.out.count(b"(part=2)")), (1, b"", 1, 0))
+
+    def test_a_program_that_does_not_end(self):
+        self.hasten()
+        program = os.fsdecode(self.path("endless"))
+        self.write("endless", "#!/bin/sh\nexec sleep 3600\n")
+        os.chmod(program, 0o755)
+        self.assertEqual(self.runner(program), Ran(1, b"", f"run.py: {program} doesn't end\n".encode()))
 
     def test_a_program_that_does_not_run_here(self):
         self.write_fake_program()

@@ -194,8 +194,34 @@ class Lengths(Case):
 
 
 class Combinations(Case):
-    """Faults 8 to 17, in the order of their numbers."""
+    """Faults 8 to 17, and the order in which the faults from 6 on are tried."""
 
+    def test_the_order_with_check(self):
+        """Each line has all faults that come behind its own, as far as they can stand together."""
+        for words, text in (
+                ("-c -z -t --tag --text -l x l", "invalid length: 'x'"),
+                ("-c -z -t --tag --text -l 12 l", "length is not a multiple of 8: '12'"),
+                ("-c -z -t --tag --text l", "--tag does not support --text mode"),
+                ("-c -z -t --tag l", "the --zero option is not supported when verifying checksums"),
+                ("-c -t --tag l", f"the --tag option is {WITH_CHECK}"),
+                ("-c -t l", f"the --binary and --text options are {WITH_CHECK}")):
+            with self.subTest(words=words):
+                self.expect_fault(f"b2sum {words}", text)
+
+    def test_the_order_without_check(self):
+        """The same of the faults for which `--check` is missing."""
+        for words, text in (
+                ("b2sum --strict --status --ignore-missing --tag -t -l x", "invalid length: 'x'"),
+                ("b2sum --strict --status --ignore-missing --tag -t -l 12", "length is not a multiple of 8: '12'"),
+                ("anysum --strict --status --ignore-missing --tag -t", "--tag does not support --text mode"),
+                ("anysum --strict --status --ignore-missing", f"the --ignore-missing option is {WITHOUT_CHECK}"),
+                ("anysum --strict --status", f"the --status option is {WITHOUT_CHECK}"),
+                ("anysum --strict --warn", f"the --warn option is {WITHOUT_CHECK}"),
+                ("anysum --strict --quiet", f"the --quiet option is {WITHOUT_CHECK}"),
+                ("anysum --strict", f"the --strict option is {WITHOUT_CHECK}"),
+                ("anysum", "--check is required")):
+            with self.subTest(words=words):
+                self.expect_fault(words, text)
     def test_tag_and_text(self):
         self.expect_fault("md5sum --tag -b -t a", "--tag does not support --text mode")
         self.expect("md5sum --tag -t -b a", out=[f"MD5 (a) = {M}"])
