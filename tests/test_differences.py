@@ -1,7 +1,9 @@
 """What the manual pages and documents say of GNU coreutils 9.1, where that version is installed: most statements are
 tried with its tools and with ours."""
 
+import hashlib
 import os
+import pty
 import subprocess
 
 import harness
@@ -114,6 +116,16 @@ class Messages(Described):
         self.expect_both("md5sum - -", (1, [f"{E}  -"], ours), (1, b"", theirs * 2), stdin=folder)
         self.expect_alike("md5sum - -", 0, [f"{M}  -", f"{E}  -"], stdin=b"abc")
 
+    def test_standard_input_twice_at_a_terminal(self):
+        """There GNU's tools take what comes behind the end that was typed."""
+        first, second = (hashlib.md5(text).hexdigest() for text in (b"abc\n", b"more\n"))
+        for command, wanted in (([harness.PROGRAM, "md5sum"], E), ([gnu("md5sum")], second)):
+            typed, shown = pty.openpty()
+            self.addCleanup(os.close, typed)
+            os.write(typed, b"abc\n\x04more\n\x04")
+            ran = self.run_command([*command, "-", "-"], stdin=shown)
+            os.close(shown)
+            self.assertEqual(ran, Ran(0, as_bytes([f"{first}  -", f"{wanted}  -"]), b""), command)
     def test_what_has_no_effect(self):
         """The language changes GNU's quotes, and POSIXLY_CORRECT makes every word behind a name one; here neither."""
         ran = [self.both("b2sum -l x e", env={**os.environ, "LC_ALL": name}) for name in ("C", "C.UTF-8")]

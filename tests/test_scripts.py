@@ -220,6 +220,20 @@ class Words(Repository):
             self.assertEqual((ran.status, ran.out.splitlines()[-2:]),
                              (1, [f"test: {name.split()[-1]}: not read".encode(), b"5 passed, 1 failed"]))
 
+    def test_quick(self):
+        """The tests over the default level's program, and each crate's unit tests; the gate isn't called."""
+        self.put("tests/run.py", "import sys\nprint('the tests over', *sys.argv[1:], flush=True)\n")
+        ran = self.script("test", "quick")
+        first, *others = ran.out.decode().splitlines()
+        self.assertRegex(first, "^test: .* minutes of end-to-end tests, ")
+        over = f"the tests over {os.path.realpath(self.top)}/out/default/digests"
+        self.assertEqual((ran.status, others), (0, [over, "low: no unit tests", "digests: no unit tests"]))
+        self.assertEqual(self.calls()[-2:], ["crates/low test", "crates/digests test"])
+        ran = self.script("test", "quick", RT_FAILS="test low")
+        self.assertEqual((ran.status, ran.out.splitlines()[-2:]), (1, [b"rt: this is why", b"low: FAILED"]))
+        self.put("tests/run.py", "raise SystemExit(1)\n")
+        self.assertEqual(self.script("test", "quick").status, 1)
+
     def test_what_it_needs(self):
         """Python first, then the kit: what is missing is told before anything is done."""
         few = os.fsdecode(self.path("few"))
@@ -264,6 +278,14 @@ class Runner(Repository):
         self.assertRegex(lines[-1], r"^in all: 2 end-to-end tests passed, 0 failed, 0 skipped, in \d+ s$")
         ran = self.runner("--only", "test_scripts.Layout.test_ignored")  # looks at the repository, so once is enough
         self.assertRegex(ran.out.decode(), r"(?m)^in all: 1 end-to-end tests passed, 0 failed")
+
+    def test_named_and_left_out(self):
+        """Each test is named, and those of checking are left out."""
+        ran = self.runner("--verbose", "--only", "test_words.ToolNames.test_unknown_tool", harness.PROGRAM)
+        self.assertRegex(ran.out.decode(), r"test_unknown_tool \(.*\) \.\.\. ok")
+        ran = self.runner("--without-check", "--only", "test_words.Combinations.test_check_takes", harness.PROGRAM)
+        self.assertIn(b"skipped 1: checking is left out\n", ran.out)
+        self.assertEqual(ran.status, 1)
 
     def hasten(self):
         """A second is all that a test, or a run of the program, has from here on."""
