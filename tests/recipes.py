@@ -9,18 +9,21 @@ import harness
 from harness import Case, Ran
 from test_pages import NAMES, sections_of
 
+# A tool as it is called, by a link or as a word of `digests`.
+TOOL = r"^[\w-]+( \w[\w-]*)?"
+
 # What a recipe is for, and how it is known. Each recipe is of one sort.
 SORTS = {
-    "write": r"^[\w ]+ image\.iso > image\.sum$",
+    "write": TOOL + r" image\.iso > image\.sum$",
     "write two": r"image\.iso >> image\.new &&",
     "write at once": r"^tee ",
     "write by pv": r"^\(.*pv [^>]*> image\.new",
     "list": r" -exec ",
     "list on all": r" xargs ",
     "not UTF-8": r" grep -z",
-    "check": r"^[\w ]+ -c (--strict )?image\.sum$",
+    "check": TOOL + r" -c (--strict )?image\.sum$",
     "check by pv": r"pv .* -c image\.sum",
-    "check list": r"^[\w ]+ -c --quiet (--strict )?SUMS$",
+    "check list": TOOL + r" -c --quiet (--strict )?SUMS$",
     "check list on all": r"\bsplit ",
     "check one": r"^grep ",
     "unlisted": r"^comm ",
@@ -28,7 +31,7 @@ SORTS = {
 OF_ALL = set(SORTS) - {"write", "write two", "write at once"}
 SORTS_OF = {"anysum": OF_ALL | {"write two", "write at once"}, "digests": OF_ALL | {"write", "write at once"}}
 
-# What recipes call besides a tool, and the tests in their names: without one of them no recipe is typed.
+# What the recipes, and what stands in for `pv`, call besides a tool: without one of these no recipe is typed.
 COMMANDS = ("bash", "cat", "comm", "find", "grep", "mktemp", "mv", "nproc", "rm", "sed", "sh", "sort", "split", "tee",
             "tr", "wc", "xargs")
 
