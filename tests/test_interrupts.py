@@ -77,7 +77,7 @@ class Interrupted(Traced):
         self.assertEqual(ran, Ran(0, as_bytes([f"{S}  {a}"]), b""))
 
     def test_some_opens(self):
-        """An opening that is interrupted is tried again, too. The library does so without a limit, so none is
+        """An opening that is interrupted is tried again, too. The library does so 2^64 - 1 times, so no limit is
         looked for."""
         a = os.fsdecode(self.path("a"))
         ran, calls = self.failing("openat", "EINTR", ["md5sum", a], only=a, when=FEW, timeout=ENDLESS)
