@@ -22,7 +22,7 @@ pub enum Next {
 }
 
 /// Why there is no next line: `Fault` where the input ended by that fault, after every line that a newline ended;
-/// `Memory` where there was no memory for the line.
+/// `Memory` where there was no memory for the line, or to open the file that the line names.
 #[derive(Clone, Copy, Debug, PartialEq, Eq, Error)]
 pub enum LineStop {
     #[error(transparent)]
