@@ -9,18 +9,15 @@ tools='md5sum sha1sum sha224sum sha256sum sha384sum sha512sum b2sum anysum'
 fast=x86-64-v3
 levels="default $fast"
 
-# Whether a level's program is there and nothing that it was made from has changed since. The list holds every source
-# and, for what comes and goes, every folder of sources; it is as old as the build's begin. What counts is the time that
-# the system notes for each change, which copying and unpacking can't set back. Last the list names itself: that name is
-# found first only where no source is newer than the list, the list is whole, and it isn't dated in the future, where
-# nothing would ever be newer.
+# Whether a level's program is there and nothing that it was made from has changed since. Its list names every source
+# and, for what comes and goes, every folder of sources. Of each it was noted, at the build's begin, when the system saw
+# its last change: a time that neither copying nor unpacking can set. That is compared with what stands there now, and
+# never with the clock, which may have been wrong.
 # shellcheck disable=SC2185  # the list names what is looked at
 is_current() {
-    list=out/$1/sources
-    [ -x "$top/out/$1/digests" ] &&
-        found=$(CDPATH='' cd -- "$top" && LC_ALL=C find -files0-from "$list" -maxdepth 0 \
-            \( -cnewer "$list" ! -path "$list" -o -path "$list" ! -newermt now \) -print -quit 2>&1) &&
-        [ "$found" = "$list" ]
+    [ -x "$top/out/$1/digests" ] && [ -s "$top/out/$1/changes" ] &&
+        (CDPATH='' cd -- "$top" && LC_ALL=C exec find -files0-from "out/$1/sources" -maxdepth 0 \
+            -printf '%C@ ' -print0 2>&1) | cmp -s - "$top/out/$1/changes"
 }
 
 # Whether a level's program runs on this machine: one for later processors ends at once, with the status 127.

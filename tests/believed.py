@@ -196,7 +196,7 @@ def of_several(definitions):
 
 
 def rows_of(page):
-    """The rows of the page's tables: what each file says, in the page's order."""
+    """The rows of tables in a page, or in a part of one: what each file says, in the page's order."""
     rows = re.findall(r"^\| `(\w+)` `([\w/]+)` \| (.*?) \| \d+ \| \d+ \|", page, re.MULTILINE)
     return {(crate, file): says for crate, file, says in rows}
 
@@ -233,8 +233,9 @@ def row_of(law):
 
 def tables(page):
     """The part of the page between its two marks, as it has to be; what files say is taken from the page."""
-    says, every, lines = rows_of(page), list(claims(page)), [HASHES, ""]
+    every, lines = list(claims(page)), [HASHES, ""]
     for place, claim in enumerate(it for it in every if it.title):
+        says = rows_of(page.partition(f"**{claim.title}**")[2].partition("\n**")[0])
         lines += [head_of(claim) + ("; besides those above:" if place else ":"), *table_of(claim, says), ""]
     lines += ["**The laws** reach these, of which so many lines, with that hash, stand in neither table:", "",
               "| law | in all | besides the tables (lines) | hash |", "|---|---|---|---|"]

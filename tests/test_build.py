@@ -106,39 +106,33 @@ class Stale(Repository):
         self.top += " 2"
         self.expect_current("moved")
 
-    def test_lists_that_show_no_change(self):
-        """Dated in the future, by a clock that was put right since, or cut off: what they say isn't taken. The contents
-        are compared, and nothing is built without need."""
-        lists = [self.in_top(f"out/{level}/sources") for level in (DEFAULT, FAST)]
-        for what, spoil in (("future", lambda path: os.utime(path, (2 ** 32, 2 ** 32))),
-                            ("empty", lambda path: self.write(path, "")),
-                            ("cut", lambda path: self.write(path, b"crates.txt\0"))):
-            for path in lists:
-                spoil(path)
-            self.expect_current(what)
-            for path in lists:
-                self.assertLess(os.stat(path).st_mtime, time.time())
-                spoil(path)
-            self.write(self.source, self.read(self.source) + b"\n")
-            self.expect_stale(what)
+    def test_lists_that_are_damaged(self):
+        """What they say isn't taken. The contents are compared, and nothing is built without need."""
+        of_level = [[self.in_top(f"out/{level}/{name}") for name in ("sources", "changes")] for level in (DEFAULT, FAST)]
+        for spoil in (os.remove, lambda path: self.write(path, ""), lambda path: self.write(path, b"crates.txt\0"),
+                      lambda path: self.write(path, self.read(path)[:-1])):
+            for chosen in (slice(0, 1), slice(1, 2), slice(0, 2)):
+                for edited in (False, True):
+                    for path in sum((paths[chosen] for paths in of_level), []):
+                        spoil(path)
+                    if edited:
+                        self.write(self.source, self.read(self.source) + b"\n")
+                    (self.expect_stale if edited else self.expect_current)((chosen, edited))
 
-    def test_a_clock_that_was_put_back(self):
-        """Sources are newer than a build's begin, and yet nothing changes meanwhile: it is built once."""
-        touch = shutil.which("touch")
-        self.write("commands/touch", f"#!/bin/sh\nfor it; do :; done\n'{touch}' -d '1 hour ago' \"$it\"\n")
-        os.chmod(self.path("commands/touch"), 0o755)
-        self.write(self.source, "another version")
-        self.assertEqual(self.build(), BOTH)
-        self.expect_current("built once")
-        self.write(self.source, "a third one")
-        self.build(RT_EDITS=self.source)
-        self.assertEqual((self.build(), self.build()), (BOTH, []))
+    def test_a_clock_that_was_put_right(self):
+        """All that a build left is newer than a change that comes after it, as where the clock went ahead before."""
+        for ahead in (0, 3600, 2 ** 32):
+            self.write(self.source, self.read(self.source) + b"\n")
+            for folder, _, names in os.walk(self.in_top("out")):
+                for name in names:
+                    os.utime(os.path.join(folder, name), (time.time() + ahead,) * 2)
+            self.expect_stale(ahead)
 
     def test_a_program_that_is_missing(self):
-        for path in (self.fast_program, self.in_top(f"out/{FAST}/sources")):
+        for path in (self.fast_program, self.in_top(f"out/{FAST}/contents")):
             os.remove(path)
             self.assertEqual(self.build(), BOTH[2:])
-        for path in (self.program, self.in_top("out/default/sources"), self.in_top("out/default/contents")):
+        for path in (self.program, self.in_top("out/default/contents")):
             os.remove(path)
             self.assertEqual(self.build(), BOTH[:2])
         shutil.rmtree(self.in_top("out"))
@@ -243,7 +237,7 @@ class Levels(Repository):
         self.assertTrue(self.read(self.fast_program).endswith(b"x86-64-v3\n"))
         self.assertEqual(self.read(self.in_top("crates/digests/out/digests")), self.read(self.program))
         self.assertEqual(sorted(os.listdir(self.in_top("out"))),
-                         ["begin", "build.log", "contents", DEFAULT, "kit", "lock", "sources", FAST])
+                         ["build.log", "changes", "contents", DEFAULT, "kit", "lock", "sources", FAST])
 
     def test_a_program_of_another_level_that_was_left_is_not_taken(self):
         """What a call of rt by hand leaves in the crate's folder is never run."""
@@ -302,7 +296,7 @@ class Levels(Repository):
             self.put("crates/new.rt", "")
             self.assertEqual(self.script("digests", "md5sum", "a", **other), Ran(1, b"", why.encode()))
             os.remove(self.in_top("crates/new.rt"))
-        os.remove(self.in_top(f"out/{FAST}/sources"))
+        os.remove(self.in_top(f"out/{FAST}/contents"))
         self.assertEqual(self.script("digests", "md5sum", "a", **other), Ran(1, b"", why.encode()))
 
     def test_another_machine(self):

@@ -145,6 +145,15 @@ class OneWriteALine(Packets):
                 err = [f"md5sum: {name}: Input/output error\n"]
                 self.expect_packets(["md5sum", name, "a"], out=[f"{M}  a\n"], err=err, status=1)
 
+    def test_a_fault_with_a_long_word(self):
+        """Its two lines count as one: they are one write as long as both together fit into the buffer."""
+        for length in (8192, 8195):
+            lines = "md5sum: unrecognized option '--{}'\nTry 'md5sum --help' for more information.\n"
+            word = "x" * (length - len(lines.format("")))
+            text = lines.format(word)
+            packets = [text[start:start + 4096] for start in range(0, length, 4096)]
+            self.expect_packets(["md5sum", f"--{word}"], err=packets, status=1)
+
     def test_a_line_of_20000_bytes(self):
         """Only a line that is longer than any buffer takes several writes, and the next line begins with a new one."""
         name = "y" * 20000

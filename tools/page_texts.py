@@ -145,7 +145,7 @@ LIMITS = (
     "caller ignores that.",
     "A line of up to 8,192 bytes goes to the system in one piece. So where several runs share one open file, as under "
     "`xargs -P`, no such line is torn. Into one pipe, Linux keeps up to 4,096 bytes together. A longer line may be "
-    "torn.",
+    "torn. The two lines of a fault of the options count as one.",
     "A loss that the system tells only when standard output is closed, as some network file systems do, isn't seen: "
     "the status is 0. GNU's tools see it.",
 )
