@@ -299,6 +299,30 @@ class Levels(Repository):
         os.remove(self.in_top(f"out/{FAST}/contents"))
         self.assertEqual(self.script("digests", "md5sum", "a", **other), Ran(1, b"", why.encode()))
 
+    def test_a_copy_whose_lists_belong_to_others(self):
+        """All times in it are new, and that can't be noted beside the programs."""
+        if os.geteuid():
+            self.skipTest("only root can become another user")
+        self.assertEqual(self.run_command(["cp", "-a", self.top, self.top + " 2"]).status, 0)
+        self.top += " 2"
+        self.assertEqual(self.run_command(["chmod", "-R", "a+w", self.in_top("out")]).status, 0)
+        for level in (DEFAULT, FAST):
+            os.chmod(self.in_top(f"out/{level}"), 0o755)
+        for _ in range(2):
+            ran = self.script("digests", "md5sum", "a", user=65534, group=65534, extra_groups=[])
+            self.assertEqual(ran, OF_A)
+
+    def test_a_copy_on_a_full_disk(self):
+        """All times in it are new, and nothing can be written: its contents show that nothing is stale."""
+        self.assertEqual(self.run_command(["cp", "-a", self.top, self.top + " 2"]).status, 0)
+        self.top += " 2"
+        full = {"preexec_fn": harness.limits(file_size=0), "restore_signals": False}
+        self.assertEqual(self.script("digests", "md5sum", "a", **full), OF_A)
+        self.put("crates/new.rt", "")
+        ran = self.script("digests", "md5sum", "a", **full)
+        self.assertEqual((ran.status, ran.out), (1, b""))
+        self.assertIn(b"digests: the build failed: ", ran.err)
+
     def test_another_machine(self):
         self.script("digests", "md5sum", "a")
         best = self.in_top("out/best")
