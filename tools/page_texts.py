@@ -60,8 +60,8 @@ LINE_FORMAT_OF_ZERO = " With `--zero` none of this is done."
 
 TAGS = {
     "b2sum": ("The tag of a digest that was shortened by `--length` is `BLAKE2b-`{BITS}.",),
-    "anysum": ("{TAG} is `MD5`, `SHA1`, `SHA224`, `SHA256`, `SHA384`, `SHA512`, `BLAKE2b`, or `BLAKE2b-`{BITS} for a "
-               "shorter digest. A line without a tag is improperly formatted.",),
+    "anysum": ("{TAG} is `MD5`, `SHA1`, `SHA224`, `SHA256`, `SHA384`, `SHA512`, `BLAKE2b`, or `BLAKE2b-`{BITS}, as for "
+               "a shorter digest. A line without a tag is improperly formatted.",),
 }
 
 CHECKING = (
@@ -80,12 +80,12 @@ CHECKING = (
 
 # How a line is read, between the first and the last paragraphs of that.
 CHECKING_OF_ANYSUM = (
-    "Any other line is improperly formatted, also one that names no algorithm: it is counted, and fails the check only "
-    "with `--strict`, or where no line lists a file.")
+    "A line that can't be read so is improperly formatted, also one that names no algorithm: it is counted, and fails "
+    "the check only with `--strict`, or where no line lists a file.")
 
 CHECKING_OF_OTHERS = (
-    "The first line that begins with its digits, a blank and more decides how all such lines of the manifest are read. "
-    "Where a space or a star, and then more, follows its blank, names begin behind both; otherwise right behind the "
+    "The first line that begins with its digits, a blank and more decides how all such lines of the manifest are read; "
+    "blanks and a backslash may stand before the digits. Where a space or a star, and then more, follows its blank, names begin behind both; otherwise right behind the "
     "blank. A line that can't be read so is improperly formatted: it is counted, and fails the check only with "
     "`--strict`, or where no line lists a file.")
 

@@ -95,7 +95,7 @@ def options(tool, known):
     either, without, with_check = ([option_item(one, tool) for one in known if texts.OPTIONS[one["long"]][0] == where]
                                    for where in (texts.EITHER, texts.WITHOUT, texts.WITH))
     if tool == "anysum":
-        return section("OPTIONS", texts.USE_OF_OPTIONS, *either, *with_check, "These are refused:", *without)
+        return section("OPTIONS", texts.USE_OF_OPTIONS, *either, *with_check, "These are refused, though `--help` lists them:", *without)
     return section("OPTIONS", texts.USE_OF_OPTIONS, *either, "These are refused with `--check`:", *without,
                    "These are refused without `--check`:", *with_check)
 
