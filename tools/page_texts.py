@@ -33,8 +33,8 @@ OPTIONS = {
              "`--binary` and `--text` the last counts."),
     "zero": (WITHOUT, "End each line by a byte 0 in place of a newline, and write each name as it is. Such lines "
              "can't be checked."),
-    "ignore-missing": (WITH, "Pass over a listed file that isn't there. A manifest of which no file has the right "
-                       "checksum is still a failure."),
+    "ignore-missing": (WITH, "Pass over a listed file that isn't there: `No such file or directory`, and no other "
+                       "fault. A manifest of which no file has the right checksum is still a failure."),
     "quiet": (WITH, "Print no line for a file that has the right checksum."),
     "status": (WITH, "Print no line for any file and no warning: the exit status tells. What can't be read, and a "
                "manifest that lists nothing, is still told of. Of `--quiet`, `--status` and `--warn` the last counts."),
@@ -104,8 +104,8 @@ STATUSES = {
          "formatted. With `--help` or `--version`: the text was written.",
     "1": "Anything else, unless a signal ends the program: also a fault of the options, memory that is refused, an "
          "output that fails, or a C library that is too old.",
-    "127": "The program could not begin: the C library, or memory to load it, is missing (with still less memory, a "
-           "signal ends it), or it was built for later processors than this machine's. Nothing was done. Where the "
+    "127": "The program could not begin: the C library can't be loaded, as where memory for it is missing (with still "
+           "less, a signal ends it), or it was built for later processors than this machine's. Nothing was done. Where the "
            "message names `x86-64-v3`, install the level `default`. Where it names `x86-64-v2`, that is the level "
            "`default`: there is none for older processors. The option `--cpu` in the message is the compiler's, and "
            "not that of `install`.",

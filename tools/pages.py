@@ -71,7 +71,7 @@ def description(tool):
     if tool == "anysum":
         does = (f"`{tool}` reads manifests whose lines name their algorithm, such as the other tools write with "
                 "`--tag`, and says which of the listed files have the checksum that stands there. One manifest may "
-                "have lines of all seven algorithms. `--check` is always needed.")
+                "have lines of all seven algorithms. `--check` is needed for that.")
     else:
         shorter = ", or a shorter one by `--length`" if tool == "b2sum" else ""
         does = (f"`{tool}` writes a line with the {tag} checksum ({standard}) of each {{FILE}}: a digest of {bits} "
