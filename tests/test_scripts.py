@@ -96,7 +96,7 @@ class Layout(Case):
         _, _, newest, *_ = re.split(r"(?m)^(## .*)$", self.text("CHANGELOG.md"))
         if "\n## " in newest or "  out/" not in newest:
             self.skipTest("the newest version has no sums yet")
-        kit, built = re.search(r"Built with `(.*)`", newest)[1], os.path.join(TOP, "out", "kit")
+        kit, built = re.search(r"Built with `(.*)`", newest)[1], os.path.join(TOP, "out", DEFAULT, "kit")
         if not os.path.exists(built) or self.read(built).decode().strip() != kit:
             self.skipTest("what is built was built by another kit, or not at all")
         command = re.search(r"(?m)^    (grep .* CHANGELOG\.md .*)$", self.text("README.md"))[1]
@@ -137,6 +137,20 @@ class Sums(Repository):
         self.write(self.program, self.read(self.program) + b"x")
         ran = self.run_command(["sh", "-c", command], cwd=self.top, env=self.env)
         self.assertEqual((ran.status, ran.out), (1, b"out/default/digests: FAILED\nout/x86-64-v3/digests: OK\n"))
+
+    def test_another_kit(self):
+        """The kit that is named is the one that built the programs, whatever a build that failed since was to use."""
+        rt = self.path("commands/rt")
+        self.write(rt, self.read(rt).replace(b"a kit", b"another kit"))
+        before = self.read(self.source)
+        self.write(self.source, "wrong")
+        self.assertEqual(self.script("tools/sums", RT_FAILS="lib low").status, 1)
+        self.write(self.source, before)
+        self.assertEqual(self.script("tools/sums"), Ran(0, self.block.encode(), b""))
+        os.remove(self.fast_program)
+        ran = self.script("tools/sums", "--write")
+        self.assertEqual((ran.status, ran.out), (1, b""))
+        self.assertIn(b"tools/sums: the programs weren't built by one kit", ran.err)
 
     def test_other_words(self):
         """They are refused before anything is built."""
