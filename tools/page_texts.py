@@ -75,7 +75,7 @@ CHECKING = (
     "On standard output, for each listed file; where its name is escaped, a backslash stands before the line:",
     "Behind the last line of a manifest, standard error tells how many lines were improperly formatted, how many files "
     "could not be read, and how many checksums did not match. Not with `--status`. Of a manifest that lists nothing, "
-    "or that can't be read to its end, it tells that alone, with every option.",
+    "or that can't be read to its end, it tells that alone there, with every option.",
 )
 
 # How a line is read, between the first and the last paragraphs of that.
@@ -92,7 +92,8 @@ CHECKING_OF_OTHERS = (
 REPORTS = {
     "{NAME}: OK": "It has this checksum. Not with `--quiet` or `--status`.",
     "{NAME}: FAILED": "It has another checksum. Not with `--status`.",
-    "{NAME}: FAILED open or read": "It couldn't be read; standard error tells why. Not with `--status`.",
+    "{NAME}: FAILED open or read": "It couldn't be read; standard error tells why. Not with `--status`, nor, where it "
+                                   "isn't there, with `--ignore-missing`.",
 }
 
 # The status 0 where lines are written, which `anysum` doesn't do; and behind that.
