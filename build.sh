@@ -9,15 +9,18 @@ tools='md5sum sha1sum sha224sum sha256sum sha384sum sha512sum b2sum anysum'
 fast=x86-64-v3
 levels="default $fast"
 
+# How a source is noted, before its name: when the system saw its last change, which neither copying nor unpacking can
+# set; and, for file systems that don't keep that, when its content changed and how long it is.
+entry='%C@ %T@ %s '
+
 # Whether a level's program is there and nothing that it was made from has changed since. Its list names every source
-# and, for what comes and goes, every folder of sources. Of each it was noted, at the build's begin, when the system saw
-# its last change: a time that neither copying nor unpacking can set. That is compared with what stands there now, and
-# never with the clock, which may have been wrong.
+# and, for what comes and goes, every folder of sources. What was noted of each at the build's begin is compared with
+# what stands there now, and never with the clock, which may have been wrong.
 # shellcheck disable=SC2185  # the list names what is looked at
 is_current() {
-    [ -x "$top/out/$1/digests" ] && [ -s "$top/out/$1/changes" ] &&
-        (CDPATH='' cd -- "$top" && LC_ALL=C exec find -files0-from "out/$1/sources" -maxdepth 0 \
-            -printf '%C@ ' -print0 2>&1) | cmp -s - "$top/out/$1/changes"
+    [ -x "$top/out/$1/digests" ] && [ -s "$top/out/$1/digests" ] && [ -s "$top/out/$1/changes" ] &&
+        (CDPATH='' cd -- "$top" && LC_ALL=C exec find -L -files0-from "out/$1/sources" -maxdepth 0 \
+            -printf "$entry" -print0 2>/dev/null) | cmp -s - "$top/out/$1/changes"
 }
 
 # Whether a level's program runs on this machine: one for later processors ends at once, with the status 127.
@@ -46,7 +49,7 @@ find_level() {
     if runs_here "$fast"; then level=$fast; fi
     {
         printf '%s\n' "$machine" "$level" >"$top/out/best.$$" && mv -f -- "$top/out/best.$$" "$top/out/best"
-    } 2>/dev/null
+    } 2>/dev/null || :
 }
 
 all_are_current() {

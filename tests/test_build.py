@@ -69,6 +69,54 @@ class Stale(Repository):
         self.expect_stale("a folder is gone")
         shutil.copytree(self.in_top("crates/digests/proofs"), self.in_top("crates/low/proofs"))
         self.expect_stale("a folder is there again")
+        self.put("crates/notes.txt", "")
+        self.expect_stale("a file beside the crates")
+
+    def test_folders_of_sources_with_other_folders_names(self):
+        """Only a crate's own `out` and `must-fail`, and only whole crates of examples and tests, are no sources."""
+        for name in ("out", "must-fail", "some_tests", "example_some"):
+            path = self.put(f"crates/digests/src/{name}/some.rt", "one\n")
+            self.expect_stale(name)
+            self.write(path, "two\n")
+            self.expect_stale(name)
+        for name in ("example_some/src/main.rt", "low_tests/src/lib.rt", "low/must-fail/inner/some.edit"):
+            self.put(f"crates/{name}", "one\n")
+        self.build()
+        for name in ("example_some/src/main.rt", "low_tests/src/lib.rt", "low/must-fail/inner/some.edit"):
+            self.put(f"crates/{name}", "two\n")
+            self.expect_current(name)
+
+    def test_links(self):
+        """What they lead to counts, and where they lead."""
+        for name in ("one", "two"):
+            self.put(f"elsewhere/{name}.rt", f"{name}\n")
+        os.remove(self.source)
+        os.symlink(self.in_top("elsewhere/one.rt"), self.source)
+        self.expect_stale("a link")
+        self.put("elsewhere/one.rt", "edited\n")
+        self.expect_stale("the file that it leads to")
+        os.remove(self.source)
+        os.symlink(self.in_top("elsewhere/two.rt"), self.source)
+        self.expect_stale("another file")
+        os.rename(self.in_top("crates"), self.in_top("elsewhere/crates"))
+        os.symlink("elsewhere/crates", self.in_top("crates"))
+        self.expect_current("a link to all")
+        self.put("elsewhere/crates/low/src/Some.antt", "edited\n")
+        self.expect_stale("a file behind a link to all")
+
+    def test_a_name_in_place_of_a_content(self):
+        """One file that looks like two isn't taken for the two."""
+        new = self.put("crates/digests/src/new.rt", "new\n")
+        self.expect_stale("a new file")
+        os.remove(new)
+        self.write(self.source, self.read(self.source) + b"\n==> crates/digests/src/new.rt <==\nnew\n")
+        self.expect_stale("its name and content in another one")
+
+    def test_what_commands_say_beside(self):
+        """A warning from each command that is started is no change."""
+        env = {**self.env, "LD_PRELOAD": "/nonexistent.so"}
+        self.write(self.source, "edited\n")
+        self.assertEqual([len(self.build(env=env)) for _ in range(2)], [3, 0])
 
     def test_another_version_and_back(self):
         """Another version is built; the first one again, before that was built, is not."""
@@ -135,6 +183,8 @@ class Stale(Repository):
         for path in (self.program, self.in_top("out/default/contents")):
             os.remove(path)
             self.assertEqual(self.build(), BOTH[:2])
+        self.write(self.program, "")
+        self.assertEqual(self.build(), BOTH[:2])
         shutil.rmtree(self.in_top("out"))
         self.assertEqual(self.build(), BOTH)
 
@@ -163,7 +213,7 @@ class Said(Repository):
         said = ["lib", "run -- sha256sum", f"run --cpu {FAST} -- sha256sum"]
         self.assertEqual(re.findall(r"rt says: (.*)", log), said)
         self.assertEqual(re.findall(r"== (.*)", log), named)
-        self.assertEqual(self.read(self.in_top("out/kit")), b"a kit\n")
+        self.assertEqual(self.read(self.in_top("out/default/kit")), b"a kit\n")
 
     def test_a_build_that_fails_goes_on_there(self):
         for fails in ("lib low", "run digests"):
@@ -188,12 +238,31 @@ class Said(Repository):
         os.remove(self.path("commands/rt"))
         path = self.path("few")
         os.mkdir(path)
-        for name in "sh dirname readlink find sort xargs tail tr cmp cp rm mkdir touch sed wc date flock".split():
+        for name in "sh dirname readlink find sort xargs tail tr cmp cp rm mkdir sed wc date flock grep sync".split():
             if shutil.which(name):
                 os.symlink(shutil.which(name), os.path.join(path, name.encode()))
         ran = self.script("digests", "md5sum", "a", PATH=os.fsdecode(path))
         wanted = b"digests: the build failed: the command rt of the Rattle kit is not on the PATH\n"
         self.assertEqual(ran, Ran(1, b"", wanted))
+
+    def test_no_cmp(self):
+        path = self.path("few")
+        os.mkdir(path)
+        for name in "sh dirname readlink find sort xargs tail tr cp rm mkdir sed wc date flock grep sync".split():
+            if shutil.which(name):
+                os.symlink(shutil.which(name), os.path.join(path, name.encode()))
+        ran = self.script("digests", "md5sum", "a", PATH=os.fsdecode(path))
+        wanted = b"digests: the build failed: the command cmp of diffutils is not on the PATH\n"
+        self.assertEqual((ran.status, ran.out), (1, b""))
+        self.assertTrue(ran.err.endswith(wanted), ran.err)
+
+    def test_nowhere_to_say_it(self):
+        """Standard error is closed or full, and the build goes on all the same."""
+        for redirected in ("2>&-", "2>/dev/full"):
+            shutil.rmtree(self.in_top("out"), ignore_errors=True)
+            self.write(self.notes, "")
+            ran = self.run_command(["sh", "-c", f"./digests md5sum ../a {redirected}"], cwd=self.top, env=self.env)
+            self.assertEqual((ran.status, self.calls()), (0, BOTH), redirected)
 
     def test_broken_off(self):
         """What is left is no program that is taken for a whole one, and the next build is a whole one."""
@@ -237,7 +306,7 @@ class Levels(Repository):
         self.assertTrue(self.read(self.fast_program).endswith(b"x86-64-v3\n"))
         self.assertEqual(self.read(self.in_top("crates/digests/out/digests")), self.read(self.program))
         self.assertEqual(sorted(os.listdir(self.in_top("out"))),
-                         ["build.log", "changes", "contents", DEFAULT, "kit", "lock", "sources", FAST])
+                         ["build.log", DEFAULT, "lock", FAST])
 
     def test_a_program_of_another_level_that_was_left_is_not_taken(self):
         """What a call of rt by hand leaves in the crate's folder is never run."""
@@ -293,9 +362,9 @@ class Levels(Repository):
             self.assertEqual(self.script("digests", "md5sum", "a", **other), OF_A)
             self.assertEqual(self.script("digests", "which", **other), Ran(0, b"fast\n", b""))
             self.assertEqual(self.script("install", self.path("theirs/prefix"), **other).status, 0)
-            self.put("crates/new.rt", "")
+            self.put("crates/low/src/new.rt", "")
             self.assertEqual(self.script("digests", "md5sum", "a", **other), Ran(1, b"", why.encode()))
-            os.remove(self.in_top("crates/new.rt"))
+            os.remove(self.in_top("crates/low/src/new.rt"))
         os.remove(self.in_top(f"out/{FAST}/contents"))
         self.assertEqual(self.script("digests", "md5sum", "a", **other), Ran(1, b"", why.encode()))
 
@@ -318,7 +387,7 @@ class Levels(Repository):
         self.top += " 2"
         full = {"preexec_fn": harness.limits(file_size=0), "restore_signals": False}
         self.assertEqual(self.script("digests", "md5sum", "a", **full), OF_A)
-        self.put("crates/new.rt", "")
+        self.put("crates/low/src/new.rt", "")
         ran = self.script("digests", "md5sum", "a", **full)
         self.assertEqual((ran.status, ran.out), (1, b""))
         self.assertIn(b"digests: the build failed: ", ran.err)

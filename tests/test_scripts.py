@@ -150,7 +150,7 @@ class Sums(Repository):
         os.remove(self.fast_program)
         ran = self.script("tools/sums", "--write")
         self.assertEqual((ran.status, ran.out), (1, b""))
-        self.assertIn(b"tools/sums: the programs weren't built by one kit", ran.err)
+        self.assertIn(b"tools/sums: which kit built both programs isn't known", ran.err)
 
     def test_other_words(self):
         """They are refused before anything is built."""
