@@ -156,7 +156,8 @@ class Stale(Repository):
 
     def test_lists_that_are_damaged(self):
         """What they say isn't taken. The contents are compared, and nothing is built without need."""
-        of_level = [[self.in_top(f"out/{level}/{name}") for name in ("sources", "changes")] for level in (DEFAULT, FAST)]
+        of_level = [[self.in_top(f"out/{level}/{name}") for name in ("sources", "changes")]
+                    for level in (DEFAULT, FAST)]
         for spoil in (os.remove, lambda path: self.write(path, ""), lambda path: self.write(path, b"crates.txt\0"),
                       lambda path: self.write(path, self.read(path)[:-1])):
             for chosen in (slice(0, 1), slice(1, 2), slice(0, 2)):

@@ -87,8 +87,8 @@ class Documents(Case):
 
     def test_what_cannot_be_read(self):
         """It is refused, so that no line of a definition is left out unseen."""
-        for lines in (["abbrev pub f : A → B", "f a = b", "-- why", "f c = d"], ["mutual", "abbrev pub f : A", "f = a"],
-                      ["use Rattle.std.specs.Prelude.{ℕ,", "  List}"]):
+        for lines in (["abbrev pub f : A → B", "f a = b", "-- why", "f c = d"],
+                      ["mutual", "abbrev pub f : A", "f = a"], ["use Rattle.std.specs.Prelude.{ℕ,", "  List}"]):
             module = object.__new__(Module)
             module.crate, module.file, module.name = "crate", "File", "Rattle.crate.specs.File"
             module.imports, module.definitions, module.head = {}, {}, []

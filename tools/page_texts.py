@@ -84,10 +84,11 @@ CHECKING_OF_ANYSUM = (
     "the check only with `--strict`, or where no line lists a file.")
 
 CHECKING_OF_OTHERS = (
-    "The first line that begins with its digits, a blank and more decides how all such lines of the manifest are read; "
-    "blanks and a backslash may stand before the digits. Where a space or a star, and then more, follows its blank, names begin behind both; otherwise right behind the "
-    "blank. A line that can't be read so is improperly formatted: it is counted, and fails the check only with "
-    "`--strict`, or where no line lists a file.")
+    "In a line that isn't tagged, the name stands behind the digits and a blank; or behind these and one byte more, a "
+    "space or a star. The first such line of a manifest settles which of the two holds for all: the latter where a "
+    "space or a star, and more, follows the blank. Blanks and a backslash may stand before the digits. A line that is "
+    "neither tagged nor so is improperly formatted: it is counted, and fails the check only with `--strict`, or where "
+    "no line lists a file.")
 
 REPORTS = {
     "{NAME}: OK": "It has this checksum. Not with `--quiet` or `--status`.",
@@ -106,10 +107,10 @@ STATUSES = {
     "1": "Anything else, unless a signal ends the program: also a fault of the options, memory that is refused, an "
          "output that fails, or a C library that is too old.",
     "127": "The program could not begin: the C library can't be loaded, as where memory for it is missing (with still "
-           "less, a signal ends it), or it was built for later processors than this machine's. Nothing was done. Where the "
-           "message names `x86-64-v3`, install the level `default`. Where it names `x86-64-v2`, that is the level "
-           "`default`: there is none for older processors. The option `--cpu` in the message is the compiler's, and "
-           "not that of `install`.",
+           "less, a signal ends the program), or the program was built for later processors than this machine's. "
+           "Nothing was done. Where the message names `x86-64-v3`, install the level `default`. Where it names "
+           "`x86-64-v2`, that is the level `default`: there is none for older processors. The option `--cpu` in the "
+           "message is the compiler's, and not that of `install`.",
 }
 
 DIAGNOSTICS = {
@@ -137,8 +138,8 @@ LIMITS = (
     "`digests: words not read` alone, and no file of that call is read. A name in a manifest that isn't UTF-8 can't be "
     "opened.",
     "Lines that were written with `--zero` can't be checked: most are improperly formatted. But where a name holds a "
-    "newline, what stands before that may be read as a line, and what follows is passed over where it begins with `#`: "
-    "the status may then be 0, even with `--strict`.",
+    "newline, what stands before that may be read as a line, and what follows, with the files behind it, is passed "
+    "over where it begins with `#`: the status may then be 0, even with `--strict`.",
     "A file of 2^61 bytes or more is an `Input/output error`.",
     "One line is held in memory at a time, however long the manifest is.",
     "The stack has to have 64 KiB, and more where the words or the environment are large. With 48 KiB a signal may "
@@ -201,8 +202,8 @@ DIFFERENCES_OF_B2SUM = (
     "GNU's tool takes digits and a blank alone for a line with an empty name, too; such a line decides how names are "
     "read.",
     "The number of `--length` is digits alone, and a fault of it is told in other lines. GNU's tool takes blanks or a "
-    "plus sign before it, too. Of several numbers the last alone is looked at, and not where `--help` or `--version` "
-    "stands; GNU's tool refuses some of the others, too, as one that isn't a multiple of 8.",
+    "plus sign before it, too. Of several numbers only the last is looked at, and none where `--help` or `--version` "
+    "stands. There GNU's tool refuses some numbers, as one that isn't a multiple of 8.",
 )
 
 DIFFERENCE_OF_ANYSUM = (

@@ -77,8 +77,8 @@ def description(tool):
         does = (f"`{tool}` writes a line with the {tag} checksum ({standard}) of each {{FILE}}: a digest of {bits} "
                 f"bits, in {bits // 4} hexadecimal digits{shorter}. With `--check` it reads such lines, and says which "
                 "files still have theirs.")
-    return section("DESCRIPTION", does, "With no {FILE}, or where {FILE} is `-`, standard input is read; it is given "
-                   "once, and a second `-` is an empty file.")
+    return section("DESCRIPTION", does, "With no {FILE}, or where {FILE} is `-`, standard input is read, once: a "
+                   "second `-` is an empty file.")
 
 
 def option_item(option, tool):
@@ -95,7 +95,8 @@ def options(tool, known):
     either, without, with_check = ([option_item(one, tool) for one in known if texts.OPTIONS[one["long"]][0] == where]
                                    for where in (texts.EITHER, texts.WITHOUT, texts.WITH))
     if tool == "anysum":
-        return section("OPTIONS", texts.USE_OF_OPTIONS, *either, *with_check, "These are refused, though `--help` lists them:", *without)
+        return section("OPTIONS", texts.USE_OF_OPTIONS, *either, *with_check,
+                       "These are refused, though `--help` lists them:", *without)
     return section("OPTIONS", texts.USE_OF_OPTIONS, *either, "These are refused with `--check`:", *without,
                    "These are refused without `--check`:", *with_check)
 
