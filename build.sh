@@ -19,7 +19,7 @@ entry='%C@ %T@ %s '
 # shellcheck disable=SC2185  # the list names what is looked at
 is_current() {
     [ -x "$top/out/$1/digests" ] && [ -s "$top/out/$1/digests" ] && [ -s "$top/out/$1/changes" ] &&
-        (CDPATH='' cd -- "$top" && LC_ALL=C exec find -L -files0-from "out/$1/sources" -maxdepth 0 \
+        (CDPATH='' cd -- "$top/" && LC_ALL=C exec find -L -files0-from "out/$1/sources" -maxdepth 0 \
             -printf "$entry" -print0 2>/dev/null) | cmp -s - "$top/out/$1/changes"
 }
 
@@ -47,8 +47,10 @@ find_level() {
     name_machine
     level=default
     if runs_here "$fast"; then level=$fast; fi
+    # In a shell of its own, which a limit on the size of files may end.
     {
-        printf '%s\n' "$machine" "$level" >"$top/out/best.$$" && mv -f -- "$top/out/best.$$" "$top/out/best"
+        (printf '%s\n' "$machine" "$level" >"$top/out/best.$$" && mv -f -- "$top/out/best.$$" "$top/out/best") ||
+            rm -f -- "$top/out/best.$$"
     } 2>/dev/null || :
 }
 

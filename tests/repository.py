@@ -3,11 +3,21 @@ installing. A script stands in for the command `rt`, so that nothing is proved."
 
 import os
 import shutil
+import tempfile
 
 import harness
-from harness import Case
+from harness import M, Case, Ran
 
 DEFAULT, FAST = "default", "x86-64-v3"
+
+# How rt is called by a build of both programs.
+BOTH = ["crates/low lib", "crates/digests run -- sha256sum", f"out/place/crates/digests run --cpu {FAST} -- sha256sum"]
+
+# What `digests md5sum a` comes to.
+OF_A = Ran(0, f"{M}  a\n".encode(), b"")
+
+# What the scripts of a build call, and what stands in for rt.
+COMMANDS = "awk cat chmod cmp cp date find flock grep mkdir mv readlink rm sed sh sleep sort sync tail wc xargs".split()
 
 # What stands in for the command rt: notes how it was called, says something, and makes the program of a level from a
 # copy, which ends in the level's name.
@@ -83,6 +93,15 @@ class Repository(Case):
         os.makedirs(os.path.dirname(path), exist_ok=True)
         self.write(path, text)
         return path
+
+    def path_without(self, *missing):
+        """A search path with the commands that a build calls, but for some."""
+        folder = tempfile.mkdtemp(dir=self.folder)
+        commands = {name: shutil.which(name) for name in COMMANDS} | {"rt": os.fsdecode(self.path("commands/rt"))}
+        for name, path in commands.items():
+            if path and name not in missing:
+                os.symlink(path, os.path.join(folder, name))
+        return folder
 
     def script(self, name, *words, stdin=b"", **how):
         """Runs a script of the repository in the test's folder; `RT_..` are told to what stands in for rt."""

@@ -1,203 +1,19 @@
-"""Building: what makes a program stale, what is said meanwhile, and a program for each level of processors."""
+"""Building: what is said meanwhile, what is missing or broken off, and a program for each level of processors."""
 
+import fcntl
 import os
 import re
 import shutil
 import signal
 import subprocess
 import tempfile
-import time
 
 import harness
 from harness import Case, M, Ran
-from repository import DEFAULT, FAST, Repository
+from repository import BOTH, DEFAULT, FAST, OF_A, Repository
 
-BOTH = ["crates/low lib", "crates/digests run -- sha256sum", f"out/place/crates/digests run --cpu {FAST} -- sha256sum"]
-OF_A = Ran(0, f"{M}  a\n".encode(), b"")
 HIDDEN = "glibc.cpu.hwcaps=-AVX2"
 BUILD_SECONDS = 1200  # of a program over kept proofs, on a busy machine
-
-
-class Stale(Repository):
-    """What makes a program stale, and what doesn't."""
-
-    def setUp(self):
-        super().setUp()
-        self.assertEqual(self.build(), BOTH)
-
-    def expect_stale(self, why):
-        """The launcher sees it, builds both programs, and then sees nothing to build."""
-        self.write(self.notes, "")
-        ran = self.script("digests", "md5sum", "a")
-        self.assertEqual((ran.status, ran.out, self.calls()), (0, OF_A.out, BOTH), why)
-        self.expect_current(why)
-
-    def expect_current(self, why):
-        self.write(self.notes, "")
-        self.assertEqual((self.script("digests", "md5sum", "a"), self.calls()), (OF_A, []), why)
-
-    def test_nothing_is_stale(self):
-        self.expect_current("just built")
-        self.assertEqual((self.build(), self.said), ([], ""))
-
-    def test_an_edit(self):
-        for name in ("digests/src/main.rt", "low/src/Some.antt", "low/specs/Some.antt", "digests/proofs/Some.antt"):
-            path = self.in_top(f"crates/{name}")
-            self.write(path, self.read(path) + b"\n")
-            self.expect_stale(name)
-        self.put("crates.txt", "low:\ndigests: low\n")
-        self.expect_stale("crates.txt")
-
-    def test_an_edit_that_keeps_the_time(self):
-        for old in (1, os.stat(self.source).st_mtime):
-            self.write(self.source, self.read(self.source) + b"\n")
-            os.utime(self.source, (old, old))
-            self.expect_stale(old)
-
-    def test_files_that_come_and_go(self):
-        new = self.put("crates/low/src/inner/new.rt", "")
-        self.expect_stale("a new file in a new folder")
-        os.rename(new, self.in_top("crates/low/src/inner/other.rt"))
-        self.expect_stale("another name")
-        os.remove(self.in_top("crates/low/src/inner/other.rt"))
-        self.expect_stale("a file is gone")
-        self.put("elsewhere", "other text\n")
-        os.utime(self.in_top("elsewhere"), (1, 1))
-        os.replace(self.in_top("elsewhere"), self.source)
-        self.expect_stale("an older file in the place of another")
-        shutil.rmtree(self.in_top("crates/low/proofs"))
-        self.expect_stale("a folder is gone")
-        shutil.copytree(self.in_top("crates/digests/proofs"), self.in_top("crates/low/proofs"))
-        self.expect_stale("a folder is there again")
-        self.put("crates/notes.txt", "")
-        self.expect_stale("a file beside the crates")
-
-    def test_folders_of_sources_with_other_folders_names(self):
-        """Only a crate's own `out` and `must-fail`, and only whole crates of examples and tests, are no sources."""
-        for name in ("out", "must-fail", "some_tests", "example_some"):
-            path = self.put(f"crates/digests/src/{name}/some.rt", "one\n")
-            self.expect_stale(name)
-            self.write(path, "two\n")
-            self.expect_stale(name)
-        for name in ("example_some/src/main.rt", "low_tests/src/lib.rt", "low/must-fail/inner/some.edit"):
-            self.put(f"crates/{name}", "one\n")
-        self.build()
-        for name in ("example_some/src/main.rt", "low_tests/src/lib.rt", "low/must-fail/inner/some.edit"):
-            self.put(f"crates/{name}", "two\n")
-            self.expect_current(name)
-
-    def test_links(self):
-        """What they lead to counts, and where they lead."""
-        for name in ("one", "two"):
-            self.put(f"elsewhere/{name}.rt", f"{name}\n")
-        os.remove(self.source)
-        os.symlink(self.in_top("elsewhere/one.rt"), self.source)
-        self.expect_stale("a link")
-        self.put("elsewhere/one.rt", "edited\n")
-        self.expect_stale("the file that it leads to")
-        os.remove(self.source)
-        os.symlink(self.in_top("elsewhere/two.rt"), self.source)
-        self.expect_stale("another file")
-        os.rename(self.in_top("crates"), self.in_top("elsewhere/crates"))
-        os.symlink("elsewhere/crates", self.in_top("crates"))
-        self.expect_current("a link to all")
-        self.put("elsewhere/crates/low/src/Some.antt", "edited\n")
-        self.expect_stale("a file behind a link to all")
-
-    def test_a_name_in_place_of_a_content(self):
-        """One file that looks like two isn't taken for the two."""
-        new = self.put("crates/digests/src/new.rt", "new\n")
-        self.expect_stale("a new file")
-        os.remove(new)
-        self.write(self.source, self.read(self.source) + b"\n==> crates/digests/src/new.rt <==\nnew\n")
-        self.expect_stale("its name and content in another one")
-
-    def test_what_commands_say_beside(self):
-        """A warning from each command that is started is no change."""
-        env = {**self.env, "LD_PRELOAD": "/nonexistent.so"}
-        self.write(self.source, "edited\n")
-        self.assertEqual([len(self.build(env=env)) for _ in range(2)], [3, 0])
-
-    def test_another_version_and_back(self):
-        """Another version is built; the first one again, before that was built, is not."""
-        git = ["git", "-c", "user.name=t", "-c", "user.email=t@t", "-C", self.top]
-        if shutil.which("git") is None:
-            self.skipTest("there is no git")
-        self.write(self.in_top(".gitignore"), "out/\n")
-
-        def run(*words):
-            ran = self.run_command([*git, *words])
-            self.assertEqual(ran.status, 0, ran.err)
-
-        run("init", "-q", "-b", "main")
-        run("add", ".")
-        run("commit", "-q", "-m", "first")
-        run("checkout", "-q", "-b", "other")
-        self.write(self.source, "fn main() { other() }\n")
-        run("commit", "-q", "-a", "-m", "second")
-        run("checkout", "-q", "main")
-        self.expect_current("back again")
-        run("checkout", "-q", "other")
-        self.expect_stale("the other version")
-        run("checkout", "-q", "main")
-        self.expect_stale("the first version")
-
-    def test_times_alone(self):
-        for path in (self.source, self.in_top("crates/low/src"), self.in_top("crates.txt")):
-            os.utime(path)
-            self.expect_current(path)
-        self.put("crates/low/must-fail/some.edit", "")
-        self.put("crates/low/out/rlib/some.rt", "")
-        self.put("README.md", "")
-        self.expect_current("no source")
-        os.rename(self.top, self.top + " 2")
-        self.top += " 2"
-        self.expect_current("moved")
-
-    def test_lists_that_are_damaged(self):
-        """What they say isn't taken. The contents are compared, and nothing is built without need."""
-        of_level = [[self.in_top(f"out/{level}/{name}") for name in ("sources", "changes")]
-                    for level in (DEFAULT, FAST)]
-        for spoil in (os.remove, lambda path: self.write(path, ""), lambda path: self.write(path, b"crates.txt\0"),
-                      lambda path: self.write(path, self.read(path)[:-1])):
-            for chosen in (slice(0, 1), slice(1, 2), slice(0, 2)):
-                for edited in (False, True):
-                    for path in sum((paths[chosen] for paths in of_level), []):
-                        spoil(path)
-                    if edited:
-                        self.write(self.source, self.read(self.source) + b"\n")
-                    (self.expect_stale if edited else self.expect_current)((chosen, edited))
-
-    def test_a_clock_that_was_put_right(self):
-        """All that a build left is newer than a change that comes after it, as where the clock went ahead before."""
-        for ahead in (0, 3600, 2 ** 32):
-            self.write(self.source, self.read(self.source) + b"\n")
-            for folder, _, names in os.walk(self.in_top("out")):
-                for name in names:
-                    os.utime(os.path.join(folder, name), (time.time() + ahead,) * 2)
-            self.expect_stale(ahead)
-
-    def test_a_program_that_is_missing(self):
-        for path in (self.fast_program, self.in_top(f"out/{FAST}/contents")):
-            os.remove(path)
-            self.assertEqual(self.build(), BOTH[2:])
-        for path in (self.program, self.in_top("out/default/contents")):
-            os.remove(path)
-            self.assertEqual(self.build(), BOTH[:2])
-        self.write(self.program, "")
-        self.assertEqual(self.build(), BOTH[:2])
-        shutil.rmtree(self.in_top("out"))
-        self.assertEqual(self.build(), BOTH)
-
-    def test_a_source_that_changes_while_it_builds(self):
-        """Also where it is as it was in the end: what was read then, nobody knows."""
-        for back in (False, True):
-            self.write(self.source, f"x {back}")
-            self.build(RT_EDITS=self.source)
-            if back:
-                self.write(self.source, f"x {back}")
-            self.assertEqual(self.build(), BOTH)
-            self.assertEqual(self.build(), [])
 
 
 class Said(Repository):
@@ -236,23 +52,12 @@ class Said(Repository):
             self.assertEqual((ran.status, ran.out), (1, b""))
 
     def test_no_kit(self):
-        os.remove(self.path("commands/rt"))
-        path = self.path("few")
-        os.mkdir(path)
-        for name in "sh dirname readlink find sort xargs tail tr cmp cp rm mkdir sed wc date flock grep sync".split():
-            if shutil.which(name):
-                os.symlink(shutil.which(name), os.path.join(path, name.encode()))
-        ran = self.script("digests", "md5sum", "a", PATH=os.fsdecode(path))
+        ran = self.script("digests", "md5sum", "a", PATH=self.path_without("rt"))
         wanted = b"digests: the build failed: the command rt of the Rattle kit is not on the PATH\n"
         self.assertEqual(ran, Ran(1, b"", wanted))
 
     def test_no_cmp(self):
-        path = self.path("few")
-        os.mkdir(path)
-        for name in "sh dirname readlink find sort xargs tail tr cp rm mkdir sed wc date flock grep sync".split():
-            if shutil.which(name):
-                os.symlink(shutil.which(name), os.path.join(path, name.encode()))
-        ran = self.script("digests", "md5sum", "a", PATH=os.fsdecode(path))
+        ran = self.script("digests", "md5sum", "a", PATH=self.path_without("cmp"))
         wanted = b"digests: the build failed: the command cmp of diffutils is not on the PATH\n"
         self.assertEqual((ran.status, ran.out), (1, b""))
         self.assertTrue(ran.err.endswith(wanted), ran.err)
@@ -282,6 +87,47 @@ class Said(Repository):
         self.put("out/place/crates/low/src/lib.rt", "left behind")
         self.assertEqual(self.build(), [])
         self.assertFalse(os.path.exists(self.in_top("out/place")))
+
+    def test_a_backslash_in_the_folder(self):
+        """What is said is whole."""
+        os.rename(self.top, self.top + "\\t\\c")
+        self.top += "\\t\\c"
+        ran = self.script("digests", "md5sum", "a", RT_FAILS="lib low")
+        log = os.path.realpath(self.in_top("out/build.log"))
+        self.assertTrue(ran.err.decode().endswith(f"all that the toolchain said is in {log}\n"), ran.err)
+
+    def test_a_wish_for_the_standard(self):
+        self.env["POSIXLY_CORRECT"] = "1"
+        self.assertEqual(self.build(), BOTH)
+        self.assertEqual(self.script("digests", "md5sum", "a"), OF_A)
+        self.assertEqual(self.script("install", "prefix").status, 0)
+
+    def test_no_locks(self):
+        """Where the file system keeps none, nobody waits; nor without flock."""
+        self.assertEqual(self.build(PATH=self.path_without("flock")), BOTH)
+        self.write("commands/flock", "#!/bin/sh\necho 'flock: 9: No locks available' >&2\nexit 71\n")
+        os.chmod(self.path("commands/flock"), 0o755)
+        self.write(self.source, "edited\n")
+        self.assertEqual(self.build(), BOTH)
+        self.assertNotIn("lock", self.said)
+
+    def test_waiting(self):
+        """Another build is waited for where something is stale, and it is told."""
+        if shutil.which("flock") is None:
+            self.skipTest("there is no flock")
+        self.build()
+        with open(self.in_top("out/lock"), "wb") as lock:
+            fcntl.flock(lock, fcntl.LOCK_EX)
+            os.utime(self.source)
+            self.assertEqual(self.script("digests", "md5sum", "a"), OF_A)
+            self.write(self.source, "edited\n")
+            with open(self.path("said"), "wb") as said:
+                build = subprocess.Popen([self.in_top("tools/build")], env=self.env, stderr=said)
+            self.addCleanup(harness.end, build)
+            waiting = b"digests: waiting for another build to end\n"
+            self.until(lambda: self.read("said") == waiting, "it is told")
+            self.write(self.notes, "")
+        self.assertEqual((build.wait(timeout=harness.RUN_SECONDS), self.calls()), (0, BOTH))
 
     def test_two_at_a_time(self):
         if shutil.which("flock") is None:

@@ -3,8 +3,7 @@
 import os
 
 from harness import TOP, Case
-from repository import Repository
-from test_build import BOTH
+from repository import BOTH, Repository
 
 FILES = {"example_hash": ["stdin"], "example_list": ["stdin"], "example_check": ["data", "stdin"],
          "example_same": ["args", "data", "proofs"]}

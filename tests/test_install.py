@@ -336,6 +336,42 @@ class Install(Repository):
                     self.assertEqual((self.tree(), os.path.exists(self.prefix)), (before, bool(there)))
                     shutil.rmtree(self.prefix, ignore_errors=True)
 
+    def test_streams_that_take_nothing(self):
+        """All is done, though nobody is told."""
+        self.put("completions/_digests", "ours")
+        page = os.path.join(self.prefix, "share/zsh/site-functions/_digests")
+        for redirected in ("2>&-", "2>/dev/full", ">&- 2>&-", ">/dev/full", ">/dev/full 2>/dev/full"):
+            with self.subTest(redirected=redirected):
+                command = ["sh", "-c", f'"$@" {redirected}', "sh", self.in_top("install")]
+                self.assertEqual(self.run_command([*command, self.prefix], env=self.env).status, 0)
+                self.assertEqual(sorted(os.listdir(self.bin)), sorted([*NAMES, "digests"]))
+                self.write(page, "theirs")
+                self.assertEqual(self.run_command([*command, "--remove", self.prefix], env=self.env).status, 0)
+                self.assertEqual([name for name, text in self.tree().items() if text is not None],
+                                 ["share/zsh/site-functions/_digests"])
+                shutil.rmtree(self.prefix)
+
+    def test_what_was_moved(self):
+        """Of the folders above it those stay that weren't made for it."""
+        self.installs(os.path.join(self.folder, "one", "two", "three"))
+        os.makedirs(os.path.join(self.prefix, "theirs"))
+        os.rename(self.path("one/two/three"), os.path.join(self.prefix, "theirs", "three"))
+        self.removes(os.path.join(self.prefix, "theirs", "three"))
+        self.assertEqual(self.tree(), {"theirs": None})
+        self.installs("/opt/digests", DESTDIR=os.path.join(self.folder, "a stage"))
+        os.rename(self.path("a stage/opt"), os.path.join(self.prefix, "opt"))
+        self.removes(os.path.join(self.prefix, "opt/digests"))
+        self.assertEqual(self.tree(), {"theirs": None, "opt": None})
+
+    def test_a_present_folder_that_is_gone(self):
+        os.mkdir(self.path("gone"))
+        for prefix, status in (("prefix-of-a-test", 2), (self.prefix, 0)):
+            command = 'cd gone && rmdir ../gone && "$@"; status=$?; mkdir ../gone; exit $status'
+            ran = self.run_command(["sh", "-c", command, "sh", self.in_top("install"), prefix], env=self.env)
+            self.assertEqual(ran.status, status, ran.err)
+            os.makedirs(self.path("gone"), exist_ok=True)
+        self.assertIn("bin", os.listdir(self.prefix))
+
     def test_a_stage(self):
         """With DESTDIR all goes below that folder, and the note doesn't name it."""
         stage = os.path.join(self.folder, "a stage")

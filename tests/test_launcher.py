@@ -2,12 +2,13 @@
 
 import hashlib
 import os
+import shutil
 import signal
 import subprocess
 
 import harness
 from harness import E, M, S, Ran
-from repository import Repository
+from repository import DEFAULT, FAST, OF_A, Repository
 
 
 class Launcher(Repository):
@@ -51,6 +52,25 @@ class Launcher(Repository):
         path = here + os.pathsep + self.env["PATH"]
         ran = self.run_command(["sh", "-c", "second md5sum a"], env={**self.env, "PATH": path, "CDPATH": "/:/tmp"})
         self.assertEqual(ran, Ran(0, f"{M}  a\n".encode(), b""))
+
+    def test_called_by_a_shell(self):
+        """As a file of the present folder, or, by bash, from the search path: what else lies there isn't looked at."""
+        self.write("build.sh", "echo another one\n")
+        path = self.top + os.pathsep + self.env["PATH"]
+        for shell in ("sh", "bash"):
+            if shutil.which(shell):
+                ran = self.run_command([shell, "digests", "md5sum", "../a"], cwd=self.top, env=self.env)
+                self.assertEqual(ran, Ran(0, f"{M}  ../a\n".encode(), b""), shell)
+        if shutil.which("bash"):
+            ran = self.run_command(["bash", "digests", "md5sum", "a"], env={**self.env, "PATH": path})
+            self.assertEqual(ran, OF_A)
+
+    def test_limits_on_the_size_of_files(self):
+        """Where it can't be noted which level runs here, nothing is left, and the call is the program all the same."""
+        for ignored in (True, False):
+            how = {"preexec_fn": harness.limits(file_size=0), "restore_signals": not ignored}
+            self.assertEqual(self.script("digests", "md5sum", "a", **how), OF_A)
+            self.assertEqual(sorted(os.listdir(self.in_top("out"))), ["build.log", DEFAULT, "lock", FAST])
 
     def test_signals_reach_the_program(self):
         os.mkfifo(self.path("p"))

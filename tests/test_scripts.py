@@ -189,7 +189,7 @@ class Words(Repository):
         self.assertIn(b"minutes", ran.out)
 
     def test_other_words(self):
-        for words in (["quickly"], ["-h"], [""], ["--help "], ["--", "--help"]):
+        for words in (["quickly"], ["-h"], [""], ["--help "], ["--", "--help"], ["a\\tb\\c"]):
             ran = self.script("test", *words)
             self.assertEqual((ran.status, ran.out), (2, b""))
             self.assertIn(f"'{words[0]}' is not known".encode(), ran.err)
@@ -214,6 +214,8 @@ class Words(Repository):
         self.assertEqual((ran.status, second, third), (0, "the tests", "5 passed, 0 failed"))
         self.assertEqual(self.calls()[-1], f"{os.path.realpath(self.top)} ci")
         self.put("out/place/crates/low/src/lib.rt", "left behind")
+        ran = self.run_command(["sh", "-c", "'the repository/test' 2>&-"], env=self.env)
+        self.assertEqual((ran.status, ran.out.splitlines()[-1:]), (0, [b"5 passed, 0 failed"]))
         ran = self.script("test", RT_FAILED="1")
         self.assertEqual((ran.status, ran.out.splitlines()[-2:]), (1, [b"the tests", b"5 passed, 1 failed"]))
         self.put("tests/run.py", "raise SystemExit(1)\n")
@@ -236,6 +238,7 @@ class Words(Repository):
 
     def test_quick(self):
         """The tests over the default level's program, and each crate's unit tests; the gate isn't called."""
+        self.put("crates.txt", "low:\ndigests: low\n")
         self.put("tests/run.py", "import sys\nprint('the tests over', *sys.argv[1:], flush=True)\n")
         ran = self.script("test", "quick")
         first, *others = ran.out.decode().splitlines()
@@ -252,7 +255,7 @@ class Words(Repository):
         """Python first, then the kit: what is missing is told before anything is done."""
         few = os.fsdecode(self.path("few"))
         os.mkdir(few)
-        for name in ("sh", "dirname", "readlink"):
+        for name in ("sh", "readlink"):
             os.symlink(shutil.which(name), os.path.join(few, name))
         ran = self.script("test", PATH=few)
         self.assertEqual(ran, Ran(2, b"", b"test: Python 3.9 or newer is needed\n"))
