@@ -19,20 +19,20 @@ entry='%C@ %T@ %s '
 # shellcheck disable=SC2185  # the list names what is looked at
 is_current() {
     [ -x "$top/out/$1/digests" ] && [ -s "$top/out/$1/digests" ] && [ -s "$top/out/$1/changes" ] &&
-        (CDPATH='' cd -- "$top/" && LC_ALL=C exec find -L -files0-from "out/$1/sources" -maxdepth 0 \
+        (CDPATH='' command cd -- "$top/" && LC_ALL=C exec find -L -files0-from "out/$1/sources" -maxdepth 0 \
             -printf "$entry" -print0 2>/dev/null) | cmp -s - "$top/out/$1/changes"
 }
 
 # Whether a level's program runs on this machine: one for later processors ends at once, with the status 127.
 runs_here() {
-    [ "$(printf abc | "$top/out/$1/digests" sha256sum 2>&1)" = \
+    [ "$(printf abc | "$top/out/$1/digests" sha256sum 2>/dev/null)" = \
         'ba7816bf8f01cfea414140de5dae2223b00361a396177a9cb410ff61f20015ad  -' ]
 }
 
 # Sets `machine` to what tells this machine, since its start, from others that see the same folder.
 name_machine() {
     machine=
-    { read -r machine </proc/sys/kernel/random/boot_id; } 2>/dev/null
+    { read -r machine </proc/sys/kernel/random/boot_id; } 2>/dev/null || :
     machine="$machine ${GLIBC_TUNABLES-}"
 }
 

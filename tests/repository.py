@@ -127,7 +127,7 @@ class Repository(Case):
         self.write(self.starts, "")
         os.chmod(self.starts, 0o666)
         self.write("fake", f"""#!/bin/sh
-echo >>'{self.starts}'
+echo 2>/dev/null >>'{self.starts}'
 case ${{GLIBC_TUNABLES-}} in *-AVX2*) exit 127 ;; esac
 [ "$1" != which ] || {{ echo fast; exit; }}
 exec '{harness.PROGRAM}' "$@"

@@ -102,6 +102,16 @@ class Said(Repository):
         self.assertEqual(self.script("digests", "md5sum", "a"), OF_A)
         self.assertEqual(self.script("install", "prefix").status, 0)
 
+    def test_a_word_that_is_a_function(self):
+        """The caller's own `cd`, where the shell takes functions from the environment."""
+        if shutil.which("bash") is None:
+            self.skipTest("there is no bash")
+        self.build()
+        self.env["BASH_FUNC_cd%%"] = '() { builtin cd "$@" && ls; }'
+        for _ in range(2):
+            ran = self.run_command(["bash", self.in_top("digests"), "md5sum", "a"], env=self.env)
+            self.assertEqual(ran, OF_A)
+
     def test_no_locks(self):
         """Where the file system keeps none, nobody waits; nor without flock."""
         self.assertEqual(self.build(PATH=self.path_without("flock")), BOTH)
@@ -166,6 +176,18 @@ class Levels(Repository):
         self.assertEqual(self.script("digests", "which", **hidden), Ran(1, b"", b"digests: unknown tool\n"))
         self.assertEqual(self.script("digests", "md5sum", "a", **hidden), OF_A)
         self.assertEqual(self.script("digests", "which").out, b"fast\n")
+
+    def test_what_is_said_beside_the_trial(self):
+        """A warning doesn't count; nor need the system's start have a number."""
+        text = self.read(self.in_top("build.sh"))
+        for numbered in (True, False):
+            self.write(self.in_top("build.sh"), text if numbered else text.replace(b"/boot_id", b"/no_id"))
+            for _ in range(2):
+                ran = self.script("digests", "which", LD_PRELOAD="/nonexistent.so")
+                self.assertEqual((ran.status, ran.out), (0, b"fast\n"))
+            self.put("tests/run.py", "print('the tests', flush=True)\n")
+            self.assertEqual(self.script("test", "quick").status, 0)
+            os.remove(self.in_top("out/best"))
 
     def test_one_process_a_call(self):
         """Which level runs here is tried once, and then known."""

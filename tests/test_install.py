@@ -2,6 +2,8 @@
 
 import os
 import shutil
+import signal
+import subprocess
 
 import harness
 from harness import M, TOOLS, Ran
@@ -336,6 +338,23 @@ class Install(Repository):
                     self.assertEqual((self.tree(), os.path.exists(self.prefix)), (before, bool(there)))
                     shutil.rmtree(self.prefix, ignore_errors=True)
 
+    def test_a_run_that_is_ended(self):
+        """By a signal, before it has noted what it puts there: it leaves nothing."""
+        hangs = self.path("hangs")
+        self.write("commands/awk", f"#!/bin/sh\n: >'{os.fsdecode(hangs)}'\nexec sleep 3600\n")
+        os.chmod(self.path("commands/awk"), 0o755)
+        for number in (signal.SIGHUP, signal.SIGINT, signal.SIGTERM):
+            with self.subTest(number=number):
+                started = subprocess.Popen([self.in_top("install"), self.prefix], env=self.env, start_new_session=True,
+                                           stderr=subprocess.DEVNULL)
+                self.addCleanup(harness.end, started)
+                self.until(lambda: os.path.exists(hangs), "awk is called")
+                self.assertEqual(len(os.listdir(self.bin)), 1)
+                os.killpg(started.pid, number)
+                self.assertEqual(started.wait(timeout=harness.RUN_SECONDS), 128 + number)
+                self.assertFalse(os.path.exists(self.prefix))
+                os.remove(hangs)
+
     def test_streams_that_take_nothing(self):
         """All is done, though nobody is told."""
         self.put("completions/_digests", "ours")
@@ -373,14 +392,17 @@ class Install(Repository):
         self.assertIn("bin", os.listdir(self.prefix))
 
     def test_a_stage(self):
-        """With DESTDIR all goes below that folder, and the note doesn't name it."""
-        stage = os.path.join(self.folder, "a stage")
+        """With DESTDIR all goes below that folder, and the note says nothing of it."""
+        stage, other = os.path.join(self.folder, "a stage"), os.path.join(self.folder, "another/stage")
+        note = "usr/share/digests/installed"
         self.assertEqual(self.installs("/usr", DESTDIR=stage), "")
         self.assertIn(f"{stage}/usr/bin/digests: ", self.told)
-        self.assertNotIn(b"stage", self.read(os.path.join(stage, "usr/share/digests/installed")))
+        self.assertNotIn(b"stage", self.read(os.path.join(stage, note)))
+        self.installs("/usr", DESTDIR=other)
+        self.assertEqual(*(self.read(os.path.join(place, note)) for place in (stage, other)))
         self.assertTrue(os.path.islink(os.path.join(stage, "usr/bin/b2sum")))
         self.assertEqual(self.removes("/usr", DESTDIR=stage), "")
-        self.assertFalse(os.path.exists(stage))
+        self.assertEqual(os.listdir(stage), [])
         self.assertIn("begins with a slash", self.installs("usr", status=2, DESTDIR=stage))
 
     def test_usage(self):

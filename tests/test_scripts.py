@@ -1,11 +1,13 @@
 """The repository's own scripts: their words, the shell that they name, the version that they tell."""
 
+import fcntl
 import hashlib
 import os
 import re
 import shutil
 import subprocess
 import sys
+import time
 
 import harness
 from harness import TOP, Case, Ran
@@ -119,6 +121,12 @@ class Sums(Repository):
     def test_printed(self):
         self.assertEqual(self.script("tools/sums"), Ran(0, self.block.encode(), b""))
 
+    def test_nowhere_to_complain(self):
+        self.put("CHANGELOG.md", "# Changes\n\n## 2.0.0\n\n- New.\n")
+        ran = self.run_command(["sh", "-c", "'the repository/tools/sums' --write 2>&-"], env=self.env)
+        self.assertEqual((ran.status, ran.out), (0, b""))
+        self.assertTrue(self.read(self.in_top("CHANGELOG.md")).endswith(self.lines.encode()))
+
     def test_written(self):
         """Into the newest version's part alone, and a second time to the same."""
         old = "## 1.0.0\n\nOld.\n\nBuilt with `old`:\n\n    00  out/default/digests\n"
@@ -205,6 +213,7 @@ class Words(Repository):
     [ -z "${RT_SAYS-}" ] || printf '%s\\n' "$RT_SAYS"
     [ -n "${RT_DIES-}" ] && exit 1
     echo "5 passed, ${RT_FAILED-0} failed"
+    [ -n "${RT_KILLED-}" ] && kill -9 $$
     exit "${RT_FAILED-0}"
 }
 [ "$1" = version ]"""))
@@ -218,6 +227,8 @@ class Words(Repository):
         self.assertEqual((ran.status, ran.out.splitlines()[-1:]), (0, [b"5 passed, 0 failed"]))
         ran = self.script("test", RT_FAILED="1")
         self.assertEqual((ran.status, ran.out.splitlines()[-2:]), (1, [b"the tests", b"5 passed, 1 failed"]))
+        ran = self.script("test", RT_KILLED="1")
+        self.assertEqual((ran.status, ran.out.splitlines()[-1:]), (1, [b"test: the gate was broken off"]))
         self.put("tests/run.py", "raise SystemExit(1)\n")
         self.assertNotEqual(self.script("test").status, 0)
         self.put("tests/run.py", "print('the tests', flush=True)\n")
@@ -248,8 +259,28 @@ class Words(Repository):
         self.assertEqual(self.calls()[-2:], ["crates/low test", "crates/digests test"])
         ran = self.script("test", "quick", RT_FAILS="test low")
         self.assertEqual((ran.status, ran.out.splitlines()[-2:]), (1, [b"rt: this is why", b"low: FAILED"]))
+        few = self.path_without("sed")
+        os.symlink(sys.executable, os.path.join(few, "python3"))
+        self.assertNotEqual(self.script("test", "quick", PATH=few).status, 0)
         self.put("tests/run.py", "raise SystemExit(1)\n")
         self.assertEqual(self.script("test", "quick").status, 1)
+
+    def test_a_build_beside(self):
+        """What a build is making is not taken away."""
+        if shutil.which("flock") is None:
+            self.skipTest("there is no flock")
+        self.build()
+        self.put("tests/run.py", "print('the tests', flush=True)\n")
+        place = self.put("out/place/some", "")
+        with open(self.in_top("out/lock"), "wb") as lock, open(self.path("told"), "wb") as told:
+            fcntl.flock(lock, fcntl.LOCK_EX)
+            started = subprocess.Popen([self.in_top("test")], env=self.env, stdout=told, stderr=told)
+            self.addCleanup(harness.end, started)
+            self.until(lambda: b"the tests" in self.read("told"), "the tests ran")
+            time.sleep(0.5)
+            self.assertTrue(os.path.exists(place))
+        started.wait(timeout=harness.RUN_SECONDS)
+        self.assertFalse(os.path.exists(place))
 
     def test_what_it_needs(self):
         """Python first, then the kit: what is missing is told before anything is done."""

@@ -139,6 +139,11 @@ class Stale(Repository):
         self.put("crates/low/out/rlib/some.rt", "")
         self.put("README.md", "")
         self.expect_current("no source")
+        for name in (".main.rt.swp", "main.rt~", "#main.rt#"):
+            self.put(f"crates/digests/src/{name}", "an editor's\n")
+            self.expect_current(name)
+            self.put(f"crates/digests/src/{name}", "an editor's own\n")
+            self.expect_current(name)
         os.rename(self.top, self.top + " 2")
         self.top += " 2"
         self.expect_current("moved")
