@@ -9,7 +9,7 @@ import subprocess
 import tempfile
 
 import harness
-from harness import Case, M, Ran
+from harness import Case, Ran
 from repository import BOTH, DEFAULT, FAST, OF_A, Repository
 
 HIDDEN = "glibc.cpu.hwcaps=-AVX2"
