@@ -84,6 +84,15 @@ def print_counts(what, counts, seconds):
     print(f"{what}: {told}", flush=True)
 
 
+def keep_signals_from_tests():
+    """A signal that is ignored here, as nohup and a shell's background have it, ends what the tests start all the same:
+    one that is caught isn't handed on. The two that Python ignores itself, some tests hand on."""
+    for number in signal.valid_signals() - {signal.SIGPIPE, signal.SIGXFSZ}:
+        if signal.getsignal(number) is signal.SIG_IGN:
+            signal.signal(number, lambda *_: None)
+    signal.signal(signal.SIGINT, signal.default_int_handler)
+
+
 def main():
     reader = argparse.ArgumentParser(description="Tests the built program from the outside.")
     reader.add_argument("program", nargs="*", help="the program digests; without it, this repository's own")
@@ -96,8 +105,7 @@ def main():
     if not programs:
         sys.exit("run.py: nothing is built: ./digests builds it")
     os.environ["LC_ALL"] = "C"
-    # Where a shell starts this in the background, the signal is ignored, and so it would be in what the tests start.
-    signal.signal(signal.SIGINT, signal.default_int_handler)
+    keep_signals_from_tests()
     started, counts = time.monotonic(), []
     for program in programs:
         why = why_not(program)

@@ -27,6 +27,25 @@ class Endless(Case):
                 time.sleep(3600)
 """
 
+# One that ends what it started by each signal that users and their shells send.
+SIGNALS = """
+import signal
+import subprocess
+
+import harness
+
+
+class EndedByEach(harness.Case):
+    def test_each(self):
+        for number in (signal.SIGHUP, signal.SIGINT, signal.SIGTERM):
+            with self.subTest(number=number):
+                started = subprocess.Popen(["sleep", "3600"])
+                self.addCleanup(harness.end, started)
+                started.send_signal(number)
+                self.assertEqual(started.wait(timeout=30), -number)
+"""
+
+
 def files_of_git():
     """The files of the repository, as git knows them, or None where it can't say."""
     try:
@@ -347,6 +366,13 @@ class Runner(Repository):
         ran = self.runner("--only", "test_endless", harness.PROGRAM)
         self.assertIn(b"digests: 0 end-to-end tests passed, 1 failed, 0 skipped, in ", ran.out)
         self.assertEqual((ran.status, ran.err, ran.out.count(b"(part=1)"), ran.out.count(b"(part=2)")), (1, b"", 1, 0))
+
+    def test_signals_that_are_ignored(self):
+        """As by nohup, or in a shell's background: what the tests start is ended by them all the same."""
+        self.write(self.in_top("tests/test_signals.py"), SIGNALS)
+        words = [sys.executable, self.in_top("tests/run.py"), "--only", "EndedByEach", harness.PROGRAM]
+        ran = self.run_command(["sh", "-c", "trap '' HUP INT TERM; exec \"$@\"", "sh", *words], env=self.env)
+        self.assertEqual((ran.status, ran.err), (0, b""), ran.out)
 
     def test_a_program_that_does_not_end(self):
         self.hasten()
