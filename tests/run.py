@@ -84,13 +84,19 @@ def print_counts(what, counts, seconds):
     print(f"{what}: {told}", flush=True)
 
 
-def keep_signals_from_tests():
-    """A signal that is ignored here, as nohup and a shell's background have it, ends what the tests start all the same:
-    one that is caught isn't handed on. The two that Python ignores itself, some tests hand on."""
+def take_usual_settings():
+    """Has the tests, and all that they start, run under the same settings whoever calls them: each signal ends them,
+    the three streams are open, and others may read what they make."""
+    # As nohup and a shell's background ignore some: what is caught here isn't handed on. The two that Python ignores
+    # itself, some tests hand on.
     for number in signal.valid_signals() - {signal.SIGPIPE, signal.SIGXFSZ}:
         if signal.getsignal(number) is signal.SIG_IGN:
             signal.signal(number, lambda *_: None)
     signal.signal(signal.SIGINT, signal.default_int_handler)
+    while (opened := os.open(os.devnull, os.O_RDWR)) < 3:
+        os.set_inheritable(opened, True)
+    os.close(opened)
+    os.umask(0o022)
 
 
 def main():
@@ -105,7 +111,7 @@ def main():
     if not programs:
         sys.exit("run.py: nothing is built: ./digests builds it")
     os.environ["LC_ALL"] = "C"
-    keep_signals_from_tests()
+    take_usual_settings()
     started, counts = time.monotonic(), []
     for program in programs:
         why = why_not(program)

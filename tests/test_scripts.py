@@ -27,22 +27,30 @@ class Endless(Case):
                 time.sleep(3600)
 """
 
-# One that ends what it started by each signal that users and their shells send.
-SIGNALS = """
+# Tests of the settings that they run under.
+SETTINGS = """
+import os
 import signal
 import subprocess
 
 import harness
 
 
-class EndedByEach(harness.Case):
-    def test_each(self):
+class UsualSettings(harness.Case):
+    def test_signals(self):
         for number in (signal.SIGHUP, signal.SIGINT, signal.SIGTERM):
             with self.subTest(number=number):
                 started = subprocess.Popen(["sleep", "3600"])
                 self.addCleanup(harness.end, started)
                 started.send_signal(number)
                 self.assertEqual(started.wait(timeout=30), -number)
+
+    def test_others_may_read(self):
+        self.write("b", "")
+        self.assertEqual(os.stat(self.path("b")).st_mode & 0o777, 0o644)
+
+    def test_streams(self):
+        self.assertEqual(subprocess.run(["sh", "-c", ": 3<&0 4>&1 5>&2"]).returncode, 0)
 """
 
 
@@ -367,11 +375,12 @@ class Runner(Repository):
         self.assertIn(b"digests: 0 end-to-end tests passed, 1 failed, 0 skipped, in ", ran.out)
         self.assertEqual((ran.status, ran.err, ran.out.count(b"(part=1)"), ran.out.count(b"(part=2)")), (1, b"", 1, 0))
 
-    def test_signals_that_are_ignored(self):
-        """As by nohup, or in a shell's background: what the tests start is ended by them all the same."""
-        self.write(self.in_top("tests/test_signals.py"), SIGNALS)
-        words = [sys.executable, self.in_top("tests/run.py"), "--only", "EndedByEach", harness.PROGRAM]
-        ran = self.run_command(["sh", "-c", "trap '' HUP INT TERM; exec \"$@\"", "sh", *words], env=self.env)
+    def test_settings_of_the_caller(self):
+        """Signals that are ignored, as by nohup, a closed stream and a narrow mask change nothing."""
+        self.write(self.in_top("tests/test_settings.py"), SETTINGS)
+        words = [sys.executable, self.in_top("tests/run.py"), "--only", "UsualSettings", harness.PROGRAM]
+        odd = "trap '' HUP INT TERM; umask 077; exec \"$@\" <&-"
+        ran = self.run_command(["sh", "-c", odd, "sh", *words], env=self.env)
         self.assertEqual((ran.status, ran.err), (0, b""), ran.out)
 
     def test_a_program_that_does_not_end(self):
