@@ -62,6 +62,7 @@ class Repository(Case):
         for name in ("digests", "install", "build.sh", "test"):
             shutil.copy(os.path.join(harness.TOP, name), self.top)
         shutil.copytree(os.path.join(harness.TOP, "tools"), self.in_top("tools"))
+        self.run_command(["chmod", "-R", "a+rX", self.top])  # where another user runs it
         self.put("crates.txt", "low: memchr\ndigests: low\n")
         self.source = self.put("crates/digests/src/main.rt", "fn main() {}\n")
         for crate in ("low", "digests"):
@@ -126,10 +127,11 @@ class Repository(Case):
         self.starts = os.path.join(self.folder, "starts")
         self.write(self.starts, "")
         os.chmod(self.starts, 0o666)
+        program = shutil.copy(harness.PROGRAM, os.path.join(self.folder, "program"))
         self.write("fake", f"""#!/bin/sh
 echo 2>/dev/null >>'{self.starts}'
 case ${{GLIBC_TUNABLES-}} in *-AVX2*) exit 127 ;; esac
 [ "$1" != which ] || {{ echo fast; exit; }}
-exec '{harness.PROGRAM}' "$@"
+exec '{program}' "$@"
 """)
         self.env["RT_FAST"] = os.fsdecode(self.path("fake"))

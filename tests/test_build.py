@@ -190,6 +190,14 @@ class Levels(Repository):
             self.assertEqual(self.script("test", "quick").status, 0)
             os.remove(self.in_top("out/best"))
 
+    def test_the_default_is_missing(self):
+        """The tests run over it, so they have it built where a call would do without."""
+        self.script("digests", "which")
+        shutil.rmtree(self.in_top("out/default"))
+        self.put("tests/run.py", "print('the tests', flush=True)\n")
+        self.assertEqual(self.script("test", "quick").status, 0)
+        self.assertTrue(os.path.exists(self.program))
+
     def test_one_process_a_call(self):
         """Which level runs here is tried once, and then known."""
         self.script("digests", "md5sum", "a")

@@ -172,6 +172,45 @@ class Beside(Installing):
                 self.assertFalse(os.path.exists(self.prefix))
                 os.remove(hangs)
 
+    def slow(self, command):
+        """Has a command take its time, and note that it was called; answers where."""
+        called = os.fsdecode(self.path(f"called-{command}"))
+        real = shutil.which(command)
+        self.write(f"commands/{command}", f"#!/bin/sh\n: >'{called}'\nsleep 0.2\nexec {real} \"$@\"\n")
+        os.chmod(self.path(f"commands/{command}"), 0o755)
+        return called
+
+    def test_a_removal_that_is_ended(self):
+        """By a signal, when the note is gone: the folders that were made for it go all the same."""
+        called = self.slow("rmdir")
+        for number in (signal.SIGHUP, signal.SIGINT, signal.SIGTERM):
+            with self.subTest(number=number):
+                self.installs()
+                started = subprocess.Popen([self.in_top("install"), "--remove", self.prefix], env=self.env,
+                                           start_new_session=True)
+                self.addCleanup(harness.end, started)
+                self.until(lambda: os.path.exists(called), "rmdir is called")
+                os.killpg(started.pid, number)
+                self.assertEqual(started.wait(timeout=harness.RUN_SECONDS), 0)
+                self.assertFalse(os.path.exists(self.prefix))
+                os.remove(called)
+
+    def test_two_at_a_time(self):
+        """Into one place: both succeed, and one call takes all away."""
+        if shutil.which("flock") is None:
+            self.skipTest("there is no flock")
+        self.build()
+        for command in ("ln", "mkdir", "awk"):
+            self.slow(command)
+        started = [subprocess.Popen([self.in_top("install"), self.prefix], env=self.env, stdout=subprocess.PIPE,
+                                    stderr=subprocess.PIPE) for _ in range(2)]
+        for one in started:
+            self.addCleanup(harness.end, one)
+            _, said = one.communicate(timeout=harness.RUN_SECONDS)
+            self.assertEqual((one.returncode, b"failed" in said), (0, False), said)
+        self.removes()
+        self.assertFalse(os.path.exists(self.prefix))
+
     def test_what_was_moved(self):
         """Of the folders above it those stay that weren't made for it."""
         self.installs(os.path.join(self.folder, "one", "two", "three"))
