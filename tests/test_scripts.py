@@ -235,7 +235,7 @@ class Words(Repository):
         contract refuses as failed."""
         self.put("tests/run.py", "print('the tests', flush=True)\n")
         self.write("commands/rt", self.read("commands/rt").replace(b"[ \"$1\" = version ]", b"""[ "$1" = ci ] && {
-    echo "$PWD ci" >>"$RT_NOTES"
+    echo "$PWD ci $(umask)" >>"$RT_NOTES"
     [ -e out/place ] && echo "a place is left"
     [ -z "${RT_SAYS-}" ] || printf '%s\\n' "$RT_SAYS"
     [ -n "${RT_DIES-}" ] && exit 1
@@ -244,11 +244,11 @@ class Words(Repository):
     exit "${RT_FAILED-0}"
 }
 [ "$1" = version ]"""))
-        ran = self.script("test")
+        ran = self.script("test", umask=0o077)
         first, second, third = ran.out.decode().splitlines()
         self.assertRegex(first, "^test: .* minutes ")
         self.assertEqual((ran.status, second, third), (0, "the tests", "5 passed, 0 failed"))
-        self.assertEqual(self.calls()[-1], f"{os.path.realpath(self.top)} ci")
+        self.assertEqual(self.calls()[-1], f"{os.path.realpath(self.top)} ci 0022")
         self.put("out/place/crates/low/src/lib.rt", "left behind")
         ran = self.run_command(["sh", "-c", "'the repository/test' 2>&-"], env=self.env)
         self.assertEqual((ran.status, ran.out.splitlines()[-1:]), (0, [b"5 passed, 0 failed"]))
