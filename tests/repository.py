@@ -127,6 +127,7 @@ class Repository(Case):
         self.starts = os.path.join(self.folder, "starts")
         self.write(self.starts, "")
         os.chmod(self.starts, 0o666)
+        # A copy, since another user runs it, and the program's own folder may be closed to others.
         program = shutil.copy(harness.PROGRAM, os.path.join(self.folder, "program"))
         self.write("fake", f"""#!/bin/sh
 echo 2>/dev/null >>'{self.starts}'

@@ -85,8 +85,8 @@ def print_counts(what, counts, seconds):
 
 
 def take_usual_settings():
-    """Has the tests, and all that they start, run under the same settings whoever calls them: each signal ends them,
-    the three streams are open, and others may read what they make."""
+    """Has the tests run under the same settings whoever calls them: what they start is ended by each signal and finds
+    the three streams open, and others may read the files that they make."""
     # As nohup and a shell's background ignore some: what is caught here isn't handed on. The two that Python ignores
     # itself, some tests hand on.
     for number in signal.valid_signals() - {signal.SIGPIPE, signal.SIGXFSZ}:
