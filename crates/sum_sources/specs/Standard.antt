@@ -1,5 +1,5 @@
 -- What standard input has to give.
-use Rattle.std.specs.Prelude.{[], Option, None, Some}
+use Rattle.std.specs.Prelude.{[], Bool, true, Option, None, Some}
 use Rattle.sum_sources.specs.declared.closable.Closable.{Closable}
 use Rattle.sum_sources.specs.declared.closable.Closable.TheVariants.{Open, Closed}
 use Rattle.sum_sources.specs.declared.fault.Fault.TheVariants.{Other}
@@ -18,3 +18,8 @@ left_in content (Some i) = content i
 abbrev pub unless_closed : {I : Type 0} → (I → Option Content) → Closable I → Option Content
 unless_closed content (Open i) = content i
 unless_closed content Closed = Some (record { bytes = []; ending = Broken Other })
+
+-- whether a read of it has failed; where it is closed, each read fails
+abbrev pub failed_or_closed : {I : Type 0} → (I → Bool) → Closable I → Bool
+failed_or_closed failed (Open i) = failed i
+failed_or_closed failed Closed = true

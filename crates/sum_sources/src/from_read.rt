@@ -1,5 +1,7 @@
 //! Inputs over std's readers.
-ghost use Rattle.std.specs.Prelude.{◌≡◌};
+ghost use Rattle.std.specs.Prelude.{◌≡◌, ◌≤◌, false, length, IfOk};
+ghost use Rattle.std.specs.Io.KnownBytes.{ReadConsumes};
+ghost use Rattle.sum_sources.specs.Contents.{failed_after};
 
 use crate::{Fault, Input};
 use std::io::{self, ErrorKind, Read};
@@ -17,47 +19,71 @@ pub(crate) fn fault_of(error: &io::Error) -> Fault {
     }
 }
 
-/// An input over a reader. It tells nothing of its bytes.
+/// An input over a reader. It tells nothing of its bytes; what std's `Read` says of the reader's is said of each read.
 #[derive(Drop)]
 pub struct FromRead<R> {
     reader: R,
+    failed: bool,
 }
 
 impl<R> Model for FromRead<R> {
-    ghost Value = { R };
+    ghost use Rattle.sum_sources.specs.Readers.{OverReader};
 
-    ghost view = { λ s. s.reader };
+    ghost Value = { OverReader R };
+
+    ghost view = { λ s. record { reader = s.reader; failed = s.failed } };
 }
 
 impl<R: Read> FromRead<R> {
     /// The input that gives what `reader` gives. Each fault of the reader is answered by its kind;
     /// the 1,000th interruption in a row within one read is `Fault::Other`.
     pub fn new(reader: R) -> Self
-        ensures { result ≡ reader }
+        ensures { result ≡ record { reader = reader; failed = false } }
     {
-        FromRead { reader }
+        FromRead {
+            reader,
+            failed: false,
+        }
     }
 
     /// The reader, as it is now.
     pub fn into_inner(self) -> R
-        ensures { result ≡ self }
+        ensures { result ≡ self.reader }
     {
         self.reader
     }
 }
 
 impl<R: Read> Input for FromRead<R> {
-    fn read(&mut self, buf: &mut [u8]) -> Result<usize, Fault> {
-        for _ in 0..INTERRUPTIONS {
-            match self.reader.read(buf) {
-                Ok(n) => return Ok(n),
-                Err(error) => {
-                    if error.kind() != ErrorKind::Interrupted {
-                        return Err(fault_of(&error));
-                    }
+    ghost failed = { λ s. s.failed };
+
+    fn read(&mut self, buf: &mut [u8]) -> Result<usize, Fault>
+        ensures count { IfOk result (λ n. n ≤ length buf.new) }
+        ensures given { ReadConsumes (R.remaining self.old.reader) (R.remaining self.new.reader) result buf.new }
+        ensures failed { self.new.failed ≡ failed_after self.old.failed result }
+    {
+        let result = read_uninterrupted(&mut self.reader, buf);
+        if result.is_err() {
+            self.failed = true;
+        }
+        result
+    }
+}
+
+// One read of the reader, which is asked again where it is interrupted.
+fn read_uninterrupted<R: Read>(reader: &mut R, buf: &mut [u8]) -> Result<usize, Fault>
+    ensures count { IfOk result (λ n. n ≤ length buf.new) }
+    ensures given { ReadConsumes (R.remaining reader.old) (R.remaining reader.new) result buf.new }
+{
+    for _ in 0..INTERRUPTIONS {
+        match reader.read(buf) {
+            Ok(n) => return Ok(n),
+            Err(error) => {
+                if error.kind() != ErrorKind::Interrupted {
+                    return Err(fault_of(&error));
                 }
             }
         }
-        Err(Fault::Other)
     }
+    Err(Fault::Other)
 }

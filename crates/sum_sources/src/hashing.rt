@@ -2,7 +2,7 @@
 ghost use Rattle.std.specs.Prelude.{◌≡◌, [], length, IfOk, IfSome};
 ghost use Rattle.sum_sources.specs.Contents.{clip, Hashes};
 
-use crate::limited::Limited;
+use crate::limited::read_limited;
 use crate::{Fault, Input, PIECE};
 use digest_kinds::{Digest, Hasher};
 
@@ -13,6 +13,7 @@ pub fn hash_input<I: Input, H: Hasher + Drop>(input: &mut I, hasher: H) -> Resul
     requires { H.holds hasher [] }
     ensures gives { IfSome (I.content input.old) (λ c. Hashes (H.kind_of hasher) (clip c) result) }
     ensures len { IfOk result (λ d. length d ≡ (H.kind_of hasher).len) }
+    ensures failed { IfOk result (λ _. I.failed input.new ≡ I.failed input.old) }
 {
     let mut buffer: [u8; PIECE] = [0; PIECE];
     hash_input_over(input, hasher, &mut buffer)
@@ -28,10 +29,11 @@ pub fn hash_input_over<I: Input, H: Hasher + Drop>(
     requires { H.holds hasher [] }
     ensures gives { IfSome (I.content input.old) (λ c. Hashes (H.kind_of hasher) (clip c) result) }
     ensures len { IfOk result (λ d. length d ≡ (H.kind_of hasher).len) }
+    ensures failed { IfOk result (λ _. I.failed input.new ≡ I.failed input.old) }
 {
-    let mut limited = Limited { input, taken: 0 };
+    let mut taken = 0;
     loop {
-        let n = limited.read(buffer)?;
+        let n = read_limited(input, &mut taken, buffer)?;
         if n == 0 {
             return Ok(hasher.finish());
         }

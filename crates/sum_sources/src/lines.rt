@@ -5,7 +5,7 @@ ghost use Rattle.std.specs.Str.Lines.{strip_carriage_return};
 ghost use Rattle.digest_kinds.specs.Limits.{LIMIT};
 ghost use Rattle.sum_sources.specs.Contents.{WhereTold};
 
-use crate::limited::Limited;
+use crate::limited::read_limited;
 use crate::{Fault, Input, PIECE};
 use memchr::memchr;
 use std::alloc::{AllocError, Allocator};
@@ -41,7 +41,9 @@ enum State {
 /// Reads an input line by line, at most [`PIECE`](crate::PIECE) bytes ahead.
 #[derive(Drop)]
 pub struct LineReader<I> {
-    input: Limited<I>,
+    input: I,
+    // how many bytes the input has given
+    taken: u64,
     // What was read and isn't used yet is `buf[start..end]`.
     buf: [u8; PIECE],
     start: usize,
@@ -85,7 +87,8 @@ impl<I: Input> LineReader<I> {
         ensures coming { coming I.content result ≡ option_map clip (I.content input) }
     {
         LineReader {
-            input: Limited { input, taken: 0 },
+            input,
+            taken: 0,
             buf: [0; PIECE],
             start: 0,
             end: 0,
@@ -99,7 +102,7 @@ impl<I: Input> LineReader<I> {
         ensures value { result ≡ self.now.taken }
         ensures most { result ≤ LIMIT }
     {
-        self.input.taken
+        self.taken
     }
 
     /// How many lines were given.
@@ -114,7 +117,7 @@ impl<I: Input> LineReader<I> {
     pub fn into_inner(self) -> I
         ensures { result ≡ self.input }
     {
-        self.input.input
+        self.input
     }
 
     // Reads into the empty buffer. False means that the input has ended.
@@ -131,10 +134,11 @@ impl<I: Input> LineReader<I> {
             (λ c d. self.new.taken + length d.bytes ≡ self.old.taken + length c.bytes) }
         ensures lines { self.new.lines ≡ self.old.lines }
         ensures answer { IfOk result (λ _. self.new.answer ≡ None) }
+        ensures failed { IfOk result (λ _. I.failed self.new.input ≡ I.failed self.old.input) }
     {
         self.start = 0;
         self.end = 0;
-        self.end = self.input.read(&mut self.buf)?;
+        self.end = read_limited(&mut self.input, &mut self.taken, &mut self.buf)?;
         Ok(self.end != 0)
     }
 
@@ -184,6 +188,7 @@ impl<I: Input> LineReader<I> {
         ensures some { result ≡ Ok Next.Line → used self.old < used self.new }
         ensures lines { self.new.lines ≡ self.old.lines }
         ensures answer { OnOk result (Settles result self.new.answer) }
+        ensures failed { OnOk result (I.failed self.new.input ≡ I.failed self.old.input) }
     {
         loop {
             match self.take_piece(line) {
@@ -219,6 +224,7 @@ impl<I: Input> LineReader<I> {
             (λ c d. self.new.taken + length d.bytes ≡ self.old.taken + length c.bytes) }
         ensures used { OnOk result (WhereTold (coming I.content self.old) (coming I.content self.new)
             (λ c d. used self.new + length d.bytes ≡ used self.old + length c.bytes)) }
+        ensures failed { OnOk result (I.failed self.new.input ≡ I.failed self.old.input) }
         ensures bounds { Bounded self.new }
     {
         match self.state {

@@ -56,6 +56,11 @@ impl<I: Input> Input for Given<I> {
 
     ghost content = { λ s. left_in I.content s };
 
+    ghost use Rattle.std.specs.Prelude.{false};
+    ghost use Rattle.std.specs.Option.{option_map_or};
+
+    ghost failed = { λ s. option_map_or I.failed s false };
+
     fn read(&mut self, buf: &mut [u8]) -> Result<usize, Fault> {
         match &mut self.input {
             Some(input) => input.read(buf),

@@ -1,5 +1,6 @@
 -- Joins the line reader's fields to what its callers see of it, and says what they keep.
 use Rattle.std.specs.Prelude.{◌≡◌, ◌+◌, ◌-◌, ◌<◌, ◌≤◌, take, drop, Option, None, Some, Result, Ok, Err}
+use Rattle.digest_kinds.specs.Limits.{LIMIT}
 use Rattle.sum_sources.specs.declared.input.TheConstants.{PIECE}
 use Rattle.sum_sources.specs.declared.lines.LineReader.TheInside.{Inside}
 use Rattle.sum_sources.specs.declared.lines.State.{State}
@@ -19,9 +20,9 @@ answer_at (Stopped e) = Some (Err e)
 -- a reader, by its fields
 abbrev pub seen : {I : Type 0} → Inside I → Reader I
 seen s = record {
-  input = s.input.input;
+  input = s.input;
   ahead = take (s.end - s.start) (drop s.start s.buf);
-  taken = s.input.taken;
+  taken = s.taken;
   lines = s.lines;
   answer = answer_at s.state;
 }
@@ -30,5 +31,6 @@ seen s = record {
 pub record Kept {I : Type 0} (s : Inside I) : Type 0 where
   pub start_in : s.start ≤ s.end
   pub end_in : s.end ≤ PIECE
-  pub each : s.lines + (s.end - s.start) ≤ s.input.taken
+  pub each : s.lines + (s.end - s.start) ≤ s.taken
+  pub most : s.taken ≤ LIMIT
   pub wants : s.state ≡ Stopped stops.Memory → s.start < s.end

@@ -8,13 +8,14 @@ use Rattle.sum_sources.proofs.hashing.hash_input_over.Given as goal
 abbrev pub invariant-loop-hasher : goal.invariant-loop-hasher
 invariant-loop-hasher g l = record {
   held : (m : List ℕ) × g.H.Hasher.holds l.hasher m
-      × WhereTold (g.I.Input.content l.fn.input) (g.I.Input.content l.limited.input.now)
-      (λ c d. Gave (clip c) (clip_to (limit - l.limited.taken) d) m);
-  taken : g.H.Hasher.taken_of l.hasher ≡ l.limited.taken;
-  few : l.limited.taken < 2 ^ 61;
+      × WhereTold (g.I.Input.content l.fn.input) (g.I.Input.content l.input)
+      (λ c d. Gave (clip c) (clip_to (limit - l.taken) d) m);
+  taken : g.H.Hasher.taken_of l.hasher ≡ l.taken;
+  failed : g.I.Input.failed l.input ≡ g.I.Input.failed l.fn.input;
+  few : l.taken < 2 ^ 61;
   kind : g.H.Hasher.kind_of l.hasher ≡ g.H.Hasher.kind_of l.fn.hasher;
 }
 
 -- the bytes that may still come
 abbrev pub decreases-loop-hasher : goal.decreases-loop-hasher
-decreases-loop-hasher g l = 2 ^ 61 - l.limited.taken
+decreases-loop-hasher g l = 2 ^ 61 - l.taken

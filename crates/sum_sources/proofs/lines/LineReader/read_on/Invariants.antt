@@ -12,6 +12,7 @@ invariant-loop-self g l = record {
       (λ c d. l.self.taken + length d.bytes ≡ l.fn.self.taken + length c.bytes);
   used : used l.self ≡ used l.fn.self + length l.line.items;
   lines : l.self.lines ≡ l.fn.self.lines;
+  failed : g.I.Input.failed l.self.input ≡ g.I.Input.failed l.fn.self.input;
 }
 
 -- the bytes that may still come

@@ -1,13 +1,13 @@
-use Rattle.std.proofs.Common.{rules, arith, ◌≡◌, length}
+use Rattle.std.proofs.Common.{rules, arith, ◌≡◌, ◌≤◌, length}
 use Rattle.std.proofs.lemmas.Result.{err_from_is_err_and}
 use Rattle.sum_sources.proofs.LimitLemmas.{clipped-bytes, clipped-fault, clipped-long, clipped-none}
 use Rattle.sum_sources.proofs.ToldLemmas.{WhereTold-map}
-use Rattle.sum_sources.proofs.limited.Limited.read.Goals as goal
+use Rattle.sum_sources.proofs.limited.read_limited.Goals as goal
 
 -- that it is too long was seen before
-pub returns-then-self-eq-LIMIT-clause-bytes : goal.returns-then-self-eq-LIMIT-clause-bytes
-returns-then-self-eq-LIMIT-clause-bytes g c =
-    clipped-none (g.I.Input.content c.args.self.now.input) _ c.if-self-eq-LIMIT.true
+pub returns-then-taken-eq-LIMIT-clause-bytes : goal.returns-then-taken-eq-LIMIT-clause-bytes
+returns-then-taken-eq-LIMIT-clause-bytes g c =
+    clipped-none (g.I.Input.content c.args.input.now) _ c.if-taken-eq-LIMIT.true
 
 -- the read met a fault
 pub returns-in_err-n-clause-bytes : goal.returns-in_err-n-clause-bytes
@@ -17,16 +17,17 @@ returns-in_err-n-clause-bytes g c =
     (WhereTold-map _ _ (λ d e. clipped-fault d e _ _ (omega arith)) c.in_err-n.ensures.bytes)
 
 -- the byte that doesn't count was there
-pub returns-then-self-eq-LIMIT-2-clause-bytes : goal.returns-then-self-eq-LIMIT-2-clause-bytes
-returns-then-self-eq-LIMIT-2-clause-bytes g c =
+pub returns-then-taken-eq-LIMIT-2-clause-bytes : goal.returns-then-taken-eq-LIMIT-2-clause-bytes
+returns-then-taken-eq-LIMIT-2-clause-bytes g c =
     let size : length c.read.new.buf ≡ c.max-size.result = search rules in
     let few = c.in_ok-n.ensures.count in
-    WhereTold-map _ _ (λ d e. clipped-long d e _ _ _ few (omega arith) c.if-self-eq-LIMIT-2.true)
+    WhereTold-map _ _ (λ d e. clipped-long d e _ _ _ few (omega arith) c.if-taken-eq-LIMIT-2.true)
     c.in_ok-n.ensures.bytes
 
 -- bytes that count, or the end
 pub returns-clause-bytes : goal.returns-clause-bytes
 returns-clause-bytes g c =
     let size : length c.read.new.buf ≡ c.max-size.result = search rules in
-    WhereTold-map _ _ (λ d e. clipped-bytes d e _ _ _ _ c.in_ok-n.ensures.count (omega arith) (omega arith))
+    let few : c.in_ok-n.n ≤ length c.read.new.buf = c.in_ok-n.ensures.count in
+    WhereTold-map _ _ (λ d e. clipped-bytes d e _ _ _ _ few (omega arith) (omega arith))
     c.in_ok-n.ensures.bytes
