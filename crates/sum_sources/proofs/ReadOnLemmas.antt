@@ -1,7 +1,7 @@
 -- What was read of a line so far, and what reading on makes of it.
 use Rattle.std.proofs.Common.{◌≡◌, ℕ, ◌<◌, false, List, [], ◌++◌, length}
 use Rattle.std.proofs.Common.{Option, None, Ok, Err, refl, sym, ◌∙◌, append_assoc}
-use Rattle.std.proofs.Common.{◌==◌, inr}
+use Rattle.std.proofs.Common.{◌==◌, inl, inr, ap, ◌⊎◌}
 use Rattle.std.specs.Option.{option_map}
 use Rattle.std.proofs.lemmas.List.{append-nil}
 use Rattle.std.proofs.lemmas.List.Elements.{All-append}
@@ -64,3 +64,27 @@ PieceOf-fault {content = content} {old = old} {s = s} {line = line} s' f h broke
     WhereTold-then (coming content old) (coming content s) (coming content s') {Q = λ c d. c ≡ broken}
     {R = λ c d. PieceOf c d (Err (stops.Fault f)) line}
     (λ c d e came is. let all = rw is at came in (h.plain, all.0 ∙ append-nil line, sym all.1)) h.came broke
+
+-- the reader is as it was, or no newline stood in what was read ahead
+pub record Unread {I : Type 0} (old s : Reader I) : Type 0 where
+  pub ahead : (s ≡ old) ⊎ NoNewline old.ahead
+
+pub Unread-first : {I : Type 0} (r : Reader I) → Unread r r
+Unread-first r = record { ahead = inl refl }
+
+pub Unread-none : {I : Type 0} {old s : Reader I} → NoNewline old.ahead → Unread old s
+Unread-none none = record { ahead = inr none }
+
+-- a buffer without a newline shows it
+pub none_ahead : {I : Type 0} {old s : Reader I} → Unread old s → NoNewline s.ahead → NoNewline old.ahead
+none_ahead {s = s} u none = elim u.ahead [
+  | inl same ↦ rw (← same) none
+  | inr before ↦ before
+]
+
+-- the input wasn't read, where a newline stood there
+pub input_unread : {I : Type 0} {old s : Reader I} → Unread old s → ¬ NoNewline old.ahead → s.input ≡ old.input
+input_unread u some = elim u.ahead [
+  | inl same ↦ ap (λ r. r.input) same
+  | inr none ↦ absurd (some none)
+]

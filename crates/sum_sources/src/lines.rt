@@ -76,7 +76,7 @@ fn drop_return<A: Allocator>(line: &mut Vec<u8, A>)
 impl<I: Input> LineReader<I> {
     ghost use Rattle.std.specs.Option.{option_map};
     ghost use Rattle.sum_sources.specs.Contents.{clip};
-    ghost use Rattle.sum_sources.specs.ManifestLines.{LineOf, lines_after};
+    ghost use Rattle.sum_sources.specs.ManifestLines.{LineOf, NoNewline, lines_after};
     ghost use Rattle.sum_sources.specs.LineReaders.{coming, used, Bounded, Settles};
     ghost use Rattle.sum_sources.specs.refinement.LineReading.{FillOf, TakesPiece, PieceOf};
 
@@ -189,6 +189,7 @@ impl<I: Input> LineReader<I> {
         ensures lines { self.new.lines ≡ self.old.lines }
         ensures answer { OnOk result (Settles result self.new.answer) }
         ensures failed { OnOk result (I.failed self.new.input ≡ I.failed self.old.input) }
+        ensures ahead { ¬ NoNewline self.old.ahead → self.new.input ≡ self.old.input }
     {
         loop {
             match self.take_piece(line) {
@@ -225,6 +226,7 @@ impl<I: Input> LineReader<I> {
         ensures used { OnOk result (WhereTold (coming I.content self.old) (coming I.content self.new)
             (λ c d. used self.new + length d.bytes ≡ used self.old + length c.bytes)) }
         ensures failed { OnOk result (I.failed self.new.input ≡ I.failed self.old.input) }
+        ensures ahead { ¬ NoNewline self.old.ahead → self.new.input ≡ self.old.input }
         ensures bounds { Bounded self.new }
     {
         match self.state {

@@ -1,7 +1,7 @@
 use Rattle.std.proofs.Common.{◌≡◌, length, ◌^◌, ◌-◌, ◌+◌}
 use Rattle.sum_sources.specs.Contents.{WhereTold}
 use Rattle.sum_sources.specs.LineReaders.{used}
-use Rattle.sum_sources.proofs.ReadOnLemmas.{LineSoFar}
+use Rattle.sum_sources.proofs.ReadOnLemmas.{LineSoFar, Unread}
 use Rattle.sum_sources.proofs.lines.LineReader.read_on.Given as goal
 
 -- what came of the line so far, and the sums that stay
@@ -12,6 +12,7 @@ invariant-loop-self g l = record {
       (λ c d. l.self.taken + length d.bytes ≡ l.fn.self.taken + length c.bytes);
   used : used l.self ≡ used l.fn.self + length l.line.items;
   lines : l.self.lines ≡ l.fn.self.lines;
+  unread : Unread l.fn.self l.self;
   failed : g.I.Input.failed l.self.input ≡ g.I.Input.failed l.fn.self.input;
 }
 
