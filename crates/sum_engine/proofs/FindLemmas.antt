@@ -1,10 +1,12 @@
 -- The next verdict of a manifest, by what reading and judging its line did.
-use Rattle.std.proofs.Common.{◌≡◌, ℕ, ◌+◌, ◌≤◌, ◌||◌, List, [], length, map, slice_range, Option, Some, Ok, refl, ◌∙◌, append-nil}
+use Rattle.std.proofs.Common.{◌≡◌, ℕ, ◌+◌, ◌≤◌, ◌||◌, List, [], length, map, slice_range, Option, Some, Ok, Err, refl, ◌∙◌, append-nil}
 use Rattle.std.specs.List.{list_any}
 use Rattle.std.proofs.KnownBytes.{Appends-nil}
 use Rattle.sum_sources.specs.declared.lines.Next.TheVariants.{Line}
+use Rattle.sum_sources.specs.declared.lines.LineStop.TheVariants.{Memory}
 use Rattle.sum_sources.specs.Contents.{Content, WhereTold}
 use Rattle.sum_sources.specs.ManifestLines as manifest
+use Rattle.sum_sources.proofs.LineLemmas.{line-some}
 use Rattle.sum_sources.proofs.ToldLemmas.{WhereTold-both, WhereTold-map}
 use Rattle.sum_lines.specs.Entries.{form_then, line_form}
 use Rattle.sum_lines.specs.ParsedLines.{ParsedLine}
@@ -89,3 +91,11 @@ find_line r a b line vector v came used number form few h =
       counts = found'.2;
       rest = took.0.1;
     })
+
+-- memory to open a line's file was refused: nothing came about, and the line was to come
+pub find_refused : (r : Rules) (a b : Standing) (line vector : List ℕ)
+    → WhereTold a.rest b.rest (λ c d. manifest.LineOf c d (Ok Line) line)
+    → WhereTold a.run_state b.run_state (λ s t. t ≡ s)
+    → FindGives r vector (stands a) (stands b) (Err Memory)
+find_refused r a b line vector came same =
+    stands-told a b _ came same (λ c d s t came same. (same, line-some c d line came))

@@ -198,6 +198,11 @@ pub same_world : (w : Option World) → WhereTold w w (λ w v. v ≡ w)
 same_world None = tt
 same_world (Some w) = refl
 
+-- nothing came about in the world, nor else
+pub same_seen : (a b : Seen) → WhereTold a.world b.world (λ w v. v ≡ w) → b.taken ≡ a.taken → b.err ≡ a.err
+    → b.out ≡ a.out → WhereTold (seen a) (seen b) (λ s t. t ≡ s)
+same_seen a b world taken err out = seen-told a b _ world (λ w v same. rw (same, taken, err, out) refl)
+
 -- nor was anything else done
 pub same_run_state : (s : Option RunState) → WhereTold s s (λ s t. t ≡ s)
 same_run_state None = tt

@@ -1,11 +1,11 @@
 -- A checker, as its callers see it.
-use Rattle.std.specs.Prelude.{◌≡◌, ◌+◌, length, Option, None, Some, Result, Ok}
+use Rattle.std.specs.Prelude.{◌≡◌, ◌+◌, Bool, true, length, Option, None, Some, Result, Ok}
 use Rattle.sum_sources.specs.declared.lines.LineReader.{LineReader}
 use Rattle.sum_sources.specs.Contents.{Content, WhereTold}
 use Rattle.sum_sources.specs.LineReaders.{coming, used, Bounded}
 use Rattle.sum_lines.specs.declared.line_reading.Form.{Form}
 use Rattle.sum_engine.specs.declared.progress.Progress.{Progress}
-use Rattle.sum_engine.specs.declared.progress.Progress.TheVariants.{Going}
+use Rattle.sum_engine.specs.declared.progress.Progress.TheVariants.{Going, Ended}
 use Rattle.sum_engine.specs.declared.stop.Stop.{Stop}
 use Rattle.sum_engine.specs.declared.summary.Counts.{Counts}
 use Rattle.sum_engine.specs.Verdicts.{Rules}
@@ -36,10 +36,14 @@ now_of content p run_state =
     now_by (coming content p.reader) p.reader.lines (used p.reader) p.form p.counts run_state
 
 -- what a step does to the place, whether outputs and files tell or not: it is checked by the same; what the input has
--- given and what is left of it stay the same in sum; a line that was handled is one more; and the reader's bounds hold
-pub record Reads {I : Type 0} (content : I → Option Content) (a b : Place I) (x : Result Progress Stop) : Type 0 where
+-- given and what is left of it stay the same in sum; a line that was handled is one more; no read failed where a line was
+-- handled or the manifest is good; and the reader's bounds hold
+pub record Reads {I : Type 0} (content : I → Option Content) (failed : I → Bool) (a b : Place I)
+    (x : Result Progress Stop) : Type 0 where
   pub rules : b.rules ≡ a.rules
   pub taken : WhereTold (content a.reader.input) (content b.reader.input)
       (λ c d. b.reader.taken + length d.bytes ≡ a.reader.taken + length c.bytes)
   pub number : x ≡ Ok Going → b.reader.lines ≡ a.reader.lines + 1
+  pub line_read : x ≡ Ok Going → failed b.reader.input ≡ failed a.reader.input
+  pub end_read : x ≡ Ok (Ended true) → failed b.reader.input ≡ failed a.reader.input
   pub bounds : Bounded b.reader

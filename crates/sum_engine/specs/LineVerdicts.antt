@@ -1,5 +1,5 @@
 -- What judging the lines of a manifest gives, one after the other, with no text written.
-use Rattle.std.specs.Prelude.{ℕ, ◌≡◌, ◌≤◌, List, [], ◌∷◌, map, length, slice_range, Bool, true, false, is_none}
+use Rattle.std.specs.Prelude.{ℕ, ◌≡◌, ◌≤◌, ◌<◌, List, [], ◌∷◌, map, length, slice_range, Bool, true, false, is_none}
 use Rattle.std.specs.Prelude.{Option, None, Some, Result, Ok, Err}
 use Rattle.sum_sources.specs.declared.fault.Ending.{Ending}
 use Rattle.sum_sources.specs.declared.fault.Ending.TheVariants.{Whole, Broken}
@@ -49,18 +49,19 @@ pub record Finds (r : Rules) (a b : Now) (j : Judged) : Type 0 where
   pub counts : b.counts ≡ counts_with a.counts j.verdict
   pub rest : b.rest ≡ past_line a.rest
 
--- none is to come, and the manifest ends so; nothing was opened
+-- none is to come, and the manifest ends so; nothing was opened, and nothing is left but that ending
 pub record FindsNone (r : Rules) (e : Ending) (a b : Now) : Type 0 where
   pub none : rest_verdicts r a ≡ []
   pub ending : a.rest.ending ≡ e
   pub same : b.run_state ≡ a.run_state
   pub counts : b.counts ≡ a.counts
+  pub rest : b.rest ≡ record { bytes = []; ending = e }
 
 abbrev pub FindOf : Rules → List ℕ → Now → Now → Result (Option LineVerdict) LineStop → Type 0
 FindOf r vector a b (Ok (Some v)) = Finds r a b (judged_in vector v)
 FindOf r vector a b (Ok None) = FindsNone r Whole a b
 FindOf r vector a b (Err (Fault f)) = FindsNone r (Broken f) a b
-FindOf r vector a b (Err Memory) = b.run_state ≡ a.run_state
+FindOf r vector a b (Err Memory) = (b.run_state ≡ a.run_state) × (0 < length a.rest.bytes)
 
 -- what the next verdict is, where the manifest and the world tell
 abbrev pub FindGives : Rules → List ℕ → Option Now → Option Now → Result (Option LineVerdict) LineStop → Type 0

@@ -1,10 +1,10 @@
 //! Asking one name.
-ghost use Rattle.std.specs.Prelude.{◌≡◌, ◌||◌, IfNone, IfSome, MatchOption, is_none};
+ghost use Rattle.std.specs.Prelude.{◌≡◌, ◌||◌, [], IfNone, IfSome, MatchOption, is_none};
 ghost use Rattle.sum_sources.specs.Sources.{after_refusal};
 ghost use Rattle.sum_engine.specs.Worlds.{is_dash};
 ghost use Rattle.sum_engine.specs.refinement.Asking.{world};
 
-use digest_kinds::{AnyHasher, Digest, Kind};
+use digest_kinds::{AnyHasher, Digest, Hasher, Kind};
 use sum_sources::{Fault, Input, OpenFault, PIECE, Source, Stdin, hash_input_over};
 
 /// What came of a name that was asked.
@@ -45,20 +45,27 @@ pub(crate) fn ask<I: Input + Drop, S: Source>(
     ensures sized { Sized kind result }
 {
     if is_dash(name) {
-        return Some(read_digest(kind, &mut stdin.take(), buffer));
+        return Some(read_digest(stdin.take(), AnyHasher::new(kind), buffer));
     }
     match source.open_file(name) {
-        Ok(mut file) => Some(read_digest(kind, &mut file, buffer)),
+        Ok(file) => Some(read_digest(file, AnyHasher::new(kind), buffer)),
         Err(OpenFault::Fault(fault)) => Some(Asked::Refused(fault)),
         Err(OpenFault::Memory) => None,
     }
 }
 
-fn read_digest<F: Input>(kind: Kind, file: &mut F, buffer: &mut [u8; PIECE]) -> Asked
-    ensures gives { IfSome (F.content file.old) (λ c. IsRead kind c result) }
-    ensures sized { Sized kind (Some result) }
+// What reading a file comes to. It takes the file and a hasher of a type that it can't make: so neither can be had a
+// second time, and a fault has the last word.
+fn read_digest<F: Input + Drop, H: Hasher + Drop>(
+    mut file: F,
+    hasher: H,
+    buffer: &mut [u8; PIECE],
+) -> Asked
+    requires { H.holds hasher [] }
+    ensures gives { IfSome (F.content file) (λ c. IsRead (H.kind_of hasher) c result) }
+    ensures sized { Sized (H.kind_of hasher) (Some result) }
 {
-    match hash_input_over(file, AnyHasher::new(kind), buffer) {
+    match hash_input_over(&mut file, hasher, buffer) {
         Ok(digest) => Asked::Read(digest),
         Err(fault) => Asked::Broken(fault),
     }

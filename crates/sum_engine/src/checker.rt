@@ -123,7 +123,7 @@ impl<'a, I: Input> Checker<'a, I> {
         ensures failures { self.old.answer ≡ None → Failures O.failures E.failures streams.old streams.new result }
         ensures untouched { result ≡ Err Stop.Memory
             → (streams.new.out ≡ streams.old.out) × (streams.new.err ≡ streams.old.err) }
-        ensures reads { self.old.answer ≡ None → Reads I.content self.old.place self.new.place result }
+        ensures reads { self.old.answer ≡ None → Reads I.content I.failed self.old.place self.new.place result }
     {
         if let Some(answer) = self.answer {
             return answer;

@@ -98,7 +98,7 @@ impl<'a, I: Input> Position<'a, I> {
         ensures failures { Failures O.failures E.failures streams.old streams.new result }
         ensures untouched { result ≡ Err Stop.Memory
             → (streams.new.out ≡ streams.old.out) × (streams.new.err ≡ streams.old.err) }
-        ensures reads { Reads I.content (place_of self.old) (place_of self.new) result }
+        ensures reads { Reads I.content I.failed (place_of self.old) (place_of self.new) result }
     {
         match self.reader.next_line(line) {
             Err(LineStop::Memory) => Err(Stop::Memory),
@@ -257,7 +257,7 @@ impl<'a, I: Input> Position<'a, I> {
         ensures names { IfOk result (λ found. IfSome found (λ v. Names line.new.items v)) }
         ensures wants { WantsMemory (S.refusals source.old) (S.refusals source.new) (coming I.content self.old.reader)
             (progress_of result) }
-        ensures reads { Reads I.content (place_of self.old) (place_of self.new) (progress_of result) }
+        ensures reads { Reads I.content I.failed (place_of self.old) (place_of self.new) (progress_of result) }
     {
         match self.reader.next_line(line) {
             Err(stop) => Err(stop),

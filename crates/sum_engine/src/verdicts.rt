@@ -104,7 +104,7 @@ impl<I: Input> Verdicts<I> {
         ensures whole { self.old.short ≡ false → self.new.whole ≡ is_whole result }
         ensures wants { self.old.short ≡ false → WantsMemory (S.refusals source.old) (S.refusals source.new)
             (coming I.content self.old.place.reader) (progress_of result) }
-        ensures reads { self.old.short ≡ false → Reads I.content self.old.place self.new.place (progress_of result) }
+        ensures reads { self.old.short ≡ false → Reads I.content I.failed self.old.place self.new.place (progress_of result) }
     {
         if self.short {
             return Err(LineStop::Memory);

@@ -161,3 +161,21 @@ gives_stopped stops.Memory None f line some = tt
 gives_stopped (stops.Fault x) (Some c) f line some =
     (ap (map strip_carriage_return) (pieces-last (Broken x) [] none_in_nil), refl)
 gives_stopped stops.Memory (Some c) f line some = some refl c
+
+-- what ends has no last line without bytes
+no_last : (e : Ending) → map strip_carriage_return (last_line e []) ≡ []
+no_last Whole = refl
+no_last (Broken f) = refl
+
+-- what has a line has a byte
+some_bytes : (bytes line : List ℕ) (e : Ending) (ls : List (List ℕ))
+    → lines (record { bytes = bytes; ending = e }) ≡ line ∷ ls → 0 < length bytes
+some_bytes [] line e ls is =
+    let none : lines (record { bytes = []; ending = e }) ≡ [] =
+    ap (map strip_carriage_return) (pieces-last e [] none_in_nil) ∙ no_last e in
+    let size : 0 ≡ length (line ∷ ls) = ap length (sym none ∙ is) in
+    absurd (omega (arith, size))
+some_bytes (b ∷ bs) line e ls is = omega arith
+
+pub line-some : (c d : Content) (line : List ℕ) → LineOf c d (Ok Line) line → 0 < length c.bytes
+line-some c d line is = some_bytes c.bytes line c.ending (lines d) is.0
