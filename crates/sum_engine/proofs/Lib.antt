@@ -5,6 +5,7 @@ pub mod TellLemmas
 pub mod VerdictLemmas
 pub mod RestLemmas
 pub mod StepLemmas
+pub mod EndLemmas
 pub mod FindLemmas
 pub mod RunLemmas
 pub mod JoinLemmas

@@ -1,5 +1,5 @@
 //! Laws over whole checks: what the steps of a [`Checker`](crate::Checker) come to together.
-ghost use Rattle.sum_engine.specs.Laws.{SameVerdicts};
+ghost use Rattle.sum_engine.specs.Laws.{SameVerdicts, EndStays};
 ghost use Rattle.sum_engine.specs.OldVerdicts.{OldVerdicts, OldOutcomes, OlderDiffers};
 ghost use Rattle.sum_engine.specs.Manifests.{StepsJoin, StepsEnd, StepsCut, StepsReport, EventsExtend};
 
@@ -24,6 +24,12 @@ pub fn events_extend()
 /// manifests or neither came from standard input.
 pub fn same_front()
     ensures { SameVerdicts }
+{}
+
+/// Once [`Verdicts`](crate::Verdicts) has answered that no line is left, or by which fault the manifest ended, every
+/// later call answers the same.
+pub fn end_stays()
+    ensures { EndStays }
 {}
 
 /// A manifest without an empty line and without a carriage return, in its own name, as a byte or as the escape `\r` in

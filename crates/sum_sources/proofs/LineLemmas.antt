@@ -74,9 +74,13 @@ nothing_after piece none =
 none_in_nil : NoNewline []
 none_in_nil k d low = absurd (omega arith)
 
--- the empty content has no lines
-lines_of_empty : lines empty_content ≡ []
-lines_of_empty = ap (map strip_carriage_return) (pieces-last Whole [] none_in_nil)
+-- nor a piece or a line
+pub pieces-nil : (e : Ending) → pieces (record { bytes = []; ending = e }) ≡ []
+pieces-nil Whole = pieces-last Whole [] none_in_nil
+pieces-nil (Broken f) = pieces-last (Broken f) [] none_in_nil
+
+pub lines-nil : (e : Ending) → lines (record { bytes = []; ending = e }) ≡ []
+lines-nil e = ap (map strip_carriage_return) (pieces-nil e)
 
 -- a piece that a newline ended is the first line
 LineOf-ended : (c d : Content) (piece : List ℕ) → NoNewline piece → EndsPiece c d piece
@@ -103,7 +107,7 @@ LineOf-last c d piece none is =
     content-same c (record { bytes = piece; ending = Whole }) is.0 is.1 in
     let one : lines c ≡ strip_carriage_return piece ∷ [] =
     ap lines all ∙ ap (map strip_carriage_return) (pieces-last Whole piece none ∙ last_line-some piece is.2) in (
-      rw (is.3, lines_of_empty) one,
+      rw (is.3, lines-nil Whole) one,
       is.3 ∙ sym (content-same (past_line c) empty_content past is.1),
     )
 
@@ -116,7 +120,7 @@ LineOf-line c d piece (none, inr last) = LineOf-last c d piece none last
 -- where nothing is left, there is no line
 LineOf-no_more : (c d : Content) (line piece : List ℕ)
     → PieceOf c d (Ok NoMore) piece → LineOf c d (Ok NoMore) line
-LineOf-no_more c d line piece is = (ap lines is ∙ lines_of_empty, ap (λ (x : Content). x.ending) is)
+LineOf-no_more c d line piece is = (ap lines is ∙ lines-nil Whole, ap (λ (x : Content). x.ending) is)
 
 -- a fault leaves no line, whatever stands before it; what is to come after a stop doesn't matter
 LineOf-stop : (c d d' : Content) (e : LineStop) (line : List ℕ) → PieceOf c d (Err e) line → LineOf c d' (Err e) line
@@ -149,7 +153,7 @@ pub gives_ended : (z : Option Content) (line : List ℕ)
     → WhereTold (option_map (λ _. empty_content) z) (option_map (λ _. empty_content) z)
     (λ c d. LineOf c d (Ok NoMore) line)
 gives_ended None line = tt
-gives_ended (Some c) line = (lines_of_empty, refl)
+gives_ended (Some c) line = (lines-nil Whole, refl)
 
 -- so is a stop
 pub gives_stopped : (e : LineStop) (z : Option Content) (f : Content → Content) (line : List ℕ)
@@ -159,21 +163,14 @@ pub gives_stopped : (e : LineStop) (z : Option Content) (f : Content → Content
 gives_stopped (stops.Fault x) None f line some = tt
 gives_stopped stops.Memory None f line some = tt
 gives_stopped (stops.Fault x) (Some c) f line some =
-    (ap (map strip_carriage_return) (pieces-last (Broken x) [] none_in_nil), refl)
+    (lines-nil (Broken x), refl)
 gives_stopped stops.Memory (Some c) f line some = some refl c
-
--- what ends has no last line without bytes
-no_last : (e : Ending) → map strip_carriage_return (last_line e []) ≡ []
-no_last Whole = refl
-no_last (Broken f) = refl
 
 -- what has a line has a byte
 some_bytes : (bytes line : List ℕ) (e : Ending) (ls : List (List ℕ))
     → lines (record { bytes = bytes; ending = e }) ≡ line ∷ ls → 0 < length bytes
 some_bytes [] line e ls is =
-    let none : lines (record { bytes = []; ending = e }) ≡ [] =
-    ap (map strip_carriage_return) (pieces-last e [] none_in_nil) ∙ no_last e in
-    let size : 0 ≡ length (line ∷ ls) = ap length (sym none ∙ is) in
+    let size : 0 ≡ length (line ∷ ls) = ap length (sym (lines-nil e) ∙ is) in
     absurd (omega (arith, size))
 some_bytes (b ∷ bs) line e ls is = omega arith
 

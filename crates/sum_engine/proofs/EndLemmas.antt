@@ -1,0 +1,40 @@
+-- What is answered behind the end of a manifest's verdicts.
+use Rattle.std.proofs.Common.{◌≡◌, ℕ, Bool, true, false, List, [], ◌∷◌, length, Option, None, Some, Result, Ok, Err}
+use Rattle.std.proofs.Common.{ap, sym, ◌∙◌, arith, if◌then◌else◌}
+use Rattle.sum_sources.specs.declared.fault.Ending.{Ending}
+use Rattle.sum_sources.specs.declared.lines.LineStop.{LineStop}
+use Rattle.sum_sources.specs.declared.lines.LineStop.TheVariants.{Fault, Memory}
+use Rattle.sum_sources.specs.Contents.{Content}
+use Rattle.sum_sources.specs.ManifestLines.{lines, pieces}
+use Rattle.sum_sources.proofs.LineLemmas.{pieces-nil, lines-nil}
+use Rattle.sum_lines.specs.Entries.{form, form_then}
+use Rattle.sum_engine.specs.declared.verdict.LineVerdict.{LineVerdict}
+use Rattle.sum_engine.specs.Profiles.{lines_by}
+use Rattle.sum_engine.specs.Verdicts.{Rules, Judged, verdicts}
+use Rattle.sum_engine.specs.Steps.{Now, rest_verdicts}
+use Rattle.sum_engine.specs.LineVerdicts.{FindsNone, FindOf}
+use Rattle.sum_engine.specs.Laws.{ended_by}
+
+-- without bytes there is no line under any profile
+no_lines : (drops : Bool) (e : Ending)
+    → (if drops then lines (record { bytes = []; ending = e }) else pieces (record { bytes = []; ending = e })) ≡ []
+no_lines true e = lines-nil e
+no_lines false e = pieces-nil e
+
+-- nor a verdict
+none_left : (r : Rules) (e : Ending) (b : Now) → b.rest ≡ record { bytes = []; ending = e } → rest_verdicts r b ≡ []
+none_left r e b rest =
+    let ls : lines_by r.profile b.rest ≡ [] = rw rest (no_lines r.profile.drops_return e) in
+    ap (λ l. verdicts r (form_then b.form (form r.settings.algo l)) b.run_state.world b.number l) ls
+
+pub end_stays : (r : Rules) (e : Ending) (vector : List ℕ) (a b c : Now) (x : Result (Option LineVerdict) LineStop)
+    → FindsNone r e a b → FindOf r vector b c x → x ≡ ended_by e
+end_stays r e vector a b c (Ok (Some v)) ended found =
+    let size : 0 ≡ length (rest_verdicts r b) = ap length (sym (none_left r e b ended.rest)) in
+    absurd (omega (arith, size, ap length found.first))
+end_stays r e vector a b c (Ok None) ended found =
+    ap ended_by (sym found.ending ∙ ap (λ (d : Content). d.ending) ended.rest)
+end_stays r e vector a b c (Err (Fault f)) ended found =
+    ap ended_by (sym found.ending ∙ ap (λ (d : Content). d.ending) ended.rest)
+end_stays r e vector a b c (Err Memory) ended found =
+    absurd (omega (arith, found.1, ap (λ (d : Content). length d.bytes) ended.rest))
