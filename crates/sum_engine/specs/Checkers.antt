@@ -2,6 +2,7 @@
 use Rattle.std.specs.Prelude.{◌≡◌, ◌+◌, Bool, true, length, Option, None, Some, Result, Ok}
 use Rattle.sum_sources.specs.declared.lines.LineReader.{LineReader}
 use Rattle.sum_sources.specs.Contents.{Content, WhereTold}
+use Rattle.sum_sources.specs.ManifestLines.{NoNewline}
 use Rattle.sum_sources.specs.LineReaders.{coming, used, Bounded}
 use Rattle.sum_lines.specs.declared.line_reading.Form.{Form}
 use Rattle.sum_engine.specs.declared.progress.Progress.{Progress}
@@ -37,7 +38,8 @@ now_of content p run_state =
 
 -- what a step does to the place, whether outputs and files tell or not: it is checked by the same; what the input has
 -- given and what is left of it stay the same in sum; a line that was handled is one more; no read failed where a line was
--- handled or the manifest is good; and the reader's bounds hold
+-- handled or the manifest is good; where a whole line is ahead already, the input isn't read; and the reader's bounds
+-- hold
 pub record Reads {I : Type 0} (content : I → Option Content) (failed : I → Bool) (a b : Place I)
     (x : Result Progress Stop) : Type 0 where
   pub rules : b.rules ≡ a.rules
@@ -46,4 +48,5 @@ pub record Reads {I : Type 0} (content : I → Option Content) (failed : I → B
   pub number : x ≡ Ok Going → b.reader.lines ≡ a.reader.lines + 1
   pub line_read : x ≡ Ok Going → failed b.reader.input ≡ failed a.reader.input
   pub end_read : x ≡ Ok (Ended true) → failed b.reader.input ≡ failed a.reader.input
+  pub ahead : ¬ NoNewline a.reader.ahead → b.reader.input ≡ a.reader.input
   pub bounds : Bounded b.reader

@@ -1,4 +1,4 @@
-use Rattle.std.proofs.Common.{None, refl, ap}
+use Rattle.std.proofs.Common.{None, refl, ap, rules}
 use Rattle.std.specs.Prelude.{is_none, Option}
 use Rattle.sum_sources.specs.Contents.{Content}
 use Rattle.sum_sources.specs.Sources.{Telling}
@@ -47,3 +47,17 @@ returns-in-None-clause-gives g c =
     rw c.in-None.ensures.reader (find_refused (rules_in c.args.self.now.listing)
     (standing_of g.I.Input.content (place_of c.args.self.now) (seen first))
     (standing_of g.I.Input.content place (seen then)) c.next_line.new.line.items c.judge_line.new.line.items gives same)
+
+-- a line was read, and its judging left the reader alone
+pub returns-in-Some-clause-reads : goal.returns-in-Some-clause-reads
+returns-in-Some-clause-reads g c =
+    let read = c.in-Ok-Line.ensures in
+    rw c.in-Some.ensures.reader (record {
+      rules = c.in-Some.ensures.rules;
+      taken = read.taken;
+      number = search rules;
+      line_read = search rules;
+      end_read = search rules;
+      ahead = read.ahead;
+      bounds = read.bounds;
+    })
