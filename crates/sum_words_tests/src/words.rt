@@ -36,10 +36,14 @@ fn can_be_read(word: &[u8]) -> bool {
 #[test]
 fn words_are_any_texts(rt: HostRuntime) -> Result<(), Fail> {
     let words = words_of(rt.alloc(), " -z a\0b\n \u{e4}\u{20ac}")?;
-    for (i, want) in ["", "-z", "a\0b\n", "\u{e4}\u{20ac}"].iter().enumerate() {
-        assert_eq!(rt; word_at(&words, i), Some(want.as_bytes()));
+    for (i, want) in [
+        (0, Some(b"".as_slice())),
+        (2, Some(b"a\0b\n")),
+        (3, Some(b"\xc3\xa4\xe2\x82\xac")),
+        (4, None),
+    ] {
+        assert_eq!(rt; word_at(&words, i), want);
     }
-    assert_eq!(rt; word_at(&words, 4), None);
     assert_eq!(rt; word_at(&Words::new(rt.alloc()), 0), None);
     Ok(())
 }
