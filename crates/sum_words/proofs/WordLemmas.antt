@@ -40,7 +40,9 @@ dash_and_more (b ∷ c ∷ cs) h = (begins_with b (c ∷ cs) (and_parts _ _ h).0
 
 -- such a word that can be read is a text
 pub option_text : (word : List ℕ) → is_readable word ≡ true → is_option_word word ≡ true → IsUtf8 word
-option_text word reads dash = IsUtf8-from_is_utf8 word (rw dash at reads)
+option_text word reads dash =
+    let front : starts_with ◌==◌ word (codes "-") ≡ true = (and_parts _ _ dash).0 in
+    IsUtf8-from_is_utf8 word (rw front at reads)
 
 -- whether it is one, as the reading of a text answers
 pub is_ok-text : {E : Type 0} (word : List ℕ) (r : Result (Bor (List ℕ)) E) (P : E → Type 0)

@@ -22,7 +22,7 @@ tool_and_words all =
     let called = option_and_then (λ name. tool_called (last_part name)) (slice_get all 0) in
     if is_some called then (called, drop 1 all) else (option_and_then tool_called (slice_get all 1), drop 2 all)
 
--- nothing, where a word that begins with a dash and goes on is not UTF-8
+-- nothing, where a word that begins with a dash is not UTF-8
 abbrev pub command_line : List Text → Option Call
 command_line all = if list_all is_readable (drop 1 all)
     then Some (option_map_or (λ tool. call tool (tool_and_words all).1) (tool_and_words all).0 unknown) else None

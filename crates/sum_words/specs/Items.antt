@@ -106,13 +106,13 @@ abbrev pub cluster : Tool → List ℕ → ItemsAndNext
 cluster t [] = ([], a_word)
 cluster t (c ∷ cs) = letter_then c (option_of_letter t c) cs (cluster t cs)
 
+-- whether a word can be read: one that begins with a dash has to be UTF-8, any other may hold any bytes
+abbrev pub is_readable : Text → Bool
+is_readable word = not (starts_with ◌==◌ word (codes "-")) || is_utf8 word
+
 -- whether a word begins with a dash and goes on
 abbrev pub is_option_word : Text → Bool
 is_option_word word = starts_with ◌==◌ word (codes "-") && not (bytes_eq word (codes "-"))
-
--- whether a word can be read: one that begins so has to be UTF-8, any other may hold any bytes
-abbrev pub is_readable : Text → Bool
-is_readable word = not (is_option_word word) || is_utf8 word
 
 -- a long option behind "--"; or a cluster behind '-'; or an operand
 abbrev pub read_word : Tool → Text → ItemsAndNext

@@ -16,7 +16,7 @@ use std::env::FillError;
 /// How long an argument may be that is read without taking memory. A page costs a short run the least.
 pub(crate) const PAGE: usize = 4096;
 
-/// The words could not be read: one that begins with a dash and goes on isn't UTF-8, or memory was refused.
+/// The words could not be read: one that begins with a dash isn't UTF-8, or memory was refused.
 #[derive(Clone, Copy, Debug, PartialEq, Eq)]
 pub struct NotRead;
 
@@ -30,9 +30,8 @@ pub enum CommandLine<A: Allocator> {
 }
 
 /// Reads the command line. The last part of the name by which the program was called is the tool's, where it is one;
-/// else the first word is. `NotRead` where a word that begins with a dash and goes on isn't UTF-8, or where memory is
-/// refused. Memory is wanted only where a word stands behind the tool's name, known or not, or an argument is longer
-/// than a page.
+/// else the first word is. `NotRead` where a word that begins with a dash isn't UTF-8, or where memory is refused.
+/// Memory is wanted only where a word stands behind the tool's name, known or not, or an argument is longer than a page.
 pub fn read_command_line<A: Allocator + Copy, G: Arguments>(
     alloc: A,
     arguments: &G,

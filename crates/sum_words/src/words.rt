@@ -10,11 +10,11 @@ use std::alloc::Allocator;
 use std::marker::Model;
 pub use sum_sources::NoRoom;
 
-/// Whether a word can be read: one that begins with a dash and goes on has to be UTF-8, any other may hold any bytes.
+/// Whether a word can be read: one that begins with a dash has to be UTF-8, any other may hold any bytes.
 pub fn is_readable(word: &[u8]) -> bool
     ensures { result ≡ is_readable word.now }
 {
-    !is_option_word(word) || is_text(word)
+    !word.starts_with(b"-") || is_text(word)
 }
 
 fn is_text(word: &[u8]) -> bool
