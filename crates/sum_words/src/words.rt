@@ -70,7 +70,8 @@ impl<A: Allocator> Words<A> {
         self.add_bytes(word.as_bytes())
     }
 
-    /// Adds a word of any bytes that can be read. `NoRoom` where memory is refused; the list is then as it was.
+    /// Adds a word that can be read ([`is_readable`]) at the end. `NoRoom` where memory is refused; the list is then as
+    /// it was.
     pub fn add_bytes(&mut self, word: &[u8]) -> Result<(), NoRoom>
         requires { is_readable word.now ≡ true }
         ensures ok { OnOk result (self.new ≡ self.old ++ word.now ∷ []) }
