@@ -1,5 +1,6 @@
 """The rules of the words, read once more: what a command line asks for, and what it writes and answers for that."""
 
+import os
 import re
 from dataclasses import dataclass
 
@@ -17,7 +18,12 @@ class WordFault(Exception):
 
 def shown(text):
     """What was typed, as a fault shows it."""
-    return escape(text.encode()).decode()
+    return os.fsdecode(escape(os.fsencode(text)))
+
+
+def is_unreadable(word):
+    """Whether a word begins with a dash, goes on, and isn't UTF-8."""
+    return len(word) > 1 and word[0] == "-" and re.search("[\ud800-\udfff]", word) is not None
 
 
 class Words:
@@ -159,7 +165,10 @@ def help_text(tool):
 
 
 def meaning(tool, words, stdin):
-    """What a command line writes and answers, with this on standard input."""
+    """What a command line writes and answers, with this on standard input. In a word that isn't UTF-8 a byte is one of
+    Python's lone surrogates."""
+    if any(map(is_unreadable, words)):
+        return Ran(1, b"", b"digests: words not read\n")
     read = Words(tool, words)
     try:
         if isinstance(read.decided, WordFault):
@@ -170,7 +179,7 @@ def meaning(tool, words, stdin):
             return Ran(0, f"{tool} (digests), profile 2\n".encode(), b"")
         options = options_of(read)
     except WordFault as fault:
-        return Ran(1, b"", f"{tool}: {fault}\nTry '{tool} --help' for more information.\n".encode())
-    names = [operand.encode() for operand in read.operands] or [b"-"]
+        return Ran(1, b"", os.fsencode(f"{tool}: {fault}\nTry '{tool} --help' for more information.\n"))
+    names = [os.fsencode(operand) for operand in read.operands] or [b"-"]
     does = checked if "check" in read.options else generated
     return does(tool, options, names, World(stdin))

@@ -26,7 +26,7 @@ class Launcher(Repository):
         self.write("two  words *", "abc")
         ran = self.script("digests", "md5sum", "two  words *", "", "-", stdin=b"abc")
         self.assertEqual(ran, Ran(1, f"{M}  two  words *\n{M}  -\n".encode(), b"md5sum: : No such file or directory\n"))
-        self.assertEqual(self.script("digests", "md5sum", b"\xff"), Ran(1, b"", b"digests: words not read\n"))
+        self.assertEqual(self.script("digests", "md5sum", b"\xff"), Ran(1, b"", b"md5sum: \xff: Input/output error\n"))
         self.assertEqual(self.read(self.notes), b"")
 
     def test_bytes_pass_unchanged(self):

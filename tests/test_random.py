@@ -21,6 +21,7 @@ WORDS = """-b -c -t -z -w -bz -cw -cq -zl -bl256 -l -l8 -l256 -é --tag --check 
     --quiet --status --strict --warn --help --version --length --length=8 --len --le --l --s --st --sta --str --t --te
     --ta --c --z --w --q --i --b --bin --v --ver --h --he --=x --foo --foo=1 --tag= --tag=1 --help=1 --\\ -- - 256 0
     512 520 12 0256 +8 ٣ a e x folder manifest""".split() + ["", "9" * 50, "0" * 30 + "8", "-b\n", "--a\nb", "q\\\nz"]
+WORDS += ["\udcff", "r\udce9\n", "-\udcff"]  # which aren't UTF-8
 
 
 class AtRandom(Case):

@@ -57,7 +57,7 @@ class Recipes(Typed):
                     ran = self.fails(recipe, shell)
                     self.assertFalse(self.is_there("SUMS"), recipe)
                     if sort.startswith("list"):
-                        self.assertIn(b"digests: words not read\n", ran.err)
+                        self.assertIn(b": ./bad\xff: Input/output error\n", ran.err)
                 else:
                     self.passes(recipe, self.report(sort, "OK") if sort.startswith("check") else b"", shell)
 

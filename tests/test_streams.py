@@ -118,7 +118,7 @@ class Outputs(Case):
     def test_standard_error_full(self):
         with self.full() as full:
             self.expect("md5sum a x e", out=[f"{M}  a"], status=1, stderr=full)
-            for words in ("md5sum --foo", "shasum", ["md5sum", b"\xff"]):
+            for words in ("md5sum --foo", "shasum", ["md5sum", b"-\xff"]):
                 self.expect(words, status=1, stderr=full)
             self.expect("md5sum a", out=[f"{M}  a"], stderr=full)
 

@@ -129,10 +129,10 @@ class OneWriteALine(Packets):
                 self.expect_packets(["md5sum", *words], err=[lines], status=1)
 
     def test_the_programs_own_lines(self):
-        """An unknown tool, words that are no texts, and a write error are one write each."""
+        """An unknown tool, words that aren't read, and a write error are one write each."""
         self.expect_packets("shasum", err=["digests: unknown tool\n"], status=1)
         self.expect_packets([], err=["digests: unknown tool\n"], status=1)
-        self.expect_packets(["md5sum", b"\xff"], err=["digests: words not read\n"], status=1)
+        self.expect_packets(["md5sum", b"-\xff"], err=["digests: words not read\n"], status=1)
         with self.full() as full:
             self.expect_packets("md5sum a", err=[WRITE_ERROR], status=1, stdout=full)
 

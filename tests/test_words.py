@@ -49,17 +49,6 @@ class ToolNames(Case):
         self.assertEqual(self.run_command(["./other", "md5sum", "a"]), (0, f"{M}  a\n".encode(), b""))
         self.assertEqual(self.run_command(["./other", "a"]), (1, b"", b"digests: unknown tool\n"))
 
-    def test_words_that_are_no_texts(self):
-        for words in ([b"\xff"], ["md5sum", b"\xff"], ["md5sum", "a", b"b\xc3"], ["md5sum", "--help", b"\x80"],
-                      ["md5sum", b"\xed\xa0\x80"], ["md5sum", b"\xc0\xaf"], ["shasum", b"\xff"]):
-            with self.subTest(words=words):
-                self.write(b"\xff", "abc")
-                self.expect(words, err=["digests: words not read"], status=1)
-
-    def test_called_by_a_link_with_words_that_are_no_texts(self):
-        os.symlink(harness.PROGRAM, self.path("md5sum"))
-        self.assertEqual(self.run_command(["./md5sum", "a", b"\xff"]), (1, b"", b"digests: words not read\n"))
-
 
 class Texts(Case):
     """Help and version."""

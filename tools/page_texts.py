@@ -118,7 +118,7 @@ DIAGNOSTICS = {
     "{FILE}: Permission denied": "It may not be read. The other files are still read.",
     "{FILE}: Input/output error": "It can't be read for another reason. Most often it is a directory. Among other "
                                   "reasons are links that lead in a circle, a name that is too long, a name below a "
-                                  "file that is no directory, a name in a manifest that isn't UTF-8, a socket, "
+                                  "file that is no directory, a name that isn't UTF-8, a socket, "
                                   "standard input that is closed, or that has nothing ready and is set not to wait, "
                                   "and a device that fails. The other files are still read.",
     "{FILE}: {N}: improperly formatted {TAG} checksum line": "With `--warn`: line number {N} of the manifest.",
@@ -134,9 +134,9 @@ DIAGNOSTICS = {
 }
 
 LIMITS = (
-    "A word of the command line that isn't UTF-8, or that there is no memory for, can't be read: the answer is "
-    "`digests: words not read` alone, and no file of that call is read. A name in a manifest that isn't UTF-8 can't be "
-    "opened.",
+    "A file whose name isn't UTF-8 can't be opened; the others are read. A word that begins with a dash and isn't "
+    "UTF-8, also behind `--`, or one that there is no memory for, can't be read: the answer is `digests: words not "
+    "read` alone, and no file of that call is read.",
     "Lines that were written with `--zero` can't be checked: most are improperly formatted. But where a name holds a "
     "newline, what stands before that may be read as a line, and what follows, with the files behind it, is passed "
     "over where it begins with `#`: the status may then be 0, even with `--strict`.",
@@ -229,8 +229,8 @@ RECIPES_OF_FOLDERS = (
      "find . -type f ! -path ./SUMS ! -path ./SUMS.new -print0 |",
      "    xargs -0 -r -n 32 -P \"$(nproc)\" {writes} > SUMS.new) &&",
      "    [ -s SUMS.new ] && mv -T SUMS.new SUMS"),
-    ("A name that isn't UTF-8 stops the whole call that it was given to: no file of that call is read. Then both "
-     "recipes above fail. This one shows such names, each with a byte 0 behind it. Its status is 0 where it shows "
+    ("A file whose name isn't UTF-8 can't be opened. The others are read, but both recipes above fail, and leave no "
+     "list. This one shows such names, each with a byte 0 behind it. Its status is 0 where it shows "
      "one, and else 1: of a folder that may not be read, `find`(1) alone tells. The locale `C.UTF-8` has to be there: "
      "without it, none is found. Such a file can be renamed, or read as standard input.",
      "find . -type f -print0 | LC_ALL=C.UTF-8 grep -zavx '.*'"),
@@ -327,7 +327,7 @@ PROGRAM_CHECKING = "`--check` is an option of every tool; its page says what is 
 
 PROGRAM_DIAGNOSTICS = {
     "digests: unknown tool": "Neither the name that it was called by nor the first word is a tool's.",
-    "digests: words not read": "A word isn't UTF-8, or there is no memory for the words.",
+    "digests: words not read": "A word that begins with a dash isn't UTF-8, or there is no memory for the words.",
     "this machine lacks a feature of x86-64-v3": "And the like: the program was built for later processors.",
 }
 

@@ -128,6 +128,6 @@ program_read n m f g a b status (Some arguments) c is h =
 pub program_unread : (n m : ℕ) (f g : FailureCounts) (a b : Option RunState) (status : ℕ) (told : Option (List Text))
     → MayBeUnread told → EndsGives None n m f g a b status → ProgramGives told n m f g a b status
 program_unread n m f g a b status None is h = tt
-program_unread n m f g a b status (Some arguments) (inl no_text) h =
-    inl (subst (λ line. EndsGives line n m f g a b status) (sym no_text) h)
+program_unread n m f g a b status (Some arguments) (inl none) h =
+    inl (subst (λ line. EndsGives line n m f g a b status) (sym none) h)
 program_unread n m f g a b status (Some arguments) (inr memory) h = inr (memory, h)

@@ -18,11 +18,11 @@ use sum_words::{Arguments, CommandLine, NotRead, Tool, put_unknown, read_command
 /// help and the two lines of a fault as one, is handed on as soon as it is complete. Where the run didn't stop, both
 /// outputs are flushed once more at the end.
 ///
-/// Where a word isn't UTF-8, it writes `digests: words not read` to standard error, and the status is 1. Otherwise that
-/// comes only where memory is needed for the arguments. Where there is no such tool, it writes `digests: unknown tool`,
-/// and the status is 1. After a stop of a tool's run, or where that last flush fails, it writes
-/// `TOOL: memory exhausted` or `TOOL: write error`, as far as standard error takes it, and the status is 1. What the
-/// clauses say of bytes holds of outputs that hold nothing when they are lent.
+/// Where a word that begins with a dash isn't UTF-8, it writes `digests: words not read` to standard error, and the
+/// status is 1. Otherwise that comes only where memory is needed for the arguments. Where there is no such tool, it
+/// writes `digests: unknown tool`, and the status is 1. After a stop of a tool's run, or where that last flush fails,
+/// it writes `TOOL: memory exhausted` or `TOOL: write error`, as far as standard error takes it, and the status is 1.
+/// What the clauses say of bytes holds of outputs that hold nothing when they are lent.
 pub fn command<A: Allocator + Copy, G: Arguments, I: Input + Drop, S: Source, O: Sink, E: Sink>(
     alloc: A,
     arguments: &G,

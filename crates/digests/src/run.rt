@@ -5,7 +5,7 @@ ghost use Rattle.sum_engine.specs.refinement.Telling.{Tells, Fails};
 ghost use Rattle.sum_words.specs.Faults.{Fault};
 ghost use Rattle.sum_words.specs.Texts.{fault_lines, help, version};
 ghost use Rattle.sum_words.specs.Tools.{name_of};
-ghost use Rattle.sum_words.specs.refinement.ItemIterator.{TakesFirst, fault_of};
+ghost use Rattle.sum_words.specs.refinement.ItemIterator.{fault_of};
 ghost use Rattle.sum_words.specs.refinement.Request.{result_of};
 ghost use Rattle.sum_words.specs.Request.{request};
 ghost use Rattle.digests.specs.Meaning.{all_of, answer_run, one_of, or_dash, meaning, status_of};
@@ -126,21 +126,11 @@ fn one<A: Allocator + Copy, I: Input + Drop, S: Source, O: Sink, E: Sink>(
     }
 }
 
-// The first operand that is left.
-fn next_name<'a>(operands: &mut Operands<'a>) -> Option<&'a [u8]>
-    ensures { TakesFirst (λ name. name.now) operands.old result operands.new }
-{
-    match operands.next() {
-        Some(name) => Some(name.as_bytes()),
-        None => None,
-    }
-}
-
 // The first of all operands; `-` where there is none.
 fn first_name<'a>(operands: &mut Operands<'a>) -> &'a [u8]
     ensures { or_dash operands.old ≡ result.now ∷ operands.new }
 {
-    match next_name(operands) {
+    match operands.next() {
         Some(name) => name,
         None => b"-",
     }
@@ -171,7 +161,7 @@ fn each<A: Allocator + Copy, I: Input + Drop, S: Source, O: Sink, E: Sink>(
             Ok(this) => good = good && this,
             Err(stop) => return Err(stop),
         }
-        match next_name(&mut operands) {
+        match operands.next() {
             Some(next) => name = next,
             None => return Ok(status(good)),
         }

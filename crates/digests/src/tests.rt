@@ -4,6 +4,7 @@ mod flushing;
 mod generating;
 mod growths;
 mod hostile;
+mod odd_names;
 mod program;
 mod words;
 

@@ -1,16 +1,14 @@
 -- The command line by its list of arguments.
-use Rattle.std.proofs.Common.{ℕ, ◌≡◌, ◌+◌, ◌-◌, ◌<◌, ◌≤◌, not, ◌==◌, zero, suc, List, [], ◌∷◌, length, drop, Some, None, refl, ap, sym, ◌∙◌, arith, inl}
+use Rattle.std.proofs.Common.{ℕ, ◌≡◌, ◌+◌, ◌-◌, ◌<◌, ◌≤◌, true, false, not, ◌==◌, zero, suc, List, [], ◌∷◌, length, drop, Some, None, refl, ap, sym, ◌∙◌, arith, inl}
 use Rattle.std.proofs.lemmas.List.Sums.{suffix_len_is}
 use Rattle.std.proofs.lemmas.Bool.{not_from_false, not_from_true, false_from_ne_true}
 use Rattle.std.specs.List.{suffix_len}
 use Rattle.std.specs.Prelude.{slice_get, Option, ◌++◌}
-use Rattle.std.specs.Str.{IsUtf8, is_utf8}
-use Rattle.std.proofs.lemmas.Str.{is_utf8-from_IsUtf8, IsUtf8-from_is_utf8}
 use Rattle.std.proofs.lemmas.Option.{slice_get_within, IfSome_then}
 use Rattle.std.proofs.lemmas.List.{append-nil, append_assoc}
 use Rattle.std.proofs.lemmas.List.Folds.{list_all-append}
 use Rattle.sum_words.specs.declared.tool.Tool.{Tool}
-use Rattle.sum_words.specs.Items.{Text}
+use Rattle.sum_words.specs.Items.{Text, is_readable}
 use Rattle.sum_words.specs.Tools.{tool_called}
 use Rattle.memchr.specs.Find.{Passes, Nowhere, is_byte}
 use Rattle.sum_words.specs.CommandLines.{last_part}
@@ -53,27 +51,26 @@ there_is told first place word h le =
 
 -- the tool by the first word
 pub first_is : (told : Option (List Text)) (word : Text) (tool : Option Tool)
-    → ArgumentIs told 1 (Some word) → IsUtf8 word → tool ≡ tool_called word → IsFirstWord told tool
-first_is told word tool h text is = IfSome_then told h (λ all at.
-    (rw at is, rw (drop_at_some all 1 at, is_utf8-from_IsUtf8 word text) refl))
+    → ArgumentIs told 1 (Some word) → true ≡ is_readable word → tool ≡ tool_called word → IsFirstWord told tool
+first_is told word tool h reads is = IfSome_then told h (λ all at.
+    (rw at is, rw (drop_at_some all 1 at, ← reads) refl))
 
--- the first word, which is no text
+-- the first word, which can't be read
 pub bad_first_is : (told : Option (List Text)) (word : Text)
-    → ArgumentIs told 1 (Some word) → (IsUtf8 word → ⊥) → IsBadFirstWord told
-bad_first_is told word h bad = IfSome_then told h (λ all at.
-    inl (rw (drop_at_some all 1 at, false_from_ne_true _ (λ text. bad (IsUtf8-from_is_utf8 word text))) refl))
+    → ArgumentIs told 1 (Some word) → false ≡ is_readable word → IsBadFirstWord told
+bad_first_is told word h bad = IfSome_then told h (λ all at. inl (rw (drop_at_some all 1 at, ← bad) refl))
 
 -- ---- the words, one after another
 
 -- one more word was read
 pub words_more : (told : Option (List Text)) (first place : ℕ) (words : List Text) (word : Text)
-    → WordsUpTo told first place words → ArgumentIs told place (Some word) → IsUtf8 word
+    → WordsUpTo told first place words → ArgumentIs told place (Some word) → true ≡ is_readable word
     → WordsUpTo told first (place + 1) (words ++ word ∷ [])
-words_more None first place words word w h text = tt
-words_more (Some all) first place words word w h text =
+words_more None first place words word w h reads = tt
+words_more (Some all) first place words word w h reads =
     let next : drop place all ≡ word ∷ drop (place + 1) all = drop_at_some all place h in (
       w.0 ∙ rw (next, ← append_assoc words (word ∷ []) (drop (place + 1) all)) refl,
-      rw (list_all-append is_utf8 words (word ∷ []), w.1, is_utf8-from_IsUtf8 word text) refl,
+      rw (list_all-append is_readable words (word ∷ []), w.1, ← reads) refl,
     )
 
 -- all words were read

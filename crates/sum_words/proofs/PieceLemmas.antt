@@ -1,72 +1,106 @@
--- A text cut into pieces: one more piece, and the piece at a place.
-use Rattle.std.proofs.Common.{◌≡◌, ℕ, zero, suc, ◌-◌, ◌<◌, ◌≤◌, List, [], ◌∷◌, ◌++◌, length, take, drop, get_or, Some, refl, ap, sym, arith, length-append, length-drop, inl, inr, slice_get, true, ltb}
-use Rattle.std.specs.Str.{IsCharBoundary, IsUtf8}
-use Rattle.std.proofs.lemmas.Str.{IsCharBoundary-end, IsCharBoundary-start, IsCharBoundary-at_seam}
-use Rattle.std.proofs.lemmas.List.{take-append-le, drop-append-le, get_or_append_left}
-use Rattle.std.proofs.lemmas.Bool.{cases_lt, ltb-true}
+-- Bytes cut into pieces: one more piece, and the piece at a place.
+use Rattle.std.proofs.Common.{◌≡◌, ℕ, zero, suc, ◌-◌, ◌<◌, ◌≤◌, List, [], ◌∷◌, ◌++◌, length, take, drop, get_or, Option, None, Some, IfSome, refl, ap, sym, arith, length-append, length-drop, slice_get, true, ltb}
+use denote.Ref.{Bor}
+use Rattle.std.specs.List.{list_all}
+use Rattle.std.specs.Option.{option_copied}
+use Rattle.std.specs.Str.{IsUtf8}
+use Rattle.std.proofs.lemmas.Str.{is_utf8-from_IsUtf8}
+use Rattle.std.proofs.lemmas.List.{take-append-le, drop-append-le}
+use Rattle.std.proofs.lemmas.List.Folds.{list_all-append}
+use Rattle.std.proofs.lemmas.Bool.{ltb-true, and_parts}
+use Rattle.std.proofs.Math.Bool.{or-true}
 use Rattle.std.proofs.Math.Seq.{drop-append_seam, take-length}
-use Rattle.sum_words.specs.refinement.Pieces.{texts_cut, CutsAt}
+use Rattle.sum_words.specs.Items.{Text, is_readable}
+use Rattle.sum_words.specs.refinement.Pieces.{pieces_cut, CutsAt, AreWords}
 
--- a place at which a text may be cut stays one when valid text is added
-boundary_longer : (text word : List ℕ) (i : ℕ) → IsUtf8 word → IsCharBoundary text i → IsCharBoundary (text ++ word) i
-boundary_longer text word i valid cut = elim (cases_lt i (length text)) [
-  | inl inside ↦
-      let fits : i ≤ length (text ++ word) = omega (arith, length-append text word) in
-      (fits, λ _. rw (get_or_append_left text word 0 i inside) (λ high. cut.1 inside high))
-  | inr past ↦
-      let end : i ≡ length text = omega (arith, cut.0) in
-      rw end (IsCharBoundary-at_seam (text ++ word) text word refl valid)
-]
+-- ---- what can be read
 
--- one more word, with its end, still cuts the text
-pub CutsAt-push : (text word : List ℕ) (from : ℕ) (ends : List ℕ) → IsUtf8 word → CutsAt text from ends
-    → CutsAt (text ++ word) from (ends ++ length (text ++ word) ∷ [])
-CutsAt-push text word from [] valid cuts =
-    (omega (arith, cuts, length-append text word), IsCharBoundary-end (text ++ word), refl)
-CutsAt-push text word from (end ∷ ends) valid cuts =
-    (cuts.0, boundary_longer text word end valid cuts.1, CutsAt-push text word end ends valid cuts.2)
+-- a text can be read
+pub readable_text : (word : Text) → IsUtf8 word → is_readable word ≡ true
+readable_text word valid = rw (is_utf8-from_IsUtf8 word valid) (or-true _)
+
+-- where all words can be read, the one at a place can
+readable_of : (words : List Text) (i : ℕ) (word : Text) → list_all is_readable words ≡ true
+    → slice_get words i ≡ Some word → is_readable word ≡ true
+readable_of [] i word all at = cc
+readable_of (w ∷ ws) zero word all at =
+    let same : w ≡ word = cc in rw same at (and_parts (is_readable w) (list_all is_readable ws) all).0
+readable_of (w ∷ ws) (suc i) word all at =
+    readable_of ws i word (and_parts (is_readable w) (list_all is_readable ws) all).1 at
+
+-- the same of what is lent
+pub readable_at : (words : List Text) (i : ℕ) (r : Option (Bor Text)) → list_all is_readable words ≡ true
+    → option_copied r ≡ slice_get words i → IfSome r (λ word. is_readable word.now ≡ true)
+readable_at words i None all at = tt
+readable_at words i (Some word) all at = readable_of words i word.now all (sym at)
+
+-- ---- pieces
+
+-- one more word, with its end, still cuts the bytes
+CutsAt-push : (bytes word : List ℕ) (from : ℕ) (ends : List ℕ) → CutsAt bytes from ends
+    → CutsAt (bytes ++ word) from (ends ++ length (bytes ++ word) ∷ [])
+CutsAt-push bytes word from [] cuts = (omega (arith, cuts, length-append bytes word), refl)
+CutsAt-push bytes word from (end ∷ ends) cuts = (cuts.0, CutsAt-push bytes word end ends cuts.1)
+
+-- the places go on from one to the next, up to the end of the bytes
+CutsAt-within : (bytes : List ℕ) (from : ℕ) (ends : List ℕ) → CutsAt bytes from ends → from ≤ length bytes
+CutsAt-within bytes from [] cuts = omega (arith, cuts)
+CutsAt-within bytes from (end ∷ ends) cuts = omega (arith, cuts.0, CutsAt-within bytes end ends cuts.1)
 
 -- and that word is the last piece
-pub texts_cut-push : (text word : List ℕ) (from : ℕ) (ends : List ℕ) → CutsAt text from ends
-    → texts_cut (text ++ word) from (ends ++ length (text ++ word) ∷ []) ≡ texts_cut text from ends ++ word ∷ []
-texts_cut-push text word from [] cuts =
-    let rest : drop from (text ++ word) ≡ word = rw cuts (drop-append_seam text word) in
-    let size : length (text ++ word) - from ≡ length word = omega (arith, cuts, length-append text word) in
+pub pieces_cut-push : (bytes word : List ℕ) (from : ℕ) (ends : List ℕ) → CutsAt bytes from ends
+    → pieces_cut (bytes ++ word) from (ends ++ length (bytes ++ word) ∷ []) ≡ pieces_cut bytes from ends ++ word ∷ []
+pieces_cut-push bytes word from [] cuts =
+    let rest : drop from (bytes ++ word) ≡ word = rw cuts (drop-append_seam bytes word) in
+    let size : length (bytes ++ word) - from ≡ length word = omega (arith, cuts, length-append bytes word) in
     ap (λ w. w ∷ []) (rw (rest, size) (take-length word))
-texts_cut-push text word from (end ∷ ends) cuts =
-    let fits : from ≤ length text = omega (arith, cuts.0, cuts.1.0) in
-    let first : take (end - from) (drop from (text ++ word)) ≡ take (end - from) (drop from text) =
-    rw (drop-append-le from text word fits)
-    (take-append-le (end - from) (drop from text) word (omega (arith, length-drop from text, cuts.1.0))) in
-    rw (first, texts_cut-push text word end ends cuts.2) refl
+pieces_cut-push bytes word from (end ∷ ends) cuts =
+    let past : end ≤ length bytes = CutsAt-within bytes end ends cuts.1 in
+    let fits : from ≤ length bytes = omega (arith, cuts.0, past) in
+    let first : take (end - from) (drop from (bytes ++ word)) ≡ take (end - from) (drop from bytes) =
+    rw (drop-append-le from bytes word fits)
+    (take-append-le (end - from) (drop from bytes) word (omega (arith, length-drop from bytes, past))) in
+    rw (first, pieces_cut-push bytes word end ends cuts.1) refl
+
+-- so a word more that can be read makes words
+pub AreWords-push : (bytes word ends : List ℕ) → is_readable word ≡ true → AreWords bytes ends
+    → AreWords (bytes ++ word) (ends ++ length (bytes ++ word) ∷ [])
+AreWords-push bytes word ends reads words = record {
+  cuts = CutsAt-push bytes word 0 ends words.cuts;
+  readable = rw (
+    pieces_cut-push bytes word 0 ends words.cuts,
+    list_all-append is_readable (pieces_cut bytes 0 ends) (word ∷ []),
+    words.readable,
+    reads,
+  ) refl;
+}
 
 -- there are as many pieces as places
-pub texts_cut-length : (text : List ℕ) (from : ℕ) (ends : List ℕ) → length (texts_cut text from ends) ≡ length ends
-texts_cut-length text from [] = refl
-texts_cut-length text from (end ∷ ends) = ap suc (texts_cut-length text end ends)
+pub pieces_cut-length : (bytes : List ℕ) (from : ℕ) (ends : List ℕ)
+    → length (pieces_cut bytes from ends) ≡ length ends
+pieces_cut-length bytes from [] = refl
+pieces_cut-length bytes from (end ∷ ends) = ap suc (pieces_cut-length bytes end ends)
 
--- where the piece at a place is cut out of the text
-pub record PieceAt (text : List ℕ) (words : List (List ℕ)) (i start end : ℕ) : Type 0 where
+-- where the piece at a place is cut out of the bytes
+pub record PieceAt (bytes : List ℕ) (words : List Text) (i start end : ℕ) : Type 0 where
   pub order : start ≤ end
-  pub start_cuts : IsCharBoundary text start
-  pub end_cuts : IsCharBoundary text end
-  pub piece : slice_get words i ≡ Some (take (end - start) (drop start text))
+  pub within : end ≤ length bytes
+  pub piece : slice_get words i ≡ Some (take (end - start) (drop start bytes))
 
 -- the piece at a place, from the place before it on
-piece_at : (text : List ℕ) (from : ℕ) (ends : List ℕ) (i d : ℕ) → CutsAt text from ends → IsCharBoundary text from
-    → i < length ends → PieceAt text (texts_cut text from ends) i (get_or (from ∷ ends) i 0) (get_or ends i d)
-piece_at text from [] i d cuts here less = absurd (omega (arith, less))
-piece_at text from (end ∷ ends) zero d cuts here less =
-    record { order = cuts.0; start_cuts = here; end_cuts = cuts.1; piece = refl }
-piece_at text from (end ∷ ends) (suc i) d cuts here less =
-    let p : PieceAt text (texts_cut text end ends) i (get_or (end ∷ ends) i 0) (get_or ends i d) =
-    piece_at text end ends i d cuts.2 cuts.1 (omega (arith, less)) in
-    record { order = p.order; start_cuts = p.start_cuts; end_cuts = p.end_cuts; piece = p.piece }
+piece_at : (bytes : List ℕ) (from : ℕ) (ends : List ℕ) (i d : ℕ) → CutsAt bytes from ends → i < length ends
+    → PieceAt bytes (pieces_cut bytes from ends) i (get_or (from ∷ ends) i 0) (get_or ends i d)
+piece_at bytes from [] i d cuts less = absurd (omega (arith, less))
+piece_at bytes from (end ∷ ends) zero d cuts less =
+    record { order = cuts.0; within = CutsAt-within bytes end ends cuts.1; piece = refl }
+piece_at bytes from (end ∷ ends) (suc i) d cuts less =
+    let p : PieceAt bytes (pieces_cut bytes end ends) i (get_or (end ∷ ends) i 0) (get_or ends i d) =
+    piece_at bytes end ends i d cuts.1 (omega (arith, less)) in
+    record { order = p.order; within = p.within; piece = p.piece }
 
 -- the same where the places were read out of the list
-pub piece_read : {start end : ℕ} (text ends : List ℕ) (i : ℕ) → start ≡ get_or (0 ∷ ends) i 0
-    → true ≡ ltb i (length ends) → end ≡ get_or ends i end → CutsAt text 0 ends → IsUtf8 text
-    → PieceAt text (texts_cut text 0 ends) i start end
-piece_read {end = end} text ends i start_is inside end_is cuts valid =
-    rw (start_is, end_is)
-    (piece_at text 0 ends i end cuts (IsCharBoundary-start text valid) (ltb-true _ _ (sym inside)))
+pub piece_read : {start end : ℕ} (bytes ends : List ℕ) (i : ℕ) → start ≡ get_or (0 ∷ ends) i 0
+    → true ≡ ltb i (length ends) → end ≡ get_or ends i end → CutsAt bytes 0 ends
+    → PieceAt bytes (pieces_cut bytes 0 ends) i start end
+piece_read {end = end} bytes ends i start_is inside end_is cuts =
+    rw (start_is, end_is) (piece_at bytes 0 ends i end cuts (ltb-true _ _ (sym inside)))

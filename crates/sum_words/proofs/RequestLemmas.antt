@@ -1,11 +1,12 @@
 -- The options read so far, and the number of a length value.
-use Rattle.std.proofs.Common.{◌≡◌, ◌≢◌, ℕ, ◌<◌, ◌^◌, true, List, [], ◌∷◌, length, Option, None, Some, Result, Ok, Err, refl, arith, inl, inr}
+use Rattle.std.proofs.Common.{◌≡◌, ◌≢◌, ℕ, zero, suc, get_or, ◌<◌, ◌^◌, true, List, [], ◌∷◌, length, Option, None, Some, Result, Ok, Err, refl, arith, inl, inr}
 use Rattle.std.specs.List.{last_or}
 use Rattle.std.specs.Option.{option_map, option_map_or, option_transpose}
 use Rattle.std.specs.Result.{result_ok, result_map_both, OkIff}
-use Rattle.std.specs.Str.{all_ascii_digits}
+use Rattle.std.specs.Str.{IsUtf8, all_ascii_digits}
 use Rattle.std.specs.Str.Parse.{ParsesUnsigned, digits_value}
 use Rattle.std.proofs.lemmas.Bool.{cases_lt}
+use Rattle.std.proofs.lemmas.Str.{IsUtf8-from_ascii}
 use Rattle.std.proofs.lemmas.Str.Parse.{IsNumeralModel, numerals_by_value, tells_all_ascii_digits, parse_digits}
 use Rattle.sum_words.specs.declared.options.Flag.{Flag}
 use Rattle.sum_words.specs.declared.options.Flag.TheVariants as flags
@@ -43,6 +44,15 @@ request_is t words none last asked holds job = rw (none, ← last, ← asked, �
 pub not_some : {X : Type 0} (o : Option X) → ((x : X) → o ≡ Some x → ⊥) → o ≡ None
 not_some None h = refl
 not_some (Some x) h = absurd (h x refl)
+
+-- digits are a text
+digits_ascii : (value : Text) → all_ascii_digits value ≡ true → (i : ℕ) → get_or value i 0 < 128
+digits_ascii [] digits i = omega arith
+digits_ascii (b ∷ bs) digits zero = omega (arith, (tells_all_ascii_digits.parts b bs digits).0)
+digits_ascii (b ∷ bs) digits (suc i) = digits_ascii bs (tells_all_ascii_digits.parts b bs digits).1 i
+
+pub digits_text : (value : Text) → all_ascii_digits value ≡ true → IsUtf8 value
+digits_text value digits = IsUtf8-from_ascii value (digits_ascii value digits)
 
 -- what parsing says of a text of digits
 numerals : IsNumeralModel (λ ds. all_ascii_digits ds ≡ true) (digits_value 10)

@@ -1,16 +1,16 @@
 -- Cuts of one word.
-use Rattle.std.proofs.Common.{◌≡◌, ◌==◌, ◌≢◌, ℕ, ◌+◌, true, false, List, [], ◌∷◌, ◌++◌, codes, length, drop, Option, None, Some, refl, ap, sym, ◌∙◌, eqb, MatchOption}
+use Rattle.std.proofs.Common.{◌≡◌, ◌==◌, ◌≢◌, ℕ, ◌+◌, ◌<◌, true, false, List, [], ◌∷◌, ◌++◌, codes, length, drop, get_or, Option, None, Some, Result, Ok, Err, is_ok, refl, ap, sym, ◌∙◌, eqb, MatchOption, MatchResult, arith}
 use denote.Ref.{Bor}
 use Rattle.std.specs.List.{starts_with}
-use Rattle.std.specs.Str.{chars, encode_utf8_all, IsUtf8}
+use Rattle.std.specs.Str.{chars, encode_utf8_all, IsUtf8, is_utf8}
 use Rattle.std.specs.Char.{encode_utf8}
 use Rattle.std.specs.Str.Pattern.{FindsTextPrefix}
 use Rattle.std.proofs.lemmas.Str.Pattern.{starts_text}
-use Rattle.std.proofs.lemmas.Str.{chars-nil, chars_past_char, encodes-chars}
+use Rattle.std.proofs.lemmas.Str.{chars-nil, chars_past_char, encodes-chars, IsUtf8-from_is_utf8, is_utf8-from_IsUtf8}
 use Rattle.std.proofs.lemmas.List.{nil_from_length}
-use Rattle.std.proofs.lemmas.Bool.{eqb-true}
+use Rattle.std.proofs.lemmas.Bool.{eqb-true, and_parts, false_from_ne_true}
 use Rattle.std.proofs.Math.Bool.{and-true}
-use Rattle.sum_words.specs.Items.{attached_value, a_value, a_word, length_value, is_cluster}
+use Rattle.sum_words.specs.Items.{attached_value, a_value, a_word, length_value, is_option_word, is_readable}
 use Rattle.sum_words.specs.refinement.ItemIterator.{IsBehind}
 
 -- what stands behind a prefix of a text, as the search for a prefix gives it
@@ -31,31 +31,24 @@ first_char {bs = bs} {ys = ys} c valid same rest first = rw rest (chars_past_cha
 begins_with : (b : ℕ) (bs : List ℕ) → starts_with ◌==◌ (b ∷ bs) (codes "-") ≡ true → b ≡ 45
 begins_with b bs h = sym (eqb-true 45 b (sym (and-true (eqb 45 b)) ∙ h))
 
--- a dash alone is no cluster
-dash_alone : (word rest : List ℕ) → IsBehind (codes "-") word rest → rest ≡ [] → is_cluster word ≡ false
-dash_alone [] rest h none = refl
-dash_alone (b ∷ bs) rest h none = rw (begins_with b bs h.0, sym h.1 ∙ none) refl
+-- what begins with a dash and goes on: a dash, and something behind it
+pub dash_and_more : (word : List ℕ) → is_option_word word ≡ true → (get_or word 0 0 ≡ 45) × (1 < length word)
+dash_and_more [] h = let no : false ≡ true = h in cc
+dash_and_more (b ∷ []) h =
+    let dash = begins_with b [] (and_parts _ _ h).0 in let no : false ≡ true = rw dash at h in cc
+dash_and_more (b ∷ c ∷ cs) h = (begins_with b (c ∷ cs) (and_parts _ _ h).0, omega arith)
 
--- a dash with letters behind it is one
-some_letters : (bs : List ℕ) (c : ℕ) (cs : List ℕ) → chars bs ≡ c ∷ cs → is_cluster (45 ∷ bs) ≡ true
-some_letters [] c cs some = let none : [] ≡ c ∷ cs = sym chars-nil ∙ some in cc
-some_letters (b ∷ bs) c cs some = refl
+-- such a word that can be read is a text
+pub option_text : (word : List ℕ) → is_readable word ≡ true → is_option_word word ≡ true → IsUtf8 word
+option_text word reads dash =
+    let front : starts_with ◌==◌ word (codes "-") ≡ true = (and_parts _ _ dash).0 in
+    IsUtf8-from_is_utf8 word (rw front at reads)
 
--- and these are its letters
-dash_and_letters : (word rest : List ℕ) (c : ℕ) (cs : List ℕ) → IsBehind (codes "-") word rest
-    → chars rest ≡ c ∷ cs → (is_cluster word ≡ true) × (chars (drop 1 word) ≡ c ∷ cs)
-dash_and_letters [] rest c cs h some = let no : false ≡ true = h.0 in cc
-dash_and_letters (b ∷ bs) rest c cs h some =
-    let letters : chars bs ≡ c ∷ cs = ap chars (sym h.1) ∙ some in
-    (rw (begins_with b bs h.0) (some_letters bs c cs letters), letters)
-
--- the letters of a word that begins with a dash, where there are any
-pub letters_behind : (word rest : List ℕ) (r : Option (ℕ × Bor (List ℕ))) → IsBehind (codes "-") word rest
-    → MatchOption r ((rest ≡ []) × (chars rest ≡ [])) (λ p. chars rest ≡ p.0 ∷ chars p.1.now)
-    → MatchOption r (is_cluster word ≡ false)
-    (λ p. (is_cluster word ≡ true) × (chars (drop 1 word) ≡ p.0 ∷ chars p.1.now))
-letters_behind word rest None h none = dash_alone word rest h none.0
-letters_behind word rest (Some p) h some = dash_and_letters word rest p.0 (chars p.1.now) h some
+-- whether it is one, as the reading of a text answers
+pub is_ok-text : {E : Type 0} (word : List ℕ) (r : Result (Bor (List ℕ)) E) (P : E → Type 0)
+    → MatchResult r (λ s. (s.now ≡ word) × IsUtf8 word) (λ e. (IsUtf8 word → ⊥) × P e) → is_ok r ≡ is_utf8 word
+is_ok-text word (Ok s) P text = sym (is_utf8-from_IsUtf8 word text.1)
+is_ok-text word (Err e) P none = sym (false_from_ne_true _ (λ text. none.0 (IsUtf8-from_is_utf8 word text)))
 
 -- nothing is left of the word: the value is in the next one
 pub no_value : (bs : List ℕ) → length bs ≡ 0 → attached_value (chars bs) ≡ ([], a_value false)

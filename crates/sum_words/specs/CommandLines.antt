@@ -2,10 +2,9 @@
 use Rattle.std.specs.Prelude.{ℕ, ◌≡◌, ◌<◌, ◌⊎◌, ◌==◌, List, length, drop, slice_get, Option, None, Some, is_some, if◌then◌else◌}
 use Rattle.std.specs.List.{after_last, list_all}
 use Rattle.std.specs.Option.{option_and_then, option_map_or}
-use Rattle.std.specs.Str.{is_utf8}
 use Rattle.sum_words.specs.declared.command_line.TheConstants.{PAGE}
 use Rattle.sum_words.specs.declared.tool.Tool.{Tool}
-use Rattle.sum_words.specs.Items.{Text}
+use Rattle.sum_words.specs.Items.{Text, is_readable}
 use Rattle.sum_words.specs.Tools.{tool_called}
 
 -- the last part of a path: what stands behind its last slash (47)
@@ -23,9 +22,9 @@ tool_and_words all =
     let called = option_and_then (λ name. tool_called (last_part name)) (slice_get all 0) in
     if is_some called then (called, drop 1 all) else (option_and_then tool_called (slice_get all 1), drop 2 all)
 
--- nothing, where a word is not a text
+-- nothing, where a word that begins with a dash is not UTF-8
 abbrev pub command_line : List Text → Option Call
-command_line all = if list_all is_utf8 (drop 1 all)
+command_line all = if list_all is_readable (drop 1 all)
     then Some (option_map_or (λ tool. call tool (tool_and_words all).1) (tool_and_words all).0 unknown) else None
 
 -- the argument at a place is longer than so many bytes
@@ -36,6 +35,6 @@ LongerAt all place n = (argument : Text) × (slice_get all place ≡ Some argume
 abbrev pub NeedsMemory : List Text → Type 0
 NeedsMemory all = (0 < length (tool_and_words all).1) ⊎ ((place : ℕ) × LongerAt all place PAGE)
 
--- only then can the command line be left unread: a word is not a text, or memory is needed
+-- only then can the command line be left unread: such a word is not UTF-8, or memory is needed
 abbrev pub MayNotRead : List Text → Type 0
 MayNotRead all = (command_line all ≡ None) ⊎ NeedsMemory all

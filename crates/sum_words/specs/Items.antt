@@ -1,14 +1,15 @@
 -- What the words of a command line say, one by one: options by their full names, length values, operands, and at most
 -- one fault, with which the list ends.
-use Rattle.std.specs.Prelude.{ℕ, ◌+◌, ◌==◌, ◌&&◌, not, Bool, true, false, List, [], ◌∷◌, ◌++◌, map, drop, Option, None, Some, Result, Ok, Err, codes, if◌then◌else◌, option_map, filter, find, position}
+use Rattle.std.specs.Prelude.{ℕ, ◌+◌, ◌==◌, ◌&&◌, ◌||◌, not, Bool, true, false, List, [], ◌∷◌, ◌++◌, map, drop, Option, None, Some, Result, Ok, Err, codes, if◌then◌else◌, option_map, filter, find, position}
 use Rattle.std.specs.List.{list_any, starts_with, before_first}
-use Rattle.std.specs.Str.{byte, bytes_eq, chars, encode_utf8_all}
+use Rattle.std.specs.Str.{byte, bytes_eq, chars, encode_utf8_all, is_utf8}
 use Rattle.sum_words.specs.declared.tool.Tool.{Tool}
 use Rattle.sum_words.specs.declared.tool.Tool.TheVariants as tools
 use Rattle.sum_words.specs.declared.options.Flag.{Flag}
 use Rattle.sum_words.specs.declared.options.Flag.TheVariants as flags
 use Rattle.sum_words.specs.Faults.{Fault, unknown_long, ambiguous_long, value_not_allowed, value_missing, unknown_short}
 
+-- a list of bytes
 abbrev pub Text : Type 0
 Text = List ℕ
 
@@ -105,16 +106,20 @@ abbrev pub cluster : Tool → List ℕ → ItemsAndNext
 cluster t [] = ([], a_word)
 cluster t (c ∷ cs) = letter_then c (option_of_letter t c) cs (cluster t cs)
 
--- whether a word that doesn't begin with two dashes is a cluster: it begins with one, and isn't a dash alone
-abbrev pub is_cluster : Text → Bool
-is_cluster word = starts_with ◌==◌ word (codes "-") && not (bytes_eq word (codes "-"))
+-- whether a word can be read: one that begins with a dash has to be UTF-8, any other may hold any bytes
+abbrev pub is_readable : Text → Bool
+is_readable word = not (starts_with ◌==◌ word (codes "-")) || is_utf8 word
+
+-- whether a word begins with a dash and goes on
+abbrev pub is_option_word : Text → Bool
+is_option_word word = starts_with ◌==◌ word (codes "-") && not (bytes_eq word (codes "-"))
 
 -- a long option behind "--"; or a cluster behind '-'; or an operand
 abbrev pub read_word : Tool → Text → ItemsAndNext
 read_word t word =
     if starts_with ◌==◌ word (codes "--")
     then long_option (name_or_fault t (name_part (drop 2 word))) (value_part (drop 2 word))
-    else if is_cluster word then cluster t (chars (drop 1 word))
+    else if is_option_word word then cluster t (chars (drop 1 word))
     else (operand word ∷ [], a_word)
 
 -- all words; those behind a "--" that is no option's value are operands

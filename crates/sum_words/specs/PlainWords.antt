@@ -1,13 +1,12 @@
 -- Laws of items, in the words of their subject: which words are operands for certain.
-use Rattle.std.specs.Prelude.{◌≡◌, ◌==◌, ◌||◌, not, Bool, List, ◌∷◌, ◌++◌, map, codes}
-use Rattle.std.specs.List.{AllPass, starts_with}
-use Rattle.std.specs.Str.{bytes_eq}
+use Rattle.std.specs.Prelude.{◌≡◌, not, Bool, List, ◌∷◌, ◌++◌, map, codes}
+use Rattle.std.specs.List.{AllPass}
 use Rattle.sum_words.specs.declared.tool.Tool.{Tool}
-use Rattle.sum_words.specs.Items.{Text, operand, a_word, items_from}
+use Rattle.sum_words.specs.Items.{Text, operand, a_word, is_option_word, items_from}
 
 -- a word that doesn't begin with a dash, or is a dash alone
 abbrev pub is_plain : Text → Bool
-is_plain word = not (starts_with ◌==◌ word (codes "-")) || bytes_eq word (codes "-")
+is_plain word = not (is_option_word word)
 
 -- plain words are operands, whatever follows them
 abbrev pub PlainWordsAreOperands : Type 0

@@ -8,7 +8,7 @@ ghost use Rattle.sum_words.specs.CommandLines.{last_part};
 
 use crate::arguments::Arguments;
 use crate::tool::Tool;
-use crate::words::Words;
+use crate::words::{Words, is_readable};
 use memchr::memrchr;
 use std::alloc::{AllocError, Allocator};
 use std::env::FillError;
@@ -16,7 +16,7 @@ use std::env::FillError;
 /// How long an argument may be that is read without taking memory. A page costs a short run the least.
 pub(crate) const PAGE: usize = 4096;
 
-/// The words could not be read: one isn't UTF-8, or memory was refused.
+/// The words could not be read: one that begins with a dash isn't UTF-8, or memory was refused.
 #[derive(Clone, Copy, Debug, PartialEq, Eq)]
 pub struct NotRead;
 
@@ -30,8 +30,8 @@ pub enum CommandLine<A: Allocator> {
 }
 
 /// Reads the command line. The last part of the name by which the program was called is the tool's, where it is one;
-/// else the first word is. `NotRead` where a word isn't UTF-8, or where memory is refused. Memory is wanted only where
-/// a word stands behind the tool's name, known or not, or an argument is longer than a page.
+/// else the first word is. `NotRead` where a word that begins with a dash isn't UTF-8, or where memory is refused.
+/// Memory is wanted only where a word stands behind the tool's name, known or not, or an argument is longer than a page.
 pub fn read_command_line<A: Allocator + Copy, G: Arguments>(
     alloc: A,
     arguments: &G,
@@ -147,15 +147,13 @@ fn tool_called_by_word<A: Allocator, G: Arguments>(
     ensures not_read { OnErr result (IsBadFirstWord (G.told arguments.now)) }
 {
     match argument(arguments, 1, page, more)? {
-        Some(word) => match str::from_utf8(word) {
-            Ok(name) => Ok(Tool::of_name(name.as_bytes())),
-            Err(_) => Err(NotRead),
-        },
+        Some(word) if is_readable(word) => Ok(Tool::of_name(word)),
+        Some(_) => Err(NotRead),
         None => Ok(None),
     }
 }
 
-// The arguments from this place on, each of which has to be a text.
+// The arguments from this place on, each of which has to be readable as a word.
 #[tactic(auto, using(crate::proofs::CommandLineLemmas::word_steps))]
 fn words_from<A: Allocator + Copy, G: Arguments>(
     alloc: A,
@@ -173,10 +171,10 @@ fn words_from<A: Allocator + Copy, G: Arguments>(
         let Some(word) = argument(arguments, place, page, more)? else {
             return Ok(words);
         };
-        let Ok(text) = str::from_utf8(word) else {
+        if !is_readable(word) {
             return Err(NotRead);
-        };
-        let Ok(()) = words.add(text) else {
+        }
+        let Ok(()) = words.add_bytes(word) else {
             return Err(NotRead);
         };
     }

@@ -26,9 +26,9 @@ pub enum WordFault<'a> {
     /// A character of a cluster that is no option.
     UnknownShort(char),
     /// A length that isn't one or more digits, or is over 512.
-    LengthInvalid(&'a str),
+    LengthInvalid(&'a [u8]),
     /// A length that isn't a multiple of 8.
-    LengthNotBytes(&'a str),
+    LengthNotBytes(&'a [u8]),
     /// `--tag`, where `--text` is the last of `--binary`, `--tag` and `--text`.
     TagWithText,
     /// `--zero` with `--check`.
@@ -62,7 +62,7 @@ pub fn put_fault<E: Sink>(err: &mut E, tool: Tool, fault: &WordFault<'_>) -> Res
     match shown {
         Shown::Nothing => put_lines(err, name, prefix, Part::Bytes(b""), suffix),
         Shown::FullName(full) => put_lines(err, name, prefix, Part::Bytes(full.as_bytes()), suffix),
-        Shown::Typed(text) => put_lines(err, name, prefix, Part::Escaped(text.as_bytes()), suffix),
+        Shown::Typed(text) => put_lines(err, name, prefix, Part::Escaped(text), suffix),
         Shown::Letter(letter) => {
             let text = letter.encode_utf8(&mut buffer);
             put_lines(err, name, prefix, Part::Escaped(text.as_bytes()), suffix)
@@ -75,7 +75,7 @@ pub fn put_fault<E: Sink>(err: &mut E, tool: Tool, fault: &WordFault<'_>) -> Res
 enum Shown<'a> {
     Nothing,
     FullName(&'static str),
-    Typed(&'a str),
+    Typed(&'a [u8]),
     Letter(char),
 }
 
@@ -107,8 +107,8 @@ fn wording<'a>(fault: &WordFault<'a>) -> (&'static str, Shown<'a>, &'static str)
     ensures { result.0.now ++ shown_text result.1 ++ result.2.now ≡ wording (fault_of fault.now) }
 {
     match *fault {
-        WordFault::UnknownLong(name) => ("unrecognized option '--", Shown::Typed(name), "'"),
-        WordFault::AmbiguousLong(name) => ("option '--", Shown::Typed(name), "' is ambiguous"),
+        WordFault::UnknownLong(name) => ("unrecognized option '--", Shown::Typed(name.as_bytes()), "'"),
+        WordFault::AmbiguousLong(name) => ("option '--", Shown::Typed(name.as_bytes()), "' is ambiguous"),
         WordFault::ValueNotAllowed(full) => ("option '--", Shown::FullName(full), "' doesn't allow an argument"),
         WordFault::ValueMissing(true) => ("option '--length' requires an argument", Shown::Nothing, ""),
         WordFault::ValueMissing(false) => ("option requires an argument -- 'l'", Shown::Nothing, ""),

@@ -1,10 +1,10 @@
 //! What the words say, item by item.
-ghost use Rattle.std.specs.Prelude.{◌≡◌, ◌==◌, List, ℕ, [], ◌∷◌, MatchOption, drop, true, false, codes};
+ghost use Rattle.std.specs.Prelude.{◌≡◌, ◌==◌, List, ℕ, [], ◌∷◌, IfSome, MatchOption, drop, true, false};
 ghost use Rattle.std.specs.Option.{option_copied};
 ghost use Rattle.std.specs.List.{starts_with};
 ghost use Rattle.std.specs.Str.{chars};
 ghost use Rattle.sum_words.specs.Items.{a_word, name_part, value_part, long_option, name_or_fault, read_word};
-ghost use Rattle.sum_words.specs.Items.{attached_value, cluster, is_cluster, items_from, operands_of};
+ghost use Rattle.sum_words.specs.Items.{attached_value, cluster, is_option_word, is_readable, items_from, operands_of};
 ghost use Rattle.sum_words.specs.refinement.ItemIterator.{items_to_come, read_then, step_says, item_of, TakesFirst};
 ghost use Rattle.sum_words.specs.refinement.ItemIterator.{IsBehind};
 ghost use Rattle.sum_words.specs.declared.tool.Tool.{Tool};
@@ -12,7 +12,7 @@ ghost use Rattle.sum_words.specs.declared.tool.Tool.{Tool};
 use crate::faults::WordFault;
 use crate::options::Flag;
 use crate::tool::Tool;
-use crate::words::{LentWords, Words};
+use crate::words::{LentWords, Words, is_option_word};
 use std::alloc::Allocator;
 use std::marker::Model;
 
@@ -20,8 +20,8 @@ use std::marker::Model;
 #[derive(Clone, Copy)]
 pub enum Item<'a> {
     Flag(Flag),
-    Length(&'a str),
-    Operand(&'a str),
+    Length(&'a [u8]),
+    Operand(&'a [u8]),
     Fault(WordFault<'a>),
 }
 
@@ -91,8 +91,9 @@ impl<'a> Items<'a> {
 
 // The word at a place, which then moves on by one.
 #[tactic(auto, using(crate::proofs::CommandLineLemmas::drop_at_none, crate::proofs::CommandLineLemmas::drop_at_some))]
-fn take_word<'a>(words: &LentWords<'a>, at: &mut usize) -> Option<&'a str>
-    ensures { TakesFirst (λ word. word) (drop at.old words.now) (option_copied result) (drop at.new words.now) }
+fn take_word<'a>(words: &LentWords<'a>, at: &mut usize) -> Option<&'a [u8]>
+    ensures word { TakesFirst (λ word. word) (drop at.old words.now) (option_copied result) (drop at.new words.now) }
+    ensures readable { IfSome result (λ word. is_readable word.now ≡ true) }
 {
     let word = words.get(*at)?;
     *at += 1;
@@ -133,7 +134,23 @@ fn say<'a>(
 }
 
 // What a whole word makes of reading.
-fn word_step<'a>(tool: Tool, word: &'a str) -> Step<'a>
+#[tactic(auto, using(crate::proofs::WordLemmas::option_text))]
+fn word_step<'a>(tool: Tool, word: &'a [u8]) -> Step<'a>
+    requires { is_readable word.now ≡ true }
+    ensures { (ws : List (List ℕ)) → step_says tool result ws ≡ items_from tool a_word (word.now ∷ ws) }
+{
+    if !is_option_word(word) {
+        return Step::Say(Item::Operand(word), State::Word);
+    }
+    match str::from_utf8(word) {
+        Ok(text) => option_step(tool, text),
+        Err(_) => unreachable!(),
+    }
+}
+
+// What a word that begins with a dash and goes on makes of reading.
+fn option_step<'a>(tool: Tool, word: &'a str) -> Step<'a>
+    requires { is_option_word word.now ≡ true }
     ensures { (ws : List (List ℕ)) → step_says tool result ws ≡ items_from tool a_word (word.now ∷ ws) }
 {
     if word == "--" {
@@ -142,10 +159,8 @@ fn word_step<'a>(tool: Tool, word: &'a str) -> Step<'a>
     if let Some(text) = behind("--", word) {
         return long_step(tool, text);
     }
-    match letters_of(word) {
-        Some((letter, rest)) => letter_step(tool, letter, rest),
-        None => Step::Say(Item::Operand(word), State::Word),
-    }
+    let (letter, rest) = letters_of(word);
+    letter_step(tool, letter, rest)
 }
 
 // What a long option makes of reading, its two dashes left out.
@@ -159,7 +174,7 @@ fn long_step<'a>(tool: Tool, text: &'a str) -> Step<'a>
         Err(fault) => return Step::Say(Item::Fault(fault), State::Ended),
     };
     match (flag.takes_value(), value) {
-        (true, Some(value)) => Step::Say(Item::Length(value), State::Word),
+        (true, Some(value)) => Step::Say(Item::Length(value.as_bytes()), State::Word),
         (true, None) => Step::Value(true),
         (false, Some(_)) => Step::Say(
             Item::Fault(WordFault::ValueNotAllowed(flag.name())),
@@ -190,7 +205,7 @@ fn attached_value(rest: &str) -> Step<'_>
     if rest.is_empty() {
         Step::Value(false)
     } else {
-        Step::Say(Item::Length(rest), State::Word)
+        Step::Say(Item::Length(rest.as_bytes()), State::Word)
     }
 }
 
@@ -205,12 +220,15 @@ fn rest_of_cluster(letters: &str) -> State<'_>
     }
 }
 
-// The letters of a cluster, the first and those behind it; `None` where the word is none.
-fn letters_of(word: &str) -> Option<(char, &str)>
-    ensures { MatchOption result (is_cluster word.now ≡ false)
-        (λ p. (is_cluster word.now ≡ true) × (chars (drop 1 word.now) ≡ p.0 ∷ chars p.1.now)) }
+// The characters behind a word's dash, the first and those behind it.
+fn letters_of(word: &str) -> (char, &str)
+    requires { is_option_word word.now ≡ true }
+    ensures { chars (drop 1 word.now) ≡ result.0 ∷ chars result.1.now }
 {
-    first(behind("-", word)?)
+    match first(&word[1..]) {
+        Some(letters) => letters,
+        None => unreachable!(),
+    }
 }
 
 // The first character of a text, and what stands behind it; `None` where it is empty.
@@ -270,7 +288,7 @@ impl<'a> Operands<'a> {
     }
 
     /// Takes the first operand that is left; `None` where none is left.
-    pub fn next(&mut self) -> Option<&'a str>
+    pub fn next(&mut self) -> Option<&'a [u8]>
         ensures { TakesFirst (λ word. word.now) self.old result self.new }
     {
         while let Some(item) = self.items.next() {

@@ -21,4 +21,4 @@ pub use options::Flag;
 pub use request::{Job, Request, read_words};
 pub use texts::{put_help, put_version};
 pub use tool::Tool;
-pub use words::{LentWords, NoRoom, Words};
+pub use words::{LentWords, NoRoom, Words, is_readable};

@@ -68,7 +68,7 @@ pub fn read_words<'a, A: Allocator>(
 struct Chosen<'a> {
     mode: Option<Mode>,
     report: Option<Report>,
-    length: Option<&'a str>,
+    length: Option<&'a [u8]>,
     binary: bool,
     check: bool,
     tag: bool,
@@ -146,7 +146,7 @@ fn with_flag(chosen: Chosen<'_>, flag: Flag) -> Chosen<'_>
 }
 
 // The kind that the last length value asks for, if there is one.
-fn asked_kind(length: Option<&str>) -> Result<Option<Kind>, WordFault<'_>>
+fn asked_kind(length: Option<&[u8]>) -> Result<Option<Kind>, WordFault<'_>>
     ensures { result_of result ≡ option_transpose (option_map length_kind (option_copied length.entry)) }
 {
     match length {
@@ -159,7 +159,7 @@ fn asked_kind(length: Option<&str>) -> Result<Option<Kind>, WordFault<'_>>
 }
 
 // The kind that a length value asks for.
-fn length_kind(value: &str) -> Result<Kind, WordFault<'_>>
+fn length_kind(value: &[u8]) -> Result<Kind, WordFault<'_>>
     ensures { result_of result ≡ length_kind value.now }
 {
     let Some(bits) = number(value) else {
@@ -173,14 +173,17 @@ fn length_kind(value: &str) -> Result<Kind, WordFault<'_>>
 }
 
 // The number that digits write; `None` where there is another character or none, and for 2^64 and more.
-#[tactic(auto, using(crate::proofs::RequestLemmas::number_parsed))]
-fn number(value: &str) -> Option<u64>
+#[tactic(auto, using(crate::proofs::RequestLemmas::number_parsed, crate::proofs::RequestLemmas::digits_text))]
+fn number(value: &[u8]) -> Option<u64>
     ensures { IsNumberOf value.now result }
 {
-    if !all_digits(value.as_bytes()) {
+    if !all_digits(value) {
         return None;
     }
-    value.parse::<u64>().ok()
+    match str::from_utf8(value) {
+        Ok(digits) => digits.parse::<u64>().ok(),
+        Err(_) => None,
+    }
 }
 
 fn all_digits(bytes: &[u8]) -> bool

@@ -1,30 +1,51 @@
 //! The words of a command line, kept in memory.
-ghost use Rattle.std.specs.Prelude.{◌≡◌, ◌<◌, [], ◌∷◌, ◌++◌, ◌+◌, ◌^◌, OnOk, OnErr, OnSome, length, slice_get};
-ghost use Rattle.std.specs.Prelude.{slice_index};
+ghost use Rattle.std.specs.Prelude.{◌≡◌, ◌<◌, [], ◌∷◌, ◌++◌, ◌+◌, ◌^◌, true, OnOk, OnErr, OnSome, IfSome, length};
+ghost use Rattle.std.specs.Prelude.{slice_get, slice_index};
 ghost use Rattle.std.specs.Option.{option_copied};
-ghost use Rattle.sum_words.specs.refinement.Pieces.{texts_cut, CutsAt};
+ghost use Rattle.std.specs.Str.{is_utf8};
+ghost use Rattle.sum_words.specs.Items.{is_option_word, is_readable};
+ghost use Rattle.sum_words.specs.refinement.Pieces.{pieces_cut, CutsAt};
 
 use std::alloc::Allocator;
 use std::marker::Model;
 pub use sum_sources::NoRoom;
 
-/// A list of texts, kept as one text beside the places where each of them ends.
+/// Whether a word can be read: one that begins with a dash has to be UTF-8, any other may hold any bytes.
+pub fn is_readable(word: &[u8]) -> bool
+    ensures { result ≡ is_readable word.now }
+{
+    !word.starts_with(b"-") || is_text(word)
+}
+
+fn is_text(word: &[u8]) -> bool
+    ensures { result ≡ is_utf8 word.now }
+{
+    str::from_utf8(word).is_ok()
+}
+
+/// Whether a word begins with a dash and goes on.
+pub(crate) fn is_option_word(word: &[u8]) -> bool
+    ensures { result ≡ is_option_word word.now }
+{
+    matches!(word, [b'-', _, ..])
+}
+
+/// A list of words, kept as their bytes beside the places where each of them ends. Each can be read ([`is_readable`]).
 #[derive(Drop)]
 pub struct Words<A: Allocator> {
-    text: String<A>,
+    bytes: Vec<u8, A>,
     ends: Vec<usize, A>,
 }
 
 impl<A: Allocator> Model for Words<A> {
     ghost use Rattle.std.specs.Prelude.{List, ℕ};
-    ghost use Rattle.std.specs.String.{string_bytes};
-    ghost use Rattle.sum_words.specs.refinement.Pieces.{texts_cut, CutsAt};
+    ghost use Rattle.sum_words.specs.refinement.Pieces.{pieces_cut, AreWords};
 
     ghost Value = { List (List ℕ) };
 
-    ghost view = { λ w. texts_cut (string_bytes w.text) 0 w.ends.items };
+    ghost view = { λ w. pieces_cut w.bytes.items 0 w.ends.items };
 
-    ghost invariant = { λ w. CutsAt (string_bytes w.text) 0 w.ends.items };
+    ghost invariant = { λ w. AreWords w.bytes.items w.ends.items };
 }
 
 impl<A: Allocator + Copy> Words<A> {
@@ -33,32 +54,44 @@ impl<A: Allocator + Copy> Words<A> {
         ensures { result ≡ [] }
     {
         Words {
-            text: String::new(alloc),
+            bytes: Vec::new(alloc),
             ends: Vec::new(alloc),
         }
     }
 }
 
 impl<A: Allocator> Words<A> {
-    /// Adds a word at the end. `NoRoom` where memory is refused; the list is then as it was.
+    /// Adds a text at the end. `NoRoom` where memory is refused; the list is then as it was.
+    #[tactic(auto, using(crate::proofs::PieceLemmas::readable_text))]
     pub fn add(&mut self, word: &str) -> Result<(), NoRoom>
         ensures ok { OnOk result (self.new ≡ self.old ++ word.now ∷ []) }
         ensures err { OnErr result (self.new ≡ self.old) }
     {
-        let before = self.text.as_str().len();
-        let Ok(()) = self.text.push_str(word) else {
+        self.add_bytes(word.as_bytes())
+    }
+
+    /// Adds a word that can be read ([`is_readable`]) at the end. `NoRoom` where memory is refused; the list is then as
+    /// it was.
+    pub fn add_bytes(&mut self, word: &[u8]) -> Result<(), NoRoom>
+        requires { is_readable word.now ≡ true }
+        ensures ok { OnOk result (self.new ≡ self.old ++ word.now ∷ []) }
+        ensures err { OnErr result (self.new ≡ self.old) }
+    {
+        let before = self.bytes.len();
+        let Ok(()) = self.bytes.extend_from_slice(word) else {
             return Err(NoRoom);
         };
-        let Ok(()) = self.ends.push(self.text.as_str().len()) else {
-            self.text.truncate(before);
+        let Ok(()) = self.ends.push(self.bytes.len()) else {
+            self.bytes.truncate(before);
             return Err(NoRoom);
         };
         Ok(())
     }
 
     /// The word at this place, counted from 0; `None` past the last.
-    pub fn get(&self, i: usize) -> Option<&str>
-        ensures { option_copied result ≡ slice_get self.now i }
+    pub fn get(&self, i: usize) -> Option<&[u8]>
+        ensures word { option_copied result ≡ slice_get self.now i }
+        ensures readable { IfSome result (λ word. is_readable word.now ≡ true) }
     {
         self.lent().get(i)
     }
@@ -68,49 +101,51 @@ impl<A: Allocator> Words<A> {
         ensures { result ≡ self.now }
     {
         LentWords {
-            text: self.text.as_str(),
+            bytes: self.bytes.as_slice(),
             ends: self.ends.as_slice(),
         }
     }
 }
 
-/// A list of texts that is lent. It doesn't say which memory the list is in.
+/// A list of words that is lent. It doesn't say which memory the list is in.
 #[derive(Drop)]
 pub struct LentWords<'a> {
-    text: &'a str,
+    bytes: &'a [u8],
     ends: &'a [usize],
 }
 
 impl<'a> Model for LentWords<'a> {
     ghost use Rattle.std.specs.Prelude.{List, ℕ};
-    ghost use Rattle.sum_words.specs.refinement.Pieces.{texts_cut, CutsAt};
+    ghost use Rattle.sum_words.specs.refinement.Pieces.{pieces_cut, AreWords};
 
     ghost Value = { List (List ℕ) };
 
-    ghost view = { λ w. texts_cut w.text.now 0 w.ends.now };
+    ghost view = { λ w. pieces_cut w.bytes.now 0 w.ends.now };
 
-    ghost invariant = { λ w. CutsAt w.text.now 0 w.ends.now };
+    ghost invariant = { λ w. AreWords w.bytes.now w.ends.now };
 }
 
 impl<'a> LentWords<'a> {
     /// The word at this place, counted from 0; `None` past the last.
-    pub fn get(&self, i: usize) -> Option<&'a str>
+    #[tactic(auto, using(crate::proofs::PieceLemmas::readable_at))]
+    pub fn get(&self, i: usize) -> Option<&'a [u8]>
         ensures word { option_copied result ≡ slice_get self.now i }
+        ensures readable { IfSome result (λ word. is_readable word.now ≡ true) }
         ensures within { OnSome result (i + 1 < 2 ^ 64) }
     {
-        piece_at(self.text, self.ends, i)
+        piece_at(self.bytes, self.ends, i)
     }
 }
 
-// The piece of the text at a place, `None` past the last.
-fn piece_at<'a>(text: &'a str, ends: &'a [usize], i: usize) -> Option<&'a str>
-    requires { CutsAt text.now 0 ends.now }
-    ensures piece { option_copied result ≡ slice_get (texts_cut text.now 0 ends.now) i }
+// The piece of the bytes at a place, `None` past the last.
+fn piece_at<'a>(bytes: &'a [u8], ends: &'a [usize], i: usize) -> Option<&'a [u8]>
+    requires { CutsAt bytes.now 0 ends.now }
+    ensures piece { option_copied result ≡ slice_get (pieces_cut bytes.now 0 ends.now) i }
     ensures within { OnSome result (i + 1 < 2 ^ 64) }
 {
     let end = *ends.get(i)?;
     let start = start_of(ends, i);
-    Some(&text[start..end])
+    Some(&bytes[start..end])
 }
 
 // Where the piece at a place begins: at the end of the piece before it.

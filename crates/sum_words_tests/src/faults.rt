@@ -1,5 +1,5 @@
 //! Faults of command lines, each with its text.
-use crate::words::words_of;
+use crate::words::{words_and, words_of};
 use std::alloc::Global;
 use std::process::Abort;
 use std::test::Fail;
@@ -69,6 +69,20 @@ fn faults_of_lengths(rt: HostRuntime) -> Result<(), Fail> {
         (nines, text),
     ] {
         assert_fault(&rt, Tool::B2sum, line, text)?;
+    }
+    Ok(())
+}
+
+// A length that is the next word may hold any bytes, which stand in the text as those of names do.
+#[test]
+fn lengths_of_any_bytes(rt: HostRuntime) -> Result<(), Fail> {
+    for line in ["-l", "e -bl", "--length", "-l 8 --len"] {
+        let words = words_and(rt.alloc(), line, b"\xff8\\\n")?;
+        assert_eq!(rt;
+            fault_of(Tool::B2sum, &words)?.bytes(),
+            b"b2sum: invalid length: '\xff8\\\\\\n'\nTry 'b2sum --help' for more information.\n".as_slice(),
+            "in {line}"
+        );
     }
     Ok(())
 }

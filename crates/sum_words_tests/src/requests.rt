@@ -1,5 +1,5 @@
 //! What command lines without a fault ask for.
-use crate::words::{odd_words, words_of};
+use crate::words::{words_and, words_of};
 use digest_kinds::{Algo, Algos, Kind};
 use std::alloc::Global;
 use std::process::Abort;
@@ -38,7 +38,7 @@ fn checking<'a>(
 }
 
 // That these are the operands.
-fn assert_operands(rt: &impl Abort, mut operands: Operands, want: &[&str]) {
+fn assert_operands(rt: &impl Abort, mut operands: Operands, want: &[&[u8]]) {
     for operand in want {
         assert_eq!(rt; operands.next(), Some(*operand));
     }
@@ -57,7 +57,7 @@ fn assert_generates(
     let (settings, operands) = generation(asked(tool, &words)).ok_or("refused")?;
     assert_eq!(rt; settings.kind.bits(), bits, "in {line}");
     assert_eq!(rt; settings.style, Style { mode, zero: false }, "in {line}");
-    assert_operands(rt, operands, &[operand]);
+    assert_operands(rt, operands, &[operand.as_bytes()]);
     Ok(())
 }
 
@@ -78,7 +78,7 @@ fn assert_checks(
     rt: &(impl Abort + AllocGlobal),
     (tool, line): (Tool, &str),
     want: CheckSettings,
-    operands: &[&str],
+    operands: &[&[u8]],
 ) -> Result<(), Fail> {
     let words = words_of(rt.alloc(), line)?;
     let (settings, left) = checking(asked(tool, &words)).ok_or("refused")?;
@@ -96,7 +96,7 @@ fn settings_of_checking(rt: HostRuntime) -> Result<(), Fail> {
         ignore_missing: true,
     };
     let line = "-c --ignore-missing -w --strict l";
-    assert_checks(&rt, (Tool::Md5sum, line), all, &["l"])?;
+    assert_checks(&rt, (Tool::Md5sum, line), all, &[b"l"])?;
     let last = CheckSettings {
         algo: Algos::Any,
         report: Report::Status,
@@ -104,7 +104,7 @@ fn settings_of_checking(rt: HostRuntime) -> Result<(), Fail> {
         ignore_missing: false,
     };
     let line = "--quiet --check --status - m";
-    assert_checks(&rt, (Tool::Anysum, line), last, &["-", "m"])
+    assert_checks(&rt, (Tool::Anysum, line), last, &[b"-", b"m"])
 }
 
 #[test]
@@ -121,13 +121,22 @@ fn help_and_version(rt: HostRuntime) -> Result<(), Fail> {
     Ok(())
 }
 
-// An empty word is an operand, and so is one with a NUL or a newline.
+// An empty word is an operand, and so is one with a NUL or a newline, or one that isn't UTF-8.
 #[test]
-fn operands_are_any_texts(rt: HostRuntime) -> Result<(), Fail> {
-    let words = odd_words(rt.alloc())?;
+fn operands_are_any_bytes(rt: HostRuntime) -> Result<(), Fail> {
+    let words = words_and(rt.alloc(), " -z a\0b\n \u{e4}", b"r\xe9sum\xe9\n")?;
     let (settings, operands) = generation(asked(Tool::Md5sum, &words)).ok_or("refused")?;
     assert_eq!(rt; settings.kind, Kind::of(Algo::Md5));
     assert!(rt; settings.style.zero);
-    assert_operands(&rt, operands, &["", "a\0b\n", "\u{e4}\u{20ac}"]);
+    let want: [&[u8]; 4] = [b"", b"a\0b\n", b"\xc3\xa4", b"r\xe9sum\xe9\n"];
+    assert_operands(&rt, operands, &want);
+    Ok(())
+}
+
+#[test]
+fn odd_operand_behind_two_dashes(rt: HostRuntime) -> Result<(), Fail> {
+    let words = words_and(rt.alloc(), "-- -b", b"\xff")?;
+    let (_, operands) = generation(asked(Tool::Md5sum, &words)).ok_or("refused")?;
+    assert_operands(&rt, operands, &[b"-b", b"\xff"]);
     Ok(())
 }

@@ -1,7 +1,7 @@
 //! Lists of words.
 use std::alloc::Global;
 use std::test::Fail;
-use sum_words::{NoRoom, Words};
+use sum_words::{NoRoom, Words, is_readable};
 
 /// The words of a line, parted by single spaces.
 pub(crate) fn words_of(alloc: Global, line: &str) -> Result<Words<Global>, NoRoom> {
@@ -12,33 +12,61 @@ pub(crate) fn words_of(alloc: Global, line: &str) -> Result<Words<Global>, NoRoo
     Ok(words)
 }
 
-/// An empty word, an option, a word with a NUL and a newline, and one beyond ASCII.
-pub(crate) fn odd_words(alloc: Global) -> Result<Words<Global>, NoRoom> {
-    let mut words = Words::new(alloc);
-    for word in ["", "-z", "a\0b\n", "\u{e4}\u{20ac}"] {
-        words.add(word)?;
+/// The words of a line, and behind them one of any bytes.
+pub(crate) fn words_and(alloc: Global, line: &str, last: &[u8]) -> Result<Words<Global>, Fail> {
+    let mut words = words_of(alloc, line)?;
+    if !is_readable(last) {
+        return Err(Fail::from("a word that can't be read"));
     }
+    words.add_bytes(last)?;
     Ok(words)
 }
 
 // The word at a place. Without a contract, so that a test knows no more of it than it sees.
-fn word_at(words: &Words<Global>, i: usize) -> Option<&str> {
+fn word_at(words: &Words<Global>, i: usize) -> Option<&[u8]> {
     words.get(i)
+}
+
+// Whether a word can be read, likewise.
+fn can_be_read(word: &[u8]) -> bool {
+    is_readable(word)
 }
 
 // An empty word is a word, and NUL and newlines stand in words as any other character.
 #[test]
 fn words_are_any_texts(rt: HostRuntime) -> Result<(), Fail> {
-    let words = odd_words(rt.alloc())?;
+    let words = words_of(rt.alloc(), " -z a\0b\n \u{e4}\u{20ac}")?;
     for (i, want) in [
-        (0, Some("")),
-        (2, Some("a\0b\n")),
-        (3, Some("\u{e4}\u{20ac}")),
+        (0, Some(b"".as_slice())),
+        (2, Some(b"a\0b\n")),
+        (3, Some(b"\xc3\xa4\xe2\x82\xac")),
         (4, None),
     ] {
         assert_eq!(rt; word_at(&words, i), want);
     }
     assert_eq!(rt; word_at(&Words::new(rt.alloc()), 0), None);
+    Ok(())
+}
+
+// A word that doesn't begin with a dash, and a dash alone, may hold any bytes.
+#[test]
+fn words_of_any_bytes(rt: HostRuntime) -> Result<(), Fail> {
+    let words = words_and(rt.alloc(), "\u{e4} -b", b"r\xe9sum\xe9\n")?;
+    assert_eq!(rt; word_at(&words, 2), Some(b"r\xe9sum\xe9\n".as_slice()));
+    for (word, reads) in [
+        (b"".as_slice(), true),
+        (b"-", true),
+        (b"\xff", true),
+        (b"a-\xed\xa0\x80", true),
+        (b"--", true),
+        (b"-\xc3\xa4", true),
+        (b"-\xff", false),
+        (b"--\xc3", false),
+        (b"--length=\xed\xa0\x80", false),
+        (b"-l\xc0\xaf", false),
+    ] {
+        assert_eq!(rt; can_be_read(word), reads);
+    }
     Ok(())
 }
 
@@ -52,7 +80,7 @@ fn long_words(rt: HostRuntime) -> Result<(), Fail> {
             long.push('y')?;
         }
         words.add(long.as_str())?;
-        assert!(rt; word_at(&words, i) == Some(long.as_str()));
+        assert!(rt; word_at(&words, i) == Some(long.as_bytes()));
     }
     Ok(())
 }

@@ -124,22 +124,6 @@ fn tool_by_word_or_name(rt: HostRuntime) -> Result<(), Fail> {
     Ok(())
 }
 
-// Whichever word it is: the tool's, one behind a tool that there isn't, or one of a tool that the name says.
-#[test]
-fn words_that_are_no_text(rt: HostRuntime) -> Result<(), Fail> {
-    let calls: [&[&[u8]]; 5] = [
-        &[b"digests", b"\xff"],
-        &[b"md5sum", b"a\xff"],
-        &[b"digests", b"md5sum\x80"],
-        &[b"digests", b"md5sum", b"a", b"\xc3"],
-        &[b"digests", b"shasum", b"\xff"],
-    ];
-    for arguments in calls {
-        assert_ends(&rt, arguments, NOT_READ)?;
-    }
-    Ok(())
-}
-
 // That a word of so many letters is an operand like any other.
 fn assert_long_word(rt: &(impl Abort + AllocGlobal), count: usize) -> Result<(), Fail> {
     let long = repeated(rt.alloc(), 'x', count)?;

@@ -2,13 +2,12 @@
 use Rattle.std.specs.Prelude.{ℕ, ◌≡◌, ◌<◌, ◌⊎◌, true, false, List, ◌++◌, take, drop, length, slice_get, Option, None, Some, IfSome, Result, Ok, Err, ⊤}
 use Rattle.std.specs.List.{list_all}
 use Rattle.std.specs.Option.{option_and_then}
-use Rattle.std.specs.Str.{is_utf8}
 use Rattle.std.specs.declared.env.FillError.{FillError}
 use Rattle.std.specs.declared.env.FillError.TheVariants.{NotPresent, TooLong}
 use Rattle.sum_words.specs.declared.command_line.TheConstants.{PAGE}
 use Rattle.sum_words.specs.declared.tool.Tool.{Tool}
 use Rattle.sum_words.specs.declared.command_line.CommandLine.{CommandLine}
-use Rattle.sum_words.specs.Items.{Text}
+use Rattle.sum_words.specs.Items.{Text, is_readable}
 use Rattle.sum_words.specs.Tools.{tool_called}
 use Rattle.sum_words.specs.declared.command_line.CommandLine.TheVariants.{UnknownTool, Asks}
 use Rattle.sum_words.specs.CommandLines.{Call, unknown, call, last_part, command_line, LongerAt, MayNotRead}
@@ -37,24 +36,24 @@ abbrev pub IsNameOf : Option (List Text) → Option Tool → Type 0
 IsNameOf told tool =
     IfSome told (λ all. tool ≡ option_and_then (λ name. tool_called (last_part name)) (slice_get all 0))
 
--- the tool by the first word, which is a text
+-- the tool by the first word, which can be read
 abbrev pub IsFirstWord : Option (List Text) → Option Tool → Type 0
 IsFirstWord told tool = IfSome told (λ all.
-    (tool ≡ option_and_then tool_called (slice_get all 1)) × (list_all is_utf8 (take 1 (drop 1 all)) ≡ true))
+    (tool ≡ option_and_then tool_called (slice_get all 1)) × (list_all is_readable (take 1 (drop 1 all)) ≡ true))
 
--- the first word is not a text, or longer than the page
+-- the first word can't be read, or is longer than the page
 abbrev pub IsBadFirstWord : Option (List Text) → Type 0
 IsBadFirstWord told =
-    IfSome told (λ all. (list_all is_utf8 (take 1 (drop 1 all)) ≡ false) ⊎ LongerAt all 1 PAGE)
+    IfSome told (λ all. (list_all is_readable (take 1 (drop 1 all)) ≡ false) ⊎ LongerAt all 1 PAGE)
 
--- the words from a place on, which are texts
+-- the words from a place on, which can be read
 abbrev pub WordsAre : Option (List Text) → ℕ → List Text → Type 0
-WordsAre told place words = IfSome told (λ all. (words ≡ drop place all) × (list_all is_utf8 words ≡ true))
+WordsAre told place words = IfSome told (λ all. (words ≡ drop place all) × (list_all is_readable words ≡ true))
 
 -- the words before a place are those read so far
 abbrev pub WordsUpTo : Option (List Text) → ℕ → ℕ → List Text → Type 0
 WordsUpTo told first place words =
-    IfSome told (λ all. (drop first all ≡ words ++ drop place all) × (list_all is_utf8 words ≡ true))
+    IfSome told (λ all. (drop first all ≡ words ++ drop place all) × (list_all is_readable words ≡ true))
 
 -- what the program's value calls for
 abbrev pub call_of : {A : Type 0} → CommandLine A → Call

@@ -1,13 +1,19 @@
--- Joins `Words` to the list of texts that it is seen as: one text, cut at the places where its pieces end.
-use Rattle.std.specs.Prelude.{ℕ, ◌≡◌, ◌≤◌, ◌-◌, List, [], ◌∷◌, take, drop, length}
-use Rattle.std.specs.Str.{IsCharBoundary}
+-- Joins `Words` to the list of words that it is seen as: bytes, cut at the places where the words end.
+use Rattle.std.specs.Prelude.{ℕ, ◌≡◌, ◌≤◌, ◌-◌, true, List, [], ◌∷◌, take, drop, length}
+use Rattle.std.specs.List.{list_all}
+use Rattle.sum_words.specs.Items.{Text, is_readable}
 
--- the texts that a text is cut into, which end at these places, the first of them from here on
-abbrev pub texts_cut : List ℕ → ℕ → List ℕ → List (List ℕ)
-texts_cut text from [] = []
-texts_cut text from (end ∷ ends) = take (end - from) (drop from text) ∷ texts_cut text end ends
+-- the pieces that bytes are cut into, which end at these places, the first of them from here on
+abbrev pub pieces_cut : List ℕ → ℕ → List ℕ → List Text
+pieces_cut bytes from [] = []
+pieces_cut bytes from (end ∷ ends) = take (end - from) (drop from bytes) ∷ pieces_cut bytes end ends
 
--- the places go up to the text's end, and no character lies over one of them
+-- the places go up to the end of the bytes
 abbrev pub CutsAt : List ℕ → ℕ → List ℕ → Type 0
-CutsAt text from [] = from ≡ length text
-CutsAt text from (end ∷ ends) = (from ≤ end) × IsCharBoundary text end × CutsAt text end ends
+CutsAt bytes from [] = from ≡ length bytes
+CutsAt bytes from (end ∷ ends) = (from ≤ end) × CutsAt bytes end ends
+
+-- and each piece can be read as a word
+pub record AreWords (bytes ends : List ℕ) : Type 0 where
+  pub cuts : CutsAt bytes 0 ends
+  pub readable : list_all is_readable (pieces_cut bytes 0 ends) ≡ true

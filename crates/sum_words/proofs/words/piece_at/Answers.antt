@@ -1,7 +1,7 @@
 use Rattle.std.proofs.Common.{◌≤◌, length, sym}
 use Rattle.std.proofs.lemmas.Option.{slice_get_past}
-use Rattle.sum_words.specs.refinement.Pieces.{texts_cut}
-use Rattle.sum_words.proofs.PieceLemmas.{piece_read, texts_cut-length}
+use Rattle.sum_words.specs.refinement.Pieces.{pieces_cut}
+use Rattle.sum_words.proofs.PieceLemmas.{piece_read, pieces_cut-length}
 use Rattle.sum_words.proofs.words.piece_at.Goals as goal
 
 -- there is no such place
@@ -9,20 +9,29 @@ pub returns-in_err-end-clause-piece : goal.returns-in_err-end-clause-piece
 returns-in_err-end-clause-piece c =
     let ends = c.args.ends.now in
     let past : length ends ≤ c.args.i = c.in_err-end.ensures.lookup.3 in
-    let words = texts_cut c.args.text.now 0 ends in
-    let none = slice_get_past words c.args.i (rw (texts_cut-length c.args.text.now 0 ends) past) in
+    let words = pieces_cut c.args.bytes.now 0 ends in
+    let none = slice_get_past words c.args.i (rw (pieces_cut-length c.args.bytes.now 0 ends) past) in
     rw c.from_residual.ensures (sym none)
 
--- the text may be cut there
-pub range-requires : goal.range-requires
-range-requires c =
-    let p = piece_read c.args.text.now c.args.ends.now c.args.i c.start_of-start.ensures
-    c.in_ok-end.ensures.lookup.0 c.in_ok-end.ensures.lookup.1 c.requires c.utf8.text in
-    record { start_le_end = p.order; start_boundary = λ _. p.start_cuts; end_boundary = p.end_cuts }
+-- a piece begins before it ends
+pub slice_bounds-result-count : goal.slice_bounds-result-count
+slice_bounds-result-count c =
+    (piece_read c.args.bytes.now c.args.ends.now c.args.i c.start_of-start.ensures
+    c.in_ok-end.ensures.lookup.0 c.in_ok-end.ensures.lookup.1 c.requires).order
+
+pub slice_bounds-result-start : goal.slice_bounds-result-start
+slice_bounds-result-start c =
+    (piece_read c.args.bytes.now c.args.ends.now c.args.i c.start_of-start.ensures
+    c.in_ok-end.ensures.lookup.0 c.in_ok-end.ensures.lookup.1 c.requires).order
+
+-- and ends within the bytes
+pub slice_bounds-result-end : goal.slice_bounds-result-end
+slice_bounds-result-end c =
+    (piece_read c.args.bytes.now c.args.ends.now c.args.i c.start_of-start.ensures
+    c.in_ok-end.ensures.lookup.0 c.in_ok-end.ensures.lookup.1 c.requires).within
 
 -- and the cut is the piece
 pub returns-clause-piece : goal.returns-clause-piece
 returns-clause-piece c =
-    let p = piece_read c.args.text.now c.args.ends.now c.args.i c.start_of-start.ensures
-    c.in_ok-end.ensures.lookup.0 c.in_ok-end.ensures.lookup.1 c.requires c.utf8.text in
-    rw c.range.ensures.value (sym p.piece)
+    sym (piece_read c.args.bytes.now c.args.ends.now c.args.i c.start_of-start.ensures
+    c.in_ok-end.ensures.lookup.0 c.in_ok-end.ensures.lookup.1 c.requires).piece

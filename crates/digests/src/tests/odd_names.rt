@@ -1,0 +1,143 @@
+//! Words that aren't UTF-8.
+use super::program::status_of;
+use super::{add_files, assert_bytes};
+use std::process::Abort;
+use std::test::Fail;
+use sum_engine::Streams;
+use sum_lines::ToldSink;
+use sum_sources::{Answer, Ending, Stdin, Told, ToldSource};
+
+const LINE_OF_A: &[u8] = b"900150983cd24fb0d6963f7d28e17f72  a\n";
+
+// A command line, what it writes on standard output and on standard error, and its status.
+type Row<'a> = (&'a [&'a [u8]], &'a [u8], &'a [u8], u8);
+
+const NOT_READ: &[u8] = b"digests: words not read\n";
+
+const UNKNOWN: &[u8] = b"digests: unknown tool\n";
+
+// That a command line does as its row says over the files of most rows, one whose name isn't UTF-8, and the list `l`.
+fn assert_row(rt: &(impl Abort + AllocGlobal), row: Row) -> Result<(), Fail> {
+    let (arguments, out, err, status) = row;
+    let mut source = ToldSource::new(rt.alloc(), 100);
+    add_files(&mut source)?;
+    source.add(b"\xff\\\n", Answer::Content(b"abc", Ending::Whole))?;
+    source.add(b"l", Answer::Content(LINE_OF_A, Ending::Whole))?;
+    let mut streams = Streams {
+        stdin: Stdin::new(Told::new(b"", Ending::Whole, 1)),
+        source,
+        out: ToldSink::<16_384>::new(16_384),
+        err: ToldSink::<16_384>::new(16_384),
+    };
+    let answer = status_of(rt.alloc(), arguments, &mut streams);
+    assert_bytes(
+        rt,
+        streams.out.bytes(),
+        out,
+        ("standard output", "the program"),
+    );
+    assert_bytes(
+        rt,
+        streams.err.bytes(),
+        err,
+        ("standard error", "the program"),
+    );
+    assert_eq!(rt; answer, status);
+    Ok(())
+}
+
+// A name is told of, or its line is written, and the others are read, wherever it stands.
+#[test]
+fn odd_operands(rt: HostRuntime) -> Result<(), Fail> {
+    let both =
+        b"900150983cd24fb0d6963f7d28e17f72  a\n900150983cd24fb0d6963f7d28e17f72  a\n".as_slice();
+    let missing = b"md5sum: r\xe9sum\xe9: No such file or directory\n".as_slice();
+    let rows: [Row; 8] = [
+        (&[b"md5sum", b"r\xe9sum\xe9", b"a"], LINE_OF_A, missing, 1),
+        (&[b"md5sum", b"a", b"r\xe9sum\xe9", b"a"], both, missing, 1),
+        (
+            &[b"digests", b"md5sum", b"a", b"r\xe9sum\xe9"],
+            LINE_OF_A,
+            missing,
+            1,
+        ),
+        (&[b"md5sum", b"r\xe9sum\xe9"], b"", missing, 1),
+        (
+            &[b"md5sum", b"--", b"r\xe9sum\xe9", b"a"],
+            LINE_OF_A,
+            missing,
+            1,
+        ),
+        (
+            &[b"md5sum", b"\xfe\n\\"],
+            b"",
+            b"md5sum: \xfe\\n\\\\: No such file or directory\n",
+            1,
+        ),
+        (
+            &[b"md5sum", b"\xff\\\n"],
+            b"\\900150983cd24fb0d6963f7d28e17f72  \xff\\\\\\n\n",
+            b"",
+            0,
+        ),
+        (
+            &[b"md5sum", b"-z", b"\xff\\\n"],
+            b"900150983cd24fb0d6963f7d28e17f72  \xff\\\n\0",
+            b"",
+            0,
+        ),
+    ];
+    for row in rows {
+        assert_row(&rt, row)?;
+    }
+    Ok(())
+}
+
+// A manifest so named is told of so, and the next one is checked.
+#[test]
+fn odd_manifests(rt: HostRuntime) -> Result<(), Fail> {
+    let missing = b"md5sum: \xfe: No such file or directory\n".as_slice();
+    let empty = b"md5sum: \xff\\\\\\n: no properly formatted checksum lines found\n".as_slice();
+    assert_row(
+        &rt,
+        (&[b"md5sum", b"-c", b"\xfe", b"l"], b"a: OK\n", missing, 1),
+    )?;
+    assert_row(
+        &rt,
+        (&[b"md5sum", b"-c", b"\xff\\\n", b"l"], b"a: OK\n", empty, 1),
+    )
+}
+
+// Only what begins with a dash has to be a text.
+#[test]
+fn odd_words(rt: HostRuntime) -> Result<(), Fail> {
+    let invalid =
+        b"b2sum: invalid length: '\xff8'\nTry 'b2sum --help' for more information.\n".as_slice();
+    let rows: [Row; 8] = [
+        (&[b"md5sum", b"a", b"-\xff"], b"", NOT_READ, 1),
+        (&[b"md5sum", b"--help", b"--\xc3"], b"", NOT_READ, 1),
+        (&[b"md5sum", b"--", b"-\xff"], b"", NOT_READ, 1),
+        (&[b"digests", b"-\xff"], b"", NOT_READ, 1),
+        (&[b"digests", b"\xff"], b"", UNKNOWN, 1),
+        (&[b"digests", b"md5sum\x80", b"a"], b"", UNKNOWN, 1),
+        (&[b"b2sum", b"-l", b"\xff8", b"e"], b"", invalid, 1),
+        (&[b"\xff/md5sum", b"a"], LINE_OF_A, b"", 0),
+    ];
+    for row in rows {
+        assert_row(&rt, row)?;
+    }
+    Ok(())
+}
+
+// Names about as long as the page that arguments are read through, and longer than what it grows to first.
+#[test]
+fn long_odd_names(rt: HostRuntime) -> Result<(), Fail> {
+    for count in [4096, 4097, 8193] {
+        let name = vec![in rt.alloc(); 0xff; count]?;
+        let mut missing = b"md5sum: ".to_vec(rt.alloc())?;
+        missing.extend_from_slice(&name)?;
+        missing.extend_from_slice(b": No such file or directory\n")?;
+        assert_row(&rt, (&[b"md5sum", &name, b"a"], LINE_OF_A, &missing, 1))?;
+    }
+    Ok(())
+}

@@ -1,0 +1,104 @@
+"""Names that aren't UTF-8: such a name is told of, with its own bytes, and everything else is done as without it."""
+
+import os
+
+import harness
+from harness import E, M, Case, Ran, gnu, needs_check
+
+NAME = b"r\xe9sum\xe9.txt"
+NOT_READ = ["digests: words not read"]
+
+
+def unread(name, tool=b"md5sum"):
+    """The line about a name that can't be opened."""
+    return tool + b": " + name + b": Input/output error\n"
+
+
+class OddNames(Case):
+    """A file in Latin-1, which is there and can't be opened."""
+
+    def setUp(self):
+        super().setUp()
+        self.write(NAME, "abc")
+
+    def test_at_every_place(self):
+        for words, out in ((["a", NAME, "e"], [f"{M}  a", f"{E}  e"]), ([NAME, "a"], [f"{M}  a"]),
+                           (["a", NAME], [f"{M}  a"]), ([NAME], b""), (["-b", "--", NAME, "a"], [f"{M} *a"])):
+            with self.subTest(words=words):
+                self.expect(["md5sum", *words], out=out, err=unread(NAME), status=1)
+
+    def test_by_a_link(self):
+        os.symlink(harness.PROGRAM, self.path("sha256sum"))
+        ran = self.run_command(["./sha256sum", "a", NAME])
+        self.assertEqual(ran, Ran(1, f"{harness.S}  a\n".encode(), unread(NAME, b"sha256sum")))
+
+    def test_escaped(self):
+        name = b"\xff\\\n\r"
+        self.expect(["md5sum", name, "a"], out=[f"{M}  a"], err=unread(b"\xff\\\\\\n\\r"), status=1)
+
+    def test_what_is_no_character(self):
+        for name in (b"\xff", b"b\xc3", b"\x80", b"\xed\xa0\x80", b"\xc0\xaf", b"d/\xff"):
+            with self.subTest(name=name):
+                self.expect(["md5sum", name, "a"], out=[f"{M}  a"], err=unread(name), status=1)
+
+    def test_long_names(self):
+        """Names about as long as a page, and one as long as the system passes on."""
+        for length in (4095, 4096, 4097, 8193, 131071):
+            with self.subTest(length=length):
+                name = b"\xff" * length
+                self.expect(["md5sum", name, "a"], out=[f"{M}  a"], err=unread(name), status=1)
+
+    def test_one_among_100000(self):
+        words = ["md5sum", *["a"] * 50000, NAME, *["a"] * 49998]
+        self.expect(words, out=[f"{M}  a"] * 99998, err=unread(NAME), status=1)
+
+    @needs_check
+    def test_manifests(self):
+        self.write("l", [f"{M}  a"])
+        for words in ([NAME, "l"], ["--", NAME, "l"], ["l", NAME]):
+            with self.subTest(words=words):
+                self.expect(["md5sum", "-c", *words], out=["a: OK"], err=unread(NAME), status=1)
+
+    def test_beside_gnu(self):
+        """1,000 names, of which three aren't UTF-8: the lines of the others are GNU's."""
+        names = [b"%d" % number for number in range(997)] + [NAME, b"\xff\n", b"a\\\xe9"]
+        os.mkdir(self.path("d"))
+        for name in names:
+            self.write(b"d/" + name, name * 50)
+        for tool in ("sha256sum", "b2sum"):
+            if gnu(tool) is None:
+                self.skipTest(f"there is no GNU {tool} here")
+            words = [tool, *sorted(b"d/" + name for name in names)]
+            ours, theirs = self.run_words(words), self.run_command(words, executable=gnu(tool))
+            odd = [line for line in theirs.out.splitlines(True) if b"\xe9" in line or b"\xff" in line]
+            self.assertEqual(len(odd), 3)
+            lines = [line for line in theirs.out.splitlines(True) if line not in odd]
+            self.assertEqual(ours, Ran(1, b"".join(lines), b"".join(
+                unread(b"d/" + name, tool.encode()) for name in (b"a\\\\\xe9", NAME, b"\xff\\n"))))
+
+
+class OddWords(Case):
+    """Words that aren't UTF-8, and no names."""
+
+    def test_what_begins_with_a_dash(self):
+        for words in (["md5sum", b"-\xff"], ["md5sum", "a", b"--\xc3"], ["md5sum", "--help", b"-\x80"],
+                      ["md5sum", "--", b"-\xff"], ["b2sum", "-l", b"-\xff", "e"], ["b2sum", b"--length=\xff", "e"],
+                      ["shasum", b"-\xff"], [b"-\xff"]):
+            with self.subTest(words=words):
+                self.expect(words, err=NOT_READ, status=1)
+
+    def test_the_tools_name(self):
+        for words in ([b"\xff"], [b"md5sum\x80", "a"], ["shasum", b"\xff"]):
+            with self.subTest(words=words):
+                self.expect(words, err=["digests: unknown tool"], status=1)
+
+    def test_a_length(self):
+        for words in (["-l", b"\xff8"], ["--length", b"\xff8"], ["-b", "-l", b"\xff8", "e"]):
+            with self.subTest(words=words):
+                self.expect(["b2sum", *words], status=1, err=b"b2sum: invalid length: '\xff8'\n"
+                                                             b"Try 'b2sum --help' for more information.\n")
+
+    def test_the_name_of_the_call(self):
+        os.symlink(harness.PROGRAM, self.path(b"\xff"))
+        ran = self.run_command([b"./\xff", "md5sum", "a"])
+        self.assertEqual(ran, Ran(0, f"{M}  a\n".encode(), b""))
