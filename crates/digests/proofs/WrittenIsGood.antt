@@ -20,9 +20,12 @@ use Rattle.sum_engine.specs.Generation.{generate_run}
 use Rattle.sum_engine.specs.Reports.{right_line}
 use Rattle.sum_engine.proofs.ListedLemmas.{Item, written_text, Listed}
 use Rattle.sum_engine.proofs.GoodLemmas.{manifest_good}
+use Rattle.sum_words.specs.declared.tool.Tool.{Tool}
+use Rattle.sum_words.specs.Tools.{name_of}
 use Rattle.sum_words.specs.Items.{Text}
 use Rattle.digests.specs.Meaning.{all_of}
-use Rattle.digests.specs.GenerationRuns.{Listable, GenerationRun, generation_output, names_of, Checkable, IsGood, WrittenIsGood, JoinedIsGood}
+use Rattle.digests.proofs.CheckWords.{request-check_words}
+use Rattle.digests.specs.GenerationRuns.{Listable, GenerationRun, generation_output, names_of, Checkable, ChecksBy, Accepts, WrittenIsGood, JoinedIsGood}
 
 -- ---- the lines of a run
 
@@ -96,17 +99,22 @@ run-listed algos w v g c =
 -- ---- a manifest of such lines
 
 -- a manifest that holds the lines for some names is good
-lines-good : (check : CheckSettings) (tool manifest : Text) (v : World) (xs : List Item) (names : List Text)
-    (text : Text)
+lines-good : (t : Tool) (check : CheckSettings) (manifest : Text) (v : World) (xs : List Item) (names : List Text)
+    (text : Text) → ChecksBy t check manifest
     → All (Listed check.algo v.answer) xs → map (λ i. i.name) xs ≡ names → flat_map written_text xs ≡ text
     → 0 < length names → length text < limit
     → reply v manifest ≡ Given (record { bytes = text; ending = Whole })
-    → IsGood check tool v manifest names
-lines-good check tool manifest v xs names text all is same some fits given =
+    → Accepts t check v manifest names
+lines-good t check manifest v xs names text by all is same some fits given =
     let count : length xs ≡ length names = sym (length-map xs (λ i. i.name)) ∙ ap length is in
-    let f = manifest_good check tool manifest v xs all (rw count some) (rw same fits) (rw same given) in
+    let f = manifest_good check (name_of t) manifest v xs all (rw count some) (rw same fits) (rw same given) in
     let reported = f.out ∙ sym (flat_map-map (right_line check.report) (λ i. i.name) xs) in
-    record { good = f.good; out = reported ∙ ap (flat_map (right_line check.report)) is; err = f.err }
+    let asked = request-check_words t check manifest by in
+    record {
+      status = rw (asked, f.good) refl;
+      out = rw (asked, append-nil) (reported ∙ ap (flat_map (right_line check.report)) is);
+      err = rw (asked, append-nil) f.err;
+    }
 
 -- ---- one run
 
@@ -123,8 +131,8 @@ names-are answer s (name ∷ names) = ap (λ l. name ∷ l) (names-are answer s 
 
 -- the law of one run
 pub written_is_good : WrittenIsGood
-written_is_good check tool manifest w v g c =
-    lines-good check tool manifest v (items w.answer g) g.names (generation_output w g) (run-listed check.algo w v g c)
+written_is_good t check manifest w v g by c =
+    lines-good t check manifest v (items w.answer g) g.names (generation_output w g) by (run-listed check.algo w v g c)
     (names-are w.answer g.settings g.names) (run-text check.algo w v g c)
 
 -- ---- several runs: the same of each, one behind the other
@@ -155,7 +163,7 @@ runs-names answer (g ∷ gs) = rw (map-append, names-are answer g.settings g.nam
 
 -- the law of several runs
 pub joined_is_good : JoinedIsGood
-joined_is_good check tool manifest w v gs all =
-    lines-good check tool manifest v (flat_map (items w.answer) gs) (flat_map names_of gs)
-    (flat_map (generation_output w) gs) (runs-listed check.algo w v gs all) (runs-names w.answer gs)
+joined_is_good t check manifest w v gs by all =
+    lines-good t check manifest v (flat_map (items w.answer) gs) (flat_map names_of gs)
+    (flat_map (generation_output w) gs) by (runs-listed check.algo w v gs all) (runs-names w.answer gs)
     (runs-text check.algo w v gs all)

@@ -1,5 +1,5 @@
 -- What is written is good: manifests that generation wrote, checked while the files stay as they were.
-use Rattle.std.specs.Prelude.{ℕ, ◌≡◌, ◌<◌, true, false, List, [], IsTrue, length, flat_map}
+use Rattle.std.specs.Prelude.{ℕ, ◌≡◌, ◌<◌, true, false, List, [], ◌∷◌, ◌++◌, IsTrue, length, map, flat_map, codes, if◌then◌else◌}
 use Rattle.std.specs.List.{All}
 use Rattle.digest_kinds.specs.Kinds.{has_len}
 use Rattle.digest_kinds.specs.declared.algo.Algos.{Algos}
@@ -9,13 +9,17 @@ use Rattle.sum_sources.specs.Sources.{Reply, Given}
 use Rattle.sum_lines.specs.Laws.{ReadBy}
 use Rattle.sum_engine.specs.declared.settings.Settings.{Settings}
 use Rattle.sum_engine.specs.declared.settings.CheckSettings.{CheckSettings}
+use Rattle.sum_engine.specs.declared.settings.Report.{Report}
+use Rattle.sum_engine.specs.declared.settings.Report.TheVariants as reports
 use Rattle.sum_engine.specs.Worlds.{World, is_dash, reply}
 use Rattle.sum_engine.specs.Runs.{outs, errs}
 use Rattle.sum_engine.specs.Generation.{generate_run}
 use Rattle.sum_engine.specs.Reports.{right_line}
-use Rattle.sum_engine.specs.Checking.{check_run}
+use Rattle.sum_words.specs.declared.tool.Tool.{Tool}
+use Rattle.sum_words.specs.Tools.{algos_of}
 use Rattle.sum_words.specs.Items.{Text}
-use Rattle.digests.specs.Meaning.{all_of}
+use Rattle.sum_words.specs.PlainWords.{is_plain}
+use Rattle.digests.specs.Meaning.{all_of, meaning, status_of}
 
 -- a name that isn't empty, holds no NUL and isn't `-`, and whose file is whole and not too long
 pub record Listable (answer : Text → Reply) (name : Text) : Type 0 where
@@ -48,24 +52,44 @@ pub record Checkable (algos : Algos) (w v : World) (g : GenerationRun) : Type 0 
   pub listable : All (Listable w.answer) g.names
   pub same : All (λ name. v.answer name ≡ w.answer name) g.names
 
--- Checking the manifest of that name finds it good, and writes `NAME: OK` for each name, where the report setting has
--- such lines, and nothing else.
-pub record IsGood (check : CheckSettings) (tool : Text) (v : World) (manifest : Text) (names : List Text) : Type 0 where
-  pub good : (check_run check tool v manifest).good ≡ true
-  pub out : outs (check_run check tool v manifest) ≡ flat_map (right_line check.report) names
-  pub err : errs (check_run check tool v manifest) ≡ []
+-- the options that ask for a check with these settings, by their full names
+abbrev pub report_option : Report → List Text
+report_option reports.All = []
+report_option reports.Quiet = codes "quiet" ∷ []
+report_option reports.Warn = codes "warn" ∷ []
+report_option reports.Status = codes "status" ∷ []
+
+abbrev pub check_options : CheckSettings → List Text
+check_options check = codes "check" ∷ report_option check.report ++ (if check.strict then codes "strict" ∷ [] else [])
+    ++ (if check.ignore_missing then codes "ignore-missing" ∷ [] else [])
+
+-- the words of such a check of one manifest, as `--check --quiet SUMS`
+abbrev pub check_words : CheckSettings → Text → List Text
+check_words check manifest = map (λ full. codes "--" ++ full) (check_options check) ++ manifest ∷ []
+
+-- A tool, called with these words, ends with the status 0; it writes `NAME: OK` for each name, where the report setting
+-- has such lines, and nothing else.
+pub record Accepts (t : Tool) (check : CheckSettings) (v : World) (manifest : Text) (names : List Text) : Type 0 where
+  pub status : status_of (meaning t (check_words check manifest) v).good ≡ 0
+  pub out : outs (meaning t (check_words check manifest) v) ≡ flat_map (right_line check.report) names
+  pub err : errs (meaning t (check_words check manifest) v) ≡ []
+
+-- the settings are some of that tool's, and the manifest's name is taken for an operand
+pub record ChecksBy (t : Tool) (check : CheckSettings) (manifest : Text) : Type 0 where
+  pub algo : check.algo ≡ algos_of t
+  pub operand : is_plain manifest ≡ true
 
 -- what generation wrote for one name or more is good as a manifest, where it isn't too long
 abbrev pub WrittenIsGood : Type 0
-WrittenIsGood = (check : CheckSettings) (tool manifest : Text) (w v : World) (g : GenerationRun)
-    → Checkable check.algo w v g → 0 < length g.names → length (generation_output w g) < limit
+WrittenIsGood = (t : Tool) (check : CheckSettings) (manifest : Text) (w v : World) (g : GenerationRun)
+    → ChecksBy t check manifest → Checkable check.algo w v g → 0 < length g.names → length (generation_output w g) < limit
     → reply v manifest ≡ Given (record { bytes = generation_output w g; ending = Whole })
-    → IsGood check tool v manifest g.names
+    → Accepts t check v manifest g.names
 
 -- so is what several runs wrote, one behind the other
 abbrev pub JoinedIsGood : Type 0
-JoinedIsGood = (check : CheckSettings) (tool manifest : Text) (w v : World) (gs : List GenerationRun)
-    → All (Checkable check.algo w v) gs → 0 < length (flat_map names_of gs)
+JoinedIsGood = (t : Tool) (check : CheckSettings) (manifest : Text) (w v : World) (gs : List GenerationRun)
+    → ChecksBy t check manifest → All (Checkable check.algo w v) gs → 0 < length (flat_map names_of gs)
     → length (flat_map (generation_output w) gs) < limit
     → reply v manifest ≡ Given (record { bytes = flat_map (generation_output w) gs; ending = Whole })
-    → IsGood check tool v manifest (flat_map names_of gs)
+    → Accepts t check v manifest (flat_map names_of gs)

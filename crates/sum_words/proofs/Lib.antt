@@ -6,4 +6,4 @@ mod WordLemmas
 mod RequestLemmas
 mod TextLemmas
 mod Rows
-mod PlainWordLemmas
+pub mod PlainWordLemmas
