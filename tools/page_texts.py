@@ -229,10 +229,10 @@ RECIPES_OF_FOLDERS = (
      "find . -type f ! -path ./SUMS ! -path ./SUMS.new -print0 |",
      "    xargs -0 -r -n 32 -P \"$(nproc)\" {writes} > SUMS.new) &&",
      "    [ -s SUMS.new ] && mv -T SUMS.new SUMS"),
-    ("A file whose name isn't UTF-8 can't be opened. The others are read, but both recipes above fail, and leave no "
-     "list. This one shows such names, each with a byte 0 behind it. Its status is 0 where it shows "
-     "one, and else 1: of a folder that may not be read, `find`(1) alone tells. The locale `C.UTF-8` has to be there: "
-     "without it, none is found. Such a file can be renamed, or read as standard input.",
+    ("A file whose name isn't UTF-8 can't be opened. The others are read, but both recipes above fail, and no `SUMS` is "
+     "made. This one shows such names, each with a byte 0 behind it. Its status is 0 where it shows one, and else 1: of "
+     "a folder that may not be read, `find`(1) alone tells. The locale `C.UTF-8` has to be there: without it, none is "
+     "found. Such a file can be renamed, or read as standard input.",
      "find . -type f -print0 | LC_ALL=C.UTF-8 grep -zavx '.*'"),
     ("Whether all listed files still have their checksums, with a line only for those that haven't. With `--strict` a "
      "line that can't be read fails, too:",

@@ -1,7 +1,7 @@
 -- Worked command lines: what the definitions say of each computes.
 use Rattle.std.proofs.Common.{◌≡◌, ◌≤◌, ◌<◌, List, ℕ, [], ◌∷◌, Result, Ok, Err, Option, Some, None, is_some, if◌then◌else◌, refl, codes, true, false, zero, suc, length, inl, inr, arith, ap, lit≤}
 use Rattle.std.specs.List.{AllByRecursion}
-use Rattle.std.specs.Str.{chars}
+use Rattle.std.specs.Str.{chars, is_utf8}
 use lib.Utf8.{encode}
 use Rattle.digest_kinds.specs.declared.algo.Algo.{Algo}
 use Rattle.digest_kinds.specs.declared.algo.Algo.TheVariants.{Md5, Sha256, Blake2b}
@@ -17,7 +17,7 @@ use Rattle.sum_words.specs.declared.request.Job.TheVariants.{Generate, Check}
 use Rattle.sum_words.specs.Faults.{Fault, unknown_long, ambiguous_long, value_not_allowed, value_missing, unknown_short, length_invalid, length_not_bytes, tag_with_text, zero_with_check, tag_with_check, mode_with_check, without_check, check_needed}
 use Rattle.sum_words.specs.Items.{Text, name_or_fault, option_of_letter}
 use Rattle.sum_words.specs.Request.{request}
-use Rattle.sum_words.specs.CommandLines.{last_part, LongerAt, NeedsMemory, MayNotRead}
+use Rattle.sum_words.specs.CommandLines.{unknown, call, last_part, command_line, LongerAt, NeedsMemory, MayNotRead}
 use Rattle.sum_words.specs.Tools.{tool_called}
 use Rattle.sum_words.specs.declared.command_line.TheConstants.{PAGE}
 
@@ -120,6 +120,17 @@ anysum_words :
     × (request Anysum (codes "-c" ∷ codes "--length=8" ∷ codes "m" ∷ []) ≡ Err (unknown_long (codes "length")))
 unfolding chars encode name_or_fault option_of_letter
 anysum_words = (refl, refl, refl, refl, refl, refl, refl)
+
+-- words of any bytes
+odd_words :
+    (request Md5sum (codes "a" ∷ (233 ∷ []) ∷ codes "--" ∷ (255 ∷ []) ∷ [])
+    ≡ writes Md5 16 modes.Text (codes "a" ∷ (233 ∷ []) ∷ (255 ∷ []) ∷ []))
+    × (request B2sum (codes "-l" ∷ (255 ∷ []) ∷ []) ≡ Err (length_invalid (255 ∷ [])))
+    × (command_line (codes "digests" ∷ codes "md5sum" ∷ (233 ∷ []) ∷ []) ≡ Some (call Md5sum ((233 ∷ []) ∷ [])))
+    × (command_line (codes "md5sum" ∷ codes "a" ∷ (45 ∷ 255 ∷ []) ∷ []) ≡ None)
+    × (command_line (codes "digests" ∷ (255 ∷ []) ∷ []) ≡ Some unknown)
+unfolding chars encode name_or_fault option_of_letter tool_called is_utf8
+odd_words = (refl, refl, refl, refl, refl)
 
 -- two dashes, and the version
 dashes_and_version :

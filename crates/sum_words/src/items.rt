@@ -12,7 +12,7 @@ ghost use Rattle.sum_words.specs.declared.tool.Tool.{Tool};
 use crate::faults::WordFault;
 use crate::options::Flag;
 use crate::tool::Tool;
-use crate::words::{LentWords, Words, is_option_word};
+use crate::words::{LentWords, Words};
 use std::alloc::Allocator;
 use std::marker::Model;
 
@@ -148,7 +148,14 @@ fn word_step<'a>(tool: Tool, word: &'a [u8]) -> Step<'a>
     }
 }
 
-// What a word that begins with a dash and goes on makes of reading.
+// Whether a word begins with a dash and goes on.
+fn is_option_word(word: &[u8]) -> bool
+    ensures { result ≡ is_option_word word.now }
+{
+    matches!(word, [b'-', _, ..])
+}
+
+// What such a word makes of reading.
 fn option_step<'a>(tool: Tool, word: &'a str) -> Step<'a>
     requires { is_option_word word.now ≡ true }
     ensures { (ws : List (List ℕ)) → step_says tool result ws ≡ items_from tool a_word (word.now ∷ ws) }

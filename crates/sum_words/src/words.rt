@@ -3,7 +3,7 @@ ghost use Rattle.std.specs.Prelude.{◌≡◌, ◌<◌, [], ◌∷◌, ◌++◌,
 ghost use Rattle.std.specs.Prelude.{slice_get, slice_index};
 ghost use Rattle.std.specs.Option.{option_copied};
 ghost use Rattle.std.specs.Str.{is_utf8};
-ghost use Rattle.sum_words.specs.Items.{is_option_word, is_readable};
+ghost use Rattle.sum_words.specs.Items.{is_readable};
 ghost use Rattle.sum_words.specs.refinement.Pieces.{pieces_cut, CutsAt};
 
 use std::alloc::Allocator;
@@ -21,13 +21,6 @@ fn is_text(word: &[u8]) -> bool
     ensures { result ≡ is_utf8 word.now }
 {
     str::from_utf8(word).is_ok()
-}
-
-/// Whether a word begins with a dash and goes on.
-pub(crate) fn is_option_word(word: &[u8]) -> bool
-    ensures { result ≡ is_option_word word.now }
-{
-    matches!(word, [b'-', _, ..])
 }
 
 /// A list of words, kept as their bytes beside the places where each of them ends. Each can be read ([`is_readable`]).
