@@ -1,5 +1,5 @@
-//! Inputs of which one read fails and which then go on. No contract of a wrapper sees what it does after a fault of an
-//! input that tells nothing, but for the flag of whether one has failed.
+//! Inputs of which one read fails and which then go on. No contract refuses a body that reads a reader again after an
+//! error.
 use digest_kinds::Md5Hasher;
 use std::io::{self, ErrorKind, Read};
 use std::process::Abort;
