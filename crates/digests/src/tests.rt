@@ -1,5 +1,6 @@
 //! Worked command lines, run over told input and told files into told sinks.
 mod checking;
+mod failing;
 mod flushing;
 mod generating;
 mod growths;

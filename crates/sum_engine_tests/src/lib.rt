@@ -4,6 +4,8 @@
 #[cfg(test)]
 mod checking;
 #[cfg(test)]
+mod failing;
+#[cfg(test)]
 mod finding;
 #[cfg(test)]
 mod hashing;

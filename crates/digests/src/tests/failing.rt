@@ -1,0 +1,166 @@
+//! One read of a run that fails, after which all files go on.
+use super::program::status_of;
+use super::{File, assert_text, joined, source_of, spelled};
+use std::alloc::Global;
+use std::cell::Cell;
+use std::process::Abort;
+use std::test::Fail;
+use sum_engine::Streams;
+use sum_lines::ToldSink;
+use sum_sources::{Ending, Fault, Input, OpenFault, Source, Stdin, Told, ToldSource};
+
+// Of all reads of the inputs that share the count, the one before which so many come fails.
+#[derive(Drop)]
+struct FailsOnce<'a> {
+    input: Told<'a>,
+    before: &'a Cell<usize>,
+}
+
+impl<'a> Input for FailsOnce<'a> {
+    fn read(&mut self, buf: &mut [u8]) -> Result<usize, Fault> {
+        let before = self.before.get();
+        self.before.set(before.wrapping_sub(1));
+        if before == 0 {
+            return Err(Fault::Other);
+        }
+        self.input.read(buf)
+    }
+}
+
+// The files of a source as such inputs.
+#[derive(Drop)]
+struct FilesFailOnce<'a> {
+    source: ToldSource<'a, Global>,
+    before: &'a Cell<usize>,
+}
+
+impl<'a> Source for FilesFailOnce<'a> {
+    type File = FailsOnce<'a>;
+
+    ghost refusals = { λ s. s.source.refusals };
+
+    fn open_file(&mut self, name: &[u8]) -> Result<FailsOnce<'a>, OpenFault> {
+        match self.source.open_file(name) {
+            Ok(input) => Ok(FailsOnce {
+                input,
+                before: self.before,
+            }),
+            Err(fault) => Err(fault),
+        }
+    }
+}
+
+// Lines of the published digests of "abc", of nothing and of 56 bytes (FIPS 180-4).
+const LINE_A: &str = "$S  a\n";
+
+const LINE_B: &str = "e3b0c44298fc1c149afbf4c8996fb92427ae41e4649b934ca495991b7852b855  b\n";
+
+const LINE_C: &str = "248d6a61d20638b8e5c026930c3e6039a33ce45964ff2167f6ecedd419db06c1  c\n";
+
+// That the program, called so, leaves these texts, where so many reads come before the one that fails. Each read gives
+// at most a line of the list `l`.
+fn assert_leaves(
+    rt: &(impl Abort + AllocGlobal),
+    arguments: &[&[u8]],
+    before: usize,
+    (out, err, status): (&str, &str, u8),
+) -> Result<(), Fail> {
+    let list = spelled(rt.alloc(), joined(rt.alloc(), &[LINE_A, LINE_B])?.as_str())?;
+    let added: [File; 3] = [
+        ("b", b"", Ending::Whole),
+        (
+            "c",
+            b"abcdbcdecdefdefgefghfghighijhijkijkljklmklmnlmnomnopnopq",
+            Ending::Whole,
+        ),
+        ("l", list.as_bytes(), Ending::Whole),
+    ];
+    let count = Cell::new(before);
+    let mut streams = Streams {
+        stdin: Stdin::new(Told::new(b"", Ending::Whole, 1)),
+        source: FilesFailOnce {
+            source: source_of(rt.alloc(), &added, 68)?,
+            before: &count,
+        },
+        out: ToldSink::<1024>::new(1024),
+        err: ToldSink::<1024>::new(1024),
+    };
+    let answer = status_of(rt.alloc(), arguments, &mut streams);
+    assert_text(
+        rt,
+        streams.out.bytes(),
+        out,
+        ("standard output", "the program"),
+    )?;
+    assert_text(
+        rt,
+        streams.err.bytes(),
+        err,
+        ("standard error", "the program"),
+    )?;
+    assert_eq!(rt; answer, status, "{before}");
+    Ok(())
+}
+
+// The file of which a read fails has no line, and the others have theirs.
+#[test]
+fn each_read_of_hashing(rt: HostRuntime) -> Result<(), Fail> {
+    let arguments: [&[u8]; 4] = [b"sha256sum", b"a", b"b", b"c"];
+    let fault_of_a = "sha256sum: a: Input/output error\n";
+    let fault_of_c = "sha256sum: c: Input/output error\n";
+    let rows = [
+        ([LINE_B, LINE_C, ""], fault_of_a, 1),
+        ([LINE_B, LINE_C, ""], fault_of_a, 1),
+        (
+            [LINE_A, LINE_C, ""],
+            "sha256sum: b: Input/output error\n",
+            1,
+        ),
+        ([LINE_A, LINE_B, ""], fault_of_c, 1),
+        ([LINE_A, LINE_B, ""], fault_of_c, 1),
+        ([LINE_A, LINE_B, LINE_C], "", 0),
+    ];
+    for (before, (lines, err, status)) in rows.into_iter().enumerate() {
+        let out = joined(rt.alloc(), &lines)?;
+        assert_leaves(&rt, &arguments, before, (out.as_str(), err, status))?;
+    }
+    Ok(())
+}
+
+// A list is read up to its fault, a file that it names counts as not read, and the list behind it is good.
+#[test]
+fn each_read_of_checking(rt: HostRuntime) -> Result<(), Fail> {
+    let arguments: [&[u8]; 4] = [b"sha256sum", b"-c", b"l", b"l"];
+    let fault_of_l = "sha256sum: l: Input/output error\n";
+    let of_a = (
+        "a: FAILED open or read\nb: OK\n",
+        "sha256sum: a: Input/output error\nsha256sum: WARNING: 1 listed file could not be read\n",
+        1,
+    );
+    let rows = [
+        ("", fault_of_l, 1),
+        of_a,
+        of_a,
+        ("a: OK\n", fault_of_l, 1),
+        (
+            "a: OK\nb: FAILED open or read\n",
+            "sha256sum: b: Input/output error\nsha256sum: WARNING: 1 listed file could not be read\n",
+            1,
+        ),
+        ("a: OK\nb: OK\n", fault_of_l, 1),
+    ];
+    for (before, (first, err, status)) in rows.into_iter().enumerate() {
+        let out = joined(rt.alloc(), &[first, "a: OK\nb: OK\n"])?;
+        assert_leaves(&rt, &arguments, before, (out.as_str(), err, status))?;
+    }
+    // the last read of the second list, and none of all
+    for (before, err, status) in [(11, fault_of_l, 1), (12, "", 0)] {
+        assert_leaves(
+            &rt,
+            &arguments,
+            before,
+            ("a: OK\nb: OK\na: OK\nb: OK\n", err, status),
+        )?;
+    }
+    Ok(())
+}

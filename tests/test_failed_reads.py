@@ -1,0 +1,55 @@
+"""One read of a run that fails, by `strace`, while those behind it would go on: the fault stands."""
+
+import hashlib
+import os
+
+from harness import M, Ran, as_bytes, needs_check
+from tracing import Traced, needs_strace
+
+PIECE = 8192  # the most bytes of a read
+READS = 4  # of a file of two pieces and a part: three that give bytes, and the one that finds the end
+LISTED = b"md5sum: WARNING: 1 listed file could not be read\n"
+
+
+@needs_strace
+class FailedRead(Traced):
+    """Each read of one file in turn, where the other files can be read, and this one the next time."""
+
+    def setUp(self):
+        super().setUp()
+        content = os.urandom(2 * PIECE + 1)
+        self.write("f", content)
+        self.line = f"{hashlib.md5(content).hexdigest()}  f"
+
+    def expect_each(self, name, words, outs, err, stdin=os.devnull):
+        """Runs `digests` with these words once for each read of this file, which fails: with an error of the device,
+        or as one that would have to wait. Both are no end of the file. Of `outs` each belongs to one read."""
+        for error in ("EIO", "EAGAIN"):
+            for read, out in enumerate(outs, 1):
+                with self.subTest(words=words, error=error, read=read), open(self.path(stdin), "rb") as file:
+                    only = os.fsdecode(self.path(name))
+                    ran, _ = self.failing("read", error, words, only=only, when=str(read), stdin=file)
+                    self.assertEqual(ran, Ran(1, as_bytes(out), err))
+
+    def test_hashing(self):
+        """No digest comes of a part of the file."""
+        fault = b"md5sum: f: Input/output error\n"
+        self.expect_each("f", "md5sum f a f", [[f"{M}  a", self.line]] * READS, fault)
+        self.expect_each("f", "md5sum", [b""] * READS, b"md5sum: -: Input/output error\n", stdin="f")
+
+    @needs_check
+    def test_listed_file(self):
+        """It isn't OK, though its digest is right."""
+        self.write("l", [self.line, f"{M}  a", self.line])
+        reports = ["f: FAILED open or read", "a: OK", "f: OK"]
+        self.expect_each("f", "md5sum -c l", [reports] * READS, b"md5sum: f: Input/output error\n" + LISTED)
+
+    @needs_check
+    def test_list(self):
+        """What is whole before the fault is checked, and nothing behind it."""
+        line = as_bytes([f"{M}  a"])
+        lines = 2 * PIECE // len(line) + 1
+        self.write("l", line * lines)
+        outs = [["a: OK"] * min(read * PIECE // len(line), lines) for read in range(READS)]
+        self.expect_each("l", "md5sum -c l", outs, b"md5sum: l: Input/output error\n")
+        self.expect_each("l", "md5sum -c", outs, b"md5sum: standard input: Input/output error\n", stdin="l")
