@@ -29,13 +29,13 @@ def examples_of(tool):
 
 
 INTRODUCTION = (
-    "Any tool but `anysum` may take the place of `sha256sum` here. Each recipe is one command, whose status is 0 only if "
-    "all that it is for was done.")
+    "Any tool but `anysum` may take the place of `sha256sum` here. Each recipe is one command, whose status is 0 only "
+    "if all that it is for was done.")
 
 RECIPES = (
     ("A list of all files below the current folder, without links, pipes and devices. It gets the name {SUMS} only if "
-     "there is a file, and every file and folder could be read. Until then it is in a new folder, which is removed in the "
-     "end:",
+     "there is a file, and every file and folder could be read. Until then it is in a new folder, which is removed in "
+     "the end:",
      in_a_folder("SUMS"),
      "find . -type f ! -path ./SUMS ! -path \"$at/*\" \\",
      "    -exec sha256sum {} + > \"$at/new\" &&",
@@ -48,16 +48,17 @@ RECIPES = (
      "[ -s \"$at/new\" ] && mv -T \"$at/new\" SUMS)"),
     ("Whether all listed files still match. Only those that don't are printed:",
      "sha256sum -c --quiet --strict SUMS"),
-    ("The same on all processors. `split`(1) deals the lines out to several runs, each of which takes its own for a whole "
-     "list. It would pass an empty list, so that is tested first. Where one run fails, `split` doesn't wait for the "
-     "others, whose lines may come later:",
+    ("The same on all processors. `split`(1) deals the lines out to several runs, each of which takes its own for a "
+     "whole list. It would pass an empty list, so that is tested first. Where one run fails, `split` doesn't wait for "
+     "the others, whose lines may come later:",
      "[ -s SUMS ] && SHELL=/bin/sh split -e -n \"r/$(nproc)\" \\",
      "    --filter='sha256sum -c --quiet --strict' SUMS"),
-    ("One of the listed files, by its whole line. If `grep`(1) doesn't find it, the list is empty, and the check fails:",
+    ("One of the listed files, by its whole line. If `grep`(1) doesn't find it, the list is empty, and the check "
+     "fails:",
      "grep -x '[0-9a-f]*  \\./image\\.iso' SUMS | sha256sum -c --strict"),
-    ("The files that {SUMS} doesn't list, in `bash`(1). A check doesn't report them. Names are escaped as in lines. The "
-     "status is 0 only if there is no such file, and all folders could be read. The digits aren't looked at, so check "
-     "{SUMS} with `--strict` first:",
+    ("The files that {SUMS} doesn't list, in `bash`(1). A check doesn't report them. Names are escaped as in lines. "
+     "The status is 0 only if there is no such file, and all folders could be read. The digits aren't looked at, so "
+     "check {SUMS} with `--strict` first:",
      "(set -o pipefail; export LC_ALL=C",
      "at=$(mktemp -d) && trap 'rm -r \"$at\"' EXIT &&",
      "find . -type f ! -path ./SUMS -print0 |",
@@ -73,8 +74,8 @@ RECIPES = (
      "pv image.iso | sha256sum > \"$at/new\" &&",
      "mv -T \"$at/new\" image.sum)"),
     ("Its check:", "(set -o pipefail; pv image.iso | sha256sum -c image.sum)"),
-    ("Two checksums of a file that is read once, in `bash`(1). The statuses of the two tools are lost, so their lines are "
-     "counted:",
+    ("Two checksums of a file that is read once, in `bash`(1). The statuses of the two tools are lost, so their lines "
+     "are counted:",
      "(set -o pipefail",
      in_a_folder("image", begin=""),
      "tee >(sha256sum --tag) >(b2sum --tag) < image.iso > /dev/null |",

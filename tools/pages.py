@@ -116,7 +116,7 @@ def checking(tool):
 
 def exit_status(tool):
     checked = texts.STATUSES["0"]
-    zero = checked.capitalize() if texts.TOOLS[tool][1] is None else texts.WRITTEN + checked
+    zero = checked[0].upper() + checked[1:] if texts.TOOLS[tool][1] is None else texts.WRITTEN + checked
     return section("EXIT STATUS", *items_of({**texts.STATUSES, "0": zero}))
 
 
@@ -139,8 +139,8 @@ def see_also(*names):
 
 def page_of_tool(tool, known):
     others = [name for name in texts.TOOLS if name != tool]
-    return page(tool, texts.DATE, f"digests {version()}",
-                section("NAME", [f"{tool} \\- " + texts.PURPOSE.get(tool, f"print or check {texts.TOOLS[tool][1]} checksums")]),
+    purpose = texts.PURPOSE.get(tool, f"print or check {texts.TOOLS[tool][1]} checksums")
+    return page(tool, texts.DATE, f"digests {version()}", section("NAME", [f"{tool} \\- {purpose}"]),
                 synopsis(tool, known), description(tool, known), options(known), line_formats(tool), checking(tool),
                 exit_status(tool), examples(recipes.examples_of(tool)), differences(tool),
                 section("SEE ALSO", texts.FURTHER, see_also(*others)))
