@@ -74,17 +74,17 @@ class Pages(Case):
                     self.assertEqual((taken(tool, word), taken(tool, "-c", word)), wanted, (tool, word))
 
     def test_the_synopsis_names_each_option(self):
-        """Under the use that takes it; but for help and version, behind which nothing counts."""
+        """Without --check those that are taken so, and with it those that need it; but for help and version, behind
+        which no word counts."""
         for tool in TOOLS:
             text = re.sub(r"\n +", " ", sections_of(tool)["SYNOPSIS"])
             for line in re.findall(rf"(?m)^{tool} .*", text):
-                checks = ["-c"] if " -c " in line else []
                 letters = "".join(re.findall(r"(?<!-)-(\w+)", line))
                 for short, long, value in options_of_help(tool):
-                    words = [f"--{long}=8" if value else f"--{long}"]
-                    wanted = (taken(tool, *checks, *words) and not taken(tool, *words, "--=")
-                              and not (checks and taken(tool, *words) and long != "check")
-                              and (long != "check" or bool(checks)))
+                    word = f"--{long}=8" if value else f"--{long}"
+                    alone = taken(tool, word) and long != "check"
+                    wanted = taken(tool, "-c", word) and not alone if " -c " in line else alone
+                    wanted = wanted and not taken(tool, word, "--=")
                     self.assertEqual(short in letters if short else f"--{long}]" in line, wanted, (line, long))
 
     def test_lint(self):
@@ -186,6 +186,12 @@ class Made(Case):
         text = self.read(pages.VERSION_FILE).decode()
         self.write(pages.VERSION_FILE, text.replace(pages.version(), "9.9.9"))
         self.assertEqual(self.pages("--check").out.count(b"is to be made anew"), len(NAMES))
+
+    def test_no_help(self):
+        """Nothing is made of a program that has none."""
+        ran = self.pages(program=shutil.which("false"))
+        self.assertEqual(ran, Ran(1, b"", b"md5sum has no help: status 1\n"))
+        self.assertEqual(self.pages("--check").status, 0)
 
     def test_another_option(self):
         """Nothing is said of it but what the help says, and all follows."""

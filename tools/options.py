@@ -2,6 +2,7 @@
 
 import re
 import subprocess
+import sys
 from typing import NamedTuple, Optional
 
 LINE = re.compile(r"  (?:-(?P<short>\w), |    )--(?P<long>[a-z-]+)(?:=(?P<value>[A-Z]+))? +(?P<help>.*)")
@@ -25,20 +26,21 @@ class Option(NamedTuple):
         return [*([f"-{self.short}"] if self.short else []), f"--{self.long}"]
 
 
-def run(program, tool, *words):
-    return subprocess.run([program, tool, *words], stdin=subprocess.DEVNULL, stdout=subprocess.PIPE,
-                          stderr=subprocess.PIPE, universal_newlines=True)
-
-
 def takes(program, tool, *words):
     """Whether the program takes these words, with which it reads nothing but an empty standard input."""
-    return "\nTry '" not in run(program, tool, *words).stderr
+    ran = subprocess.run([program, tool, *words], stdin=subprocess.DEVNULL, stdout=subprocess.PIPE,
+                         stderr=subprocess.PIPE, universal_newlines=True)
+    return "\nTry '" not in ran.stderr
 
 
 def options_of(program, tool):
     """The options that the help of a tool lists, in its order."""
+    helped = subprocess.run([program, tool, "--help"], stdin=subprocess.DEVNULL, stdout=subprocess.PIPE,
+                            universal_newlines=True)
+    if helped.returncode:
+        sys.exit(f"{tool} has no help: status {helped.returncode}")
     found = []
-    for line in run(program, tool, "--help").stdout.splitlines()[2:]:
+    for line in helped.stdout.splitlines()[2:]:
         short, long, value, text = LINE.fullmatch(line).groups()
         word = f"--{long}=8" if value else f"--{long}"  # a value is a number of bits
         alone, checking = takes(program, tool, word), takes(program, tool, "--check", word)

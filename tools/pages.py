@@ -149,7 +149,7 @@ def page_of_tool(tool, known):
 def page_of_program():
     """The page of the program that holds all tools."""
     tools = [item(f"`{tool}`", f"{tag} ({standard}), {bits} bits{texts.FEWER.get(tool, '')}" if tag else
-                  "lists of all these", "12") for tool, (standard, tag, bits) in texts.TOOLS.items()]
+                  "checks lists of all these", "12") for tool, (standard, tag, bits) in texts.TOOLS.items()]
     return page("digests", texts.DATE, f"digests {version()}",
                 section("NAME", ["digests \\- print or check checksums"]),
                 section("SYNOPSIS", [".nf", *(inline(use) for use in texts.PROGRAM_USES), ".fi"]),
