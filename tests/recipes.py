@@ -91,6 +91,10 @@ def line_of(tool, name, content, tagged=False):
     return mark + digits + b"  " + escaped + b"\n"
 
 
+# The lines of the image by two tools.
+BOTH = [line_of(tool, b"image.iso", IMAGE, tagged=True) for tool in ("sha256sum", "b2sum")]
+
+
 class Typed(Case):
     """A folder in which recipes are typed, in bash; and in sh where one isn't for bash alone."""
 

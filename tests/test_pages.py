@@ -1,5 +1,5 @@
-"""The manual pages in man/: what they say of options and of faults is what the program says. test_recipes.py types what
-they show."""
+"""The manual pages in man/: what they say of options and of faults is what the program says. test_recipes.py and
+test_shown.py type what they show."""
 
 import os
 import re

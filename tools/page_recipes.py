@@ -1,4 +1,4 @@
-"""What the manual pages show to be typed: what each recipe is for, and its lines. tests/test_recipes.py types each.
+"""What the manual pages show to be typed: what each recipe is for, and its lines. tests/ types each.
 
 A recipe has one status, which is 0 only where all that it is for was done. A list of many files, or one that a pipe
 makes, gets its name only once it is whole, so that no check takes a short one for all. Until then it is in a new folder

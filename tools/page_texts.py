@@ -47,8 +47,8 @@ INSTEAD = {"help": "Print a short help."}
 MORE = {
     "binary": "A star then comes before each name. The file is read the same way.",
     "check": "See CHECKING.",
-    "length": "A length of 0 means 512. A shorter digest isn't the beginning of a longer one. Where somebody might cheat, use 256 "
-              "bits or more. With `--check` the length of each line's own digits counts.",
+    "length": "A length of 0 means 512. A shorter digest isn't the beginning of a longer one. Where somebody might "
+              "cheat, use 256 bits or more. With `--check` the length of each line's own digits counts.",
     "tag": "They name the algorithm. `--tag --text` is refused.",
     "text": "Of `--binary` and `--text` the last counts.",
     "zero": "Such lines can't be checked.",
@@ -60,8 +60,8 @@ MORE = {
 }
 
 ESCAPES = (
-    "In a name, backslash, newline and carriage return are written as `\\\\`, `\\n` and `\\r`, and the line then begins "
-    "with one more backslash.")
+    "In a name, backslash, newline and carriage return are written as `\\\\`, `\\n` and `\\r`, and the line then "
+    "begins with one more backslash.")
 
 LINE_FORMATS = f"The digits are in lower case. {ESCAPES} With `--zero` names are written as they are."
 

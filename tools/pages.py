@@ -166,6 +166,9 @@ def page_of_program():
 def made(program):
     """Each file's name in the repository, and its text."""
     known = {tool: options_of(program, tool) for tool in texts.TOOLS}
+    unknown = {*texts.INSTEAD, *texts.MORE} - {option.long for options in known.values() for option in options}
+    if unknown:
+        sys.exit(f"pages.py: page_texts.py has a word on no option: {', '.join(sorted(unknown))}")
     files = {f"man/{tool}.1": page_of_tool(tool, known[tool]) for tool in texts.TOOLS}
     files["man/digests.1"] = page_of_program()
     files.update({f"completions/{name}": text for name, text in shells.completions(known).items()})
