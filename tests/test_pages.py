@@ -50,6 +50,14 @@ class Pages(Case):
         for name in NAMES:
             self.assertEqual(list(sections_of(name)), SECTIONS_OF_PROGRAM if name == "digests" else SECTIONS, name)
 
+    def test_digits_and_tags(self):
+        for tool, (tag, digits, _) in harness.TOOLS.items():
+            said = sections_of(tool)
+            self.assertIn(f"\n{tag} (NAME) = DIGITS\n", said["LINE FORMATS"])
+            said = re.sub(r"\s+", " ", said["DESCRIPTION"])
+            self.assertIn(f" {4 * len(digits)} bits, in {len(digits)} hexadecimal digits", said)
+            self.assertRegex(sections_of("anysum")["LINE FORMATS"], rf"\b{tag},")
+
     def test_options_are_those_of_the_help(self):
         """But for those that anysum takes neither with --check nor without it: these it names as refused."""
         for tool in TOOLS:

@@ -29,8 +29,8 @@ def examples_of(tool):
 
 
 INTRODUCTION = (
-    "Any tool but `anysum` may take the place of `sha256sum` here. Each recipe is one command, whose status is 0 only "
-    "if all that it is for was done.")
+    "Each tool's page shows how a list is written and checked. In the recipes here, any tool but `anysum` may take the "
+    "place of `sha256sum`. Each is one command, whose status is 0 only if all that it is for was done.")
 
 RECIPES = (
     ("A list of all files below the current folder, without links, pipes and devices. It gets the name {SUMS} only if "

@@ -68,7 +68,7 @@ LINE_FORMATS = f"The digits are in lower case. {ESCAPES} With `--zero` names are
 TAG_OF_B2SUM = "With `--length` the tag is `BLAKE2b-`{BITS}."
 
 TAGS_OF_ANYSUM = (
-    "{TAG} is `MD5`, `SHA1`, `SHA224`, `SHA256`, `SHA384`, `SHA512`, `BLAKE2b`, or `BLAKE2b-`{BITS} for a shorter "
+    "{TAG} is " + ", ".join(f"`{tag}`" for _, tag, _ in TOOLS.values() if tag) + ", or `BLAKE2b-`{BITS} for a shorter "
     "digest. " + ESCAPES)
 
 CHECKING = (
