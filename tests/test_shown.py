@@ -38,7 +38,7 @@ class Shown(Case):
     def test_readme(self):
         """A pipe of README's, too, asks for all parts' statuses."""
         lines = [line for block in blocks_of_readme() for line in block]
-        self.assertGreater(len(lines), 8)
+        self.assertTrue(lines)
         for line in lines:
             self.expect_all_statuses(line)
 
