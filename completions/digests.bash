@@ -3,7 +3,7 @@
 # Whether a word asks for --check: itself or its beginning, or as a letter among others.
 _digests_is_check() {
     case $1 in
-        --c | --ch | --che | --chec | --check) return 0 ;;
+        --c|--ch|--che|--chec|--check) return 0 ;;
         --*) return 1 ;;
         -*) case ${1%%l*} in *c*) return 0 ;; esac ;;
     esac
@@ -13,7 +13,7 @@ _digests_is_check() {
 # Whether the next word is the number of bits that this one asks for.
 _digests_wants_length() {
     case $1 in
-        --l | --le | --len | --leng | --lengt | --length) return 0 ;;
+        --l|--le|--len|--leng|--lengt|--length) return 0 ;;
         --*) return 1 ;;
         -*l) case ${1#-} in *l*l) return 1 ;; *) return 0 ;; esac ;;
     esac

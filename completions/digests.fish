@@ -12,7 +12,7 @@ function __digests_takes -a wanted state
     end
     test -n "$tool"; and contains -- "$wanted" any "$tool"; and not contains -- -- $words; or return 1
     set -l checks no
-    string match -qr '^(--c(h(e(ck?)?)?)?|-[^-l]*c.*)$' -- $words; and set checks yes
+    string match -qr '^(--c|--ch|--che|--chec|--check|-[^-l]*c.*)$' -- $words; and set checks yes
     switch "$state"
         case checking
             test $checks = yes

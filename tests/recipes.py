@@ -1,35 +1,34 @@
-"""The recipes of the manual pages, and a folder in which they are typed: what their tests share."""
+"""What the manual pages and README show to be typed, and a folder in which it is typed: what the tests of it share."""
 
 import hashlib
 import os
 import re
 import shutil
+import subprocess
 
 import harness
-from harness import Case, Ran
+from harness import TOP, Case, Ran
 from test_pages import NAMES, sections_of
-
-# A tool as it is called, by a link or as a word of `digests`.
-TOOL = r"^[\w-]+( \w[\w-]*)?"
 
 # What a recipe is for, and how it is known. Each recipe is of one sort.
 SORTS = {
-    "write": TOOL + r" image\.iso > image\.sum$",
-    "write two": r"image\.iso >> image\.new &&",
+    "write": r"^\w+( -l 256)? image\.iso > image\.sum$",
+    "write two": r"image\.iso && b2sum --tag",
     "write at once": r"^tee ",
-    "write by pv": r"^\(.*pv [^>]*> image\.new",
+    "write by pv": r"^pv .* > ",
     "list": r" -exec ",
     "list on all": r" xargs ",
-    "not UTF-8": r" grep -z",
-    "check": TOOL + r" -c (--strict )?image\.sum$",
+    "check": r"^\w+ -c (--strict )?image\.sum$",
+    "check download": r" --ignore-missing ",
     "check by pv": r"pv .* -c image\.sum",
-    "check list": TOOL + r" -c --quiet (--strict )?SUMS$",
+    "check list": r"^\w+ -c --quiet --strict SUMS$",
     "check list on all": r"\bsplit ",
     "check one": r"^grep ",
     "unlisted": r"^comm ",
 }
-OF_ALL = set(SORTS) - {"write", "write two", "write at once"}
-SORTS_OF = {"anysum": OF_ALL | {"write two", "write at once"}, "digests": OF_ALL | {"write", "write at once"}}
+OF_TOOL = {"write", "check", "check download"}
+OF_ANYSUM = {"write two", "check", "check download"}
+OF_PROGRAM = set(SORTS) - {"write", "write two", "check download"}
 
 # What the recipes, and what stands in for `pv`, call besides a tool: without one of these no recipe is typed.
 COMMANDS = ("bash", "cat", "comm", "find", "grep", "mktemp", "mv", "nproc", "rm", "sed", "sh", "sort", "split", "tee",
@@ -38,12 +37,9 @@ COMMANDS = ("bash", "cat", "comm", "find", "grep", "mktemp", "mv", "nproc", "rm"
 # What bash has, and another shell may not have.
 OF_BASH = re.compile(r"pipefail|>\(")
 
-# A page of each kind, where what is asked doesn't hang on the tool.
-KINDS_OF_PAGES = ("sha256sum", "anysum", "digests")
-
-GOOD = ["image.iso", "image.iso.old", "a b", " ", "-x", "*", "'\"", "\u00e9", "new\nline", "back\\slash", "\\n",
-        "end\r", "some folder/c", "some folder/SUMS", "some folder/SUMS.new", "some folder/image.iso",
-        *(f"many/{number}" for number in range(40))]
+GOOD = ["image.iso", "image.iso.old", "image.new", "SUMS.new", "a b", " ", "-x", "*", "'\"", "\u00e9", "new\nline",
+        "back\\slash", "\\n", "end\r", "some folder/c", "some folder/SUMS", "some folder/SUMS.new",
+        "some folder/image.iso", *(f"many/{number}" for number in range(40))]
 BAD = [b"./bad\xff", b"./bad\nline\xff", b"./\xffnew\nline", b"./\xc0\x80", b"./\xed\xa0\x80", b"./bad\xff folder/a"]
 IMAGE = bytes(range(256)) * 256
 
@@ -55,7 +51,37 @@ def recipes_of(page):
         yield recipe, "/".join(sorts)
 
 
-def line_of(tool, name, content, tagged):
+def blocks_of_readme():
+    """The lines of each block that README shows to be typed."""
+    with open(os.path.join(TOP, "README.md"), encoding="utf-8") as file:
+        blocks = re.findall(r"(?m)(?:^    .*\n)+", file.read())
+    return [[line[4:] for line in block.splitlines()] for block in blocks]
+
+
+def sessions_of_readme():
+    """README's commands behind a `$`, block by block, each with the lines that it is to write."""
+    sessions = []
+    for lines in blocks_of_readme():
+        session = []
+        for line in lines:
+            if line.startswith("$ "):
+                session.append((line[2:], []))
+            elif session:
+                session[-1][1].append(line)
+        sessions += [session] if session else []
+    return sessions
+
+
+def type_session(case, shell, session, **how):
+    """Types the commands of a session, one after another into one shell, and compares what each writes to both outputs
+    with what is shown."""
+    script = "".join(f"{command}\nshown=$?; printf '\\0'; (exit $shown)\n" for command, _ in session)
+    ran = case.run_command([shell, "-c", script], stderr=subprocess.STDOUT, **how)
+    got = [part.splitlines() for part in ran.out.decode().split("\0")]
+    case.assertEqual(got, [lines for _, lines in session] + [[]], session)
+
+
+def line_of(tool, name, content, tagged=False):
     """The line of a list, as the standards and the page's LINE FORMATS say."""
     escaped = name.replace(b"\\", b"\\\\").replace(b"\n", b"\\n").replace(b"\r", b"\\r")
     digits = hashlib.new({"b2sum": "blake2b"}.get(tool, tool[:-3]), content).hexdigest().encode()
@@ -63,6 +89,10 @@ def line_of(tool, name, content, tagged):
     if tagged:
         return mark + harness.TOOLS[tool][0].encode() + b" (" + escaped + b") = " + digits + b"\n"
     return mark + digits + b"  " + escaped + b"\n"
+
+
+# The lines of the image by two tools.
+BOTH = [line_of(tool, b"image.iso", IMAGE, tagged=True) for tool in ("sha256sum", "b2sum")]
 
 
 class Typed(Case):
@@ -98,7 +128,7 @@ class Typed(Case):
             file.write(harness.as_bytes(content))
 
     def make(self, good=True, more=()):
-        """A new tree, with the good names or none, and with more."""
+        """A new tree, with the good names or none, and with more. Each file but the image holds its own name."""
         shutil.rmtree(self.path("here"), ignore_errors=True)
         os.mkdir(self.path("here"))
         for name in GOOD if good else ():
@@ -124,47 +154,37 @@ class Typed(Case):
         return self.run_command([shell, "-c", recipe], cwd=self.path("here"), env=self.env, **how)
 
     def fails(self, recipe, shell="bash"):
-        """Types a recipe that mustn't pass."""
+        """Types a recipe that mustn't pass, and leaves nothing in the tree that wasn't there."""
+        before = set(os.listdir(self.path("here")))
         ran = self.type(recipe, shell)
         self.assertGreater(ran.status, 0, recipe)
+        self.assertLessEqual(set(os.listdir(self.path("here"))) - before, {b"image.sum"}, recipe)
         return ran
 
     def passes(self, recipe, out=b"", shell="bash"):
         self.assertEqual(self.type(recipe, shell), Ran(0, out, b""), recipe)
 
-    def each(self, page, *sorts):
+    def each(self, *sorts, page="digests"):
         """The recipes of a page, of these sorts or of all, with their sorts and with each shell that they are for."""
         for recipe, sort in recipes_of(page):
             for shell in ("bash",) if OF_BASH.search(recipe) else ("bash", "sh"):
                 if sort in sorts or not sorts:
                     yield recipe, sort, shell
 
-    def recipe(self, page, wanted):
+    def recipe(self, wanted, page="digests"):
         return next(recipe for recipe, sort in recipes_of(page) if sort == wanted)
 
-    def lines_of_image(self, page, sort):
-        """What image.sum holds, in any order."""
-        if sort in ("write two", "write at once"):
-            return sorted(line_of(tool, b"image.iso", IMAGE, True) for tool in ("sha256sum", "b2sum"))
-        tool = {"anysum": "sha512sum", "digests": "b2sum"}.get(page, page)
-        return [line_of(tool, b"-" if "pv" in sort else b"image.iso", IMAGE, page == "anysum")]
+    def expect_lines(self, name, wanted):
+        """Expects a list of these lines, in any order."""
+        self.assertEqual(sorted(self.read(f"here/{name}").splitlines(keepends=True)), sorted(wanted))
 
-    def expect_made(self, page, sort):
-        """What the recipe was to make is there, and nothing else."""
-        if sort.startswith("write"):
-            lines = self.read("here/image.sum").splitlines(keepends=True)
-            self.assertEqual(sorted(lines), self.lines_of_image(page, sort))
-        if sort.startswith("list"):
-            tool = {"anysum": "sha512sum", "digests": "b2sum"}.get(page, page)
-            wanted = [line_of(tool, name, content, page == "anysum") for name, content in self.there().items()]
-            self.assertEqual(sorted(self.read("here/SUMS").split(b"\n")[:-1]), sorted(line[:-1] for line in wanted))
-        self.assertFalse(self.is_there("SUMS.new") or self.is_there("image.new"))
+    def expect_only(self, *made):
+        """Expects the good files as they were, these beside them, and nothing else in the tree or in the test's
+        folder."""
+        found = self.there()
+        wanted = {b"./" + name.encode(): IMAGE if name == "image.iso" else name.encode() for name in GOOD}
+        self.assertEqual({name: found.pop(name) for name in wanted}, wanted)
+        self.assertLessEqual(set(found), {f"./{name}".encode() for name in made})
+        tops = {name.split("/")[0].encode() for name in (*GOOD, "SUMS", *made)}
+        self.assertLessEqual(set(os.listdir(self.path("here"))), tops)
         self.assertEqual(set(os.listdir(self.folder)), {"commands", "here", "a", "e"})
-
-    def report(self, sort, verdict):
-        """What a check writes of image.iso."""
-        name = {"check": "image.iso", "check by pv": "-", "check one": "./image.iso"}.get(sort)
-        if name is None:
-            return b"" if verdict == "OK" else f"./image.iso: {verdict}\n".encode()
-        count = self.read("here/image.sum").count(b"\n") if sort == "check" else 1
-        return f"{name}: {verdict}\n".encode() * count

@@ -203,6 +203,25 @@ class Checks(Described):
         self.write("e", "changed")
         self.expect_alike("md5sum -c --strict list", 0, ["a: OK"])
 
+    def test_a_byte_order_mark(self):
+        """The line behind it is improperly formatted, and the status tells of it with `--strict` alone."""
+        self.write("list", f"\ufeff{M}  a\n{E}  e\n")
+        said = ["md5sum: WARNING: 1 line is improperly formatted"]
+        self.expect_alike("md5sum -c list", 0, ["e: OK"], said)
+        self.expect_alike("md5sum -c --strict list", 1, ["e: OK"], said)
+
+    def test_what_other_programs_write(self):
+        """Lines as those of `gpg --print-md` and `openssl dgst` can't be checked; as those of `openssl dgst -r`, they
+        can."""
+        digits = harness.S.upper()
+        grouped = " ".join(digits[place:place + 8] for place in range(0, 64, 8))
+        for line in (f"a: {grouped}", f"SHA2-256(a)= {harness.S}"):
+            self.write("list", [line])
+            none = ["sha256sum: list: no properly formatted checksum lines found"]
+            self.expect_alike("sha256sum -c list", 1, err=none)
+        self.write("list", [f"{harness.S} *a"])
+        self.expect_alike("sha256sum -c --strict list", 0, ["a: OK"])
+
     def test_an_empty_name(self):
         """GNU's tools take some lines for one that lists a file, and fail."""
         for tool, (tag, of_nothing, of_abc) in harness.TOOLS.items():

@@ -1,25 +1,25 @@
-"""The manual pages in man/: what they say of options and of faults is what the program says. test_recipes.py types what
-they show."""
+"""The manual pages in man/: what they say of options and of faults is what the program says. test_recipes.py and
+test_shown.py type what they show."""
 
 import os
 import re
 import shutil
-import subprocess
+import sys
 
 import harness
 from harness import TOP, Case, Ran, needs_check
+from known_options import options_of_help, taken
 
-NAMES = [*harness.TOOLS, "anysum", "digests"]
-SECTIONS = ["NAME", "SYNOPSIS", "DESCRIPTION", "OPTIONS", "LINE FORMATS", "CHECKING", "EXIT STATUS", "DIAGNOSTICS",
-            "EXAMPLES", "LIMITS", "SECURITY", "DIFFERENCES FROM GNU", "SEE ALSO"]
-HELP = re.compile(r"  (?:-(\w), |    )--([a-z-]+)(?:=([A-Z]+))? ")
+sys.path.append(os.path.join(TOP, "tools"))
+import pages  # noqa: E402  (it stands there)
 
-
-def options_of_help(tool):
-    """The options that the program's help lists: short and long name, and the value's."""
-    ran = subprocess.run([harness.PROGRAM, tool, "--help"], stdout=subprocess.PIPE, check=True,
-                         timeout=harness.RUN_SECONDS)
-    return HELP.findall(ran.stdout.decode())
+TOOLS = [*harness.TOOLS, "anysum"]
+NAMES = [*TOOLS, "digests"]
+SECTIONS = ["NAME", "SYNOPSIS", "DESCRIPTION", "OPTIONS", "LINE FORMATS", "CHECKING", "EXIT STATUS", "EXAMPLES",
+            "DIFFERENCES FROM GNU", "SEE ALSO"]
+SECTIONS_OF_PROGRAM = ["NAME", "SYNOPSIS", "DESCRIPTION", "EXIT STATUS", "EXAMPLES", "PIPES AND SEVERAL RUNS",
+                       "DIAGNOSTICS", "LIMITS", "SECURITY", "REPORTING BUGS", "SEE ALSO"]
+LINES = 200  # of a tool's page, as a person sees it
 
 
 def path_of(name):
@@ -48,24 +48,52 @@ class Pages(Case):
 
     def test_sections(self):
         for name in NAMES:
-            self.assertEqual(list(sections_of(name)), SECTIONS, name)
+            self.assertEqual(list(sections_of(name)), SECTIONS_OF_PROGRAM if name == "digests" else SECTIONS, name)
+
+    def test_digits_and_tags(self):
+        for tool, (tag, digits, _) in harness.TOOLS.items():
+            said = sections_of(tool)
+            self.assertIn(f"\n{tag} (NAME) = DIGITS\n", said["LINE FORMATS"])
+            said = re.sub(r"\s+", " ", said["DESCRIPTION"])
+            self.assertIn(f" {4 * len(digits)} bits, in {len(digits)} hexadecimal digits", said)
+            self.assertRegex(sections_of("anysum")["LINE FORMATS"], rf"\b{tag},")
 
     def test_options_are_those_of_the_help(self):
-        for name in NAMES[:-1]:
-            found = re.findall(r"(?m)^\.TP\n(?:-(\w)(?: [A-Z]+)?, )?--([a-z-]+)(?:=([A-Z]+))?$",
-                               sections_of(name)["OPTIONS"])
-            self.assertEqual(len(re.findall(r"(?m)^\.TP$", sections_of(name)["OPTIONS"])), len(found), name)
-            self.assertEqual(sorted(found), sorted(options_of_help(name)), name)
+        """But for those that anysum takes neither with --check nor without it: these it names as refused."""
+        for tool in TOOLS:
+            section = sections_of(tool)["OPTIONS"]
+            found = re.findall(r"(?m)^\.TP\n(?:-(\w)(?: [A-Z]+)?, )?--([a-z-]+)(?:=([A-Z]+))?$", section)
+            self.assertEqual(len(re.findall(r"(?m)^\.TP$", section)), len(found), tool)
+            refused = set(options_of_help(tool)) - set(found)
+            self.assertEqual(sorted(set(found) | refused), sorted(options_of_help(tool)), tool)
+            self.assertEqual(bool(refused), tool == "anysum")
+            for _, long, _ in refused:
+                self.assertFalse(taken(tool, f"--{long}") or taken(tool, "-c", f"--{long}"))
+                self.assertIn(f"--{long}", sections_of(tool)["DESCRIPTION"])
+
+    def test_where_options_may_stand(self):
+        """As the page groups them."""
+        for tool in TOOLS:
+            parts = re.split(r"Only (with(?:out)?) --check:", sections_of(tool)["OPTIONS"])
+            groups = {"": parts[0], **dict(zip(parts[1::2], parts[2::2]))}
+            for where, wanted in (("", (True, True)), ("without", (True, False)), ("with", (False, True))):
+                for long, value in re.findall(r"(?m)^\.TP\n(?:-.*, )?--([a-z-]+)(=?)", groups.get(where, "")):
+                    word = f"--{long}=8" if value else f"--{long}"
+                    self.assertEqual((taken(tool, word), taken(tool, "-c", word)), wanted, (tool, word))
 
     def test_the_synopsis_names_each_option(self):
-        """But for help and version; under anysum, also but for those that it always refuses."""
-        for name in NAMES[:-1]:
-            refused = {"binary", "tag", "text", "zero"} if name == "anysum" else set()
-            text = sections_of(name)["SYNOPSIS"]
-            letters = "".join(re.findall(r"(?<!-)-(\w+)", text))
-            for short, long, _ in options_of_help(name):
-                wanted = long not in {"help", "version"} | refused
-                self.assertEqual(short in letters if short else f"--{long}]" in text, wanted, (name, long))
+        """Without --check those that are taken so, and with it those that need it; but for help and version, behind
+        which no word counts."""
+        for tool in TOOLS:
+            text = re.sub(r"\n +", " ", sections_of(tool)["SYNOPSIS"])
+            for line in re.findall(rf"(?m)^{tool} .*", text):
+                letters = "".join(re.findall(r"(?<!-)-(\w+)", line))
+                for short, long, value in options_of_help(tool):
+                    word = f"--{long}=8" if value else f"--{long}"
+                    alone = taken(tool, word) and long != "check"
+                    wanted = taken(tool, "-c", word) and not alone if " -c " in line else alone
+                    wanted = wanted and not taken(tool, word, "--=")
+                    self.assertEqual(short in letters if short else f"--{long}]" in line, wanted, (line, long))
 
     def test_lint(self):
         if shutil.which("mandoc") is None:
@@ -86,53 +114,47 @@ class Pages(Case):
             marked = [line for line in lines if re.search(r"`|\{|\}|\\f|\\e", line.replace(" {} + ", ""))]
             self.assertEqual(marked, [], name)  # those braces are typed, behind -exec of find
             self.assertTrue(lines[0].startswith(f"{name.upper()}(1)"), lines[0])
+            if name in TOOLS:
+                self.assertLessEqual(len(lines), LINES, name)
 
     def test_what_is_typed_is_not_cut(self):
         """Within a word the sign that keeps a word whole would be a place to cut it at."""
         for name in NAMES:
             self.assertNotRegex(self.read(path_of(name)).decode(), r"\S\\%", name)
 
-    def test_version(self):
-        with open(os.path.join(TOP, "build.sh"), encoding="utf-8") as file:
-            version = re.search(r"(?m)^version=(.*)$", file.read())[1]
-        for name in NAMES:
-            self.assertIn(f'.TH {name.upper()} 1 ', self.read(path_of(name)).decode())
-            self.assertIn(f'"digests {version}"', self.read(path_of(name)).decode())
-
 
 @needs_check
 class Said(Case):
-    """What the program says on standard error stands in the pages' DIAGNOSTICS."""
+    """What the program says on standard error stands in the DIAGNOSTICS of its page."""
 
-    def marks(self, name):
+    def marks(self):
         """What a line may be, as patterns: names in capitals stand for others."""
-        marks = re.findall(r"(?m)^\.TP\n(.*)$", sections_of(name)["DIAGNOSTICS"])
-        return [re.sub(r"\b(?:FILE|NAME|N|TAG)\b", ".*", re.escape(mark)) for mark in marks]
+        marks = re.findall(r"(?m)^\.TP\n(.*)$", sections_of("digests")["DIAGNOSTICS"])
+        return [re.sub(r"\b(?:TOOL|FILE|NAME|N|TAG)\b", ".*", re.escape(mark)) for mark in marks]
 
     def said_by(self, tool):
         """Lines for each diagnostic that can be had without refusing memory or permission."""
-        tag = harness.TOOLS[tool][0]
-        digits = harness.TOOLS[tool][1]
+        tag, digits, _ = harness.TOOLS[tool]
         self.write("list", f"bad\n{tag} (x) = {digits}\n")
         self.write("missing", f"{tag} (x) = {digits}\n")
         runs = [["x"], ["/"], ["-c", "-w", "list"], ["-c", "e"], ["-c", "--ignore-missing", "missing"], ["--other"]]
-        lines = [line for words in runs for line in self.run_command([harness.PROGRAM, tool, *words]).err.splitlines()]
-        full = self.run_command(["sh", "-c", f"'{harness.PROGRAM}' {tool} a >/dev/full"]) \
-            if os.path.exists("/dev/full") else Ran(0, b"", b"")
-        return [line.decode() for line in lines + full.err.splitlines()]
+        said = b"".join(self.run_words([tool, *words]).err for words in runs)
+        said += self.run_words(["other"]).err + self.run_words([tool, b"-\xff"]).err
+        with self.full() as full:
+            said += self.run_words([tool, "a"], stdout=full).err
+        return [line for line in said.decode().splitlines()
+                if not line.startswith("Try '") and "WARNING: 1 line is" not in line]
 
     def test_each(self):
         for tool in harness.TOOLS:
-            said, found = self.said_by(tool), set()
-            for line in said:
-                if line.startswith("Try '") or "WARNING: 1 line is" in line:
-                    continue
-                fitting = [mark for mark in self.marks(tool) if re.fullmatch(f"{tool}: {mark}", line)]
+            found = set()
+            for line in self.said_by(tool):
+                fitting = [mark for mark in self.marks() if re.fullmatch(mark, line)]
                 self.assertNotEqual(fitting, [], line)
                 found.update(fitting)
-            missing = {mark for mark in self.marks(tool) if mark not in found}
-            self.assertLessEqual(missing, {re.sub("FILE", ".*", re.escape("FILE: Permission denied")),
-                                           re.escape("memory exhausted"), re.escape("write error")})
+            missing = [mark for mark in self.marks() if mark not in found]
+            self.assertEqual([re.sub(r"\W", "", mark) for mark in missing],
+                             ["Permissiondenied", "memoryexhausted", "thismachinelacksafeatureofx8664v3"])
 
 
 class Made(Case):
@@ -144,10 +166,11 @@ class Made(Case):
         super().setUp()
         for name in ("tools", "man", "completions"):
             shutil.copytree(os.path.join(TOP, name), self.path(name).decode())
-        shutil.copy(os.path.join(TOP, "build.sh"), self.folder)
+        shutil.copy(os.path.join(TOP, pages.VERSION_FILE), self.folder)
 
-    def pages(self, *words):
-        return self.run_command([self.path("tools/pages.py").decode(), *words, "--program", harness.PROGRAM])
+    def pages(self, *words, program=None):
+        how = ["--program", program or harness.PROGRAM]
+        return self.run_command([self.path("tools/pages.py").decode(), *words, *how])
 
     def test_another_text(self):
         page = self.read("man/b2sum.1")
@@ -168,12 +191,29 @@ class Made(Case):
             self.assertEqual((ran.status, ran.out), (1, b"man/other.1: not of this script's making\n"))
 
     def test_another_version(self):
-        self.write("build.sh", "version=9.9.9\n")
+        text = self.read(pages.VERSION_FILE).decode()
+        self.write(pages.VERSION_FILE, text.replace(pages.version(), "9.9.9"))
         self.assertEqual(self.pages("--check").out.count(b"is to be made anew"), len(NAMES))
 
-    def test_an_option_that_no_page_knows(self):
-        self.write("program", f"#!/bin/sh\n'{harness.PROGRAM}' \"$@\"\necho '      --other             some words'\n")
+    def test_no_help(self):
+        """Nothing is made of a program that has none."""
+        ran = self.pages(program=shutil.which("false"))
+        self.assertEqual(ran, Ran(1, b"", b"md5sum has no help: status 1\n"))
+        self.assertEqual(self.pages("--check").status, 0)
+
+    def test_another_option(self):
+        """Nothing is said of it but what the help says, and all follows."""
+        self.write("program", f"""#!/bin/sh
+[ "$3" != --count ] || exit 0  # behind --check
+'{harness.PROGRAM}' "$@"
+[ "$2" != --help ] || echo '      --count           with -c: count them'
+""")
         os.chmod(self.path("program"), 0o755)
-        ran = self.run_command([self.path("tools/pages.py"), "--check", "--program", self.path("program")])
-        said = b"pages.py: page_texts.py has no text for these options: other\n"
-        self.assertEqual(ran, Ran(1, b"", said))
+        self.assertEqual(self.pages(program=self.path("program")).status, 0)
+        for name in TOOLS:
+            page = self.read(f"man/{name}.1").decode().replace("\\", "")
+            self.assertRegex(page, r"(?s)SYNOPSIS.*fB--countfR.*OPTIONS.*Only with .*--countfR\nCount them\.\n")
+        self.assertIn(b" --ch|--che|--chec|--check)", self.read("completions/digests.bash"))
+        for name, said in (("digests.bash", b" --count"), ("_digests", b"'--count[with -c: count them]'"),
+                           ("digests.fish", b" -l count ")):
+            self.assertIn(said, self.read(f"completions/{name}"))

@@ -1,44 +1,30 @@
 #!/usr/bin/env python3
 """Writes the manual pages in man/ and the completions in completions/: `pages.py [--check] [--program FILE]`.
 
-They are made from one table (page_texts.py) and from what the program says to --help, which is built first where it is
-stale. With --check nothing is written, and the status is 1 where a file of the tree is another, is missing or is one
-too many."""
+They are made from the program's own help and from what page_texts.py and page_recipes.py say beyond it. With --check
+nothing is written, and the status is 1 where a file of the tree is another, is missing or is one too many."""
 
 import argparse
 import os
 import re
-import subprocess
 import sys
 
 sys.dont_write_bytecode = True
 
-import page_texts as texts  # noqa: E402  (nothing is to be left beside these files)
+import page_recipes as recipes  # noqa: E402  (nothing is to be left beside these files)
+import page_texts as texts  # noqa: E402
 import shells  # noqa: E402
-from roff import inline, item, page, section, shown  # noqa: E402
+from options import ALWAYS, NEVER, WITH_CHECK, WITHOUT_CHECK, options_of  # noqa: E402
+from roff import WIDTH, bullets, inline, item, page, section, shown  # noqa: E402
 
 TOP = os.path.dirname(os.path.dirname(os.path.abspath(__file__)))
-OPTION = re.compile(r"  (?:-(?P<short>\w), |    )--(?P<long>[a-z-]+)(?:=(?P<value>[A-Z]+))? +(?P<help>.*)")
-CHECKS = [name for name, (where, _) in texts.OPTIONS.items() if where == texts.WITH]
-
-
-def built_program():
-    """The repository's own program, built where it is stale."""
-    built = subprocess.run(["sh", "-c", 'top=$1; . "$top/build.sh"; build_program default', "sh", TOP])
-    if built.returncode:
-        sys.exit("pages.py: there is no program")
-    return os.path.join(TOP, "out", "default", "digests")
-
-
-def options_of(program, tool):
-    """The options that the program's own help lists for a tool, each as its short and long name, value and text."""
-    ran = subprocess.run([program, tool, "--help"], stdout=subprocess.PIPE, check=True, universal_newlines=True)
-    return [OPTION.fullmatch(line).groupdict() for line in ran.stdout.splitlines()[2:]]
+PROGRAM = os.path.join(TOP, "digests")  # builds what is stale
+VERSION_FILE = "build.sh"
 
 
 def version():
-    """The version that build.sh sets."""
-    with open(os.path.join(TOP, "build.sh"), encoding="utf-8") as file:
+    """The version of the program, by the one file that sets it."""
+    with open(os.path.join(TOP, VERSION_FILE), encoding="utf-8") as file:
         return re.search(r"(?m)^version=(.*)$", file.read())[1]
 
 
@@ -47,150 +33,142 @@ def typed(text):
     return re.sub(r"(?:^|(?<=\}))[^{}]+", lambda found: f"`{found[0]}`", text)
 
 
-def lines_of(table):
+def items_of(table):
     return [item(typed(mark), text) for mark, text in table.items()]
 
 
-def name_section(tool):
-    tag = texts.TOOLS[tool][1]
-    what = f"print or check {tag} checksums" if tag else "check checksums of several algorithms"
-    return section("NAME", [f"{tool} \\- {what}"])
+def taken(known, *where):
+    """The options of a tool that are taken there."""
+    return [option for option in known if option.where in where]
 
 
-def synopsis(tool):
-    """The two uses of a tool; the second with what means something only there."""
-    length = " [`-l` {BITS}]" if tool == "b2sum" else ""
-    lines = [] if tool == "anysum" else [f"`{tool}` [`-btz`] [`--tag`]{length} [{{FILE}}]..."]
-    lines.append(f"`{tool}` `-c` [`-w`] " + " ".join(f"[`--{name}`]" for name in CHECKS if name != "warn"))
-    lines.append(" " * len(f"{tool} ") + "[{FILE}]...")
-    return section("SYNOPSIS", [".nf", *(inline(line) for line in lines), ".fi"])
+def usage(tool, known, *first):
+    """A line of the synopsis, cut where it is too long: these words, and these options without --help and the like."""
+    known = [option for option in known if not option.at_once]
+    letters = "".join(option.short for option in known if option.short and not option.value)
+    words = [f"[-{letters}]"] if letters else []
+    words += [f"[-{option.short} {option.value}]" for option in known if option.value]
+    words += [f"[--{option.long}]" for option in known if not option.short]
+    lines = [tool]
+    for word in [*first, *words, "[FILE]..."]:
+        if len(lines[-1]) + len(word) >= WIDTH - 8:
+            lines.append(" " * len(tool))
+        lines[-1] += " " + word
+    marked = [re.sub(r"--?[a-z-]+", r"`\g<0>`", re.sub(r"\b[A-Z]+\b", r"{\g<0>}", line)) for line in lines]
+    return [inline(re.sub(r"^\w+", r"`\g<0>`", line)) for line in marked]
 
 
-def description(tool):
+def synopsis(tool, known):
+    """The two uses of a tool."""
+    writing = [option for option in taken(known, ALWAYS, WITHOUT_CHECK) if option.long != "check"]
+    return section("SYNOPSIS", [".nf", *(usage(tool, writing) if taken(known, WITHOUT_CHECK) else ()),
+                                *usage(tool, taken(known, WITH_CHECK), "-c"), ".fi"])
+
+
+def description(tool, known):
     standard, tag, bits = texts.TOOLS[tool]
-    if tool == "anysum":
-        does = (f"`{tool}` reads manifests whose lines name their algorithm, such as the other tools write with "
-                "`--tag`, and says which of the listed files have the checksum that stands there. One manifest may "
-                "have lines of all seven algorithms. `--check` is needed for that.")
+    if tag is None:
+        *names, last = (f"`--{option.long}`" for option in taken(known, NEVER))
+        says = [text.format(refused=f"{', '.join(names)} and {last}") for text in texts.DESCRIPTION_OF_ANYSUM]
     else:
-        shorter = ", or a shorter one by `--length`" if tool == "b2sum" else ""
-        does = (f"`{tool}` writes a line with the {tag} checksum ({standard}) of each {{FILE}}: a digest of {bits} "
-                f"bits, in {bits // 4} hexadecimal digits{shorter}. With `--check` it reads such lines, and says which "
-                "files still have theirs.")
-    return section("DESCRIPTION", does, "With no {FILE}, or where {FILE} is `-`, standard input is read, once: a "
-                   "second `-` is an empty file.")
+        fewer = texts.FEWER.get(tool, "")
+        says = [texts.WRITES.format(tool=tool, standard=standard, tag=tag, bits=bits, digits=bits // 4, fewer=fewer)]
+        if tool in texts.BROKEN:
+            says.append(texts.FORGERY.format(tag=tag))
+    return section("DESCRIPTION", *says, texts.INPUT)
 
 
-def option_item(option, tool):
+def option_item(option):
     """An option's names, and what is said of it."""
-    value = f" {{{option['value']}}}" if option["value"] else ""
-    short = f"`-{option['short']}`{value}, " if option["short"] else ""
-    long = f"`--{option['long']}`" + (f"`=`{{{option['value']}}}" if option["value"] else "")
-    where, text = texts.OPTIONS[option["long"]]
-    return item(short + long, texts.REFUSED_BY_ANYSUM if (tool, where) == ("anysum", texts.WITHOUT) else text)
+    value = f" {{{option.value}}}" if option.value else ""
+    short = f"`-{option.short}`{value}, " if option.short else ""
+    long = f"`--{option.long}`" + (f"`=`{{{option.value}}}" if option.value else "")
+    says = re.sub("^with -c: ", "", option.help)
+    says = texts.INSTEAD.get(option.long, f"{says[0].upper()}{says[1:]}.".replace("FILE", "{FILE}"))
+    return item(short + long, f"{says} {texts.MORE.get(option.long, '')}".rstrip())
 
 
-def options(tool, known):
-    """All that the help lists, in three groups."""
-    either, without, with_check = ([option_item(one, tool) for one in known if texts.OPTIONS[one["long"]][0] == where]
-                                   for where in (texts.EITHER, texts.WITHOUT, texts.WITH))
-    if tool == "anysum":
-        return section("OPTIONS", texts.USE_OF_OPTIONS, *either, *with_check,
-                       "These are refused, though `--help` lists them:", *without)
-    return section("OPTIONS", texts.USE_OF_OPTIONS, *either, "These are refused with `--check`:", *without,
-                   "These are refused without `--check`:", *with_check)
+def options(known):
+    """All that can be of use, in groups."""
+    groups = [("", ALWAYS), ("Only without `--check`:", WITHOUT_CHECK), ("Only with `--check`:", WITH_CHECK)]
+    parts = []
+    for title, where in groups:
+        items = [option_item(option) for option in taken(known, where)]
+        parts += [title, *items] if title and items else items
+    return section("OPTIONS", texts.OPTIONS, *parts)
 
 
 def line_formats(tool):
     """The forms of a line."""
     tag = texts.TOOLS[tool][1]
-    forms = [] if tool == "anysum" else [item("text", "{DIGITS}, two spaces, {NAME}"),
-                                         item("binary", "{DIGITS}, a space, a star, {NAME}")]
-    forms.append(item("tagged", (f"`{tag} (`" if tag else "{TAG}` (`") + "{NAME}`) = `{DIGITS}"))
-    return section("LINE FORMATS", texts.LINE_FORMATS[0], *forms, *texts.TAGS.get(tool, ()),
-                   texts.LINE_FORMATS[1] + (texts.LINE_FORMAT_OF_ZERO if tag else ""))
+    if tag is None:
+        return section("LINE FORMATS", item("tagged", "{TAG}` (`{NAME}`) = `{DIGITS}"), texts.TAGS_OF_ANYSUM)
+    forms = [item("text", "{DIGITS}, two spaces, {NAME}"), item("binary", "{DIGITS}, a space, a star, {NAME}"),
+             item("tagged", f"`{tag} (`{{NAME}}`) = `{{DIGITS}}")]
+    return section("LINE FORMATS", *forms, *([texts.TAG_OF_B2SUM] if tool == "b2sum" else []), texts.LINE_FORMATS)
 
 
 def checking(tool):
-    *before, reports, after = texts.CHECKING
-    lines = texts.CHECKING_OF_ANYSUM if tool == "anysum" else texts.CHECKING_OF_OTHERS
-    return section("CHECKING", *before, lines, reports, *lines_of(texts.REPORTS), after)
+    plain = [] if texts.TOOLS[tool][1] is None else [texts.ONE_SPACE]
+    return section("CHECKING", *texts.CHECKING, *plain, texts.IMPROPER, texts.REPORT, *items_of(texts.REPORTS),
+                   *texts.REPORTED)
 
 
 def exit_status(tool):
-    table = texts.STATUSES
-    if tool != "anysum":
-        table = {**table, "0": table["0"].replace("Every", texts.STATUS_OF_WRITING, 1)}
-    return section("EXIT STATUS", *lines_of(table))
+    checked = texts.STATUSES["0"]
+    zero = checked[0].upper() + checked[1:] if texts.TOOLS[tool][1] is None else texts.WRITTEN + checked
+    return section("EXIT STATUS", *items_of({**texts.STATUSES, "0": zero}))
 
 
-def diagnostics(tool):
-    named = {mark.replace("{TAG}", texts.TOOLS[tool][1] or "tagged"): text for mark, text in texts.DIAGNOSTICS.items()}
-    return section("DIAGNOSTICS", f"Each is a line on standard error that begins with `{tool}:` and a space. Names are "
-                   "escaped as in the lines of checksums, with no backslash before the line; a manifest that is `-` is "
-                   "named `standard input`.",
-                   *lines_of(named))
-
-
-def examples(name):
+def examples(rows, *before):
     """What may be typed, with a word on each."""
-    return section("EXAMPLES", *(part for why, lines in texts.examples(name) for part in (why, shown(*lines))))
-
-
-def security(tool):
-    """Whether the algorithm keeps off forgers."""
-    tag = texts.TOOLS[tool][1]
-    kind = {"anysum": "any", "md5sum": "broken", "sha1sum": "broken"}.get(tool, "good")
-    parts = [texts.SECURITY[kind].format(tag)]
-    if tool == "b2sum":
-        parts.append(texts.SECURITY["length"])
-    return section("SECURITY", *parts, texts.SECURITY["manifest"])
+    return section("EXAMPLES", *before, *(part for why, *lines in rows for part in (why, shown(*lines))))
 
 
 def differences(tool):
     """How this isn't as GNU's tool of the same name."""
-    if tool == "anysum":
+    if texts.TOOLS[tool][1] is None:
         return section("DIFFERENCES FROM GNU", texts.DIFFERENCE_OF_ANYSUM)
-    more = texts.DIFFERENCES_OF_B2SUM if tool == "b2sum" else ()
-    return section("DIFFERENCES FROM GNU", *texts.DIFFERENCES, *more)
+    more = [texts.DIFFERENCE_OF_LENGTHS] if tool == "b2sum" else []
+    return section("DIFFERENCES FROM GNU", texts.COMPARED, bullets([*texts.DIFFERENCES, *more]))
 
 
-def see_also(tool):
-    others = ["digests", *(name for name in texts.TOOLS if name != tool), "comm", "find", "grep", "split", "xargs"]
-    return section("SEE ALSO", ", ".join(f"`{name}`(1)" for name in others))
+def see_also(*names):
+    return ", ".join(f"`{name}`(1)" for name in names)
 
 
 def page_of_tool(tool, known):
-    return page(tool, texts.DATE, f"digests {version()}", name_section(tool), synopsis(tool), description(tool),
-                options(tool, known), line_formats(tool), checking(tool), exit_status(tool),
-                diagnostics(tool), examples(tool), section("LIMITS", *texts.LIMITS), security(tool),
-                differences(tool), see_also(tool))
+    others = [name for name in texts.TOOLS if name != tool]
+    purpose = texts.PURPOSE.get(tool, f"print or check {texts.TOOLS[tool][1]} checksums")
+    return page(tool, texts.DATE, f"digests {version()}", section("NAME", [f"{tool} \\- {purpose}"]),
+                synopsis(tool, known), description(tool, known), options(known), line_formats(tool), checking(tool),
+                exit_status(tool), examples(recipes.examples_of(tool)), differences(tool),
+                section("SEE ALSO", texts.FURTHER, see_also(*others)))
 
 
 def page_of_program():
     """The page of the program that holds all tools."""
-    fewer = {"b2sum": " or fewer"}
-    tools = [item(f"`{tool}`", "Lines of all the other tools' algorithms, checked." if tag is None else
-                  f"{tag} ({standard}), {bits} bits{fewer.get(tool, '')}.")
-             for tool, (standard, tag, bits) in texts.TOOLS.items()]
+    tools = [item(f"`{tool}`", f"{tag} ({standard}), {bits} bits{texts.FEWER.get(tool, '')}" if tag else
+                  "checks lists of all these", "12") for tool, (standard, tag, bits) in texts.TOOLS.items()]
     return page("digests", texts.DATE, f"digests {version()}",
                 section("NAME", ["digests \\- print or check checksums"]),
-                section("SYNOPSIS", [".nf", *(inline(f"{use} [{{WORD}}]...") for use in texts.PROGRAM_USES), ".fi"]),
-                section("DESCRIPTION", *texts.PROGRAM, *tools),
-                section("OPTIONS", texts.PROGRAM_OPTIONS), section("LINE FORMATS", texts.PROGRAM_LINES),
-                section("CHECKING", texts.PROGRAM_CHECKING), exit_status("digests"),
-                section("DIAGNOSTICS", *lines_of(texts.PROGRAM_DIAGNOSTICS)),
-                examples("digests"), section("LIMITS", *texts.LIMITS), section("SECURITY", texts.PROGRAM_SECURITY),
-                section("DIFFERENCES FROM GNU", texts.PROGRAM_DIFFERENCES),
-                section("SEE ALSO", ", ".join(f"`{tool}`(1)" for tool in texts.TOOLS)))
+                section("SYNOPSIS", [".nf", *(inline(use) for use in texts.PROGRAM_USES), ".fi"]),
+                section("DESCRIPTION", *texts.PROGRAM, tools[0], [".PD 0"], *tools[1:], [".PD"], texts.PROVED),
+                section("EXIT STATUS", *items_of(texts.PROGRAM_STATUSES)),
+                examples(recipes.RECIPES, recipes.INTRODUCTION),
+                section("PIPES AND SEVERAL RUNS", *texts.SHARING),
+                section("DIAGNOSTICS", texts.DIAGNOSTICS_INTRO, *items_of(texts.DIAGNOSTICS)),
+                section("LIMITS", bullets(texts.LIMITS)), section("SECURITY", *texts.SECURITY),
+                section("REPORTING BUGS", texts.REPORTING),
+                section("SEE ALSO", see_also(*texts.TOOLS, "comm", "find", "grep", "split", "xargs")))
 
 
 def made(program):
     """Each file's name in the repository, and its text."""
     known = {tool: options_of(program, tool) for tool in texts.TOOLS}
-    unknown = {one["long"] for options in known.values() for one in options} - set(texts.OPTIONS)
+    unknown = {*texts.INSTEAD, *texts.MORE} - {option.long for options in known.values() for option in options}
     if unknown:
-        sys.exit(f"pages.py: page_texts.py has no text for these options: {', '.join(sorted(unknown))}")
+        sys.exit(f"pages.py: page_texts.py has a word on no option: {', '.join(sorted(unknown))}")
     files = {f"man/{tool}.1": page_of_tool(tool, known[tool]) for tool in texts.TOOLS}
     files["man/digests.1"] = page_of_program()
     files.update({f"completions/{name}": text for name, text in shells.completions(known).items()})
@@ -214,12 +192,11 @@ def write(path, text, check):
 def main():
     reader = argparse.ArgumentParser(description="Writes the manual pages and the completions.")
     reader.add_argument("--check", action="store_true", help="write nothing, and say what isn't as it is to be")
-    reader.add_argument("--program", help="the built program; without it, this repository's own")
+    reader.add_argument("--program", default=PROGRAM, help="the built program; without it, this repository's own")
     asked = reader.parse_args()
-    program = asked.program or built_program()
-    if not os.access(program, os.X_OK):
-        sys.exit(f"pages.py: {program} is no program")
-    files = made(program)
+    if not os.access(asked.program, os.X_OK):
+        sys.exit(f"pages.py: {asked.program} is no program")
+    files = made(asked.program)
     others = [name for name in files if not write(os.path.join(TOP, name), files[name], asked.check)]
     there = {f"{folder}/{name}" for folder in ("man", "completions") for name in os.listdir(os.path.join(TOP, folder))}
     for name in sorted(there - set(files)):

@@ -39,12 +39,14 @@ def guarded(line):
     return "\\&" + line if line[:1] in (".", "'") else line
 
 
-def item(mark, *texts):
-    """What a list says of a mark; each further text is a paragraph below the same mark."""
-    lines = [".TP", inline(mark)] + paragraph(texts[0])
-    if texts[1:]:
-        lines += [".RS"] + [line for text in texts[1:] for line in [".PP", *paragraph(text)]] + [".RE"]
-    return lines
+def item(mark, text, width=""):
+    """What a list says of a mark."""
+    return [f".TP {width}".rstrip(), inline(mark), *paragraph(text)]
+
+
+def bullets(texts):
+    """A list of texts."""
+    return [line for text in texts for line in (".IP \\(bu 2", *paragraph(text))]
 
 
 def shown(*commands):

@@ -1,0 +1,57 @@
+"""The options of each tool, as the program itself tells them: its help names them, and it takes or refuses them."""
+
+import re
+import subprocess
+import sys
+from typing import NamedTuple, Optional
+
+LINE = re.compile(r"  (?:-(?P<short>\w), |    )--(?P<long>[a-z-]+)(?:=(?P<value>[A-Z]+))? +(?P<help>.*)")
+
+# Where the program takes an option.
+ALWAYS, WITH_CHECK, WITHOUT_CHECK, NEVER = "always", "with check", "without check", "never"
+
+
+class Option(NamedTuple):
+    """An option: its letter, name and value, what the help says of it, where it is taken, and whether the program then
+    answers at once and reads no word behind it."""
+
+    short: Optional[str]
+    long: str
+    value: Optional[str]
+    help: str
+    where: str
+    at_once: bool
+
+    def words(self):
+        return [*([f"-{self.short}"] if self.short else []), f"--{self.long}"]
+
+
+def takes(program, tool, *words):
+    """Whether the program takes these words, with which it reads nothing but an empty standard input."""
+    ran = subprocess.run([program, tool, *words], stdin=subprocess.DEVNULL, stdout=subprocess.PIPE,
+                         stderr=subprocess.PIPE, universal_newlines=True)
+    return "\nTry '" not in ran.stderr
+
+
+def options_of(program, tool):
+    """The options that the help of a tool lists, in its order."""
+    helped = subprocess.run([program, tool, "--help"], stdin=subprocess.DEVNULL, stdout=subprocess.PIPE,
+                            universal_newlines=True)
+    if helped.returncode:
+        sys.exit(f"{tool} has no help: status {helped.returncode}")
+    found = []
+    for line in helped.stdout.splitlines()[2:]:
+        short, long, value, text = LINE.fullmatch(line).groups()
+        word = f"--{long}=8" if value else f"--{long}"  # a value is a number of bits
+        alone, checking = takes(program, tool, word), takes(program, tool, "--check", word)
+        where = {(True, True): ALWAYS, (True, False): WITHOUT_CHECK, (False, True): WITH_CHECK}.get((alone, checking))
+        found.append(Option(short, long, value, text, where or NEVER, takes(program, tool, word, "--=")))
+    return found
+
+
+def cuts(option, options):
+    """The words that mean a long option: its name, and the beginnings of it that no other name has."""
+    others = [other.long for other in options if other != option]
+    names = (option.long[:length] for length in range(1, len(option.long) + 1))
+    return [f"--{name}" for name in names
+            if name == option.long or not any(other.startswith(name) for other in others)]
