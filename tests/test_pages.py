@@ -93,8 +93,8 @@ class Pages(Case):
             self.assertNotRegex(self.read(path_of(name)).decode(), r"\S\\%", name)
 
     def test_version(self):
-        with open(os.path.join(TOP, "build.sh"), encoding="utf-8") as file:
-            version = re.search(r"(?m)^version=(.*)$", file.read())[1]
+        with open(os.path.join(TOP, "CHANGELOG.md"), encoding="utf-8") as file:
+            version = re.search(r"(?m)^## ([\d.]+)", file.read())[1]
         for name in NAMES:
             self.assertIn(f'.TH {name.upper()} 1 ', self.read(path_of(name)).decode())
             self.assertIn(f'"digests {version}"', self.read(path_of(name)).decode())
@@ -144,7 +144,7 @@ class Made(Case):
         super().setUp()
         for name in ("tools", "man", "completions"):
             shutil.copytree(os.path.join(TOP, name), self.path(name).decode())
-        shutil.copy(os.path.join(TOP, "build.sh"), self.folder)
+        shutil.copy(os.path.join(TOP, "CHANGELOG.md"), self.folder)
 
     def pages(self, *words):
         return self.run_command([self.path("tools/pages.py").decode(), *words, "--program", harness.PROGRAM])
@@ -168,7 +168,7 @@ class Made(Case):
             self.assertEqual((ran.status, ran.out), (1, b"man/other.1: not of this script's making\n"))
 
     def test_another_version(self):
-        self.write("build.sh", "version=9.9.9\n")
+        self.write("CHANGELOG.md", "## 9.9.9, some day\n")
         self.assertEqual(self.pages("--check").out.count(b"is to be made anew"), len(NAMES))
 
     def test_an_option_that_no_page_knows(self):

@@ -24,10 +24,9 @@ CHECKS = [name for name, (where, _) in texts.OPTIONS.items() if where == texts.W
 
 def built_program():
     """The repository's own program, built where it is stale."""
-    built = subprocess.run(["sh", "-c", 'top=$1; . "$top/build.sh"; build_program default', "sh", TOP])
-    if built.returncode:
+    if subprocess.run([os.path.join(TOP, "tools", "build")]).returncode:
         sys.exit("pages.py: there is no program")
-    return os.path.join(TOP, "out", "default", "digests")
+    return os.path.join(TOP, "out", "digests")
 
 
 def options_of(program, tool):
@@ -37,9 +36,9 @@ def options_of(program, tool):
 
 
 def version():
-    """The version that build.sh sets."""
-    with open(os.path.join(TOP, "build.sh"), encoding="utf-8") as file:
-        return re.search(r"(?m)^version=(.*)$", file.read())[1]
+    """The version that stands first in CHANGELOG.md."""
+    with open(os.path.join(TOP, "CHANGELOG.md"), encoding="utf-8") as file:
+        return re.search(r"(?m)^## ([\d.]+)", file.read())[1]
 
 
 def typed(text):
