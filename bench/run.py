@@ -35,7 +35,8 @@ def built_programs():
     """The programs of this repository that run on this machine, by level, built where they are stale."""
     if subprocess.run([os.path.join(TOP, "tools", "build")]).returncode:
         sys.exit(1)
-    found = {level: os.path.join(TOP, "out", level, "digests") for level in sorted(os.listdir(os.path.join(TOP, "out")))}
+    out = os.path.join(TOP, "out")
+    found = {level: os.path.join(out, level, "digests") for level in sorted(os.listdir(out))}
     return {level: path for level, path in found.items() if os.path.isfile(path) and works([path, "sha256sum"])}
 
 
