@@ -16,8 +16,8 @@ BOTH = [*ASKED, f"digests run --cpu {FAST} -- sha256sum"]
 # What `digests md5sum a` comes to.
 OF_A = Ran(0, f"{M}  a\n".encode(), b"")
 
-# What stands in for the command rt: notes how it was called, and makes the program of a level, from a copy of one that
-# ends in the level's name and a sum of the sources, where it isn't the one that it made last.
+# What stands in for the command rt: notes its calls, and makes the program of a level, which ends in the level's name
+# and a sum of the sources, where it isn't there.
 RT = """#!/bin/sh
 [ "$1" != version ] || exec echo 'a kit'
 echo "${PWD##*/} $*" >>"$RT_NOTES"
@@ -54,20 +54,13 @@ class Repository(Case):
         for name in ("tools", "man", "completions"):
             shutil.copytree(os.path.join(TOP, name), self.in_top(name))
         self.put("crates.txt", "low: memchr\ndigests: low\nexample_some: low\n")
-        for crate in ("low", "digests"):
-            for part in ("src", "specs", "proofs"):
-                self.put(f"crates/{crate}/{part}/Some.antt", f"{crate} {part}\n")
-        self.source = self.in_top("crates/low/src/Some.antt")
+        self.sources = [self.put(f"crates/{crate}/{part}/Some.antt", f"{crate} {part}\n")
+                        for crate in ("low", "digests") for part in ("src", "specs", "proofs")]
         self.notes = os.path.join(self.folder, "notes")
         os.mkdir(self.path("commands"))
         self.write_command("rt", RT)
-        self.env = {
-            **os.environ,
-            "PATH": os.path.join(self.folder, "commands") + os.pathsep + os.environ["PATH"],
-            "RT_NOTES": self.notes,
-            "RT_PROGRAM": harness.PROGRAM,
-            "RT_FAST": harness.PROGRAM,
-        }
+        self.env = {**os.environ, "PATH": f"{self.folder}/commands:{os.environ['PATH']}", "RT_NOTES": self.notes,
+                    "RT_PROGRAM": harness.PROGRAM, "RT_FAST": harness.PROGRAM}
 
     def in_top(self, name):
         """The path of a name in the repository."""
@@ -85,8 +78,8 @@ class Repository(Case):
         os.chmod(self.path(f"commands/{name}"), 0o755)
 
     def script(self, name, *words, stdin=b"", **how):
-        """Runs a script of the repository in the test's folder; `RT_..` are told to what stands in for rt. `calls` has
-        how that was called: the crate and the words."""
+        """Runs a script of the repository; `RT_..` are told to what stands in for rt, and `calls` says how that was
+        called: the crates and the words."""
         self.write(self.notes, "")
         env = {**self.env, **{key: how.pop(key) for key in list(how) if key.isupper()}}
         ran = self.run_command([self.in_top(name), *words], stdin, env=env, **how)
@@ -100,6 +93,6 @@ class Repository(Case):
         return self.calls
 
     def programs(self):
-        """What was built, by its level: what level and sources the program says at its end that it is of."""
-        found = {level: self.in_top(f"out/{level}/digests") for level in (DEFAULT, FAST)}
-        return {level: self.read(path)[-40:].splitlines()[-1] for level, path in found.items() if os.path.exists(path)}
+        """What the program of each level that is built says at its end: the level, and a sum of its sources."""
+        paths = {level: self.in_top(f"out/{level}/digests") for level in (DEFAULT, FAST)}
+        return {level: self.read(path).splitlines()[-1] for level, path in paths.items() if os.path.exists(path)}

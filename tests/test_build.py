@@ -11,8 +11,6 @@ import harness
 from harness import M, TOOLS, TOP, Case, Ran
 from repository import ASKED, BOTH, DEFAULT, FAST, OF_A, Repository
 
-BUILD_SECONDS = 1200  # of both programs over kept proofs, on a busy machine
-
 
 class Build(Repository):
     """In a small copy of the repository."""
@@ -34,13 +32,12 @@ class Build(Repository):
 
     def test_a_changed_source(self):
         self.build()
-        parts = [f"{crate}/{part}/Some.antt" for crate in ("low", "digests") for part in ("src", "specs", "proofs")]
-        for name in [*parts, "low/src/inner/New.antt"]:
+        for path in [*self.sources, self.in_top("crates/low/src/inner/New.antt")]:
             before = self.programs()
-            self.put(f"crates/{name}", f"another {name}\n")
-            self.expect_built(name)
-            self.assertFalse(set(before.values()) & set(self.programs().values()), name)
-        os.remove(self.source)
+            self.put(path, f"another {path}\n")
+            self.expect_built(path)
+            self.assertFalse(set(before.values()) & set(self.programs().values()), path)
+        os.remove(self.sources[0])
         self.expect_built("a source is gone")
         self.put("crates.txt", "low:\ndigests: low\n")
         self.expect_built("crates.txt")
@@ -49,7 +46,7 @@ class Build(Repository):
         """Where only times are others, or a program is missing, rt is asked, and no more is compiled than that."""
         self.build()
         before = self.programs()
-        os.utime(self.source)
+        os.utime(self.sources[0])
         self.expect_built("another time", ASKED)
         for level, calls in ((DEFAULT, ASKED), (FAST, BOTH)):
             shutil.rmtree(self.in_top(f"out/{level}"))
@@ -57,17 +54,17 @@ class Build(Repository):
             self.assertEqual(self.programs(), before)
 
     def test_a_source_that_changes_while_it_builds(self):
-        self.build(RT_EDITS=self.source)
+        self.build(RT_EDITS=self.sources[0])
         self.expect_built("the next call")
 
     def test_a_failed_build(self):
         """It says why, with the status 1, however often; the old program is neither run nor installed."""
-        end = "rt: this is why\ndigests: the build failed; all that the toolchain said is in " + \
-              self.in_top("out/build.log\n")
+        log = self.in_top("out/build.log")
+        end = f"rt: this is why\ndigests: the build failed; all that the toolchain said is in {log}\n"
         for old in (False, True):
             for fails, step in (("lib low", "crate 1 of 2, low"), ("run digests", "crate 2 of 2, digests"),
                                 ("--cpu", f"the program for {FAST}")):
-                self.write(self.source, f"{old} {fails}\n")
+                self.write(self.sources[0], f"{old} {fails}\n")
                 before = self.programs()
                 for words in (["digests", "md5sum", "a"], ["digests", "md5sum", "a"], ["install", "prefix"]):
                     ran = self.script(*words, RT_FAILS=fails)
@@ -77,14 +74,6 @@ class Build(Repository):
                 self.assertEqual(self.programs().get(FAST), before.get(FAST))
                 self.assertFalse(os.path.exists(self.path("prefix")))
             self.expect_built("mended")
-
-    def test_no_kit(self):
-        path = "/usr/bin:/bin"
-        if shutil.which("rt", path=path):
-            self.skipTest("the command rt stands among the system's own")
-        ran = self.script("digests", "md5sum", "a", PATH=path)
-        self.assertEqual((ran.status, ran.out), (1, b""))
-        self.assertRegex(ran.err, b"rt: .*not found\n$")
 
     def test_a_build_that_is_killed(self):
         """What is left is taken for no program, and the next call builds."""
@@ -125,7 +114,7 @@ class Launcher(Repository):
         super().setUp()
         self.build()
 
-    def test_words_streams_and_status(self):
+    def test_words_streams_status_and_signals(self):
         self.write("two  words *", "abc")
         ran = self.script("digests", "md5sum", "two  words *", "", "new\nline", "-", stdin=b"abc")
         said = b"md5sum: : No such file or directory\nmd5sum: new\\nline: No such file or directory\n"
@@ -138,6 +127,11 @@ class Launcher(Repository):
                                (">&-", Ran(1, b"", b"md5sum: write error\n"))):
             ran = self.run_command(["sh", "-c", f'"$0" md5sum {closed}', self.in_top("digests")], env=self.env)
             self.assertEqual(ran, wanted)
+        os.mkfifo(self.path("p"))
+        started = subprocess.Popen([self.in_top("digests"), "md5sum", "p"], cwd=self.folder, env=self.env)
+        with open(self.path("p"), "wb"):  # opens once the program reads
+            started.terminate()
+            self.assertEqual(started.wait(timeout=harness.RUN_SECONDS), -signal.SIGTERM)
 
     def test_links(self):
         """By a link to a link, too, with spaces and newlines in folders: the eight tools' names, and no other."""
@@ -153,42 +147,21 @@ class Launcher(Repository):
         self.assertEqual(ran.err, b"anysum: --check is required\nTry 'anysum --help' for more information.\n")
         self.assertEqual(self.run_command([self.path("a\nfolder /foosum"), "md5sum", "a"], env=self.env), OF_A)
 
-    def test_signals_reach_the_program(self):
-        os.mkfifo(self.path("p"))
-        for number in (signal.SIGTERM, signal.SIGINT, signal.SIGKILL):
-            started = subprocess.Popen([self.in_top("digests"), "md5sum", "p"], cwd=self.folder, env=self.env)
-            self.addCleanup(harness.end, started)
-            with open(self.path("p"), "wb"):  # opens once the program reads
-                started.send_signal(number)
-                self.assertEqual(started.wait(timeout=harness.RUN_SECONDS), -number)
 
-
-class OfThisMachine(Case):
-    """The programs that were really built."""
+class SameBytes(Case):
+    """The programs that were really built, and rt itself."""
 
     of_the_repository = True
 
-    def test_hidden(self):
-        """Where AVX2 is hidden, the one for later processors ends with a clear message before any work."""
-        program = os.path.join(TOP, "out", FAST, "digests")
-        if not os.path.exists(program):
-            self.skipTest(f"the program for {FAST} isn't built")
-        ran = self.run_command([program, "md5sum", "a"],
-                               env={**os.environ, "GLIBC_TUNABLES": "glibc.cpu.hwcaps=-AVX2"})
-        self.assertEqual((ran.status, ran.out), (harness.NOT_FOR_THIS_MACHINE, b""))
-        self.assertRegex(ran.err, rb"^this machine lacks a feature of x86-64-v3, [^\n]*\n$")
-
-    def test_the_same_bytes_from_another_folder(self):
-        """From the sources alone, in another environment."""
+    def test_from_another_folder(self):
+        """A build in another environment, over what is kept of the proofs, gives the same."""
         if shutil.which("rt") is None:
             self.skipTest("the command rt of the Rattle kit is not on the PATH")
-        place = os.path.join(self.folder, "another place")
-        shutil.copytree(TOP, place, ignore=shutil.ignore_patterns("out", ".git", "__pycache__"), symlinks=True)
-        signal.alarm(2 * BUILD_SECONDS)  # a minute on an idle machine that has proved it before
+        self.run_command(["cp", "-R", *(os.path.join(TOP, name) for name in ("crates", "crates.txt", "tools")), "."])
+        self.run_command(["rm", "-f", "crates/digests/out/digests.stamp"])  # so both are compiled anew
         env = {**os.environ, "HOME": self.folder, "TZ": "Asia/Tokyo", "USER": "other", "SOURCE_DATE_EPOCH": "1"}
-        built = subprocess.run([os.path.join(place, "digests"), "md5sum", "/dev/null"], env=env, timeout=BUILD_SECONDS,
-                               stdin=subprocess.DEVNULL, stdout=subprocess.PIPE, stderr=subprocess.PIPE)
-        self.assertEqual(built.returncode, 0, built.stderr)
+        ran = self.run_command(["tools/build"], env=env)
+        self.assertEqual(ran.status, 0, ran.err)
         for level in (DEFAULT, FAST):
-            made, there = (os.path.join(top, "out", level, "digests") for top in (place, TOP))
-            self.assertTrue(self.read(made) == self.read(there), f"{there} is another program, or an old one")
+            there = os.path.join(TOP, "out", level, "digests")
+            self.assertTrue(self.read(f"out/{level}/digests") == self.read(there), f"{there} is another, or an old one")
