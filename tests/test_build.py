@@ -1,6 +1,5 @@
 """Building: `./digests` builds what is stale, and then is the program; what a failed build says and leaves."""
 
-import hashlib
 import os
 import re
 import shutil
@@ -98,7 +97,6 @@ class Build(Repository):
         self.assertEqual(self.read(self.notes).decode().splitlines(), BOTH)
 
     def test_the_best_level(self):
-        """It is the one for later processors where that runs; else its end with 127 fails no build."""
         self.write_command("later", "#!/bin/sh\nexit 127\n")
         for fast, level in ((harness.PROGRAM, FAST), (self.path("commands/later"), DEFAULT)):
             shutil.rmtree(self.in_top("out"), ignore_errors=True)
@@ -120,9 +118,6 @@ class Launcher(Repository):
         said = b"md5sum: : No such file or directory\nmd5sum: new\\nline: No such file or directory\n"
         self.assertEqual(ran, Ran(1, f"{M}  two  words *\n{M}  -\n".encode(), said))
         self.assertEqual(self.script("digests"), Ran(1, b"", b"digests: unknown tool\n"))
-        content = bytes(range(256)) * 1000
-        ran = self.script("digests", "sha256sum", stdin=content)
-        self.assertEqual(ran, Ran(0, f"{hashlib.sha256(content).hexdigest()}  -\n".encode(), b""))
         for closed, wanted in (("<&-", Ran(1, b"", b"md5sum: -: Input/output error\n")),
                                (">&-", Ran(1, b"", b"md5sum: write error\n"))):
             ran = self.run_command(["sh", "-c", f'"$0" md5sum {closed}', self.in_top("digests")], env=self.env)
@@ -157,8 +152,9 @@ class SameBytes(Case):
         """A build in another environment, over what is kept of the proofs, gives the same."""
         if shutil.which("rt") is None:
             self.skipTest("the command rt of the Rattle kit is not on the PATH")
-        self.run_command(["cp", "-R", *(os.path.join(TOP, name) for name in ("crates", "crates.txt", "tools")), "."])
-        self.run_command(["rm", "-f", "crates/digests/out/digests.stamp"])  # so both are compiled anew
+        names = [os.path.join(TOP, name) for name in ("crates", "crates.txt", "tools")]
+        self.run_command(["sh", "-c", 'cp -Rl "$@" . 2>/dev/null || cp -R "$@" .', "sh", *names])
+        self.run_command(["sh", "-c", "rm -f crates/digests/out/digests*"])  # so both are compiled anew
         env = {**os.environ, "HOME": self.folder, "TZ": "Asia/Tokyo", "USER": "other", "SOURCE_DATE_EPOCH": "1"}
         ran = self.run_command(["tools/build"], env=env)
         self.assertEqual(ran.status, 0, ran.err)

@@ -88,7 +88,6 @@ class Install(Repository):
         self.assertEqual(self.tree(), {})
 
     def test_prefixes(self):
-        """Of a relative one, and of one that begins as an option."""
         for words, prefix in ((["one/two/"], "one/two"), (["--", "-x"], "-x"), (["--cpu", FAST, "--", "a b"], "a b")):
             self.installs(*words)
             self.assertTrue(os.path.exists(self.path(f"{prefix}/bin/b2sum")))
@@ -96,7 +95,6 @@ class Install(Repository):
             self.assertFalse(os.path.exists(self.path(f"{prefix}/bin/b2sum")))
 
     def test_on_the_path(self):
-        """Where others come first, one sentence says what to do."""
         advice = f"to call the tools by their names, put {self.prefix}/bin first on the PATH\n"
         os.symlink(self.prefix, self.path("same"))
         for first, wanted in ((self.prefix, False), (f"{self.folder}/same", False), (f"{self.folder}/other", True)):
