@@ -72,7 +72,8 @@ class Build(Repository):
                     self.assertTrue(ran.err.decode().endswith(end), ran.err)
                 self.assertEqual(self.programs().get(FAST), before.get(FAST))
                 self.assertFalse(os.path.exists(self.path("prefix")))
-            self.expect_built("mended")
+            os.utime(self.sources[0], (1, 1))
+            self.expect_built("mended, with an older time")
 
     def test_a_build_that_is_killed(self):
         """What is left is taken for no program, and the next call builds."""

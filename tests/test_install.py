@@ -45,8 +45,8 @@ class Install(Repository):
         wanted[LIST] = "".join(f"{path}\n" for path in sorted([*wanted, LIST])).encode()
         self.assertEqual(self.tree(), wanted)
         shutil.rmtree(self.top)
-        closed = self.run_command(["find", self.prefix, "!", "-perm", "-a=r", "-o", "-type", "d", "!", "-perm", "-a=rx"])
-        self.assertEqual(closed, Ran(0, b"", b""))
+        closed = ["find", self.prefix, "!", "-perm", "-a=r", "-o", "-type", "d", "!", "-perm", "-a=rx"]
+        self.assertEqual(self.run_command(closed), Ran(0, b"", b""))
         for tool, (_, of_nothing, of_abc) in TOOLS.items():
             ran = self.run_command([os.path.join(self.prefix, "bin", tool), "a", "e"])
             self.assertEqual(ran, Ran(0, f"{of_abc}  a\n{of_nothing}  e\n".encode(), b""))

@@ -52,7 +52,6 @@ class Test(Repository):
         os.chmod(self.put("tests/run.py", '#!/bin/sh\necho "tests $*"\nexit "${RUN_ENDS-0}"\n'), 0o755)
 
     def expect(self, status, last, *words, **how):
-        """What `./test` says at its end, and its status."""
         ran = self.script("test", *words, **how)
         self.assertEqual((ran.status, ran.out.decode().splitlines()[-len(last):]), (status, last), ran)
 
