@@ -33,12 +33,11 @@ OTHERS = {"uutils": "coreutils", "busybox": "busybox"}  # programs that are ever
 
 def built_programs():
     """The programs of this repository that run on this machine, by level, built where they are stale."""
-    script = """top=$1; . "$top/build.sh"; all_are_current || "$top/tools/build" || exit 1
-        for it in $levels; do if runs_here "$it"; then echo "$it"; fi; done"""
-    built = subprocess.run(["sh", "-c", script, "sh", TOP], stdout=subprocess.PIPE, text=True)
-    if built.returncode:
+    if subprocess.run([os.path.join(TOP, "tools", "build")]).returncode:
         sys.exit(1)
-    return {level: os.path.join(TOP, "out", level, "digests") for level in built.stdout.split()}
+    out = os.path.join(TOP, "out")
+    found = {level: os.path.join(out, level, "digests") for level in sorted(os.listdir(out))}
+    return {level: path for level, path in found.items() if os.path.isfile(path) and works([path, "sha256sum"])}
 
 
 def built_bare():

@@ -161,3 +161,20 @@ class Documents(Case):
                 text = it.read()
             for crate in crates:
                 self.assertIn(f"`{crate}`", text, name)
+
+
+class Clauses(Case):
+    """The words of `tools/clauses.py`."""
+
+    of_the_repository = True
+
+    def test_names(self):
+        """Where one names no clause, nothing is tried."""
+        clauses = os.path.join(harness.TOP, "tools", "clauses.py")
+        ran = self.run_command([clauses, "--list", "sum_words"])
+        self.assertEqual((ran.status, ran.err), (0, b""))
+        self.assertTrue(ran.out.startswith(b"sum_words::"))
+        for words in (["sum_word"], ["sum_words", "other"], ["--list", "sum_words::wor"]):
+            ran = self.run_command([clauses, *words])
+            self.assertEqual((ran.status, ran.out), (2, b""))
+            self.assertIn(b"no clause is of '%s'" % words[-1].encode(), ran.err)

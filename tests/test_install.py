@@ -1,219 +1,110 @@
-"""The script `install`, in a copy of the repository: what it puts below a prefix and says, and its words."""
+"""The script `install`, in a copy of the repository: what it puts below a prefix, leaves there and takes away."""
 
 import os
 import shutil
 
 import harness
-from harness import M, TOOLS, Ran
-from installing import NAMES, Installing
-from repository import DEFAULT, FAST
+from harness import TOOLS, Ran
+from repository import DEFAULT, FAST, Repository
+
+NAMES = [*TOOLS, "anysum"]
+LIST = "share/digests/installed"
 
 
-class Install(Installing):
-    """`./install PREFIX` and `./install --remove PREFIX`."""
+class Install(Repository):
+    """`./install PREFIX` and `./install --remove PREFIX`, below a prefix with a space in its name."""
 
-    def test_installed_tools_run(self):
-        self.assertEqual(self.installs(), self.not_on_path)
-        shutil.rmtree(self.top)  # what is installed needs the repository no more
+    def setUp(self):
+        super().setUp()
+        self.build()
+        self.prefix = os.path.join(self.folder, "a prefix")
+
+    def installs(self, *words, status=0, **how):
+        """Runs `install` and returns what it says."""
+        ran = self.script("install", *(words or [self.prefix]), **how)
+        self.assertEqual((ran.status, ran.err if status == 0 else ran.out), (status, b""), ran.err)
+        return (ran.out + ran.err).decode()
+
+    def tree(self):
+        """The files below the prefix: contents, or what a link says."""
+        paths = [os.path.join(folder, name) for folder, _, names in os.walk(self.prefix) for name in names]
+        return {os.path.relpath(path, self.prefix): os.readlink(path) if os.path.islink(path) else self.read(path)
+                for path in paths}
+
+    def test_what_is_put_there(self):
+        """All of it is on the list, and for all to read, whatever the mask; it needs the repository no more."""
+        said = self.installs(umask=0o077)
+        self.assertIn(f"installed for the level {FAST}; {self.prefix}/{LIST} lists what is where\n", said)
+        bash, fish = "share/bash-completion/completions", "share/fish/vendor_completions.d"
+        wanted = {f"bin/{name}": "digests" for name in NAMES} | {"bin/digests": self.read(self.in_top("out/digests"))}
+        for name in ["digests", *NAMES]:
+            wanted[f"share/man/man1/{name}.1"] = self.read(self.in_top(f"man/{name}.1"))
+            wanted[f"{bash}/{name}"] = self.read(self.in_top("completions/digests.bash"))
+            wanted[f"{fish}/{name}.fish"] = self.read(self.in_top("completions/digests.fish"))
+        wanted["share/zsh/site-functions/_digests"] = self.read(self.in_top("completions/_digests"))
+        wanted[LIST] = "".join(f"{path}\n" for path in sorted([*wanted, LIST])).encode()
+        self.assertEqual(self.tree(), wanted)
+        shutil.rmtree(self.top)
+        closed = ["find", self.prefix, "!", "-perm", "-a=r", "-o", "-type", "d", "!", "-perm", "-a=rx"]
+        self.assertEqual(self.run_command(closed), Ran(0, b"", b""))
         for tool, (_, of_nothing, of_abc) in TOOLS.items():
-            ran = self.run_command([os.path.join(self.bin, "digests"), tool, "a", "e"])
+            ran = self.run_command([os.path.join(self.prefix, "bin", tool), "a", "e"])
             self.assertEqual(ran, Ran(0, f"{of_abc}  a\n{of_nothing}  e\n".encode(), b""))
-        self.assertEqual(sorted(os.listdir(self.bin)), sorted([*NAMES, "digests"]))
-        self.assertEqual(os.stat(os.path.join(self.bin, "digests")).st_mode & 0o777, 0o755)
-
-    def test_links_are_the_tools(self):
-        self.installs("--cpu", DEFAULT, self.prefix)
-        for tool, (_, of_nothing, of_abc) in TOOLS.items():
-            ran = self.run_command([os.path.join(self.bin, tool), "a", "e"])
-            self.assertEqual(ran, Ran(0, f"{of_abc}  a\n{of_nothing}  e\n".encode(), b""))
-        ran = self.run_command([os.path.join(self.bin, "anysum")])
-        self.assertEqual(ran.err, b"anysum: --check is required\nTry 'anysum --help' for more information.\n")
-
-    def test_what_is_said(self):
-        self.put("man/b2sum.1", "")
-        self.put("man/md5sum.1", "")
-        self.put("completions/_digests", "")
-        self.installs()
-        version = self.run_command(["sh", "-c", '. "$1" && echo "$version"', "sh", self.in_top("build.sh")])
-        self.assertEqual(self.told.splitlines(), [
-            f"{self.bin}/digests: the program, version {version.out.decode().strip()}, for the level {FAST}",
-            f"{self.bin}: links to it for {' '.join(NAMES)}",
-            f"{self.prefix}/share/man/man1: 2 manual pages",
-            f"{self.prefix}/share/zsh/site-functions: 1 completion",
-            f"{self.prefix}/share/digests/installed: what was installed, for install --remove",
-        ])
-
-    def test_levels(self):
-        """The faster program where it runs here, else the default's; or the one that is asked for."""
-        hidden = {"GLIBC_TUNABLES": "glibc.cpu.hwcaps=-AVX2"}
-        installed = os.path.join(self.bin, "digests")
-        does_not_run = f"install: this machine doesn't run a program for the level {FAST}\n"
-        for words, how, level, more in (([], {}, FAST, ""), ([], hidden, DEFAULT, ""),
-                                        (["--cpu", DEFAULT], {}, DEFAULT, ""), ([f"--cpu={FAST}"], {}, FAST, ""),
-                                        (["--cpu", FAST], hidden, FAST, does_not_run)):
-            with self.subTest(words=words, how=how):
-                self.assertEqual(self.installs(*words, self.prefix, **how), more + self.not_on_path)
-                self.assertEqual(self.read(installed), self.read(self.in_top(f"out/{level}/digests")))
-                self.assertIn(f"for the level {level}\n", self.told)
-        self.removes()
-        self.assertFalse(os.path.exists(self.prefix))
-
-    def test_on_the_path(self):
-        path = f"{self.env['PATH']}:{self.bin}"
-        said = self.installs(PATH=path)
-        if harness.gnu("b2sum"):
-            self.assertTrue(said.startswith("install: others of these names come first on the PATH: "), said)
-            self.assertIn(f" {shutil.which('b2sum', path=path)}", said)
-            self.assertEqual(said.count("\n"), 1)
-        os.symlink(self.prefix, self.path("same"))
-        for first in (self.bin, f"nowhere:{self.folder}/same/bin/", f"{self.bin}//"):
-            self.assertEqual(self.installs(PATH=f"{first}:{self.env['PATH']}"), "", first)
-        self.assertEqual(self.installs(PATH=f":{self.env['PATH']}", cwd=self.bin), "")
 
     def test_again_and_away(self):
-        self.installs()
-        before = self.tree()
-        self.assertEqual(self.installs(), self.not_on_path)
-        self.assertEqual(self.tree(), before)
-        self.assertEqual(self.removes(), "")
-        self.assertFalse(os.path.exists(self.prefix))
+        """Over another level, beside what others put there; that stays."""
+        for level in (DEFAULT, FAST):
+            self.installs("--cpu", level, self.prefix)
+            self.assertEqual(self.tree()["bin/digests"], self.read(self.in_top(f"out/{level}/digests")))
+            self.write(os.path.join(self.prefix, "bin/theirs"), "")
+        self.assertEqual(self.installs("--remove", self.prefix), "")
+        self.assertEqual(self.tree(), {"bin/theirs": b""})
+        self.assertFalse(os.path.exists(os.path.join(self.prefix, os.path.dirname(LIST))))
         self.assertIn("nothing is installed", self.installs("--remove", self.prefix, status=1))
 
-    def test_a_newer_program_takes_the_place_of_an_older_one(self):
-        self.installs()
-        self.write(self.source, "another version")
-        self.env["RT_FAST"] = harness.PROGRAM
-        self.installs()
-        self.assertEqual(self.read(os.path.join(self.bin, "digests")), self.read(self.fast_program))
-        self.removes()
-        self.assertFalse(os.path.exists(self.prefix))
-
-    def test_modes(self):
-        """Whatever the mask, what is made is for all to read, and a folder that was there keeps its mode."""
-        self.put("man/b2sum.1", "")
-        self.put("completions/digests.bash", "")
-        there = {"deep": 0o711, "deep/share": 0o700}
-        for mask in (0o077, 0o777, 0):
-            for name, mode in there.items():
-                os.makedirs(os.path.join(self.prefix, name))
-                os.chmod(os.path.join(self.prefix, name), mode)
-            for prefix in ("deep", "one/two"):
-                self.installs(os.path.join(self.prefix, prefix), umask=mask)
-            for folder, folders, names in os.walk(self.prefix):
-                for path in (os.path.join(folder, name) for name in folders + names):
-                    name = os.path.relpath(path, self.prefix)
-                    wanted = 0o755 if os.path.isdir(path) or name.endswith("bin/digests") else 0o644
-                    if not os.path.islink(path):
-                        mode = os.stat(path).st_mode & 0o7777
-                        self.assertEqual((name, oct(mode)), (name, oct(there.get(name, wanted))), oct(mask))
+    def test_a_name_that_is_taken(self):
+        """It is named, and nothing is installed or taken away; nor where a file stands in the place of a folder."""
+        for name, make in (("bin/md5sum", lambda path: self.write(path, "theirs")), ("bin/sha1sum", os.mkdir),
+                           ("bin/b2sum", lambda path: os.symlink("/nowhere", path)),
+                           ("share/man/man1/b2sum.1", lambda path: self.write(path, "theirs")),
+                           (LIST, lambda path: self.write(path, "theirs")),
+                           ("bin", lambda path: self.write(path, "theirs"))):
+            path = os.path.join(self.prefix, name)
+            os.makedirs(os.path.dirname(path))
+            make(path)
+            before = self.tree()
+            said = self.installs(status=1)
+            self.assertIn("" if name == "bin" else f"nothing was installed:\ninstall: {path}\n", said)
+            self.assertIn("nothing is installed", self.installs("--remove", self.prefix, status=1))
+            self.assertEqual(self.tree(), before)
             shutil.rmtree(self.prefix)
 
-    def test_pages_and_completions(self):
-        for name in ("man/b2sum.1", "man/digests.1", "man/README", "completions/digests.bash", "completions/_digests",
-                     "completions/digests.fish", "completions/md5sum.bash"):
-            self.put(name, f"text of {name}")
-        self.installs()
-        found = {name: text for name, text in self.tree().items() if text is not None and not name.startswith("bin/")}
-        del found["share/digests/installed"]
-        bash, fish = "share/bash-completion/completions/", "share/fish/vendor_completions.d/"
-        wanted = {"share/man/man1/b2sum.1": "man/b2sum.1", "share/man/man1/digests.1": "man/digests.1",
-                  "share/zsh/site-functions/_digests": "completions/_digests"}
-        for tool in ["digests", *NAMES]:
-            wanted[bash + tool] = "completions/digests.bash"
-            wanted[f"{fish}{tool}.fish"] = "completions/digests.fish"
-        wanted[bash + "md5sum"] = "completions/md5sum.bash"
-        self.assertEqual(found, {to: f"text of {name}".encode() for to, name in wanted.items()})
-        self.put("man/b2sum.1", "newer")
-        os.remove(self.in_top("man/digests.1"))
-        self.installs()
-        self.assertEqual(self.tree()["share/man/man1/b2sum.1"], b"newer")
-        self.assertNotIn("share/man/man1/digests.1", self.tree())
-        self.write(os.path.join(self.prefix, bash, "b2sum"), "theirs")
-        stays = f"install: {self.prefix}/{bash}b2sum is not of this program's making and stays\n"
-        self.assertEqual(self.removes(), stays)
-        self.assertEqual([name for name, text in self.tree().items() if text is not None], [bash + "b2sum"])
+    def test_a_stage(self):
+        """With DESTDIR all stands below that folder, and nothing names it."""
+        self.prefix = os.path.join(self.folder, "a stage/usr")
+        self.assertNotIn("PATH", self.installs("/usr", DESTDIR=self.prefix[:-4]))
+        self.assertNotIn(b"stage", self.tree()[LIST])
+        self.installs("--remove", "/usr", DESTDIR=self.prefix[:-4])
+        self.assertEqual(self.tree(), {})
 
     def test_prefixes(self):
-        os.mkdir(self.path("inner"))
-        how = {"cwd": self.path("inner"), "env": self.env}
-        script = "../the repository/install"
-        self.assertEqual(self.run_command([script, "--cpu", DEFAULT, "here/and\nthere"], **how).status, 0)
-        installed = self.path("inner/here/and\nthere/bin")
-        self.assertEqual(self.run_command([installed + b"/md5sum", "a"]).out, f"{M}  a\n".encode())
-        self.assertEqual(self.run_command([script, "--remove", "here/and\nthere/"], **how), Ran(0, b"", b""))
-        self.assertEqual(os.listdir(self.path("inner")), [])
-        for prefix in ("one/two/.", "one/two/.//./", "one/./two", "one//two", "other/../one/two", "one/two/three/.."):
-            for again in (prefix, "one/two"):
-                self.assertEqual(self.run_command([script, prefix], **how).status, 0)
-                self.assertEqual(set(os.listdir(self.path("inner/one/two"))), {b"bin", b"share"})
-                self.assertEqual(self.run_command([script, "--remove", again], **how), Ran(0, b"", b""))
-                self.assertEqual(os.listdir(self.path("inner")), [])
+        for words, prefix in ((["one/two/"], "one/two"), (["--", "-x"], "-x"), (["--cpu", FAST, "--", "a b"], "a b")):
+            self.installs(*words)
+            self.assertTrue(os.path.exists(self.path(f"{prefix}/bin/b2sum")))
+            self.installs("--remove", "--", words[-1])
+            self.assertFalse(os.path.exists(self.path(f"{prefix}/bin/b2sum")))
 
-    def test_a_prefix_with_a_backslash(self):
-        """It is told as it is."""
-        prefix = os.path.join(self.folder, "a\\tb\\c")
-        said = self.installs(prefix)
-        self.assertEqual(said, self.not_on_path.replace(self.prefix, prefix))
-        self.assertEqual([line.startswith(prefix) for line in self.told.splitlines()], [True] * 3)
-        self.removes(prefix)
-        self.assertEqual(self.installs("--remove", prefix, status=1),
-                         f"install: nothing is installed in {prefix}\ninstall: {prefix}: failed\n")
-
-    def test_streams_that_take_nothing(self):
-        """All is done, though nobody is told."""
-        self.put("completions/_digests", "ours")
-        page = os.path.join(self.prefix, "share/zsh/site-functions/_digests")
-        for redirected in ("2>&-", "2>/dev/full", ">&- 2>&-", ">/dev/full", ">/dev/full 2>/dev/full"):
-            with self.subTest(redirected=redirected):
-                command = ["sh", "-c", f'"$@" {redirected}', "sh", self.in_top("install")]
-                self.assertEqual(self.run_command([*command, self.prefix], env=self.env).status, 0)
-                self.assertEqual(sorted(os.listdir(self.bin)), sorted([*NAMES, "digests"]))
-                self.write(page, "theirs")
-                self.assertEqual(self.run_command([*command, "--remove", self.prefix], env=self.env).status, 0)
-                self.assertEqual([name for name, text in self.tree().items() if text is not None],
-                                 ["share/zsh/site-functions/_digests"])
-                shutil.rmtree(self.prefix)
-
-    def test_a_present_folder_that_is_gone(self):
-        os.mkdir(self.path("gone"))
-        for prefix, status in (("prefix-of-a-test", 2), (self.prefix, 0)):
-            command = 'cd gone && rmdir ../gone && "$@"; status=$?; mkdir ../gone; exit $status'
-            ran = self.run_command(["sh", "-c", command, "sh", self.in_top("install"), prefix], env=self.env)
-            self.assertEqual(ran.status, status, ran.err)
-            os.makedirs(self.path("gone"), exist_ok=True)
-        self.assertIn("bin", os.listdir(self.prefix))
-
-    def test_a_stage(self):
-        """With DESTDIR all goes below that folder, and the note says nothing of it."""
-        stage, other = os.path.join(self.folder, "a stage"), os.path.join(self.folder, "another/stage")
-        note = "usr/share/digests/installed"
-        self.assertEqual(self.installs("/usr", DESTDIR=stage), "")
-        self.assertIn(f"{stage}/usr/bin/digests: ", self.told)
-        self.assertNotIn(b"stage", self.read(os.path.join(stage, note)))
-        self.installs("/usr", DESTDIR=other)
-        self.assertEqual(*(self.read(os.path.join(place, note)) for place in (stage, other)))
-        self.assertTrue(os.path.islink(os.path.join(stage, "usr/bin/b2sum")))
-        self.assertEqual(self.removes("/usr", DESTDIR=stage), "")
-        self.assertEqual(os.listdir(stage), [])
-        self.assertIn("begins with a slash", self.installs("usr", status=2, DESTDIR=stage))
+    def test_on_the_path(self):
+        advice = f"to call the tools by their names, put {self.prefix}/bin first on the PATH\n"
+        os.symlink(self.prefix, self.path("same"))
+        for first, wanted in ((self.prefix, False), (f"{self.folder}/same", False), (f"{self.folder}/other", True)):
+            said = self.installs(PATH=f"{first}/bin:{self.env['PATH']}:{self.prefix}/bin")
+            self.assertEqual(advice in said, wanted and bool(harness.gnu("sha256sum")), first)
 
     def test_usage(self):
-        for words in ([], [""], ["--remove"], ["a", "b"], ["--other"], ["-x"], ["--remove", ""], ["--cpu"],
-                      ["--cpu", DEFAULT], ["--cpu", "other", "a"], ["--cpu", "", "a"], ["--cpu=", "a"],
-                      ["--cpu", f"{DEFAULT} {FAST}", "a"], ["--remove", "--cpu", DEFAULT, "a"]):
-            with self.subTest(words=words):
-                ran = self.script("install", *words)
-                self.assertEqual((ran.status, ran.out), (2, b""))
-                self.assertRegex(ran.err, rb"^install: .*\nusage: install ")
-        ran = self.script("install", "--help")
-        self.assertEqual((ran.status, ran.err), (0, b""))
-        self.assertTrue(ran.out.startswith(b"usage: install "))
-        self.assertEqual(os.listdir(self.folder).count("a"), 1)
-
-    def test_builds_first(self):
-        shutil.rmtree(self.in_top("out"))
-        self.assertIn("proving and building", self.installs())
-        self.assertEqual(self.run_command([os.path.join(self.bin, "digests"), "md5sum", "a"]).out, f"{M}  a\n".encode())
-        self.write(self.source, "another version")
-        self.installs(os.path.join(self.folder, "second"), status=1, RT_FAILS="run digests")
-        self.assertFalse(os.path.exists(self.path("second")))
+        for words in ([], [""], ["--remove"], ["x", "y"], ["-x"], ["--remove", "--cpu", DEFAULT, "x"], ["--cpu"],
+                      ["--cpu", FAST], ["--cpu", "other", "x"], ["--cpu", "", "x"]):
+            ran = self.script("install", *words)
+            self.assertEqual((ran.status, ran.out, ran.err[:15]), (2, b"", b"usage: install "), words)
+        self.assertTrue(self.installs("--help").startswith("usage: install "))
+        self.assertFalse(os.path.exists(self.path("x")))

@@ -237,3 +237,19 @@ class Combinations(Case):
     def test_check_takes_a_length_and_does_nothing_with_it(self):
         self.write("l", [f"{B}  e"])
         self.expect("b2sum -c -l 8 l", out=["e: OK"])
+
+
+class LaterProcessors(Case):
+    """The program that was built for them."""
+
+    of_the_repository = True
+
+    def test_hidden(self):
+        """Where AVX2 is hidden it ends at once, with a clear message and its own status, before any work."""
+        program = os.path.join(harness.TOP, "out", "x86-64-v3", "digests")
+        if not os.path.exists(program):
+            self.skipTest("the program for x86-64-v3 isn't built")
+        env = {**os.environ, "GLIBC_TUNABLES": "glibc.cpu.hwcaps=-AVX2"}
+        ran = self.run_command([program, "md5sum", "a"], env=env)
+        self.assertEqual((ran.status, ran.out), (harness.NOT_FOR_THIS_MACHINE, b""))
+        self.assertRegex(ran.err, rb"^this machine lacks a feature of x86-64-v3, [^\n]*\n$")

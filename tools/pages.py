@@ -19,13 +19,13 @@ from roff import WIDTH, bullets, inline, item, page, section, shown  # noqa: E40
 
 TOP = os.path.dirname(os.path.dirname(os.path.abspath(__file__)))
 PROGRAM = os.path.join(TOP, "digests")  # builds what is stale
-VERSION_FILE = "build.sh"
+VERSION_FILE = "CHANGELOG.md"
 
 
 def version():
-    """The version of the program, by the one file that sets it."""
+    """The version of the program, which stands first there."""
     with open(os.path.join(TOP, VERSION_FILE), encoding="utf-8") as file:
-        return re.search(r"(?m)^version=(.*)$", file.read())[1]
+        return re.search(r"(?m)^## ([\d.]+)", file.read())[1]
 
 
 def typed(text):
