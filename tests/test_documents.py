@@ -50,6 +50,15 @@ class Documents(Case):
         first = f"-- ======== The headline (run of digests): {counted}"
         self.assertEqual((ran.status, ran.err, ran.out.decode().split("\n")[0]), (0, b"", first))
 
+    def test_what_changed(self):
+        """The command of docs/AUDITING.md shows the files of the contracts."""
+        with open(os.path.join(harness.TOP, "docs", "AUDITING.md"), encoding="utf-8") as it:
+            files = re.search(r"(?m)^    git diff OLD -- 'crates/\*/specs' (.*)$", it.read())[1]
+        ran = self.run_command(["sh", "-c", f"ls {files}"], cwd=harness.TOP)
+        self.assertEqual((ran.status, ran.err), (0, b""))
+        for name in (b"digests/src/run.rt", b"digests/src/command.rt", b"digests/src/laws.rt", b"sum_lines/src/sink.rt"):
+            self.assertIn(b"crates/" + name, ran.out.split())
+
     def test_what_cannot_be_read(self):
         """It is refused, so that no line of a definition is left out unseen."""
         for lines in (["abbrev pub f : A → B", "f a = b", "-- why", "f c = d"],
