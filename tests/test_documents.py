@@ -103,7 +103,7 @@ class Documents(Case):
     def test_where_a_text_is_spelled(self):
         """The command of docs/CHANGING.md finds what has to follow where a diagnostic text changes."""
         with open(os.path.join(harness.TOP, "docs", "CHANGING.md"), encoding="utf-8") as it:
-            command = re.search(r"(?m)^    (grep -rnF .*)$", it.read())[1]
+            command = re.search(r"(?m)^ +(grep -rnF .*)$", it.read())[1]
         ran = self.run_command(["sh", "-c", command], cwd=harness.TOP)
         found = {line.split(b":")[0] for line in ran.out.splitlines()}
         wanted = {b"crates/sum_sources/specs/Faults.antt", b"crates/sum_sources/src/fault.rt", b"tests/harness.py",
