@@ -1,6 +1,6 @@
 -- What inputs hold: bytes and an ending, and what counts of them.
 use Rattle.std.specs.Prelude.{ℕ, ◌≡◌, ◌<◌, ◌-◌, ◌^◌, List, [], ◌++◌, take, length, Option, None, Some, Result, Ok, Err}
-use Rattle.std.specs.Prelude.{⊤, nat_lt, if◌then◌else◌, Bool, true}
+use Rattle.std.specs.Prelude.{⊤, nat_lt, if◌then◌else◌}
 use Rattle.digest_kinds.specs.Digests.{digest}
 use Rattle.digest_kinds.specs.Kinds.{KindValue}
 use Rattle.sum_sources.specs.declared.fault.Fault.{Fault}
@@ -33,11 +33,6 @@ abbrev pub ReadsFrom : Content → Content → Result ℕ Fault → List ℕ →
 ReadsFrom c d (Ok n) buf = (c.bytes ≡ take n buf ++ d.bytes) × (d.ending ≡ c.ending)
     × (n ≡ 0 → 0 < length buf → (c.bytes ≡ []) × (c.ending ≡ Whole))
 ReadsFrom c d (Err f) buf = (c.bytes ≡ []) × (c.ending ≡ Broken f) × (d ≡ c)
-
--- whether a read has failed, after one that answered so
-abbrev pub failed_after : {A E : Type 0} → Bool → Result A E → Bool
-failed_after b (Ok n) = b
-failed_after b (Err e) = true
 
 -- the digest of a content that ends whole, or the fault by which it ends
 abbrev pub Hashes : KindValue → Content → Result (List ℕ) Fault → Type 0

@@ -1,7 +1,6 @@
 //! Inputs over std's readers.
-ghost use Rattle.std.specs.Prelude.{◌≡◌, ◌≤◌, false, length, IfOk};
+ghost use Rattle.std.specs.Prelude.{◌≡◌, ◌≤◌, ◌||◌, false, length, is_err, IfOk};
 ghost use Rattle.std.specs.Io.KnownBytes.{ReadConsumes};
-ghost use Rattle.sum_sources.specs.Contents.{failed_after};
 
 use crate::{Fault, Input};
 use std::io::{self, ErrorKind, Read};
@@ -60,7 +59,7 @@ impl<R: Read> Input for FromRead<R> {
     fn read(&mut self, buf: &mut [u8]) -> Result<usize, Fault>
         ensures count { IfOk result (λ n. n ≤ length buf.new) }
         ensures given { ReadConsumes (R.remaining self.old.reader) (R.remaining self.new.reader) result buf.new }
-        ensures failed { self.new.failed ≡ failed_after self.old.failed result }
+        ensures failed { self.new.failed ≡ self.old.failed || is_err result }
     {
         let result = read_uninterrupted(&mut self.reader, buf);
         if result.is_err() {

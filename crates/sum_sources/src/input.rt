@@ -1,6 +1,6 @@
 //! What can be read.
-ghost use Rattle.std.specs.Prelude.{ℕ, Bool, true, ◌≡◌, ◌≤◌, length, Option, None, IfOk};
-ghost use Rattle.sum_sources.specs.Contents.{Content, WhereTold, ReadsFrom, failed_after};
+ghost use Rattle.std.specs.Prelude.{ℕ, Bool, true, ◌≡◌, ◌≤◌, ◌||◌, length, Option, None, is_err, IfOk};
+ghost use Rattle.sum_sources.specs.Contents.{Content, WhereTold, ReadsFrom};
 
 use crate::Fault;
 
@@ -21,5 +21,5 @@ pub trait Input {
     fn read(&mut self, buf: &mut [u8]) -> Result<usize, Fault>
         ensures count { IfOk result (λ n. n ≤ length buf.new) }
         ensures bytes { WhereTold (content self.old) (content self.new) (λ c d. ReadsFrom c d result buf.new) }
-        ensures failed { failed self.new ≡ failed_after (failed self.old) result };
+        ensures failed { failed self.new ≡ failed self.old || is_err result };
 }

@@ -1,6 +1,6 @@
 //! An input in memory.
-ghost use Rattle.std.specs.Prelude.{◌≡◌, ◌≤◌, length, max, true, IfOk};
-ghost use Rattle.sum_sources.specs.Contents.{ReadsFrom, failed_after};
+ghost use Rattle.std.specs.Prelude.{◌≡◌, ◌≤◌, ◌||◌, length, max, true, is_err, IfOk};
+ghost use Rattle.sum_sources.specs.Contents.{ReadsFrom};
 
 use crate::{Ending, Fault, Input};
 use std::marker::Model;
@@ -54,7 +54,7 @@ impl<'a> Input for Told<'a> {
         ensures bytes { ReadsFrom self.old.content self.new.content result buf.new }
         ensures few { IfOk result (λ n. n ≤ self.old.piece) }
         ensures piece { self.new.piece ≡ self.old.piece }
-        ensures failed { true ≡ failed_after true result }
+        ensures failed { true ≡ true || is_err result }
     {
         if self.rest.is_empty() {
             return match self.ending {

@@ -1,5 +1,5 @@
-//! Inputs of which one read fails and which then go on. No contract refuses a body that reads a reader again after an
-//! error.
+//! Inputs of which one read fails and which then go on. A told input repeats its fault, so it doesn't show what a body
+//! reads behind one.
 use digest_kinds::Md5Hasher;
 use std::io::{self, ErrorKind, Read};
 use std::process::Abort;
