@@ -169,7 +169,7 @@ def of_several(definitions):
 
 def rows_of(page):
     """The rows of tables in a page, or in a part of one: what each file says."""
-    rows = re.findall(r"^\| `(\w+)` `([\w/]+)` \| (.*?) \| \d+ \| \d+ \|", page, re.MULTILINE)
+    rows = re.findall(r"^\| `(\w+)/specs/([\w/]+)\.antt` \| (.*?) \| \d+ \|", page, re.MULTILINE)
     return {(crate, file): says for crate, file, says in rows}
 
 
@@ -180,10 +180,10 @@ def tables(page):
     for claim in claims():
         besides = "besides the above:" if lines else "in these files:"
         lines += [f"**{claim.title}** (`{claim.function}` of `{claim.crate}`): {counted(claim.reached)}; {besides}", "",
-                  "| definitions | what they say | how many | lines |", "|---|---|---|---|"]
+                  "| definitions | what they say | lines |", "|---|---|---|"]
         says = rows_of(page.partition(f"**{claim.title}**")[2].partition("\n**")[0])
         for (crate, file), them in claim.files.items():
-            lines += [f"| `{crate}` `{file}` | {says.get((crate, file), '?')} | {len(them)} | {lines_of(them)} |"]
+            lines += [f"| `{crate}/specs/{file}.antt` | {says.get((crate, file), '?')} | {lines_of(them)} |"]
         lines += [""]
     return "\n".join(lines[:-1])
 
