@@ -153,14 +153,13 @@ class Documents(Case):
         self.assertEqual((ran.status, ran.err, wanted - found), (0, b"", set()))
 
     def test_crates_are_in_the_documents(self):
-        """Every crate stands in the map and in the README."""
+        """Every crate stands in the map."""
         with open(os.path.join(harness.TOP, "crates.txt"), encoding="utf-8") as it:
             crates = re.findall(r"^(\w+):", it.read(), re.MULTILINE)
-        for name in ("README.md", "docs/ARCHITECTURE.md"):
-            with open(os.path.join(harness.TOP, name), encoding="utf-8") as it:
-                text = it.read()
-            for crate in crates:
-                self.assertIn(f"`{crate}`", text, name)
+        with open(os.path.join(harness.TOP, "docs", "ARCHITECTURE.md"), encoding="utf-8") as it:
+            text = it.read()
+        for crate in crates:
+            self.assertIn(f"`{crate}`", text)
 
 
 class Clauses(Case):
