@@ -156,10 +156,11 @@ class Documents(Case):
         """Every crate stands in the map."""
         with open(os.path.join(harness.TOP, "crates.txt"), encoding="utf-8") as it:
             crates = re.findall(r"^(\w+):", it.read(), re.MULTILINE)
-        with open(os.path.join(harness.TOP, "docs", "ARCHITECTURE.md"), encoding="utf-8") as it:
+        name = os.path.join(harness.TOP, "docs", "ARCHITECTURE.md")
+        with open(name, encoding="utf-8") as it:
             text = it.read()
-        for crate in crates:
-            self.assertIn(f"`{crate}`", text)
+            for crate in crates:
+                self.assertIn(f"`{crate}`", text, name)
 
 
 class Clauses(Case):
