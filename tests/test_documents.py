@@ -153,12 +153,12 @@ class Documents(Case):
         self.assertEqual((ran.status, ran.err, wanted - found), (0, b"", set()))
 
     def test_crates_are_in_the_documents(self):
-        """Every crate stands in the map."""
+        """Every crate stands in the map and in the README."""
         with open(os.path.join(harness.TOP, "crates.txt"), encoding="utf-8") as it:
             crates = re.findall(r"^(\w+):", it.read(), re.MULTILINE)
-        name = os.path.join(harness.TOP, "docs", "ARCHITECTURE.md")
-        with open(name, encoding="utf-8") as it:
-            text = it.read()
+        for name in ("README.md", "docs/ARCHITECTURE.md"):
+            with open(os.path.join(harness.TOP, name), encoding="utf-8") as it:
+                text = it.read()
             for crate in crates:
                 self.assertIn(f"`{crate}`", text, name)
 
