@@ -28,15 +28,6 @@ def behind_brace(text, start):
     return len(text)
 
 
-def without_variants(text):
-    """The text of an enum without the names of its variants, which are no types."""
-    depth, rest = 0, ""
-    for it in re.finditer(r"[({\[]|[)}\]]|\b[A-Z]\w*|[^A-Z(){}\[\]]+|.", text):
-        depth += (it[0] in "({[") - (it[0] in ")}]")
-        rest += "" if depth == 1 and it[0][0].isupper() else it[0]
-    return rest
-
-
 def end_of(text, start, kind):
     """Where an item ends that begins there: a function's contract before its body, and all else behind its braces."""
     if kind != "fn":
@@ -64,19 +55,9 @@ class Item(NamedTuple):
     around: str
     text: str
 
-    @property
-    def said(self):
-        """Its text with white space folded."""
-        return " ".join(self.text.split())
-
     def origins(self):
         """Where the names in it come from that a `ghost use` brings in."""
         return origins_in(self.text, self.uses)
-
-    @property
-    def bound(self):
-        """What stands for a value in its clauses: parameters, of functions and types, and ghost members."""
-        return {"self", "result", *re.findall(r"\b(\w+):", self.around), *re.findall(r"\bghost (\w+)", self.around)}
 
 
 def item_of(kind, name, crate, file, outside, text):
@@ -134,7 +115,8 @@ class Code:
 
     def named(self, item):
         """The traits, types and models that an item names outside its clauses: its crate's own or else another's."""
-        said = without_variants(item.around) if item.kind == "enum" else item.around
+        # The name of an enum's variant is no type's.
+        said = re.sub(r"(?m)^    [A-Z]\w*", "", item.around) if item.kind == "enum" else item.around
         for name in re.findall(r"\b[A-Z]\w*", said):
             found = [it for it in self.items if it.kind not in ("fn", "const") and it.name == name]
             found = [it for it in found if it.crate == item.crate] or found
@@ -154,12 +136,6 @@ class Code:
         crate, file, owner = found.groups()
         wanted = crate, file.replace(".", "/") + ".rt", name if owner == "TheConstants" else owner
         return self.behind(next(it for it in self.items if (it.crate, it.file, it.name) == wanted))
-
-    def unknown(self, item):
-        """The types and constants that an item's clauses name, and no `ghost use` brings in."""
-        named = re.findall(r"(?<!\.)\b[A-Z]\w+\b", " ".join(item.clauses))
-        return [it for it in named if it not in item.uses and it not in item.bound
-                and any(it == other.name for other in self.items if other.kind not in ("fn", "Model"))]
 
     def behind(self, function):
         """A function, and what its contract's words mean: the traits that bound its parameters with those that these

@@ -1,6 +1,5 @@
 """README: the commands that it shows do what it shows, and a stranger who goes its way arrives."""
 
-import base64
 import hashlib
 import os
 import re
@@ -17,19 +16,11 @@ NAMES = ["digests", *harness.TOOLS, "anysum"]
 LOADER = "/usr/share/bash-completion/bash_completion"
 
 
-def readme():
-    with open(os.path.join(TOP, "README.md"), encoding="utf-8") as file:
-        return file.read()
-
-
-def section(title):
-    """What stands below a heading, up to the next one of its level."""
-    return re.search(rf"(?ms)^## {re.escape(title)}\n(.*?)(?=^## |\Z)", readme())[1]
-
-
 def commands(title):
     """The commands of a section's blocks, without what is said behind them."""
-    return [line.split(" # ")[0].strip() for line in re.findall(r"(?m)^    (\S.*)$", section(title))]
+    with open(os.path.join(TOP, "README.md"), encoding="utf-8") as file:
+        section = re.search(rf"(?ms)^## {re.escape(title)}\n(.*?)(?=^## |\Z)", file.read())[1]
+    return [line.split(" # ")[0].strip() for line in re.findall(r"(?m)^    (\S.*)$", section)]
 
 
 class Page(Case):
@@ -39,49 +30,6 @@ class Page(Case):
 
     def test_set_up_is_two_commands(self):
         self.assertEqual(commands("Set-up"), ["./digests sha256sum README.md", "./test"])
-
-    def test_the_first_screen(self):
-        """What it is, commands with what they write, and why, within 30 lines."""
-        first = readme().split("\n## ")[0]
-        self.assertLess(first.count("\n"), 30)
-        self.assertIn("\n    $ ./digests ", first)
-
-    def test_cells_are_short(self):
-        rows = re.findall(r"(?m)^\|(.*)\|$", readme())
-        self.assertGreater(len(rows), 30)
-        for row in rows:
-            for cell in row.split("|"):
-                self.assertLessEqual(len(cell.split()), 20, cell)
-
-    def test_what_is_proved_comes_last(self):
-        titles = re.findall(r"(?m)^## (.*)$", readme())
-        self.assertEqual(titles[:4], ["What you need", "Set-up", "Installing", "The tools"])
-        self.assertEqual(titles[-1], "What is proved, crate by crate")
-
-    def test_words_are_explained_before_they_are_used(self):
-        text = re.sub(r"`[^`]*`", "``", readme())
-        for word, explained in (("the gate", "named *the gate* here"), (" kit", "the Rattle kit. Rattle is Rust"),
-                                ("crate", "a crate is a part of the source")):
-            self.assertLessEqual(text.index(explained) - text.index(word), 40, word)
-        self.assertNotIn(" told ", text)
-
-    def test_base64(self):
-        """The recipe gives the digest in base64; where the file can't be read it gives nothing, and fails."""
-        recipe, = commands("The tools")
-        if shutil.which("bash") is None or shutil.which("basenc") is None:
-            self.skipTest("bash or basenc isn't installed")
-        os.mkdir(self.path("folder"))
-        os.symlink(harness.PROGRAM, self.path("digests"))
-        env = {**os.environ, "PATH": self.folder + os.pathsep + os.environ["PATH"]}
-        digest = base64.b64encode(hashlib.sha256(b"abc").digest()) + b"\n"
-        for name, wanted in (("a", (0, digest)), ("x", (1, b"")), ("folder", (1, b""))):
-            ran = self.run_command(["bash", "-c", recipe.replace("FILE", name)], env=env)
-            self.assertEqual((ran.status, ran.out), wanted, name)
-
-    def test_files_that_are_named(self):
-        for name in set(re.findall(r"`((?:docs|bench|crates|man)/[\w./]+)`", readme())):
-            if "/TOOL" not in name and name != "docs/PERFORMANCE.md":
-                self.assertTrue(os.path.exists(os.path.join(TOP, name)), name)
 
 
 class Stranger(Repository):

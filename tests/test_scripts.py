@@ -31,11 +31,11 @@ class Told(Case):
         self.assertIn(f"\nVersion: {newest}, ", self.text("README.md"))
 
     def test_sums(self):
-        """Those of the newest version are those of what is built, by README's way to check them."""
+        """Those of the newest version are those of what is built, as docs/PACKAGING.md checks them."""
         newest = re.split(r"(?m)^## ", self.text("CHANGELOG.md"))[1]
         if "  out/" not in newest or not os.path.exists(os.path.join(TOP, "out", FAST, "digests")):
             self.skipTest("the newest version has no sums yet, or nothing is built")
-        command = re.search(r"(?m)^    (grep .* CHANGELOG\.md .*)$", self.text("README.md"))[1]
+        command = re.search(r"(?m)^    (grep .* CHANGELOG\.md .*)$", self.text("docs/PACKAGING.md"))[1]
         ran = self.run_command(["sh", "-c", command.replace("./digests", f"'{harness.PROGRAM}'")], cwd=TOP)
         self.assertEqual(ran, Ran(0, f"out/{DEFAULT}/digests: OK\nout/{FAST}/digests: OK\n".encode(), b""),
                          "what is built is older than its sources, or by another kit (`rt version`) than CHANGELOG's")

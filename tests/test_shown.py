@@ -1,11 +1,11 @@
-"""What README and the tools' pages show: each example is typed as it stands there, with its files and without one."""
+"""What README and the tools' pages show: each example is typed as it stands there."""
 
 import os
 import re
 import shutil
 
 import harness
-from harness import TOP, Case, needs_check
+from harness import Case, needs_check
 from recipes import (BOTH, IMAGE, OF_ANYSUM, OF_PROGRAM, OF_TOOL, Typed, blocks_of_readme, line_of, recipes_of,
                      sessions_of_readme, type_session)
 from test_pages import NAMES, TOOLS
@@ -49,39 +49,19 @@ class Shown(Case):
 
 @needs_check
 class Readme(Case):
-    """README's examples, typed in a folder that has the files beside it."""
+    """README's examples, typed in an empty folder: each makes the files that it needs."""
 
     of_the_repository = True
-
-    def make(self, *names):
-        folder = os.path.join(self.folder, "here")
-        shutil.rmtree(folder, ignore_errors=True)
-        os.mkdir(folder)
-        for name in names:
-            shutil.copy(os.path.join(TOP, name), folder)
-        os.symlink(harness.PROGRAM, os.path.join(folder, "digests"))
-        return folder
-
-    def files_in(self, text):
-        """The files of the repository's top that a text names, but for the program."""
-        return [name for name in re.findall(r"(?<![\w./])[\w.]+", text)
-                if name != "digests" and os.path.isfile(os.path.join(TOP, name))]
 
     def test_each(self):
         self.assertGreater(len(sessions_of_readme()), 0)
         for session in sessions_of_readme():
             for shell in ("bash", "sh"):
-                names = self.files_in(" ".join(command for command, _ in session))
-                type_session(self, shell, session, cwd=self.make(*names))
-
-    def test_files_that_are_not_there(self):
-        """None passes where one of its files is missing."""
-        for session in sessions_of_readme():
-            for command, _ in session:
-                names = self.files_in(command)
-                for name in names:
-                    ran = self.run_command(["sh", "-c", command], cwd=self.make(*set(names) - {name}))
-                    self.assertGreater(ran.status, 0, command)
+                folder = os.path.join(self.folder, "here")
+                shutil.rmtree(folder, ignore_errors=True)
+                os.mkdir(folder)
+                os.symlink(harness.PROGRAM, os.path.join(folder, "digests"))
+                type_session(self, shell, session, cwd=folder)
 
 
 @needs_check
