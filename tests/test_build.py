@@ -102,7 +102,7 @@ class Build(Repository):
         for fast, level in ((harness.PROGRAM, FAST), (self.path("commands/later"), DEFAULT)):
             shutil.rmtree(self.in_top("out"), ignore_errors=True)
             self.build(RT_FAST=fast)
-            self.assertEqual(os.readlink(self.in_top("out/digests")), f"{level}/digests")
+            self.assertTrue(os.path.samefile(self.in_top("out/digests"), self.in_top(f"out/{level}/digests")))
             self.assertEqual(self.script("digests", "md5sum", "a"), OF_A)
 
 
