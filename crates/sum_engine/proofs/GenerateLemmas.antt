@@ -3,17 +3,18 @@ use Rattle.std.proofs.Common.{◌≡◌, ℕ, ◌||◌, Bool, List, [], ◌∷�
 use Rattle.std.proofs.Math.Bool.{or-false}
 use Rattle.digest_kinds.specs.Kinds.{KindValue}
 use Rattle.sum_sources.specs.declared.fault.Fault.{Fault}
-use Rattle.sum_sources.specs.Sources.{Reply}
+use Rattle.sum_sources.specs.Sources.{Reply, SourceState}
 use Rattle.sum_engine.specs.declared.asking.Asked.{Asked}
 use Rattle.sum_engine.specs.declared.asking.Asked.TheVariants as asked
 use Rattle.sum_engine.specs.declared.settings.Settings.{Settings}
 use Rattle.sum_engine.specs.Worlds.{is_dash, reply, digest_or_fault}
 use Rattle.sum_engine.specs.Runs.{Step, at_once}
 use Rattle.sum_engine.specs.Generation.{generate_run, generate_run_by}
-use Rattle.sum_engine.specs.RunStates.{RunGives}
+use Rattle.sum_engine.specs.Moments.{Moment, world_of}
+use Rattle.sum_engine.specs.RunStates.{RunsTo}
 use Rattle.sum_engine.specs.refinement.Asking.{AskGives, IsAsked}
 use Rattle.sum_engine.specs.refinement.Telling.{HandsBoth}
-use Rattle.sum_engine.proofs.RunStateLemmas.{Writing, Seen, seen}
+use Rattle.sum_engine.proofs.RunStateLemmas.{Writing}
 use Rattle.sum_engine.proofs.RunLemmas.{answered, once}
 
 -- what came of a name: its digest, or the fault of opening or reading it
@@ -28,18 +29,23 @@ found_is kind r (asked.Read d) h = ap (digest_or_fault kind) h.1 ∙ h.2
 found_is kind r (asked.Refused f) h = ap (digest_or_fault kind) h
 found_is kind r (asked.Broken f) h = ap (digest_or_fault kind) h.1 ∙ h.2
 
--- the name was asked, and its line or that of its fault was handed on, or a prefix of it; whatever the refusals
-pub told : (settings : Settings) (tool name err out : List ℕ) (good : Bool) (n m : ℕ) (a b : Seen) (came : Asked)
-    (x : Writing) → AskGives settings.kind a.world b.world name (Some came)
-    → b.taken ≡ a.taken || is_dash name
+-- the name was asked, and its line or that of its fault was handed on, or a prefix of it
+pub told : {S : Type 0} (state : S → SourceState) (settings : Settings) (tool name err out : List ℕ) (good : Bool)
+    (a b : Moment S) (came : Asked) (x : Writing)
+    → AskGives settings.kind (world_of state a) (world_of state b) name (Some came)
+    → b.taken ≡ a.taken || is_dash name → (state b.source).refusals ≡ (state a.source).refusals
     → generate_run_by settings tool name (found came) ≡ at_once (name ∷ []) err out good
     → HandsBoth a.err b.err a.out b.out err out x
-    → RunGives (λ w. generate_run settings tool w name) n m (seen a) (seen b) (answered x good)
-told settings tool name err out good n m a b came x h taken is hands =
-    once (λ w. generate_run settings tool w name) (name ∷ []) err out good n m a b x h (λ w v asked. (
+    → RunsTo state (λ w. generate_run settings tool w name) (λ g. g) a b (answered x good)
+told state settings tool name err out good a b came x h taken refusals is hands =
+    once state (λ w. generate_run settings tool w name) (name ∷ []) err out good (λ g. g) a b x h (λ w v asked. (
       ap (generate_run_by settings tool name) (found_is settings.kind (reply w name) came asked.1) ∙ is,
-      asked.0,
-    )) (taken ∙ ap (λ t. a.taken || t) (sym (or-false (is_dash name)))) hands
+      record {
+        world = asked.0;
+        taken = taken ∙ ap (λ t. a.taken || t) (sym (or-false (is_dash name)));
+        refusals = refusals;
+      },
+    )) hands
 
 -- generation is one step
 pub one_step : (settings : Settings) (tool name : List ℕ) (x : Result (List ℕ) Fault)

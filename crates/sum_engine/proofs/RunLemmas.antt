@@ -1,20 +1,21 @@
 -- Runs, one after another, and what a run's steps come to.
-use Rattle.std.proofs.Common.{◌≡◌, ℕ, ◌||◌, Bool, List, [], ◌∷◌, ◌++◌, Option, Result, Ok, Err, refl, ap, sym, ◌∙◌, inl, append_assoc, append-nil}
+use Rattle.std.proofs.Common.{◌≡◌, ℕ, Bool, List, [], ◌∷◌, ◌++◌, Option, Result, Ok, Err, refl, ap, sym, ◌∙◌, inl, append_assoc, append-nil}
 use Rattle.std.specs.Prelude.{flat_map, filter_map}
-use Rattle.std.specs.List.{list_any}
 use Rattle.std.proofs.lemmas.Grind.{flat_map-append}
 use Rattle.std.proofs.lemmas.List.Elements.{filter_map-append}
 use Rattle.sum_sources.specs.Contents.{WhereTold}
-use Rattle.sum_sources.specs.Sources.{after_refusal}
+use Rattle.sum_sources.specs.Sources.{SourceState}
+use Rattle.sum_sources.proofs.ToldLemmas.{WhereTold-map}
 use Rattle.sum_engine.specs.declared.stop.Stop.{Stop}
 use Rattle.sum_engine.specs.declared.stop.Stop.TheVariants.{Memory, Write}
-use Rattle.sum_engine.specs.Worlds.{World, is_dash, after}
+use Rattle.sum_engine.specs.Worlds.{World}
+use Rattle.sum_engine.specs.Moments.{Moment, RunState, WhereKnown, known, run_state, world_of}
 use Rattle.sum_engine.specs.Runs.{Event, Step, Run, events, events_of, at_once, name_in, err_in, out_in}
-use Rattle.sum_engine.specs.RunStates.{RunState, Did, DidPrefix, RunOf, RunGives}
+use Rattle.sum_engine.specs.RunStates.{Did, DidPrefix, Refused, RunOf, RunsTo}
 use Rattle.sum_engine.specs.Steps.{GoesOn, Finishes, Breaks, Waits}
 use Rattle.sum_engine.specs.Manifests.{EventsExtend}
 use Rattle.sum_engine.specs.refinement.Telling.{HandsBoth}
-use Rattle.sum_engine.proofs.RunStateLemmas.{Writing, Seen, seen, seen_at, seen-told, names-by, err-by, out-by, did_nothing, did_both, came_by, prefix_behind}
+use Rattle.sum_engine.proofs.RunStateLemmas.{Asks, Writing, where_known, names-by, err-by, out-by, did_nothing, did_both, came_by, prefix_behind}
 
 -- one more of the steps came about
 pub steps_more : {a b c : RunState} (done : List Step) (next : Step) → Did a b (events done) → Did b c (events_of next)
@@ -62,11 +63,11 @@ along_breaks {whole = whole} h k =
     rw all (prefix_behind (events h.done) (events_of k.step) (events k.rest.steps) h.did k.did)
 
 -- a step that memory was wanted for
-pub along_waits : {A : Type 0} {a b c : RunState} {whole left : Run} (x : A) (n m : ℕ) → Along whole left a b
-    → Waits left n m b c → RunOf x whole.steps n m a c (Err Memory)
-along_waits {whole = whole} x n m h k =
+pub along_waits : {A : Type 0} {a b c : RunState} {whole left : Run} (x : A) → Along whole left a b
+    → Waits left b c → RunOf whole.steps x a c (Err Memory)
+along_waits {b = b} {whole = whole} x h k =
     let steps : whole.steps ≡ h.done ++ k.step ∷ k.rest.steps = h.steps ∙ ap (λ r. h.done ++ r.steps) k.is in
-    (h.done, k.step, k.rest.steps, steps, rw k.same h.did, k.wants)
+    (h.done, k.step, k.rest.steps, b, steps, h.did, k.wants)
 
 -- ---- a run behind a step, and one run after another
 
@@ -76,10 +77,9 @@ pub run_then-did : {a b c : RunState} (r s : List Step) → Did a b (events r) �
 run_then-did r s h k = rw (flat_map-append events_of r s) (did_both (events r) (events s) h k)
 
 -- the first came about, and the second stopped
-pub run_then-second
-    : {A B : Type 0} {a b : RunState} (c : RunState) (n i j : ℕ) (x : A) (y : B) (r s : List Step) (stop : Stop)
-    → i ≡ n → Did a b (events r) → RunOf y s i j b c (Err stop) → RunOf x (r ++ s) n j a c (Err stop)
-run_then-second c n i j x y r s Write e h k = (
+pub run_then-second : {A B : Type 0} {a b : RunState} (c : RunState) (x : A) (y : B) (r s : List Step) (stop : Stop)
+    → Did a b (events r) → RunOf s y b c (Err stop) → RunOf (r ++ s) x a c (Err stop)
+run_then-second c x y r s Write h k = (
   events r ++ k.0,
   (
     k.1.0,
@@ -87,19 +87,20 @@ run_then-second c n i j x y r s Write e h k = (
   ),
   did_both (events r) k.0 h k.2,
 )
-run_then-second c n i j x y r s Memory e h k = (
+run_then-second c x y r s Memory h k = (
   r ++ k.0,
   k.1,
   k.2,
-  ap (λ l. r ++ l) k.3 ∙ sym (append_assoc r k.0 (k.1 ∷ k.2)),
-  rw (flat_map-append events_of r k.0) (did_both (events r) (events k.0) h k.4),
-  rw e at k.5,
+  k.3,
+  ap (λ l. r ++ l) k.4 ∙ sym (append_assoc r k.0 (k.1 ∷ k.2)),
+  rw (flat_map-append events_of r k.0) (did_both (events r) (events k.0) h k.5),
+  k.6,
 )
 
 -- the first stopped
-pub run_then-first : {A B : Type 0} (a b : RunState) (n m : ℕ) (x : A) (y : B) (r s : List Step) (stop : Stop)
-    → RunOf y r n m a b (Err stop) → RunOf x (r ++ s) n m a b (Err stop)
-run_then-first a b n m x y r s Write h = (
+pub run_then-first : {A B : Type 0} (a b : RunState) (x : A) (y : B) (r s : List Step) (stop : Stop)
+    → RunOf r y a b (Err stop) → RunOf (r ++ s) x a b (Err stop)
+run_then-first a b x y r s Write h = (
   h.0,
   (
     h.1.0 ++ events s,
@@ -107,21 +108,21 @@ run_then-first a b n m x y r s Write h = (
   ),
   h.2,
 )
-run_then-first a b n m x y r s Memory h = (
+run_then-first a b x y r s Memory h = (
   h.0,
   h.1,
   h.2 ++ s,
-  ap (λ l. l ++ s) h.3 ∙ append_assoc h.0 (h.1 ∷ h.2) s,
-  h.4,
+  h.3,
+  ap (λ l. l ++ s) h.4 ∙ append_assoc h.0 (h.1 ∷ h.2) s,
   h.5,
+  h.6,
 )
 
--- a run behind its first step, which came about; n, i, j are the refusals before, between and after
-pub behind_step : {A : Type 0} {a b : RunState} (c : RunState) (n i j : ℕ) (x : A) (s : Step) (r : List Step)
-    (y : Result A Stop) → i ≡ n → Did a b (events_of s) → RunOf x r i j b c y → RunOf x (s ∷ r) n j a c y
-behind_step c n i j x s r (Ok good) e h k = (k.0, did_both (events_of s) (events r) h k.1)
-behind_step c n i j x s r (Err stop) e h k =
-    run_then-second c n i j x x (s ∷ []) r stop e (rw (append-nil (events_of s)) h) k
+-- a run behind its first step, which came about
+pub behind_step : {A : Type 0} {a b : RunState} (c : RunState) (x : A) (s : Step) (r : List Step) (y : Result A Stop)
+    → Did a b (events_of s) → RunOf r x b c y → RunOf (s ∷ r) x a c y
+behind_step c x s r (Ok good) h k = (k.0, did_both (events_of s) (events r) h k.1)
+behind_step c x s r (Err stop) h k = run_then-second c x x (s ∷ []) r stop (rw (append-nil (events_of s)) h) k
 
 -- ---- a run of one step
 
@@ -131,24 +132,23 @@ answered (Ok u) x = Ok x
 answered (Err e) x = Err Write
 
 -- the step was done, or a prefix of it
-pub once : (run : World → Run) (names : List (List ℕ)) (err out : List ℕ) (good : Bool) (n m : ℕ) (a b : Seen)
-    {P : World → World → Type 0} (x : Writing) → WhereTold a.world b.world P
-    → ((w v : World) → P w v → (run w ≡ at_once names err out good) × (v ≡ after w names))
-    → b.taken ≡ a.taken || list_any is_dash names → HandsBoth a.err b.err a.out b.out err out x
-    → RunGives run n m (seen a) (seen b) (answered x good)
-once run names err out good n m a b (Ok u) h is taken told = seen-told a b _ h (λ w v p.
-    rw ((is w v p).0, append-nil) (refl, came_by _ _ names err out (Ok u) (is w v p).1 taken told))
-once run names err out good n m a b (Err e) h is taken told = seen-told a b _ h (λ w v p.
-    rw ((is w v p).0, append-nil) (came_by _ _ names err out (Err e) (is w v p).1 taken told))
+pub once : {S A : Type 0} (state : S → SourceState) (run : World → Run) (names : List (List ℕ)) (err out : List ℕ)
+    (good : Bool) (answer : Bool → A) (a b : Moment S) {P : World → World → Type 0} (x : Writing)
+    → WhereTold (world_of state a) (world_of state b) P
+    → ((w v : World) → P w v → (run w ≡ at_once names err out good) × Asks (known state a w) (known state b v) names)
+    → HandsBoth a.err b.err a.out b.out err out x → RunsTo state run answer a b (answered x (answer good))
+once state run names err out good answer a b (Ok u) h is told = where_known state a b _ h (λ w v p.
+    rw ((is w v p).0, append-nil) (refl, came_by _ _ names err out (Ok u) (is w v p).1 told))
+once state run names err out good answer a b (Err e) h is told = where_known state a b _ h (λ w v p.
+    rw ((is w v p).0, append-nil) (came_by _ _ names err out (Err e) (is w v p).1 told))
 
 -- the source had no memory to open the first step's name
-pub unasked : (run : World → Run) (n m : ℕ) (a b : Seen) {P : World → World → Type 0}
-    → ((w : World) → (s : Step) × (rest : List Step) × ((run w).steps ≡ s ∷ rest)) → WhereTold a.world b.world P
-    → ((w v : World) → P w v → v ≡ w) → b.taken ≡ a.taken → b.err ≡ a.err → b.out ≡ a.out → m ≡ after_refusal n
-    → RunGives run n m (seen a) (seen b) (Err Memory)
-unasked run n m a b first h same taken err out refused = seen-told a b _ h (λ w v p.
-    let next = first w in
-    ([], next.0, next.1, next.2, rw (same w v p, taken, err, out) (did_nothing (seen_at a w)), inl refused))
+pub unasked : {S A : Type 0} (state : S → SourceState) (run : World → Run) (answer : Bool → A) (a b : Moment S)
+    → ((w : World) → (s : Step) × (rest : List Step) × ((run w).steps ≡ s ∷ rest)) → WhereKnown state a b Refused
+    → RunsTo state run answer a b (Err Memory)
+unasked state run answer a b first h = WhereTold-map (run_state state a) (run_state state b) (λ s t refused.
+    let next = first s.world in
+    ([], next.0, next.1, s, next.2, did_nothing s, inl refused)) h
 
 -- ---- what a run's events come to
 

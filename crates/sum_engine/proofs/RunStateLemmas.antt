@@ -1,23 +1,24 @@
--- What came about at a run state, one thing after another; and run states that tell or don't.
-use Rattle.std.proofs.Common.{◌≡◌, ℕ, ◌||◌, Bool, List, [], ◌∷◌, ◌++◌, map, Option, None, Some, Result, Ok, Err, refl, ap, sym, ◌∙◌, inl, inr, append_assoc, append-nil}
-use Rattle.std.specs.Prelude.{filter_map, is_none}
+-- What came about at a run state, one thing after another; and moments whose run states tell or don't.
+use Rattle.std.proofs.Common.{◌≡◌, ℕ, ◌||◌, List, [], ◌∷◌, ◌++◌, map, Option, None, Some, Result, Ok, Err, refl, sym, ◌∙◌, inl, inr, append_assoc, append-nil}
+use Rattle.std.specs.Prelude.{filter_map}
 use Rattle.std.specs.List.{list_any}
+use Rattle.std.specs.Option.{option_map}
 use Rattle.std.specs.Io.KnownBytes.{Appends}
 use Rattle.std.proofs.KnownBytes.{Appends-nil, Appends-trans}
 use Rattle.std.proofs.Math.Bool.{or-false, or_assoc}
 use Rattle.std.proofs.lemmas.List.{map-append}
 use Rattle.std.proofs.lemmas.List.Elements.{filter_map-append}
 use Rattle.std.proofs.lemmas.List.Folds.{list_any-append}
-use Rattle.sum_sources.specs.Contents.{WhereTold, Content}
-use Rattle.sum_sources.specs.Sources.{Telling}
+use Rattle.sum_sources.specs.Contents.{WhereTold}
+use Rattle.sum_sources.specs.Sources.{SourceState, after_refusal}
+use Rattle.sum_lines.specs.Sinks.{SinkState}
 use Rattle.sum_lines.specs.refinement.Growing.{AppendsPrefix}
 use Rattle.sum_engine.specs.Worlds.{World, is_dash, after}
 use Rattle.sum_engine.specs.refinement.Handling.{events_by}
 use Rattle.sum_engine.specs.Runs.{Event, Opens, Tells, Puts, name_in, err_in, out_in}
-use Rattle.sum_engine.specs.refinement.Asking.{world}
 use Rattle.sum_engine.specs.refinement.Telling.{Hands, HandsBoth}
-use Rattle.sum_engine.specs.RunStates.{RunState, run_state_by, Did, DidPrefix}
-use Rattle.sum_engine.specs.declared.streams.Streams.{Streams}
+use Rattle.sum_engine.specs.Moments.{Moment, RunState, WhereKnown, known, world_of}
+use Rattle.sum_engine.specs.RunStates.{Did, DidPrefix, Refused}
 use Rattle.sum_engine.proofs.WorldLemmas.{after-none, after-append}
 
 -- ---- what of a step's events is of each kind
@@ -65,15 +66,27 @@ out-by names err out = simp (
 
 -- ---- what came about
 
+-- these names were asked, whatever was written
+pub record Asks (a b : RunState) (names : List (List ℕ)) : Type 0 where
+  pub world : b.world ≡ after a.world names
+  pub taken : b.taken ≡ a.taken || list_any is_dash names
+  pub refusals : b.refusals ≡ a.refusals
+
+-- no name was
+pub asks_none : {a b : RunState} → b.world ≡ a.world → b.taken ≡ a.taken → b.refusals ≡ a.refusals → Asks a b []
+asks_none {a} world taken refusals =
+    record { world = world ∙ after-none a.world; taken = taken ∙ sym (or-false a.taken); refusals = refusals }
+
 -- these names were asked and these texts handed on
-pub did_by : {a b : RunState} (names : List (List ℕ)) (err out : List ℕ) → b.world ≡ after a.world names
-    → b.taken ≡ a.taken || list_any is_dash names → Appends a.err b.err err → Appends a.out b.out out
+pub did_by : {a b : RunState} (names : List (List ℕ)) (err out : List ℕ) → Asks a b names
+    → Appends a.err.written b.err.written err → Appends a.out.written b.out.written out
     → Did a b (events_by names err out)
-did_by names err out asked taken p q = record {
-  world = rw (names-by names err out) asked;
-  taken = rw (names-by names err out) taken;
+did_by names err out h p q = record {
+  world = rw (names-by names err out) h.world;
+  taken = rw (names-by names err out) h.taken;
   err = rw (err-by names err out) p;
   out = rw (out-by names err out) q;
+  refusals = h.refusals;
 }
 
 -- nothing
@@ -81,8 +94,9 @@ pub did_nothing : (a : RunState) → Did a a []
 did_nothing a = record {
   world = after-none a.world;
   taken = sym (or-false a.taken);
-  err = Appends-nil a.err;
-  out = Appends-nil a.out;
+  err = Appends-nil a.err.written;
+  out = Appends-nil a.out.written;
+  refusals = refl;
 }
 
 -- one thing after another
@@ -91,33 +105,36 @@ did_both {a} {b} {c} p q h k = record {
   world = rw (k.world, h.world, filter_map-append name_in p q)
       (after-append a.world (filter_map name_in p) (filter_map name_in q));
   taken = rw (k.taken, h.taken, filter_map-append name_in p q) (simp (list_any-append, or_assoc));
-  err = rw (filter_map-append err_in p q) (Appends-trans a.err b.err c.err _ _ h.err k.err);
-  out = rw (filter_map-append out_in p q) (Appends-trans a.out b.out c.out _ _ h.out k.out);
+  err = rw (filter_map-append err_in p q)
+      (Appends-trans a.err.written b.err.written c.err.written _ _ h.err k.err);
+  out = rw (filter_map-append out_in p q)
+      (Appends-trans a.out.written b.out.written c.out.written _ _ h.out k.out);
+  refusals = k.refusals ∙ h.refusals;
 }
 
 -- ---- a prefix of it
 
 -- the names were asked, and of the text on standard error a prefix was handed on
-pub prefix_err : {a b : RunState} (names : List (List ℕ)) (err out : List ℕ) → b.world ≡ after a.world names
-    → b.taken ≡ a.taken || list_any is_dash names → AppendsPrefix a.err b.err err → b.out ≡ a.out
+pub prefix_err : {a b : RunState} (names : List (List ℕ)) (err out : List ℕ) → Asks a b names
+    → AppendsPrefix a.err.written b.err.written err → b.out.written ≡ a.out.written
     → DidPrefix a b (events_by names err out)
-prefix_err {a} {b} names err out asked taken h same = (
+prefix_err {a} {b} names err out asked h same = (
   events_by names h.0 [],
   (
     map Tells h.1.0 ++ map Puts out,
     rw (h.1.1) (simp (map-append, append-nil, append_assoc)),
   ),
-  did_by names h.0 [] asked taken h.2 (rw same (Appends-nil a.out)),
+  did_by names h.0 [] asked h.2 (rw same (Appends-nil a.out.written)),
 )
 
 -- all of it was, and a prefix of the text on standard output
-pub prefix_out : {a b : RunState} (names : List (List ℕ)) (err out : List ℕ) → b.world ≡ after a.world names
-    → b.taken ≡ a.taken || list_any is_dash names → Appends a.err b.err err → AppendsPrefix a.out b.out out
+pub prefix_out : {a b : RunState} (names : List (List ℕ)) (err out : List ℕ) → Asks a b names
+    → Appends a.err.written b.err.written err → AppendsPrefix a.out.written b.out.written out
     → DidPrefix a b (events_by names err out)
-prefix_out {a} {b} names err out asked taken all h = (
+prefix_out {a} {b} names err out asked all h = (
   events_by names err h.0,
   (map Puts h.1.0, rw (h.1.1) (simp (map-append, append_assoc))),
-  did_by names err h.0 asked taken all h.2,
+  did_by names err h.0 asked all h.2,
 )
 
 -- whether a call that writes did all of it, or failed
@@ -130,17 +147,16 @@ Came (Ok u) a b es = Did a b es
 Came (Err e) a b es = DidPrefix a b es
 
 -- the names were asked, and the two texts handed on or a prefix of them
-pub came_by : (a b : RunState) (names : List (List ℕ)) (err out : List ℕ) (x : Writing) → b.world ≡ after a.world names
-    → b.taken ≡ a.taken || list_any is_dash names → HandsBoth a.err b.err a.out b.out err out x
-    → Came x a b (events_by names err out)
-came_by a b names err out (Ok u) asked taken h = did_by names err out asked taken h.0 h.1
-came_by a b names err out (Err e) asked taken (inl h) = prefix_err names err out asked taken h.0 h.1
-came_by a b names err out (Err e) asked taken (inr h) = prefix_out names err out asked taken h.0 h.1
+pub came_by : (a b : RunState) (names : List (List ℕ)) (err out : List ℕ) (x : Writing) → Asks a b names
+    → HandsBoth a.err b.err a.out b.out err out x → Came x a b (events_by names err out)
+came_by a b names err out (Ok u) asked h = did_by names err out asked h.0 h.1
+came_by a b names err out (Err e) asked (inl h) = prefix_err names err out asked h.0 h.1
+came_by a b names err out (Err e) asked (inr h) = prefix_out names err out asked h.0 h.1
 
 -- standard error alone was written to
-pub err_alone : (a b out : Option (List ℕ)) (text : List ℕ) (x : Writing) → Hands a b text x
+pub err_alone : (a b out : SinkState) (text : List ℕ) (x : Writing) → Hands a.written b.written text x
     → HandsBoth a b out out text [] x
-err_alone a b out text (Ok u) h = (h, Appends-nil out)
+err_alone a b out text (Ok u) h = (h, Appends-nil out.written)
 err_alone a b out text (Err e) h = inl (h, refl)
 
 -- a prefix of what comes next, behind what came about
@@ -152,64 +168,38 @@ prefix_behind p es more done h = (
   did_both p h.0 done h.2,
 )
 
--- ---- run states that tell or don't
+-- ---- moments whose run states tell or don't
 
--- a run state whose world may not tell
-pub record Seen : Type 0 where
-  pub world : Option World
-  pub taken : Bool
-  pub err : Option (List ℕ)
-  pub out : Option (List ℕ)
+-- what follows of values that are made of told ones
+WhereTold-made : {A B : Type 0} (x y : Option A) (f g : A → B) {P : A → A → Type 0} (R : B → B → Type 0)
+    → WhereTold x y P → ((a b : A) → P a b → R (f a) (g b)) → WhereTold (option_map f x) (option_map g y) R
+WhereTold-made None y f g R h k = tt
+WhereTold-made (Some a) None f g R h k = h
+WhereTold-made (Some a) (Some b) f g R h k = k a b h
 
--- the run state itself, where its world tells
-abbrev pub seen : Seen → Option RunState
-seen a = run_state_by a.world a.taken a.err a.out
+-- what follows of two moments from what holds of their worlds, where these tell
+pub where_known : {S : Type 0} (state : S → SourceState) (a b : Moment S) {P : World → World → Type 0}
+    (R : RunState → RunState → Type 0) → WhereTold (world_of state a) (world_of state b) P
+    → ((w v : World) → P w v → R (known state a w) (known state b v)) → WhereKnown state a b R
+where_known state a b R h f =
+    WhereTold-made (world_of state a) (world_of state b) (known state a) (known state b) R h f
 
--- that of a call's streams
-abbrev pub seen_of : {I S O E : Type 0} → (I → Option Content) → (S → Option Telling) → (O → Option (List ℕ))
-    → (E → Option (List ℕ)) → Streams I S O E → Seen
-seen_of content told out err s = record {
-  world = world content (told s.source) s.stdin;
-  taken = is_none s.stdin;
-  err = err s.err;
-  out = out s.out;
-}
+-- a value that stayed
+pub same_told : {A : Type 0} (x : Option A) → WhereTold x x (λ a b. b ≡ a)
+same_told None = tt
+same_told (Some a) = refl
 
--- the run state, once the world is known
-abbrev pub seen_at : Seen → World → RunState
-seen_at a w = record { world = w; taken = a.taken; err = a.err; out = a.out }
-
--- the next, by the worlds themselves
-seen_by : (w v : Option World) (a b : Seen) {P : World → World → Type 0} (R : RunState → RunState → Type 0)
-    → WhereTold w v P → ((w v : World) → P w v → R (seen_at a w) (seen_at b v))
-    → WhereTold (run_state_by w a.taken a.err a.out) (run_state_by v b.taken b.err b.out) R
-seen_by None v a b R h f = tt
-seen_by (Some w) None a b R h f = h
-seen_by (Some w) (Some v) a b R h f = f w v h
-
--- what follows of two run states from what holds of their worlds, where these tell
-pub seen-told : (a b : Seen) {P : World → World → Type 0} (R : RunState → RunState → Type 0)
-    → WhereTold a.world b.world P → ((w v : World) → P w v → R (seen_at a w) (seen_at b v))
-    → WhereTold (seen a) (seen b) R
-seen-told a b R h f = seen_by a.world b.world a b R h f
-
--- a world that wasn't asked
-pub same_world : (w : Option World) → WhereTold w w (λ w v. v ≡ w)
-same_world None = tt
-same_world (Some w) = refl
-
--- nothing came about in the world, nor else
-pub same_seen : (a b : Seen) → WhereTold a.world b.world (λ w v. v ≡ w) → b.taken ≡ a.taken → b.err ≡ a.err
-    → b.out ≡ a.out → WhereTold (seen a) (seen b) (λ s t. t ≡ s)
-same_seen a b world taken err out = seen-told a b _ world (λ w v same. rw (same, taken, err, out) refl)
-
--- nor was anything else done
-pub same_run_state : (s : Option RunState) → WhereTold s s (λ s t. t ≡ s)
-same_run_state None = tt
-same_run_state (Some s) = refl
+-- the source was refused memory, and nothing else was done
+pub known_refused : {S : Type 0} (state : S → SourceState) (a b : Moment S)
+    → WhereTold (world_of state a) (world_of state b) (λ w v. v ≡ w) → b.taken ≡ a.taken → b.err ≡ a.err
+    → b.out ≡ a.out → (state b.source).refusals ≡ after_refusal (state a.source).refusals
+    → WhereKnown state a b Refused
+known_refused state a b world taken err out refused =
+    where_known state a b Refused world (λ w v same. rw (same, taken, err, out, refused) refl)
 
 -- standard error handed on a text or a prefix of it, and nothing else was done
-pub err_came : (a : Seen) (err : Option (List ℕ)) (text : List ℕ) (x : Writing) → Hands a.err err text x
-    → WhereTold (seen a) (seen (record a { err = err })) (λ a b. Came x a b (events_by [] text []))
-err_came a err text x h = seen-told a (record a { err = err }) _ (same_world a.world) (λ w v same.
-    came_by _ _ [] text [] x (same ∙ after-none w) (sym (or-false a.taken)) (err_alone a.err err a.out text x h))
+pub err_came : {S : Type 0} (state : S → SourceState) (a : Moment S) (err : SinkState) (text : List ℕ) (x : Writing)
+    → Hands a.err.written err.written text x
+    → WhereKnown state a (record a { err = err }) (λ s t. Came x s t (events_by [] text []))
+err_came state a err text x h = where_known state a (record a { err = err }) _ (same_told (world_of state a))
+    (λ w v same. came_by _ _ [] text [] x (asks_none same refl refl) (err_alone a.err err a.out text x h))

@@ -43,24 +43,23 @@ told_broken a c text h none =
 -- ---- one text after another
 
 -- a text was handed on, where nothing was held
-abbrev pub Told : {S : Type 0} → (S → Option (List ℕ)) → (S → List ℕ) → S → S → List ℕ → Type 0
-Told written held old new text = held old ≡ [] → (held new ≡ []) × Appends (written old) (written new) text
+abbrev pub Told : SinkState → SinkState → List ℕ → Type 0
+Told a b text = a.held ≡ [] → (b.held ≡ []) × Appends a.written b.written text
 
 -- a text, and then another or a prefix of it
-pub tells_then : {S E : Type 0} (written : S → Option (List ℕ)) (held : S → List ℕ) (old mid new : S) (x y : List ℕ)
-    (r : Result (Unit {0}) E) → Told written held old mid x → Tells written held mid new y r
-    → Tells written held old new (x ++ y) r
-tells_then written held old mid new x y (Ok u) h k none =
+pub tells_then : {E : Type 0} (a b c : SinkState) (x y : List ℕ) (r : Result (Unit {0}) E) → Told a b x
+    → Tells b c y r → Tells a c (x ++ y) r
+tells_then a b c x y (Ok u) h k none =
     let first = h none in
     let then = k first.0 in
-    (then.0, Appends-trans (written old) (written mid) (written new) x y first.1 then.1)
-tells_then written held old mid new x y (Err e) h k none =
+    (then.0, Appends-trans a.written b.written c.written x y first.1 then.1)
+tells_then a b c x y (Err e) h k none =
     let first = h none in
     let then = k first.0 in
-    (then.0, prefix_then (written old) (written mid) (written new) x y first.1 then.1)
+    (then.0, prefix_then a.written b.written c.written x y first.1 then.1)
 
 -- a prefix of a text, and none of the next
-pub part_more : {S : Type 0} (written : S → Option (List ℕ)) (held : S → List ℕ) (old new : S) (x y : List ℕ)
-    → (held old ≡ [] → (held new ≡ []) × AppendsPrefix (written old) (written new) x) → held old ≡ []
-    → (held new ≡ []) × AppendsPrefix (written old) (written new) (x ++ y)
-part_more written held old new x y h none = ((h none).0, prefix_more (written old) (written new) x y (h none).1)
+pub part_more : (a b : SinkState) (x y : List ℕ)
+    → (a.held ≡ [] → (b.held ≡ []) × AppendsPrefix a.written b.written x) → a.held ≡ []
+    → (b.held ≡ []) × AppendsPrefix a.written b.written (x ++ y)
+part_more a b x y h none = ((h none).0, prefix_more a.written b.written x y (h none).1)

@@ -1,7 +1,7 @@
 -- A checker, as its callers see it.
 use Rattle.std.specs.Prelude.{◌≡◌, ◌+◌, Bool, true, length, Option, None, Some, Result, Ok}
 use Rattle.sum_sources.specs.declared.lines.LineReader.{LineReader}
-use Rattle.sum_sources.specs.Contents.{Content, WhereTold}
+use Rattle.sum_sources.specs.Contents.{InputState, WhereTold}
 use Rattle.sum_sources.specs.ManifestLines.{NoNewline}
 use Rattle.sum_sources.specs.LineReaders.{coming, used, Bounded}
 use Rattle.sum_lines.specs.declared.line_reading.Form.{Form}
@@ -10,7 +10,7 @@ use Rattle.sum_engine.specs.declared.progress.Progress.TheVariants.{Going, Ended
 use Rattle.sum_engine.specs.declared.stop.Stop.{Stop}
 use Rattle.sum_engine.specs.declared.summary.Counts.{Counts}
 use Rattle.sum_engine.specs.Verdicts.{Rules}
-use Rattle.sum_engine.specs.RunStates.{RunState}
+use Rattle.sum_engine.specs.Moments.{RunState}
 use Rattle.sum_engine.specs.Steps.{Now, now_by}
 
 -- where the checking of a manifest stands: what it is checked by, its reader, and the form and the counts of its lines
@@ -32,21 +32,20 @@ again_after (Ok Going) = None
 again_after x = Some x
 
 -- where it stands in its manifest, where that and the run state tell
-abbrev pub now_of : {I : Type 0} → (I → Option Content) → Place I → Option RunState → Option Now
-now_of content p run_state =
-    now_by (coming content p.reader) p.reader.lines (used p.reader) p.form p.counts run_state
+abbrev pub now_of : {I : Type 0} → (I → InputState) → Place I → Option RunState → Option Now
+now_of state p run_state =
+    now_by (coming state p.reader) p.reader.lines (used p.reader) p.form p.counts run_state
 
 -- what a step does to the place, whether outputs and files tell or not: it is checked by the same; what the input has
 -- given and what is left of it stay the same in sum; a line that was handled is one more; no read failed where a line was
 -- handled or the manifest is good; where a whole line is ahead already, the input isn't read; and the reader's bounds
 -- hold
-pub record Reads {I : Type 0} (content : I → Option Content) (failed : I → Bool) (a b : Place I)
-    (x : Result Progress Stop) : Type 0 where
+pub record Reads {I : Type 0} (state : I → InputState) (a b : Place I) (x : Result Progress Stop) : Type 0 where
   pub rules : b.rules ≡ a.rules
-  pub taken : WhereTold (content a.reader.input) (content b.reader.input)
+  pub taken : WhereTold (state a.reader.input).content (state b.reader.input).content
       (λ c d. b.reader.taken + length d.bytes ≡ a.reader.taken + length c.bytes)
   pub number : x ≡ Ok Going → b.reader.lines ≡ a.reader.lines + 1
-  pub line_read : x ≡ Ok Going → failed b.reader.input ≡ failed a.reader.input
-  pub end_read : x ≡ Ok (Ended true) → failed b.reader.input ≡ failed a.reader.input
+  pub line_read : x ≡ Ok Going → (state b.reader.input).failed ≡ (state a.reader.input).failed
+  pub end_read : x ≡ Ok (Ended true) → (state b.reader.input).failed ≡ (state a.reader.input).failed
   pub ahead : ¬ NoNewline a.reader.ahead → b.reader.input ≡ a.reader.input
   pub bounds : Bounded b.reader

@@ -5,6 +5,7 @@ pub mod Generation
 pub mod Verdicts
 pub mod Reports
 pub mod Checking
+pub mod Moments
 pub mod RunStates
 pub mod Steps
 pub mod Checkers

@@ -1,14 +1,12 @@
 -- What judging the lines of a manifest gives, one after the other, with no text written.
-use Rattle.std.specs.Prelude.{ℕ, ◌≡◌, ◌≤◌, ◌<◌, List, [], ◌∷◌, map, length, slice_range, Bool, true, false, is_none}
+use Rattle.std.specs.Prelude.{ℕ, ◌≡◌, ◌≤◌, ◌<◌, ◌⊎◌, List, [], ◌∷◌, map, length, slice_range, Bool, true, false}
 use Rattle.std.specs.Prelude.{Option, None, Some, Result, Ok, Err}
 use Rattle.sum_sources.specs.declared.fault.Ending.{Ending}
 use Rattle.sum_sources.specs.declared.fault.Ending.TheVariants.{Whole, Broken}
 use Rattle.sum_sources.specs.declared.lines.LineStop.{LineStop}
 use Rattle.sum_sources.specs.declared.lines.LineStop.TheVariants.{Fault, Memory}
-use Rattle.sum_sources.specs.Contents.{Content, WhereTold}
+use Rattle.sum_sources.specs.Contents.{WhereTold}
 use Rattle.sum_sources.specs.ManifestLines.{past_line}
-use Rattle.sum_sources.specs.Sources.{Telling}
-use Rattle.sum_sources.specs.Standard.{left_in}
 use Rattle.sum_engine.specs.declared.progress.Progress.{Progress}
 use Rattle.sum_engine.specs.declared.progress.Progress.TheVariants.{Going, Ended}
 use Rattle.sum_engine.specs.declared.stop.Stop.{Stop}
@@ -17,7 +15,7 @@ use Rattle.sum_engine.specs.declared.verdict.LineVerdict.{LineVerdict}
 use Rattle.sum_engine.specs.Runs.{Opens}
 use Rattle.sum_engine.specs.Verdicts.{Rules, Judged, asks_of}
 use Rattle.sum_engine.specs.Reports.{counts_with}
-use Rattle.sum_engine.specs.RunStates.{RunState, world_by, run_state_by, Did}
+use Rattle.sum_engine.specs.RunStates.{Did, Refused}
 use Rattle.sum_engine.specs.Steps.{Now, rest_verdicts}
 use Rattle.sum_engine.specs.Checkers.{Place}
 
@@ -27,11 +25,6 @@ pub record Finding (I : Type 0) : Type 0 where
   pub place : Place I
   pub short : Bool
   pub whole : Bool
-
--- the run state of a call that writes to no output
-abbrev pub asking_state : {I S : Type 0} → (I → Option Content) → (S → Option Telling) → Option I → S → Option RunState
-asking_state content told stdin source =
-    run_state_by (world_by (told source) (left_in content stdin)) (is_none stdin) None None
 
 -- the judged line: its name stands in the vector
 abbrev pub judged_in : List ℕ → LineVerdict → Judged
@@ -61,7 +54,8 @@ abbrev pub FindOf : Rules → List ℕ → Now → Now → Result (Option LineVe
 FindOf r vector a b (Ok (Some v)) = Finds r a b (judged_in vector v)
 FindOf r vector a b (Ok None) = FindsNone r Whole a b
 FindOf r vector a b (Err (Fault f)) = FindsNone r (Broken f) a b
-FindOf r vector a b (Err Memory) = (b.run_state ≡ a.run_state) × (0 < length a.rest.bytes)
+FindOf r vector a b (Err Memory) =
+    (Refused a.run_state b.run_state ⊎ (b.run_state ≡ a.run_state)) × (0 < length a.rest.bytes)
 
 -- what the next verdict is, where the manifest and the world tell
 abbrev pub FindGives : Rules → List ℕ → Option Now → Option Now → Result (Option LineVerdict) LineStop → Type 0

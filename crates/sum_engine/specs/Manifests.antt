@@ -1,8 +1,8 @@
 -- What a checker's steps come to: a whole manifest.
 use Rattle.std.specs.Prelude.{ℕ, zero, suc, ◌≡◌, ◌+◌, ◌≤◌, ◌⊎◌, Bool, true, List, take, drop, length, flat_map, Option, Result, Ok, Err, IfSome}
 use Rattle.std.specs.Io.KnownBytes.{Appends}
-use Rattle.sum_sources.specs.Contents.{Content, WhereTold}
-use Rattle.sum_sources.specs.Sources.{after_refusal}
+use Rattle.sum_sources.specs.Contents.{Content}
+use Rattle.sum_sources.specs.Sources.{SourceState, after_refusal}
 use Rattle.sum_sources.specs.ManifestLines.{past_lines}
 use Rattle.sum_engine.specs.declared.stop.Stop.{Stop}
 use Rattle.sum_engine.specs.declared.stop.Stop.TheVariants.{Memory, Write}
@@ -12,28 +12,28 @@ use Rattle.sum_engine.specs.Runs.{Run, events, outs, errs, asks}
 use Rattle.sum_engine.specs.Verdicts.{Rules, Judged, asks_of, all_verdicts}
 use Rattle.sum_engine.specs.Reports.{out_of, err_of}
 use Rattle.sum_engine.specs.Checking.{line_steps, content_run}
-use Rattle.sum_engine.specs.RunStates.{RunState, Did, DidPrefix, RunOf}
+use Rattle.sum_engine.specs.Moments.{Moment, RunState}
+use Rattle.sum_engine.specs.RunStates.{Did, DidPrefix, RunsTo}
 use Rattle.sum_engine.specs.Steps.{Now, Moves, GoesOn, Finishes, Breaks, to_come, start}
 
 -- a new checker that was run to its end
 abbrev pub ManifestGives :
-    Rules → Option Content → ℕ → ℕ → Option RunState → Option RunState → Result Bool Stop → Type 0
-ManifestGives r c n m a b x = IfSome c (λ c. WhereTold a b (λ a b.
-    RunOf (content_run r c (all_verdicts r a.world c)).good (content_run r c (all_verdicts r a.world c)).steps
-    n m a b x))
+    {S : Type 0} → (S → SourceState) → Rules → Option Content → Moment S → Moment S → Result Bool Stop → Type 0
+ManifestGives state r c a b x = IfSome c (λ c. RunsTo state (λ w. content_run r c (all_verdicts r w c)) (λ g. g) a b x)
 
 -- only want of memory changes what the source was refused, by one
-abbrev pub RefusedOnMemory : {A : Type 0} → ℕ → ℕ → Result A Stop → Type 0
-RefusedOnMemory n m (Ok a) = m ≡ n
-RefusedOnMemory n m (Err Write) = m ≡ n
-RefusedOnMemory n m (Err Memory) = (m ≡ n) ⊎ (m ≡ after_refusal n)
+abbrev pub RefusedOnMemory : {A : Type 0} → SourceState → SourceState → Result A Stop → Type 0
+RefusedOnMemory a b (Ok x) = b.refusals ≡ a.refusals
+RefusedOnMemory a b (Err Write) = b.refusals ≡ a.refusals
+RefusedOnMemory a b (Err Memory) = (b.refusals ≡ a.refusals) ⊎ (b.refusals ≡ after_refusal a.refusals)
 
 -- ---- the laws
 
 -- what came about of a run's steps extends each output by their texts, and asks their names
 abbrev pub EventsExtend : Type 0
 EventsExtend = (r : Run) (a b : RunState) → Did a b (events r.steps)
-    → (b.world ≡ after a.world (asks r)) × Appends a.err b.err (errs r) × Appends a.out b.out (outs r)
+    → (b.world ≡ after a.world (asks r)) × Appends a.err.written b.err.written (errs r)
+    × Appends a.out.written b.out.written (outs r)
 
 -- the first k steps of a manifest have the reports and the asks of its first k lines; one more step is for its end
 abbrev pub StepsReport : Type 0

@@ -1,7 +1,7 @@
 -- Where a checker stands in its manifest, what is still to come there, and what the next step does.
 use Rattle.std.specs.Prelude.{ℕ, ◌≡◌, ◌+◌, ◌≤◌, ◌⊎◌, ◌<◌, Bool, List, [], ◌∷◌, length, Option, None, Some, Result, Ok, Err, IfSome}
 use Rattle.sum_sources.specs.Contents.{Content, WhereTold}
-use Rattle.sum_sources.specs.Sources.{after_refusal}
+use Rattle.sum_sources.specs.Sources.{SourceState, after_refusal}
 use Rattle.sum_sources.specs.ManifestLines.{past_line}
 use Rattle.sum_lines.specs.declared.line_reading.Form.{Form}
 use Rattle.sum_lines.specs.declared.line_reading.Form.TheVariants.{Undecided}
@@ -17,7 +17,8 @@ use Rattle.sum_engine.specs.Runs.{Step, Run, events_of}
 use Rattle.sum_engine.specs.Verdicts.{Rules, Judged, judge, verdicts}
 use Rattle.sum_engine.specs.Reports.{counts, end_text, good, counts_with, no_counts}
 use Rattle.sum_engine.specs.Checking.{line_steps}
-use Rattle.sum_engine.specs.RunStates.{RunState, Did, DidPrefix, Wants}
+use Rattle.sum_engine.specs.Moments.{RunState}
+use Rattle.sum_engine.specs.RunStates.{Did, DidPrefix, Wants}
 
 -- what is still to come of the manifest, the lines handled and the bytes that they used, the form and the counts
 -- so far, and the run state
@@ -87,12 +88,11 @@ pub record Breaks (r : Run) (a b : RunState) : Type 0 where
   pub did : DidPrefix a b (events_of step)
 
 -- memory was wanted: nothing of the step came about
-pub record Waits (r : Run) (n m : ℕ) (a b : RunState) : Type 0 where
+pub record Waits (r : Run) (a b : RunState) : Type 0 where
   pub step : Step
   pub rest : Run
   pub is : r ≡ step_then step rest
-  pub same : b ≡ a
-  pub wants : Wants n m step
+  pub wants : Wants step a b
 
 -- one line was handled; the line's vector holds this then
 pub record Moves (r : Rules) (a b : Now) (vector : List ℕ) : Type 0 where
@@ -105,18 +105,19 @@ pub record Moves (r : Rules) (a b : Now) (vector : List ℕ) : Type 0 where
   pub counts : b.counts ≡ counts_with a.counts (next_judged r a line).verdict
   pub held : length vector ≤ length line
 
-abbrev pub StepOf : Rules → ℕ → ℕ → List ℕ → Now → Now → Result Progress Stop → Type 0
-StepOf r n m vector a b (Ok Going) = GoesOn (to_come r a) (to_come r b) a.run_state b.run_state × Moves r a b vector
-StepOf r n m vector a b (Ok (Ended answer)) = Finishes (to_come r a) answer a.run_state b.run_state
-StepOf r n m vector a b (Err Write) = Breaks (to_come r a) a.run_state b.run_state
-StepOf r n m vector a b (Err Memory) = Waits (to_come r a) n m a.run_state b.run_state
+abbrev pub StepOf : Rules → List ℕ → Now → Now → Result Progress Stop → Type 0
+StepOf r vector a b (Ok Going) = GoesOn (to_come r a) (to_come r b) a.run_state b.run_state × Moves r a b vector
+StepOf r vector a b (Ok (Ended answer)) = Finishes (to_come r a) answer a.run_state b.run_state
+StepOf r vector a b (Err Write) = Breaks (to_come r a) a.run_state b.run_state
+StepOf r vector a b (Err Memory) = Waits (to_come r a) a.run_state b.run_state
 
 -- what a step does, where the manifest and the run state tell
-abbrev pub StepGives : Rules → ℕ → ℕ → List ℕ → Option Now → Option Now → Result Progress Stop → Type 0
-StepGives r n m vector a b x = WhereTold a b (λ a b. StepOf r n m vector a b x)
+abbrev pub StepGives : Rules → List ℕ → Option Now → Option Now → Result Progress Stop → Type 0
+StepGives r vector a b x = WhereTold a b (λ a b. StepOf r vector a b x)
 
 -- a step's want of memory, told or not: the source was refused it, or bytes of the manifest were still to come
-abbrev pub WantsMemory : ℕ → ℕ → Option Content → Result Progress Stop → Type 0
-WantsMemory n m c (Ok p) = m ≡ n
-WantsMemory n m c (Err Write) = m ≡ n
-WantsMemory n m c (Err Memory) = (m ≡ after_refusal n) ⊎ ((m ≡ n) × IfSome c (λ d. 0 < length d.bytes))
+abbrev pub WantsMemory : SourceState → SourceState → Option Content → Result Progress Stop → Type 0
+WantsMemory a b c (Ok p) = b.refusals ≡ a.refusals
+WantsMemory a b c (Err Write) = b.refusals ≡ a.refusals
+WantsMemory a b c (Err Memory) = (b.refusals ≡ after_refusal a.refusals)
+    ⊎ ((b.refusals ≡ a.refusals) × IfSome c (λ d. 0 < length d.bytes))

@@ -1,8 +1,7 @@
 //! Asking one name.
-ghost use Rattle.std.specs.Prelude.{◌≡◌, ◌||◌, [], IfNone, IfSome, MatchOption, is_none};
-ghost use Rattle.sum_sources.specs.Sources.{after_refusal};
+ghost use Rattle.std.specs.Prelude.{◌≡◌, ◌||◌, [], IfNone, IfSome, is_none};
 ghost use Rattle.sum_engine.specs.Worlds.{is_dash};
-ghost use Rattle.sum_engine.specs.refinement.Asking.{world};
+ghost use Rattle.sum_engine.specs.Moments.{asking, world_of};
 
 use digest_kinds::{AnyHasher, Digest, Hasher, Kind};
 use sum_sources::{Fault, Input, OpenFault, PIECE, Source, Stdin, hash_input_over};
@@ -25,7 +24,7 @@ pub(crate) fn is_dash(name: &[u8]) -> bool
     name == b"-".as_slice()
 }
 
-ghost use Rattle.sum_engine.specs.refinement.Asking.{AskGives, IsRead, Sized};
+ghost use Rattle.sum_engine.specs.refinement.Asking.{AskGives, IsRead, RefusedUnless, Sized};
 
 /// Opens the name, where `-` is standard input, and reads it to its end, by way of the buffer. None where the source
 /// had no memory to open it; the name then doesn't count as asked.
@@ -36,12 +35,11 @@ pub(crate) fn ask<I: Input + Drop, S: Source>(
     source: &mut S,
     buffer: &mut [u8; PIECE],
 ) -> Option<Asked>
-    ensures gives { AskGives kind (world I.content (S.told source.old) stdin.old)
-        (world I.content (S.told source.new) stdin.new) name.now result }
+    ensures gives { AskGives kind (world_of S.state (asking I.state stdin.old source.old))
+        (world_of S.state (asking I.state stdin.new source.new)) name.now result }
     ensures taken { is_none stdin.new ≡ is_none stdin.old || is_dash name.now }
     ensures kept { IfNone result (stdin.new ≡ stdin.old) }
-    ensures refusals { MatchOption result (S.refusals source.new ≡ after_refusal (S.refusals source.old))
-        (λ _. S.refusals source.new ≡ S.refusals source.old) }
+    ensures refusals { RefusedUnless (S.state source.old) (S.state source.new) result }
     ensures sized { Sized kind result }
 {
     if is_dash(name) {
@@ -62,7 +60,7 @@ fn read_digest<F: Input + Drop, H: Hasher + Drop>(
     buffer: &mut [u8; PIECE],
 ) -> Asked
     requires { H.holds hasher [] }
-    ensures gives { IfSome (F.content file) (λ c. IsRead (H.kind_of hasher) c result) }
+    ensures gives { IfSome (F.state file).content (λ c. IsRead (H.kind_of hasher) c result) }
     ensures sized { Sized (H.kind_of hasher) (Some result) }
 {
     match hash_input_over(&mut file, hasher, buffer) {

@@ -37,7 +37,7 @@ impl<'a, I: Input> Checker<'a, I> {
     ghost use Rattle.std.specs.Option.{option_map};
     ghost use Rattle.sum_sources.specs.Contents.{clip};
     ghost use Rattle.sum_sources.specs.LineReaders.{coming};
-    ghost use Rattle.sum_engine.specs.RunStates.{RunState, run_state, HoldNothing, Failures};
+    ghost use Rattle.sum_engine.specs.Moments.{RunState, run_state, HoldNothing, Failures};
     ghost use Rattle.sum_engine.specs.Checkers.{again_after, now_of, Reads};
     ghost use Rattle.sum_engine.specs.refinement.Listings.{rules_in};
 
@@ -58,8 +58,8 @@ impl<'a, I: Input> Checker<'a, I> {
           shown = shown.entry.now;
           from_stdin = from_stdin;
         } }
-        ensures now { (s : Option RunState) → now_of I.content result.place s
-            ≡ no_line (option_map clip (I.content input)) s }
+        ensures now { (s : Option RunState) → now_of I.state result.place s
+            ≡ no_line (option_map clip (I.state input).content) s }
         ensures answer { result.answer ≡ None }
         ensures reader { result.place.reader
             ≡ record { input = input; ahead = []; taken = 0; lines = 0; answer = None } }
@@ -76,8 +76,8 @@ impl<'a, I: Input> Checker<'a, I> {
     /// A checker of the manifest that `input` gives, by what it is listed as.
     pub(crate) fn over(listing: Listing<'a>, input: I) -> Self
         ensures rules { result.place.rules ≡ rules_in listing.entry }
-        ensures now { (s : Option RunState) → now_of I.content result.place s
-            ≡ no_line (option_map clip (I.content input)) s }
+        ensures now { (s : Option RunState) → now_of I.state result.place s
+            ≡ no_line (option_map clip (I.state input).content) s }
         ensures answer { result.answer ≡ None }
         ensures reader { result.place.reader
             ≡ record { input = input; ahead = []; taken = 0; lines = 0; answer = None } }
@@ -108,22 +108,22 @@ impl<'a, I: Input> Checker<'a, I> {
         line: &mut Vec<u8, A>,
         streams: &mut Streams<J, S, O, E>,
     ) -> Result<Progress, Stop>
-        ensures gives { self.old.answer ≡ None → HoldNothing O.held E.held streams.old
-            → StepGives self.old.place.rules
-            (S.refusals streams.old.source) (S.refusals streams.new.source) line.new.items
-            (now_of I.content self.old.place (run_state J.content S.told O.written E.written streams.old))
-            (now_of I.content self.new.place (run_state J.content S.told O.written E.written streams.new)) result }
-        ensures none { HoldNothing O.held E.held streams.old → HoldNothing O.held E.held streams.new }
+        ensures gives { self.old.answer ≡ None → HoldNothing streams.old
+            → StepGives self.old.place.rules line.new.items
+            (now_of I.state self.old.place (run_state S.state streams.old))
+            (now_of I.state self.new.place (run_state S.state streams.new)) result }
+        ensures none { HoldNothing streams.old → HoldNothing streams.new }
         ensures again { IfSome self.old.answer
             (λ r. (result ≡ r) × (self.new ≡ self.old) × (streams.new ≡ streams.old)) }
         ensures answer { self.old.answer ≡ None → self.new.answer ≡ again_after result }
         ensures wants { self.old.answer ≡ None
-            → WantsMemory (S.refusals streams.old.source) (S.refusals streams.new.source)
-            (coming I.content self.old.place.reader) result }
-        ensures failures { self.old.answer ≡ None → Failures O.failures E.failures streams.old streams.new result }
+            → WantsMemory (S.state streams.old.source) (S.state streams.new.source)
+            (coming I.state self.old.place.reader) result }
+        ensures failures { self.old.answer ≡ None
+            → Failures streams.old.out streams.new.out streams.old.err streams.new.err result }
         ensures untouched { result ≡ Err Stop.Memory
             → (streams.new.out ≡ streams.old.out) × (streams.new.err ≡ streams.old.err) }
-        ensures reads { self.old.answer ≡ None → Reads I.content I.failed self.old.place self.new.place result }
+        ensures reads { self.old.answer ≡ None → Reads I.state self.old.place self.new.place result }
     {
         if let Some(answer) = self.answer {
             return answer;

@@ -1,10 +1,11 @@
 //! Hashing one name.
-ghost use Rattle.std.specs.Prelude.{◌≡◌, ◌||◌, Err, OnOk, is_none, length};
+ghost use Rattle.std.specs.Prelude.{◌≡◌, ◌||◌, Err, OnOk, length};
 ghost use Rattle.sum_engine.specs.Worlds.{is_dash};
 ghost use Rattle.sum_lines.specs.Lines.{line};
 ghost use Rattle.sum_engine.specs.Generation.{generate_run};
 ghost use Rattle.sum_engine.specs.refinement.Telling.{Tells, Fails};
-ghost use Rattle.sum_engine.specs.RunStates.{run_state, RunGives, HoldNothing, refusals_over, Failures};
+ghost use Rattle.sum_engine.specs.Moments.{HoldNothing, Failures};
+ghost use Rattle.sum_engine.specs.RunStates.{RunsTo, refusals_over};
 
 use crate::asking::{Asked, ask};
 use crate::report::put_fault_line;
@@ -27,15 +28,12 @@ pub fn generate_one<I: Input + Drop, S: Source, O: Sink, E: Sink>(
     name: &[u8],
     streams: &mut Streams<I, S, O, E>,
 ) -> Result<bool, Stop>
-    ensures gives { HoldNothing O.held E.held streams.old
-        → RunGives (λ w. generate_run settings.now tool.now w name.now)
-        (S.refusals streams.old.source) (S.refusals streams.new.source)
-        (run_state I.content S.told O.written E.written streams.old)
-        (run_state I.content S.told O.written E.written streams.new) result }
-    ensures none { HoldNothing O.held E.held streams.old → HoldNothing O.held E.held streams.new }
-    ensures refusals { S.refusals streams.new.source ≡ refusals_over (S.refusals streams.old.source) result }
-    ensures failures { Failures O.failures E.failures streams.old streams.new result }
-    ensures taken { OnOk result (is_none streams.new.stdin ≡ is_none streams.old.stdin || is_dash name.now) }
+    ensures gives { HoldNothing streams.old → RunsTo S.state
+        (λ w. generate_run settings.now tool.now w name.now) (λ good. good) streams.old streams.new result }
+    ensures none { HoldNothing streams.old → HoldNothing streams.new }
+    ensures refusals { (S.state streams.new.source).refusals ≡ refusals_over (S.state streams.old.source).refusals result }
+    ensures failures { Failures streams.old.out streams.new.out streams.old.err streams.new.err result }
+    ensures taken { OnOk result (streams.new.taken ≡ streams.old.taken || is_dash name.now) }
     ensures untouched { result ≡ Err Stop.Memory
         → (streams.new.out ≡ streams.old.out) × (streams.new.err ≡ streams.old.err) }
 {
@@ -72,9 +70,9 @@ fn tell_line<O: Sink>(
     digest: &Digest,
 ) -> Result<(), SinkFault>
     requires { length digest.now ≡ settings.now.kind.len }
-    ensures text { Tells O.written O.held out.old out.new
+    ensures text { Tells (O.state out.old) (O.state out.new)
         (line settings.now.style settings.now.kind name.now digest.now) result }
-    ensures failures { Fails (O.failures out.old) (O.failures out.new) result }
+    ensures failures { Fails (O.state out.old) (O.state out.new) result }
 {
     put_line(out, settings.style, settings.kind, name, digest)?;
     out.flush()

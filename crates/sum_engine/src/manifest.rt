@@ -2,7 +2,8 @@
 ghost use Rattle.std.specs.Option.{option_map};
 ghost use Rattle.sum_sources.specs.Contents.{clip};
 ghost use Rattle.sum_engine.specs.Checking.{check_run};
-ghost use Rattle.sum_engine.specs.RunStates.{run_state, RunGives, HoldNothing, Failures};
+ghost use Rattle.sum_engine.specs.Moments.{HoldNothing, Failures};
+ghost use Rattle.sum_engine.specs.RunStates.{RunsTo};
 ghost use Rattle.sum_engine.specs.Manifests.{ManifestGives, RefusedOnMemory};
 ghost use Rattle.sum_engine.specs.refinement.Listings.{rules_in};
 
@@ -33,14 +34,11 @@ pub fn check_one<A: Allocator + Copy, J: Input + Drop, S: Source, O: Sink, E: Si
     name: &[u8],
     streams: &mut Streams<J, S, O, E>,
 ) -> Result<bool, Stop>
-    ensures gives { HoldNothing O.held E.held streams.old
-        → RunGives (λ w. check_run settings tool.now w name.now)
-        (S.refusals streams.old.source) (S.refusals streams.new.source)
-        (run_state J.content S.told O.written E.written streams.old)
-        (run_state J.content S.told O.written E.written streams.new) result }
-    ensures none { HoldNothing O.held E.held streams.old → HoldNothing O.held E.held streams.new }
-    ensures refusals { RefusedOnMemory (S.refusals streams.old.source) (S.refusals streams.new.source) result }
-    ensures failures { Failures O.failures E.failures streams.old streams.new result }
+    ensures gives { HoldNothing streams.old → RunsTo S.state
+        (λ w. check_run settings tool.now w name.now) (λ good. good) streams.old streams.new result }
+    ensures none { HoldNothing streams.old → HoldNothing streams.new }
+    ensures refusals { RefusedOnMemory (S.state streams.old.source) (S.state streams.new.source) result }
+    ensures failures { Failures streams.old.out streams.new.out streams.old.err streams.new.err result }
 {
     if is_dash(name) {
         let input = streams.stdin.take();
@@ -77,14 +75,11 @@ fn check_input<'a, A: Allocator, I: Input + Drop, J: Input + Drop, S: Source, O:
     input: I,
     streams: &mut Streams<J, S, O, E>,
 ) -> Result<bool, Stop>
-    ensures gives { HoldNothing O.held E.held streams.old
-        → ManifestGives (rules_in listing.entry) (option_map clip (I.content input))
-        (S.refusals streams.old.source) (S.refusals streams.new.source)
-        (run_state J.content S.told O.written E.written streams.old)
-        (run_state J.content S.told O.written E.written streams.new) result }
-    ensures none { HoldNothing O.held E.held streams.old → HoldNothing O.held E.held streams.new }
-    ensures refusals { RefusedOnMemory (S.refusals streams.old.source) (S.refusals streams.new.source) result }
-    ensures failures { Failures O.failures E.failures streams.old streams.new result }
+    ensures gives { HoldNothing streams.old → ManifestGives S.state
+        (rules_in listing.entry) (option_map clip (I.state input).content) streams.old streams.new result }
+    ensures none { HoldNothing streams.old → HoldNothing streams.new }
+    ensures refusals { RefusedOnMemory (S.state streams.old.source) (S.state streams.new.source) result }
+    ensures failures { Failures streams.old.out streams.new.out streams.old.err streams.new.err result }
 {
     let mut checker = Checker::over(listing, input);
     let mut line = Vec::new(alloc);

@@ -1,9 +1,7 @@
 //! Where the checking of a manifest stands.
 ghost use Rattle.std.specs.Prelude.{◌≡◌, ◌≤◌, ◌<◌, ◌||◌, Ok, Err, None, [], length, Option, MatchOption};
 ghost use Rattle.std.specs.Prelude.{is_none, IfSome, IfOk};
-ghost use Rattle.sum_sources.specs.Sources.{after_refusal};
 ghost use Rattle.digest_kinds.specs.Limits.{LIMIT};
-ghost use Rattle.sum_lines.specs.Profiles.{present};
 ghost use Rattle.sum_engine.specs.Reports.{total, counts_with};
 
 use crate::listing::Listing;
@@ -34,9 +32,8 @@ impl<'a, I: Input> Position<'a, I> {
     ghost use Rattle.std.specs.Option.{option_map};
     ghost use Rattle.sum_sources.specs.Contents.{clip};
     ghost use Rattle.sum_sources.specs.LineReaders.{coming};
-    ghost use Rattle.sum_lines.specs.Entries.{form_then, line_form};
-    ghost use Rattle.sum_lines.specs.ParsedLines.{parse_line};
-    ghost use Rattle.sum_engine.specs.RunStates.{RunState, run_state, HoldNothing, Failures, refusals_over};
+    ghost use Rattle.sum_engine.specs.Moments.{RunState, run_state, world_of, asking, HoldNothing, Failures};
+    ghost use Rattle.sum_engine.specs.RunStates.{refusals_over};
     ghost use Rattle.sum_engine.specs.Steps.{no_line, StepGives, WantsMemory};
     ghost use Rattle.sum_engine.specs.Checkers.{now_of, Reads};
     ghost use Rattle.sum_sources.specs.declared.fault.Ending.TheVariants.{Whole};
@@ -44,18 +41,18 @@ impl<'a, I: Input> Position<'a, I> {
     ghost use Rattle.std.specs.List.{list_any};
     ghost use Rattle.sum_engine.specs.Worlds.{is_dash};
     ghost use Rattle.sum_engine.specs.Verdicts.{asks_of};
-    ghost use Rattle.sum_engine.specs.refinement.Asking.{world};
-    ghost use Rattle.sum_engine.specs.LineVerdicts.{asking_state, judged_in, Names, FindGives, progress_of};
+    ghost use Rattle.sum_engine.specs.refinement.Asking.{RefusedUnless};
+    ghost use Rattle.sum_engine.specs.LineVerdicts.{judged_in, Names, FindGives, progress_of};
     ghost use Rattle.sum_engine.specs.refinement.Handling.{HandleGives};
-    ghost use Rattle.sum_engine.specs.refinement.Finding.{LineGives};
+    ghost use Rattle.sum_engine.specs.refinement.Finding.{TakesLine, LineGives};
     ghost use Rattle.sum_engine.specs.refinement.Listings.{rules_in};
     ghost use Rattle.sum_engine.specs.refinement.Positions.{place_of};
 
     /// In front of the first line of the manifest that `input` gives.
     pub(crate) fn new(listing: Listing<'a>, input: I) -> Self
         ensures rules { rules_in result.listing ≡ rules_in listing.entry }
-        ensures now { (s : Option RunState) → now_of I.content (place_of result) s
-            ≡ no_line (option_map clip (I.content input)) s }
+        ensures now { (s : Option RunState) → now_of I.state (place_of result) s
+            ≡ no_line (option_map clip (I.state input).content) s }
         ensures reader { result.reader ≡ record { input = input; ahead = []; taken = 0; lines = 0; answer = None } }
     {
         Position {
@@ -88,17 +85,16 @@ impl<'a, I: Input> Position<'a, I> {
         line: &mut Vec<u8, A>,
         streams: &mut Streams<J, S, O, E>,
     ) -> Result<Progress, Stop>
-        ensures gives { HoldNothing O.held E.held streams.old → StepGives (rules_in self.old.listing)
-            (S.refusals streams.old.source) (S.refusals streams.new.source) line.new.items
-            (now_of I.content (place_of self.old) (run_state J.content S.told O.written E.written streams.old))
-            (now_of I.content (place_of self.new) (run_state J.content S.told O.written E.written streams.new)) result }
-        ensures none { HoldNothing O.held E.held streams.old → HoldNothing O.held E.held streams.new }
-        ensures wants { WantsMemory (S.refusals streams.old.source) (S.refusals streams.new.source)
-            (coming I.content self.old.reader) result }
-        ensures failures { Failures O.failures E.failures streams.old streams.new result }
+        ensures gives { HoldNothing streams.old → StepGives (rules_in self.old.listing) line.new.items
+            (now_of I.state (place_of self.old) (run_state S.state streams.old))
+            (now_of I.state (place_of self.new) (run_state S.state streams.new)) result }
+        ensures none { HoldNothing streams.old → HoldNothing streams.new }
+        ensures wants { WantsMemory (S.state streams.old.source) (S.state streams.new.source)
+            (coming I.state self.old.reader) result }
+        ensures failures { Failures streams.old.out streams.new.out streams.old.err streams.new.err result }
         ensures untouched { result ≡ Err Stop.Memory
             → (streams.new.out ≡ streams.old.out) × (streams.new.err ≡ streams.old.err) }
-        ensures reads { Reads I.content I.failed (place_of self.old) (place_of self.new) result }
+        ensures reads { Reads I.state (place_of self.old) (place_of self.new) result }
     {
         match self.reader.next_line(line) {
             Err(LineStop::Memory) => Err(Stop::Memory),
@@ -137,22 +133,15 @@ impl<'a, I: Input> Position<'a, I> {
     ) -> Result<(), Stop>
         requires room { total self.old.counts < self.old.reader.lines }
         requires few { self.old.reader.lines ≤ LIMIT }
-        ensures gives { HoldNothing O.held E.held streams.old → HandleGives (rules_in self.old.listing)
-            (parse_line present self.old.listing.settings.algo
-            (form_then self.old.form (line_form self.old.listing.settings.algo line.old.items)) line.old.items)
-            self.old.reader.lines self.old.counts self.new.counts
-            (run_state J.content S.told O.written E.written streams.old)
-            (run_state J.content S.told O.written E.written streams.new) result }
-        ensures none { HoldNothing O.held E.held streams.old → HoldNothing O.held E.held streams.new }
-        ensures form { self.new.form
-            ≡ form_then self.old.form (line_form self.old.listing.settings.algo line.old.items) }
+        ensures gives { HoldNothing streams.old → HandleGives S.state (place_of self.old) line.old.items
+            self.new.counts streams.old streams.new result }
+        ensures none { HoldNothing streams.old → HoldNothing streams.new }
+        ensures place { TakesLine (place_of self.old) (place_of self.new) line.old.items }
         ensures held { length line.new.items ≤ length line.old.items }
-        ensures refusals { S.refusals streams.new.source ≡ refusals_over (S.refusals streams.old.source) result }
-        ensures failures { Failures O.failures E.failures streams.old streams.new result }
+        ensures refusals { (S.state streams.new.source).refusals ≡ refusals_over (S.state streams.old.source).refusals result }
+        ensures failures { Failures streams.old.out streams.new.out streams.old.err streams.new.err result }
         ensures untouched { result ≡ Err Stop.Memory
             → (streams.new.out ≡ streams.old.out) × (streams.new.err ≡ streams.old.err) }
-        ensures reader { self.new.reader ≡ self.old.reader }
-        ensures rules { rules_in self.new.listing ≡ rules_in self.old.listing }
     {
         let Some(found) = self.judge_line(line, &mut streams.stdin, &mut streams.source) else {
             return Err(Stop::Memory);
@@ -180,20 +169,15 @@ impl<'a, I: Input> Position<'a, I> {
     ) -> Option<LineVerdict>
         requires room { total self.old.counts < self.old.reader.lines }
         requires few { self.old.reader.lines ≤ LIMIT }
-        ensures gives { LineGives (rules_in self.old.listing) (parse_line present self.old.listing.settings.algo
-            (form_then self.old.form (line_form self.old.listing.settings.algo line.old.items)) line.old.items)
-            self.old.reader.lines self.old.counts self.new.counts line.new.items
-            (world J.content (S.told source.old) stdin.old) (world J.content (S.told source.new) stdin.new) result }
+        ensures gives { LineGives (place_of self.old) line.old.items self.new.counts line.new.items
+            (world_of S.state (asking J.state stdin.old source.old))
+            (world_of S.state (asking J.state stdin.new source.new)) result }
         ensures taken { MatchOption result (stdin.new ≡ stdin.old) (λ v. is_none stdin.new
             ≡ is_none stdin.old || list_any is_dash (asks_of (judged_in line.new.items v))) }
         ensures names { IfSome result (λ v. Names line.new.items v) }
-        ensures form { self.new.form
-            ≡ form_then self.old.form (line_form self.old.listing.settings.algo line.old.items) }
+        ensures place { TakesLine (place_of self.old) (place_of self.new) line.old.items }
         ensures held { length line.new.items ≤ length line.old.items }
-        ensures refusals { MatchOption result (S.refusals source.new ≡ after_refusal (S.refusals source.old))
-            (λ _. S.refusals source.new ≡ S.refusals source.old) }
-        ensures reader { self.new.reader ≡ self.old.reader }
-        ensures rules { rules_in self.new.listing ≡ rules_in self.old.listing }
+        ensures refusals { RefusedUnless (S.state source.old) (S.state source.new) result }
     {
         let (reading, form) = read(self.listing.settings.algo, self.form, line);
         self.form = form;
@@ -252,12 +236,12 @@ impl<'a, I: Input> Position<'a, I> {
         source: &mut S,
     ) -> Result<Option<LineVerdict>, LineStop>
         ensures gives { FindGives (rules_in self.old.listing) line.new.items
-            (now_of I.content (place_of self.old) (asking_state J.content S.told stdin.old source.old))
-            (now_of I.content (place_of self.new) (asking_state J.content S.told stdin.new source.new)) result }
+            (now_of I.state (place_of self.old) (run_state S.state (asking J.state stdin.old source.old)))
+            (now_of I.state (place_of self.new) (run_state S.state (asking J.state stdin.new source.new))) result }
         ensures names { IfOk result (λ found. IfSome found (λ v. Names line.new.items v)) }
-        ensures wants { WantsMemory (S.refusals source.old) (S.refusals source.new) (coming I.content self.old.reader)
+        ensures wants { WantsMemory (S.state source.old) (S.state source.new) (coming I.state self.old.reader)
             (progress_of result) }
-        ensures reads { Reads I.content I.failed (place_of self.old) (place_of self.new) (progress_of result) }
+        ensures reads { Reads I.state (place_of self.old) (place_of self.new) (progress_of result) }
     {
         match self.reader.next_line(line) {
             Err(stop) => Err(stop),

@@ -1,5 +1,5 @@
 //! The lines that checking writes about a manifest's lines.
-ghost use Rattle.std.specs.Prelude.{◌≡◌, [], ◌∷◌, MatchResult};
+ghost use Rattle.std.specs.Prelude.{◌≡◌, [], ◌∷◌};
 ghost use Rattle.std.specs.List.{concat};
 ghost use Rattle.sum_lines.specs.Escape.{escape, escape_differs};
 ghost use Rattle.sum_lines.specs.Shapes.{mark};
@@ -7,7 +7,9 @@ ghost use Rattle.sum_lines.specs.Profiles.{present};
 ghost use Rattle.sum_engine.specs.Generation.{fault_line};
 ghost use Rattle.sum_engine.specs.Reports.{verdict_line, bad_line, err_by};
 ghost use Rattle.sum_engine.specs.refinement.Listings.{rules_in};
-ghost use Rattle.sum_engine.specs.RunStates.{NoFailure, OneFailure};
+ghost use Rattle.std.specs.Result.{result_map_both};
+ghost use Rattle.sum_engine.specs.declared.stop.Stop.TheVariants.{Write};
+ghost use Rattle.sum_engine.specs.Moments.{Failures};
 ghost use Rattle.sum_engine.specs.refinement.Telling.{out_by, Tells, Fails, HandsBoth};
 
 use crate::listing::Listing;
@@ -25,8 +27,8 @@ pub(crate) fn put_fault_line<'a, E: Sink>(
     name: &'a [u8],
     fault: Fault,
 ) -> Result<(), SinkFault>
-    ensures text { Tells E.written E.held err.old err.new (fault_line present tool.now name.now fault) result }
-    ensures failures { Fails (E.failures err.old) (E.failures err.new) result }
+    ensures text { Tells (E.state err.old) (E.state err.new) (fault_line present tool.now name.now fault) result }
+    ensures failures { Fails (E.state err.old) (E.state err.new) result }
 {
     let text = fault.text();
     tell(
@@ -51,13 +53,14 @@ pub(crate) fn put_report<O: Sink, E: Sink>(
     verdict: Verdict,
     name: &[u8],
 ) -> Result<(), SinkFault>
-    ensures texts { E.held err.old ≡ [] → O.held out.old ≡ [] → HandsBoth (E.written err.old) (E.written err.new)
-        (O.written out.old) (O.written out.new) (err_by (rules_in listing.now) number verdict name.now)
+    ensures texts { (E.state err.old).held ≡ [] → (O.state out.old).held ≡ []
+        → HandsBoth (E.state err.old) (E.state err.new) (O.state out.old) (O.state out.new)
+        (err_by (rules_in listing.now) number verdict name.now)
         (out_by present listing.now.settings.report verdict name.now) result }
-    ensures none { E.held err.old ≡ [] → O.held out.old ≡ [] → (E.held err.new ≡ []) × (O.held out.new ≡ []) }
-    ensures failures { MatchResult result
-        (λ _. NoFailure (O.failures out.old) (O.failures out.new) (E.failures err.old) (E.failures err.new))
-        (λ _. OneFailure (O.failures out.old) (O.failures out.new) (E.failures err.old) (E.failures err.new)) }
+    ensures none { (E.state err.old).held ≡ [] → (O.state out.old).held ≡ []
+        → ((E.state err.new).held ≡ []) × ((O.state out.new).held ≡ []) }
+    ensures failures { Failures (O.state out.old) (O.state out.new) (E.state err.old) (E.state err.new)
+        (result_map_both (λ u. u) (λ _. Write) result) }
 {
     match put_err(err, listing, number, verdict, name) {
         Ok(()) => put_out(out, listing.settings.report, verdict, name),
@@ -71,8 +74,8 @@ fn put_out<O: Sink>(
     verdict: Verdict,
     name: &[u8],
 ) -> Result<(), SinkFault>
-    ensures text { Tells O.written O.held out.old out.new (out_by present report verdict name.now) result }
-    ensures failures { Fails (O.failures out.old) (O.failures out.new) result }
+    ensures text { Tells (O.state out.old) (O.state out.new) (out_by present report verdict name.now) result }
+    ensures failures { Fails (O.state out.old) (O.state out.new) result }
 {
     match report {
         Report::All => put_said(out, verdict, name),
@@ -86,8 +89,8 @@ fn put_out<O: Sink>(
 }
 
 fn put_said<O: Sink>(out: &mut O, verdict: Verdict, name: &[u8]) -> Result<(), SinkFault>
-    ensures text { Tells O.written O.held out.old out.new (verdict_line present verdict name.now) result }
-    ensures failures { Fails (O.failures out.old) (O.failures out.new) result }
+    ensures text { Tells (O.state out.old) (O.state out.new) (verdict_line present verdict name.now) result }
+    ensures failures { Fails (O.state out.old) (O.state out.new) result }
 {
     match verdict {
         Verdict::Ignored | Verdict::Bad | Verdict::Missing => Ok(()),
@@ -99,9 +102,9 @@ fn put_said<O: Sink>(out: &mut O, verdict: Verdict, name: &[u8]) -> Result<(), S
 
 // Writes the name and what stands behind it. Most names hold nothing to escape, and are then searched once.
 fn put_name_line<'a, O: Sink>(out: &mut O, name: &'a [u8], rest: &'a [u8]) -> Result<(), SinkFault>
-    ensures text { Tells O.written O.held out.old out.new
+    ensures text { Tells (O.state out.old) (O.state out.new)
         (concat (mark (escape_differs name.now) ∷ escape name.now ∷ rest.now ∷ [])) result }
-    ensures failures { Fails (O.failures out.old) (O.failures out.new) result }
+    ensures failures { Fails (O.state out.old) (O.state out.new) result }
 {
     if needs_escape(name) {
         return tell(
@@ -119,9 +122,9 @@ fn put_err<E: Sink>(
     verdict: Verdict,
     name: &[u8],
 ) -> Result<(), SinkFault>
-    ensures text { Tells E.written E.held err.old err.new
+    ensures text { Tells (E.state err.old) (E.state err.new)
         (err_by (rules_in listing.now) number verdict name.now) result }
-    ensures failures { Fails (E.failures err.old) (E.failures err.new) result }
+    ensures failures { Fails (E.state err.old) (E.state err.new) result }
 {
     match verdict {
         Verdict::Ignored | Verdict::Right | Verdict::Wrong | Verdict::Missing => Ok(()),
@@ -134,8 +137,8 @@ fn put_err<E: Sink>(
 }
 
 fn put_bad_line<E: Sink>(err: &mut E, listing: &Listing, number: u64) -> Result<(), SinkFault>
-    ensures text { Tells E.written E.held err.old err.new (bad_line (rules_in listing.now) number) result }
-    ensures failures { Fails (E.failures err.old) (E.failures err.new) result }
+    ensures text { Tells (E.state err.old) (E.state err.new) (bad_line (rules_in listing.now) number) result }
+    ensures failures { Fails (E.state err.old) (E.state err.new) result }
 {
     let word = tag_word(listing.settings.algo);
     tell(

@@ -1,11 +1,14 @@
 //! What a run works on.
-ghost use Rattle.std.specs.Prelude.{◌≡◌};
+ghost use Rattle.std.specs.Prelude.{◌≡◌, is_none};
+ghost use Rattle.sum_sources.specs.Standard.{left_in};
 
-use sum_sources::Stdin;
+use std::marker::Model;
+use sum_lines::Sink;
+use sum_sources::{Input, Stdin};
 
 /// What a run reads from and writes to.
 #[derive(Drop)]
-pub struct Streams<I, S, O, E> {
+pub struct Streams<I: Input, S, O: Sink, E: Sink> {
     /// Standard input.
     pub stdin: Stdin<I>,
     /// Where files are opened by their names.
@@ -16,10 +19,32 @@ pub struct Streams<I, S, O, E> {
     pub err: E,
 }
 
-impl<I, S, O, E> Streams<I, S, O, E> {
+impl<I: Input, S, O: Sink, E: Sink> Model for Streams<I, S, O, E> {
+    ghost use Rattle.std.specs.Prelude.{is_none};
+    ghost use Rattle.sum_sources.specs.Standard.{left_in};
+    ghost use Rattle.sum_engine.specs.Moments.{Moment};
+
+    ghost Value = { Moment S };
+
+    ghost view = { λ s. record {
+      source = s.source;
+      input = left_in I.state s.stdin;
+      taken = is_none s.stdin;
+      err = E.state s.err;
+      out = O.state s.out;
+    } };
+}
+
+impl<I: Input, S, O: Sink, E: Sink> Streams<I, S, O, E> {
     /// These four, as they are.
     pub fn new(stdin: Stdin<I>, source: S, out: O, err: E) -> Self
-        ensures { result ≡ record { stdin = stdin; source = source; out = out; err = err } }
+        ensures { result ≡ record {
+          source = source;
+          input = left_in I.state stdin;
+          taken = is_none stdin;
+          err = E.state err;
+          out = O.state out;
+        } }
     {
         Streams {
             stdin,

@@ -7,8 +7,8 @@ use sum_lines::{Part, Sink, SinkFault, put_parts};
 /// Writes the parts of a line, one after another, and hands the line on. A fault where that failed; a prefix of the
 /// line is then handed on.
 pub(crate) fn tell<S: Sink>(sink: &mut S, parts: &[Part]) -> Result<(), SinkFault>
-    ensures text { Tells S.written S.held sink.old sink.new (parts_text parts.now) result }
-    ensures failures { Fails (S.failures sink.old) (S.failures sink.new) result }
+    ensures text { Tells (S.state sink.old) (S.state sink.new) (parts_text parts.now) result }
+    ensures failures { Fails (S.state sink.old) (S.state sink.new) result }
 {
     put_parts(sink, parts)?;
     sink.flush()

@@ -1,13 +1,13 @@
 //! The verdict of a line.
 ghost use Rattle.std.specs.Prelude.{◌≡◌, ◌||◌, ◌≤◌, length, MatchOption, is_none};
 ghost use Rattle.std.specs.List.{list_any};
-ghost use Rattle.sum_sources.specs.Sources.{after_refusal};
 ghost use Rattle.sum_lines.specs.Entries.{form_then, line_form};
 ghost use Rattle.sum_engine.specs.Worlds.{is_dash};
 ghost use Rattle.sum_engine.specs.Verdicts.{asks_by};
 ghost use Rattle.sum_lines.specs.Profiles.{present};
 ghost use Rattle.sum_lines.specs.ParsedLines.{parse_line, WithEntry};
-ghost use Rattle.sum_engine.specs.refinement.Asking.{world};
+ghost use Rattle.sum_engine.specs.Moments.{asking, world_of};
+ghost use Rattle.sum_engine.specs.refinement.Asking.{RefusedUnless};
 
 use crate::asking::{Asked, ask, is_dash};
 use crate::listing::Listing;
@@ -69,13 +69,12 @@ pub(crate) fn judge<I: Input + Drop, S: Source>(
     buffer: &mut [u8; PIECE],
 ) -> Option<Verdict>
     requires { length digest.now ≡ kind.len }
-    ensures gives { JudgeGives (rules_in listing.now) (world I.content (S.told source.old) stdin.old)
-        (world I.content (S.told source.new) stdin.new)
+    ensures gives { JudgeGives (rules_in listing.now) (world_of S.state (asking I.state stdin.old source.old))
+        (world_of S.state (asking I.state stdin.new source.new))
         (WithEntry (record { algo = kind.algo; digest = digest.now; name = name.now })) result }
     ensures taken { MatchOption result (stdin.new ≡ stdin.old)
         (λ v. is_none stdin.new ≡ is_none stdin.old || list_any is_dash (asks_by v name.now)) }
-    ensures refusals { MatchOption result (S.refusals source.new ≡ after_refusal (S.refusals source.old))
-        (λ _. S.refusals source.new ≡ S.refusals source.old) }
+    ensures refusals { RefusedUnless (S.state source.old) (S.state source.new) result }
 {
     if listing.from_stdin && is_dash(name) {
         return Some(Verdict::Bad);

@@ -40,9 +40,9 @@ impl<I: Input> Verdicts<I> {
     ghost use Rattle.sum_sources.specs.Contents.{clip};
     ghost use Rattle.sum_sources.specs.LineReaders.{coming};
     ghost use Rattle.sum_engine.specs.Reports.{good};
-    ghost use Rattle.sum_engine.specs.RunStates.{RunState};
+    ghost use Rattle.sum_engine.specs.Moments.{RunState, run_state, asking};
     ghost use Rattle.sum_engine.specs.Checkers.{now_of, Reads};
-    ghost use Rattle.sum_engine.specs.LineVerdicts.{asking_state, Names, FindGives, progress_of, is_short, is_whole};
+    ghost use Rattle.sum_engine.specs.LineVerdicts.{Names, FindGives, progress_of, is_short, is_whole};
 
     /// In front of the first line of the manifest that `input` gives; `from_stdin` says whether it came from standard
     /// input, where a line that names `-` is improperly formatted.
@@ -54,8 +54,8 @@ impl<I: Input> Verdicts<I> {
           shown = [];
           from_stdin = from_stdin;
         } }
-        ensures now { (s : Option RunState) → now_of I.content result.place s
-            ≡ no_line (option_map clip (I.content input)) s }
+        ensures now { (s : Option RunState) → now_of I.state result.place s
+            ≡ no_line (option_map clip (I.state input).content) s }
         ensures short { result.short ≡ false }
         ensures whole { result.whole ≡ false }
         ensures reader { result.place.reader
@@ -95,16 +95,16 @@ impl<I: Input> Verdicts<I> {
         source: &mut S,
     ) -> Result<Option<LineVerdict>, LineStop>
         ensures gives { self.old.short ≡ false → FindGives self.old.place.rules line.new.items
-            (now_of I.content self.old.place (asking_state J.content S.told stdin.old source.old))
-            (now_of I.content self.new.place (asking_state J.content S.told stdin.new source.new)) result }
+            (now_of I.state self.old.place (run_state S.state (asking J.state stdin.old source.old)))
+            (now_of I.state self.new.place (run_state S.state (asking J.state stdin.new source.new))) result }
         ensures names { IfOk result (λ found. IfSome found (λ v. Names line.new.items v)) }
         ensures again { self.old.short ≡ true → (result ≡ Err LineStop.Memory) × (self.new ≡ self.old)
             × (stdin.new ≡ stdin.old) × (source.new ≡ source.old) }
         ensures short { self.old.short ≡ false → self.new.short ≡ is_short result }
         ensures whole { self.old.short ≡ false → self.new.whole ≡ is_whole result }
-        ensures wants { self.old.short ≡ false → WantsMemory (S.refusals source.old) (S.refusals source.new)
-            (coming I.content self.old.place.reader) (progress_of result) }
-        ensures reads { self.old.short ≡ false → Reads I.content I.failed self.old.place self.new.place (progress_of result) }
+        ensures wants { self.old.short ≡ false → WantsMemory (S.state source.old) (S.state source.new)
+            (coming I.state self.old.place.reader) (progress_of result) }
+        ensures reads { self.old.short ≡ false → Reads I.state self.old.place self.new.place (progress_of result) }
     {
         if self.short {
             return Err(LineStop::Memory);

@@ -2,17 +2,10 @@
 use Rattle.std.specs.Prelude.{ℕ, ◌≡◌, List, [], ◌∷◌, length, Option, None, Some, Ok, Err, ⊤}
 use Rattle.digest_kinds.specs.Kinds.{KindValue}
 use Rattle.sum_sources.specs.Contents.{Content, WhereTold}
-use Rattle.sum_sources.specs.Sources.{Reply, Refused, Given}
+use Rattle.sum_sources.specs.Sources.{Reply, Refused, Given, SourceState, after_refusal}
 use Rattle.sum_engine.specs.declared.asking.Asked.{Asked}
 use Rattle.sum_engine.specs.declared.asking.Asked.TheVariants as asked
 use Rattle.sum_engine.specs.Worlds.{World, after, digest_or_fault, reply}
-use Rattle.sum_sources.specs.Sources.{Telling}
-use Rattle.sum_sources.specs.Standard.{left_in}
-use Rattle.sum_engine.specs.RunStates.{world_by}
-
--- the world, where the source and standard input tell
-abbrev pub world : {I : Type 0} → (I → Option Content) → Option Telling → Option I → Option World
-world content told stdin = world_by told (left_in content stdin)
 
 -- what came of a reply
 abbrev pub IsAsked : KindValue → Reply → Asked → Type 0
@@ -40,3 +33,8 @@ Sized kind None = ⊤
 Sized kind (Some (asked.Read d)) = length d ≡ kind.len
 Sized kind (Some (asked.Refused f)) = ⊤
 Sized kind (Some (asked.Broken f)) = ⊤
+
+-- the source was refused memory, once, where nothing is answered
+abbrev pub RefusedUnless : {A : Type 0} → SourceState → SourceState → Option A → Type 0
+RefusedUnless a b None = b.refusals ≡ after_refusal a.refusals
+RefusedUnless a b (Some x) = b.refusals ≡ a.refusals

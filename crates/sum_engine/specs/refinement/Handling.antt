@@ -1,14 +1,16 @@
 -- Joins what handling a line does to what the line says.
 use Rattle.std.specs.Prelude.{ℕ, ◌≡◌, ◌++◌, List, map, Option, Result, Ok, Err}
-use Rattle.sum_sources.specs.Contents.{WhereTold}
+use Rattle.sum_sources.specs.Sources.{SourceState}
 use Rattle.sum_engine.specs.declared.stop.Stop.{Stop}
 use Rattle.sum_engine.specs.declared.stop.Stop.TheVariants.{Memory, Write}
 use Rattle.sum_engine.specs.declared.summary.Counts.{Counts}
-use Rattle.sum_lines.specs.ParsedLines.{ParsedLine}
+use Rattle.sum_engine.specs.Checkers.{Place}
+use Rattle.sum_engine.specs.refinement.Finding.{parsed_at}
 use Rattle.sum_engine.specs.Runs.{Event, Opens, Tells, Puts}
 use Rattle.sum_engine.specs.Verdicts.{Rules, Judged, judge, asks_of}
 use Rattle.sum_engine.specs.Reports.{out_of, err_of, counts_with}
-use Rattle.sum_engine.specs.RunStates.{RunState, Did, DidPrefix}
+use Rattle.sum_engine.specs.Moments.{Moment, RunState, WhereKnown}
+use Rattle.sum_engine.specs.RunStates.{Did, DidPrefix, Refused}
 
 -- these names are opened, and then these texts are written, in this order
 abbrev pub events_by : List (List ℕ) → List ℕ → List ℕ → List Event
@@ -18,9 +20,10 @@ events_by names err out = map Opens names ++ (map Tells err ++ map Puts out)
 abbrev pub HandleOf : {A : Type 0} → Rules → Judged → Counts → Counts → RunState → RunState → Result A Stop → Type 0
 HandleOf r j c d a b (Ok u) = (d ≡ counts_with c j.verdict) × Did a b (events_by (asks_of j) (err_of r j) (out_of r j))
 HandleOf r j c d a b (Err Write) = DidPrefix a b (events_by (asks_of j) (err_of r j) (out_of r j))
-HandleOf r j c d a b (Err Memory) = b ≡ a
+HandleOf r j c d a b (Err Memory) = Refused a b
 
--- the n-th line was handled, which says that, where the run state tells
-abbrev pub HandleGives : {A : Type 0} → Rules → ParsedLine → ℕ → Counts → Counts → Option RunState → Option RunState
+-- the last line that was read at a place was handled, where the run state tells; d are the counts then
+abbrev pub HandleGives : {I S A : Type 0} → (S → SourceState) → Place I → List ℕ → Counts → Moment S → Moment S
     → Result A Stop → Type 0
-HandleGives r said n c d a b x = WhereTold a b (λ a b. HandleOf r (judge r a.world n said) c d a b x)
+HandleGives state p line d a b x =
+    WhereKnown state a b (λ s t. HandleOf p.rules (judge p.rules s.world p.reader.lines (parsed_at p line)) p.counts d s t x)
