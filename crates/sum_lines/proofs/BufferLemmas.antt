@@ -1,7 +1,7 @@
 -- What a buffer over a sink does to what was taken, by what the sink below answers.
 use Rattle.std.proofs.Common.{ℕ, ◌≡◌, List, [], ◌++◌, Option, None, Some, Result, Ok, Err, ap, sym, ◌∙◌, append_assoc, append-nil}
 use Rattle.std.specs.Io.KnownBytes.{Appends, append_known}
-use Rattle.sum_lines.specs.Sinks.{SinkState, Wrote, Flushes, WritesFrom}
+use Rattle.sum_lines.specs.Sinks.{SinkState, Wrote, Flushes, Writes}
 use Rattle.sum_lines.specs.refinement.Emptying.{Empties}
 use Rattle.sum_lines.proofs.SinkLemmas.{Flushes-behind}
 
@@ -20,7 +20,7 @@ taken_below (Some x) (Some y) held_before held_after own h =
     ∙ sym (append-nil (x ++ (held_before ++ own)))
 
 -- the buffer was emptied into the sink below
-pub Emptied : {E : Type 0} (a b : SinkState) (own : List ℕ) (r : Result (Unit {0}) E) → WritesFrom a b own r
+pub Emptied : {E : Type 0} (a b : SinkState) (own : List ℕ) (r : Result (Unit {0}) E) → Writes a b own r
     → Empties (behind a own) (behind b []) r
 Emptied a b own (Ok u) h = record {
   taken = taken_below a.written b.written a.held b.held own h.taken;

@@ -4,7 +4,7 @@ use Rattle.std.proofs.Common.{ℕ, ◌≡◌, ◌<◌, ◌-◌, List, [], ◌++�
 use Rattle.std.proofs.lemmas.List.{take_rest, append_cancel_left}
 use Rattle.std.specs.Io.KnownBytes.{Appends, append_known}
 use Rattle.std.proofs.KnownBytes.{Appends-nil, Appends-trans}
-use Rattle.sum_lines.specs.Sinks.{after_failure, AppendsPart, SinkState, Wrote, Broke, Dropped, WritesFrom, Flushes}
+use Rattle.sum_lines.specs.Sinks.{after_failure, AppendsPart, SinkState, Wrote, Broke, Dropped, Writes, Flushes}
 use Rattle.sum_lines.specs.refinement.Growing.{Grows, AppendsPrefix}
 
 -- ---- two calls, one behind the other
@@ -179,7 +179,7 @@ Left-stop {a} {b} {c} {piece = piece} more left cut failed =
 
 -- the last piece is all of the rest: its call answers for the whole text
 pub Left-last : {E : Type 0} {a b : SinkState} {text rest : List ℕ} (c : SinkState) (r : Result (Unit {0}) E)
-    → Left a b text rest → WritesFrom b c rest r → WritesFrom a c text r
+    → Left a b text rest → Writes b c rest r → Writes a c text r
 Left-last {rest = rest} c (Ok u) left last = rw left.cut (Wrote-trans left.prefix rest left.wrote last)
 Left-last {rest = rest} c (Err e) left last = Left-stop [] left (sym (append-nil rest)) last
 

@@ -1,5 +1,5 @@
 -- What a buffer over a sink holds and hands on.
-use Rattle.std.specs.Prelude.{ℕ, ◌==◌, List, [], ◌∷◌, ◌++◌, length, Option, if◌then◌else◌}
+use Rattle.std.specs.Prelude.{ℕ, ◌==◌, List, [], ◌∷◌, ◌++◌, length, if◌then◌else◌}
 use Rattle.sum_lines.specs.Sinks.{SinkState}
 use Rattle.sum_lines.specs.declared.buffered.TheConstants.{ROOM}
 
@@ -9,9 +9,12 @@ pub record Buffer (S : Type 0) : Type 0 where
   pub held : List ℕ
 
 -- a buffer holds what the sink below holds, and behind that its own
-abbrev pub buffer_state : {S : Type 0} → (S → Option (List ℕ)) → (S → List ℕ) → (S → ℕ) → Buffer S → SinkState
-buffer_state written held failures b =
-    record { written = written b.sink; held = held b.sink ++ b.held; failures = failures b.sink }
+abbrev pub buffer_state : {S : Type 0} → (S → SinkState) → Buffer S → SinkState
+buffer_state state b = record {
+  written = (state b.sink).written;
+  held = (state b.sink).held ++ b.held;
+  failures = (state b.sink).failures;
+}
 
 -- what is held, where there is no room for more
 abbrev pub if_full : List ℕ → List ℕ

@@ -42,18 +42,10 @@ pub record Dropped (a b : SinkState) : Type 0 where
   pub none : b.held ≡ []
   pub failed : b.failures ≡ after_failure a.failures
 
-abbrev pub state : {S : Type 0} → (S → Option (List ℕ)) → (S → List ℕ) → (S → ℕ) → S → SinkState
-state written held failures s = record { written = written s; held = held s; failures = failures s }
-
 -- a call that takes all of the text, or fails; with an empty text it doesn't fail
-abbrev pub WritesFrom : {E : Type 0} → SinkState → SinkState → List ℕ → Result (Unit {0}) E → Type 0
-WritesFrom a b text (Ok u) = Wrote a b text
-WritesFrom a b text (Err e) = Broke a b text
-
-abbrev pub Writes : {S E : Type 0} → (S → Option (List ℕ)) → (S → List ℕ) → (S → ℕ) → S → S → List ℕ
-    → Result (Unit {0}) E → Type 0
-Writes written held failures old new text r =
-    WritesFrom (state written held failures old) (state written held failures new) text r
+abbrev pub Writes : {E : Type 0} → SinkState → SinkState → List ℕ → Result (Unit {0}) E → Type 0
+Writes a b text (Ok u) = Wrote a b text
+Writes a b text (Err e) = Broke a b text
 
 -- one write, which takes the first bytes of a piece, at least one where there is one, or fails
 abbrev pub WritesSome : {E : Type 0} → SinkState → SinkState → List ℕ → Result ℕ E → Type 0

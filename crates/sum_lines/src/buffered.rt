@@ -63,8 +63,7 @@ impl<S: Sink> Buffered<S> {
 
     // Hands on to the sink below what is held.
     fn empty(&mut self) -> Result<(), SinkFault>
-        ensures bytes { Empties (buffer_state S.written S.held S.failures self.old)
-            (buffer_state S.written S.held S.failures self.new) result }
+        ensures bytes { Empties (buffer_state S.state self.old) (buffer_state S.state self.new) result }
         ensures none { self.new.held ≡ [] }
         ensures hands { HandsOn (S.offered self.old.sink) (S.offered self.new.sink) self.old.held }
     {
@@ -75,8 +74,7 @@ impl<S: Sink> Buffered<S> {
 
     // Hands on to the sink below what is held, where there is no room for more.
     fn make_room(&mut self) -> Result<(), SinkFault>
-        ensures bytes { Empties (buffer_state S.written S.held S.failures self.old)
-            (buffer_state S.written S.held S.failures self.new) result }
+        ensures bytes { Empties (buffer_state S.state self.old) (buffer_state S.state self.new) result }
         ensures held { OnOk result (self.new.held ≡ unless_full self.old.held) }
         ensures hands { HandsOn (S.offered self.old.sink) (S.offered self.new.sink) (if_full self.old.held) }
     {
@@ -91,17 +89,12 @@ impl<S: Sink> Sink for Buffered<S> {
     ghost use Rattle.std.specs.Prelude.{None};
     ghost use Rattle.sum_lines.specs.Buffers.{buffer_state, unless_full, handed};
 
-    ghost written = { λ s. S.written s.sink };
-
-    ghost held = { λ s. S.held s.sink ++ s.held };
-
-    ghost failures = { λ s. S.failures s.sink };
+    ghost state = { λ s. buffer_state S.state s };
 
     /// Takes as much of the piece as there is room for. Where there is no room at all, what is held is handed on
     /// before. A fault where the sink below fails then.
     fn write(&mut self, piece: &[u8]) -> Result<usize, SinkFault>
-        ensures bytes { WritesSome (buffer_state S.written S.held S.failures self.old)
-            (buffer_state S.written S.held S.failures self.new) piece.now result }
+        ensures bytes { WritesSome (buffer_state S.state self.old) (buffer_state S.state self.new) piece.now result }
         ensures empty { piece.now ≡ [] → result ≡ Ok 0 }
         ensures hands { HandsOn (S.offered self.old.sink) (S.offered self.new.sink) (handed self.old.held piece.now) }
         ensures fits { IfOk result (λ n. n ≡ min (length piece.now) (ROOM - length (unless_full self.old.held))) }
@@ -118,8 +111,7 @@ impl<S: Sink> Sink for Buffered<S> {
 
     /// Hands on all that is held, which is offered in one piece, and flushes the sink below. A fault where that fails.
     fn flush(&mut self) -> Result<(), SinkFault>
-        ensures bytes { Flushes (buffer_state S.written S.held S.failures self.old)
-            (buffer_state S.written S.held S.failures self.new) result }
+        ensures bytes { Flushes (buffer_state S.state self.old) (buffer_state S.state self.new) result }
         ensures hands { HandsOn (S.offered self.old.sink) (S.offered self.new.sink) self.old.held }
     {
         self.empty()?;

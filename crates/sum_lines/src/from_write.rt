@@ -1,5 +1,5 @@
 //! A sink over a writer of the standard library.
-ghost use Rattle.std.specs.Prelude.{◌≡◌};
+ghost use Rattle.std.specs.Prelude.{◌≡◌, []};
 ghost use Rattle.sum_lines.specs.Sinks.{after_failure};
 
 use crate::sink::{Sink, SinkFault};
@@ -18,8 +18,8 @@ pub struct FromWrite<W> {
 impl<W: Write> FromWrite<W> {
     /// A sink over the writer, which has handed on what the writer has taken so far.
     pub fn new(writer: W) -> Self
-        ensures written { ⟦<FromWrite<W> as Sink>⟧.written result ≡ W.contents writer }
-        ensures failures { ⟦<FromWrite<W> as Sink>⟧.failures result ≡ 0 }
+        ensures written { (⟦<FromWrite<W> as Sink>⟧.state result).written ≡ W.contents writer }
+        ensures failures { (⟦<FromWrite<W> as Sink>⟧.state result).failures ≡ 0 }
     {
         FromWrite {
             writer,
@@ -38,9 +38,7 @@ impl<W: Write> FromWrite<W> {
 }
 
 impl<W: Write> Sink for FromWrite<W> {
-    ghost written = { λ s. W.contents s.writer };
-
-    ghost failures = { λ s. s.failures };
+    ghost state = { λ s. record { written = W.contents s.writer; held = []; failures = s.failures } };
 
     /// Hands a piece that isn't empty to the writer, again after each interruption. A fault where the writer fails,
     /// takes nothing of it, or is interrupted a thousand times in a row.

@@ -21,7 +21,7 @@ impl<const N: usize> ToldSink<N> {
     pub fn new(stop: usize) -> Self
         ensures empty { bytes_of result ≡ [] }
         ensures room { room result ≡ min stop N }
-        ensures failures { ⟦<ToldSink<N> as Sink>⟧.failures result ≡ 0 }
+        ensures failures { (⟦<ToldSink<N> as Sink>⟧.state result).failures ≡ 0 }
     {
         ToldSink {
             bytes: [0; N],
@@ -44,9 +44,7 @@ impl<const N: usize> Sink for ToldSink<N> {
     ghost use Rattle.sum_lines.specs.Sinks.{WritesSome, Flushes};
     ghost use Rattle.sum_lines.specs.refinement.ToldSinks.{bytes_of, room, told_state};
 
-    ghost written = { λ s. Some (bytes_of s) };
-
-    ghost failures = { λ s. s.failures };
+    ghost state = { λ s. told_state s };
 
     /// Takes what there is room for. A fault exactly where there is none and the piece isn't empty; then there is none
     /// afterwards, either.

@@ -1,6 +1,6 @@
 //! Which pieces a buffer hands on: worked lines, long texts, short writes, flushes and faults.
 
-ghost use Rattle.std.specs.Prelude.{◌≡◌};
+ghost use Rattle.std.specs.Prelude.{◌≡◌, [], None};
 ghost use Rattle.sum_lines.specs.Sinks.{after_failure};
 
 use crate::calls::{flush, offer, put, told};
@@ -26,7 +26,7 @@ struct Recorder {
 
 impl Recorder {
     fn new(most: usize, fails_at: u64) -> Self
-        ensures { ⟦<Recorder as Sink>⟧.failures result ≡ 0 }
+        ensures { (⟦<Recorder as Sink>⟧.state result).failures ≡ 0 }
     {
         Recorder {
             most,
@@ -47,7 +47,7 @@ impl Recorder {
 }
 
 impl Sink for Recorder {
-    ghost failures = { λ s. s.failures };
+    ghost state = { λ s. record { written = None; held = []; failures = s.failures } };
 
     fn write(&mut self, piece: &[u8]) -> Result<usize, SinkFault> {
         self.writes = self.writes.saturating_add(1);

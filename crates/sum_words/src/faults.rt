@@ -54,7 +54,7 @@ pub enum WordFault<'a> {
 /// Writes the two lines of a fault. A fault of the sink where a write failed; of what was held and of the lines a
 /// proper prefix is then handed on, and nothing is held.
 pub fn put_fault<E: Sink>(err: &mut E, tool: Tool, fault: &WordFault<'_>) -> Result<(), SinkFault>
-    ensures { Writes E.written E.held E.failures err.old err.new (fault_lines tool (fault_of fault.now)) result }
+    ensures { Writes (E.state err.old) (E.state err.new) (fault_lines tool (fault_of fault.now)) result }
 {
     let name = tool.name();
     let (prefix, shown, suffix) = wording(fault);
@@ -87,7 +87,7 @@ fn put_lines<'a, E: Sink>(
     shown: Part<'a>,
     suffix: &'a str,
 ) -> Result<(), SinkFault>
-    ensures { Writes E.written E.held E.failures err.old err.new
+    ensures { Writes (E.state err.old) (E.state err.new)
         (lines_of name.now (prefix.now ++ part_text shown.entry ++ suffix.now)) result }
 {
     let name = Part::Bytes(name.as_bytes());
@@ -134,7 +134,7 @@ fn wording<'a>(fault: &WordFault<'a>) -> (&'static str, Shown<'a>, &'static str)
 /// Writes the line for an unknown or missing tool. A fault of the sink where a write failed; of what was held and of
 /// the line a proper prefix is then handed on, and nothing is held.
 pub fn put_unknown<E: Sink>(err: &mut E) -> Result<(), SinkFault>
-    ensures { Writes E.written E.held E.failures err.old err.new (codes "digests: unknown tool\n") result }
+    ensures { Writes (E.state err.old) (E.state err.new) (codes "digests: unknown tool\n") result }
 {
     put_all(err, b"digests: unknown tool\n")
 }
@@ -142,7 +142,7 @@ pub fn put_unknown<E: Sink>(err: &mut E) -> Result<(), SinkFault>
 /// Writes the line for a run of the tool that stopped. A fault of the sink where a write failed; of what was held and
 /// of the line a proper prefix is then handed on, and nothing is held.
 pub fn put_stop<E: Sink>(err: &mut E, tool: Tool, stop: Stop) -> Result<(), SinkFault>
-    ensures { Writes E.written E.held E.failures err.old err.new (stop_line tool stop) result }
+    ensures { Writes (E.state err.old) (E.state err.new) (stop_line tool stop) result }
 {
     let name = Part::Bytes(tool.name().as_bytes());
     let text = Part::Bytes(stop_wording(stop).as_bytes());

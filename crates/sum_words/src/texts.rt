@@ -11,7 +11,7 @@ use sum_lines::{Part, Sink, SinkFault, put_parts};
 /// Writes the help text. A fault of the sink where a write failed; of what was held and of the text a proper prefix is
 /// then handed on, and nothing is held.
 pub fn put_help<O: Sink>(out: &mut O, tool: Tool) -> Result<(), SinkFault>
-    ensures { Writes O.written O.held O.failures out.old out.new (help tool) result }
+    ensures { Writes (O.state out.old) (O.state out.new) (help tool) result }
 {
     let (prefix, tag, back) = purpose(tool);
     let usage = Part::Bytes(b"Usage: ");
@@ -45,7 +45,7 @@ fn purpose(tool: Tool) -> (&'static str, &'static str, &'static str)
 /// Writes the version text. A fault of the sink where a write failed; of what was held and of the text a proper prefix
 /// is then handed on, and nothing is held.
 pub fn put_version<O: Sink>(out: &mut O, tool: Tool) -> Result<(), SinkFault>
-    ensures { Writes O.written O.held O.failures out.old out.new (version tool) result }
+    ensures { Writes (O.state out.old) (O.state out.new) (version tool) result }
 {
     let name = Part::Bytes(tool.name().as_bytes());
     put_parts(out, &[name, Part::Bytes(b" (digests), profile 2\n")])

@@ -1,13 +1,11 @@
 use Rattle.std.proofs.Common.{length}
-use Rattle.sum_lines.specs.Sinks.{state}
 use Rattle.sum_lines.proofs.SinkLemmas.{Left}
 use Rattle.sum_lines.proofs.HandOnLemmas.{Offered}
 use Rattle.sum_lines.proofs.sink.put_all.Given as goal
 
 abbrev pub invariant-loop-rest : goal.invariant-loop-rest
 invariant-loop-rest g l = record {
-  left : Left (state g.S.Sink.written g.S.Sink.held g.S.Sink.failures l.fn.sink)
-      (state g.S.Sink.written g.S.Sink.held g.S.Sink.failures l.sink) l.bytes l.rest;
+  left : Left (g.S.Sink.state l.fn.sink) (g.S.Sink.state l.sink) l.bytes l.rest;
   offered : Offered (g.S.Sink.offered l.fn.sink) (g.S.Sink.offered l.sink) l.bytes l.rest;
 }
 
