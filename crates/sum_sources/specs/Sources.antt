@@ -15,6 +15,11 @@ pub record Telling : Type 0 where
   pub answer : List ℕ → Reply
   pub asked : List (List ℕ)
 
+-- a source at one moment: what it tells, where it does; and how often an opening was refused memory
+pub record SourceState : Type 0 where
+  pub told : Option Telling
+  pub refusals : ℕ
+
 -- a count of refusals after one more, which stays at its last value
 abbrev pub after_refusal : ℕ → ℕ
 after_refusal n = min (n + 1) (2 ^ 64 - 1)
