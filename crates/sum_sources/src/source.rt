@@ -26,6 +26,6 @@ pub trait Source {
     /// Opens the file of that name. `OpenFault::Fault` where it can't be opened. `OpenFault::Memory` comes only where
     /// memory was refused; then the name doesn't count as asked.
     fn open_file(&mut self, name: &[u8]) -> Result<Self::File, OpenFault>
-        ensures answer { OpenGives Self.File.content (state self.old).told (state self.new).told name.now result }
+        ensures answer { OpenGives Self.File.state (state self.old).told (state self.new).told name.now result }
         ensures refusals { (state self.new).refusals ≡ refusals_after (state self.old).refusals result };
 }
