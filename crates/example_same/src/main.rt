@@ -18,9 +18,11 @@ use sum_sources::{Ending, Fault, Files, Input, LineReader, LineStop, Next, Sourc
 pub fn same<L: Input, R: Input>(kind: Kind, left: &mut L, right: &mut R) -> Result<bool, Fault>
     ensures whole { IfOk result (λ _. IfSome (L.state left.old).content (λ l. (clip l).ending ≡ Ending.Whole)
         × IfSome (R.state right.old).content (λ r. (clip r).ending ≡ Ending.Whole)) }
-    ensures same { IfOk result (λ same. IfSome (L.state left.old).content (λ l. IfSome (R.state right.old).content (λ r.
+    ensures same { IfOk result (λ same.
+        IfSome (L.state left.old).content (λ l. IfSome (R.state right.old).content (λ r.
         IsTrue same ↔ (digest kind (clip l).bytes ≡ digest kind (clip r).bytes)))) }
-    ensures fault { IfErr result (λ fault. IfSome (L.state left.old).content (λ l. IfSome (R.state right.old).content (λ r.
+    ensures fault { IfErr result (λ fault.
+        IfSome (L.state left.old).content (λ l. IfSome (R.state right.old).content (λ r.
         Hashes kind (clip l) (Err fault)
         ⊎ (((clip l).ending ≡ Ending.Whole) × Hashes kind (clip r) (Err fault))))) }
 {
