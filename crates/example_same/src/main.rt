@@ -16,11 +16,13 @@ use sum_sources::{Ending, Fault, Files, Input, LineReader, LineStop, Next, Sourc
 /// Whether the two inputs have the same digest of this kind; or the fault that the left one ends by or, where that ends
 /// whole, the right one. An input of 2^61 bytes or more counts as one that ends by a fault.
 pub fn same<L: Input, R: Input>(kind: Kind, left: &mut L, right: &mut R) -> Result<bool, Fault>
-    ensures whole { IfOk result (λ _. IfSome (L.content left.old) (λ l. (clip l).ending ≡ Ending.Whole)
-        × IfSome (R.content right.old) (λ r. (clip r).ending ≡ Ending.Whole)) }
-    ensures same { IfOk result (λ same. IfSome (L.content left.old) (λ l. IfSome (R.content right.old) (λ r.
+    ensures whole { IfOk result (λ _. IfSome (L.state left.old).content (λ l. (clip l).ending ≡ Ending.Whole)
+        × IfSome (R.state right.old).content (λ r. (clip r).ending ≡ Ending.Whole)) }
+    ensures same { IfOk result (λ same.
+        IfSome (L.state left.old).content (λ l. IfSome (R.state right.old).content (λ r.
         IsTrue same ↔ (digest kind (clip l).bytes ≡ digest kind (clip r).bytes)))) }
-    ensures fault { IfErr result (λ fault. IfSome (L.content left.old) (λ l. IfSome (R.content right.old) (λ r.
+    ensures fault { IfErr result (λ fault.
+        IfSome (L.state left.old).content (λ l. IfSome (R.state right.old).content (λ r.
         Hashes kind (clip l) (Err fault)
         ⊎ (((clip l).ending ≡ Ending.Whole) × Hashes kind (clip r) (Err fault))))) }
 {
@@ -31,9 +33,9 @@ pub fn same<L: Input, R: Input>(kind: Kind, left: &mut L, right: &mut R) -> Resu
 
 /// How many lines the input has; or the fault that it ends by. Memory is wanted for one line at a time.
 pub fn count_lines<I: Input + Drop, A: Allocator>(input: I, alloc: A) -> Result<u64, LineStop>
-    ensures count { IfOk result (λ count. IfSome (I.content input) (λ c.
+    ensures count { IfOk result (λ count. IfSome (I.state input).content (λ c.
         ((clip c).ending ≡ Ending.Whole) × (count ≡ length (lines (clip c))))) }
-    ensures fault { (fault : Fault) → result ≡ Err (LineStop.Fault fault) → IfSome (I.content input) (λ c.
+    ensures fault { (fault : Fault) → result ≡ Err (LineStop.Fault fault) → IfSome (I.state input).content (λ c.
         (clip c).ending ≡ Ending.Broken fault) }
 {
     let mut reader = LineReader::new(input);

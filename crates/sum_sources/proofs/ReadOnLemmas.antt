@@ -9,7 +9,7 @@ use Rattle.sum_sources.specs.declared.fault.Fault.{Fault}
 use Rattle.sum_sources.specs.declared.fault.Ending.TheVariants.{Whole, Broken}
 use Rattle.sum_sources.specs.declared.lines.Next.TheVariants.{Line}
 use Rattle.sum_sources.specs.declared.lines.LineStop.TheVariants as stops
-use Rattle.sum_sources.specs.Contents.{Content, WhereTold}
+use Rattle.sum_sources.specs.Contents.{Content, InputState, WhereTold}
 use Rattle.sum_sources.specs.Standard.{empty_content}
 use Rattle.sum_sources.specs.LineReaders.{Reader, coming, with_prefix}
 use Rattle.sum_sources.specs.refinement.LineReading.{FillOf, TakesPiece, PieceOf}
@@ -18,8 +18,8 @@ use Rattle.sum_sources.proofs.ContentLemmas.{Gave}
 use Rattle.sum_sources.proofs.ToldLemmas.{WhereTold-remade, WhereTold-then}
 
 -- this much of a line came to a reader, and no newline with it: a record, so that antt finds what it speaks of
-pub record LineSoFar {I : Type 0} (content : I → Option Content) (old s : Reader I) (line : List ℕ) : Type 0 where
-  pub came : WhereTold (coming content old) (coming content s) (λ c d. Gave c d line)
+pub record LineSoFar {I : Type 0} (state : I → InputState) (old s : Reader I) (line : List ℕ) : Type 0 where
+  pub came : WhereTold (coming state old) (coming state s) (λ c d. Gave c d line)
   pub plain : NoNewline line
   pub going : s.answer ≡ None
 
@@ -32,36 +32,36 @@ Gave-prefix x y rest prefix line = WhereTold-remade x y (λ c. with_prefix prefi
     (λ c d h. (h.0 ∙ sym (append_assoc line prefix (rest d).bytes), h.1))
 
 -- the whole buffer joins the line, where it has no newline
-pub LineSoFar-piece : {I : Type 0} {content : I → Option Content} {old s s' : Reader I} {line line' : List ℕ}
-    → LineSoFar content old s line → s'.input ≡ s.input → s'.taken ≡ s.taken → s'.answer ≡ s.answer
-    → TakesPiece false s.ahead s'.ahead line line' → LineSoFar content old s' line'
-LineSoFar-piece {content = content} {old = old} {s = s} {line = line} h input taken answer piece = record {
+pub LineSoFar-piece : {I : Type 0} {state : I → InputState} {old s s' : Reader I} {line line' : List ℕ}
+    → LineSoFar state old s line → s'.input ≡ s.input → s'.taken ≡ s.taken → s'.answer ≡ s.answer
+    → TakesPiece false s.ahead s'.ahead line line' → LineSoFar state old s' line'
+LineSoFar-piece {state = state} {old = old} {s = s} {line = line} h input taken answer piece = record {
   came = rw (input, taken, answer, h.going, piece.1, piece.2)
-      (Gave-prefix (coming content old) (content s.input) _ s.ahead line (rw h.going at h.came));
+      (Gave-prefix (coming state old) (state s.input).content _ s.ahead line (rw h.going at h.came));
   plain = rw piece.2 (All-append (λ b. (b == 10) ≡ false) line s.ahead h.plain piece.0);
   going = answer ∙ h.going;
 }
 
 -- the input's end ends the line, where something came of it
-pub PieceOf-last : {I : Type 0} {content : I → Option Content} {old s : Reader I} {line : List ℕ}
-    (z : Option Content) (f : Content → Content) → LineSoFar content old s line
-    → WhereTold (coming content s) (option_map f z) (λ c d. FillOf c d (Ok false)) → 0 < length line
-    → WhereTold (coming content old) (option_map (λ _. empty_content) z) (λ c d. PieceOf c d (Ok Line) line)
-PieceOf-last {content = content} {old = old} {s = s} {line = line} z f h ended some =
+pub PieceOf-last : {I : Type 0} {state : I → InputState} {old s : Reader I} {line : List ℕ}
+    (z : Option Content) (f : Content → Content) → LineSoFar state old s line
+    → WhereTold (coming state s) (option_map f z) (λ c d. FillOf c d (Ok false)) → 0 < length line
+    → WhereTold (coming state old) (option_map (λ _. empty_content) z) (λ c d. PieceOf c d (Ok Line) line)
+PieceOf-last {state = state} {old = old} {s = s} {line = line} z f h ended some =
     let IsAll : Content → Content → Type 0 = λ c _. (c.bytes ≡ line) × (c.ending ≡ Whole) in
-    WhereTold-remade (coming content old) z f (λ _. empty_content) IsAll (λ c d. PieceOf c d (Ok Line) line)
+    WhereTold-remade (coming state old) z f (λ _. empty_content) IsAll (λ c d. PieceOf c d (Ok Line) line)
     (λ c d is. (h.plain, inr (is.0, is.1, some, refl)))
-    (WhereTold-then (coming content old) (coming content s) (option_map f z) {R = IsAll}
+    (WhereTold-then (coming state old) (coming state s) (option_map f z) {R = IsAll}
     (λ c d e came end. let all = rw end.1 at came in (all.0 ∙ append-nil line, sym all.1)) h.came ended)
 
 -- a fault of the input ends the line
-pub PieceOf-fault : {I : Type 0} {content : I → Option Content} {old s : Reader I} {line : List ℕ}
-    (s' : Reader I) (f : Fault) → LineSoFar content old s line
-    → WhereTold (coming content s) (coming content s') (λ c d. FillOf c d (Err f))
-    → WhereTold (coming content old) (coming content s') (λ c d. PieceOf c d (Err (stops.Fault f)) line)
-PieceOf-fault {content = content} {old = old} {s = s} {line = line} s' f h broke =
+pub PieceOf-fault : {I : Type 0} {state : I → InputState} {old s : Reader I} {line : List ℕ}
+    (s' : Reader I) (f : Fault) → LineSoFar state old s line
+    → WhereTold (coming state s) (coming state s') (λ c d. FillOf c d (Err f))
+    → WhereTold (coming state old) (coming state s') (λ c d. PieceOf c d (Err (stops.Fault f)) line)
+PieceOf-fault {state = state} {old = old} {s = s} {line = line} s' f h broke =
     let broken : Content = record { bytes = []; ending = Broken f } in
-    WhereTold-then (coming content old) (coming content s) (coming content s') {Q = λ c d. c ≡ broken}
+    WhereTold-then (coming state old) (coming state s) (coming state s') {Q = λ c d. c ≡ broken}
     {R = λ c d. PieceOf c d (Err (stops.Fault f)) line}
     (λ c d e came is. let all = rw is at came in (h.plain, all.0 ∙ append-nil line, sym all.1)) h.came broke
 

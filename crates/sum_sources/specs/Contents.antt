@@ -1,6 +1,6 @@
 -- What inputs hold: bytes and an ending, and what counts of them.
 use Rattle.std.specs.Prelude.{ℕ, ◌≡◌, ◌<◌, ◌-◌, ◌^◌, List, [], ◌++◌, take, length, Option, None, Some, Result, Ok, Err}
-use Rattle.std.specs.Prelude.{⊤, nat_lt, if◌then◌else◌}
+use Rattle.std.specs.Prelude.{Bool, ⊤, nat_lt, if◌then◌else◌}
 use Rattle.digest_kinds.specs.Digests.{digest}
 use Rattle.digest_kinds.specs.Kinds.{KindValue}
 use Rattle.sum_sources.specs.declared.fault.Fault.{Fault}
@@ -12,6 +12,11 @@ use Rattle.sum_sources.specs.declared.fault.Ending.TheVariants.{Whole, Broken}
 pub record Content : Type 0 where
   pub bytes : List ℕ
   pub ending : Ending
+
+-- an input at one moment: what is still to come, where it tells that; and whether a read has failed
+pub record InputState : Type 0 where
+  pub content : Option Content
+  pub failed : Bool
 
 -- an input of so many bytes or more is too long
 unfoldable pub limit : ℕ

@@ -10,7 +10,7 @@ use Rattle.sum_sources.specs.declared.lines.Next.{Next}
 use Rattle.sum_sources.specs.declared.lines.Next.TheVariants.{Line, NoMore}
 use Rattle.sum_sources.specs.declared.lines.LineStop.{LineStop}
 use Rattle.sum_sources.specs.declared.lines.LineStop.TheVariants as stops
-use Rattle.sum_sources.specs.Contents.{Content, limit}
+use Rattle.sum_sources.specs.Contents.{Content, InputState, limit}
 use Rattle.sum_sources.specs.Standard.{empty_content}
 
 -- a reader of lines
@@ -47,9 +47,9 @@ left_by (Some (Err (stops.Fault f))) c = record { bytes = []; ending = Broken f 
 left_by (Some (Err stops.Memory)) c = c
 
 -- what is still to come: the bytes read ahead and then the input's content, as far as the limit allows
-abbrev pub coming : {I : Type 0} → (I → Option Content) → Reader I → Option Content
-coming content r =
-    option_map (λ c. left_by r.answer (with_prefix r.ahead (clip_to (limit - r.taken) c))) (content r.input)
+abbrev pub coming : {I : Type 0} → (I → InputState) → Reader I → Option Content
+coming state r =
+    option_map (λ c. left_by r.answer (with_prefix r.ahead (clip_to (limit - r.taken) c))) (state r.input).content
 
 -- what every later call answers, once this was answered: after a line nothing is settled, or the end; after the end or
 -- a stop, the same

@@ -3,7 +3,7 @@ use Rattle.std.specs.Prelude.{ℕ, ◌≡◌, ◌+◌, ◌-◌, ◌^◌, min, Li
 use Rattle.sum_sources.specs.declared.fault.Fault.{Fault}
 use Rattle.sum_sources.specs.declared.source.OpenFault.{OpenFault}
 use Rattle.sum_sources.specs.declared.source.OpenFault.TheVariants as faults
-use Rattle.sum_sources.specs.Contents.{Content, WhereTold}
+use Rattle.sum_sources.specs.Contents.{Content, InputState, WhereTold}
 
 -- what a source has for a name
 pub data Reply : Type 0 where
@@ -14,6 +14,11 @@ pub data Reply : Type 0 where
 pub record Telling : Type 0 where
   pub answer : List ℕ → Reply
   pub asked : List (List ℕ)
+
+-- a source at one moment: what it tells, where it does; and how often an opening was refused memory
+pub record SourceState : Type 0 where
+  pub told : Option Telling
+  pub refusals : ℕ
 
 -- a count of refusals after one more, which stays at its last value
 abbrev pub after_refusal : ℕ → ℕ
@@ -30,13 +35,13 @@ asked_after asked name (Err faults.Memory) = asked
 asked_after asked name _ = asked ++ name ∷ []
 
 -- opening comes out as the reply says, where memory was there
-abbrev pub OpensAsReply : {F : Type 0} → (F → Option Content) → Reply → Result F OpenFault → Type 0
-OpensAsReply content reply (Ok file) = (c : Content) × (reply ≡ Given c) × (content file ≡ Some c)
-OpensAsReply content reply (Err (faults.Fault f)) = reply ≡ Refused f
-OpensAsReply content reply (Err faults.Memory) = ⊤
+abbrev pub OpensAsReply : {F : Type 0} → (F → InputState) → Reply → Result F OpenFault → Type 0
+OpensAsReply state reply (Ok file) = (c : Content) × (reply ≡ Given c) × ((state file).content ≡ Some c)
+OpensAsReply state reply (Err (faults.Fault f)) = reply ≡ Refused f
+OpensAsReply state reply (Err faults.Memory) = ⊤
 
 -- what opening a name does, where a source tells: its replies stay the same
 abbrev pub OpenGives :
-    {F : Type 0} → (F → Option Content) → Option Telling → Option Telling → List ℕ → Result F OpenFault → Type 0
-OpenGives content old new name r = WhereTold old new (λ s t. (t.answer ≡ s.answer)
-    × (t.asked ≡ asked_after s.asked name r) × OpensAsReply content (s.answer name) r)
+    {F : Type 0} → (F → InputState) → Option Telling → Option Telling → List ℕ → Result F OpenFault → Type 0
+OpenGives state old new name r = WhereTold old new (λ s t. (t.answer ≡ s.answer)
+    × (t.asked ≡ asked_after s.asked name r) × OpensAsReply state (s.answer name) r)

@@ -1,5 +1,5 @@
 //! An input that may be closed from the start.
-ghost use Rattle.sum_sources.specs.Standard.{unless_closed, failed_or_closed};
+ghost use Rattle.sum_sources.specs.Standard.{unless_closed};
 
 use crate::{Fault, Input};
 
@@ -13,9 +13,7 @@ pub enum Closable<I> {
 }
 
 impl<I: Input> Input for Closable<I> {
-    ghost content = { λ s. unless_closed I.content s };
-
-    ghost failed = { λ s. failed_or_closed I.failed s };
+    ghost state = { λ s. unless_closed I.state s };
 
     fn read(&mut self, buf: &mut [u8]) -> Result<usize, Fault> {
         match self {

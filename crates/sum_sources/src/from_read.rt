@@ -54,7 +54,9 @@ impl<R: Read> FromRead<R> {
 }
 
 impl<R: Read> Input for FromRead<R> {
-    ghost failed = { λ s. s.failed };
+    ghost use Rattle.std.specs.Prelude.{None};
+
+    ghost state = { λ s. record { content = None; failed = s.failed } };
 
     fn read(&mut self, buf: &mut [u8]) -> Result<usize, Fault>
         ensures count { IfOk result (λ n. n ≤ length buf.new) }

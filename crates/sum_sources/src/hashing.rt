@@ -11,9 +11,9 @@ use digest_kinds::{Digest, Hasher};
 /// bytes or more is `Fault::Other`. The hasher has to be a new one.
 pub fn hash_input<I: Input, H: Hasher + Drop>(input: &mut I, hasher: H) -> Result<Digest, Fault>
     requires { H.holds hasher [] }
-    ensures gives { IfSome (I.content input.old) (λ c. Hashes (H.kind_of hasher) (clip c) result) }
+    ensures gives { IfSome (I.state input.old).content (λ c. Hashes (H.kind_of hasher) (clip c) result) }
     ensures len { IfOk result (λ d. length d ≡ (H.kind_of hasher).len) }
-    ensures failed { IfOk result (λ _. I.failed input.new ≡ I.failed input.old) }
+    ensures failed { IfOk result (λ _. (I.state input.new).failed ≡ (I.state input.old).failed) }
 {
     let mut buffer: [u8; PIECE] = [0; PIECE];
     hash_input_over(input, hasher, &mut buffer)
@@ -27,9 +27,9 @@ pub fn hash_input_over<I: Input, H: Hasher + Drop>(
     buffer: &mut [u8; PIECE],
 ) -> Result<Digest, Fault>
     requires { H.holds hasher [] }
-    ensures gives { IfSome (I.content input.old) (λ c. Hashes (H.kind_of hasher) (clip c) result) }
+    ensures gives { IfSome (I.state input.old).content (λ c. Hashes (H.kind_of hasher) (clip c) result) }
     ensures len { IfOk result (λ d. length d ≡ (H.kind_of hasher).len) }
-    ensures failed { IfOk result (λ _. I.failed input.new ≡ I.failed input.old) }
+    ensures failed { IfOk result (λ _. (I.state input.new).failed ≡ (I.state input.old).failed) }
 {
     let mut taken = 0;
     loop {

@@ -22,10 +22,10 @@ pub(crate) fn read_limited<I: Input>(
     ensures taken { IfOk result (λ n. taken.new ≡ taken.old + n) }
     ensures more { taken.old ≤ taken.new }
     ensures few { IfOk result (λ _. taken.new < LIMIT) }
-    ensures bytes { WhereTold (I.content input.old) (I.content input.new) (λ c d.
+    ensures bytes { WhereTold (I.state input.old).content (I.state input.new).content (λ c d.
         ReadsFrom (clip_to (limit - taken.old) c) (clip_to (limit - taken.new) d) result buffer.new) }
-    ensures failed { IfOk result (λ _. I.failed input.new ≡ I.failed input.old) }
-    ensures input { WhereTold (I.content input.old) (I.content input.new)
+    ensures failed { IfOk result (λ _. (I.state input.new).failed ≡ (I.state input.old).failed) }
+    ensures input { WhereTold (I.state input.old).content (I.state input.new).content
         (λ c d. taken.new + length d.bytes ≡ taken.old + length c.bytes) }
 {
     if *taken == LIMIT {

@@ -84,7 +84,7 @@ impl<I: Input> LineReader<I> {
     /// `LIMIT - 1` bytes and then `Fault::Other`.
     pub fn new(input: I) -> Self
         ensures is { result ≡ record { input = input; ahead = []; taken = 0; lines = 0; answer = None } }
-        ensures coming { coming I.content result ≡ option_map clip (I.content input) }
+        ensures coming { coming I.state result ≡ option_map clip (I.state input).content }
     {
         LineReader {
             input,
@@ -124,17 +124,17 @@ impl<I: Input> LineReader<I> {
     fn fill(&mut self) -> Result<bool, Fault>
         requires empty { self.old.ahead ≡ [] }
         requires going { self.old.answer ≡ None }
-        ensures gives { WhereTold (coming I.content self.old) (coming I.content self.new)
+        ensures gives { WhereTold (coming I.state self.old) (coming I.state self.new)
             (λ c d. FillOf c d result) }
         ensures more { result ≡ Ok true → self.old.taken < self.new.taken }
         ensures none { result ≡ Ok false → self.new.ahead ≡ [] }
         ensures few { IfOk result (λ _. self.new.taken < LIMIT) }
         ensures used { IfOk result (λ _. used self.new ≡ used self.old) }
-        ensures input { WhereTold (I.content self.old.input) (I.content self.new.input)
+        ensures input { WhereTold (I.state self.old.input).content (I.state self.new.input).content
             (λ c d. self.new.taken + length d.bytes ≡ self.old.taken + length c.bytes) }
         ensures lines { self.new.lines ≡ self.old.lines }
         ensures answer { IfOk result (λ _. self.new.answer ≡ None) }
-        ensures failed { IfOk result (λ _. I.failed self.new.input ≡ I.failed self.old.input) }
+        ensures failed { IfOk result (λ _. (I.state self.new.input).failed ≡ (I.state self.old.input).failed) }
     {
         self.start = 0;
         self.end = 0;
@@ -178,17 +178,17 @@ impl<I: Input> LineReader<I> {
     fn read_on<A: Allocator>(&mut self, line: &mut Vec<u8, A>) -> Result<Next, LineStop>
         requires empty { line.old.items ≡ [] }
         requires going { self.old.answer ≡ None }
-        ensures piece { WhereTold (coming I.content self.old) (coming I.content self.new)
+        ensures piece { WhereTold (coming I.state self.old) (coming I.state self.new)
             (λ c d. PieceOf c d result line.new.items) }
         ensures memory { result ≡ Err LineStop.Memory → 0 < length self.new.ahead }
-        ensures used { OnOk result (WhereTold (coming I.content self.old) (coming I.content self.new)
+        ensures used { OnOk result (WhereTold (coming I.state self.old) (coming I.state self.new)
             (λ c d. used self.new + length d.bytes ≡ used self.old + length c.bytes)) }
-        ensures input { WhereTold (I.content self.old.input) (I.content self.new.input)
+        ensures input { WhereTold (I.state self.old.input).content (I.state self.new.input).content
             (λ c d. self.new.taken + length d.bytes ≡ self.old.taken + length c.bytes) }
         ensures some { result ≡ Ok Next.Line → used self.old < used self.new }
         ensures lines { self.new.lines ≡ self.old.lines }
         ensures answer { OnOk result (Settles result self.new.answer) }
-        ensures failed { OnOk result (I.failed self.new.input ≡ I.failed self.old.input) }
+        ensures failed { OnOk result ((I.state self.new.input).failed ≡ (I.state self.old.input).failed) }
         ensures ahead { ¬ NoNewline self.old.ahead → self.new.input ≡ self.old.input }
     {
         loop {
@@ -216,16 +216,16 @@ impl<I: Input> LineReader<I> {
     /// memory for the line was refused. Each of these is answered again by every later call. What `line` holds after
     /// them isn't said; what it held before doesn't matter.
     pub fn next_line<A: Allocator>(&mut self, line: &mut Vec<u8, A>) -> Result<Next, LineStop>
-        ensures gives { WhereTold (coming I.content self.old) (coming I.content self.new)
+        ensures gives { WhereTold (coming I.state self.old) (coming I.state self.new)
             (λ c d. LineOf c d result line.new.items) }
         ensures again { IfSome self.old.answer (λ answer. (result ≡ answer) × (self.new ≡ self.old)) }
         ensures answer { Settles result self.new.answer }
         ensures lines { self.new.lines ≡ lines_after self.old.lines result }
-        ensures taken { WhereTold (I.content self.old.input) (I.content self.new.input)
+        ensures taken { WhereTold (I.state self.old.input).content (I.state self.new.input).content
             (λ c d. self.new.taken + length d.bytes ≡ self.old.taken + length c.bytes) }
-        ensures used { OnOk result (WhereTold (coming I.content self.old) (coming I.content self.new)
+        ensures used { OnOk result (WhereTold (coming I.state self.old) (coming I.state self.new)
             (λ c d. used self.new + length d.bytes ≡ used self.old + length c.bytes)) }
-        ensures failed { OnOk result (I.failed self.new.input ≡ I.failed self.old.input) }
+        ensures failed { OnOk result ((I.state self.new.input).failed ≡ (I.state self.old.input).failed) }
         ensures ahead { ¬ NoNewline self.old.ahead → self.new.input ≡ self.old.input }
         ensures bounds { Bounded self.new }
     {

@@ -54,12 +54,7 @@ impl<I: Input> Stdin<I> {
 impl<I: Input> Input for Given<I> {
     ghost use Rattle.sum_sources.specs.Standard.{left_in};
 
-    ghost content = { λ s. left_in I.content s };
-
-    ghost use Rattle.std.specs.Prelude.{false};
-    ghost use Rattle.std.specs.Option.{option_map_or};
-
-    ghost failed = { λ s. option_map_or I.failed s false };
+    ghost state = { λ s. left_in I.state s };
 
     fn read(&mut self, buf: &mut [u8]) -> Result<usize, Fault> {
         match &mut self.input {

@@ -45,9 +45,9 @@ impl<'a> Told<'a> {
 }
 
 impl<'a> Input for Told<'a> {
-    ghost use Rattle.std.specs.Prelude.{Some};
+    ghost use Rattle.std.specs.Prelude.{Some, true};
 
-    ghost content = { λ s. Some s.content };
+    ghost state = { λ s. record { content = Some s.content; failed = true } };
 
     fn read(&mut self, buf: &mut [u8]) -> Result<usize, Fault>
         ensures count { IfOk result (λ n. n ≤ length buf.new) }

@@ -125,12 +125,10 @@ impl<'a, A: Allocator + Copy> Source for ToldSource<'a, A> {
     ghost use Rattle.std.specs.Prelude.{Some};
     ghost use Rattle.sum_sources.specs.InMemory.{telling_of};
 
-    ghost told = { λ s. Some (telling_of s) };
-
-    ghost refusals = { λ s. s.refusals };
+    ghost state = { λ s. record { told = Some (telling_of s); refusals = s.refusals } };
 
     fn open_file(&mut self, name: &[u8]) -> Result<Told<'a>, OpenFault>
-        ensures answer { OpenGives ⟦<Told<'a> as Input>⟧.content
+        ensures answer { OpenGives ⟦<Told<'a> as Input>⟧.state
             (Some (telling_of self.old)) (Some (telling_of self.new)) name.now result }
         ensures refusals { self.new.refusals ≡ refusals_after self.old.refusals result }
         ensures piece { IfOk result (λ file. file.piece ≡ max self.old.piece 1) }

@@ -7,8 +7,8 @@ use Rattle.example_same.proofs.count_lines.Given as goal
 
 -- the lines so far and those to come are all lines, and the end stays the same
 abbrev pub invariant-loop-line : goal.invariant-loop-line
-invariant-loop-line g l = WhereTold (option_map clip (g.I.Input.content l.fn.input))
-    (coming g.I.Input.content l.reader)
+invariant-loop-line g l = WhereTold (option_map clip (g.I.Input.state l.fn.input).content)
+    (coming g.I.Input.state l.reader)
     (λ c d. (length (lines c) ≡ l.reader.lines + length (lines d)) × (d.ending ≡ c.ending))
 
 -- the lines that may still come

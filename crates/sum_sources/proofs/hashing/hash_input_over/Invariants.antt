@@ -8,10 +8,10 @@ use Rattle.sum_sources.proofs.hashing.hash_input_over.Given as goal
 abbrev pub invariant-loop-hasher : goal.invariant-loop-hasher
 invariant-loop-hasher g l = record {
   held : (m : List ℕ) × g.H.Hasher.holds l.hasher m
-      × WhereTold (g.I.Input.content l.fn.input) (g.I.Input.content l.input)
+      × WhereTold (g.I.Input.state l.fn.input).content (g.I.Input.state l.input).content
       (λ c d. Gave (clip c) (clip_to (limit - l.taken) d) m);
   taken : g.H.Hasher.taken_of l.hasher ≡ l.taken;
-  failed : g.I.Input.failed l.input ≡ g.I.Input.failed l.fn.input;
+  failed : (g.I.Input.state l.input).failed ≡ (g.I.Input.state l.fn.input).failed;
   few : l.taken < 2 ^ 61;
   kind : g.H.Hasher.kind_of l.hasher ≡ g.H.Hasher.kind_of l.fn.hasher;
 }

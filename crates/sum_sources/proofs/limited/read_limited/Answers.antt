@@ -7,7 +7,7 @@ use Rattle.sum_sources.proofs.limited.read_limited.Goals as goal
 -- that it is too long was seen before
 pub returns-then-taken-eq-LIMIT-clause-bytes : goal.returns-then-taken-eq-LIMIT-clause-bytes
 returns-then-taken-eq-LIMIT-clause-bytes g c =
-    clipped-none (g.I.Input.content c.args.input.now) _ c.if-taken-eq-LIMIT.true
+    clipped-none (g.I.Input.state c.args.input.now).content _ c.if-taken-eq-LIMIT.true
 
 -- the read met a fault
 pub returns-in_err-n-clause-bytes : goal.returns-in_err-n-clause-bytes

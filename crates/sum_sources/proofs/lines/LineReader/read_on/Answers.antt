@@ -7,7 +7,7 @@ use Rattle.sum_sources.proofs.lines.LineReader.read_on.Goals.{In-Ok-false}
 
 -- the whole buffer went to the line
 moved : (g : given.Over) (c : In-Ok-false g)
-    → LineSoFar g.I.Input.content c.args.self.now c.take_piece.new.self c.take_piece.new.line.items
+    → LineSoFar g.I.Input.state c.args.self.now c.take_piece.new.self c.take_piece.new.line.items
 moved g c =
     let piece = rw c.in-Ok-false.field-0-test at c.in-Ok-false.ensures.piece in
     LineSoFar-piece c.loop-self.invariant.so_far c.in-Ok-false.ensures.input c.in-Ok-false.ensures.taken

@@ -7,13 +7,13 @@ use Rattle.sum_sources.proofs.lines.LineReader.read_on.Given as goal
 -- what came of the line so far, and the sums that stay
 abbrev pub invariant-loop-self : goal.invariant-loop-self
 invariant-loop-self g l = record {
-  so_far : LineSoFar g.I.Input.content l.fn.self l.self l.line.items;
-  input : WhereTold (g.I.Input.content l.fn.self.input) (g.I.Input.content l.self.input)
+  so_far : LineSoFar g.I.Input.state l.fn.self l.self l.line.items;
+  input : WhereTold (g.I.Input.state l.fn.self.input).content (g.I.Input.state l.self.input).content
       (λ c d. l.self.taken + length d.bytes ≡ l.fn.self.taken + length c.bytes);
   used : used l.self ≡ used l.fn.self + length l.line.items;
   lines : l.self.lines ≡ l.fn.self.lines;
   unread : Unread l.fn.self l.self;
-  failed : g.I.Input.failed l.self.input ≡ g.I.Input.failed l.fn.self.input;
+  failed : (g.I.Input.state l.self.input).failed ≡ (g.I.Input.state l.fn.self.input).failed;
 }
 
 -- the bytes that may still come
