@@ -9,8 +9,7 @@ pub const PIECE: usize = 8192;
 
 /// An input: bytes to come, and then an end or a fault.
 pub trait Input {
-    /// What is still to come, where the input tells it; and whether a read has failed, true where the input doesn't
-    /// keep that.
+    /// What is still to come, where the input tells it; and whether a read has failed, true where it doesn't keep that.
     ghost state: { Self → InputState } = { λ _. record { content = None; failed = true } };
 
     /// Reads some of the bytes to come into the front of `buf` and answers how many, at most as many

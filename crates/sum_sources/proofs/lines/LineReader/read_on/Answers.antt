@@ -1,6 +1,5 @@
 use Rattle.std.proofs.Common.{rules}
 use Rattle.sum_sources.proofs.ReadOnLemmas.{LineSoFar, LineSoFar-piece, PieceOf-last, PieceOf-fault}
-use Rattle.sum_sources.proofs.ReadOnLemmas.{Unread-first, Unread-none, none_ahead, input_unread}
 use Rattle.sum_sources.proofs.lines.LineReader.read_on.Given as given
 use Rattle.sum_sources.proofs.lines.LineReader.read_on.Goals as goal
 use Rattle.sum_sources.proofs.lines.LineReader.read_on.Goals.{In-Ok-false}
