@@ -1,7 +1,7 @@
 //! The whole program, from the list of its arguments to its exit status.
 ghost use Rattle.std.specs.Prelude.{◌≡◌, [], IsOk, codes};
 ghost use Rattle.sum_engine.specs.RunStates.{run_state, HoldNothing};
-ghost use Rattle.sum_engine.specs.refinement.Telling.{Tells, Fails};
+ghost use Rattle.sum_engine.specs.refinement.Telling.{Tells};
 ghost use Rattle.digests.specs.Program.{ProgramGives, failures_of};
 ghost use Rattle.digests.specs.refinement.Endings.{Closes, line_of};
 
@@ -55,8 +55,7 @@ pub fn command<A: Allocator + Copy, G: Arguments, I: Input + Drop, S: Source, O:
 
 // Writes the line for an unknown tool, and hands it on.
 fn tell_unknown<E: Sink>(err: &mut E) -> Result<(), SinkFault>
-    ensures text { Tells E.written E.held err.old err.new (codes "digests: unknown tool\n") result }
-    ensures failures { Fails (E.failures err.old) (E.failures err.new) result }
+    ensures { Tells (E.state err.old) (E.state err.new) (codes "digests: unknown tool\n") result }
 {
     put_unknown(err)?;
     err.flush()
@@ -64,8 +63,7 @@ fn tell_unknown<E: Sink>(err: &mut E) -> Result<(), SinkFault>
 
 // Writes the line for words that couldn't be read, and hands it on.
 fn tell_not_read<E: Sink>(err: &mut E) -> Result<(), SinkFault>
-    ensures text { Tells E.written E.held err.old err.new (codes "digests: words not read\n") result }
-    ensures failures { Fails (E.failures err.old) (E.failures err.new) result }
+    ensures { Tells (E.state err.old) (E.state err.new) (codes "digests: words not read\n") result }
 {
     put_all(err, b"digests: words not read\n")?;
     err.flush()

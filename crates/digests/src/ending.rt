@@ -2,7 +2,7 @@
 ghost use Rattle.std.specs.Prelude.{◌≡◌, ◌∷◌, [], Some};
 ghost use Rattle.std.specs.Io.KnownBytes.{Keeps};
 ghost use Rattle.sum_words.specs.Texts.{stop_line};
-ghost use Rattle.sum_engine.specs.refinement.Telling.{Tells, Fails};
+ghost use Rattle.sum_engine.specs.refinement.Telling.{Tells};
 ghost use Rattle.digests.specs.refinement.Endings.{Settles, line_of};
 
 use sum_engine::Stop;
@@ -30,8 +30,7 @@ pub(crate) fn settle<O: Sink, E: Sink>(
 
 /// Writes the line for a stop and hands it on, where there is a tool to tell of it.
 pub(crate) fn tell<E: Sink>(tool: Option<Tool>, stop: Stop, err: &mut E) -> Result<(), SinkFault>
-    ensures text { Tells E.written E.held err.old err.new (line_of tool stop) result }
-    ensures failures { Fails (E.failures err.old) (E.failures err.new) result }
+    ensures { Tells (E.state err.old) (E.state err.new) (line_of tool stop) result }
 {
     let Some(tool) = tool else {
         return Ok(());

@@ -1,7 +1,7 @@
 //! What a whole command line does.
 ghost use Rattle.std.specs.Prelude.{◌≡◌, ◌∷◌, List, ℕ, []};
 ghost use Rattle.sum_engine.specs.RunStates.{run_state, RunGives, HoldNothing, Failures};
-ghost use Rattle.sum_engine.specs.refinement.Telling.{Tells, Fails};
+ghost use Rattle.sum_engine.specs.refinement.Telling.{Tells};
 ghost use Rattle.sum_words.specs.Faults.{Fault};
 ghost use Rattle.sum_words.specs.Texts.{fault_lines, help, version};
 ghost use Rattle.sum_words.specs.Tools.{name_of};
@@ -79,8 +79,7 @@ pub(crate) fn status_once(told: Result<(), SinkFault>, status: u8) -> Result<u8,
 
 // Writes the lines of a fault, and hands them on.
 fn tell_fault<E: Sink>(err: &mut E, tool: Tool, fault: &WordFault) -> Result<(), SinkFault>
-    ensures text { Tells E.written E.held err.old err.new (fault_lines tool (fault_of fault.now)) result }
-    ensures failures { Fails (E.failures err.old) (E.failures err.new) result }
+    ensures { Tells (E.state err.old) (E.state err.new) (fault_lines tool (fault_of fault.now)) result }
 {
     put_fault(err, tool, fault)?;
     err.flush()
@@ -88,8 +87,7 @@ fn tell_fault<E: Sink>(err: &mut E, tool: Tool, fault: &WordFault) -> Result<(),
 
 // Writes the help, and hands it on.
 fn tell_help<O: Sink>(out: &mut O, tool: Tool) -> Result<(), SinkFault>
-    ensures text { Tells O.written O.held out.old out.new (help tool) result }
-    ensures failures { Fails (O.failures out.old) (O.failures out.new) result }
+    ensures { Tells (O.state out.old) (O.state out.new) (help tool) result }
 {
     put_help(out, tool)?;
     out.flush()
@@ -97,8 +95,7 @@ fn tell_help<O: Sink>(out: &mut O, tool: Tool) -> Result<(), SinkFault>
 
 // Writes the version, and hands it on.
 fn tell_version<O: Sink>(out: &mut O, tool: Tool) -> Result<(), SinkFault>
-    ensures text { Tells O.written O.held out.old out.new (version tool) result }
-    ensures failures { Fails (O.failures out.old) (O.failures out.new) result }
+    ensures { Tells (O.state out.old) (O.state out.new) (version tool) result }
 {
     put_version(out, tool)?;
     out.flush()

@@ -1,14 +1,15 @@
 -- The next verdict of a manifest, by what reading and judging its line did.
-use Rattle.std.proofs.Common.{◌≡◌, ℕ, ◌+◌, ◌≤◌, ◌||◌, List, [], length, map, slice_range, Option, Some, Ok, Err, refl, ◌∙◌, append-nil}
+use Rattle.std.proofs.Common.{◌≡◌, ℕ, ◌+◌, ◌≤◌, ◌||◌, List, [], ◌∷◌, length, map, slice_range, Option, Some, Ok, Err, refl, ap, sym, ◌∙◌, inl, append-nil}
 use Rattle.std.specs.List.{list_any}
 use Rattle.std.proofs.KnownBytes.{Appends-nil}
 use Rattle.sum_sources.specs.declared.lines.Next.TheVariants.{Line}
 use Rattle.sum_sources.specs.declared.lines.LineStop.TheVariants.{Memory}
-use Rattle.sum_sources.specs.Contents.{Content, WhereTold}
+use Rattle.sum_sources.specs.Contents.{InputState, WhereTold}
+use Rattle.sum_sources.specs.Sources.{SourceState}
+use Rattle.sum_sources.specs.declared.lines.LineReader.{LineReader}
 use Rattle.sum_sources.specs.ManifestLines as manifest
 use Rattle.sum_sources.proofs.LineLemmas.{line-some}
-use Rattle.sum_sources.proofs.ToldLemmas.{WhereTold-both, WhereTold-map}
-use Rattle.sum_lines.specs.Entries.{form_then, line_form}
+use Rattle.sum_sources.proofs.ToldLemmas.{WhereTold-map}
 use Rattle.sum_lines.specs.ParsedLines.{ParsedLine}
 use Rattle.sum_engine.specs.declared.summary.Counts.{Counts}
 use Rattle.sum_engine.specs.declared.verdict.LineVerdict.{LineVerdict}
@@ -17,85 +18,79 @@ use Rattle.sum_engine.specs.Worlds.{World, is_dash}
 use Rattle.sum_engine.specs.Runs.{Opens}
 use Rattle.sum_engine.specs.Verdicts.{Rules, judge, asks_of}
 use Rattle.sum_engine.specs.Reports.{counts_with}
-use Rattle.sum_engine.specs.RunStates.{RunState, Did}
+use Rattle.sum_engine.specs.Moments.{Moment, WhereKnown, run_state, world_of}
+use Rattle.sum_engine.specs.RunStates.{Did, Refused}
+use Rattle.sum_engine.specs.Checkers.{Place, now_of}
 use Rattle.sum_engine.specs.Steps.{Now, Moves, next_judged}
 use Rattle.sum_engine.specs.LineVerdicts.{judged_in, FindGives}
 use Rattle.sum_engine.specs.refinement.Judging.{IsJudged, name_said}
 use Rattle.sum_engine.specs.refinement.Handling.{events_by}
-use Rattle.sum_engine.specs.refinement.Finding.{LineGives}
-use Rattle.sum_engine.proofs.RunStateLemmas.{Seen, seen, seen-told, seen_at, names-by, did_by}
+use Rattle.sum_engine.specs.refinement.Finding.{TakesLine, LineGives, parsed_at}
+use Rattle.sum_engine.proofs.RunStateLemmas.{where_known, names-by, did_by}
 use Rattle.sum_engine.proofs.RestLemmas.{rest_on}
-use Rattle.sum_engine.proofs.StepLemmas.{Standing, stands, stands_at, stands-told, now, parsed_line_at}
+use Rattle.sum_engine.proofs.StepLemmas.{now_at, now-told, ReadsLine, read_line, lines_now}
 
 -- a line was judged, and its name stands in the vector
-pub line_found : (r : Rules) (said : ParsedLine) (n k : ℕ) (c d : Counts) (vector : List ℕ) (w v : Option World)
-    (verdict : Verdict) (start stop : ℕ)
-    → WhereTold w v (λ w v. IsJudged r w v said verdict) → d ≡ counts_with c verdict
-    → slice_range vector start stop ≡ name_said said → k ≡ n
-    → LineGives r said n c d vector w v
+pub line_found : {I : Type 0} (p : Place I) (line : List ℕ) (said : ParsedLine) (k : ℕ) (d : Counts) (vector : List ℕ)
+    (w v : Option World) (verdict : Verdict) (start stop : ℕ) → parsed_at p line ≡ said
+    → WhereTold w v (λ w v. IsJudged p.rules w v said verdict) → d ≡ counts_with p.counts verdict
+    → slice_range vector start stop ≡ name_said said → k ≡ p.reader.lines
+    → LineGives p line d vector w v
     (Some (record { number = k; verdict = verdict; start = start; stop = stop }))
-line_found r said n k c d vector w v verdict start stop h count place number = WhereTold-map w v (λ w v judged. (
-  rw (place, number) (judged.0 n),
+line_found p line said k d vector w v verdict start stop is h count place number = WhereTold-map w v (λ w v judged. (
+  ap (judge p.rules w p.reader.lines) is ∙ rw (place, number) (judged.0 p.reader.lines),
   rw place judged.1,
   count,
 )) h
 
--- the same at run states
-abbrev pub Found : Rules → ParsedLine → ℕ → Counts → Counts → List ℕ → LineVerdict → RunState → RunState → Type 0
-Found r said n c d vector v a b = (judge r a.world n said ≡ judged_in vector v)
-    × Did a b (events_by (asks_of (judged_in vector v)) [] []) × (d ≡ counts_with c v.verdict)
-
-pub found_by : (r : Rules) (said : ParsedLine) (n : ℕ) (c d : Counts) (vector : List ℕ) (v : LineVerdict) (a b : Seen)
-    → LineGives r said n c d vector a.world b.world (Some v)
+-- it is the first of those that were to come; q is the place then
+pub find_line : {I S : Type 0} (input : I → InputState) (state : S → SourceState) (p q : Place I)
+    (reader : LineReader I) (a b : Moment S) (line vector : List ℕ) (v : LineVerdict)
+    → ReadsLine input p reader line → TakesLine (record p { reader = reader }) q line → length vector ≤ length line
+    → LineGives (record p { reader = reader }) line q.counts vector (world_of state a) (world_of state b) (Some v)
     → b.taken ≡ a.taken || list_any is_dash (asks_of (judged_in vector v)) → b.err ≡ a.err → b.out ≡ a.out
-    → WhereTold (seen a) (seen b) (Found r said n c d vector v)
-found_by r said n c d vector v a b h taken err out = seen-told a b _ h (λ w w' judged. (
-  judged.0,
-  did_by {a = seen_at a w} {b = seen_at b w'} (asks_of (judged_in vector v)) [] [] judged.1 taken
-      (rw err (Appends-nil a.err)) (rw out (Appends-nil a.out)),
-  judged.2,
-))
-
--- it is the first of those that were to come
-pub find_line : (r : Rules) (a b : Standing) (line vector : List ℕ) (v : LineVerdict)
-    → WhereTold a.rest b.rest (λ c d. manifest.LineOf c d (Ok Line) line)
-    → WhereTold a.rest b.rest (λ c d. b.used + length d.bytes ≡ a.used + length c.bytes)
-    → b.number ≡ a.number + 1 → b.form ≡ form_then a.form (line_form r.settings.algo line)
-    → length vector ≤ length line
-    → WhereTold a.run_state b.run_state (Found (now r) (parsed_line_at r a line) b.number a.counts b.counts vector v)
-    → FindGives (now r) vector (stands a) (stands b) (Ok (Some v))
-find_line r a b line vector v came used number form few h =
-    let Took : Content → Content → Type 0 =
-    λ c d. manifest.LineOf c d (Ok Line) line × (b.used + length d.bytes ≡ a.used + length c.bytes) in
-    let took = WhereTold-both a.rest b.rest {R = Took} (λ c d came used. (came, used)) came used in
-    stands-told a b {P = Took} _ took h (λ c d s t took found.
-    let found' = rw number at found in
-    let first : Now = stands_at a c s in
-    let next : Now = stands_at b d t in
-    let is : next_judged (now r) first line ≡ judged_in vector v = found'.0 in
+    → (state b.source).refusals ≡ (state a.source).refusals
+    → FindGives p.rules vector (now_of input p (run_state state a)) (now_of input q (run_state state b)) (Ok (Some v))
+find_line {I} input state p q reader a b line vector v reads takes few h taken err out refusals =
+    let then : Place I = record q { reader = reader } in
     let names = asks_of (judged_in vector v) in
-    let moves : Moves (now r) first next vector = record {
+    let found = where_known state a b (λ s t. (judge p.rules s.world reader.lines (parsed_at (record p { reader = reader }) line) ≡ judged_in vector v) × Did s t (events_by names [] [])
+    × (q.counts ≡ counts_with p.counts v.verdict)) h (λ w w' judged. (
+      judged.0,
+      did_by names [] [] (record { world = judged.1; taken = taken; refusals = refusals })
+          (rw err (Appends-nil a.err.written)) (rw out (Appends-nil a.out.written)),
+      judged.2,
+    )) in
+    rw takes.reader (now-told input p then (run_state state a) (run_state state b) _ (read_line input p reader line reads)
+    found (λ c d s t took found.
+    let found' = rw reads.number at found in
+    let first : Now = now_at p c s in
+    let next : Now = now_at then d t in
+    let is : next_judged p.rules first line ≡ judged_in vector v = found'.0 in
+    let moves : Moves p.rules first next vector = record {
       line = line;
-      lines = took.0.0;
+      lines = lines_now p.rules c reads.profile ∙ took.0.0 ∙ ap (λ l. line ∷ l) (sym (lines_now p.rules d reads.profile));
       rest = took.0.1;
       used = took.1;
-      number = number;
-      form = form;
+      number = reads.number;
+      form = takes.form;
       counts = rw is found'.2;
       held = few;
     } in
     let asked = rw (names-by names [] []) at found'.1.world in
     record {
-      first = rest_on (now r) first next vector moves (rw is asked) ∙ rw is refl;
+      first = rest_on p.rules first next vector moves (rw is asked) ∙ rw is refl;
       did = rw (append-nil (map Opens names)) at found'.1;
       counts = found'.2;
       rest = took.0.1;
-    })
+    }))
 
 -- memory to open a line's file was refused: nothing came about, and the line was to come
-pub find_refused : (r : Rules) (a b : Standing) (line vector : List ℕ)
-    → WhereTold a.rest b.rest (λ c d. manifest.LineOf c d (Ok Line) line)
-    → WhereTold a.run_state b.run_state (λ s t. t ≡ s)
-    → FindGives r vector (stands a) (stands b) (Err Memory)
-find_refused r a b line vector came same =
-    stands-told a b _ came same (λ c d s t came same. (same, line-some c d line came))
+pub find_refused : {I S : Type 0} (input : I → InputState) (state : S → SourceState) (p q : Place I)
+    (reader : LineReader I) (a b : Moment S) (line vector : List ℕ) → ReadsLine input p reader line
+    → q.reader ≡ reader → WhereKnown state a b Refused
+    → FindGives p.rules vector (now_of input p (run_state state a)) (now_of input q (run_state state b)) (Err Memory)
+find_refused {I} input state p q reader a b line vector reads is refused =
+    let then : Place I = record q { reader = reader } in
+    rw is (now-told input p then (run_state state a) (run_state state b) _ reads.came refused
+    (λ c d s t came refused. (inl refused, line-some c d line came)))

@@ -31,11 +31,14 @@ use Rattle.sum_engine.specs.Reports.{no_counts, out_of, err_of, right_line, coun
 use Rattle.sum_sources.specs.ManifestLines.{past_line}
 use Rattle.sum_engine.specs.Checking.{line_steps, rules_of, content_run, check_run_by, check_run}
 use Rattle.sum_lines.proofs.ParsedLineLemmas.{says_is}
-use Rattle.sum_engine.proofs.StepLemmas.{now}
 use Rattle.sum_engine.proofs.ListedLemmas.{Item, written_text, Listed, prefix, spelled_for, ReadableSoFar, back, whole, lines-are}
 use Rattle.sum_engine.proofs.ManifestLemmas.{opening}
 
 -- ---- each verdict is Right
+
+-- the same rules at the present profile
+abbrev now : Rules → Rules
+now r = record r { profile = present }
 
 -- the digest of the item's file, read by the kind that its line spells, is right against itself
 digest_verdict-right : (algos : Algos) (answer : List ℕ → Reply) (i : Item) → Listed algos answer i

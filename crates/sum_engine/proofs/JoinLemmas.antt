@@ -13,7 +13,7 @@ use Rattle.sum_engine.specs.Runs.{Run, outs, errs, asks}
 use Rattle.sum_engine.specs.Verdicts.{Rules, Judged, asks_of, verdicts, all_verdicts, judge}
 use Rattle.sum_engine.specs.Reports.{no_counts, out_of, err_of, counts, end_text}
 use Rattle.sum_engine.specs.Checking.{line_steps, content_run}
-use Rattle.sum_engine.specs.RunStates.{RunState}
+use Rattle.sum_engine.specs.Moments.{RunState}
 use Rattle.sum_engine.specs.Steps.{Now, Moves, GoesOn, to_come, start}
 use Rattle.sum_engine.specs.Manifests.{HandledTimes, StepsJoin, StepsEnd, StepsCut, StepsReport, Joined}
 use Rattle.sum_engine.proofs.RunStateLemmas.{did_nothing}

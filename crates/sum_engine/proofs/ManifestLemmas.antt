@@ -6,8 +6,11 @@ use Rattle.std.proofs.Math.Bool.{or-false, or-true}
 use Rattle.sum_sources.specs.declared.fault.Fault.{Fault}
 use Rattle.sum_sources.specs.declared.source.OpenFault.{OpenFault}
 use Rattle.sum_sources.specs.declared.source.OpenFault.TheVariants as open_faults
-use Rattle.sum_sources.specs.Contents.{Content, WhereTold, clip}
-use Rattle.sum_sources.specs.Sources.{Reply, Refused, Given, Telling, OpensAsReply, OpenGives, asked_after, after_refusal}
+use Rattle.std.specs.Prelude.{IfSome}
+use Rattle.sum_sources.specs.Contents.{Content, InputState, WhereTold, clip}
+use Rattle.sum_lines.specs.Sinks.{SinkState}
+use Rattle.sum_sources.proofs.ToldLemmas.{WhereTold-map}
+use Rattle.sum_sources.specs.Sources.{SourceState, Reply, Refused, Given, Telling, OpensAsReply, OpenGives, asked_after, after_refusal}
 use Rattle.sum_sources.specs.Standard.{empty_content}
 use Rattle.sum_lines.specs.declared.line_reading.Form.TheVariants.{Undecided}
 use Rattle.sum_lines.specs.Profiles.{present}
@@ -23,12 +26,14 @@ use Rattle.sum_engine.specs.Generation.{fault_line}
 use Rattle.sum_engine.specs.Verdicts.{Rules, all_verdicts}
 use Rattle.sum_engine.specs.Reports.{no_counts}
 use Rattle.sum_engine.specs.Checking.{rules_of, content_run, check_run_by, check_run}
-use Rattle.sum_engine.specs.RunStates.{RunState, run_state_by, world_by, Did, RunOf, RunGives}
+use Rattle.sum_engine.specs.Moments.{Moment, RunState, WhereKnown, run_state, world_by, world_of}
+use Rattle.sum_engine.specs.RunStates.{Did, RunOf, RunsTo}
 use Rattle.sum_engine.specs.Steps.{Now, now_by, StepGives, to_come}
+use Rattle.sum_engine.specs.Checkers.{Place, now_of}
 use Rattle.sum_engine.specs.Manifests.{ManifestGives}
 use Rattle.sum_engine.proofs.WorldLemmas.{dash_asked}
-use Rattle.sum_engine.proofs.RunStateLemmas.{Writing, Seen, seen_at, seen-told, names-by, did_by, err_alone}
-use Rattle.sum_engine.proofs.StepLemmas.{Standing, stands, stands-run_state}
+use Rattle.sum_engine.proofs.RunStateLemmas.{Writing, where_known, known_refused, names-by, did_by, err_alone}
+use Rattle.sum_engine.proofs.StepLemmas.{now-run_state}
 use Rattle.sum_engine.proofs.RunLemmas.{answered, once, unasked, Along, along_none, along_more, along_end, along_breaks, along_waits, behind_step}
 
 -- ---- a new checker, run to its end
@@ -48,35 +53,46 @@ comes_none r (Some c) None = tt
 comes_none r (Some c) (Some s) = along_none (content_run r c (all_verdicts r s.world c)) s
 
 -- a step that goes on comes one line further
-pub comes_more : (q r : Rules) (c : Option Content) (s : Option RunState) (b d : Option Now) (n m : ℕ) (held : List ℕ)
-    → q ≡ r → Comes r c s b → StepGives q n m held b d (Ok Going) → Comes r c s d
-comes_more q r None s b d n m held rules p h = tt
-comes_more q r (Some c) None b d n m held rules p h = tt
-comes_more q r (Some c) (Some s) None d n m held rules p h = absurd p
-comes_more q r (Some c) (Some s) (Some b) None n m held rules p h = absurd h
-comes_more q r (Some c) (Some s) (Some b) (Some d) n m held rules p h = along_more p (rw rules at h.0)
+pub comes_more : (q r : Rules) (c : Option Content) (s : Option RunState) (b d : Option Now) (held : List ℕ)
+    → q ≡ r → Comes r c s b → StepGives q held b d (Ok Going) → Comes r c s d
+comes_more q r None s b d held rules p h = tt
+comes_more q r (Some c) None b d held rules p h = tt
+comes_more q r (Some c) (Some s) None d held rules p h = absurd p
+comes_more q r (Some c) (Some s) (Some b) None held rules p h = absurd h
+comes_more q r (Some c) (Some s) (Some b) (Some d) held rules p h = along_more p (rw rules at h.0)
 
 -- what a step answers that ends a manifest's check so
 abbrev pub ends : Result Bool Stop → Result Progress Stop
 ends (Ok good) = Ok (Ended good)
 ends (Err stop) = Err stop
 
+-- the run of a manifest
+abbrev pub manifest_run : Rules → Content → World → Run
+manifest_run r c w = content_run r c (all_verdicts r w c)
+
 -- the step that ends leaves all that the manifest comes to; one that stops leaves a prefix of it where a write failed,
--- and whole steps where memory was wanted. n, i and m are the refusals at first, before the step and after it
-pub comes_last
-    : (q r : Rules) (c : Option Content) (s : Option RunState) (a : Option Now) (b : Standing) (held : List ℕ)
-    (x : Result Bool Stop) (n i m : ℕ) → q ≡ r → Comes r c s a → i ≡ n → StepGives q i m held a (stands b) (ends x)
-    → ManifestGives r c n m s b.run_state x
-comes_last q r None s a b held x n i m rules p is h = tt
-comes_last q r (Some c) None a b held x n i m rules p is h = tt
-comes_last q r (Some c) (Some s) None b held x n i m rules p is h = absurd p
-comes_last q r (Some c) (Some s) (Some a) b held (Ok good) n i m rules p is h =
-    stands-run_state a s b _ _ h (λ d z ended. along_end p (rw rules at ended))
-comes_last q r (Some c) (Some s) (Some a) b held (Err Write) n i m rules p is h =
-    stands-run_state a s b _ _ h (λ d z cut. along_breaks p (rw rules at cut))
-comes_last q r (Some c) (Some s) (Some a) b held (Err Memory) n i m rules p is h =
-    stands-run_state a s b _ _ h (λ d z waits.
-    along_waits (content_run r c (all_verdicts r s.world c)).good n m p (rw (rules, is) at waits))
+-- and whole steps where memory was wanted
+comes_last_by : {I : Type 0} (state : I → InputState) (q r : Rules) (c : Option Content) (s z : Option RunState)
+    (a : Option Now) (p : Place I) (held : List ℕ) (x : Result Bool Stop) → q ≡ r → Comes r c s a
+    → StepGives q held a (now_of state p z) (ends x) → IfSome c (λ c. WhereTold s z (λ s t.
+    RunOf (manifest_run r c s.world).steps (manifest_run r c s.world).good s t x))
+comes_last_by state q r None s z a p held x rules k h = tt
+comes_last_by state q r (Some c) None z a p held x rules k h = tt
+comes_last_by state q r (Some c) (Some s) z None p held x rules k h = absurd k
+comes_last_by state q r (Some c) (Some s) z (Some a) p held (Ok good) rules k h =
+    now-run_state state p z a s _ _ h (λ d z ended. along_end k (rw rules at ended))
+comes_last_by state q r (Some c) (Some s) z (Some a) p held (Err Write) rules k h =
+    now-run_state state p z a s _ _ h (λ d z cut. along_breaks k (rw rules at cut))
+comes_last_by state q r (Some c) (Some s) z (Some a) p held (Err Memory) rules k h =
+    now-run_state state p z a s _ _ h (λ d z waits.
+    along_waits (manifest_run r c s.world).good k (rw rules at waits))
+
+pub comes_last : {I S : Type 0} (input : I → InputState) (state : S → SourceState) (q r : Rules) (c : Option Content)
+    (first last : Moment S) (a : Option Now) (p : Place I) (held : List ℕ) (x : Result Bool Stop) → q ≡ r
+    → Comes r c (run_state state first) a → StepGives q held a (now_of input p (run_state state last)) (ends x)
+    → ManifestGives state r c first last x
+comes_last input state q r c first last a p held x rules k h =
+    comes_last_by input q r c (run_state state first) (run_state state last) a p held x rules k h
 
 -- ---- a manifest that was asked
 
@@ -110,50 +126,66 @@ IsOpened name c a b =
     (d : Content) × (c ≡ Some d) × (reply a.world name ≡ Given d) × Did a b (events_of (opening name))
 
 -- what a call gives
-abbrev pub CheckGives : Call → ℕ → ℕ → Option RunState → Option RunState → Result Bool Stop → Type 0
-CheckGives k n m a b x = RunGives (λ w. check_run k.settings k.tool w k.name) n m a b x
+abbrev pub CheckGives : {S : Type 0} → (S → SourceState) → Call → Moment S → Moment S → Result Bool Stop → Type 0
+CheckGives state k a b x = RunsTo state (λ w. check_run k.settings k.tool w k.name) (λ g. g) a b x
 
--- after that, what the checker does is what the call does, where source, standard input and manifest tell
-pub check_gives : (k : Call) (dash : Bool) (c : Option Content) (a asked b : Option RunState) (n i m : ℕ)
-    (x : Result Bool Stop) → is_dash k.name ≡ dash → i ≡ n → WhereTold a asked (IsOpened k.name c)
-    → ManifestGives (rules_where k dash) (option_map clip c) i m asked b x → CheckGives k n m a b x
-check_gives k dash c None asked b n i m x is same h run = tt
-check_gives k dash c (Some a) None b n i m x is same h run = absurd h
-check_gives k dash c (Some a) (Some asked) None n i m x is same h run = absurd (rw h.1 at run)
-check_gives k dash c (Some a) (Some asked) (Some b) n i m x is same h run =
-    let of : World → Run =
-    λ w. content_run (rules_of_call k) (clip h.0) (all_verdicts (rules_of_call k) w (clip h.0)) in
+-- the next, by run states
+check_gives_by : (k : Call) (dash : Bool) (c : Option Content) (a asked b : Option RunState) (x : Result Bool Stop)
+    → is_dash k.name ≡ dash → WhereTold a asked (IsOpened k.name c)
+    → IfSome (option_map clip c) (λ c. WhereTold asked b (λ s t. RunOf (manifest_run (rules_where k dash) c s.world).steps
+    (manifest_run (rules_where k dash) c s.world).good s t x))
+    → WhereTold a b (λ s t. RunOf (check_run k.settings k.tool s.world k.name).steps
+    (check_run k.settings k.tool s.world k.name).good s t x)
+check_gives_by k dash c None asked b x is h run = tt
+check_gives_by k dash c (Some a) None b x is h run = absurd h
+check_gives_by k dash c (Some a) (Some asked) None x is h run = absurd (rw h.1 at run)
+check_gives_by k dash c (Some a) (Some asked) (Some b) x is h run =
+    let of : World → Run = manifest_run (rules_of_call k) (clip h.0) in
     let later : World = after a.world (k.name ∷ []) in
     let world : asked.world ≡ later = rw (names-by (k.name ∷ []) [] []) at h.3.world in
-    let rest = subst (λ w. RunOf (of w).good (of w).steps i m asked b x) world (rw (← is, h.1) at run) in
-    rw h.2 (behind_step b n i m (of later).good (opening k.name) (of later).steps x same h.3 rest)
+    let rest = subst (λ w. RunOf (of w).steps (of w).good asked b x) world (rw (← is, h.1) at run) in
+    rw h.2 (behind_step b (of later).good (opening k.name) (of later).steps x h.3 rest)
+
+-- after that, what the checker does is what the call does, where source, standard input and manifest tell
+pub check_gives : {S : Type 0} (state : S → SourceState) (k : Call) (dash : Bool) (c : Option Content)
+    (a asked b : Moment S) (x : Result Bool Stop) → is_dash k.name ≡ dash
+    → WhereKnown state a asked (IsOpened k.name c)
+    → ManifestGives state (rules_where k dash) (option_map clip c) asked b x → CheckGives state k a b x
+check_gives state k dash c a asked b x is h run =
+    check_gives_by k dash c (run_state state a) (run_state state asked) (run_state state b) x is h run
 
 -- a name that was asked, where nothing was written
-asked_only : (a : RunState) (w : World) (taken : Bool) (name : List ℕ) → w ≡ after a.world (name ∷ [])
-    → taken ≡ a.taken || is_dash name → Did a (record a { world = w; taken = taken }) (events_of (opening name))
-asked_only a w taken name is was = did_by (name ∷ []) [] [] is
-    (was ∙ ap (λ b. a.taken || b) (sym (or-false (is_dash name)))) (Appends-nil a.err) (Appends-nil a.out)
+asked_only : {a b : RunState} (name : List ℕ) → b.world ≡ after a.world (name ∷ [])
+    → b.taken ≡ a.taken || is_dash name → b.refusals ≡ a.refusals → b.err ≡ a.err → b.out ≡ a.out
+    → Did a b (events_of (opening name))
+asked_only {a} name world taken refusals err out = did_by (name ∷ []) [] [] (record {
+  world = world;
+  taken = taken ∙ ap (λ b. a.taken || b) (sym (or-false (is_dash name)));
+  refusals = refusals;
+}) (rw err (Appends-nil a.err.written)) (rw out (Appends-nil a.out.written))
 
--- the run state of that source and that standard input
-abbrev pub told_at : Seen → Option Telling → Option Content → Option RunState
-told_at a s input = run_state_by (world_by s input) a.taken a.err a.out
+-- the worlds of a source before and after standard input was taken
+dash_worlds : (name : List ℕ) (s : Option Telling) (c : Option Content) → is_dash name ≡ true
+    → WhereTold (world_by s c) (world_by s (Some empty_content))
+    (λ w v. (v ≡ after w (name ∷ [])) × (c ≡ Some w.input))
+dash_worlds name None c dash = tt
+dash_worlds name (Some s) None dash = tt
+dash_worlds name (Some s) (Some c) dash = (dash_asked s.answer s.asked c name dash, refl)
 
 -- the manifest is standard input, which is taken then
-pub dash_opened : (name : List ℕ) (s : Option Telling) (c : Option Content) (a : Seen) → is_dash name ≡ true
-    → WhereTold (told_at a s c) (told_at (record a { taken = true }) s (Some empty_content)) (IsOpened name c)
-dash_opened name None c a dash = tt
-dash_opened name (Some s) None a dash = tt
-dash_opened name (Some s) (Some c) a dash =
-    let first : RunState = seen_at a (record { answer = s.answer; asked = s.asked; input = c }) in
-    let next : World = record { answer = s.answer; asked = s.asked; input = empty_content } in (
-      c,
-      refl,
+pub dash_opened : {S : Type 0} (state : S → SourceState) (name : List ℕ) (a : Moment S) → is_dash name ≡ true
+    → WhereKnown state a (record a { input = Some empty_content; taken = true }) (IsOpened name a.input)
+dash_opened {S} state name a dash =
+    let next : Moment S = record a { input = Some empty_content; taken = true } in
+    where_known state a next _ (dash_worlds name (state a.source).told a.input dash) (λ w v is. (
+      w.input,
+      is.1,
       rw dash refl,
-      asked_only first next true name (dash_asked s.answer s.asked c name dash) (rw dash (sym (or-true a.taken))),
-    )
+      asked_only name is.0 (rw dash (sym (or-true a.taken))) refl refl refl,
+    ))
 
 -- a name was opened, where source and standard input tell
-opens : {F : Type 0} (content : F → Option Content) (name : List ℕ) (s t : Option Telling) (input : Option Content)
+opens : {F : Type 0} (content : F → InputState) (name : List ℕ) (s t : Option Telling) (input : Option Content)
     (x : Result F OpenFault) → OpenGives content s t name x
     → WhereTold (world_by s input) (world_by t input) (λ w v.
     (v ≡ record w { asked = asked_after w.asked name x }) × OpensAsReply content (w.answer name) x)
@@ -163,29 +195,40 @@ opens content name (Some s) None (Some i) x h = absurd h
 opens content name (Some s) (Some t) (Some i) x h = (rw (h.0, h.1) refl, h.2)
 
 -- the manifest is a file
-pub file_opened : {F : Type 0} (content : F → Option Content) (name : List ℕ) (s t : Option Telling)
-    (input : Option Content) (file : F) (a : Seen) → is_dash name ≡ false → OpenGives content s t name (Ok file)
-    → WhereTold (told_at a s input) (told_at a t input) (IsOpened name (content file))
-file_opened content name s t input file a dash h =
-    seen-told (record a { world = world_by s input }) (record a { world = world_by t input }) _
-    (opens content name s t input (Ok file) h) (λ w v is. (
+pub file_opened : {F S : Type 0} (content : F → InputState) (state : S → SourceState) (name : List ℕ) (a : Moment S)
+    (source : S) (file : F) → is_dash name ≡ false
+    → OpenGives content (state a.source).told (state source).told name (Ok file)
+    → (state source).refusals ≡ (state a.source).refusals
+    → WhereKnown state a (record a { source = source }) (IsOpened name (content file).content)
+file_opened content state name a source file dash h refusals =
+    where_known state a (record a { source = source }) _
+    (opens content name (state a.source).told (state source).told a.input (Ok file) h) (λ w v is. (
       is.1.0,
       is.1.2,
       rw dash is.1.1,
-      asked_only (seen_at a w) v a.taken name (is.0 ∙ rw dash refl) (rw dash (sym (or-false a.taken))),
+      asked_only name (is.0 ∙ rw dash refl) (rw dash (sym (or-false a.taken))) refusals refl refl,
     ))
 
--- the manifest could not be opened, and the line of its fault was handed on, or a prefix of it; whatever the refusals
-pub refused : {F : Type 0} (content : F → Option Content) (k : Call) (s t : Option Telling) (input : Option Content)
-    (f : Fault) (a : Seen) (err : Option (List ℕ)) (n m : ℕ) (x : Writing) → is_dash k.name ≡ false
-    → OpenGives content s t k.name (Err (open_faults.Fault f)) → Hands a.err err (fault_line present k.tool k.name f) x
-    → CheckGives k n m (told_at a s input) (told_at (record a { err = err }) t input) (answered x false)
-refused content k s t input f a err n m x dash h hands =
-    once (λ w. check_run k.settings k.tool w k.name) (k.name ∷ []) (fault_line present k.tool k.name f) [] false n m
-    (record a { world = world_by s input }) (record a { world = world_by t input; err = err }) x
-    (opens content k.name s t input (Err (open_faults.Fault f)) h)
-    (λ w v is. (rw (dash, is.1) refl, is.0 ∙ rw dash refl))
-    (rw dash (sym (or-false a.taken))) (err_alone a.err err a.out _ x hands)
+-- the manifest could not be opened, and the line of its fault was handed on, or a prefix of it
+pub refused : {F S : Type 0} (content : F → InputState) (state : S → SourceState) (k : Call) (a : Moment S)
+    (source : S) (f : Fault) (err : SinkState) (x : Writing) → is_dash k.name ≡ false
+    → OpenGives content (state a.source).told (state source).told k.name (Err (open_faults.Fault f))
+    → (state source).refusals ≡ (state a.source).refusals
+    → Hands a.err.written err.written (fault_line present k.tool k.name f) x
+    → CheckGives state k a (record a { source = source; err = err }) (answered x false)
+refused {S = S} content state k a source f err x dash h refusals hands =
+    let next : Moment S = record a { source = source; err = err } in
+    once state (λ w. check_run k.settings k.tool w k.name) (k.name ∷ []) (fault_line present k.tool k.name f) [] false
+    (λ g. g) a next x
+    (opens content k.name (state a.source).told (state source).told a.input (Err (open_faults.Fault f)) h)
+    (λ w v is. (
+      rw (dash, is.1) refl,
+      record {
+        world = is.0 ∙ rw dash refl;
+        taken = rw dash (sym (or-false a.taken));
+        refusals = refusals;
+      },
+    )) (err_alone a.err err a.out _ x hands)
 
 -- checking begins with a step
 begins : (r : Rules) (name : List ℕ) (w : World) (reply : Reply)
@@ -194,10 +237,14 @@ begins r name w (Refused f) = (_, [], refl)
 begins r name w (Given c) = (opening name, _, refl)
 
 -- the source had no memory to open it
-pub no_room : {F : Type 0} (content : F → Option Content) (k : Call) (s t : Option Telling) (input : Option Content)
-    (a : Seen) (n m : ℕ) → OpenGives content s t k.name (Err open_faults.Memory) → m ≡ after_refusal n
-    → CheckGives k n m (told_at a s input) (told_at a t input) (Err Memory)
-no_room content k s t input a n m h few = unasked (λ w. check_run k.settings k.tool w k.name) n m
-    (record a { world = world_by s input }) (record a { world = world_by t input })
+pub no_room : {F S : Type 0} (content : F → InputState) (state : S → SourceState) (k : Call) (a : Moment S)
+    (source : S) → OpenGives content (state a.source).told (state source).told k.name (Err open_faults.Memory)
+    → (state source).refusals ≡ after_refusal (state a.source).refusals
+    → CheckGives state k a (record a { source = source }) (Err Memory)
+no_room {S = S} content state k a source h refused =
+    let next : Moment S = record a { source = source } in
+    unasked state (λ w. check_run k.settings k.tool w k.name) (λ g. g) a next
     (λ w. begins (rules_of_call k) k.name (after w (k.name ∷ [])) (reply w k.name))
-    (opens content k.name s t input (Err open_faults.Memory) h) (λ w v is. is.0) refl refl refl few
+    (known_refused state a next (WhereTold-map (world_of state a) (world_of state next) (λ w v is. is.0)
+    (opens content k.name (state a.source).told (state source).told a.input (Err open_faults.Memory) h))
+    refl refl refl refused)

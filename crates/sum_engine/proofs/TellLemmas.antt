@@ -2,10 +2,10 @@
 use Rattle.std.proofs.Common.{◌≡◌, ℕ, List, [], ◌++◌, Option, Result, Ok, Err, ap, sym, ◌∙◌, append_assoc, subst}
 use Rattle.std.specs.Io.KnownBytes.{Appends}
 use Rattle.std.proofs.KnownBytes.{Appends-trans}
-use Rattle.sum_lines.specs.Sinks.{SinkState, Wrote, Broke, Flushes}
+use Rattle.sum_lines.specs.Sinks.{SinkState, Wrote, Broke, Flushes, after_failure}
 use Rattle.sum_lines.specs.refinement.Growing.{AppendsPrefix}
 use Rattle.sum_lines.proofs.SinkLemmas.{Wrote-flushed, Wrote-dropped}
-use Rattle.sum_engine.specs.refinement.Telling.{Hands, Tells}
+use Rattle.sum_engine.specs.refinement.Telling.{Tells}
 
 -- ---- known bytes
 
@@ -27,39 +27,34 @@ prefix_then a b c x y h k = (
 
 -- a text was written, and then flushed
 pub told_flushed : {E : Type 0} (a b c : SinkState) (text : List ℕ) (r : Result (Unit {0}) E) → Wrote a b text
-    → Flushes b c r → a.held ≡ [] → (c.held ≡ []) × Hands a.written c.written text r
-told_flushed a b c text (Ok u) h k none =
-    (k.1, subst (λ l. Appends a.written c.written (l ++ text)) none (Wrote-flushed c.written text h k.0))
-told_flushed a b c text (Err e) h k none =
-    (k.none, subst (λ l. AppendsPrefix a.written c.written (l ++ text)) none (Wrote-dropped text h k))
+    → Flushes b c r → Tells a c text r
+told_flushed a b c text (Ok u) h k = (k.2 ∙ h.kept, λ none.
+    (k.1, subst (λ l. Appends a.written c.written (l ++ text)) none (Wrote-flushed c.written text h k.0)))
+told_flushed a b c text (Err e) h k = (k.failed ∙ ap after_failure h.kept, λ none.
+    (k.none, subst (λ l. AppendsPrefix a.written c.written (l ++ text)) none (Wrote-dropped text h k)))
 
 -- writing it failed
-pub told_broken : (a c : SinkState) (text : List ℕ) → Broke a c text → a.held ≡ []
-    → (c.held ≡ []) × AppendsPrefix a.written c.written text
-told_broken a c text h none =
+pub told_broken : {E : Type 0} (a c : SinkState) (text : List ℕ) (e : E) → Broke a c text
+    → Tells a c text (Err e)
+told_broken a c text e h = (h.failed, λ none.
     let part = h.handed in
-    (h.none, (part.0, (part.1, ap (λ l. l ++ text) (sym none) ∙ part.2), part.4))
+    (h.none, (part.0, (part.1, ap (λ l. l ++ text) (sym none) ∙ part.2), part.4)))
 
 -- ---- one text after another
 
--- a text was handed on, where nothing was held
-abbrev pub Told : SinkState → SinkState → List ℕ → Type 0
-Told a b text = a.held ≡ [] → (b.held ≡ []) × Appends a.written b.written text
-
 -- a text, and then another or a prefix of it
-pub tells_then : {E : Type 0} (a b c : SinkState) (x y : List ℕ) (r : Result (Unit {0}) E) → Told a b x
-    → Tells b c y r → Tells a c (x ++ y) r
-tells_then a b c x y (Ok u) h k none =
-    let first = h none in
-    let then = k first.0 in
-    (then.0, Appends-trans a.written b.written c.written x y first.1 then.1)
-tells_then a b c x y (Err e) h k none =
-    let first = h none in
-    let then = k first.0 in
-    (then.0, prefix_then a.written b.written c.written x y first.1 then.1)
+pub tells_then : {E : Type 0} (a b c : SinkState) (x y : List ℕ) (r : Result (Unit {0}) E)
+    → Tells {E = E} a b x (Ok tt) → Tells b c y r → Tells a c (x ++ y) r
+tells_then a b c x y (Ok u) h k = (k.0 ∙ h.0, λ none.
+    let first = h.1 none in
+    let then = k.1 first.0 in
+    (then.0, Appends-trans a.written b.written c.written x y first.1 then.1))
+tells_then a b c x y (Err e) h k = (k.0 ∙ ap after_failure h.0, λ none.
+    let first = h.1 none in
+    let then = k.1 first.0 in
+    (then.0, prefix_then a.written b.written c.written x y first.1 then.1))
 
 -- a prefix of a text, and none of the next
-pub part_more : (a b : SinkState) (x y : List ℕ)
-    → (a.held ≡ [] → (b.held ≡ []) × AppendsPrefix a.written b.written x) → a.held ≡ []
-    → (b.held ≡ []) × AppendsPrefix a.written b.written (x ++ y)
-part_more a b x y h none = ((h none).0, prefix_more a.written b.written x y (h none).1)
+pub part_more : {E : Type 0} (a b : SinkState) (x y : List ℕ) (e : E) → Tells a b x (Err e)
+    → Tells a b (x ++ y) (Err e)
+part_more a b x y e h = (h.0, λ none. ((h.1 none).0, prefix_more a.written b.written x y (h.1 none).1))

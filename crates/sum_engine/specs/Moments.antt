@@ -21,12 +21,18 @@ pub record Moment (S : Type 0) : Type 0 where
 abbrev pub HoldNothing : {S : Type 0} → Moment S → Type 0
 HoldNothing m = (m.out.held ≡ []) × (m.err.held ≡ [])
 
--- the failures of both outputs, from a to b and from c to d, over a call that answers a write fault exactly where one
--- of them failed, once
-abbrev pub Failures : {A : Type 0} → SinkState → SinkState → SinkState → SinkState → Result A Stop → Type 0
-Failures a b c d (Err Write) = ((b.failures ≡ after_failure a.failures) × (d.failures ≡ c.failures))
+-- of two outputs, from a to b and from c to d, none had a call that failed; one of them had one
+abbrev pub NoneFailed : SinkState → SinkState → SinkState → SinkState → Type 0
+NoneFailed a b c d = (b.failures ≡ a.failures) × (d.failures ≡ c.failures)
+
+abbrev pub OneFailed : SinkState → SinkState → SinkState → SinkState → Type 0
+OneFailed a b c d = ((b.failures ≡ after_failure a.failures) × (d.failures ≡ c.failures))
     ⊎ ((b.failures ≡ a.failures) × (d.failures ≡ after_failure c.failures))
-Failures a b c d r = (b.failures ≡ a.failures) × (d.failures ≡ c.failures)
+
+-- their failures over a call that answers a write fault exactly where one of them failed
+abbrev pub Failures : {A : Type 0} → SinkState → SinkState → SinkState → SinkState → Result A Stop → Type 0
+Failures a b c d (Err Write) = OneFailed a b c d
+Failures a b c d r = NoneFailed a b c d
 
 -- a moment whose world is known
 pub record RunState : Type 0 where
@@ -66,4 +72,4 @@ WhereKnown state a b P = WhereTold (run_state state a) (run_state state b) P
 abbrev pub asking : {I S : Type 0} → (I → InputState) → Option I → S → Moment S
 asking state stdin source =
     let silent : SinkState = record { written = None; held = []; failures = 0 } in
-    record { source = source; input = left_in state stdin; taken = is_none stdin; err = silent; out = silent }
+    record { source = source; input = (left_in state stdin).content; taken = is_none stdin; err = silent; out = silent }

@@ -45,8 +45,7 @@ abbrev pub RunsTo : {S A : Type 0} → (S → SourceState) → (World → Run) �
 RunsTo state run answer a b r =
     WhereKnown state a b (λ s t. RunOf (run s.world).steps (answer (run s.world).good) s t r)
 
--- a source's refusals over a call that answers want of memory only where the source was refused it
-abbrev pub refusals_over : {A : Type 0} → ℕ → Result A Stop → ℕ
-refusals_over n (Ok a) = n
-refusals_over n (Err Write) = n
-refusals_over n (Err Memory) = after_refusal n
+-- a source's refusals over a call that answers want of memory just where the source was refused it
+abbrev pub RefusedExactly : {A : Type 0} → SourceState → SourceState → Result A Stop → Type 0
+RefusedExactly a b (Err Memory) = b.refusals ≡ after_refusal a.refusals
+RefusedExactly a b r = b.refusals ≡ a.refusals

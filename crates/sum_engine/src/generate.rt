@@ -3,9 +3,9 @@ ghost use Rattle.std.specs.Prelude.{◌≡◌, ◌||◌, Err, OnOk, length};
 ghost use Rattle.sum_engine.specs.Worlds.{is_dash};
 ghost use Rattle.sum_lines.specs.Lines.{line};
 ghost use Rattle.sum_engine.specs.Generation.{generate_run};
-ghost use Rattle.sum_engine.specs.refinement.Telling.{Tells, Fails};
+ghost use Rattle.sum_engine.specs.refinement.Telling.{Tells};
 ghost use Rattle.sum_engine.specs.Moments.{HoldNothing, Failures};
-ghost use Rattle.sum_engine.specs.RunStates.{RunsTo, refusals_over};
+ghost use Rattle.sum_engine.specs.RunStates.{RunsTo, RefusedExactly};
 
 use crate::asking::{Asked, ask};
 use crate::report::put_fault_line;
@@ -31,7 +31,7 @@ pub fn generate_one<I: Input + Drop, S: Source, O: Sink, E: Sink>(
     ensures gives { HoldNothing streams.old → RunsTo S.state
         (λ w. generate_run settings.now tool.now w name.now) (λ good. good) streams.old streams.new result }
     ensures none { HoldNothing streams.old → HoldNothing streams.new }
-    ensures refusals { (S.state streams.new.source).refusals ≡ refusals_over (S.state streams.old.source).refusals result }
+    ensures refusals { RefusedExactly (S.state streams.old.source) (S.state streams.new.source) result }
     ensures failures { Failures streams.old.out streams.new.out streams.old.err streams.new.err result }
     ensures taken { OnOk result (streams.new.taken ≡ streams.old.taken || is_dash name.now) }
     ensures untouched { result ≡ Err Stop.Memory
@@ -70,9 +70,8 @@ fn tell_line<O: Sink>(
     digest: &Digest,
 ) -> Result<(), SinkFault>
     requires { length digest.now ≡ settings.now.kind.len }
-    ensures text { Tells (O.state out.old) (O.state out.new)
+    ensures { Tells (O.state out.old) (O.state out.new)
         (line settings.now.style settings.now.kind name.now digest.now) result }
-    ensures failures { Fails (O.state out.old) (O.state out.new) result }
 {
     put_line(out, settings.style, settings.kind, name, digest)?;
     out.flush()

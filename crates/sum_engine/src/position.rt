@@ -33,7 +33,7 @@ impl<'a, I: Input> Position<'a, I> {
     ghost use Rattle.sum_sources.specs.Contents.{clip};
     ghost use Rattle.sum_sources.specs.LineReaders.{coming};
     ghost use Rattle.sum_engine.specs.Moments.{RunState, run_state, world_of, asking, HoldNothing, Failures};
-    ghost use Rattle.sum_engine.specs.RunStates.{refusals_over};
+    ghost use Rattle.sum_engine.specs.RunStates.{RefusedExactly};
     ghost use Rattle.sum_engine.specs.Steps.{no_line, StepGives, WantsMemory};
     ghost use Rattle.sum_engine.specs.Checkers.{now_of, Reads};
     ghost use Rattle.sum_sources.specs.declared.fault.Ending.TheVariants.{Whole};
@@ -138,7 +138,7 @@ impl<'a, I: Input> Position<'a, I> {
         ensures none { HoldNothing streams.old → HoldNothing streams.new }
         ensures place { TakesLine (place_of self.old) (place_of self.new) line.old.items }
         ensures held { length line.new.items ≤ length line.old.items }
-        ensures refusals { (S.state streams.new.source).refusals ≡ refusals_over (S.state streams.old.source).refusals result }
+        ensures refusals { RefusedExactly (S.state streams.old.source) (S.state streams.new.source) result }
         ensures failures { Failures streams.old.out streams.new.out streams.old.err streams.new.err result }
         ensures untouched { result ≡ Err Stop.Memory
             → (streams.new.out ≡ streams.old.out) × (streams.new.err ≡ streams.old.err) }

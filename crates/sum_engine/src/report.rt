@@ -1,5 +1,5 @@
 //! The lines that checking writes about a manifest's lines.
-ghost use Rattle.std.specs.Prelude.{◌≡◌, [], ◌∷◌};
+ghost use Rattle.std.specs.Prelude.{◌≡◌, [], ◌∷◌, MatchResult};
 ghost use Rattle.std.specs.List.{concat};
 ghost use Rattle.sum_lines.specs.Escape.{escape, escape_differs};
 ghost use Rattle.sum_lines.specs.Shapes.{mark};
@@ -7,10 +7,8 @@ ghost use Rattle.sum_lines.specs.Profiles.{present};
 ghost use Rattle.sum_engine.specs.Generation.{fault_line};
 ghost use Rattle.sum_engine.specs.Reports.{verdict_line, bad_line, err_by};
 ghost use Rattle.sum_engine.specs.refinement.Listings.{rules_in};
-ghost use Rattle.std.specs.Result.{result_map_both};
-ghost use Rattle.sum_engine.specs.declared.stop.Stop.TheVariants.{Write};
-ghost use Rattle.sum_engine.specs.Moments.{Failures};
-ghost use Rattle.sum_engine.specs.refinement.Telling.{out_by, Tells, Fails, HandsBoth};
+ghost use Rattle.sum_engine.specs.Moments.{NoneFailed, OneFailed};
+ghost use Rattle.sum_engine.specs.refinement.Telling.{out_by, Tells, HandsBoth};
 
 use crate::listing::Listing;
 use crate::settings::Report;
@@ -27,8 +25,7 @@ pub(crate) fn put_fault_line<'a, E: Sink>(
     name: &'a [u8],
     fault: Fault,
 ) -> Result<(), SinkFault>
-    ensures text { Tells (E.state err.old) (E.state err.new) (fault_line present tool.now name.now fault) result }
-    ensures failures { Fails (E.state err.old) (E.state err.new) result }
+    ensures { Tells (E.state err.old) (E.state err.new) (fault_line present tool.now name.now fault) result }
 {
     let text = fault.text();
     tell(
@@ -59,8 +56,9 @@ pub(crate) fn put_report<O: Sink, E: Sink>(
         (out_by present listing.now.settings.report verdict name.now) result }
     ensures none { (E.state err.old).held ≡ [] → (O.state out.old).held ≡ []
         → ((E.state err.new).held ≡ []) × ((O.state out.new).held ≡ []) }
-    ensures failures { Failures (O.state out.old) (O.state out.new) (E.state err.old) (E.state err.new)
-        (result_map_both (λ u. u) (λ _. Write) result) }
+    ensures failures { MatchResult result
+        (λ _. NoneFailed (O.state out.old) (O.state out.new) (E.state err.old) (E.state err.new))
+        (λ _. OneFailed (O.state out.old) (O.state out.new) (E.state err.old) (E.state err.new)) }
 {
     match put_err(err, listing, number, verdict, name) {
         Ok(()) => put_out(out, listing.settings.report, verdict, name),
@@ -74,8 +72,7 @@ fn put_out<O: Sink>(
     verdict: Verdict,
     name: &[u8],
 ) -> Result<(), SinkFault>
-    ensures text { Tells (O.state out.old) (O.state out.new) (out_by present report verdict name.now) result }
-    ensures failures { Fails (O.state out.old) (O.state out.new) result }
+    ensures { Tells (O.state out.old) (O.state out.new) (out_by present report verdict name.now) result }
 {
     match report {
         Report::All => put_said(out, verdict, name),
@@ -89,8 +86,7 @@ fn put_out<O: Sink>(
 }
 
 fn put_said<O: Sink>(out: &mut O, verdict: Verdict, name: &[u8]) -> Result<(), SinkFault>
-    ensures text { Tells (O.state out.old) (O.state out.new) (verdict_line present verdict name.now) result }
-    ensures failures { Fails (O.state out.old) (O.state out.new) result }
+    ensures { Tells (O.state out.old) (O.state out.new) (verdict_line present verdict name.now) result }
 {
     match verdict {
         Verdict::Ignored | Verdict::Bad | Verdict::Missing => Ok(()),
@@ -102,9 +98,8 @@ fn put_said<O: Sink>(out: &mut O, verdict: Verdict, name: &[u8]) -> Result<(), S
 
 // Writes the name and what stands behind it. Most names hold nothing to escape, and are then searched once.
 fn put_name_line<'a, O: Sink>(out: &mut O, name: &'a [u8], rest: &'a [u8]) -> Result<(), SinkFault>
-    ensures text { Tells (O.state out.old) (O.state out.new)
+    ensures { Tells (O.state out.old) (O.state out.new)
         (concat (mark (escape_differs name.now) ∷ escape name.now ∷ rest.now ∷ [])) result }
-    ensures failures { Fails (O.state out.old) (O.state out.new) result }
 {
     if needs_escape(name) {
         return tell(
@@ -122,9 +117,8 @@ fn put_err<E: Sink>(
     verdict: Verdict,
     name: &[u8],
 ) -> Result<(), SinkFault>
-    ensures text { Tells (E.state err.old) (E.state err.new)
+    ensures { Tells (E.state err.old) (E.state err.new)
         (err_by (rules_in listing.now) number verdict name.now) result }
-    ensures failures { Fails (E.state err.old) (E.state err.new) result }
 {
     match verdict {
         Verdict::Ignored | Verdict::Right | Verdict::Wrong | Verdict::Missing => Ok(()),
@@ -137,8 +131,7 @@ fn put_err<E: Sink>(
 }
 
 fn put_bad_line<E: Sink>(err: &mut E, listing: &Listing, number: u64) -> Result<(), SinkFault>
-    ensures text { Tells (E.state err.old) (E.state err.new) (bad_line (rules_in listing.now) number) result }
-    ensures failures { Fails (E.state err.old) (E.state err.new) result }
+    ensures { Tells (E.state err.old) (E.state err.new) (bad_line (rules_in listing.now) number) result }
 {
     let word = tag_word(listing.settings.algo);
     tell(

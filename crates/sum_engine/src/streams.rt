@@ -28,7 +28,7 @@ impl<I: Input, S, O: Sink, E: Sink> Model for Streams<I, S, O, E> {
 
     ghost view = { λ s. record {
       source = s.source;
-      input = left_in I.state s.stdin;
+      input = (left_in I.state s.stdin).content;
       taken = is_none s.stdin;
       err = E.state s.err;
       out = O.state s.out;
@@ -40,7 +40,7 @@ impl<I: Input, S, O: Sink, E: Sink> Streams<I, S, O, E> {
     pub fn new(stdin: Stdin<I>, source: S, out: O, err: E) -> Self
         ensures { result ≡ record {
           source = source;
-          input = left_in I.state stdin;
+          input = (left_in I.state stdin).content;
           taken = is_none stdin;
           err = E.state err;
           out = O.state out;

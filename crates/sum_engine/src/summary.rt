@@ -20,7 +20,7 @@ pub(crate) struct Counts {
 ghost use Rattle.sum_engine.specs.Reports.{list_line, warning, warnings, unverified_line, summary, good};
 ghost use Rattle.sum_engine.specs.Reports.{entries, total, counts_with, no_counts};
 ghost use Rattle.sum_engine.specs.refinement.Listings.{rules_in};
-ghost use Rattle.sum_engine.specs.refinement.Telling.{Tells, Fails};
+ghost use Rattle.sum_engine.specs.refinement.Telling.{Tells};
 ghost use Rattle.sum_sources.specs.declared.fault.Ending.TheVariants.{Whole};
 
 impl Counts {
@@ -75,8 +75,7 @@ pub(crate) fn put_summary<E: Sink>(
     counts: Counts,
 ) -> Result<(), SinkFault>
     requires { total counts < 2 ^ 63 }
-    ensures text { Tells (E.state err.old) (E.state err.new) (summary (rules_in listing.now) counts) result }
-    ensures failures { Fails (E.state err.old) (E.state err.new) result }
+    ensures { Tells (E.state err.old) (E.state err.new) (summary (rules_in listing.now) counts) result }
 {
     if counts.entries() == 0 {
         return put_list_line(err, listing, b"no properly formatted checksum lines found");
@@ -88,8 +87,7 @@ pub(crate) fn put_summary<E: Sink>(
 }
 
 fn put_warnings<E: Sink>(err: &mut E, listing: &Listing, counts: Counts) -> Result<(), SinkFault>
-    ensures text { Tells (E.state err.old) (E.state err.new) (warnings (rules_in listing.now) counts) result }
-    ensures failures { Fails (E.state err.old) (E.state err.new) result }
+    ensures { Tells (E.state err.old) (E.state err.new) (warnings (rules_in listing.now) counts) result }
 {
     let tool = listing.tool;
     put_warning(
@@ -123,8 +121,7 @@ fn put_warning<'a, E: Sink>(
     one: &'a [u8],
     many: &'a [u8],
 ) -> Result<(), SinkFault>
-    ensures text { Tells (E.state err.old) (E.state err.new) (warning tool.now count one.now many.now) result }
-    ensures failures { Fails (E.state err.old) (E.state err.new) result }
+    ensures { Tells (E.state err.old) (E.state err.new) (warning tool.now count one.now many.now) result }
 {
     if count == 0 {
         return Ok(());
@@ -143,8 +140,7 @@ fn put_warning<'a, E: Sink>(
 }
 
 fn put_unverified<E: Sink>(err: &mut E, listing: &Listing, counts: Counts) -> Result<(), SinkFault>
-    ensures text { Tells (E.state err.old) (E.state err.new) (unverified_line (rules_in listing.now) counts) result }
-    ensures failures { Fails (E.state err.old) (E.state err.new) result }
+    ensures { Tells (E.state err.old) (E.state err.new) (unverified_line (rules_in listing.now) counts) result }
 {
     if listing.settings.ignore_missing && counts.right == 0 {
         return put_list_line(err, listing, b"no file was verified");
@@ -158,8 +154,7 @@ fn put_list_line<E: Sink>(
     listing: &Listing,
     text: &'static [u8],
 ) -> Result<(), SinkFault>
-    ensures text { Tells (E.state err.old) (E.state err.new) (list_line (rules_in listing.now) text.now) result }
-    ensures failures { Fails (E.state err.old) (E.state err.new) result }
+    ensures { Tells (E.state err.old) (E.state err.new) (list_line (rules_in listing.now) text.now) result }
 {
     tell(
         err,

@@ -13,18 +13,18 @@ abbrev pub Hands : {E : Type 0} → Option (List ℕ) → Option (List ℕ) → 
 Hands a b text (Ok u) = Appends a b text
 Hands a b text (Err e) = AppendsPrefix a b text
 
--- a call that writes the text and hands it on, where nothing was held; then nothing is held
-abbrev pub Tells : {E : Type 0} → SinkState → SinkState → List ℕ → Result (Unit {0}) E → Type 0
-Tells a b text r = a.held ≡ [] → (b.held ≡ []) × Hands a.written b.written text r
-
--- a line's report on standard output, before its number is known
-abbrev pub out_by : Profile → Report → Verdict → List ℕ → List ℕ
-out_by p report v name = if is_hidden report v then [] else verdict_line p v name
-
 -- the failures of one output over a call that fails just where one of its calls did
 abbrev pub Fails : {A E : Type 0} → SinkState → SinkState → Result A E → Type 0
 Fails a b (Ok u) = b.failures ≡ a.failures
 Fails a b (Err e) = b.failures ≡ after_failure a.failures
+
+-- a call that writes the text and hands it on, where nothing was held; then nothing is held
+abbrev pub Tells : {E : Type 0} → SinkState → SinkState → List ℕ → Result (Unit {0}) E → Type 0
+Tells a b text r = Fails a b r × (a.held ≡ [] → (b.held ≡ []) × Hands a.written b.written text r)
+
+-- a line's report on standard output, before its number is known
+abbrev pub out_by : Profile → Report → Verdict → List ℕ → List ℕ
+out_by p report v name = if is_hidden report v then [] else verdict_line p v name
 
 -- a text was handed on by one output, from a to b, and then another by the other, from c to d; or a prefix of both
 abbrev pub HandsBoth : {E : Type 0} → SinkState → SinkState → SinkState → SinkState → List ℕ → List ℕ

@@ -1,8 +1,6 @@
 use Rattle.std.proofs.Common.{Ok, Err, refl, ◌∙◌, rules}
 use Rattle.sum_engine.specs.refinement.Listings.{rules_in}
-use Rattle.sum_engine.specs.RunStates.{run_state}
 use Rattle.sum_engine.proofs.ManifestLemmas.{comes_none, comes_more, comes_last}
-use Rattle.sum_engine.proofs.StepLemmas.{standing_of}
 use Rattle.sum_engine.proofs.manifest.check_input.Goals as goal
 
 pub lines-init : goal.lines-init
@@ -12,29 +10,26 @@ lines-init g c = record {
   rules = c.over-checker.ensures.rules;
   going = c.over-checker.ensures.answer;
   refusals = refl;
-  out = refl;
-  err = refl;
+  failures = (refl, refl);
 }
 
 -- a step stopped
 pub returns-in-Err-clause-gives : goal.returns-in-Err-clause-gives
 returns-in-Err-clause-gives g c =
     let so_far = c.lines.invariant in
-    let last = run_state g.J.Input.content g.S.Source.told g.O.Sink.written g.E.Sink.written c.step.new.streams in
-    let next = standing_of g.I.Input.content c.step.new.self.place last in
-    λ hold. comes_last _ (rules_in c.args.listing) _ _ _ next c.step.new.line.items (Err c.in-Err.stop) _ _ _
-    so_far.rules (so_far.comes hold) so_far.refusals (c.in-Err.ensures.gives so_far.going (so_far.none hold))
+    λ hold. comes_last g.I.Input.state g.S.Source.state _ (rules_in c.args.listing) _ c.args.streams.now
+    c.step.new.streams _ c.step.new.self.place c.step.new.line.items (Err c.in-Err.stop)
+    so_far.rules (so_far.comes hold) (c.in-Err.ensures.gives so_far.going (so_far.none hold))
 
 -- the end was handled
 pub returns-in-Ok-Ended-clause-gives : goal.returns-in-Ok-Ended-clause-gives
 returns-in-Ok-Ended-clause-gives g c =
     let so_far = c.lines.invariant in
-    let last = run_state g.J.Input.content g.S.Source.told g.O.Sink.written g.E.Sink.written c.step.new.streams in
-    let next = standing_of g.I.Input.content c.step.new.self.place last in
     λ hold.
     let ended = rw c.in-Ok-Ended.field-0-is at (c.in-Ok-Ended.ensures.gives so_far.going (so_far.none hold)) in
-    comes_last _ (rules_in c.args.listing) _ _ _ next c.step.new.line.items (Ok c.in-Ok-Ended.good) _ _ 0
-    so_far.rules (so_far.comes hold) so_far.refusals ended
+    comes_last g.I.Input.state g.S.Source.state _ (rules_in c.args.listing) _ c.args.streams.now
+    c.step.new.streams _ c.step.new.self.place c.step.new.line.items (Ok c.in-Ok-Ended.good)
+    so_far.rules (so_far.comes hold) ended
 
 pub lines-preserved : goal.lines-preserved
 lines-preserved g c =
@@ -43,12 +38,10 @@ lines-preserved g c =
     record {
       comes = λ hold.
           let gone = rw c.in-Ok-Going.field-0-is at (c.in-Ok-Going.ensures.gives so_far.going (so_far.none hold)) in
-          comes_more _ (rules_in c.args.listing) _ _ _ _ 0 0 c.step.new.line.items so_far.rules (so_far.comes hold)
-          gone;
+          comes_more _ (rules_in c.args.listing) _ _ _ _ c.step.new.line.items so_far.rules (so_far.comes hold) gone;
       none = λ hold. c.in-Ok-Going.ensures.none (so_far.none hold);
       rules = (c.in-Ok-Going.ensures.reads so_far.going).rules ∙ so_far.rules;
       going = c.in-Ok-Going.ensures.answer so_far.going ∙ search rules;
       refusals = c.in-Ok-Going.ensures.wants so_far.going ∙ so_far.refusals;
-      out = failures.0 ∙ so_far.out;
-      err = failures.1 ∙ so_far.err;
+      failures = (failures.0 ∙ so_far.failures.0, failures.1 ∙ so_far.failures.1);
     }

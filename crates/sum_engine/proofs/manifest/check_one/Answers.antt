@@ -2,61 +2,56 @@ use Rattle.std.proofs.Common.{◌≡◌, true, false, Ok, Err, refl, rules}
 use Rattle.std.proofs.lemmas.Result.{err_from_is_err_and}
 use Rattle.sum_engine.specs.Worlds.{is_dash}
 use Rattle.sum_engine.proofs.ManifestLemmas.{Call, check_gives, dash_opened, file_opened, refused, no_room}
-use Rattle.sum_engine.proofs.RunStateLemmas.{seen_of}
 use Rattle.sum_engine.proofs.manifest.check_one.Goals as goal
 
 -- the manifest is standard input
 pub returns-then-is_dash-clause-gives : goal.returns-then-is_dash-clause-gives
 returns-then-is_dash-clause-gives g c =
     let call : Call = record { settings = c.args.settings; tool = c.args.tool.now; name = c.args.name.now } in
-    let first = seen_of g.J.Input.content g.S.Source.told g.O.Sink.written g.E.Sink.written c.args.streams.now in
     let dash : is_dash call.name ≡ true = search rules in
-    let opened = dash_opened call.name (g.S.Source.told c.args.streams.now.source) _ first dash in
-    λ hold.
+    rw (← c.streams.view_is) (λ hold.
     let run = rw (c.take-input.ensures.given, c.take-input.ensures.taken) at (c.check_input.ensures.gives hold) in
-    check_gives call true _ _ _ _ _ _ _ _ dash refl opened run
+    check_gives g.S.Source.state call true _ _ _ _ _ dash (dash_opened g.S.Source.state call.name _ dash) run)
 
 -- there was no memory to open it
 pub returns-in-Err-Memory-clause-gives : goal.returns-in-Err-Memory-clause-gives
 returns-in-Err-Memory-clause-gives g c =
     let call : Call = record { settings = c.args.settings; tool = c.args.tool.now; name = c.args.name.now } in
-    let first = seen_of g.J.Input.content g.S.Source.told g.O.Sink.written g.E.Sink.written c.args.streams.now in
     let answer = rw c.in-Err-Memory.field-0-is at c.in-Err-Memory.ensures.answer in
     let refused = rw c.in-Err-Memory.field-0-is at c.in-Err-Memory.ensures.refusals in
-    λ hold. no_room g.S.File.Input.content call (g.S.Source.told c.args.streams.now.source) _ _ first _ _ answer refused
+    rw (← c.streams-2.view_is)
+    (λ hold. no_room g.S.File.Input.state g.S.Source.state call _ _ answer refused)
 
 -- it could not be opened, and that was told
 pub returns-in_ok-put_fault_line-in-Err-Fault-clause-gives :
     goal.returns-in_ok-put_fault_line-in-Err-Fault-clause-gives
 returns-in_ok-put_fault_line-in-Err-Fault-clause-gives g c =
     let call : Call = record { settings = c.args.settings; tool = c.args.tool.now; name = c.args.name.now } in
-    let first = seen_of g.J.Input.content g.S.Source.told g.O.Sink.written g.E.Sink.written c.args.streams.now in
     let dash : is_dash call.name ≡ false = search rules in
     let answer = rw c.in-Err-Fault.field-0-is at c.in-Err-Fault.ensures.answer in
-    let told = rw c.in-Err-Fault.fault-is at c.in_ok-put_fault_line-in-Err-Fault.ensures.text in
-    λ hold. refused g.S.File.Input.content call (g.S.Source.told c.args.streams.now.source) _ _
-    c.in-Err-Fault.fault first _ 0 0 (Ok tt) dash answer (told hold.1).1
+    let refusals = rw c.in-Err-Fault.field-0-is at c.in-Err-Fault.ensures.refusals in
+    let told = rw c.in-Err-Fault.fault-is at c.in_ok-put_fault_line-in-Err-Fault.ensures in
+    rw (← c.streams-2.view_is) (λ hold. refused g.S.File.Input.state g.S.Source.state call _ _
+    c.in-Err-Fault.fault _ (Ok tt) dash answer refusals (told.1 hold.1).1)
 
 -- the line of its fault was cut off
 pub returns-in_err-put_fault_line-in-Err-Fault-clause-gives :
     goal.returns-in_err-put_fault_line-in-Err-Fault-clause-gives
 returns-in_err-put_fault_line-in-Err-Fault-clause-gives g c =
     let call : Call = record { settings = c.args.settings; tool = c.args.tool.now; name = c.args.name.now } in
-    let first = seen_of g.J.Input.content g.S.Source.told g.O.Sink.written g.E.Sink.written c.args.streams.now in
     let dash : is_dash call.name ≡ false = search rules in
     let answer = rw c.in-Err-Fault.field-0-is at c.in-Err-Fault.ensures.answer in
-    let cut = rw c.in-Err-Fault.fault-is at c.in_err-put_fault_line-in-Err-Fault.ensures.text in
+    let refusals = rw c.in-Err-Fault.field-0-is at c.in-Err-Fault.ensures.refusals in
+    let cut = rw c.in-Err-Fault.fault-is at c.in_err-put_fault_line-in-Err-Fault.ensures in
     let stop = err_from_is_err_and c.from_residual.result c.from_residual.ensures.1 in
-    λ hold. rw (stop.1, stop.2) (refused g.S.File.Input.content call (g.S.Source.told c.args.streams.now.source) _ _
-    c.in-Err-Fault.fault first _ 0 0 (Err tt) dash answer (cut hold.1).1)
+    rw (stop.1, stop.2, ← c.streams-2.view_is) (λ hold. refused g.S.File.Input.state g.S.Source.state call
+    _ _ c.in-Err-Fault.fault _ (Err tt) dash answer refusals (cut.1 hold.1).1)
 
 -- it is a file
 pub returns-in-Ok-clause-gives : goal.returns-in-Ok-clause-gives
 returns-in-Ok-clause-gives g c =
     let call : Call = record { settings = c.args.settings; tool = c.args.tool.now; name = c.args.name.now } in
-    let first = seen_of g.J.Input.content g.S.Source.told g.O.Sink.written g.E.Sink.written c.args.streams.now in
     let dash : is_dash call.name ≡ false = search rules in
-    let opened = file_opened g.S.File.Input.content call.name (g.S.Source.told c.args.streams.now.source) _ _
-    c.in-Ok.file first dash c.in-Ok.ensures.answer in
-    λ hold. check_gives call false _ _ _ _ _ _ _ _ dash c.in-Ok.ensures.refusals opened
-    (c.check_input-in-Ok.ensures.gives hold)
+    rw (← c.streams-2.view_is) (λ hold. check_gives g.S.Source.state call false _ _ _ _ _ dash
+    (file_opened g.S.File.Input.state g.S.Source.state call.name _ _ c.in-Ok.file dash c.in-Ok.ensures.answer
+    c.in-Ok.ensures.refusals) (c.check_input-in-Ok.ensures.gives hold))

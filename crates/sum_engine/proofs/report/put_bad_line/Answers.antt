@@ -1,5 +1,5 @@
 use Rattle.sum_engine.proofs.report.put_bad_line.Goals as goal
 
-pub returns-clause-text : goal.returns-clause-text
-returns-clause-text g c =
-    rw (c.as_bytes.ensures.value, c.as_bytes-2.ensures.value, c.tag_word-word.ensures) at c.tell.ensures.text
+pub returns : goal.returns
+returns g c =
+    rw (c.as_bytes.ensures.value, c.as_bytes-2.ensures.value, c.tag_word-word.ensures) at c.tell.ensures

@@ -1,8 +1,8 @@
-use Rattle.std.proofs.Common.{◌≡◌, slice_range, refl, ap, ◌∙◌}
+use Rattle.std.proofs.Common.{◌≡◌, slice_range, refl, ap, sym, ◌∙◌}
 use Rattle.sum_lines.specs.Profiles.{present}
 use Rattle.sum_lines.specs.Entries.{Spelled, form_then, line_form}
 use Rattle.sum_lines.specs.ParsedLines.{parse_line, WithEntry}
-use Rattle.sum_engine.specs.refinement.Listings.{rules_in}
+use Rattle.sum_engine.specs.refinement.Positions.{place_of}
 use Rattle.sum_engine.proofs.FindLemmas.{line_found}
 use Rattle.sum_engine.proofs.position.Position.judge_line.Goals as goal
 
@@ -19,9 +19,9 @@ returns-in-Some-clause-gives g c =
       digest = entry.digest;
       name = slice_range vector entry.start entry.stop;
     } in
-    let said : WithEntry s ≡ parse_line present algos (form_then old.form (line_form algos line)) line =
-    rw entry.is at (c.read-reading.ensures.said
-    ∙ ap (λ f. parse_line present algos f line) c.read-reading.ensures.form) in
+    let said : parse_line present algos (form_then old.form (line_form algos line)) line ≡ WithEntry s =
+    sym (rw entry.is at (c.read-reading.ensures.said
+    ∙ ap (λ f. parse_line present algos f line) c.read-reading.ensures.form)) in
     let judged = rw c.deref.ensures.value at c.in-Some.ensures.gives in
-    rw (c.found-in-Entry.ensures.is, ← said) (line_found (rules_in old.listing) (WithEntry s) old.reader.lines _
-    old.counts _ vector _ _ _ _ _ judged c.found-in-Entry.ensures.counts refl refl)
+    rw c.found-in-Entry.ensures.is (line_found (place_of old) line (WithEntry s) _ _ vector _ _ _ _ _ said judged
+    c.found-in-Entry.ensures.counts refl refl)
