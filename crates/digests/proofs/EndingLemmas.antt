@@ -1,13 +1,11 @@
 -- The end of a program: a run that answered, both outputs flushed once more, and the line for a stop.
 use Rattle.std.proofs.Common.{◌≡◌, ℕ, [], ◌∷◌, ◌++◌, Option, None, Some, Result, Ok, Err, refl, ap, ◌∙◌, inl, inr, append-nil}
 use Rattle.std.specs.Io.KnownBytes.{Keeps, Appends}
-use Rattle.std.proofs.KnownBytes.{Appends-nil, Appends-trans, Appends-kept}
 use Rattle.sum_lines.specs.Sinks.{SinkState, Dropped}
 use Rattle.sum_engine.specs.declared.stop.Stop.{Stop}
 use Rattle.sum_engine.specs.declared.stop.Stop.TheVariants.{Memory, Write}
-use Rattle.sum_engine.specs.refinement.Telling.{Hands, Fails}
+use Rattle.sum_engine.specs.refinement.Telling.{Tells}
 use Rattle.sum_words.specs.Items.{Text}
-use Rattle.digests.specs.Program.{FailureCounts}
 use Rattle.digests.specs.refinement.Endings.{Settles, Tellings, Closes}
 
 -- nothing has no prefix but nothing
@@ -26,38 +24,22 @@ pub dropped-none : (a b : SinkState) → Dropped a b → a.held ≡ [] → Keeps
 dropped-none a b h none =
     flushed-none a.written b.written h.handed.2 (no_prefix h.handed.0 h.handed.1.0 (rw none at h.handed.1.1))
 
--- a line behind what was kept
-pub Keeps-Appends : (a b c : Option Text) (text : Text) → Keeps a b → Appends b c text → Appends a c text
-Keeps-Appends a b c text kept h = Appends-trans a b c [] text (Appends-kept a a b [] (Appends-nil a) kept) h
-
 -- the line for a stop was told, whole or in part
-pub tells-stop : {E : Type 0} (line : Text) (a b c d e : Option Text) (f g : FailureCounts) (r : Result (Unit {0}) E)
-    → Keeps a b → Keeps c d → g.out ≡ f.out → Hands d e line r → Fails f.err g.err r → Tellings line a b c e f g 1
-tells-stop line a b c d e f g (Ok u) kept still same h failed =
-    record {
-      is = refl;
-      out = kept;
-      said = line;
-      err = Keeps-Appends c d e line still h;
-      says = (same, inl (refl, failed));
-    }
-tells-stop line a b c d e f g (Err x) kept still same h failed =
-    record {
-      is = refl;
-      out = kept;
-      said = h.0;
-      err = Keeps-Appends c d e h.0 still h.2;
-      says = (same, inr (h.1, failed));
-    }
+pub tells-stop : {E : Type 0} (line : Text) (a b : SinkState) (r : Result (Unit {0}) E) → a.held ≡ []
+    → Tells a b line r → Tellings line a b 1
+tells-stop line a b (Ok u) none h =
+    record { is = refl; said = line; err = (h.1 none).1; says = inl (refl, h.0) }
+tells-stop line a b (Err x) none h =
+    let part = (h.1 none).1 in
+    record { is = refl; said = part.0; err = part.2; says = inr (part.1, h.0) }
 
--- a run that answered so was settled, and stopped then or before; f, g and h are the failures before that, after it,
--- and once the line was told
-pub closes-stop : {E : Type 0} (line : Stop → Text) (answer : Result ℕ Stop) (stop : Stop) (a b c d e : Option Text)
-    (f g h : FailureCounts) (r : Result (Unit {0}) E) → Settles f g answer (Err stop) → Keeps a b → Keeps c d
-    → h.out ≡ g.out → Hands d e (line stop) r → Fails g.err h.err r → Closes line answer a b c e f h 1
-closes-stop line (Ok x) Memory a b c d e f g h r settled kept still same told failed = absurd settled
-closes-stop line (Ok x) Write a b c d e f g h r settled kept still same told failed =
-    inr (g, settled, tells-stop (line Write) a b c d e g h r kept still same told failed)
-closes-stop line (Err s) stop a b c d e f g h r settled kept still same told failed =
+-- a run that answered so was settled, and stopped then or before: from a to b and from c to e; then the line was told
+pub closes-stop : {E : Type 0} (line : Stop → Text) (answer : Result ℕ Stop) (stop : Stop) (a b c e d : SinkState)
+    (r : Result (Unit {0}) E) → Settles a b c e answer (Err stop) → Keeps a.written b.written
+    → Keeps c.written e.written → e.held ≡ [] → Tells e d (line stop) r → Closes line answer a b c d 1
+closes-stop line (Ok x) Memory a b c e d r settled kept still none told = absurd settled
+closes-stop line (Ok x) Write a b c e d r settled kept still none told =
+    inr (e, kept, still, settled, tells-stop (line Write) e d r none told)
+closes-stop line (Err s) stop a b c e d r settled kept still none told =
     let is : stop ≡ s = cc in
-    rw (← is, ← settled.1) (tells-stop (line stop) a b c d e g h r kept still same told failed)
+    (settled.1, rw (← is, ← settled.2) (tells-stop (line stop) e d r none told))

@@ -1,23 +1,24 @@
 -- Operands, one after another: what those before came to, joined to what the rest comes to, is the whole.
-use Rattle.std.proofs.Common.{◌≡◌, ℕ, Bool, true, List, [], ◌∷◌, Option, Result, Ok, Err, None, Some, refl, ap, sym, ◌∙◌, subst, append_assoc}
+use Rattle.std.proofs.Common.{◌≡◌, ℕ, Bool, true, List, [], ◌∷◌, Option, Result, Ok, Err, None, Some, refl, ap, sym, ◌∙◌, inl, inr, subst, append_assoc}
 use Rattle.std.specs.Prelude.{◌&&◌}
 use Rattle.std.proofs.Math.Bool.{and_assoc, and-true}
 use Rattle.std.proofs.lemmas.List.{append-nil}
+use Rattle.sum_sources.specs.Contents.{WhereTold}
+use Rattle.sum_sources.specs.Sources.{SourceState, after_refusal}
 use Rattle.sum_sources.proofs.ToldLemmas.{WhereTold-map, WhereTold-then}
 use Rattle.sum_engine.specs.declared.stop.Stop.{Stop}
 use Rattle.sum_engine.specs.declared.stop.Stop.TheVariants.{Memory, Write}
-use Rattle.sum_engine.specs.declared.settings.Settings.{Settings}
-use Rattle.sum_engine.specs.declared.settings.CheckSettings.{CheckSettings}
 use Rattle.sum_engine.specs.Worlds.{World, after}
 use Rattle.sum_engine.specs.Runs.{Run, run_then, asks}
-use Rattle.sum_engine.specs.RunStates.{RunState, RunOf, RunGives, refusals_over}
-use Rattle.sum_engine.specs.Manifests.{RefusedOnMemory}
+use Rattle.sum_engine.specs.Moments.{Moment, RunState, run_state}
+use Rattle.sum_engine.specs.RunStates.{RunOf, RunsTo}
 use Rattle.sum_engine.proofs.RunStateLemmas.{did_nothing}
 use Rattle.sum_engine.proofs.RunLemmas.{run_then-did, run_then-first, run_then-second, events_extend}
+use Rattle.sum_words.specs.declared.request.Job.{Job}
 use Rattle.sum_words.specs.declared.request.Job.TheVariants as jobs
 use Rattle.sum_words.specs.Items.{Text}
 use Rattle.digests.specs.Meaning.{all_of, status_of}
-use Rattle.digests.specs.Headline.{RunsTo, RefusalsOfJob, RefusalsOf}
+use Rattle.digests.specs.Headline.{RefusalsOfJob}
 use Rattle.digests.specs.refinement.Operands.{Reached, HasReached}
 
 -- ---- runs, one after another
@@ -34,7 +35,7 @@ nothing = record { steps = []; good = true }
 run_then-nothing : (a : Run) → run_then a nothing ≡ a
 run_then-nothing a = rw (append-nil a.steps, and-true a.good) refl
 
--- ---- operands, one after another; the source was refused memory n times before a call, and m times after it
+-- ---- operands, one after another
 
 -- one of the operands, and all of their names
 pub record Operands : Type 0 where
@@ -42,18 +43,22 @@ pub record Operands : Type 0 where
   pub names : List Text
 
 -- before the first operand nothing came about
-pub reached_start : {rest : List Text} (o : Operands) (s : Option RunState) → o.names ≡ rest
-    → HasReached o.one o.names rest s s true
-reached_start o None is = tt
-reached_start o (Some a) is =
+started : (o : Operands) (rest : List Text) (s : Option RunState) → o.names ≡ rest
+    → WhereTold s s (λ s t. Reached o.one o.names rest s t true)
+started o rest None is = tt
+started o rest (Some a) is =
     record { done = nothing; total = ap (all_of o.one a.world) is; did = did_nothing a; is = refl }
 
--- one operand more came about, whatever n and m, the refusals
-pub reached_step : (o : Operands) (n m : ℕ) (good this : Bool) (name : Text) (rest : List Text)
-    (s t u : Option RunState) → HasReached o.one o.names (name ∷ rest) s t good
-    → RunGives (λ w. o.one w name) n m t u (Ok this)
-    → HasReached o.one o.names rest s u (good && this)
-reached_step o n m good this name rest s t u h k = WhereTold-then s t u (λ a b c p q.
+pub reached_start : {S : Type 0} (state : S → SourceState) (o : Operands) {rest : List Text} (a : Moment S)
+    → o.names ≡ rest → HasReached state o.one o.names rest a a true
+reached_start state o {rest = rest} a is = started o rest (run_state state a) is
+
+-- one operand more came about
+pub reached_step : {S : Type 0} (state : S → SourceState) (o : Operands) (good this : Bool) (name : Text)
+    (rest : List Text) (x y z : Moment S) → HasReached state o.one o.names (name ∷ rest) x y good
+    → RunsTo state (λ w. o.one w name) (λ g. g) y z (Ok this) → HasReached state o.one o.names rest x z (good && this)
+reached_step state o good this name rest x y z h k =
+    WhereTold-then (run_state state x) (run_state state y) (run_state state z) (λ a b c p q.
     let run = o.one b.world name in
     let world : c.world ≡ after b.world (asks run) = (events_extend run b c q.1).0 in
     record {
@@ -65,43 +70,34 @@ reached_step o n m good this name rest s t u h k = WhereTold-then s t u (λ a b 
     }) h k
 
 -- no operand is left
-pub reached_end : (o : Operands) (n m : ℕ) (good : Bool) (s t : Option RunState) → HasReached o.one o.names [] s t good
-    → RunsTo (λ w. all_of o.one w o.names) n m s t (Ok (status_of good))
-reached_end o n m good s t h = WhereTold-map s t (λ a b (p : Reached o.one o.names [] a b good).
+pub reached_end : {S : Type 0} (state : S → SourceState) (o : Operands) (good : Bool) (x y : Moment S)
+    → HasReached state o.one o.names [] x y good
+    → RunsTo state (λ w. all_of o.one w o.names) status_of x y (Ok (status_of good))
+reached_end state o good x y h =
+    WhereTold-map (run_state state x) (run_state state y) (λ a b (p : Reached o.one o.names [] a b good).
     let whole : all_of o.one a.world o.names ≡ p.done = p.total ∙ run_then-nothing p.done in
     rw whole (ap status_of p.is, p.did)) h
 
--- the next operand stopped the run; those before it were refused nothing
-pub reached_stop : (o : Operands) (n i m : ℕ) (stop : Stop) (good : Bool) (name : Text) (rest : List Text)
-    (s t u : Option RunState) → i ≡ n → HasReached o.one o.names (name ∷ rest) s t good
-    → RunGives (λ w. o.one w name) i m t u (Err stop)
-    → RunsTo (λ w. all_of o.one w o.names) n m s u (Err stop)
-reached_stop o n i m stop good name rest s t u same h k = WhereTold-then s t u (λ a b c p q.
+-- the next operand stopped the run
+pub reached_stop : {S : Type 0} (state : S → SourceState) (o : Operands) (stop : Stop) (good : Bool) (name : Text)
+    (rest : List Text) (x y z : Moment S) → HasReached state o.one o.names (name ∷ rest) x y good
+    → RunsTo state (λ w. o.one w name) (λ g. g) y z (Err stop)
+    → RunsTo state (λ w. all_of o.one w o.names) status_of x z (Err stop)
+reached_stop state o stop good name rest x y z h k =
+    WhereTold-then (run_state state x) (run_state state y) (run_state state z) (λ a b c p q.
     let run = o.one b.world name in
     let later = all_of o.one (after b.world (asks run)) rest in
     let status = status_of (run_then p.done (run_then run later)).good in
-    let next = run_then-first b c i m status run.good run.steps later.steps stop q in
-    let all = run_then-second c n i m status status p.done.steps (run_then run later).steps stop same p.did next in
-    subst (λ (r : Run). RunOf (status_of r.good) r.steps n m a c (Err stop)) (sym p.total) all) h k
-
--- ---- how often the source was refused memory
-
--- in generation a stop for want of memory is one refusal more
-pub generates-refused : {m : ℕ} (settings : Settings) (n : ℕ) (r : Result Bool Stop) → m ≡ refusals_over n r
-    → RefusalsOf (RefusalsOfJob (jobs.Generate settings)) n m r
-generates-refused settings n (Ok good) h = h
-generates-refused settings n (Err Write) h = h
-generates-refused settings n (Err Memory) h = h
-
--- in checking it may be one more
-pub checks-refused : (settings : CheckSettings) (n m : ℕ) (r : Result Bool Stop) → RefusedOnMemory n m r
-    → RefusalsOf (RefusalsOfJob (jobs.Check settings)) n m r
-checks-refused settings n m (Ok good) h = h
-checks-refused settings n m (Err Write) h = h
-checks-refused settings n m (Err Memory) h = h
+    let next = run_then-first b c status run.good run.steps later.steps stop q in
+    let all = run_then-second c status status p.done.steps (run_then run later).steps stop p.did next in
+    subst (λ (r : Run). RunOf r.steps (status_of r.good) a c (Err stop)) (sym p.total) all) h k
 
 -- a stop at the last of several operands, where those before it were refused nothing
-pub refused-since : {n n' : ℕ} (P : ℕ → ℕ → Type 0) (m : ℕ) (stop : Stop)
-    → n' ≡ n → RefusalsOf {A = Bool} P n' m (Err stop) → RefusalsOf {A = ℕ} P n m (Err stop)
-refused-since P m Write is h = h ∙ is
-refused-since P m Memory is h = rw is at h
+pub refused-since : {S : Type 0} (state : S → SourceState) (job : Job) (x y z : Moment S) (stop : Stop)
+    → (state y.source).refusals ≡ (state x.source).refusals → RefusalsOfJob {A = Bool} state job y z (Err stop)
+    → RefusalsOfJob {A = ℕ} state job x z (Err stop)
+refused-since state (jobs.Generate settings) x y z Write is h = h ∙ is
+refused-since state (jobs.Generate settings) x y z Memory is h = h ∙ ap after_refusal is
+refused-since state (jobs.Check settings) x y z Write is h = h ∙ is
+refused-since state (jobs.Check settings) x y z Memory is (inl h) = inl (h ∙ is)
+refused-since state (jobs.Check settings) x y z Memory is (inr h) = inr (h ∙ ap after_refusal is)

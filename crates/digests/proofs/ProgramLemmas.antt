@@ -1,133 +1,111 @@
 -- A run and its end, joined: what the whole program does.
-use Rattle.std.proofs.Common.{ℕ, List, [], map, Option, None, Some, Result, Ok, Err, refl, sym, inl, inr, subst, append-nil}
+use Rattle.std.proofs.Common.{ℕ, List, [], map, Option, None, Some, Result, Ok, Err, refl, sym, ◌∙◌, inl, inr, subst, append-nil}
 use Rattle.std.specs.Io.KnownBytes.{Keeps, Appends}
 use Rattle.std.proofs.KnownBytes.{Appends-nil, Appends-kept}
-use Rattle.std.proofs.Math.Bool.{or-false}
-use Rattle.sum_sources.specs.Contents.{WhereTold}
-use Rattle.sum_lines.specs.Sinks.{IsPrefix}
+use Rattle.sum_sources.specs.Sources.{SourceState}
+use Rattle.sum_lines.specs.Sinks.{SinkState, IsPrefix}
 use Rattle.sum_engine.specs.declared.stop.Stop.{Stop}
 use Rattle.sum_engine.specs.declared.stop.Stop.TheVariants.{Memory, Write}
-use Rattle.sum_engine.specs.Worlds.{World}
+use Rattle.sum_engine.specs.Moments.{Moment, RunState, known, Failures}
 use Rattle.sum_engine.specs.Runs.{Event, Tells, Run, events}
-use Rattle.sum_engine.specs.RunStates.{RunState, run_state_by, Did, RunOf, NoFailure, OneFailure}
-use Rattle.sum_engine.proofs.WorldLemmas.{after-none}
-use Rattle.sum_engine.proofs.RunStateLemmas.{Seen, seen, seen_at, did_by}
+use Rattle.sum_engine.specs.RunStates.{Did, RunOf, RunsTo}
+use Rattle.sum_engine.specs.refinement.Telling.{Fails}
+use Rattle.sum_engine.proofs.RunStateLemmas.{where_known, known_worlds, asks_none, did_by}
 use Rattle.sum_words.specs.Items.{Text}
 use Rattle.sum_words.specs.CommandLines.{Call}
 use Rattle.sum_words.specs.refinement.Arguments.{CallIs, MayBeUnread}
 use Rattle.digests.specs.Meaning.{status_of}
-use Rattle.digests.specs.Headline.{RunsTo}
-use Rattle.digests.specs.Program.{FailureCounts, Failed, Leaves, EndsGives, ProgramGives, run_of, line_of_stop}
-use Rattle.sum_engine.specs.refinement.Telling.{Fails}
+use Rattle.digests.specs.Program.{Leaves, EndsGives, ProgramGives, run_of, line_of_stop}
 use Rattle.digests.specs.refinement.Endings.{Closes}
 use Rattle.digests.specs.refinement.Operands.{once_told}
 
--- what a run's answer says of the failures of both outputs
-abbrev pub CountsOf : {A : Type 0} → ℕ → ℕ → ℕ → ℕ → Result A Stop → Type 0
-CountsOf o i e j (Err Write) = OneFailure o i e j
-CountsOf o i e j r = NoFailure o i e j
-
--- the same, by the counts themselves
-pub failures_of-is : (o i e j : ℕ) (r : Result ℕ Stop) → CountsOf o i e j r
-    → Failed (record { out = o; err = e }) (record { out = i; err = j }) r
-failures_of-is o i e j (Ok a) h = rw (h.0, h.1) refl
-failures_of-is o i e j (Err Memory) h = rw (h.0, h.1) refl
-failures_of-is o i e j (Err Write) h = h
-
 -- one text was told on standard error
-pub failures_of-told : {E : Type 0} (o e j status : ℕ) (r : Result (Unit {0}) E) → Fails e j r
-    → Failed (record { out = o; err = e }) (record { out = o; err = j }) (once_told r status)
-failures_of-told o e j status (Ok u) h = rw h refl
-failures_of-told o e j status (Err f) h = inr (refl, h)
+pub failures-told : {E : Type 0} (a b c : SinkState) (status : ℕ) (r : Result (Unit {0}) E) → Fails b c r
+    → Failures a a b c (once_told r status)
+failures-told a b c status (Ok u) h = (refl, h)
+failures-told a b c status (Err f) h = inr (refl, h)
 
--- the run state, once both outputs hold this
-abbrev pub with_outputs : RunState → Option Text → Option Text → RunState
+-- ---- a run that answered, and its end
+
+-- the run state, once both outputs stand so
+abbrev pub with_outputs : RunState → SinkState → SinkState → RunState
 with_outputs b out err = record b { out = out; err = err }
 
 -- nothing more was done
-did_kept : {a b : RunState} (p : List Event) (out err : Option Text) → Did a b p → Keeps b.out out → Keeps b.err err
-    → Did a (with_outputs b out err) p
+did_kept : {a b : RunState} (p : List Event) (out err : SinkState) → Did a b p → Keeps b.out.written out.written
+    → Keeps b.err.written err.written → Did a (with_outputs b out err) p
 did_kept {a} {b} p out err h o e = record {
   world = h.world;
   taken = h.taken;
-  err = Appends-kept a.err b.err err _ h.err e;
-  out = Appends-kept a.out b.out out _ h.out o;
+  err = Appends-kept a.err.written b.err.written err.written _ h.err e;
+  out = Appends-kept a.out.written b.out.written out.written _ h.out o;
+  refusals = h.refusals;
 }
 
 -- a line was said, and nothing else was done
-did_line : (b : RunState) (out err : Option Text) (said : Text) → Keeps b.out out → Appends b.err err said
-    → Did b (with_outputs b out err) (map Tells said)
-did_line b out err said o e = subst (λ es. Did b (with_outputs b out err) es) (append-nil (map Tells said)) (
-    did_by [] said [] (after-none b.world) (sym (or-false b.taken)) e
-    (Appends-kept b.out b.out out [] (Appends-nil b.out) o))
-
--- ---- a run that answered, and its end; f, g and h are the failures at first, after the run and in the end
+did_line : (b : RunState) (err : SinkState) (said : Text) → Appends b.err.written err.written said
+    → Did b (record b { err = err }) (map Tells said)
+did_line b err said e = subst (λ es. Did b (record b { err = err }) es) (append-nil (map Tells said)) (
+    did_by [] said [] (asks_none refl refl refl) e (Appends-nil b.out.written))
 
 -- what a program gives between two run states
-abbrev Ends : Option Call → Run → ℕ → ℕ → FailureCounts → FailureCounts → RunState → RunState → ℕ → Type 0
-Ends line run n m f h a b status = (answer : Result ℕ Stop) × (between : RunState) × (g : FailureCounts)
-    × Failed f g answer × RunOf (status_of run.good) run.steps n m a between answer
-    × Leaves line answer g h between b status
+abbrev Ends : Option Call → Run → RunState → RunState → ℕ → Type 0
+Ends line run a b status = (answer : Result ℕ Stop) × (between : RunState)
+    × RunOf run.steps (status_of run.good) a between answer × Failures a.out between.out a.err between.err answer
+    × Leaves line answer between b status
 
 -- by the run's answer; where the last flush failed, that is a write fault behind all events
-ends : {a : RunState} (b : RunState) (status : ℕ) (run : Run) (line : Option Call) (n m : ℕ) (f g h : FailureCounts)
-    (out err : Option Text) (answer : Result ℕ Stop) → RunOf (status_of run.good) run.steps n m a b answer
-    → Failed f g answer → Closes (line_of_stop line) answer b.out out b.err err g h status
-    → Ends line run n m f h a (with_outputs b out err) status
-ends b status run line n m f g h out err (Ok answer) ran failed (inl done) = (
+ends : {a : RunState} (b : RunState) (status : ℕ) (run : Run) (line : Option Call) (out err : SinkState)
+    (answer : Result ℕ Stop) → RunOf run.steps (status_of run.good) a b answer
+    → Failures a.out b.out a.err b.err answer → Closes (line_of_stop line) answer b.out out b.err err status
+    → Ends line run a (with_outputs b out err) status
+ends b status run line out err (Ok answer) ran failed (inl done) = (
   Ok answer,
   with_outputs b out err,
-  g,
-  failed,
   (ran.0, did_kept (events run.steps) out err ran.1 done.1 done.2),
-  (done.0, done.3, refl),
+  (done.3.0 ∙ failed.0, done.3.1 ∙ failed.1),
+  (done.0, refl),
 )
-ends b status run line n m f g h out err (Ok answer) ran failed (inr (broken, rose, told)) =
-    let all : IsPrefix (events run.steps) (events run.steps) = ([], sym (append-nil (events run.steps))) in (
+ends b status run line out err (Ok answer) ran failed (inr (e, kept, still, broken, told)) =
+    let all : IsPrefix (events run.steps) (events run.steps) = ([], sym (append-nil (events run.steps))) in
+    let between = with_outputs b out e in (
       Err Write,
-      b,
-      broken,
-      rw failed at rose,
-      (events run.steps, all, ran.1),
-      (told.is, told.said, told.says, did_line b out err told.said told.out told.err),
+      between,
+      (events run.steps, all, did_kept (events run.steps) out e ran.1 kept still),
+      rw failed at broken,
+      (told.is, refl, told.said, told.says, did_line between err told.said told.err),
     )
-ends b status run line n m f g h out err (Err stop) ran failed told =
-    (Err stop, b, g, failed, ran, (told.is, told.said, told.says, did_line b out err told.said told.out told.err))
-
--- what follows of a run state with other outputs
-with_others
-    : (s : Option RunState) (w : Option World) (b : Seen) (out err : Option Text) (P Q : RunState → RunState → Type 0)
-    → WhereTold s (run_state_by w b.taken b.err b.out) P
-    → ((a : RunState) (v : World) → P a (record { world = v; taken = b.taken; err = b.err; out = b.out })
-    → Q a (record { world = v; taken = b.taken; err = err; out = out }))
-    → WhereTold s (run_state_by w b.taken err out) Q
-with_others None w b out err P Q h f = tt
-with_others (Some a) None b out err P Q h f = h
-with_others (Some a) (Some v) b out err P Q h f = f a v h
+ends b status run line out err (Err stop) ran failed told = (
+  Err stop,
+  b,
+  ran,
+  failed,
+  rw told.0 (told.1.is, refl, told.1.said, told.1.says, did_line b err told.1.said told.1.err),
+)
 
 -- the same, where the run states tell: b is how things stood after the run
-pub program_ends : (status : ℕ) (line : Option Call) (n m : ℕ) (f g h : FailureCounts) (s : Option RunState) (b : Seen)
-    (out err : Option Text) (answer : Result ℕ Stop) → RunsTo (run_of line) n m s (seen b) answer
-    → Failed f g answer → Closes (line_of_stop line) answer b.out out b.err err g h status
-    → EndsGives line n m f h s (seen (record b { out = out; err = err })) status
-program_ends status line n m f g h s b out err answer ran failed closed =
-    with_others s b.world b out err _ _ ran (λ a v did.
-    ends (seen_at b v) status (run_of line a.world) line n m f g h out err answer did failed closed)
+pub program_ends : {S : Type 0} (state : S → SourceState) (status : ℕ) (line : Option Call) (a b : Moment S)
+    (out err : SinkState) (answer : Result ℕ Stop) → RunsTo state (run_of line) status_of a b answer
+    → Failures a.out b.out a.err b.err answer → Closes (line_of_stop line) answer b.out out b.err err status
+    → EndsGives state line a (record b { out = out; err = err }) status
+program_ends state status line a b out err answer ran failed closed = where_known state a _ _
+    (known_worlds state a b ran) (λ w v did.
+    ends (known state b v) status (run_of line w) line out err answer did failed closed)
 
 -- ---- by what was read of the arguments
 
 -- the command line is what they say
-pub program_read
-    : (n m : ℕ) (f g : FailureCounts) (a b : Option RunState) (status : ℕ) (told : Option (List Text)) (c : Call)
-    → CallIs told c → EndsGives (Some c) n m f g a b status → ProgramGives told n m f g a b status
-program_read n m f g a b status None c is h = tt
-program_read n m f g a b status (Some arguments) c is h =
-    inl (subst (λ line. EndsGives line n m f g a b status) (sym is) h)
+pub program_read : {S : Type 0} (state : S → SourceState) (a b : Moment S) (status : ℕ) (told : Option (List Text))
+    (c : Call) → CallIs told c → EndsGives state (Some c) a b status → ProgramGives state told a b status
+program_read state a b status None c is h = tt
+program_read state a b status (Some arguments) c is h =
+    inl (subst (λ line. EndsGives state line a b status) (sym is) h)
 
 -- it couldn't be read
-pub program_unread : (n m : ℕ) (f g : FailureCounts) (a b : Option RunState) (status : ℕ) (told : Option (List Text))
-    → MayBeUnread told → EndsGives None n m f g a b status → ProgramGives told n m f g a b status
-program_unread n m f g a b status None is h = tt
-program_unread n m f g a b status (Some arguments) (inl none) h =
-    inl (subst (λ line. EndsGives line n m f g a b status) (sym none) h)
-program_unread n m f g a b status (Some arguments) (inr memory) h = inr (memory, h)
+pub program_unread : {S : Type 0} (state : S → SourceState) (a b : Moment S) (status : ℕ)
+    (told : Option (List Text)) → MayBeUnread told → EndsGives state None a b status
+    → ProgramGives state told a b status
+program_unread state a b status None is h = tt
+program_unread state a b status (Some arguments) (inl none) h =
+    inl (subst (λ line. EndsGives state line a b status) (sym none) h)
+program_unread state a b status (Some arguments) (inr memory) h = inr (memory, h)

@@ -1,8 +1,8 @@
 //! The whole program, from the list of its arguments to its exit status.
 ghost use Rattle.std.specs.Prelude.{◌≡◌, [], IsOk, codes};
-ghost use Rattle.sum_engine.specs.RunStates.{run_state, HoldNothing};
+ghost use Rattle.sum_engine.specs.Moments.{HoldNothing, NoneFailed};
 ghost use Rattle.sum_engine.specs.refinement.Telling.{Tells};
-ghost use Rattle.digests.specs.Program.{ProgramGives, failures_of};
+ghost use Rattle.digests.specs.Program.{ProgramGives};
 ghost use Rattle.digests.specs.refinement.Endings.{Closes, line_of};
 
 use crate::ending::{settle, tell};
@@ -28,14 +28,10 @@ pub fn command<A: Allocator + Copy, G: Arguments, I: Input + Drop, S: Source, O:
     arguments: &G,
     streams: &mut Streams<I, S, O, E>,
 ) -> u8
-    ensures gives { HoldNothing O.held E.held streams.old → ProgramGives (G.told arguments.now)
-        (S.refusals streams.old.source) (S.refusals streams.new.source)
-        (failures_of O.failures E.failures streams.old) (failures_of O.failures E.failures streams.new)
-        (run_state I.content S.told O.written E.written streams.old)
-        (run_state I.content S.told O.written E.written streams.new) result }
-    ensures none { HoldNothing O.held E.held streams.old → HoldNothing O.held E.held streams.new }
-    ensures kept { result ≡ 0 →
-        failures_of O.failures E.failures streams.new ≡ failures_of O.failures E.failures streams.old }
+    ensures gives { HoldNothing streams.old
+        → ProgramGives S.state (G.told arguments.now) streams.old streams.new result }
+    ensures none { HoldNothing streams.old → HoldNothing streams.new }
+    ensures kept { result ≡ 0 → NoneFailed streams.old.out streams.new.out streams.old.err streams.new.err }
 {
     match read_command_line(alloc, arguments) {
         Ok(CommandLine::Asks(tool, words)) => {
@@ -77,13 +73,12 @@ fn close<O: Sink, E: Sink>(
     out: &mut O,
     err: &mut E,
 ) -> u8
-    ensures gives { O.held out.old ≡ [] → E.held err.old ≡ [] → Closes (line_of tool) answer
-        (O.written out.old) (O.written out.new) (E.written err.old) (E.written err.new)
-        (record { out = O.failures out.old; err = E.failures err.old })
-        (record { out = O.failures out.new; err = E.failures err.new }) result }
-    ensures none { O.held out.old ≡ [] → E.held err.old ≡ [] → (O.held out.new ≡ []) × (E.held err.new ≡ []) }
-    ensures kept { result ≡ 0 → IsOk answer × (O.failures out.new ≡ O.failures out.old)
-        × (E.failures err.new ≡ E.failures err.old) }
+    ensures gives { (O.state out.old).held ≡ [] → (E.state err.old).held ≡ [] → Closes (line_of tool) answer
+        (O.state out.old) (O.state out.new) (E.state err.old) (E.state err.new) result }
+    ensures none { (O.state out.old).held ≡ [] → (E.state err.old).held ≡ []
+        → ((O.state out.new).held ≡ []) × ((E.state err.new).held ≡ []) }
+    ensures kept { result ≡ 0
+        → IsOk answer × NoneFailed (O.state out.old) (O.state out.new) (E.state err.old) (E.state err.new) }
 {
     match settle(answer, out, err) {
         Ok(status) => status,

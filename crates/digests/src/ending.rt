@@ -16,11 +16,12 @@ pub(crate) fn settle<O: Sink, E: Sink>(
     out: &mut O,
     err: &mut E,
 ) -> Result<u8, Stop>
-    ensures answer { Settles (record { out = O.failures out.old; err = E.failures err.old })
-        (record { out = O.failures out.new; err = E.failures err.new }) answer result }
-    ensures bytes { O.held out.old ≡ [] → E.held err.old ≡ []
-        → Keeps (O.written out.old) (O.written out.new) × Keeps (E.written err.old) (E.written err.new) }
-    ensures none { O.held out.old ≡ [] → E.held err.old ≡ [] → (O.held out.new ≡ []) × (E.held err.new ≡ []) }
+    ensures answer { Settles (O.state out.old) (O.state out.new) (E.state err.old) (E.state err.new) answer result }
+    ensures bytes { (O.state out.old).held ≡ [] → (E.state err.old).held ≡ []
+        → Keeps (O.state out.old).written (O.state out.new).written
+        × Keeps (E.state err.old).written (E.state err.new).written }
+    ensures none { (O.state out.old).held ≡ [] → (E.state err.old).held ≡ []
+        → ((O.state out.new).held ≡ []) × ((E.state err.new).held ≡ []) }
 {
     let status = answer?;
     out.flush()?;

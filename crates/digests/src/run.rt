@@ -1,6 +1,7 @@
 //! What a whole command line does.
 ghost use Rattle.std.specs.Prelude.{◌≡◌, ◌∷◌, List, ℕ, []};
-ghost use Rattle.sum_engine.specs.RunStates.{run_state, RunGives, HoldNothing, Failures};
+ghost use Rattle.sum_engine.specs.Moments.{HoldNothing, Failures};
+ghost use Rattle.sum_engine.specs.RunStates.{RunsTo};
 ghost use Rattle.sum_engine.specs.refinement.Telling.{Tells};
 ghost use Rattle.sum_words.specs.Faults.{Fault};
 ghost use Rattle.sum_words.specs.Texts.{fault_lines, help, version};
@@ -9,7 +10,7 @@ ghost use Rattle.sum_words.specs.refinement.ItemIterator.{fault_of};
 ghost use Rattle.sum_words.specs.refinement.Request.{result_of};
 ghost use Rattle.sum_words.specs.Request.{request};
 ghost use Rattle.digests.specs.Meaning.{all_of, answer_run, one_of, or_dash, meaning, status_of};
-ghost use Rattle.digests.specs.Headline.{RunsTo, RefusalsOfJob, RefusalsOfRequest, RefusalsOf};
+ghost use Rattle.digests.specs.Headline.{RefusalsOfJob, RefusalsOf};
 ghost use Rattle.digests.specs.refinement.Operands.{once_told};
 
 use std::alloc::Allocator;
@@ -34,14 +35,11 @@ pub fn run<A: Allocator + Copy, I: Input + Drop, S: Source, O: Sink, E: Sink>(
     words: &Words<A>,
     streams: &mut Streams<I, S, O, E>,
 ) -> Result<u8, Stop>
-    ensures gives { HoldNothing O.held E.held streams.old → RunsTo (meaning tool words.now)
-        (S.refusals streams.old.source) (S.refusals streams.new.source)
-        (run_state I.content S.told O.written E.written streams.old)
-        (run_state I.content S.told O.written E.written streams.new) result }
-    ensures none { HoldNothing O.held E.held streams.old → HoldNothing O.held E.held streams.new }
-    ensures refusals { RefusalsOf (RefusalsOfRequest (request tool words.now)) (S.refusals streams.old.source)
-        (S.refusals streams.new.source) result }
-    ensures failures { Failures O.failures E.failures streams.old streams.new result }
+    ensures gives { HoldNothing streams.old
+        → RunsTo S.state (meaning tool words.now) status_of streams.old streams.new result }
+    ensures none { HoldNothing streams.old → HoldNothing streams.new }
+    ensures refusals { RefusalsOf S.state (request tool words.now) streams.old streams.new result }
+    ensures failures { Failures streams.old.out streams.new.out streams.old.err streams.new.err result }
 {
     answer(alloc, tool, read_words(tool, words), streams)
 }
@@ -52,14 +50,11 @@ fn answer<A: Allocator + Copy, I: Input + Drop, S: Source, O: Sink, E: Sink>(
     asked: Result<Request, WordFault>,
     streams: &mut Streams<I, S, O, E>,
 ) -> Result<u8, Stop>
-    ensures gives { HoldNothing O.held E.held streams.old → RunsTo (answer_run tool (result_of asked.entry))
-        (S.refusals streams.old.source) (S.refusals streams.new.source)
-        (run_state I.content S.told O.written E.written streams.old)
-        (run_state I.content S.told O.written E.written streams.new) result }
-    ensures none { HoldNothing O.held E.held streams.old → HoldNothing O.held E.held streams.new }
-    ensures refusals { RefusalsOf (RefusalsOfRequest (result_of asked.entry)) (S.refusals streams.old.source)
-        (S.refusals streams.new.source) result }
-    ensures failures { Failures O.failures E.failures streams.old streams.new result }
+    ensures gives { HoldNothing streams.old
+        → RunsTo S.state (answer_run tool (result_of asked.entry)) status_of streams.old streams.new result }
+    ensures none { HoldNothing streams.old → HoldNothing streams.new }
+    ensures refusals { RefusalsOf S.state (result_of asked.entry) streams.old streams.new result }
+    ensures failures { Failures streams.old.out streams.new.out streams.old.err streams.new.err result }
 {
     match asked {
         Err(fault) => status_once(tell_fault(&mut streams.err, tool, &fault), 1),
@@ -108,14 +103,11 @@ fn one<A: Allocator + Copy, I: Input + Drop, S: Source, O: Sink, E: Sink>(
     name: &[u8],
     streams: &mut Streams<I, S, O, E>,
 ) -> Result<bool, Stop>
-    ensures gives { HoldNothing O.held E.held streams.old → RunGives (λ w. one_of job.now (name_of tool) w name.now)
-        (S.refusals streams.old.source) (S.refusals streams.new.source)
-        (run_state I.content S.told O.written E.written streams.old)
-        (run_state I.content S.told O.written E.written streams.new) result }
-    ensures none { HoldNothing O.held E.held streams.old → HoldNothing O.held E.held streams.new }
-    ensures refusals { RefusalsOf (RefusalsOfJob job.now) (S.refusals streams.old.source)
-        (S.refusals streams.new.source) result }
-    ensures failures { Failures O.failures E.failures streams.old streams.new result }
+    ensures gives { HoldNothing streams.old → RunsTo S.state
+        (λ w. one_of job.now (name_of tool) w name.now) (λ good. good) streams.old streams.new result }
+    ensures none { HoldNothing streams.old → HoldNothing streams.new }
+    ensures refusals { RefusalsOfJob S.state job.now streams.old streams.new result }
+    ensures failures { Failures streams.old.out streams.new.out streams.old.err streams.new.err result }
 {
     match job {
         Job::Generate(settings) => generate_one(settings, tool.name(), name, streams),
@@ -140,15 +132,12 @@ fn each<A: Allocator + Copy, I: Input + Drop, S: Source, O: Sink, E: Sink>(
     operands: Operands,
     streams: &mut Streams<I, S, O, E>,
 ) -> Result<u8, Stop>
-    ensures gives { HoldNothing O.held E.held streams.old
-        → RunsTo (λ w. all_of (one_of job.now (name_of tool)) w (or_dash operands.entry))
-        (S.refusals streams.old.source) (S.refusals streams.new.source)
-        (run_state I.content S.told O.written E.written streams.old)
-        (run_state I.content S.told O.written E.written streams.new) result }
-    ensures none { HoldNothing O.held E.held streams.old → HoldNothing O.held E.held streams.new }
-    ensures refusals { RefusalsOf (RefusalsOfJob job.now) (S.refusals streams.old.source)
-        (S.refusals streams.new.source) result }
-    ensures failures { Failures O.failures E.failures streams.old streams.new result }
+    ensures gives { HoldNothing streams.old → RunsTo S.state
+        (λ w. all_of (one_of job.now (name_of tool)) w (or_dash operands.entry)) status_of
+        streams.old streams.new result }
+    ensures none { HoldNothing streams.old → HoldNothing streams.new }
+    ensures refusals { RefusalsOfJob S.state job.now streams.old streams.new result }
+    ensures failures { Failures streams.old.out streams.new.out streams.old.err streams.new.err result }
 {
     let mut operands = operands;
     let mut name = first_name(&mut operands);

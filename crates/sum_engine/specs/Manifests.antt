@@ -21,11 +21,11 @@ abbrev pub ManifestGives :
     {S : Type 0} → (S → SourceState) → Rules → Option Content → Moment S → Moment S → Result Bool Stop → Type 0
 ManifestGives state r c a b x = IfSome c (λ c. RunsTo state (λ w. content_run r c (all_verdicts r w c)) (λ g. g) a b x)
 
--- only want of memory changes what the source was refused, by one
-abbrev pub RefusedOnMemory : {A : Type 0} → SourceState → SourceState → Result A Stop → Type 0
-RefusedOnMemory a b (Ok x) = b.refusals ≡ a.refusals
-RefusedOnMemory a b (Err Write) = b.refusals ≡ a.refusals
-RefusedOnMemory a b (Err Memory) = (b.refusals ≡ a.refusals) ⊎ (b.refusals ≡ after_refusal a.refusals)
+-- only want of memory may change what the source was refused, by one
+abbrev pub RefusedOnMemory : {S A : Type 0} → (S → SourceState) → Moment S → Moment S → Result A Stop → Type 0
+RefusedOnMemory state a b (Err Memory) = ((state b.source).refusals ≡ (state a.source).refusals)
+    ⊎ ((state b.source).refusals ≡ after_refusal (state a.source).refusals)
+RefusedOnMemory state a b r = (state b.source).refusals ≡ (state a.source).refusals
 
 -- ---- the laws
 

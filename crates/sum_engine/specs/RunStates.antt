@@ -46,6 +46,6 @@ RunsTo state run answer a b r =
     WhereKnown state a b (λ s t. RunOf (run s.world).steps (answer (run s.world).good) s t r)
 
 -- a source's refusals over a call that answers want of memory just where the source was refused it
-abbrev pub RefusedExactly : {A : Type 0} → SourceState → SourceState → Result A Stop → Type 0
-RefusedExactly a b (Err Memory) = b.refusals ≡ after_refusal a.refusals
-RefusedExactly a b r = b.refusals ≡ a.refusals
+abbrev pub RefusedExactly : {S A : Type 0} → (S → SourceState) → Moment S → Moment S → Result A Stop → Type 0
+RefusedExactly state a b (Err Memory) = (state b.source).refusals ≡ after_refusal (state a.source).refusals
+RefusedExactly state a b r = (state b.source).refusals ≡ (state a.source).refusals

@@ -31,7 +31,7 @@ pub fn generate_one<I: Input + Drop, S: Source, O: Sink, E: Sink>(
     ensures gives { HoldNothing streams.old → RunsTo S.state
         (λ w. generate_run settings.now tool.now w name.now) (λ good. good) streams.old streams.new result }
     ensures none { HoldNothing streams.old → HoldNothing streams.new }
-    ensures refusals { RefusedExactly (S.state streams.old.source) (S.state streams.new.source) result }
+    ensures refusals { RefusedExactly S.state streams.old streams.new result }
     ensures failures { Failures streams.old.out streams.new.out streams.old.err streams.new.err result }
     ensures taken { OnOk result (streams.new.taken ≡ streams.old.taken || is_dash name.now) }
     ensures untouched { result ≡ Err Stop.Memory

@@ -37,7 +37,7 @@ pub fn check_one<A: Allocator + Copy, J: Input + Drop, S: Source, O: Sink, E: Si
     ensures gives { HoldNothing streams.old → RunsTo S.state
         (λ w. check_run settings tool.now w name.now) (λ good. good) streams.old streams.new result }
     ensures none { HoldNothing streams.old → HoldNothing streams.new }
-    ensures refusals { RefusedOnMemory (S.state streams.old.source) (S.state streams.new.source) result }
+    ensures refusals { RefusedOnMemory S.state streams.old streams.new result }
     ensures failures { Failures streams.old.out streams.new.out streams.old.err streams.new.err result }
 {
     if is_dash(name) {
@@ -78,7 +78,7 @@ fn check_input<'a, A: Allocator, I: Input + Drop, J: Input + Drop, S: Source, O:
     ensures gives { HoldNothing streams.old → ManifestGives S.state
         (rules_in listing.entry) (option_map clip (I.state input).content) streams.old streams.new result }
     ensures none { HoldNothing streams.old → HoldNothing streams.new }
-    ensures refusals { RefusedOnMemory (S.state streams.old.source) (S.state streams.new.source) result }
+    ensures refusals { RefusedOnMemory S.state streams.old streams.new result }
     ensures failures { Failures streams.old.out streams.new.out streams.old.err streams.new.err result }
 {
     let mut checker = Checker::over(listing, input);

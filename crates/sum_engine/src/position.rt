@@ -138,7 +138,7 @@ impl<'a, I: Input> Position<'a, I> {
         ensures none { HoldNothing streams.old → HoldNothing streams.new }
         ensures place { TakesLine (place_of self.old) (place_of self.new) line.old.items }
         ensures held { length line.new.items ≤ length line.old.items }
-        ensures refusals { RefusedExactly (S.state streams.old.source) (S.state streams.new.source) result }
+        ensures refusals { RefusedExactly S.state streams.old streams.new result }
         ensures failures { Failures streams.old.out streams.new.out streams.old.err streams.new.err result }
         ensures untouched { result ≡ Err Stop.Memory
             → (streams.new.out ≡ streams.old.out) × (streams.new.err ≡ streams.old.err) }
