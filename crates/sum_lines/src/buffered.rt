@@ -86,7 +86,6 @@ impl<S: Sink> Buffered<S> {
 }
 
 impl<S: Sink> Sink for Buffered<S> {
-    ghost use Rattle.std.specs.Prelude.{None};
     ghost use Rattle.sum_lines.specs.Buffers.{buffer_state, unless_full, handed};
 
     ghost state = { buffer_state S.state };
