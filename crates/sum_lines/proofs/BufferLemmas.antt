@@ -2,12 +2,9 @@
 use Rattle.std.proofs.Common.{ℕ, ◌≡◌, List, [], ◌++◌, Option, None, Some, Result, Ok, Err, ap, sym, ◌∙◌, append_assoc, append-nil}
 use Rattle.std.specs.Io.KnownBytes.{Appends, append_known}
 use Rattle.sum_lines.specs.Sinks.{SinkState, Wrote, Flushes, Writes}
+use Rattle.sum_lines.specs.Buffers.{behind}
 use Rattle.sum_lines.specs.refinement.Emptying.{Empties}
 use Rattle.sum_lines.proofs.SinkLemmas.{Flushes-behind}
-
--- a sink with a buffer over it that holds these bytes
-abbrev pub behind : SinkState → List ℕ → SinkState
-behind a own = record { written = a.written; held = a.held ++ own; failures = a.failures }
 
 -- the buffer's bytes were written to the sink below
 taken_below : (a b : Option (List ℕ)) (held_before held_after own : List ℕ)

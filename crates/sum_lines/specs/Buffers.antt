@@ -8,13 +8,13 @@ pub record Buffer (S : Type 0) : Type 0 where
   pub sink : S
   pub held : List ℕ
 
+-- a sink that holds these bytes, too, behind its own
+abbrev pub behind : SinkState → List ℕ → SinkState
+behind a own = record { written = a.written; held = a.held ++ own; failures = a.failures }
+
 -- a buffer holds what the sink below holds, and behind that its own
 abbrev pub buffer_state : {S : Type 0} → (S → SinkState) → Buffer S → SinkState
-buffer_state state b = record {
-  written = (state b.sink).written;
-  held = (state b.sink).held ++ b.held;
-  failures = (state b.sink).failures;
-}
+buffer_state state b = behind (state b.sink) b.held
 
 -- what is held, where there is no room for more
 abbrev pub if_full : List ℕ → List ℕ

@@ -86,10 +86,9 @@ impl<S: Sink> Buffered<S> {
 }
 
 impl<S: Sink> Sink for Buffered<S> {
-    ghost use Rattle.std.specs.Prelude.{None};
     ghost use Rattle.sum_lines.specs.Buffers.{buffer_state, unless_full, handed};
 
-    ghost state = { λ s. buffer_state S.state s };
+    ghost state = { buffer_state S.state };
 
     /// Takes as much of the piece as there is room for. Where there is no room at all, what is held is handed on
     /// before. A fault where the sink below fails then.

@@ -1,5 +1,5 @@
 //! A sink that keeps its bytes in an array.
-ghost use Rattle.std.specs.Prelude.{◌≡◌, ◌≤◌, ◌+◌, ◌<◌, [], length, min, Some, IfOk, IsErr, OnErr};
+ghost use Rattle.std.specs.Prelude.{◌≡◌, ◌≤◌, ◌+◌, ◌<◌, [], length, min, IfOk, IsErr, OnErr};
 ghost use Rattle.std.specs.Prelude.{◌↔◌};
 
 use crate::sink::{Sink, SinkFault};
@@ -42,9 +42,9 @@ impl<const N: usize> ToldSink<N> {
 impl<const N: usize> Sink for ToldSink<N> {
     ghost use Rattle.std.specs.Prelude.{Ok};
     ghost use Rattle.sum_lines.specs.Sinks.{WritesSome, Flushes};
-    ghost use Rattle.sum_lines.specs.refinement.ToldSinks.{bytes_of, room, told_state};
+    ghost use Rattle.sum_lines.specs.refinement.ToldSinks.{room, told_state};
 
-    ghost state = { λ s. told_state s };
+    ghost state = { told_state };
 
     /// Takes what there is room for. A fault exactly where there is none and the piece isn't empty; then there is none
     /// afterwards, either.
