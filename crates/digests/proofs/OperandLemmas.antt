@@ -92,6 +92,12 @@ reached_stop state o stop good name rest x y z h k =
     let all = run_then-second c status status p.done.steps (run_then run later).steps stop p.did next in
     subst (λ (r : Run). RunOf r.steps (status_of r.good) a c (Err stop)) (sym p.total) all) h k
 
+-- an operand that was done was refused nothing
+pub refused-none : {S : Type 0} (state : S → SourceState) (job : Job) (x y : Moment S) (good : Bool)
+    → RefusalsOfJob state job x y (Ok good) → (state y.source).refusals ≡ (state x.source).refusals
+refused-none state (jobs.Generate settings) x y good h = h
+refused-none state (jobs.Check settings) x y good h = h
+
 -- a stop at the last of several operands, where those before it were refused nothing
 pub refused-since : {S : Type 0} (state : S → SourceState) (job : Job) (x y z : Moment S) (stop : Stop)
     → (state y.source).refusals ≡ (state x.source).refusals → RefusalsOfJob {A = Bool} state job y z (Err stop)

@@ -1,12 +1,12 @@
 -- A run and its end, joined: what the whole program does.
-use Rattle.std.proofs.Common.{ℕ, List, [], map, Option, None, Some, Result, Ok, Err, refl, sym, ◌∙◌, inl, inr, subst, append-nil}
+use Rattle.std.proofs.Common.{◌≡◌, ℕ, List, [], map, Option, None, Some, Result, Ok, Err, refl, ap, sym, ◌∙◌, inl, inr, subst, append-nil}
 use Rattle.std.specs.Io.KnownBytes.{Keeps, Appends}
 use Rattle.std.proofs.KnownBytes.{Appends-nil, Appends-kept}
 use Rattle.sum_sources.specs.Sources.{SourceState}
-use Rattle.sum_lines.specs.Sinks.{SinkState, IsPrefix}
+use Rattle.sum_lines.specs.Sinks.{SinkState, IsPrefix, after_failure}
 use Rattle.sum_engine.specs.declared.stop.Stop.{Stop}
 use Rattle.sum_engine.specs.declared.stop.Stop.TheVariants.{Memory, Write}
-use Rattle.sum_engine.specs.Moments.{Moment, RunState, known, Failures}
+use Rattle.sum_engine.specs.Moments.{Moment, RunState, HoldNothing, known, NoneFailed, OneFailed, Failures}
 use Rattle.sum_engine.specs.Runs.{Event, Tells, Run, events}
 use Rattle.sum_engine.specs.RunStates.{Did, RunOf, RunsTo}
 use Rattle.sum_engine.specs.refinement.Telling.{Fails}
@@ -48,6 +48,11 @@ did_line : (b : RunState) (err : SinkState) (said : Text) → Appends b.err.writ
 did_line b err said e = subst (λ es. Did b (record b { err = err }) es) (append-nil (map Tells said)) (
     did_by [] said [] (asks_none refl refl refl) e (Appends-nil b.out.written))
 
+-- one output failed, where none had before
+fails_since : (a b c d e f : SinkState) → NoneFailed a b d e → OneFailed b c e f → OneFailed a c d f
+fails_since a b c d e f h (inl k) = inl (k.0 ∙ ap after_failure h.0, k.1 ∙ h.1)
+fails_since a b c d e f h (inr k) = inr (k.0 ∙ h.0, k.1 ∙ ap after_failure h.1)
+
 -- what a program gives between two run states
 abbrev Ends : Option Call → Run → RunState → RunState → ℕ → Type 0
 Ends line run a b status = (answer : Result ℕ Stop) × (between : RunState)
@@ -66,13 +71,13 @@ ends b status run line out err (Ok answer) ran failed (inl done) = (
   (done.3.0 ∙ failed.0, done.3.1 ∙ failed.1),
   (done.0, refl),
 )
-ends b status run line out err (Ok answer) ran failed (inr (e, kept, still, broken, told)) =
+ends {a} b status run line out err (Ok answer) ran failed (inr (e, kept, still, broken, told)) =
     let all : IsPrefix (events run.steps) (events run.steps) = ([], sym (append-nil (events run.steps))) in
     let between = with_outputs b out e in (
       Err Write,
       between,
       (events run.steps, all, did_kept (events run.steps) out e ran.1 kept still),
-      rw failed at broken,
+      fails_since a.out b.out out a.err b.err e failed broken,
       (told.is, refl, told.said, told.says, did_line between err told.said told.err),
     )
 ends b status run line out err (Err stop) ran failed told = (
@@ -83,14 +88,15 @@ ends b status run line out err (Err stop) ran failed told = (
   rw told.0 (told.1.is, refl, told.1.said, told.1.says, did_line b err told.1.said told.1.err),
 )
 
--- the same, where the run states tell: b is how things stood after the run
+-- the same, where the run states tell: b is how things stood after the run, and held nothing
 pub program_ends : {S : Type 0} (state : S → SourceState) (status : ℕ) (line : Option Call) (a b : Moment S)
     (out err : SinkState) (answer : Result ℕ Stop) → RunsTo state (run_of line) status_of a b answer
-    → Failures a.out b.out a.err b.err answer → Closes (line_of_stop line) answer b.out out b.err err status
+    → Failures a.out b.out a.err b.err answer → HoldNothing b
+    → (b.out.held ≡ [] → b.err.held ≡ [] → Closes (line_of_stop line) answer b.out out b.err err status)
     → EndsGives state line a (record b { out = out; err = err }) status
-program_ends state status line a b out err answer ran failed closed = where_known state a _ _
-    (known_worlds state a b ran) (λ w v did.
-    ends (known state b v) status (run_of line w) line out err answer did failed closed)
+program_ends state status line a b out err answer ran failed none closed =
+    where_known state a (record b { out = out; err = err }) _ (known_worlds state a b _ ran) (λ w v did.
+    ends (known state b v) status (run_of line w) line out err answer did failed (closed none.0 none.1))
 
 -- ---- by what was read of the arguments
 

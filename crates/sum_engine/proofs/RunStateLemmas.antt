@@ -185,16 +185,16 @@ where_known state a b R h f =
     WhereTold-made (world_of state a) (world_of state b) (known state a) (known state b) R h f
 
 -- and what holds of their worlds from what holds of the moments
-told-of : {A B : Type 0} (x y : Option A) (f g : A → B) {R : B → B → Type 0}
+told-of : {A B : Type 0} (x y : Option A) (f g : A → B) (R : B → B → Type 0)
     → WhereTold (option_map f x) (option_map g y) R → WhereTold x y (λ a b. R (f a) (g b))
-told-of None y f g h = tt
-told-of (Some a) None f g h = h
-told-of (Some a) (Some b) f g h = h
+told-of None y f g R h = tt
+told-of (Some a) None f g R h = h
+told-of (Some a) (Some b) f g R h = h
 
-pub known_worlds : {S : Type 0} (state : S → SourceState) (a b : Moment S) {R : RunState → RunState → Type 0}
+pub known_worlds : {S : Type 0} (state : S → SourceState) (a b : Moment S) (R : RunState → RunState → Type 0)
     → WhereKnown state a b R
     → WhereTold (world_of state a) (world_of state b) (λ w v. R (known state a w) (known state b v))
-known_worlds state a b h = told-of (world_of state a) (world_of state b) (known state a) (known state b) h
+known_worlds state a b R h = told-of (world_of state a) (world_of state b) (known state a) (known state b) R h
 
 -- a value that stayed
 pub same_told : {A : Type 0} (x : Option A) → WhereTold x x (λ a b. b ≡ a)

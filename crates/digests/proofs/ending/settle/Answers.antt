@@ -5,7 +5,7 @@ use Rattle.digests.proofs.ending.settle.Goals as goal
 -- the flush of standard output failed
 pub returns-in_err-flush-clause-bytes : goal.returns-in_err-flush-clause-bytes
 returns-in_err-flush-clause-bytes g c =
-    λ out err. (dropped-none _ _ c.in_err-flush.ensures.bytes out, Keeps-refl (g.E.Sink.written c.args.err.now))
+    λ out err. (dropped-none _ _ c.in_err-flush.ensures.bytes out, Keeps-refl (g.E.Sink.state c.args.err.now).written)
 
 -- the flush of standard error failed
 pub returns-in_err-flush-2-clause-bytes : goal.returns-in_err-flush-2-clause-bytes

@@ -1,10 +1,8 @@
 use Rattle.std.proofs.Common.{◌≡◌, refl, ◌∙◌}
 use Rattle.std.specs.Prelude.{◌&&◌}
-use Rattle.sum_engine.specs.RunStates.{run_state}
 use Rattle.sum_words.specs.Tools.{name_of}
 use Rattle.digests.specs.Meaning.{one_of, or_dash}
-use Rattle.digests.specs.Headline.{RefusalsOfJob}
-use Rattle.digests.proofs.OperandLemmas.{Operands, reached_start, reached_step, reached_end, reached_stop, refused-since}
+use Rattle.digests.proofs.OperandLemmas.{Operands, reached_start, reached_step, reached_end, reached_stop, refused-none, refused-since}
 use Rattle.digests.proofs.run.each.Goals as goal
 use Rattle.digests.proofs.run.each.Goals.{then-good, else-good}
 
@@ -14,11 +12,10 @@ operands-init g c =
     let all : Operands =
     record { one = one_of c.args.job.now (name_of c.args.tool); names = or_dash c.args.operands } in
     record {
-      reached = λ hold. reached_start all _ c.first_name-name.ensures;
+      reached = λ hold. reached_start g.S.Source.state all c.args.streams.now c.first_name-name.ensures;
       none = λ hold. hold;
       refusals = refl;
-      out = refl;
-      err = refl;
+      failures = (refl, refl);
     }
 
 -- an operand stopped the run
@@ -26,18 +23,15 @@ pub returns-in-Err-clause-gives : goal.returns-in-Err-clause-gives
 returns-in-Err-clause-gives g c =
     let all : Operands =
     record { one = one_of c.args.job.now (name_of c.args.tool); names = or_dash c.args.operands } in
-    let first = run_state g.I.Input.content g.S.Source.told g.O.Sink.written g.E.Sink.written c.args.streams.now in
-    let here = run_state g.I.Input.content g.S.Source.told g.O.Sink.written g.E.Sink.written c.operands.streams in
-    let last = run_state g.I.Input.content g.S.Source.told g.O.Sink.written g.E.Sink.written c.one.new.streams in
     let so_far = c.operands.invariant in
-    λ hold. reached_stop all _ _ _ c.in-Err.stop c.operands.good c.operands.name.now c.operands.operands first here
-    last so_far.refusals (so_far.reached hold)
+    λ hold. reached_stop g.S.Source.state all c.in-Err.stop c.operands.good c.operands.name.now c.operands.operands
+    c.args.streams.now c.operands.streams c.one.new.streams (so_far.reached hold)
     (c.in-Err.ensures.gives (so_far.none hold))
 
 -- its refusals are those of the run
 pub returns-in-Err-clause-refusals : goal.returns-in-Err-clause-refusals
-returns-in-Err-clause-refusals g c =
-    refused-since (RefusalsOfJob c.args.job.now) _ c.in-Err.stop c.operands.invariant.refusals c.in-Err.ensures.refusals
+returns-in-Err-clause-refusals g c = refused-since g.S.Source.state c.args.job.now c.args.streams.now
+    c.operands.streams c.one.new.streams c.in-Err.stop c.operands.invariant.refusals c.in-Err.ensures.refusals
 
 -- nothing is held then
 pub returns-in-Err-clause-none : goal.returns-in-Err-clause-none
@@ -53,18 +47,18 @@ operands-preserved g c =
     ] in
     let all : Operands =
     record { one = one_of c.args.job.now (name_of c.args.tool); names = or_dash c.args.operands } in
-    let first = run_state g.I.Input.content g.S.Source.told g.O.Sink.written g.E.Sink.written c.args.streams.now in
-    let here = run_state g.I.Input.content g.S.Source.told g.O.Sink.written g.E.Sink.written c.operands.streams in
-    let last = run_state g.I.Input.content g.S.Source.told g.O.Sink.written g.E.Sink.written c.one.new.streams in
     let so_far = c.operands.invariant in
     record {
-      reached = λ hold. rw (is, ← c.in-Some.ensures) (reached_step all 0 0 c.operands.good c.in-Ok.this
-          c.operands.name.now c.operands.operands first here last
+      reached = λ hold. rw (is, ← c.in-Some.ensures) (reached_step g.S.Source.state all c.operands.good c.in-Ok.this
+          c.operands.name.now c.operands.operands c.args.streams.now c.operands.streams c.one.new.streams
           (so_far.reached hold) (c.in-Ok.ensures.gives (so_far.none hold)));
       none = λ hold. c.in-Ok.ensures.none (so_far.none hold);
-      refusals = c.in-Ok.ensures.refusals ∙ so_far.refusals;
-      out = c.in-Ok.ensures.failures.0 ∙ so_far.out;
-      err = c.in-Ok.ensures.failures.1 ∙ so_far.err;
+      refusals = refused-none g.S.Source.state c.args.job.now c.operands.streams c.one.new.streams c.in-Ok.this
+          c.in-Ok.ensures.refusals ∙ so_far.refusals;
+      failures = (
+          c.in-Ok.ensures.failures.0 ∙ so_far.failures.0,
+          c.in-Ok.ensures.failures.1 ∙ so_far.failures.1,
+        );
     }
 
 -- an operand came about, and it was the last
@@ -77,15 +71,13 @@ returns-in-None-clause-gives g c =
     ] in
     let all : Operands =
     record { one = one_of c.args.job.now (name_of c.args.tool); names = or_dash c.args.operands } in
-    let first = run_state g.I.Input.content g.S.Source.told g.O.Sink.written g.E.Sink.written c.args.streams.now in
-    let here = run_state g.I.Input.content g.S.Source.told g.O.Sink.written g.E.Sink.written c.operands.streams in
-    let last = run_state g.I.Input.content g.S.Source.told g.O.Sink.written g.E.Sink.written c.one.new.streams in
     let so_far = c.operands.invariant in
     λ hold.
-    let reached = reached_step all 0 0 c.operands.good c.in-Ok.this c.operands.name.now c.operands.operands first here
-    last (so_far.reached hold)
+    let reached = reached_step g.S.Source.state all c.operands.good c.in-Ok.this c.operands.name.now c.operands.operands
+    c.args.streams.now c.operands.streams c.one.new.streams (so_far.reached hold)
     (c.in-Ok.ensures.gives (so_far.none hold)) in
-    rw c.status.ensures (reached_end all 0 0 _ first last (rw (← is, c.in-None.ensures.0) at reached))
+    rw c.status.ensures (reached_end g.S.Source.state all _ c.args.streams.now c.one.new.streams
+    (rw (← is, c.in-None.ensures.0) at reached))
 
 -- nothing is held then
 pub returns-in-None-clause-none : goal.returns-in-None-clause-none

@@ -1,4 +1,3 @@
-use Rattle.digests.proofs.OperandLemmas.{generates-refused, checks-refused}
 use Rattle.digests.proofs.run.one.Goals as goal
 
 -- a name is hashed
@@ -8,9 +7,7 @@ returns-in-Generate-clause-gives g c = λ hold.
 
 -- where it is hashed, want of memory is one refusal
 pub returns-in-Generate-clause-refusals : goal.returns-in-Generate-clause-refusals
-returns-in-Generate-clause-refusals g c =
-    rw c.in-Generate.is
-    (generates-refused c.in-Generate.settings _ c.generate_one.result c.generate_one.ensures.refusals)
+returns-in-Generate-clause-refusals g c = rw c.in-Generate.is c.generate_one.ensures.refusals
 
 -- a manifest is checked
 pub returns-in-Check-clause-gives : goal.returns-in-Check-clause-gives
@@ -19,5 +16,4 @@ returns-in-Check-clause-gives g c = λ hold.
 
 -- where it is checked, want of memory may be one refusal
 pub returns-in-Check-clause-refusals : goal.returns-in-Check-clause-refusals
-returns-in-Check-clause-refusals g c =
-    rw c.in-Check.is (checks-refused c.in-Check.settings _ _ c.check_one.result c.check_one.ensures.refusals)
+returns-in-Check-clause-refusals g c = rw c.in-Check.is c.check_one.ensures.refusals
