@@ -4,7 +4,8 @@ use Rattle.std.specs.Prelude.{◌&&◌}
 use Rattle.std.proofs.Math.Bool.{and_assoc, and-true}
 use Rattle.std.proofs.lemmas.List.{append-nil}
 use Rattle.sum_sources.specs.Contents.{WhereTold}
-use Rattle.sum_sources.specs.Sources.{SourceState, after_refusal}
+use Rattle.sum_sources.specs.Sources.{SourceState}
+use Rattle.digest_kinds.specs.Limits.{one_more}
 use Rattle.sum_sources.proofs.ToldLemmas.{WhereTold-map, WhereTold-then}
 use Rattle.sum_engine.specs.declared.stop.Stop.{Stop}
 use Rattle.sum_engine.specs.declared.stop.Stop.TheVariants.{Memory, Write}
@@ -103,7 +104,7 @@ pub refused-since : {S : Type 0} (state : S → SourceState) (job : Job) (x y z 
     → (state y.source).refusals ≡ (state x.source).refusals → RefusalsOfJob {A = Bool} state job y z (Err stop)
     → RefusalsOfJob {A = ℕ} state job x z (Err stop)
 refused-since state (jobs.Generate settings) x y z Write is h = h ∙ is
-refused-since state (jobs.Generate settings) x y z Memory is h = h ∙ ap after_refusal is
+refused-since state (jobs.Generate settings) x y z Memory is h = h ∙ ap one_more is
 refused-since state (jobs.Check settings) x y z Write is h = h ∙ is
 refused-since state (jobs.Check settings) x y z Memory is (inl h) = inl (h ∙ is)
-refused-since state (jobs.Check settings) x y z Memory is (inr h) = inr (h ∙ ap after_refusal is)
+refused-since state (jobs.Check settings) x y z Memory is (inr h) = inr (h ∙ ap one_more is)

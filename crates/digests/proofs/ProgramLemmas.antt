@@ -3,7 +3,8 @@ use Rattle.std.proofs.Common.{◌≡◌, ℕ, List, [], map, Option, None, Some,
 use Rattle.std.specs.Io.KnownBytes.{Keeps, Appends}
 use Rattle.std.proofs.KnownBytes.{Appends-nil, Appends-kept}
 use Rattle.sum_sources.specs.Sources.{SourceState}
-use Rattle.sum_lines.specs.Sinks.{SinkState, IsPrefix, after_failure}
+use Rattle.sum_lines.specs.Sinks.{SinkState, IsPrefix}
+use Rattle.digest_kinds.specs.Limits.{one_more}
 use Rattle.sum_engine.specs.declared.stop.Stop.{Stop}
 use Rattle.sum_engine.specs.declared.stop.Stop.TheVariants.{Memory, Write}
 use Rattle.sum_engine.specs.Moments.{Moment, RunState, HoldNothing, known, NoneFailed, OneFailed, Failures}
@@ -50,8 +51,8 @@ did_line b err said e = subst (λ es. Did b (record b { err = err }) es) (append
 
 -- one output failed, where none had before
 fails_since : (a b c d e f : SinkState) → NoneFailed a b d e → OneFailed b c e f → OneFailed a c d f
-fails_since a b c d e f h (inl k) = inl (k.0 ∙ ap after_failure h.0, k.1 ∙ h.1)
-fails_since a b c d e f h (inr k) = inr (k.0 ∙ h.0, k.1 ∙ ap after_failure h.1)
+fails_since a b c d e f h (inl k) = inl (k.0 ∙ ap one_more h.0, k.1 ∙ h.1)
+fails_since a b c d e f h (inr k) = inr (k.0 ∙ h.0, k.1 ∙ ap one_more h.1)
 
 -- what a program gives between two run states
 abbrev Ends : Option Call → Run → RunState → RunState → ℕ → Type 0

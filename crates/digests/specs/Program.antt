@@ -1,7 +1,8 @@
 -- What the program does, from the list of its arguments to its status.
 use Rattle.std.specs.Prelude.{ℕ, ◌≡◌, ◌⊎◌, false, List, [], map, Option, None, Some, Result, Ok, Err, codes, ⊤}
 use Rattle.sum_sources.specs.Sources.{SourceState}
-use Rattle.sum_lines.specs.Sinks.{SinkState, IsPrefix, after_failure}
+use Rattle.sum_lines.specs.Sinks.{SinkState, IsPrefix}
+use Rattle.digest_kinds.specs.Limits.{one_more}
 use Rattle.sum_engine.specs.declared.stop.Stop.{Stop}
 use Rattle.sum_engine.specs.Worlds.{World}
 use Rattle.sum_engine.specs.Runs.{Tells, Run, at_once}
@@ -25,7 +26,7 @@ line_of_stop line stop = []
 -- this much of a line was handed on by standard error: all of it; or a prefix, where that output failed
 abbrev pub HandsOnLine : Text → Text → SinkState → SinkState → Type 0
 HandsOnLine line said a b = ((said ≡ line) × (b.failures ≡ a.failures))
-    ⊎ (IsPrefix said line × (b.failures ≡ after_failure a.failures))
+    ⊎ (IsPrefix said line × (b.failures ≡ one_more a.failures))
 
 -- what an answer leaves to be done: nothing, and it is the status; or the stop is told, and the status is 1
 abbrev pub Leaves : Option Call → Result ℕ Stop → RunState → RunState → ℕ → Type 0

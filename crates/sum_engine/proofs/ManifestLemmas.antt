@@ -10,7 +10,8 @@ use Rattle.std.specs.Prelude.{IfSome}
 use Rattle.sum_sources.specs.Contents.{Content, InputState, WhereTold, clip}
 use Rattle.sum_lines.specs.Sinks.{SinkState}
 use Rattle.sum_sources.proofs.ToldLemmas.{WhereTold-map}
-use Rattle.sum_sources.specs.Sources.{SourceState, Reply, Refused, Given, Telling, OpensAsReply, OpenGives, asked_after, after_refusal}
+use Rattle.sum_sources.specs.Sources.{SourceState, Reply, Refused, Given, Telling, OpensAsReply, OpenGives, asked_after}
+use Rattle.digest_kinds.specs.Limits.{one_more}
 use Rattle.sum_sources.specs.Standard.{empty_content}
 use Rattle.sum_lines.specs.declared.line_reading.Form.TheVariants.{Undecided}
 use Rattle.sum_lines.specs.Profiles.{present}
@@ -239,7 +240,7 @@ begins r name w (Given c) = (opening name, _, refl)
 -- the source had no memory to open it
 pub no_room : {F S : Type 0} (content : F → InputState) (state : S → SourceState) (k : Call) (a : Moment S)
     (source : S) → OpenGives content (state a.source).told (state source).told k.name (Err open_faults.Memory)
-    → (state source).refusals ≡ after_refusal (state a.source).refusals
+    → (state source).refusals ≡ one_more (state a.source).refusals
     → CheckGives state k a (record a { source = source }) (Err Memory)
 no_room {S = S} content state k a source h refused =
     let next : Moment S = record a { source = source } in

@@ -10,7 +10,8 @@ use Rattle.std.proofs.lemmas.List.{map-append}
 use Rattle.std.proofs.lemmas.List.Elements.{filter_map-append}
 use Rattle.std.proofs.lemmas.List.Folds.{list_any-append}
 use Rattle.sum_sources.specs.Contents.{WhereTold}
-use Rattle.sum_sources.specs.Sources.{SourceState, after_refusal}
+use Rattle.sum_sources.specs.Sources.{SourceState}
+use Rattle.digest_kinds.specs.Limits.{one_more}
 use Rattle.sum_lines.specs.Sinks.{SinkState}
 use Rattle.sum_lines.specs.refinement.Growing.{AppendsPrefix}
 use Rattle.sum_engine.specs.Worlds.{World, is_dash, after}
@@ -204,7 +205,7 @@ same_told (Some a) = refl
 -- the source was refused memory, and nothing else was done
 pub known_refused : {S : Type 0} (state : S → SourceState) (a b : Moment S)
     → WhereTold (world_of state a) (world_of state b) (λ w v. v ≡ w) → b.taken ≡ a.taken → b.err ≡ a.err
-    → b.out ≡ a.out → (state b.source).refusals ≡ after_refusal (state a.source).refusals
+    → b.out ≡ a.out → (state b.source).refusals ≡ one_more (state a.source).refusals
     → WhereKnown state a b Refused
 known_refused state a b world taken err out refused =
     where_known state a b Refused world (λ w v same. rw (same, taken, err, out, refused) refl)

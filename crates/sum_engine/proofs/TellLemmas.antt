@@ -2,7 +2,8 @@
 use Rattle.std.proofs.Common.{◌≡◌, ℕ, List, [], ◌++◌, Option, Result, Ok, Err, ap, sym, ◌∙◌, append_assoc, subst}
 use Rattle.std.specs.Io.KnownBytes.{Appends}
 use Rattle.std.proofs.KnownBytes.{Appends-trans}
-use Rattle.sum_lines.specs.Sinks.{SinkState, Wrote, Broke, Flushes, after_failure}
+use Rattle.sum_lines.specs.Sinks.{SinkState, Wrote, Broke, Flushes}
+use Rattle.digest_kinds.specs.Limits.{one_more}
 use Rattle.sum_lines.specs.refinement.Growing.{AppendsPrefix}
 use Rattle.sum_lines.proofs.SinkLemmas.{Wrote-flushed, Wrote-dropped}
 use Rattle.sum_engine.specs.refinement.Telling.{Tells}
@@ -30,7 +31,7 @@ pub told_flushed : {E : Type 0} (a b c : SinkState) (text : List ℕ) (r : Resul
     → Flushes b c r → Tells a c text r
 told_flushed a b c text (Ok u) h k = (k.2 ∙ h.kept, λ none.
     (k.1, subst (λ l. Appends a.written c.written (l ++ text)) none (Wrote-flushed c.written text h k.0)))
-told_flushed a b c text (Err e) h k = (k.failed ∙ ap after_failure h.kept, λ none.
+told_flushed a b c text (Err e) h k = (k.failed ∙ ap one_more h.kept, λ none.
     (k.none, subst (λ l. AppendsPrefix a.written c.written (l ++ text)) none (Wrote-dropped text h k)))
 
 -- writing it failed
@@ -49,7 +50,7 @@ tells_then a b c x y (Ok u) h k = (k.0 ∙ h.0, λ none.
     let first = h.1 none in
     let then = k.1 first.0 in
     (then.0, Appends-trans a.written b.written c.written x y first.1 then.1))
-tells_then a b c x y (Err e) h k = (k.0 ∙ ap after_failure h.0, λ none.
+tells_then a b c x y (Err e) h k = (k.0 ∙ ap one_more h.0, λ none.
     let first = h.1 none in
     let then = k.1 first.0 in
     (then.0, prefix_then a.written b.written c.written x y first.1 then.1))

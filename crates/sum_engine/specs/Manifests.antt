@@ -2,7 +2,8 @@
 use Rattle.std.specs.Prelude.{ℕ, zero, suc, ◌≡◌, ◌+◌, ◌≤◌, ◌⊎◌, Bool, true, List, take, drop, length, flat_map, Option, Result, Ok, Err, IfSome}
 use Rattle.std.specs.Io.KnownBytes.{Appends}
 use Rattle.sum_sources.specs.Contents.{Content}
-use Rattle.sum_sources.specs.Sources.{SourceState, after_refusal}
+use Rattle.sum_sources.specs.Sources.{SourceState}
+use Rattle.digest_kinds.specs.Limits.{one_more}
 use Rattle.sum_sources.specs.ManifestLines.{past_lines}
 use Rattle.sum_engine.specs.declared.stop.Stop.{Stop}
 use Rattle.sum_engine.specs.declared.stop.Stop.TheVariants.{Memory, Write}
@@ -24,7 +25,7 @@ ManifestGives state r c a b x = IfSome c (λ c. RunsTo state (λ w. content_run 
 -- only want of memory may change what the source was refused, by one
 abbrev pub RefusedOnMemory : {S A : Type 0} → (S → SourceState) → Moment S → Moment S → Result A Stop → Type 0
 RefusedOnMemory state a b (Err Memory) = ((state b.source).refusals ≡ (state a.source).refusals)
-    ⊎ ((state b.source).refusals ≡ after_refusal (state a.source).refusals)
+    ⊎ ((state b.source).refusals ≡ one_more (state a.source).refusals)
 RefusedOnMemory state a b r = (state b.source).refusals ≡ (state a.source).refusals
 
 -- ---- the laws

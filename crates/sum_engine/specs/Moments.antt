@@ -4,7 +4,8 @@ use Rattle.std.specs.Option.{option_map}
 use Rattle.sum_sources.specs.Contents.{Content, InputState, WhereTold}
 use Rattle.sum_sources.specs.Sources.{SourceState, Telling}
 use Rattle.sum_sources.specs.Standard.{left_in}
-use Rattle.sum_lines.specs.Sinks.{SinkState, after_failure}
+use Rattle.sum_lines.specs.Sinks.{SinkState}
+use Rattle.digest_kinds.specs.Limits.{one_more}
 use Rattle.sum_engine.specs.declared.stop.Stop.{Stop}
 use Rattle.sum_engine.specs.declared.stop.Stop.TheVariants.{Write}
 use Rattle.sum_engine.specs.Worlds.{World}
@@ -26,8 +27,8 @@ abbrev pub NoneFailed : SinkState → SinkState → SinkState → SinkState → 
 NoneFailed a b c d = (b.failures ≡ a.failures) × (d.failures ≡ c.failures)
 
 abbrev pub OneFailed : SinkState → SinkState → SinkState → SinkState → Type 0
-OneFailed a b c d = ((b.failures ≡ after_failure a.failures) × (d.failures ≡ c.failures))
-    ⊎ ((b.failures ≡ a.failures) × (d.failures ≡ after_failure c.failures))
+OneFailed a b c d = ((b.failures ≡ one_more a.failures) × (d.failures ≡ c.failures))
+    ⊎ ((b.failures ≡ a.failures) × (d.failures ≡ one_more c.failures))
 
 -- their failures over a call that answers a write fault exactly where one of them failed
 abbrev pub Failures : {A : Type 0} → SinkState → SinkState → SinkState → SinkState → Result A Stop → Type 0

@@ -2,7 +2,8 @@
 use Rattle.std.specs.Prelude.{ℕ, ◌≡◌, ◌<◌, ◌⊎◌, ◌||◌, Bool, List, [], ◌∷◌, ◌++◌, filter_map, Result, Ok, Err}
 use Rattle.std.specs.List.{list_any}
 use Rattle.std.specs.Io.KnownBytes.{Appends}
-use Rattle.sum_sources.specs.Sources.{SourceState, after_refusal}
+use Rattle.sum_sources.specs.Sources.{SourceState}
+use Rattle.digest_kinds.specs.Limits.{one_more}
 use Rattle.sum_lines.specs.Sinks.{IsPrefix}
 use Rattle.sum_engine.specs.declared.stop.Stop.{Stop}
 use Rattle.sum_engine.specs.declared.stop.Stop.TheVariants.{Memory, Write}
@@ -24,7 +25,7 @@ DidPrefix a b es = (p : List Event) × IsPrefix p es × Did a b p
 
 -- the source was refused memory, and nothing came about
 abbrev pub Refused : RunState → RunState → Type 0
-Refused a b = b ≡ record a { refusals = after_refusal a.refusals }
+Refused a b = b ≡ record a { refusals = one_more a.refusals }
 
 -- memory was wanted at a step, of which nothing came about: the source was refused it, or bytes of the manifest were
 -- still to come
@@ -47,5 +48,5 @@ RunsTo state run answer a b r =
 
 -- a source's refusals over a call that answers want of memory just where the source was refused it
 abbrev pub RefusedExactly : {S A : Type 0} → (S → SourceState) → Moment S → Moment S → Result A Stop → Type 0
-RefusedExactly state a b (Err Memory) = (state b.source).refusals ≡ after_refusal (state a.source).refusals
+RefusedExactly state a b (Err Memory) = (state b.source).refusals ≡ one_more (state a.source).refusals
 RefusedExactly state a b r = (state b.source).refusals ≡ (state a.source).refusals

@@ -1,7 +1,8 @@
 -- Where a checker stands in its manifest, what is still to come there, and what the next step does.
 use Rattle.std.specs.Prelude.{ℕ, ◌≡◌, ◌+◌, ◌≤◌, ◌⊎◌, ◌<◌, Bool, List, [], ◌∷◌, length, Option, None, Some, Result, Ok, Err, IfSome}
 use Rattle.sum_sources.specs.Contents.{Content, WhereTold}
-use Rattle.sum_sources.specs.Sources.{SourceState, after_refusal}
+use Rattle.sum_sources.specs.Sources.{SourceState}
+use Rattle.digest_kinds.specs.Limits.{one_more}
 use Rattle.sum_sources.specs.ManifestLines.{past_line}
 use Rattle.sum_lines.specs.declared.line_reading.Form.{Form}
 use Rattle.sum_lines.specs.declared.line_reading.Form.TheVariants.{Undecided}
@@ -119,5 +120,5 @@ StepGives r vector a b x = WhereTold a b (λ a b. StepOf r vector a b x)
 abbrev pub WantsMemory : SourceState → SourceState → Option Content → Result Progress Stop → Type 0
 WantsMemory a b c (Ok p) = b.refusals ≡ a.refusals
 WantsMemory a b c (Err Write) = b.refusals ≡ a.refusals
-WantsMemory a b c (Err Memory) = (b.refusals ≡ after_refusal a.refusals)
+WantsMemory a b c (Err Memory) = (b.refusals ≡ one_more a.refusals)
     ⊎ ((b.refusals ≡ a.refusals) × IfSome c (λ d. 0 < length d.bytes))

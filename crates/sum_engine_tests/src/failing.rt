@@ -41,7 +41,9 @@ struct FilesFailOnce<'a> {
 impl<'a> Source for FilesFailOnce<'a> {
     type File = FailsOnce<'a>;
 
-    ghost refusals = { λ s. s.source.refusals };
+    ghost use Rattle.std.specs.Prelude.{None};
+
+    ghost state = { λ s. record { told = None; refusals = s.source.refusals } };
 
     fn open_file(&mut self, name: &[u8]) -> Result<FailsOnce<'a>, OpenFault> {
         match self.source.open_file(name) {

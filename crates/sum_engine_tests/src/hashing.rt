@@ -101,7 +101,9 @@ impl Refusing {
 impl Source for Refusing {
     type File = Told<'static>;
 
-    ghost refusals = { λ s. s.refusals };
+    ghost use Rattle.std.specs.Prelude.{None};
+
+    ghost state = { λ s. record { told = None; refusals = s.refusals } };
 
     fn open_file(&mut self, _name: &[u8]) -> Result<Told<'static>, OpenFault> {
         self.refusals = self.refusals.saturating_add(1);

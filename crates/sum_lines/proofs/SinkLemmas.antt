@@ -4,7 +4,8 @@ use Rattle.std.proofs.Common.{ℕ, ◌≡◌, ◌<◌, ◌-◌, List, [], ◌++�
 use Rattle.std.proofs.lemmas.List.{take_rest, append_cancel_left}
 use Rattle.std.specs.Io.KnownBytes.{Appends, append_known}
 use Rattle.std.proofs.KnownBytes.{Appends-nil, Appends-trans}
-use Rattle.sum_lines.specs.Sinks.{after_failure, AppendsPart, SinkState, Wrote, Broke, Dropped, Writes, Flushes}
+use Rattle.sum_lines.specs.Sinks.{AppendsPart, SinkState, Wrote, Broke, Dropped, Writes, Flushes}
+use Rattle.digest_kinds.specs.Limits.{one_more}
 use Rattle.sum_lines.specs.refinement.Growing.{Grows, AppendsPrefix}
 
 -- ---- two calls, one behind the other
@@ -111,7 +112,7 @@ Flushes-behind {a = a} b c (Ok u) wrote flushed =
 Flushes-behind b c (Err e) wrote dropped = record {
   handed = rw append-nil at (Wrote-dropped [] wrote dropped);
   none = dropped.none;
-  failed = dropped.failed ∙ ap after_failure wrote.kept;
+  failed = dropped.failed ∙ ap one_more wrote.kept;
 }
 
 -- a write failed that was to take some of a text
@@ -174,7 +175,7 @@ Left-stop {a} {b} {c} {piece = piece} more left cut failed =
       handed = rw whole (handed_part a.written b.written c.written a.held b.held left.prefix piece more
           left.wrote.grows left.wrote.taken failed.some failed.handed);
       none = failed.none;
-      failed = failed.failed ∙ ap after_failure left.wrote.kept;
+      failed = failed.failed ∙ ap one_more left.wrote.kept;
     }
 
 -- the last piece is all of the rest: its call answers for the whole text

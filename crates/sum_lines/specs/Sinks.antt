@@ -1,11 +1,8 @@
 -- What writing and flushing do to a sink.
+use Rattle.digest_kinds.specs.Limits.{one_more}
 use Rattle.std.specs.Prelude.{ℕ, ◌≡◌, ◌+◌, ◌-◌, ◌^◌, ◌<◌, ◌≤◌, min, List, [], ◌∷◌, ◌++◌, length, take, Option, Some, Result, Ok, Err, IfSome}
 use Rattle.std.specs.Io.KnownBytes.{append_known}
 pub use Rattle.std.specs.Io.KnownBytes.{Appends}
-
--- a count of failures after one more: it rises by one, and stays at the last value of a u64
-abbrev pub after_failure : ℕ → ℕ
-after_failure n = min (n + 1) (2 ^ 64 - 1)
 
 -- a prefix of a list, which may be the whole
 abbrev pub IsPrefix : {A : Type 0} → List A → List A → Type 0
@@ -34,13 +31,13 @@ pub record Broke (a b : SinkState) (text : List ℕ) : Type 0 where
   pub some : 0 < length text
   pub handed : AppendsPart a.written b.written (a.held ++ text)
   pub none : b.held ≡ []
-  pub failed : b.failures ≡ after_failure a.failures
+  pub failed : b.failures ≡ one_more a.failures
 
 -- a call failed: a prefix of what was held was handed on, and the rest is dropped
 pub record Dropped (a b : SinkState) : Type 0 where
   pub handed : (prefix : List ℕ) × IsPrefix prefix a.held × Appends a.written b.written prefix
   pub none : b.held ≡ []
-  pub failed : b.failures ≡ after_failure a.failures
+  pub failed : b.failures ≡ one_more a.failures
 
 -- a call that takes all of the text, or fails; with an empty text it doesn't fail
 abbrev pub Writes : {E : Type 0} → SinkState → SinkState → List ℕ → Result (Unit {0}) E → Type 0

@@ -1,6 +1,6 @@
 //! A sink over a writer of the standard library.
 ghost use Rattle.std.specs.Prelude.{◌≡◌, []};
-ghost use Rattle.sum_lines.specs.Sinks.{after_failure};
+ghost use Rattle.digest_kinds.specs.Limits.{one_more};
 
 use crate::sink::{Sink, SinkFault};
 use std::io::{ErrorKind, Write};
@@ -30,7 +30,7 @@ impl<W: Write> FromWrite<W> {
     // Counts a failure.
     fn fault(&mut self) -> SinkFault
         ensures writer { self.new.writer ≡ self.old.writer }
-        ensures failures { self.new.failures ≡ after_failure self.old.failures }
+        ensures failures { self.new.failures ≡ one_more self.old.failures }
     {
         self.failures = self.failures.saturating_add(1);
         SinkFault

@@ -1,7 +1,7 @@
 //! Which pieces a buffer hands on: worked lines, long texts, short writes, flushes and faults.
 
 ghost use Rattle.std.specs.Prelude.{◌≡◌, [], None};
-ghost use Rattle.sum_lines.specs.Sinks.{after_failure};
+ghost use Rattle.digest_kinds.specs.Limits.{one_more};
 
 use crate::calls::{flush, offer, put, told};
 use digest_kinds::{Algo, Digest, Kind};
@@ -39,7 +39,7 @@ impl Recorder {
     }
 
     fn fault(&mut self) -> SinkFault
-        ensures { self.new.failures ≡ after_failure self.old.failures }
+        ensures { self.new.failures ≡ one_more self.old.failures }
     {
         self.failures = self.failures.saturating_add(1);
         SinkFault

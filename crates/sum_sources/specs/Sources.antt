@@ -1,4 +1,5 @@
 -- What sources of files answer, and what they were asked.
+use Rattle.digest_kinds.specs.Limits.{one_more}
 use Rattle.std.specs.Prelude.{ℕ, ◌≡◌, ◌+◌, ◌-◌, ◌^◌, min, List, [], ◌∷◌, ◌++◌, Option, Some, Result, Ok, Err, ⊤}
 use Rattle.sum_sources.specs.declared.fault.Fault.{Fault}
 use Rattle.sum_sources.specs.declared.source.OpenFault.{OpenFault}
@@ -20,13 +21,9 @@ pub record SourceState : Type 0 where
   pub told : Option Telling
   pub refusals : ℕ
 
--- a count of refusals after one more, which stays at its last value
-abbrev pub after_refusal : ℕ → ℕ
-after_refusal n = min (n + 1) (2 ^ 64 - 1)
-
 -- only want of memory changes the count of refusals
 abbrev pub refusals_after : {F : Type 0} → ℕ → Result F OpenFault → ℕ
-refusals_after n (Err faults.Memory) = after_refusal n
+refusals_after n (Err faults.Memory) = one_more n
 refusals_after n _ = n
 
 -- every call but one that wants memory adds its name

@@ -2,7 +2,8 @@
 ghost use Rattle.std.specs.Prelude.{◌≡◌, ◌++◌, ◌∷◌, [], OnOk, OnErr, IfOk, Some, map, max, slice_get};
 ghost use Rattle.std.specs.Option.{option_map};
 ghost use Rattle.sum_sources.specs.InMemory.{first_reply, telling_of};
-ghost use Rattle.sum_sources.specs.Sources.{OpenGives, after_refusal, refusals_after};
+ghost use Rattle.sum_sources.specs.Sources.{OpenGives, refusals_after};
+ghost use Rattle.digest_kinds.specs.Limits.{one_more};
 ghost use Rattle.sum_sources.specs.refinement.ToldPairs.{pair_of, reply_of};
 
 use crate::{Ending, Fault, Input, NoRoom, OpenFault, Source, Told};
@@ -95,7 +96,7 @@ impl<'a, A: Allocator + Copy> ToldSource<'a, A> {
     // Adds the name to those asked, or counts the refusal.
     fn ask(&mut self, name: &[u8]) -> Result<(), NoRoom>
         ensures ok { OnOk result (self.new ≡ record self.old { asked = self.old.asked ++ name.now ∷ [] }) }
-        ensures err { OnErr result (self.new ≡ record self.old { refusals = after_refusal self.old.refusals }) }
+        ensures err { OnErr result (self.new ≡ record self.old { refusals = one_more self.old.refusals }) }
     {
         let asked = match Vec::from_slice(self.alloc, name) {
             Ok(name) => self.asked.push(name).is_ok(),

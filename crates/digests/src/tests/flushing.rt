@@ -16,7 +16,9 @@ struct CountsFlushes {
 }
 
 impl Sink for CountsFlushes {
-    ghost failures = { λ s. s.failures };
+    ghost use Rattle.std.specs.Prelude.{None, []};
+
+    ghost state = { λ s. record { written = None; held = []; failures = s.failures } };
 
     fn write(&mut self, piece: &[u8]) -> Result<usize, SinkFault> {
         Ok(piece.len())

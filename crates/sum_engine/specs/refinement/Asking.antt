@@ -2,7 +2,8 @@
 use Rattle.std.specs.Prelude.{ℕ, ◌≡◌, List, [], ◌∷◌, length, Option, None, Some, Ok, Err, ⊤}
 use Rattle.digest_kinds.specs.Kinds.{KindValue}
 use Rattle.sum_sources.specs.Contents.{Content, WhereTold}
-use Rattle.sum_sources.specs.Sources.{Reply, Refused, Given, SourceState, after_refusal}
+use Rattle.sum_sources.specs.Sources.{Reply, Refused, Given, SourceState}
+use Rattle.digest_kinds.specs.Limits.{one_more}
 use Rattle.sum_engine.specs.declared.asking.Asked.{Asked}
 use Rattle.sum_engine.specs.declared.asking.Asked.TheVariants as asked
 use Rattle.sum_engine.specs.Worlds.{World, after, digest_or_fault, reply}
@@ -36,5 +37,5 @@ Sized kind (Some (asked.Broken f)) = ⊤
 
 -- the source was refused memory, once, where nothing is answered
 abbrev pub RefusedUnless : {A : Type 0} → SourceState → SourceState → Option A → Type 0
-RefusedUnless a b None = b.refusals ≡ after_refusal a.refusals
+RefusedUnless a b None = b.refusals ≡ one_more a.refusals
 RefusedUnless a b (Some x) = b.refusals ≡ a.refusals

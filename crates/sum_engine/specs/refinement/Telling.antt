@@ -1,7 +1,8 @@
 -- Joins the writing of a text to its being handed on at once, by outputs that hold nothing.
 use Rattle.std.specs.Prelude.{ℕ, ◌≡◌, ◌⊎◌, List, [], Option, Result, Ok, Err, if◌then◌else◌}
 use Rattle.std.specs.Io.KnownBytes.{Appends}
-use Rattle.sum_lines.specs.Sinks.{SinkState, after_failure}
+use Rattle.sum_lines.specs.Sinks.{SinkState}
+use Rattle.digest_kinds.specs.Limits.{one_more}
 use Rattle.sum_lines.specs.refinement.Growing.{AppendsPrefix}
 use Rattle.sum_lines.specs.Profiles.{Profile}
 use Rattle.sum_engine.specs.declared.settings.Report.{Report}
@@ -16,7 +17,7 @@ Hands a b text (Err e) = AppendsPrefix a b text
 -- the failures of one output over a call that fails just where one of its calls did
 abbrev pub Fails : {A E : Type 0} → SinkState → SinkState → Result A E → Type 0
 Fails a b (Ok u) = b.failures ≡ a.failures
-Fails a b (Err e) = b.failures ≡ after_failure a.failures
+Fails a b (Err e) = b.failures ≡ one_more a.failures
 
 -- a call that writes the text and hands it on, where nothing was held; then nothing is held
 abbrev pub Tells : {E : Type 0} → SinkState → SinkState → List ℕ → Result (Unit {0}) E → Type 0
