@@ -19,7 +19,7 @@ use Rattle.sum_words.specs.declared.request.Job.{Job}
 use Rattle.sum_words.specs.declared.request.Job.TheVariants as jobs
 use Rattle.sum_words.specs.Items.{Text}
 use Rattle.digests.specs.Meaning.{all_of, status_of}
-use Rattle.digests.specs.Headline.{RefusalsOfJob}
+use Rattle.digests.specs.Refusals.{RefusalsOfJob}
 use Rattle.digests.specs.refinement.Operands.{Reached, HasReached}
 
 -- ---- runs, one after another

@@ -7,11 +7,11 @@ use Rattle.sum_lines.specs.Sinks.{SinkState, IsPrefix}
 use Rattle.digest_kinds.specs.Limits.{one_more}
 use Rattle.sum_engine.specs.declared.stop.Stop.{Stop}
 use Rattle.sum_engine.specs.declared.stop.Stop.TheVariants.{Memory, Write}
-use Rattle.sum_engine.specs.Moments.{Moment, RunState, HoldNothing, known, NoneFailed, OneFailed, Failures}
+use Rattle.sum_engine.specs.Moments.{Moment, RunState, HoldNothing, NoneFailed, OneFailed, Failures}
 use Rattle.sum_engine.specs.Runs.{Event, Tells, Run, events}
 use Rattle.sum_engine.specs.RunStates.{Did, RunOf, RunsTo}
 use Rattle.sum_engine.specs.refinement.Telling.{Fails}
-use Rattle.sum_engine.proofs.RunStateLemmas.{where_known, known_worlds, asks_none, did_by}
+use Rattle.sum_engine.proofs.RunStateLemmas.{where_known, known_worlds, asks_none, did_by, known}
 use Rattle.sum_words.specs.Items.{Text}
 use Rattle.sum_words.specs.CommandLines.{Call}
 use Rattle.sum_words.specs.refinement.Arguments.{CallIs, MayBeUnread}

@@ -82,7 +82,8 @@ pub record ChecksBy (t : Tool) (check : CheckSettings) (manifest : Text) : Type 
 -- what generation wrote for one name or more is good as a manifest, where it isn't too long
 abbrev pub WrittenIsGood : Type 0
 WrittenIsGood = (t : Tool) (check : CheckSettings) (manifest : Text) (w v : World) (g : GenerationRun)
-    → ChecksBy t check manifest → Checkable check.algo w v g → 0 < length g.names → length (generation_output w g) < limit
+    → ChecksBy t check manifest → Checkable check.algo w v g → 0 < length g.names
+    → length (generation_output w g) < limit
     → reply v manifest ≡ Given (record { bytes = generation_output w g; ending = Whole })
     → Accepts t check v manifest g.names
 

@@ -1,5 +1,5 @@
 pub mod Meaning
-pub mod Headline
+pub mod Refusals
 pub mod Program
 pub mod GenerationRuns
 pub mod refinement

@@ -10,7 +10,7 @@ ghost use Rattle.sum_words.specs.refinement.ItemIterator.{fault_of};
 ghost use Rattle.sum_words.specs.refinement.Request.{result_of};
 ghost use Rattle.sum_words.specs.Request.{request};
 ghost use Rattle.digests.specs.Meaning.{all_of, answer_run, one_of, or_dash, meaning, status_of};
-ghost use Rattle.digests.specs.Headline.{RefusalsOfJob, RefusalsOf};
+ghost use Rattle.digests.specs.Refusals.{RefusalsOfJob, RefusalsOf};
 ghost use Rattle.digests.specs.refinement.Operands.{once_told};
 
 use std::alloc::Allocator;

@@ -1,5 +1,5 @@
 -- The next verdict of a manifest, by what reading and judging its line did.
-use Rattle.std.proofs.Common.{◌≡◌, ℕ, ◌+◌, ◌≤◌, ◌||◌, List, [], ◌∷◌, length, map, slice_range, Option, Some, Ok, Err, refl, ap, sym, ◌∙◌, inl, append-nil}
+use Rattle.std.proofs.Common.{◌≡◌, ℕ, ◌+◌, ◌≤◌, ◌||◌, List, [], length, map, slice_range, Option, Some, Ok, Err, refl, ap, sym, ◌∙◌, inl, append-nil}
 use Rattle.std.specs.List.{list_any}
 use Rattle.std.proofs.KnownBytes.{Appends-nil}
 use Rattle.sum_sources.specs.declared.lines.Next.TheVariants.{Line}
@@ -16,9 +16,10 @@ use Rattle.sum_engine.specs.declared.verdict.LineVerdict.{LineVerdict}
 use Rattle.sum_engine.specs.declared.verdict.Verdict.{Verdict}
 use Rattle.sum_engine.specs.Worlds.{World, is_dash}
 use Rattle.sum_engine.specs.Runs.{Opens}
-use Rattle.sum_engine.specs.Verdicts.{Rules, judge, asks_of}
+use Rattle.sum_engine.specs.Verdicts.{Judged, judge, asks_of}
 use Rattle.sum_engine.specs.Reports.{counts_with}
-use Rattle.sum_engine.specs.Moments.{Moment, WhereKnown, run_state, world_of}
+use Rattle.sum_engine.specs.Moments.{Moment, WhereKnown, run_state}
+use Rattle.sum_engine.specs.refinement.Asking.{world_of}
 use Rattle.sum_engine.specs.RunStates.{Did, Refused}
 use Rattle.sum_engine.specs.Checkers.{Place, now_of}
 use Rattle.sum_engine.specs.Steps.{Now, Moves, next_judged}
@@ -28,7 +29,7 @@ use Rattle.sum_engine.specs.refinement.Handling.{events_by}
 use Rattle.sum_engine.specs.refinement.Finding.{TakesLine, LineGives, parsed_at}
 use Rattle.sum_engine.proofs.RunStateLemmas.{where_known, names-by, did_by}
 use Rattle.sum_engine.proofs.RestLemmas.{rest_on}
-use Rattle.sum_engine.proofs.StepLemmas.{now_at, now-told, ReadsLine, read_line, lines_now}
+use Rattle.sum_engine.proofs.StepLemmas.{now_at, now-told, ReadsLine, read_line, moves_by}
 
 -- a line was judged, and its name stands in the vector
 pub line_found : {I : Type 0} (p : Place I) (line : List ℕ) (said : ParsedLine) (k : ℕ) (d : Counts) (vector : List ℕ)
@@ -54,29 +55,22 @@ pub find_line : {I S : Type 0} (input : I → InputState) (state : S → SourceS
 find_line {I} input state p q reader a b line vector v reads takes few h taken err out refusals =
     let then : Place I = record q { reader = reader } in
     let names = asks_of (judged_in vector v) in
-    let found = where_known state a b (λ s t. (judge p.rules s.world reader.lines (parsed_at (record p { reader = reader }) line) ≡ judged_in vector v) × Did s t (events_by names [] [])
-    × (q.counts ≡ counts_with p.counts v.verdict)) h (λ w w' judged. (
+    let said = parsed_at (record p { reader = reader }) line in
+    let found = where_known state a b (λ s t. (judge p.rules s.world reader.lines said ≡ judged_in vector v)
+    × Did s t (events_by names [] []) × (q.counts ≡ counts_with p.counts v.verdict)) h (λ w w' judged. (
       judged.0,
       did_by names [] [] (record { world = judged.1; taken = taken; refusals = refusals })
           (rw err (Appends-nil a.err.written)) (rw out (Appends-nil a.out.written)),
       judged.2,
     )) in
-    rw takes.reader (now-told input p then (run_state state a) (run_state state b) _ (read_line input p reader line reads)
-    found (λ c d s t took found.
+    let took = read_line input p reader line reads in
+    rw takes.reader (now-told input p then (run_state state a) (run_state state b) _ took found (λ c d s t took found.
     let found' = rw reads.number at found in
     let first : Now = now_at p c s in
     let next : Now = now_at then d t in
     let is : next_judged p.rules first line ≡ judged_in vector v = found'.0 in
-    let moves : Moves p.rules first next vector = record {
-      line = line;
-      lines = lines_now p.rules c reads.profile ∙ took.0.0 ∙ ap (λ l. line ∷ l) (sym (lines_now p.rules d reads.profile));
-      rest = took.0.1;
-      used = took.1;
-      number = reads.number;
-      form = takes.form;
-      counts = rw is found'.2;
-      held = few;
-    } in
+    let counted = found'.2 ∙ ap (λ (j : Judged). counts_with p.counts j.verdict) (sym is) in
+    let moves = moves_by p q reader c d s t line vector reads.profile reads.number took takes few counted in
     let asked = rw (names-by names [] []) at found'.1.world in
     record {
       first = rest_on p.rules first next vector moves (rw is asked) ∙ rw is refl;

@@ -10,9 +10,9 @@ use Rattle.sum_engine.specs.declared.settings.Settings.{Settings}
 use Rattle.sum_engine.specs.Worlds.{is_dash, reply, digest_or_fault}
 use Rattle.sum_engine.specs.Runs.{Step, at_once}
 use Rattle.sum_engine.specs.Generation.{generate_run, generate_run_by}
-use Rattle.sum_engine.specs.Moments.{Moment, world_of}
+use Rattle.sum_engine.specs.Moments.{Moment}
 use Rattle.sum_engine.specs.RunStates.{RunsTo}
-use Rattle.sum_engine.specs.refinement.Asking.{AskGives, IsAsked}
+use Rattle.sum_engine.specs.refinement.Asking.{AskGives, IsAsked, world_of}
 use Rattle.sum_engine.specs.refinement.Telling.{HandsBoth}
 use Rattle.sum_engine.proofs.RunStateLemmas.{Writing}
 use Rattle.sum_engine.proofs.RunLemmas.{answered, once}

@@ -27,7 +27,8 @@ use Rattle.sum_engine.specs.Generation.{fault_line}
 use Rattle.sum_engine.specs.Verdicts.{Rules, all_verdicts}
 use Rattle.sum_engine.specs.Reports.{no_counts}
 use Rattle.sum_engine.specs.Checking.{rules_of, content_run, check_run_by, check_run}
-use Rattle.sum_engine.specs.Moments.{Moment, RunState, WhereKnown, run_state, world_by, world_of}
+use Rattle.sum_engine.specs.Moments.{Moment, RunState, WhereKnown, run_state}
+use Rattle.sum_engine.specs.refinement.Asking.{world_by, world_of}
 use Rattle.sum_engine.specs.RunStates.{Did, RunOf, RunsTo}
 use Rattle.sum_engine.specs.Steps.{Now, now_by, StepGives, to_come}
 use Rattle.sum_engine.specs.Checkers.{Place, now_of}
@@ -76,7 +77,7 @@ manifest_run r c w = content_run r c (all_verdicts r w c)
 comes_last_by : {I : Type 0} (state : I → InputState) (q r : Rules) (c : Option Content) (s z : Option RunState)
     (a : Option Now) (p : Place I) (held : List ℕ) (x : Result Bool Stop) → q ≡ r → Comes r c s a
     → StepGives q held a (now_of state p z) (ends x) → IfSome c (λ c. WhereTold s z (λ s t.
-    RunOf (manifest_run r c s.world).steps (manifest_run r c s.world).good s t x))
+    let run = manifest_run r c s.world in RunOf run.steps run.good s t x))
 comes_last_by state q r None s z a p held x rules k h = tt
 comes_last_by state q r (Some c) None z a p held x rules k h = tt
 comes_last_by state q r (Some c) (Some s) z None p held x rules k h = absurd k
@@ -133,10 +134,10 @@ CheckGives state k a b x = RunsTo state (λ w. check_run k.settings k.tool w k.n
 -- the next, by run states
 check_gives_by : (k : Call) (dash : Bool) (c : Option Content) (a asked b : Option RunState) (x : Result Bool Stop)
     → is_dash k.name ≡ dash → WhereTold a asked (IsOpened k.name c)
-    → IfSome (option_map clip c) (λ c. WhereTold asked b (λ s t. RunOf (manifest_run (rules_where k dash) c s.world).steps
-    (manifest_run (rules_where k dash) c s.world).good s t x))
-    → WhereTold a b (λ s t. RunOf (check_run k.settings k.tool s.world k.name).steps
-    (check_run k.settings k.tool s.world k.name).good s t x)
+    → IfSome (option_map clip c) (λ c. WhereTold asked b (λ s t.
+    let run = manifest_run (rules_where k dash) c s.world in RunOf run.steps run.good s t x))
+    → WhereTold a b (λ s t.
+    let run = check_run k.settings k.tool s.world k.name in RunOf run.steps run.good s t x)
 check_gives_by k dash c None asked b x is h run = tt
 check_gives_by k dash c (Some a) None b x is h run = absurd h
 check_gives_by k dash c (Some a) (Some asked) None x is h run = absurd (rw h.1 at run)
@@ -148,7 +149,7 @@ check_gives_by k dash c (Some a) (Some asked) (Some b) x is h run =
     rw h.2 (behind_step b (of later).good (opening k.name) (of later).steps x h.3 rest)
 
 -- after that, what the checker does is what the call does, where source, standard input and manifest tell
-pub check_gives : {S : Type 0} (state : S → SourceState) (k : Call) (dash : Bool) (c : Option Content)
+check_gives : {S : Type 0} (state : S → SourceState) (k : Call) (dash : Bool) (c : Option Content)
     (a asked b : Moment S) (x : Result Bool Stop) → is_dash k.name ≡ dash
     → WhereKnown state a asked (IsOpened k.name c)
     → ManifestGives state (rules_where k dash) (option_map clip c) asked b x → CheckGives state k a b x
@@ -174,7 +175,7 @@ dash_worlds name (Some s) None dash = tt
 dash_worlds name (Some s) (Some c) dash = (dash_asked s.answer s.asked c name dash, refl)
 
 -- the manifest is standard input, which is taken then
-pub dash_opened : {S : Type 0} (state : S → SourceState) (name : List ℕ) (a : Moment S) → is_dash name ≡ true
+dash_opened : {S : Type 0} (state : S → SourceState) (name : List ℕ) (a : Moment S) → is_dash name ≡ true
     → WhereKnown state a (record a { input = Some empty_content; taken = true }) (IsOpened name a.input)
 dash_opened {S} state name a dash =
     let next : Moment S = record a { input = Some empty_content; taken = true } in
@@ -184,6 +185,14 @@ dash_opened {S} state name a dash =
       rw dash refl,
       asked_only name is.0 (rw dash (sym (or-true a.taken))) refl refl refl,
     ))
+
+-- so what the checker does with standard input is what the call does
+pub check_dash : {S : Type 0} (state : S → SourceState) (k : Call) (a b : Moment S) (x : Result Bool Stop)
+    → is_dash k.name ≡ true → ManifestGives state (rules_where k true) (option_map clip a.input)
+    (record a { input = Some empty_content; taken = true }) b x → CheckGives state k a b x
+check_dash {S} state k a b x dash run =
+    let asked : Moment S = record a { input = Some empty_content; taken = true } in
+    check_gives state k true a.input a asked b x dash (dash_opened state k.name a dash) run
 
 -- a name was opened, where source and standard input tell
 opens : {F : Type 0} (content : F → InputState) (name : List ℕ) (s t : Option Telling) (input : Option Content)
@@ -196,7 +205,7 @@ opens content name (Some s) None (Some i) x h = absurd h
 opens content name (Some s) (Some t) (Some i) x h = (rw (h.0, h.1) refl, h.2)
 
 -- the manifest is a file
-pub file_opened : {F S : Type 0} (content : F → InputState) (state : S → SourceState) (name : List ℕ) (a : Moment S)
+file_opened : {F S : Type 0} (content : F → InputState) (state : S → SourceState) (name : List ℕ) (a : Moment S)
     (source : S) (file : F) → is_dash name ≡ false
     → OpenGives content (state a.source).told (state source).told name (Ok file)
     → (state source).refusals ≡ (state a.source).refusals
@@ -209,6 +218,18 @@ file_opened content state name a source file dash h refusals =
       rw dash is.1.1,
       asked_only name (is.0 ∙ rw dash refl) (rw dash (sym (or-false a.taken))) refusals refl refl,
     ))
+
+-- so what the checker does with it is what the call does
+pub check_file : {F S : Type 0} (content : F → InputState) (state : S → SourceState) (k : Call) (a b : Moment S)
+    (source : S) (file : F) (x : Result Bool Stop) → is_dash k.name ≡ false
+    → OpenGives content (state a.source).told (state source).told k.name (Ok file)
+    → (state source).refusals ≡ (state a.source).refusals
+    → ManifestGives state (rules_where k false) (option_map clip (content file).content)
+    (record a { source = source }) b x → CheckGives state k a b x
+check_file {S = S} content state k a b source file x dash h refusals run =
+    let asked : Moment S = record a { source = source } in
+    check_gives state k false (content file).content a asked b x dash
+    (file_opened content state k.name a source file dash h refusals) run
 
 -- the manifest could not be opened, and the line of its fault was handed on, or a prefix of it
 pub refused : {F S : Type 0} (content : F → InputState) (state : S → SourceState) (k : Call) (a : Moment S)

@@ -9,13 +9,14 @@ use Rattle.sum_sources.proofs.ToldLemmas.{WhereTold-map}
 use Rattle.sum_engine.specs.declared.stop.Stop.{Stop}
 use Rattle.sum_engine.specs.declared.stop.Stop.TheVariants.{Memory, Write}
 use Rattle.sum_engine.specs.Worlds.{World}
-use Rattle.sum_engine.specs.Moments.{Moment, RunState, WhereKnown, known, run_state, world_of}
+use Rattle.sum_engine.specs.Moments.{Moment, RunState, WhereKnown, run_state}
+use Rattle.sum_engine.specs.refinement.Asking.{world_of}
 use Rattle.sum_engine.specs.Runs.{Event, Step, Run, events, events_of, at_once, name_in, err_in, out_in}
 use Rattle.sum_engine.specs.RunStates.{Did, DidPrefix, Refused, RunOf, RunsTo}
 use Rattle.sum_engine.specs.Steps.{GoesOn, Finishes, Breaks, Waits}
 use Rattle.sum_engine.specs.Manifests.{EventsExtend}
 use Rattle.sum_engine.specs.refinement.Telling.{HandsBoth}
-use Rattle.sum_engine.proofs.RunStateLemmas.{Asks, Writing, where_known, names-by, err-by, out-by, did_nothing, did_both, came_by, prefix_behind}
+use Rattle.sum_engine.proofs.RunStateLemmas.{Asks, Writing, where_known, names-by, err-by, out-by, did_nothing, did_both, came_by, prefix_behind, known}
 
 -- one more of the steps came about
 pub steps_more : {a b c : RunState} (done : List Step) (next : Step) → Did a b (events done) → Did b c (events_of next)

@@ -10,7 +10,7 @@ use Rattle.std.proofs.lemmas.List.{map-append}
 use Rattle.std.proofs.lemmas.List.Elements.{filter_map-append}
 use Rattle.std.proofs.lemmas.List.Folds.{list_any-append}
 use Rattle.sum_sources.specs.Contents.{WhereTold}
-use Rattle.sum_sources.specs.Sources.{SourceState}
+use Rattle.sum_sources.specs.Sources.{SourceState, Telling}
 use Rattle.digest_kinds.specs.Limits.{one_more}
 use Rattle.sum_lines.specs.Sinks.{SinkState}
 use Rattle.sum_lines.specs.refinement.Growing.{AppendsPrefix}
@@ -18,7 +18,10 @@ use Rattle.sum_engine.specs.Worlds.{World, is_dash, after}
 use Rattle.sum_engine.specs.refinement.Handling.{events_by}
 use Rattle.sum_engine.specs.Runs.{Event, Opens, Tells, Puts, name_in, err_in, out_in}
 use Rattle.sum_engine.specs.refinement.Telling.{Hands, HandsBoth}
-use Rattle.sum_engine.specs.Moments.{Moment, RunState, WhereKnown, known, world_of}
+use Rattle.sum_lines.specs.PartsOfLines.{◌>>=◌}
+use Rattle.sum_sources.specs.Contents.{Content}
+use Rattle.sum_engine.specs.Moments.{Moment, RunState, WhereKnown, run_state}
+use Rattle.sum_engine.specs.refinement.Asking.{world_by, world_of}
 use Rattle.sum_engine.specs.RunStates.{Did, DidPrefix, Refused}
 use Rattle.sum_engine.proofs.WorldLemmas.{after-none, after-append}
 
@@ -178,12 +181,34 @@ WhereTold-made None y f g R h k = tt
 WhereTold-made (Some a) None f g R h k = h
 WhereTold-made (Some a) (Some b) f g R h k = k a b h
 
+-- the run state at a moment, once its world is known
+abbrev pub known : {S : Type 0} → (S → SourceState) → Moment S → World → RunState
+known state m w = record {
+  world = w;
+  refusals = (state m.source).refusals;
+  taken = m.taken;
+  err = m.err;
+  out = m.out;
+}
+
+-- the run state, by the world
+by_world : (f : World → RunState) (t : Option Telling) (c : Option Content)
+    → (t >>= (λ t. c >>= (λ c. Some (f (record { answer = t.answer; asked = t.asked; input = c })))))
+    ≡ option_map f (world_by t c)
+by_world f None c = refl
+by_world f (Some t) None = refl
+by_world f (Some t) (Some c) = refl
+
+run_state-known : {S : Type 0} (state : S → SourceState) (m : Moment S)
+    → run_state state m ≡ option_map (known state m) (world_of state m)
+run_state-known state m = by_world (known state m) (state m.source).told m.input
+
 -- what follows of two moments from what holds of their worlds, where these tell
 pub where_known : {S : Type 0} (state : S → SourceState) (a b : Moment S) {P : World → World → Type 0}
     (R : RunState → RunState → Type 0) → WhereTold (world_of state a) (world_of state b) P
     → ((w v : World) → P w v → R (known state a w) (known state b v)) → WhereKnown state a b R
-where_known state a b R h f =
-    WhereTold-made (world_of state a) (world_of state b) (known state a) (known state b) R h f
+where_known state a b R h f = rw (run_state-known state a, run_state-known state b)
+    (WhereTold-made (world_of state a) (world_of state b) (known state a) (known state b) R h f)
 
 -- and what holds of their worlds from what holds of the moments
 told-of : {A B : Type 0} (x y : Option A) (f g : A → B) (R : B → B → Type 0)
@@ -195,7 +220,8 @@ told-of (Some a) (Some b) f g R h = h
 pub known_worlds : {S : Type 0} (state : S → SourceState) (a b : Moment S) (R : RunState → RunState → Type 0)
     → WhereKnown state a b R
     → WhereTold (world_of state a) (world_of state b) (λ w v. R (known state a w) (known state b v))
-known_worlds state a b R h = told-of (world_of state a) (world_of state b) (known state a) (known state b) R h
+known_worlds state a b R h = told-of (world_of state a) (world_of state b) (known state a) (known state b) R
+    (rw (run_state-known state a, run_state-known state b) at h)
 
 -- a value that stayed
 pub same_told : {A : Type 0} (x : Option A) → WhereTold x x (λ a b. b ≡ a)

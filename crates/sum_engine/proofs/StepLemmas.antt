@@ -20,9 +20,10 @@ use Rattle.sum_engine.specs.Runs.{Step}
 use Rattle.sum_lines.specs.Profiles.{present}
 use Rattle.sum_engine.specs.Profiles.{lines_by}
 use Rattle.sum_engine.specs.Verdicts.{Rules, asks_of}
-use Rattle.sum_engine.specs.Reports.{err_by, out_of, err_of, end_text, good}
+use Rattle.sum_engine.specs.Reports.{err_by, out_of, err_of, end_text, good, counts_with}
 use Rattle.sum_lines.specs.Sinks.{SinkState}
-use Rattle.sum_engine.specs.Moments.{Moment, RunState, HoldNothing, run_state, world_of}
+use Rattle.sum_engine.specs.Moments.{Moment, RunState, HoldNothing, run_state}
+use Rattle.sum_engine.specs.refinement.Asking.{world_of}
 use Rattle.sum_engine.specs.Steps.{Now, now_by, Moves, StepGives, next_judged, rest_verdicts}
 use Rattle.sum_engine.specs.LineVerdicts.{judged_in}
 use Rattle.sum_engine.specs.refinement.Finding.{TakesLine, LineGives}
@@ -123,6 +124,24 @@ read_line state p reader line h = WhereTold-both (coming state p.reader) (coming
     {R = λ c d. LineOf c d (Ok Line) line × (used reader + length d.bytes ≡ used p.reader + length c.bytes)}
     (λ c d came using. (came, using)) h.came h.using
 
+-- a line of which so much was taken, and what its place became, make one move
+abbrev pub moves_by : {I : Type 0} (p q : Place I) (reader : LineReader I) (c d : Content) (s t : RunState)
+    (line vector : List ℕ) → p.rules.profile ≡ present → reader.lines ≡ p.reader.lines + 1
+    → LineOf c d (Ok Line) line × (used reader + length d.bytes ≡ used p.reader + length c.bytes)
+    → TakesLine (record p { reader = reader }) q line → length vector ≤ length line
+    → q.counts ≡ counts_with p.counts (next_judged p.rules (now_at p c s) line).verdict
+    → Moves p.rules (now_at p c s) (now_at (record q { reader = reader }) d t) vector
+moves_by p q reader c d s t line vector profile number took takes few counted = record {
+  line = line;
+  lines = lines_now p.rules c profile ∙ took.0.0 ∙ ap (λ l. line ∷ l) (sym (lines_now p.rules d profile));
+  rest = took.0.1;
+  used = took.1;
+  number = number;
+  form = takes.form;
+  counts = counted;
+  held = few;
+}
+
 -- a line, which was handled; q is the place then
 pub step_line : {I S : Type 0} (input : I → InputState) (state : S → SourceState) (p q : Place I)
     (reader : LineReader I) (a b : Moment S) (line held : List ℕ) → ReadsLine input p reader line
@@ -131,21 +150,12 @@ pub step_line : {I S : Type 0} (input : I → InputState) (state : S → SourceS
     → StepGives p.rules held (now_of input p (run_state state a)) (now_of input q (run_state state b)) (Ok Going)
 step_line {I} input state p q reader a b line held reads takes few h =
     let then : Place I = record q { reader = reader } in
-    rw takes.reader (now-told input p then (run_state state a) (run_state state b) _ (read_line input p reader line reads)
-    h (λ c d s t took done.
+    let took = read_line input p reader line reads in
+    rw takes.reader (now-told input p then (run_state state a) (run_state state b) _ took h (λ c d s t took done.
     let done' = rw reads.number at done in
     let first : Now = now_at p c s in
     let next : Now = now_at then d t in
-    let moves : Moves p.rules first next held = record {
-      line = line;
-      lines = lines_now p.rules c reads.profile ∙ took.0.0 ∙ ap (λ l. line ∷ l) (sym (lines_now p.rules d reads.profile));
-      rest = took.0.1;
-      used = took.1;
-      number = reads.number;
-      form = takes.form;
-      counts = done'.0;
-      held = few;
-    } in
+    let moves = moves_by p q reader c d s t line held reads.profile reads.number took takes few done'.0 in
     let j = next_judged p.rules first line in
     let asked = rw (names-by (asks_of j) (err_of p.rules j) (out_of p.rules j)) at done'.1.world in (
       record {
@@ -170,9 +180,9 @@ step_line_stop {I} input state p q reader a b line Write reads takes h =
     record { step = _; rest = first.0; is = first.1; did = cut' }))
 step_line_stop {I} input state p q reader a b line Memory reads takes h =
     let then : Place I = record q { reader = reader } in
-    rw takes.reader (now-told input p then (run_state state a) (run_state state b) _ reads.came h (λ c d s t took refused.
+    rw takes.reader (now-told input p then (run_state state a) (run_state state b) _ reads.came h (λ c d s t took wanted.
     let first = line_first p.rules (now_at p c s) line (lines d) (lines_now p.rules c reads.profile ∙ took.0) in
-    record { step = _; rest = first.0; is = first.1; wants = inl refused }))
+    record { step = _; rest = first.0; is = first.1; wants = inl wanted }))
 
 -- there was no memory for the line
 pub step_no_room : {I : Type 0} (input : I → InputState) (p q : Place I) (s : Option RunState)

@@ -36,10 +36,9 @@ abbrev pub now_of : {I : Type 0} → (I → InputState) → Place I → Option R
 now_of state p run_state =
     now_by (coming state p.reader) p.reader.lines (used p.reader) p.form p.counts run_state
 
--- what a step does to the place, whether outputs and files tell or not: it is checked by the same; what the input has
--- given and what is left of it stay the same in sum; a line that was handled is one more; no read failed where a line was
--- handled or the manifest is good; where a whole line is ahead already, the input isn't read; and the reader's bounds
--- hold
+-- what a step does to the place, told or not: it is checked by the same; what the input has given and what is left of it
+-- stay the same in sum; a line that was handled is one more; no read failed where a line was handled or the manifest is
+-- good; where a whole line is ahead already, the input isn't read; and the reader's bounds hold
 pub record Reads {I : Type 0} (state : I → InputState) (a b : Place I) (x : Result Progress Stop) : Type 0 where
   pub rules : b.rules ≡ a.rules
   pub taken : WhereTold (state a.reader.input).content (state b.reader.input).content

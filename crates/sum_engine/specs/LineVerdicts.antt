@@ -1,11 +1,14 @@
 -- What judging the lines of a manifest gives, one after the other, with no text written.
-use Rattle.std.specs.Prelude.{ℕ, ◌≡◌, ◌≤◌, ◌<◌, ◌⊎◌, List, [], ◌∷◌, map, length, slice_range, Bool, true, false}
+use Rattle.std.specs.Prelude.{ℕ, ◌≡◌, ◌≤◌, ◌<◌, ◌⊎◌, List, [], ◌∷◌, map, length, slice_range, Bool, true, false, is_none}
 use Rattle.std.specs.Prelude.{Option, None, Some, Result, Ok, Err}
 use Rattle.sum_sources.specs.declared.fault.Ending.{Ending}
 use Rattle.sum_sources.specs.declared.fault.Ending.TheVariants.{Whole, Broken}
 use Rattle.sum_sources.specs.declared.lines.LineStop.{LineStop}
 use Rattle.sum_sources.specs.declared.lines.LineStop.TheVariants.{Fault, Memory}
-use Rattle.sum_sources.specs.Contents.{WhereTold}
+use Rattle.sum_sources.specs.Contents.{InputState, WhereTold}
+use Rattle.sum_sources.specs.Standard.{left_in}
+use Rattle.sum_lines.specs.Sinks.{SinkState}
+use Rattle.sum_engine.specs.Moments.{Moment}
 use Rattle.sum_sources.specs.ManifestLines.{past_line}
 use Rattle.sum_engine.specs.declared.progress.Progress.{Progress}
 use Rattle.sum_engine.specs.declared.progress.Progress.TheVariants.{Going, Ended}
@@ -25,6 +28,18 @@ pub record Finding (I : Type 0) : Type 0 where
   pub place : Place I
   pub short : Bool
   pub whole : Bool
+
+-- the moment of a call that is lent standard input and a source, and writes to no output
+abbrev pub asking : {I S : Type 0} → (I → InputState) → Option I → S → Moment S
+asking state stdin source =
+    let silent : SinkState = record { written = None; held = []; failures = 0 } in
+    record {
+      source = source;
+      input = (left_in state stdin).content;
+      taken = is_none stdin;
+      err = silent;
+      out = silent;
+    }
 
 -- the judged line: its name stands in the vector
 abbrev pub judged_in : List ℕ → LineVerdict → Judged

@@ -1,10 +1,9 @@
 -- How the streams of a run stand at one moment: all that a contract sees of them.
-use Rattle.std.specs.Prelude.{ℕ, ◌≡◌, ◌⊎◌, Bool, List, [], Option, None, Some, Result, Ok, Err, is_none}
-use Rattle.std.specs.Option.{option_map}
+use Rattle.std.specs.Prelude.{ℕ, ◌≡◌, ◌⊎◌, Bool, List, [], Option, Some, Result, Ok, Err}
 use Rattle.sum_sources.specs.Contents.{Content, InputState, WhereTold}
-use Rattle.sum_sources.specs.Sources.{SourceState, Telling}
-use Rattle.sum_sources.specs.Standard.{left_in}
+use Rattle.sum_sources.specs.Sources.{SourceState}
 use Rattle.sum_lines.specs.Sinks.{SinkState}
+use Rattle.sum_lines.specs.PartsOfLines.{◌>>=◌}
 use Rattle.digest_kinds.specs.Limits.{one_more}
 use Rattle.sum_engine.specs.declared.stop.Stop.{Stop}
 use Rattle.sum_engine.specs.declared.stop.Stop.TheVariants.{Write}
@@ -43,34 +42,19 @@ pub record RunState : Type 0 where
   pub err : SinkState
   pub out : SinkState
 
--- the world, where the source and standard input tell
-abbrev pub world_by : Option Telling → Option Content → Option World
-world_by None c = None
-world_by (Some t) None = None
-world_by (Some t) (Some c) = Some (record { answer = t.answer; asked = t.asked; input = c })
-
-abbrev pub world_of : {S : Type 0} → (S → SourceState) → Moment S → Option World
-world_of state m = world_by (state m.source).told m.input
-
--- the run state at a moment, once its world is known
-abbrev pub known : {S : Type 0} → (S → SourceState) → Moment S → World → RunState
-known state m w = record {
-  world = w;
-  refusals = (state m.source).refusals;
-  taken = m.taken;
-  err = m.err;
-  out = m.out;
-}
-
+-- that, where the source and standard input tell
 abbrev pub run_state : {S : Type 0} → (S → SourceState) → Moment S → Option RunState
-run_state state m = option_map (known state m) (world_of state m)
+run_state state m = do
+  told ← (state m.source).told
+  input ← m.input
+  Some (record {
+    world = record { answer = told.answer; asked = told.asked; input = input };
+    refusals = (state m.source).refusals;
+    taken = m.taken;
+    err = m.err;
+    out = m.out;
+  })
 
 -- what holds between the run states of two moments, where these tell
 abbrev pub WhereKnown : {S : Type 0} → (S → SourceState) → Moment S → Moment S → (RunState → RunState → Type 0) → Type 0
 WhereKnown state a b P = WhereTold (run_state state a) (run_state state b) P
-
--- the moment of a call that is lent standard input and a source, and writes to no output
-abbrev pub asking : {I S : Type 0} → (I → InputState) → Option I → S → Moment S
-asking state stdin source =
-    let silent : SinkState = record { written = None; held = []; failures = 0 } in
-    record { source = source; input = (left_in state stdin).content; taken = is_none stdin; err = silent; out = silent }

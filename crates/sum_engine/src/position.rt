@@ -32,7 +32,7 @@ impl<'a, I: Input> Position<'a, I> {
     ghost use Rattle.std.specs.Option.{option_map};
     ghost use Rattle.sum_sources.specs.Contents.{clip};
     ghost use Rattle.sum_sources.specs.LineReaders.{coming};
-    ghost use Rattle.sum_engine.specs.Moments.{RunState, run_state, world_of, asking, HoldNothing, Failures};
+    ghost use Rattle.sum_engine.specs.Moments.{RunState, run_state, HoldNothing, Failures};
     ghost use Rattle.sum_engine.specs.RunStates.{RefusedExactly};
     ghost use Rattle.sum_engine.specs.Steps.{no_line, StepGives, WantsMemory};
     ghost use Rattle.sum_engine.specs.Checkers.{now_of, Reads};
@@ -41,8 +41,8 @@ impl<'a, I: Input> Position<'a, I> {
     ghost use Rattle.std.specs.List.{list_any};
     ghost use Rattle.sum_engine.specs.Worlds.{is_dash};
     ghost use Rattle.sum_engine.specs.Verdicts.{asks_of};
-    ghost use Rattle.sum_engine.specs.refinement.Asking.{RefusedUnless};
-    ghost use Rattle.sum_engine.specs.LineVerdicts.{judged_in, Names, FindGives, progress_of};
+    ghost use Rattle.sum_engine.specs.refinement.Asking.{RefusedUnless, world_of};
+    ghost use Rattle.sum_engine.specs.LineVerdicts.{judged_in, Names, FindGives, progress_of, asking};
     ghost use Rattle.sum_engine.specs.refinement.Handling.{HandleGives};
     ghost use Rattle.sum_engine.specs.refinement.Finding.{TakesLine, LineGives};
     ghost use Rattle.sum_engine.specs.refinement.Listings.{rules_in};

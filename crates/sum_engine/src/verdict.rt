@@ -6,8 +6,8 @@ ghost use Rattle.sum_engine.specs.Worlds.{is_dash};
 ghost use Rattle.sum_engine.specs.Verdicts.{asks_by};
 ghost use Rattle.sum_lines.specs.Profiles.{present};
 ghost use Rattle.sum_lines.specs.ParsedLines.{parse_line, WithEntry};
-ghost use Rattle.sum_engine.specs.Moments.{asking, world_of};
-ghost use Rattle.sum_engine.specs.refinement.Asking.{RefusedUnless};
+ghost use Rattle.sum_engine.specs.LineVerdicts.{asking};
+ghost use Rattle.sum_engine.specs.refinement.Asking.{RefusedUnless, world_of};
 
 use crate::asking::{Asked, ask, is_dash};
 use crate::listing::Listing;

@@ -40,9 +40,9 @@ impl<I: Input> Verdicts<I> {
     ghost use Rattle.sum_sources.specs.Contents.{clip};
     ghost use Rattle.sum_sources.specs.LineReaders.{coming};
     ghost use Rattle.sum_engine.specs.Reports.{good};
-    ghost use Rattle.sum_engine.specs.Moments.{RunState, run_state, asking};
+    ghost use Rattle.sum_engine.specs.Moments.{RunState, run_state};
     ghost use Rattle.sum_engine.specs.Checkers.{now_of, Reads};
-    ghost use Rattle.sum_engine.specs.LineVerdicts.{Names, FindGives, progress_of, is_short, is_whole};
+    ghost use Rattle.sum_engine.specs.LineVerdicts.{asking, Names, FindGives, progress_of, is_short, is_whole};
 
     /// In front of the first line of the manifest that `input` gives; `from_stdin` says whether it came from standard
     /// input, where a line that names `-` is improperly formatted.

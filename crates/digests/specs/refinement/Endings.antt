@@ -15,8 +15,8 @@ abbrev pub line_of : Option Tool → Stop → Text
 line_of None stop = []
 line_of (Some tool) stop = stop_line tool stop
 
--- a run's answer, once both outputs were flushed, from a to b and from c to d: the same; or a write fault, where a flush
--- failed
+-- a run's answer once both outputs were flushed, from a to b and from c to d: the same; or a write fault, where a
+-- flush failed
 abbrev pub Settles : SinkState → SinkState → SinkState → SinkState → Result ℕ Stop → Result ℕ Stop → Type 0
 Settles a b c d (Ok status) (Ok other) = (other ≡ status) × NoneFailed a b c d
 Settles a b c d (Ok status) (Err Write) = OneFailed a b c d

@@ -2,11 +2,21 @@
 use Rattle.std.specs.Prelude.{ℕ, ◌≡◌, List, [], ◌∷◌, length, Option, None, Some, Ok, Err, ⊤}
 use Rattle.digest_kinds.specs.Kinds.{KindValue}
 use Rattle.sum_sources.specs.Contents.{Content, WhereTold}
-use Rattle.sum_sources.specs.Sources.{Reply, Refused, Given, SourceState}
+use Rattle.sum_sources.specs.Sources.{Reply, Refused, Given, SourceState, Telling}
+use Rattle.sum_engine.specs.Moments.{Moment}
 use Rattle.digest_kinds.specs.Limits.{one_more}
 use Rattle.sum_engine.specs.declared.asking.Asked.{Asked}
 use Rattle.sum_engine.specs.declared.asking.Asked.TheVariants as asked
 use Rattle.sum_engine.specs.Worlds.{World, after, digest_or_fault, reply}
+
+-- the world at a moment, where the source and standard input tell
+abbrev pub world_by : Option Telling → Option Content → Option World
+world_by None c = None
+world_by (Some t) None = None
+world_by (Some t) (Some c) = Some (record { answer = t.answer; asked = t.asked; input = c })
+
+abbrev pub world_of : {S : Type 0} → (S → SourceState) → Moment S → Option World
+world_of state m = world_by (state m.source).told m.input
 
 -- what came of a reply
 abbrev pub IsAsked : KindValue → Reply → Asked → Type 0

@@ -1,7 +1,7 @@
 use Rattle.std.proofs.Common.{◌≡◌, true, false, Ok, Err, refl, rules}
 use Rattle.std.proofs.lemmas.Result.{err_from_is_err_and}
 use Rattle.sum_engine.specs.Worlds.{is_dash}
-use Rattle.sum_engine.proofs.ManifestLemmas.{Call, check_gives, dash_opened, file_opened, refused, no_room}
+use Rattle.sum_engine.proofs.ManifestLemmas.{Call, check_dash, check_file, refused, no_room}
 use Rattle.sum_engine.proofs.manifest.check_one.Goals as goal
 
 -- the manifest is standard input
@@ -11,7 +11,7 @@ returns-then-is_dash-clause-gives g c =
     let dash : is_dash call.name ≡ true = search rules in
     rw (← c.streams.view_is) (λ hold.
     let run = rw (c.take-input.ensures.given, c.take-input.ensures.taken) at (c.check_input.ensures.gives hold) in
-    check_gives g.S.Source.state call true _ _ _ _ _ dash (dash_opened g.S.Source.state call.name _ dash) run)
+    check_dash g.S.Source.state call _ _ _ dash run)
 
 -- there was no memory to open it
 pub returns-in-Err-Memory-clause-gives : goal.returns-in-Err-Memory-clause-gives
@@ -52,6 +52,6 @@ pub returns-in-Ok-clause-gives : goal.returns-in-Ok-clause-gives
 returns-in-Ok-clause-gives g c =
     let call : Call = record { settings = c.args.settings; tool = c.args.tool.now; name = c.args.name.now } in
     let dash : is_dash call.name ≡ false = search rules in
-    rw (← c.streams-2.view_is) (λ hold. check_gives g.S.Source.state call false _ _ _ _ _ dash
-    (file_opened g.S.File.Input.state g.S.Source.state call.name _ _ c.in-Ok.file dash c.in-Ok.ensures.answer
-    c.in-Ok.ensures.refusals) (c.check_input-in-Ok.ensures.gives hold))
+    rw (← c.streams-2.view_is) (λ hold. check_file g.S.File.Input.state g.S.Source.state call _ _
+    _ c.in-Ok.file _ dash c.in-Ok.ensures.answer c.in-Ok.ensures.refusals
+    (c.check_input-in-Ok.ensures.gives hold))

@@ -1,6 +1,6 @@
 use Rattle.std.proofs.Common.{refl, ap, rules}
 use Rattle.std.specs.Prelude.{is_none}
-use Rattle.sum_engine.specs.Moments.{asking}
+use Rattle.sum_engine.specs.LineVerdicts.{asking}
 use Rattle.sum_engine.specs.refinement.Positions.{place_of}
 use Rattle.sum_engine.proofs.RunStateLemmas.{known_refused}
 use Rattle.sum_engine.proofs.FindLemmas.{find_line, find_refused}

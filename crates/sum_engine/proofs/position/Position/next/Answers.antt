@@ -10,8 +10,9 @@ use Rattle.sum_engine.proofs.position.Position.next.Goals as goal
 pub returns-in-Err-Memory-clause-gives : goal.returns-in-Err-Memory-clause-gives
 returns-in-Err-Memory-clause-gives g c =
     let self = place_of c.args.self.now in
+    let next = record self { reader = c.next_line.new.self } in
     let gives = rw c.in-Err-Memory.field-0-is at c.in-Err-Memory.ensures.gives in
-    λ hold. step_no_room g.I.Input.state self (record self { reader = c.next_line.new.self })
+    λ hold. step_no_room g.I.Input.state self next
     (run_state g.S.Source.state c.args.streams.now) gives
 
 -- the manifest's fault was told
@@ -19,9 +20,10 @@ pub returns-in_ok-put_fault_line-in-Err-Fault-clause-gives :
     goal.returns-in_ok-put_fault_line-in-Err-Fault-clause-gives
 returns-in_ok-put_fault_line-in-Err-Fault-clause-gives g c =
     let self = place_of c.args.self.now in
+    let next = record self { reader = c.next_line.new.self } in
     let gives = rw c.in-Err-Fault.field-0-is at c.in-Err-Fault.ensures.gives in
     let told = rw c.in-Err-Fault.fault-is at c.in_ok-put_fault_line-in-Err-Fault.ensures in
-    end_told g.I.Input.state g.S.Source.state self (record self { reader = c.next_line.new.self }) c.args.streams.now _ _
+    end_told g.I.Input.state g.S.Source.state self next c.args.streams.now _ _
     (Broken c.in-Err-Fault.fault) false (Ok tt) (search rules) gives refl refl told
 
 -- its line was cut off
@@ -29,19 +31,20 @@ pub returns-in_err-put_fault_line-in-Err-Fault-clause-gives :
     goal.returns-in_err-put_fault_line-in-Err-Fault-clause-gives
 returns-in_err-put_fault_line-in-Err-Fault-clause-gives g c =
     let self = place_of c.args.self.now in
+    let next = record self { reader = c.next_line.new.self } in
     let gives = rw c.in-Err-Fault.field-0-is at c.in-Err-Fault.ensures.gives in
     let cut = rw c.in-Err-Fault.fault-is at c.in_err-put_fault_line-in-Err-Fault.ensures in
     let stop = err_from_is_err_and c.from_residual.result c.from_residual.ensures.1 in
-    rw (stop.1, stop.2) (end_told g.I.Input.state g.S.Source.state self
-    (record self { reader = c.next_line.new.self }) c.args.streams.now _ _ (Broken c.in-Err-Fault.fault) false (Err tt)
+    rw (stop.1, stop.2) (end_told g.I.Input.state g.S.Source.state self next c.args.streams.now _ _ (Broken c.in-Err-Fault.fault) false (Err tt)
     (search rules) gives refl refl cut)
 
 -- the summary was told
 pub returns-in_ok-put_summary-in-Ok-NoMore-clause-gives : goal.returns-in_ok-put_summary-in-Ok-NoMore-clause-gives
 returns-in_ok-put_summary-in-Ok-NoMore-clause-gives g c =
     let self = place_of c.args.self.now in
+    let next = record self { reader = c.next_line.new.self } in
     let gives = rw c.in-Ok-NoMore.field-0-is at c.in-Ok-NoMore.ensures.gives in
-    end_told g.I.Input.state g.S.Source.state self (record self { reader = c.next_line.new.self }) c.args.streams.now _ _
+    end_told g.I.Input.state g.S.Source.state self next c.args.streams.now _ _
     Whole _ (Ok tt) c.streams-in-Ok-NoMore.view_is gives refl c.is_good.ensures
     c.in_ok-put_summary-in-Ok-NoMore.ensures
 
@@ -50,11 +53,11 @@ pub returns-in_err-put_summary-in-Ok-NoMore-clause-gives :
     goal.returns-in_err-put_summary-in-Ok-NoMore-clause-gives
 returns-in_err-put_summary-in-Ok-NoMore-clause-gives g c =
     let self = place_of c.args.self.now in
+    let next = record self { reader = c.next_line.new.self } in
     let gives = rw c.in-Ok-NoMore.field-0-is at c.in-Ok-NoMore.ensures.gives in
     let back = c.from_residual-in_err-put_summary-in-Ok-NoMore in
     let stop = err_from_is_err_and back.result back.ensures.1 in
-    rw (stop.1, stop.2) (end_told g.I.Input.state g.S.Source.state self
-    (record self { reader = c.next_line.new.self }) c.args.streams.now _ _ Whole _ (Err tt)
+    rw (stop.1, stop.2) (end_told g.I.Input.state g.S.Source.state self next c.args.streams.now _ _ Whole _ (Err tt)
     c.streams-in-Ok-NoMore.view_is gives refl refl c.in_err-put_summary-in-Ok-NoMore.ensures)
 
 -- a line was handled
