@@ -43,6 +43,15 @@ class Documents(Case):
         for (crate, file), says in believed.rows_of(believed.page()[0]).items():
             self.assertNotEqual(says, "?", f"docs/PROMISES.md doesn't say what {file} of {crate} is")
 
+    def test_contracts_that_are_quoted(self):
+        """docs/PROMISES.md shows the clauses of `run` and of `command` as they are."""
+        quoted = re.findall(r"(?s)```\n(    ensures .*?\n)```\n", believed.page()[0])
+        clauses = []
+        for name in ("run", "command"):
+            with open(os.path.join(harness.TOP, "crates", "digests", "src", f"{name}.rt"), encoding="utf-8") as it:
+                clauses.append(re.search(rf"(?s)\npub fn {name}<.*?\n(    ensures .*?)\{{\n", it.read())[1])
+        self.assertEqual(quoted, clauses)
+
     def test_text(self):
         """`--text` begins with the headline, and counts its definitions as the page does."""
         ran = self.run_command([os.path.join(harness.TOP, "tests", "believed.py"), "--text"])

@@ -4,8 +4,7 @@ use Rattle.sum_sources.specs.Sources.{SourceState}
 use Rattle.sum_engine.specs.declared.stop.Stop.{Stop}
 use Rattle.sum_engine.specs.declared.stop.Stop.TheVariants.{Memory}
 use Rattle.sum_engine.specs.Moments.{Moment}
-use Rattle.sum_engine.specs.RunStates.{RefusedExactly}
-use Rattle.sum_engine.specs.Manifests.{RefusedOnMemory}
+use Rattle.sum_engine.specs.RunStates.{RefusedExactly, RefusedOnMemory}
 use Rattle.sum_words.specs.declared.request.Job.{Job}
 use Rattle.sum_words.specs.declared.request.Job.TheVariants as jobs
 use Rattle.sum_words.specs.declared.request.Request.{Request}

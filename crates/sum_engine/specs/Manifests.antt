@@ -3,10 +3,8 @@ use Rattle.std.specs.Prelude.{ℕ, zero, suc, ◌≡◌, ◌+◌, ◌≤◌, ◌
 use Rattle.std.specs.Io.KnownBytes.{Appends}
 use Rattle.sum_sources.specs.Contents.{Content}
 use Rattle.sum_sources.specs.Sources.{SourceState}
-use Rattle.digest_kinds.specs.Limits.{one_more}
 use Rattle.sum_sources.specs.ManifestLines.{past_lines}
 use Rattle.sum_engine.specs.declared.stop.Stop.{Stop}
-use Rattle.sum_engine.specs.declared.stop.Stop.TheVariants.{Memory, Write}
 use Rattle.sum_engine.specs.Worlds.{after}
 use Rattle.sum_engine.specs.Profiles.{lines_by}
 use Rattle.sum_engine.specs.Runs.{Run, events, outs, errs, asks}
@@ -21,12 +19,6 @@ use Rattle.sum_engine.specs.Steps.{Now, Moves, GoesOn, Finishes, Breaks, to_come
 abbrev pub ManifestGives :
     {S : Type 0} → (S → SourceState) → Rules → Option Content → Moment S → Moment S → Result Bool Stop → Type 0
 ManifestGives state r c a b x = IfSome c (λ c. RunsTo state (λ w. content_run r c (all_verdicts r w c)) (λ g. g) a b x)
-
--- only want of memory may change what the source was refused, by one
-abbrev pub RefusedOnMemory : {S A : Type 0} → (S → SourceState) → Moment S → Moment S → Result A Stop → Type 0
-RefusedOnMemory state a b (Err Memory) = ((state b.source).refusals ≡ (state a.source).refusals)
-    ⊎ ((state b.source).refusals ≡ one_more (state a.source).refusals)
-RefusedOnMemory state a b r = (state b.source).refusals ≡ (state a.source).refusals
 
 -- ---- the laws
 

@@ -3,8 +3,8 @@ ghost use Rattle.std.specs.Option.{option_map};
 ghost use Rattle.sum_sources.specs.Contents.{clip};
 ghost use Rattle.sum_engine.specs.Checking.{check_run};
 ghost use Rattle.sum_engine.specs.Moments.{HoldNothing, Failures};
-ghost use Rattle.sum_engine.specs.RunStates.{RunsTo};
-ghost use Rattle.sum_engine.specs.Manifests.{ManifestGives, RefusedOnMemory};
+ghost use Rattle.sum_engine.specs.RunStates.{RunsTo, RefusedOnMemory};
+ghost use Rattle.sum_engine.specs.Manifests.{ManifestGives};
 ghost use Rattle.sum_engine.specs.refinement.Listings.{rules_in};
 
 use crate::asking::is_dash;
