@@ -43,7 +43,7 @@ pub record Operands : Type 0 where
   pub one : World → Text → Run
   pub names : List Text
 
--- before the first operand nothing came about
+-- before the first operand nothing happened
 started : (o : Operands) (rest : List Text) (s : Option RunState) → o.names ≡ rest
     → WhereTold s s (λ s t. Reached o.one o.names rest s t true)
 started o rest None is = tt
@@ -54,7 +54,7 @@ pub reached_start : {S : Type 0} (state : S → SourceState) (o : Operands) {res
     → o.names ≡ rest → HasReached state o.one o.names rest a a true
 reached_start state o {rest = rest} a is = started o rest (run_state state a) is
 
--- one operand more came about
+-- one operand more happened
 pub reached_step : {S : Type 0} (state : S → SourceState) (o : Operands) (good this : Bool) (name : Text)
     (rest : List Text) (x y z : Moment S) → HasReached state o.one o.names (name ∷ rest) x y good
     → RunsTo state (λ w. o.one w name) (λ g. g) y z (Ok this) → HasReached state o.one o.names rest x z (good && this)

@@ -79,7 +79,7 @@ find_line {I} input state p q reader a b line vector v reads takes few h taken e
       rest = took.0.1;
     }))
 
--- memory to open a line's file was refused: nothing came about, and the line was to come
+-- memory to open a line's file was refused: nothing happened, and the line was to come
 pub find_refused : {I S : Type 0} (input : I → InputState) (state : S → SourceState) (p q : Place I)
     (reader : LineReader I) (a b : Moment S) (line vector : List ℕ) → ReadsLine input p reader line
     → q.reader ≡ reader → WhereKnown state a b Refused

@@ -26,7 +26,7 @@ use Rattle.sum_engine.proofs.RunLemmas.{Along, steps_more, along_end, along_brea
 abbrev whole : Rules → Content → RunState → Run
 whole r c s = content_run r c (all_verdicts r s.world c)
 
--- of none nothing came about
+-- of none nothing happened
 joined_none : (r : Rules) (c : Content) (s : RunState) → Joined r c s (start c s) 0
 joined_none r c s = record {
   rest = refl;
@@ -106,7 +106,7 @@ length_steps : (r : Rules) (end : List ℕ) (c : Content) (js : List Judged)
 length_steps r end c [] = refl
 length_steps r end c (j ∷ js) = omega (arith, length_steps r end (past_line c) js)
 
--- the step that ends comes after all lines, and then all came about
+-- the step that ends comes after all lines, and then all happened
 pub steps_end : StepsEnd
 steps_end r c s b z k x times e =
     let h = steps_join r c s b k times in

@@ -18,7 +18,7 @@ use Rattle.sum_engine.specs.Manifests.{EventsExtend}
 use Rattle.sum_engine.specs.refinement.Telling.{HandsBoth}
 use Rattle.sum_engine.proofs.RunStateLemmas.{Asks, Writing, where_known, names-by, err-by, out-by, did_nothing, did_both, came_by, prefix_behind, known}
 
--- one more of the steps came about
+-- one more of the steps happened
 pub steps_more : {a b c : RunState} (done : List Step) (next : Step) → Did a b (events done) → Did b c (events_of next)
     → Did a c (events (done ++ next ∷ []))
 steps_more done next h k = rw (flat_map-append events_of done (next ∷ []), append-nil (events_of next))
@@ -26,7 +26,7 @@ steps_more done next h k = rw (flat_map-append events_of done (next ∷ []), app
 
 -- ---- along a run
 
--- of the whole run all came about but what is left
+-- of the whole run all happened but what is left
 pub record Along (whole left : Run) (a b : RunState) : Type 0 where
   pub done : List Step
   pub steps : whole.steps ≡ done ++ left.steps
@@ -37,7 +37,7 @@ pub record Along (whole left : Run) (a b : RunState) : Type 0 where
 pub along_none : (r : Run) (a : RunState) → Along r r a a
 along_none r a = record { done = []; steps = refl; good = refl; did = did_nothing a }
 
--- one step more came about
+-- one step more happened
 pub along_more : {a b c : RunState} {whole left next : Run} → Along whole left a b → GoesOn left next b c
     → Along whole next a c
 along_more {next = next} h k = record {
@@ -47,14 +47,14 @@ along_more {next = next} h k = record {
   did = steps_more h.done k.step h.did k.did;
 }
 
--- the last step: all came about
+-- the last step: all happened
 pub along_end : {a b c : RunState} {whole left : Run} {answer : Bool} → Along whole left a b → Finishes left answer b c
     → (answer ≡ whole.good) × Did a c (events whole.steps)
 along_end h k =
     let all = h.steps ∙ ap (λ r. h.done ++ r.steps) k.is in
     (sym (ap (λ r. r.good) k.is) ∙ h.good, rw all (steps_more h.done k.step h.did k.did))
 
--- a step of which a prefix came about
+-- a step of which a prefix happened
 pub along_breaks : {a b c : RunState} {whole left : Run} → Along whole left a b → Breaks left b c
     → DidPrefix a c (events whole.steps)
 along_breaks {whole = whole} h k =
@@ -72,12 +72,12 @@ along_waits {b = b} {whole = whole} x h k =
 
 -- ---- a run behind a step, and one run after another
 
--- both came about
+-- both happened
 pub run_then-did : {a b c : RunState} (r s : List Step) → Did a b (events r) → Did b c (events s)
     → Did a c (events (r ++ s))
 run_then-did r s h k = rw (flat_map-append events_of r s) (did_both (events r) (events s) h k)
 
--- the first came about, and the second stopped
+-- the first happened, and the second stopped
 pub run_then-second : {A B : Type 0} {a b : RunState} (c : RunState) (x : A) (y : B) (r s : List Step) (stop : Stop)
     → Did a b (events r) → RunOf s y b c (Err stop) → RunOf (r ++ s) x a c (Err stop)
 run_then-second c x y r s Write h k = (
@@ -119,7 +119,7 @@ run_then-first a b x y r s Memory h = (
   h.6,
 )
 
--- a run behind its first step, which came about
+-- a run behind its first step, which happened
 pub behind_step : {A : Type 0} {a b : RunState} (c : RunState) (x : A) (s : Step) (r : List Step) (y : Result A Stop)
     → Did a b (events_of s) → RunOf r x b c y → RunOf (s ∷ r) x a c y
 behind_step c x s r (Ok good) h k = (k.0, did_both (events_of s) (events r) h k.1)
@@ -161,7 +161,7 @@ kind_of_events h part one [] = refl
 kind_of_events h part one (s ∷ steps) = filter_map-append h (events_of s) (events steps)
     ∙ ap (λ l. l ++ filter_map h (events steps)) (one s) ∙ ap (λ l. part s ++ l) (kind_of_events h part one steps)
 
--- so what came about of a run extends each output by the run's text there, and asks its names
+-- so what happened of a run extends each output by the run's text there, and asks its names
 pub events_extend : EventsExtend
 events_extend r a b did = (
   rw (kind_of_events name_in (λ s. s.names) (λ s. names-by s.names s.err s.out) r.steps) at did.world,

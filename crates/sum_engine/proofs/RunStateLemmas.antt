@@ -1,4 +1,4 @@
--- What came about at a run state, one thing after another; and moments whose run states tell or don't.
+-- What happened at a run state, one thing after another; and moments whose run states tell or don't.
 use Rattle.std.proofs.Common.{◌≡◌, ℕ, ◌||◌, List, [], ◌∷◌, ◌++◌, map, Option, None, Some, Result, Ok, Err, refl, ap, sym, ◌∙◌, inl, inr, append_assoc, append-nil}
 use Rattle.std.specs.Prelude.{filter_map}
 use Rattle.std.specs.List.{list_any}
@@ -68,7 +68,7 @@ out-by names err out = simp (
   kind-all Puts out_in (λ x. refl),
 )
 
--- ---- what came about
+-- ---- what happened
 
 -- these names were asked, whatever was written
 pub record Asks (a b : RunState) (names : List (List ℕ)) : Type 0 where
@@ -145,7 +145,7 @@ prefix_out {a} {b} names err out asked all h = (
 abbrev pub Writing : Type 0
 Writing = Result (Unit {0}) (Unit {0})
 
--- what it wrote came about, or a prefix of it where it failed
+-- what it wrote happened, or a prefix of it where it failed
 abbrev pub Came : Writing → RunState → RunState → List Event → Type 0
 Came (Ok u) a b es = Did a b es
 Came (Err e) a b es = DidPrefix a b es
@@ -163,7 +163,7 @@ pub err_alone : (a b out : SinkState) (text : List ℕ) (x : Writing) → Hands 
 err_alone a b out text (Ok u) h = (h, Appends-nil out.written)
 err_alone a b out text (Err e) h = inl (h, refl)
 
--- a prefix of what comes next, behind what came about
+-- a prefix of what comes next, behind what happened
 pub prefix_behind : {a b c : RunState} (p es more : List Event) → Did a b p → DidPrefix b c es
     → DidPrefix a c (p ++ (es ++ more))
 prefix_behind p es more done h = (

@@ -1,7 +1,8 @@
 -- A checker, as its callers see it.
-use Rattle.std.specs.Prelude.{◌≡◌, ◌+◌, Bool, true, length, Option, None, Some, Result, Ok}
+use Rattle.std.specs.Prelude.{◌≡◌, ◌+◌, Bool, true, [], length, Option, None, Some, Result, Ok}
 use Rattle.sum_sources.specs.declared.lines.LineReader.{LineReader}
-use Rattle.sum_sources.specs.Contents.{InputState, WhereTold}
+use Rattle.std.specs.Option.{option_map}
+use Rattle.sum_sources.specs.Contents.{InputState, WhereTold, clip}
 use Rattle.sum_sources.specs.ManifestLines.{NoNewline}
 use Rattle.sum_sources.specs.LineReaders.{coming, used, Bounded}
 use Rattle.sum_lines.specs.declared.line_reading.Form.{Form}
@@ -11,7 +12,7 @@ use Rattle.sum_engine.specs.declared.stop.Stop.{Stop}
 use Rattle.sum_engine.specs.declared.summary.Counts.{Counts}
 use Rattle.sum_engine.specs.Verdicts.{Rules}
 use Rattle.sum_engine.specs.Moments.{RunState}
-use Rattle.sum_engine.specs.Steps.{Now, now_by}
+use Rattle.sum_engine.specs.Steps.{Now, now_by, no_line}
 
 -- where the checking of a manifest stands: what it is checked by, its reader, and the form and the counts of its lines
 -- so far
@@ -35,6 +36,11 @@ again_after x = Some x
 abbrev pub now_of : {I : Type 0} → (I → InputState) → Place I → Option RunState → Option Now
 now_of state p run_state =
     now_by (coming state p.reader) p.reader.lines (used p.reader) p.form p.counts run_state
+
+-- it stands in front of the first line of that input, of which nothing was read
+abbrev pub Begins : {I : Type 0} → (I → InputState) → Place I → I → Type 0
+Begins state p input = (p.reader ≡ record { input = input; ahead = []; taken = 0; lines = 0; answer = None })
+    × ((s : Option RunState) → now_of state p s ≡ no_line (option_map clip (state input).content) s)
 
 -- what a step does to the place, told or not: it is checked by the same; what the input has given and what is left of it
 -- stay the same in sum; a line that was handled is one more; no read failed where a line was handled or the manifest is

@@ -22,7 +22,7 @@ ManifestGives state r c a b x = IfSome c (λ c. RunsTo state (λ w. content_run 
 
 -- ---- the laws
 
--- what came about of a run's steps extends each output by their texts, and asks their names
+-- what happened of a run's steps extends each output by their texts, and asks their names
 abbrev pub EventsExtend : Type 0
 EventsExtend = (r : Run) (a b : RunState) → Did a b (events r.steps)
     → (b.world ≡ after a.world (asks r)) × Appends a.err.written b.err.written (errs r)
@@ -58,14 +58,14 @@ abbrev pub StepsJoin : Type 0
 StepsJoin = (r : Rules) (c : Content) (s : RunState) (b : Now) (k : ℕ) → HandledTimes r (start c s) b k
     → Joined r c s b k
 
--- the step that ends comes after all lines, and all events have then come about
+-- the step that ends comes after all lines, and all events have then happened
 abbrev pub StepsEnd : Type 0
 StepsEnd = (r : Rules) (c : Content) (s : RunState) (b : Now) (z : RunState) (k : ℕ) (x : Bool)
     → HandledTimes r (start c s) b k → Finishes (to_come r b) x b.run_state z
     → (k ≡ length (lines_by r.profile c)) × (x ≡ (content_run r c (all_verdicts r s.world c)).good)
     × Did s z (events (content_run r c (all_verdicts r s.world c)).steps)
 
--- after a step that a write fault cut off one prefix of all events came about
+-- after a step that a write fault cut off one prefix of all events happened
 abbrev pub StepsCut : Type 0
 StepsCut = (r : Rules) (c : Content) (s : RunState) (b : Now) (z : RunState) (k : ℕ) → HandledTimes r (start c s) b k
     → Breaks (to_come r b) b.run_state z → DidPrefix s z (events (content_run r c (all_verdicts r s.world c)).steps)

@@ -6,7 +6,7 @@ use Rattle.sum_lines.specs.Sinks.{SinkState}
 use Rattle.sum_lines.specs.PartsOfLines.{◌>>=◌}
 use Rattle.digest_kinds.specs.Limits.{one_more}
 use Rattle.sum_engine.specs.declared.stop.Stop.{Stop}
-use Rattle.sum_engine.specs.declared.stop.Stop.TheVariants.{Write}
+use Rattle.sum_engine.specs.declared.stop.Stop.TheVariants.{Memory, Write}
 use Rattle.sum_engine.specs.Worlds.{World}
 
 -- the source itself; what standard input has still to give, where it tells that, and whether it was taken; both outputs
@@ -33,6 +33,10 @@ OneFailed a b c d = ((b.failures ≡ one_more a.failures) × (d.failures ≡ c.f
 abbrev pub Failures : {A : Type 0} → SinkState → SinkState → SinkState → SinkState → Result A Stop → Type 0
 Failures a b c d (Err Write) = OneFailed a b c d
 Failures a b c d r = NoneFailed a b c d
+
+-- want of memory left both outputs as they were
+abbrev pub Untouched : {S A : Type 0} → Moment S → Moment S → Result A Stop → Type 0
+Untouched a b r = r ≡ Err Memory → (b.out ≡ a.out) × (b.err ≡ a.err)
 
 -- a moment whose world is known
 pub record RunState : Type 0 where

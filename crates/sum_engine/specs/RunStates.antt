@@ -1,4 +1,4 @@
--- What of a run's events came about between two moments: the form of the headline.
+-- What of a run's events happened between two moments: the form of the headline.
 use Rattle.std.specs.Prelude.{ℕ, ◌≡◌, ◌<◌, ◌⊎◌, ◌||◌, Bool, List, [], ◌∷◌, ◌++◌, filter_map, Result, Ok, Err}
 use Rattle.std.specs.List.{list_any}
 use Rattle.std.specs.Io.KnownBytes.{Appends}
@@ -11,7 +11,7 @@ use Rattle.sum_engine.specs.Moments.{Moment, RunState, WhereKnown}
 use Rattle.sum_engine.specs.Worlds.{World, is_dash, after}
 use Rattle.sum_engine.specs.Runs.{Event, Step, Run, events, name_in, err_in, out_in}
 
--- these events came about: the names were asked, and the bytes were handed on; the source was refused no memory
+-- these events happened: the names were asked, and the bytes were handed on; the source was refused no memory
 pub record Did (a b : RunState) (es : List Event) : Type 0 where
   pub world : b.world ≡ after a.world (filter_map name_in es)
   pub taken : b.taken ≡ a.taken || list_any is_dash (filter_map name_in es)
@@ -19,21 +19,21 @@ pub record Did (a b : RunState) (es : List Event) : Type 0 where
   pub out : Appends a.out.written b.out.written (filter_map out_in es)
   pub refusals : b.refusals ≡ a.refusals
 
--- a prefix of these events came about
+-- a prefix of these events happened
 abbrev pub DidPrefix : RunState → RunState → List Event → Type 0
 DidPrefix a b es = (p : List Event) × IsPrefix p es × Did a b p
 
--- the source was refused memory, and nothing came about
+-- the source was refused memory, and nothing happened
 abbrev pub Refused : RunState → RunState → Type 0
 Refused a b = b ≡ record a { refusals = one_more a.refusals }
 
--- memory was wanted at a step, of which nothing came about: the source was refused it, or bytes of the manifest were
+-- memory was wanted at a step, of which nothing happened: the source was refused it, or bytes of the manifest were
 -- still to come
 abbrev pub Wants : Step → RunState → RunState → Type 0
 Wants s a b = Refused a b ⊎ ((b ≡ a) × (0 < s.left))
 
--- THE HEADLINE, for a call that is to answer x: it answers x, and all events of the steps came about; or a write
--- failed, and one prefix of the events came about; or memory was wanted at a step, and just the steps before it did
+-- THE HEADLINE, for a call that is to answer x: it answers x, and all events of the steps happened; or a write
+-- failed, and one prefix of the events happened; or memory was wanted at a step, and just the steps before it did
 abbrev pub RunOf : {A : Type 0} → List Step → A → RunState → RunState → Result A Stop → Type 0
 RunOf steps x a b (Ok answer) = (answer ≡ x) × Did a b (events steps)
 RunOf steps x a b (Err Write) = DidPrefix a b (events steps)

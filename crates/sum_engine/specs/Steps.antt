@@ -81,14 +81,14 @@ pub record Finishes (r : Run) (answer : Bool) (a b : RunState) : Type 0 where
   pub is : r ≡ record { steps = step ∷ []; good = answer }
   pub did : Did a b (events_of step)
 
--- a write failed: a prefix of the step's events came about
+-- a write failed: a prefix of the step's events happened
 pub record Breaks (r : Run) (a b : RunState) : Type 0 where
   pub step : Step
   pub rest : Run
   pub is : r ≡ step_then step rest
   pub did : DidPrefix a b (events_of step)
 
--- memory was wanted: nothing of the step came about
+-- memory was wanted: nothing of the step happened
 pub record Waits (r : Run) (a b : RunState) : Type 0 where
   pub step : Step
   pub rest : Run

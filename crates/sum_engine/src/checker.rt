@@ -1,7 +1,7 @@
 //! Checking a manifest, a line at a time.
 ghost use Rattle.std.specs.Prelude.{◌≡◌, ◌≤◌, [], None, Some, Err, Ok, Option, IfSome};
 ghost use Rattle.sum_lines.specs.Profiles.{present};
-ghost use Rattle.sum_engine.specs.Steps.{no_line, StepGives, WantsMemory};
+ghost use Rattle.sum_engine.specs.Steps.{StepGives, WantsMemory};
 
 use crate::listing::Listing;
 use crate::position::Position;
@@ -34,11 +34,9 @@ impl<'a, I> Model for Checker<'a, I> {
 }
 
 impl<'a, I: Input> Checker<'a, I> {
-    ghost use Rattle.std.specs.Option.{option_map};
-    ghost use Rattle.sum_sources.specs.Contents.{clip};
     ghost use Rattle.sum_sources.specs.LineReaders.{coming};
-    ghost use Rattle.sum_engine.specs.Moments.{RunState, run_state, HoldNothing, Failures};
-    ghost use Rattle.sum_engine.specs.Checkers.{again_after, now_of, Reads};
+    ghost use Rattle.sum_engine.specs.Moments.{run_state, HoldNothing, Failures, Untouched};
+    ghost use Rattle.sum_engine.specs.Checkers.{Begins, again_after, now_of, Reads};
     ghost use Rattle.sum_engine.specs.refinement.Listings.{rules_in};
 
     /// A checker of the manifest that `input` gives. Its diagnostics begin with `tool`, as with `md5sum`, and call the
@@ -58,11 +56,8 @@ impl<'a, I: Input> Checker<'a, I> {
           shown = shown.entry.now;
           from_stdin = from_stdin;
         } }
-        ensures now { (s : Option RunState) → now_of I.state result.place s
-            ≡ no_line (option_map clip (I.state input).content) s }
+        ensures begins { Begins I.state result.place input }
         ensures answer { result.answer ≡ None }
-        ensures reader { result.place.reader
-            ≡ record { input = input; ahead = []; taken = 0; lines = 0; answer = None } }
     {
         let listing = Listing {
             settings,
@@ -76,11 +71,8 @@ impl<'a, I: Input> Checker<'a, I> {
     /// A checker of the manifest that `input` gives, by what it is listed as.
     pub(crate) fn over(listing: Listing<'a>, input: I) -> Self
         ensures rules { result.place.rules ≡ rules_in listing.entry }
-        ensures now { (s : Option RunState) → now_of I.state result.place s
-            ≡ no_line (option_map clip (I.state input).content) s }
+        ensures begins { Begins I.state result.place input }
         ensures answer { result.answer ≡ None }
-        ensures reader { result.place.reader
-            ≡ record { input = input; ahead = []; taken = 0; lines = 0; answer = None } }
     {
         Checker {
             position: Position::new(listing, input),
@@ -121,8 +113,7 @@ impl<'a, I: Input> Checker<'a, I> {
             (coming I.state self.old.place.reader) result }
         ensures failures { self.old.answer ≡ None
             → Failures streams.old.out streams.new.out streams.old.err streams.new.err result }
-        ensures untouched { result ≡ Err Stop.Memory
-            → (streams.new.out ≡ streams.old.out) × (streams.new.err ≡ streams.old.err) }
+        ensures untouched { Untouched streams.old streams.new result }
         ensures reads { self.old.answer ≡ None → Reads I.state self.old.place self.new.place result }
     {
         if let Some(answer) = self.answer {

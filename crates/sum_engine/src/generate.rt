@@ -4,7 +4,7 @@ ghost use Rattle.sum_engine.specs.Worlds.{is_dash};
 ghost use Rattle.sum_lines.specs.Lines.{line};
 ghost use Rattle.sum_engine.specs.Generation.{generate_run};
 ghost use Rattle.sum_engine.specs.refinement.Telling.{Tells};
-ghost use Rattle.sum_engine.specs.Moments.{HoldNothing, Failures};
+ghost use Rattle.sum_engine.specs.Moments.{HoldNothing, Failures, Untouched};
 ghost use Rattle.sum_engine.specs.RunStates.{RunsTo, RefusedExactly};
 
 use crate::asking::{Asked, ask};
@@ -34,8 +34,7 @@ pub fn generate_one<I: Input + Drop, S: Source, O: Sink, E: Sink>(
     ensures refusals { RefusedExactly S.state streams.old streams.new result }
     ensures failures { Failures streams.old.out streams.new.out streams.old.err streams.new.err result }
     ensures taken { OnOk result (streams.new.taken ≡ streams.old.taken || is_dash name.now) }
-    ensures untouched { result ≡ Err Stop.Memory
-        → (streams.new.out ≡ streams.old.out) × (streams.new.err ≡ streams.old.err) }
+    ensures untouched { Untouched streams.old streams.new result }
 {
     let mut buffer = [0; PIECE];
     let asked = ask(

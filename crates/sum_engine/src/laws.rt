@@ -3,9 +3,9 @@ ghost use Rattle.sum_engine.specs.Laws.{SameVerdicts, EndStays};
 ghost use Rattle.sum_engine.specs.OldVerdicts.{OldVerdicts, OldOutcomes, OlderDiffers};
 ghost use Rattle.sum_engine.specs.Manifests.{StepsJoin, StepsEnd, StepsCut, StepsReport, EventsExtend};
 
-/// After k calls of `step` that each handled a line, exactly the first k steps of the manifest's run came about, the
+/// After k calls of `step` that each handled a line, exactly the first k steps of the manifest's run happened, the
 /// bytes up to the end of line k are used, and the other steps are still to come. The call that ends comes after all
-/// lines, and then all events came about. After a write fault one prefix of all events did. The first k steps report
+/// lines, and then all events happened. After a write fault one prefix of all events did. The first k steps report
 /// the first k lines.
 pub fn steps_join()
     ensures join { StepsJoin }
@@ -14,7 +14,7 @@ pub fn steps_join()
     ensures report { StepsReport }
 {}
 
-/// When the events of a run's steps came about, each output has grown by the run's text there, and the run's names were
+/// When the events of a run's steps happened, each output has grown by the run's text there, and the run's names were
 /// asked.
 pub fn events_extend()
     ensures { EventsExtend }

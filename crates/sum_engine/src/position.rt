@@ -29,13 +29,11 @@ pub(crate) struct Position<'a, I> {
 }
 
 impl<'a, I: Input> Position<'a, I> {
-    ghost use Rattle.std.specs.Option.{option_map};
-    ghost use Rattle.sum_sources.specs.Contents.{clip};
     ghost use Rattle.sum_sources.specs.LineReaders.{coming};
-    ghost use Rattle.sum_engine.specs.Moments.{RunState, run_state, HoldNothing, Failures};
+    ghost use Rattle.sum_engine.specs.Moments.{run_state, HoldNothing, Failures, Untouched};
     ghost use Rattle.sum_engine.specs.RunStates.{RefusedExactly};
-    ghost use Rattle.sum_engine.specs.Steps.{no_line, StepGives, WantsMemory};
-    ghost use Rattle.sum_engine.specs.Checkers.{now_of, Reads};
+    ghost use Rattle.sum_engine.specs.Steps.{StepGives, WantsMemory};
+    ghost use Rattle.sum_engine.specs.Checkers.{Begins, now_of, Reads};
     ghost use Rattle.sum_sources.specs.declared.fault.Ending.TheVariants.{Whole};
     ghost use Rattle.sum_engine.specs.Reports.{good};
     ghost use Rattle.std.specs.List.{list_any};
@@ -51,9 +49,7 @@ impl<'a, I: Input> Position<'a, I> {
     /// In front of the first line of the manifest that `input` gives.
     pub(crate) fn new(listing: Listing<'a>, input: I) -> Self
         ensures rules { rules_in result.listing ≡ rules_in listing.entry }
-        ensures now { (s : Option RunState) → now_of I.state (place_of result) s
-            ≡ no_line (option_map clip (I.state input).content) s }
-        ensures reader { result.reader ≡ record { input = input; ahead = []; taken = 0; lines = 0; answer = None } }
+        ensures begins { Begins I.state (place_of result) input }
     {
         Position {
             listing,
@@ -92,8 +88,7 @@ impl<'a, I: Input> Position<'a, I> {
         ensures wants { WantsMemory (S.state streams.old.source) (S.state streams.new.source)
             (coming I.state self.old.reader) result }
         ensures failures { Failures streams.old.out streams.new.out streams.old.err streams.new.err result }
-        ensures untouched { result ≡ Err Stop.Memory
-            → (streams.new.out ≡ streams.old.out) × (streams.new.err ≡ streams.old.err) }
+        ensures untouched { Untouched streams.old streams.new result }
         ensures reads { Reads I.state (place_of self.old) (place_of self.new) result }
     {
         match self.reader.next_line(line) {
@@ -140,8 +135,7 @@ impl<'a, I: Input> Position<'a, I> {
         ensures held { length line.new.items ≤ length line.old.items }
         ensures refusals { RefusedExactly S.state streams.old streams.new result }
         ensures failures { Failures streams.old.out streams.new.out streams.old.err streams.new.err result }
-        ensures untouched { result ≡ Err Stop.Memory
-            → (streams.new.out ≡ streams.old.out) × (streams.new.err ≡ streams.old.err) }
+        ensures untouched { Untouched streams.old streams.new result }
     {
         let Some(found) = self.judge_line(line, &mut streams.stdin, &mut streams.source) else {
             return Err(Stop::Memory);

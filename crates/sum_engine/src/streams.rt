@@ -1,7 +1,4 @@
 //! What a run works on.
-ghost use Rattle.std.specs.Prelude.{◌≡◌, is_none};
-ghost use Rattle.sum_sources.specs.Standard.{left_in};
-
 use std::marker::Model;
 use sum_lines::Sink;
 use sum_sources::{Input, Stdin};
@@ -33,24 +30,4 @@ impl<I: Input, S, O: Sink, E: Sink> Model for Streams<I, S, O, E> {
       err = E.state s.err;
       out = O.state s.out;
     } };
-}
-
-impl<I: Input, S, O: Sink, E: Sink> Streams<I, S, O, E> {
-    /// These four, as they are.
-    pub fn new(stdin: Stdin<I>, source: S, out: O, err: E) -> Self
-        ensures { result ≡ record {
-          source = source;
-          input = (left_in I.state stdin).content;
-          taken = is_none stdin;
-          err = E.state err;
-          out = O.state out;
-        } }
-    {
-        Streams {
-            stdin,
-            source,
-            out,
-            err,
-        }
-    }
 }

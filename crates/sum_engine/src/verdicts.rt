@@ -1,7 +1,7 @@
 //! The verdicts of a manifest, without any text.
 ghost use Rattle.std.specs.Prelude.{◌≡◌, ◌≤◌, ◌&&◌, [], true, false, None, Some, Err, Option, IfOk, IfSome};
 ghost use Rattle.sum_lines.specs.Profiles.{present};
-ghost use Rattle.sum_engine.specs.Steps.{no_line, WantsMemory};
+ghost use Rattle.sum_engine.specs.Steps.{WantsMemory};
 
 use crate::listing::Listing;
 use crate::position::Position;
@@ -35,13 +35,11 @@ impl<I> Model for Verdicts<I> {
 }
 
 impl<I: Input> Verdicts<I> {
-    ghost use Rattle.std.specs.Option.{option_map};
     ghost use Rattle.sum_sources.specs.declared.fault.Ending.TheVariants.{Whole};
-    ghost use Rattle.sum_sources.specs.Contents.{clip};
     ghost use Rattle.sum_sources.specs.LineReaders.{coming};
     ghost use Rattle.sum_engine.specs.Reports.{good};
-    ghost use Rattle.sum_engine.specs.Moments.{RunState, run_state};
-    ghost use Rattle.sum_engine.specs.Checkers.{now_of, Reads};
+    ghost use Rattle.sum_engine.specs.Moments.{run_state};
+    ghost use Rattle.sum_engine.specs.Checkers.{Begins, now_of, Reads};
     ghost use Rattle.sum_engine.specs.LineVerdicts.{asking, Names, FindGives, progress_of, is_short, is_whole};
 
     /// In front of the first line of the manifest that `input` gives; `from_stdin` says whether it came from standard
@@ -54,12 +52,9 @@ impl<I: Input> Verdicts<I> {
           shown = [];
           from_stdin = from_stdin;
         } }
-        ensures now { (s : Option RunState) → now_of I.state result.place s
-            ≡ no_line (option_map clip (I.state input).content) s }
+        ensures begins { Begins I.state result.place input }
         ensures short { result.short ≡ false }
         ensures whole { result.whole ≡ false }
-        ensures reader { result.place.reader
-            ≡ record { input = input; ahead = []; taken = 0; lines = 0; answer = None } }
     {
         let listing = Listing {
             settings,

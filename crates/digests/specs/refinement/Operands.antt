@@ -10,7 +10,7 @@ use Rattle.sum_engine.specs.RunStates.{Did}
 use Rattle.sum_words.specs.Items.{Text}
 use Rattle.digests.specs.Meaning.{all_of}
 
--- the operands before the rest came about, and were good or not
+-- the operands before the rest happened, and were good or not
 pub record Reached (one : World → Text → Run) (names rest : List Text) (a b : RunState) (good : Bool) : Type 0 where
   pub done : Run
   pub total : all_of one a.world names ≡ run_then done (all_of one b.world rest)

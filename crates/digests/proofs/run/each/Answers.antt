@@ -6,7 +6,7 @@ use Rattle.digests.proofs.OperandLemmas.{Operands, reached_start, reached_step, 
 use Rattle.digests.proofs.run.each.Goals as goal
 use Rattle.digests.proofs.run.each.Goals.{then-good, else-good}
 
--- before the first operand nothing came about
+-- before the first operand nothing happened
 pub operands-init : goal.operands-init
 operands-init g c =
     let all : Operands =
@@ -37,7 +37,7 @@ returns-in-Err-clause-refusals g c = refused-since g.S.Source.state c.args.job.n
 pub returns-in-Err-clause-none : goal.returns-in-Err-clause-none
 returns-in-Err-clause-none g c = λ hold. c.in-Err.ensures.none (c.operands.invariant.none hold)
 
--- an operand came about, and another one is left
+-- an operand happened, and another one is left
 pub operands-preserved : goal.operands-preserved
 operands-preserved g c =
     let is : c.if-good.good ≡ (c.operands.good && c.in-Ok.this) =
@@ -61,7 +61,7 @@ operands-preserved g c =
         );
     }
 
--- an operand came about, and it was the last
+-- an operand happened, and it was the last
 pub returns-in-None-clause-gives : goal.returns-in-None-clause-gives
 returns-in-None-clause-gives g c =
     let is : c.if-good.good ≡ (c.operands.good && c.in-Ok.this) =

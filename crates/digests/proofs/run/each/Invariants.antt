@@ -5,7 +5,7 @@ use Rattle.digests.specs.Meaning.{one_of, or_dash}
 use Rattle.digests.specs.refinement.Operands.{HasReached}
 use Rattle.digests.proofs.run.each.Given as goal
 
--- the operands before this one came about; the source was refused nothing, and no write failed
+-- the operands before this one happened; the source was refused nothing, and no write failed
 abbrev pub invariant-operands : goal.invariant-operands
 invariant-operands g l = record {
   reached : HoldNothing l.fn.streams → HasReached g.S.Source.state (one_of l.job (name_of l.tool))

@@ -5,7 +5,7 @@ use Rattle.sum_engine.proofs.manifest.check_input.Goals as goal
 
 pub lines-init : goal.lines-init
 lines-init g c = record {
-  comes = λ hold. rw c.over-checker.ensures.now (comes_none (rules_in c.args.listing) _ _);
+  comes = λ hold. rw c.over-checker.ensures.begins.1 (comes_none (rules_in c.args.listing) _ _);
   none = λ hold. hold;
   rules = c.over-checker.ensures.rules;
   going = c.over-checker.ensures.answer;
