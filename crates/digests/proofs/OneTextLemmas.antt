@@ -5,10 +5,9 @@ use Rattle.sum_sources.specs.Sources.{SourceState}
 use Rattle.sum_lines.specs.Sinks.{SinkState}
 use Rattle.sum_engine.specs.Moments.{Moment}
 use Rattle.sum_engine.specs.Runs.{at_once}
-use Rattle.sum_engine.specs.RunStates.{RunsTo}
 use Rattle.sum_engine.specs.refinement.Handling.{events_by}
 use Rattle.sum_engine.specs.refinement.Telling.{Tells}
-use Rattle.sum_engine.proofs.RunStateLemmas.{where_known, same_told, asks_none, did_by, prefix_err, prefix_out}
+use Rattle.sum_engine.proofs.RunStateLemmas.{Runs, where_known, same_told, asks_none, did_by, prefix_err, prefix_out}
 use Rattle.sum_words.specs.Items.{Text}
 use Rattle.digests.specs.Meaning.{status_of}
 use Rattle.digests.specs.refinement.Operands.{once_told}
@@ -16,7 +15,7 @@ use Rattle.digests.specs.refinement.Operands.{once_told}
 -- a text alone was handed on by standard output, or a prefix of it
 pub told_on_out : {S E : Type 0} (state : S → SourceState) (a : Moment S) (out : SinkState) (text : Text)
     (r : Result (Unit {0}) E) → a.out.held ≡ [] → Tells a.out out text r
-    → RunsTo state (λ w. at_once [] [] text true) status_of a (record a { out = out }) (once_told r 0)
+    → Runs state (λ w. at_once [] [] text true) status_of a (record a { out = out }) (once_told r 0)
 told_on_out state a out text (Ok u) none h = where_known state a (record a { out = out }) _ (same_told _) (λ w v same. (
   refl,
   rw (append-nil (events_by [] [] text)) (
@@ -29,7 +28,7 @@ told_on_out state a out text (Err e) none h = where_known state a (record a { ou
 -- a text alone was handed on by standard error, or a prefix of it
 pub told_on_err : {S E : Type 0} (state : S → SourceState) (a : Moment S) (err : SinkState) (text : Text)
     (r : Result (Unit {0}) E) → a.err.held ≡ [] → Tells a.err err text r
-    → RunsTo state (λ w. at_once [] text [] false) status_of a (record a { err = err }) (once_told r 1)
+    → Runs state (λ w. at_once [] text [] false) status_of a (record a { err = err }) (once_told r 1)
 told_on_err state a err text (Ok u) none h = where_known state a (record a { err = err }) _ (same_told _) (λ w v same. (
   refl,
   rw (append-nil (events_by [] text [])) (

@@ -12,8 +12,8 @@ use Rattle.sum_engine.specs.declared.stop.Stop.TheVariants.{Memory, Write}
 use Rattle.sum_engine.specs.Worlds.{World, after}
 use Rattle.sum_engine.specs.Runs.{Run, run_then, asks}
 use Rattle.sum_engine.specs.Moments.{Moment, RunState, run_state}
-use Rattle.sum_engine.specs.RunStates.{RunOf, RunsTo}
-use Rattle.sum_engine.proofs.RunStateLemmas.{did_nothing}
+use Rattle.sum_engine.specs.RunStates.{RunOf}
+use Rattle.sum_engine.proofs.RunStateLemmas.{Runs, did_nothing}
 use Rattle.sum_engine.proofs.RunLemmas.{run_then-did, run_then-first, run_then-second, events_extend}
 use Rattle.sum_words.specs.declared.request.Job.{Job}
 use Rattle.sum_words.specs.declared.request.Job.TheVariants as jobs
@@ -57,7 +57,7 @@ reached_start state o {rest = rest} a is = started o rest (run_state state a) is
 -- one operand more happened
 pub reached_step : {S : Type 0} (state : S → SourceState) (o : Operands) (good this : Bool) (name : Text)
     (rest : List Text) (x y z : Moment S) → HasReached state o.one o.names (name ∷ rest) x y good
-    → RunsTo state (λ w. o.one w name) (λ g. g) y z (Ok this) → HasReached state o.one o.names rest x z (good && this)
+    → Runs state (λ w. o.one w name) (λ g. g) y z (Ok this) → HasReached state o.one o.names rest x z (good && this)
 reached_step state o good this name rest x y z h k =
     WhereTold-then (run_state state x) (run_state state y) (run_state state z) (λ a b c p q.
     let run = o.one b.world name in
@@ -73,7 +73,7 @@ reached_step state o good this name rest x y z h k =
 -- no operand is left
 pub reached_end : {S : Type 0} (state : S → SourceState) (o : Operands) (good : Bool) (x y : Moment S)
     → HasReached state o.one o.names [] x y good
-    → RunsTo state (λ w. all_of o.one w o.names) status_of x y (Ok (status_of good))
+    → Runs state (λ w. all_of o.one w o.names) status_of x y (Ok (status_of good))
 reached_end state o good x y h =
     WhereTold-map (run_state state x) (run_state state y) (λ a b (p : Reached o.one o.names [] a b good).
     let whole : all_of o.one a.world o.names ≡ p.done = p.total ∙ run_then-nothing p.done in
@@ -82,8 +82,8 @@ reached_end state o good x y h =
 -- the next operand stopped the run
 pub reached_stop : {S : Type 0} (state : S → SourceState) (o : Operands) (stop : Stop) (good : Bool) (name : Text)
     (rest : List Text) (x y z : Moment S) → HasReached state o.one o.names (name ∷ rest) x y good
-    → RunsTo state (λ w. o.one w name) (λ g. g) y z (Err stop)
-    → RunsTo state (λ w. all_of o.one w o.names) status_of x z (Err stop)
+    → Runs state (λ w. o.one w name) (λ g. g) y z (Err stop)
+    → Runs state (λ w. all_of o.one w o.names) status_of x z (Err stop)
 reached_stop state o stop good name rest x y z h k =
     WhereTold-then (run_state state x) (run_state state y) (run_state state z) (λ a b c p q.
     let run = o.one b.world name in

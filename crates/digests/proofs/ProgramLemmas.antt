@@ -1,5 +1,5 @@
 -- A run and its end, joined: what the whole program does.
-use Rattle.std.proofs.Common.{◌≡◌, ℕ, List, [], map, Option, None, Some, Result, Ok, Err, refl, ap, sym, ◌∙◌, inl, inr, subst, append-nil}
+use Rattle.std.proofs.Common.{◌≡◌, ℕ, List, [], map, Option, None, Some, Result, Ok, Err, refl, ap, sym, ◌∙◌, inl, inr, ◌⊎◌, subst, append-nil}
 use Rattle.std.specs.Io.KnownBytes.{Keeps, Appends}
 use Rattle.std.proofs.KnownBytes.{Appends-nil, Appends-kept}
 use Rattle.sum_sources.specs.Sources.{SourceState}
@@ -9,14 +9,15 @@ use Rattle.sum_engine.specs.declared.stop.Stop.{Stop}
 use Rattle.sum_engine.specs.declared.stop.Stop.TheVariants.{Memory, Write}
 use Rattle.sum_engine.specs.Moments.{Moment, RunState, HoldNothing, NoneFailed, OneFailed, Failures}
 use Rattle.sum_engine.specs.Runs.{Event, Tells, Run, events}
-use Rattle.sum_engine.specs.RunStates.{Did, RunOf, RunsTo}
+use Rattle.sum_engine.specs.RunStates.{Did, RunOf}
 use Rattle.sum_engine.specs.refinement.Telling.{Fails}
-use Rattle.sum_engine.proofs.RunStateLemmas.{where_known, known_worlds, asks_none, did_by, known}
+use Rattle.sum_engine.proofs.RunStateLemmas.{Runs, where_known, known_worlds, asks_none, did_by, known}
 use Rattle.sum_words.specs.Items.{Text}
-use Rattle.sum_words.specs.CommandLines.{Call}
+use Rattle.std.specs.Prelude.{IfSome}
+use Rattle.sum_words.specs.CommandLines.{Call, command_line, NeedsMemory}
 use Rattle.sum_words.specs.refinement.Arguments.{CallIs, MayBeUnread}
 use Rattle.digests.specs.Meaning.{status_of}
-use Rattle.digests.specs.Program.{Leaves, EndsGives, ProgramGives, run_of, line_of_stop}
+use Rattle.digests.specs.Program.{Leaves, EndsGives, run_of, line_of_stop}
 use Rattle.digests.specs.refinement.Endings.{Closes}
 use Rattle.digests.specs.refinement.Operands.{once_told}
 
@@ -91,7 +92,7 @@ ends b status run line out err (Err stop) ran failed told = (
 
 -- the same, where the run states tell: b is how things stood after the run, and held nothing
 pub program_ends : {S : Type 0} (state : S → SourceState) (status : ℕ) (line : Option Call) (a b : Moment S)
-    (out err : SinkState) (answer : Result ℕ Stop) → RunsTo state (run_of line) status_of a b answer
+    (out err : SinkState) (answer : Result ℕ Stop) → Runs state (run_of line) status_of a b answer
     → Failures a.out b.out a.err b.err answer → HoldNothing b
     → (b.out.held ≡ [] → b.err.held ≡ [] → Closes (line_of_stop line) answer b.out out b.err err status)
     → EndsGives state line a (record b { out = out; err = err }) status
@@ -101,17 +102,21 @@ program_ends state status line a b out err answer ran failed none closed =
 
 -- ---- by what was read of the arguments
 
+-- what a program gives, whatever the outputs hold
+abbrev pub Gives : {S : Type 0} → (S → SourceState) → Option (List Text) → Moment S → Moment S → ℕ → Type 0
+Gives state told a b status = IfSome told (λ arguments.
+    EndsGives state (command_line arguments) a b status ⊎ (NeedsMemory arguments × EndsGives state None a b status))
+
 -- the command line is what they say
 pub program_read : {S : Type 0} (state : S → SourceState) (a b : Moment S) (status : ℕ) (told : Option (List Text))
-    (c : Call) → CallIs told c → EndsGives state (Some c) a b status → ProgramGives state told a b status
+    (c : Call) → CallIs told c → EndsGives state (Some c) a b status → Gives state told a b status
 program_read state a b status None c is h = tt
 program_read state a b status (Some arguments) c is h =
     inl (subst (λ line. EndsGives state line a b status) (sym is) h)
 
 -- it couldn't be read
 pub program_unread : {S : Type 0} (state : S → SourceState) (a b : Moment S) (status : ℕ)
-    (told : Option (List Text)) → MayBeUnread told → EndsGives state None a b status
-    → ProgramGives state told a b status
+    (told : Option (List Text)) → MayBeUnread told → EndsGives state None a b status → Gives state told a b status
 program_unread state a b status None is h = tt
 program_unread state a b status (Some arguments) (inl none) h =
     inl (subst (λ line. EndsGives state line a b status) (sym none) h)

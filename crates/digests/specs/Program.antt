@@ -1,12 +1,12 @@
 -- What the program does, from the list of its arguments to its status.
-use Rattle.std.specs.Prelude.{ℕ, ◌≡◌, ◌⊎◌, false, List, [], map, Option, None, Some, Result, Ok, Err, codes, ⊤}
+use Rattle.std.specs.Prelude.{ℕ, ◌≡◌, ◌⊎◌, false, List, [], map, Option, None, Some, Result, Ok, Err, codes, IfSome}
 use Rattle.sum_sources.specs.Sources.{SourceState}
 use Rattle.sum_lines.specs.Sinks.{SinkState, IsPrefix}
 use Rattle.digest_kinds.specs.Limits.{one_more}
 use Rattle.sum_engine.specs.declared.stop.Stop.{Stop}
 use Rattle.sum_engine.specs.Worlds.{World}
 use Rattle.sum_engine.specs.Runs.{Tells, Run, at_once}
-use Rattle.sum_engine.specs.Moments.{Moment, RunState, WhereKnown, Failures}
+use Rattle.sum_engine.specs.Moments.{Moment, HoldNothing, RunState, WhereKnown, Failures}
 use Rattle.sum_engine.specs.RunStates.{Did, RunOf}
 use Rattle.sum_words.specs.Items.{Text}
 use Rattle.sum_words.specs.CommandLines.{Call, unknown, call, command_line, NeedsMemory}
@@ -40,9 +40,9 @@ EndsGives state line a b status = WhereKnown state a b (λ s t. let run = run_of
     (answer : Result ℕ Stop) × (between : RunState) × RunOf run.steps (status_of run.good) s between answer
     × Failures s.out between.out s.err between.err answer × Leaves line answer between t status)
 
--- what it is called for is said by the arguments; or the words couldn't be read, which needed memory
+-- what it is called for is said by the arguments, where these are told; or the words couldn't be read, which needed
+-- memory; both outputs hold nothing at first
 abbrev pub ProgramGives :
     {S : Type 0} → (S → SourceState) → Option (List Text) → Moment S → Moment S → ℕ → Type 0
-ProgramGives state None a b status = ⊤
-ProgramGives state (Some arguments) a b status = EndsGives state (command_line arguments) a b status
-    ⊎ (NeedsMemory arguments × EndsGives state None a b status)
+ProgramGives state told a b status = HoldNothing a → IfSome told (λ arguments.
+    EndsGives state (command_line arguments) a b status ⊎ (NeedsMemory arguments × EndsGives state None a b status))

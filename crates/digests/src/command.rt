@@ -28,8 +28,7 @@ pub fn command<A: Allocator + Copy, G: Arguments, I: Input + Drop, S: Source, O:
     arguments: &G,
     streams: &mut Streams<I, S, O, E>,
 ) -> u8
-    ensures gives { HoldNothing streams.old
-        → ProgramGives S.state (G.told arguments.now) streams.old streams.new result }
+    ensures gives { ProgramGives S.state (G.told arguments.now) streams.old streams.new result }
     ensures none { HoldNothing streams.old → HoldNothing streams.new }
     ensures kept { result ≡ 0 → NoneFailed streams.old.out streams.new.out streams.old.err streams.new.err }
 {

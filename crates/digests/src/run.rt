@@ -35,8 +35,7 @@ pub fn run<A: Allocator + Copy, I: Input + Drop, S: Source, O: Sink, E: Sink>(
     words: &Words<A>,
     streams: &mut Streams<I, S, O, E>,
 ) -> Result<u8, Stop>
-    ensures gives { HoldNothing streams.old
-        → RunsTo S.state (meaning tool words.now) status_of streams.old streams.new result }
+    ensures gives { RunsTo S.state (meaning tool words.now) status_of streams.old streams.new result }
     ensures none { HoldNothing streams.old → HoldNothing streams.new }
     ensures refusals { RefusalsOf S.state (request tool words.now) streams.old streams.new result }
     ensures failures { Failures streams.old.out streams.new.out streams.old.err streams.new.err result }
@@ -50,8 +49,7 @@ fn answer<A: Allocator + Copy, I: Input + Drop, S: Source, O: Sink, E: Sink>(
     asked: Result<Request, WordFault>,
     streams: &mut Streams<I, S, O, E>,
 ) -> Result<u8, Stop>
-    ensures gives { HoldNothing streams.old
-        → RunsTo S.state (answer_run tool (result_of asked.entry)) status_of streams.old streams.new result }
+    ensures gives { RunsTo S.state (answer_run tool (result_of asked.entry)) status_of streams.old streams.new result }
     ensures none { HoldNothing streams.old → HoldNothing streams.new }
     ensures refusals { RefusalsOf S.state (result_of asked.entry) streams.old streams.new result }
     ensures failures { Failures streams.old.out streams.new.out streams.old.err streams.new.err result }
@@ -103,8 +101,8 @@ fn one<A: Allocator + Copy, I: Input + Drop, S: Source, O: Sink, E: Sink>(
     name: &[u8],
     streams: &mut Streams<I, S, O, E>,
 ) -> Result<bool, Stop>
-    ensures gives { HoldNothing streams.old → RunsTo S.state
-        (λ w. one_of job.now (name_of tool) w name.now) (λ good. good) streams.old streams.new result }
+    ensures gives { RunsTo S.state (λ w. one_of job.now (name_of tool) w name.now) (λ good. good)
+        streams.old streams.new result }
     ensures none { HoldNothing streams.old → HoldNothing streams.new }
     ensures refusals { RefusalsOfJob S.state job.now streams.old streams.new result }
     ensures failures { Failures streams.old.out streams.new.out streams.old.err streams.new.err result }
@@ -132,8 +130,7 @@ fn each<A: Allocator + Copy, I: Input + Drop, S: Source, O: Sink, E: Sink>(
     operands: Operands,
     streams: &mut Streams<I, S, O, E>,
 ) -> Result<u8, Stop>
-    ensures gives { HoldNothing streams.old → RunsTo S.state
-        (λ w. all_of (one_of job.now (name_of tool)) w (or_dash operands.entry)) status_of
+    ensures gives { RunsTo S.state (λ w. all_of (one_of job.now (name_of tool)) w (or_dash operands.entry)) status_of
         streams.old streams.new result }
     ensures none { HoldNothing streams.old → HoldNothing streams.new }
     ensures refusals { RefusalsOfJob S.state job.now streams.old streams.new result }

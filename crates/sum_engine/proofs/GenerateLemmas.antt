@@ -11,10 +11,9 @@ use Rattle.sum_engine.specs.Worlds.{is_dash, reply, digest_or_fault}
 use Rattle.sum_engine.specs.Runs.{Step, at_once}
 use Rattle.sum_engine.specs.Generation.{generate_run, generate_run_by}
 use Rattle.sum_engine.specs.Moments.{Moment}
-use Rattle.sum_engine.specs.RunStates.{RunsTo}
 use Rattle.sum_engine.specs.refinement.Asking.{AskGives, IsAsked, world_of}
 use Rattle.sum_engine.specs.refinement.Telling.{HandsBoth}
-use Rattle.sum_engine.proofs.RunStateLemmas.{Writing}
+use Rattle.sum_engine.proofs.RunStateLemmas.{Runs, Writing}
 use Rattle.sum_engine.proofs.RunLemmas.{answered, once}
 
 -- what came of a name: its digest, or the fault of opening or reading it
@@ -36,7 +35,7 @@ pub told : {S : Type 0} (state : S → SourceState) (settings : Settings) (tool 
     → b.taken ≡ a.taken || is_dash name → (state b.source).refusals ≡ (state a.source).refusals
     → generate_run_by settings tool name (found came) ≡ at_once (name ∷ []) err out good
     → HandsBoth a.err b.err a.out b.out err out x
-    → RunsTo state (λ w. generate_run settings tool w name) (λ g. g) a b (answered x good)
+    → Runs state (λ w. generate_run settings tool w name) (λ g. g) a b (answered x good)
 told state settings tool name err out good a b came x h taken refusals is hands =
     once state (λ w. generate_run settings tool w name) (name ∷ []) err out good (λ g. g) a b x h (λ w v asked. (
       ap (generate_run_by settings tool name) (found_is settings.kind (reply w name) came asked.1) ∙ is,

@@ -29,12 +29,11 @@ use Rattle.sum_engine.specs.Reports.{no_counts}
 use Rattle.sum_engine.specs.Checking.{rules_of, content_run, check_run_by, check_run}
 use Rattle.sum_engine.specs.Moments.{Moment, RunState, WhereKnown, run_state}
 use Rattle.sum_engine.specs.refinement.Asking.{world_by, world_of}
-use Rattle.sum_engine.specs.RunStates.{Did, RunOf, RunsTo}
+use Rattle.sum_engine.specs.RunStates.{Did, RunOf}
 use Rattle.sum_engine.specs.Steps.{Now, now_by, StepGives, to_come}
 use Rattle.sum_engine.specs.Checkers.{Place, now_of}
-use Rattle.sum_engine.specs.Manifests.{ManifestGives}
 use Rattle.sum_engine.proofs.WorldLemmas.{dash_asked}
-use Rattle.sum_engine.proofs.RunStateLemmas.{Writing, where_known, known_refused, names-by, did_by, err_alone}
+use Rattle.sum_engine.proofs.RunStateLemmas.{Runs, Writing, where_known, known_refused, names-by, did_by, err_alone}
 use Rattle.sum_engine.proofs.StepLemmas.{now-run_state}
 use Rattle.sum_engine.proofs.RunLemmas.{answered, once, unasked, Along, along_none, along_more, along_end, along_breaks, along_waits, behind_step}
 
@@ -72,6 +71,11 @@ ends (Err stop) = Err stop
 abbrev pub manifest_run : Rules → Content → World → Run
 manifest_run r c w = content_run r c (all_verdicts r w c)
 
+-- that of a manifest that may not tell, from one moment to another
+abbrev pub Checks : {S : Type 0} → (S → SourceState) → Rules → Option Content → Moment S → Moment S
+    → Result Bool Stop → Type 0
+Checks state r c a b x = IfSome c (λ c. Runs state (manifest_run r c) (λ g. g) a b x)
+
 -- the step that ends leaves all that the manifest comes to; one that stops leaves a prefix of it where a write failed,
 -- and whole steps where memory was wanted
 comes_last_by : {I : Type 0} (state : I → InputState) (q r : Rules) (c : Option Content) (s z : Option RunState)
@@ -92,7 +96,7 @@ comes_last_by state q r (Some c) (Some s) z (Some a) p held (Err Memory) rules k
 pub comes_last : {I S : Type 0} (input : I → InputState) (state : S → SourceState) (q r : Rules) (c : Option Content)
     (first last : Moment S) (a : Option Now) (p : Place I) (held : List ℕ) (x : Result Bool Stop) → q ≡ r
     → Comes r c (run_state state first) a → StepGives q held a (now_of input p (run_state state last)) (ends x)
-    → ManifestGives state r c first last x
+    → Checks state r c first last x
 comes_last input state q r c first last a p held x rules k h =
     comes_last_by input q r c (run_state state first) (run_state state last) a p held x rules k h
 
@@ -129,7 +133,7 @@ IsOpened name c a b =
 
 -- what a call gives
 abbrev pub CheckGives : {S : Type 0} → (S → SourceState) → Call → Moment S → Moment S → Result Bool Stop → Type 0
-CheckGives state k a b x = RunsTo state (λ w. check_run k.settings k.tool w k.name) (λ g. g) a b x
+CheckGives state k a b x = Runs state (λ w. check_run k.settings k.tool w k.name) (λ g. g) a b x
 
 -- the next, by run states
 check_gives_by : (k : Call) (dash : Bool) (c : Option Content) (a asked b : Option RunState) (x : Result Bool Stop)
@@ -152,7 +156,7 @@ check_gives_by k dash c (Some a) (Some asked) (Some b) x is h run =
 check_gives : {S : Type 0} (state : S → SourceState) (k : Call) (dash : Bool) (c : Option Content)
     (a asked b : Moment S) (x : Result Bool Stop) → is_dash k.name ≡ dash
     → WhereKnown state a asked (IsOpened k.name c)
-    → ManifestGives state (rules_where k dash) (option_map clip c) asked b x → CheckGives state k a b x
+    → Checks state (rules_where k dash) (option_map clip c) asked b x → CheckGives state k a b x
 check_gives state k dash c a asked b x is h run =
     check_gives_by k dash c (run_state state a) (run_state state asked) (run_state state b) x is h run
 
@@ -188,7 +192,7 @@ dash_opened {S} state name a dash =
 
 -- so what the checker does with standard input is what the call does
 pub check_dash : {S : Type 0} (state : S → SourceState) (k : Call) (a b : Moment S) (x : Result Bool Stop)
-    → is_dash k.name ≡ true → ManifestGives state (rules_where k true) (option_map clip a.input)
+    → is_dash k.name ≡ true → Checks state (rules_where k true) (option_map clip a.input)
     (record a { input = Some empty_content; taken = true }) b x → CheckGives state k a b x
 check_dash {S} state k a b x dash run =
     let asked : Moment S = record a { input = Some empty_content; taken = true } in
@@ -224,7 +228,7 @@ pub check_file : {F S : Type 0} (content : F → InputState) (state : S → Sour
     (source : S) (file : F) (x : Result Bool Stop) → is_dash k.name ≡ false
     → OpenGives content (state a.source).told (state source).told k.name (Ok file)
     → (state source).refusals ≡ (state a.source).refusals
-    → ManifestGives state (rules_where k false) (option_map clip (content file).content)
+    → Checks state (rules_where k false) (option_map clip (content file).content)
     (record a { source = source }) b x → CheckGives state k a b x
 check_file {S = S} content state k a b source file x dash h refusals run =
     let asked : Moment S = record a { source = source } in

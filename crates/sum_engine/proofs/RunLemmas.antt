@@ -12,11 +12,11 @@ use Rattle.sum_engine.specs.Worlds.{World}
 use Rattle.sum_engine.specs.Moments.{Moment, RunState, WhereKnown, run_state}
 use Rattle.sum_engine.specs.refinement.Asking.{world_of}
 use Rattle.sum_engine.specs.Runs.{Event, Step, Run, events, events_of, at_once, name_in, err_in, out_in}
-use Rattle.sum_engine.specs.RunStates.{Did, DidPrefix, Refused, RunOf, RunsTo}
+use Rattle.sum_engine.specs.RunStates.{Did, DidPrefix, Refused, RunOf}
 use Rattle.sum_engine.specs.Steps.{GoesOn, Finishes, Breaks, Waits}
 use Rattle.sum_engine.specs.Manifests.{EventsExtend}
 use Rattle.sum_engine.specs.refinement.Telling.{HandsBoth}
-use Rattle.sum_engine.proofs.RunStateLemmas.{Asks, Writing, where_known, names-by, err-by, out-by, did_nothing, did_both, came_by, prefix_behind, known}
+use Rattle.sum_engine.proofs.RunStateLemmas.{Runs, Asks, Writing, where_known, names-by, err-by, out-by, did_nothing, did_both, came_by, prefix_behind, known}
 
 -- one more of the steps happened
 pub steps_more : {a b c : RunState} (done : List Step) (next : Step) → Did a b (events done) → Did b c (events_of next)
@@ -137,7 +137,7 @@ pub once : {S A : Type 0} (state : S → SourceState) (run : World → Run) (nam
     (good : Bool) (answer : Bool → A) (a b : Moment S) {P : World → World → Type 0} (x : Writing)
     → WhereTold (world_of state a) (world_of state b) P
     → ((w v : World) → P w v → (run w ≡ at_once names err out good) × Asks (known state a w) (known state b v) names)
-    → HandsBoth a.err b.err a.out b.out err out x → RunsTo state run answer a b (answered x (answer good))
+    → HandsBoth a.err b.err a.out b.out err out x → Runs state run answer a b (answered x (answer good))
 once state run names err out good answer a b (Ok u) h is told = where_known state a b _ h (λ w v p.
     rw ((is w v p).0, append-nil) (refl, came_by _ _ names err out (Ok u) (is w v p).1 told))
 once state run names err out good answer a b (Err e) h is told = where_known state a b _ h (λ w v p.
@@ -146,7 +146,7 @@ once state run names err out good answer a b (Err e) h is told = where_known sta
 -- the source had no memory to open the first step's name
 pub unasked : {S A : Type 0} (state : S → SourceState) (run : World → Run) (answer : Bool → A) (a b : Moment S)
     → ((w : World) → (s : Step) × (rest : List Step) × ((run w).steps ≡ s ∷ rest)) → WhereKnown state a b Refused
-    → RunsTo state run answer a b (Err Memory)
+    → Runs state run answer a b (Err Memory)
 unasked state run answer a b first h = WhereTold-map (run_state state a) (run_state state b) (λ s t refused.
     let next = first s.world in
     ([], next.0, next.1, s, next.2, did_nothing s, inl refused)) h

@@ -1,5 +1,5 @@
 -- What happened at a run state, one thing after another; and moments whose run states tell or don't.
-use Rattle.std.proofs.Common.{◌≡◌, ℕ, ◌||◌, List, [], ◌∷◌, ◌++◌, map, Option, None, Some, Result, Ok, Err, refl, ap, sym, ◌∙◌, inl, inr, append_assoc, append-nil}
+use Rattle.std.proofs.Common.{◌≡◌, ℕ, ◌||◌, Bool, List, [], ◌∷◌, ◌++◌, map, Option, None, Some, Result, Ok, Err, refl, ap, sym, ◌∙◌, inl, inr, append_assoc, append-nil}
 use Rattle.std.specs.Prelude.{filter_map}
 use Rattle.std.specs.List.{list_any}
 use Rattle.std.specs.Option.{option_map}
@@ -16,13 +16,14 @@ use Rattle.sum_lines.specs.Sinks.{SinkState}
 use Rattle.sum_lines.specs.refinement.Growing.{AppendsPrefix}
 use Rattle.sum_engine.specs.Worlds.{World, is_dash, after}
 use Rattle.sum_engine.specs.refinement.Handling.{events_by}
-use Rattle.sum_engine.specs.Runs.{Event, Opens, Tells, Puts, name_in, err_in, out_in}
+use Rattle.sum_engine.specs.Runs.{Run, Event, Opens, Tells, Puts, name_in, err_in, out_in}
 use Rattle.sum_engine.specs.refinement.Telling.{Hands, HandsBoth}
 use Rattle.sum_lines.specs.PartsOfLines.{◌>>=◌}
 use Rattle.sum_sources.specs.Contents.{Content}
 use Rattle.sum_engine.specs.Moments.{Moment, RunState, WhereKnown, run_state}
 use Rattle.sum_engine.specs.refinement.Asking.{world_by, world_of}
-use Rattle.sum_engine.specs.RunStates.{Did, DidPrefix, Refused}
+use Rattle.sum_engine.specs.declared.stop.Stop.{Stop}
+use Rattle.sum_engine.specs.RunStates.{Did, DidPrefix, Refused, RunOf}
 use Rattle.sum_engine.proofs.WorldLemmas.{after-none, after-append}
 
 -- ---- what of a step's events is of each kind
@@ -242,3 +243,9 @@ pub err_came : {S : Type 0} (state : S → SourceState) (a : Moment S) (err : Si
     → WhereKnown state a (record a { err = err }) (λ s t. Came x s t (events_by [] text []))
 err_came state a err text x h = where_known state a (record a { err = err }) _ (same_told (world_of state a))
     (λ w v same. came_by _ _ [] text [] x (asks_none same refl refl) (err_alone a.err err a.out text x h))
+
+-- a run from one moment to another, whatever the outputs hold
+abbrev pub Runs : {S A : Type 0} → (S → SourceState) → (World → Run) → (Bool → A) → Moment S → Moment S
+    → Result A Stop → Type 0
+Runs state run answer a b r =
+    WhereKnown state a b (λ s t. RunOf (run s.world).steps (answer (run s.world).good) s t r)

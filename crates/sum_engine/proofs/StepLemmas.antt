@@ -1,5 +1,5 @@
 -- One step of a checker, by what its parts did.
-use Rattle.std.proofs.Common.{◌≡◌, ℕ, ◌+◌, ◌≤◌, ◌<◌, ◌||◌, Bool, List, [], ◌∷◌, length, Option, None, Some, Ok, Err, refl, ap, sym, inl, inr, ◌∙◌, subst}
+use Rattle.std.proofs.Common.{◌≡◌, ℕ, ◌+◌, ◌≤◌, ◌<◌, ◌||◌, Bool, List, [], ◌∷◌, length, Option, None, Some, Result, Ok, Err, refl, ap, sym, inl, inr, ◌∙◌, subst}
 use Rattle.std.specs.List.{list_any}
 use Rattle.sum_sources.specs.declared.lines.Next.TheVariants.{Line}
 use Rattle.sum_sources.specs.declared.lines.LineReader.{LineReader}
@@ -19,21 +19,27 @@ use Rattle.sum_engine.specs.Worlds.{is_dash}
 use Rattle.sum_engine.specs.Runs.{Step}
 use Rattle.sum_lines.specs.Profiles.{present}
 use Rattle.sum_engine.specs.Profiles.{lines_by}
-use Rattle.sum_engine.specs.Verdicts.{Rules, asks_of}
+use Rattle.sum_engine.specs.Verdicts.{Rules, judge, asks_of}
 use Rattle.sum_engine.specs.Reports.{err_by, out_of, err_of, end_text, good, counts_with}
 use Rattle.sum_lines.specs.Sinks.{SinkState}
-use Rattle.sum_engine.specs.Moments.{Moment, RunState, HoldNothing, run_state}
+use Rattle.sum_engine.specs.Moments.{Moment, RunState, HoldNothing, WhereKnown, run_state}
 use Rattle.sum_engine.specs.refinement.Asking.{world_of}
 use Rattle.sum_engine.specs.Steps.{Now, now_by, Moves, StepGives, next_judged, rest_verdicts}
 use Rattle.sum_engine.specs.LineVerdicts.{judged_in}
-use Rattle.sum_engine.specs.refinement.Finding.{TakesLine, LineGives}
+use Rattle.sum_engine.specs.refinement.Finding.{TakesLine, LineGives, parsed_at}
 use Rattle.sum_engine.specs.refinement.Telling.{Tells, out_by, HandsBoth}
-use Rattle.sum_engine.specs.refinement.Handling.{events_by, HandleGives}
+use Rattle.sum_engine.specs.refinement.Handling.{events_by, HandleOf}
 use Rattle.sum_engine.proofs.RunStateLemmas.{Writing, Came, came_by, err_came, where_known, same_told, names-by}
 use Rattle.sum_engine.proofs.RunLemmas.{answered}
 use Rattle.sum_engine.proofs.RestLemmas.{line_step, first_step, line_first, line_done, end_first}
 
 -- ---- one line was handled
+
+-- the last line that was read at a place was handled, whatever the outputs hold
+abbrev pub Handled : {I S A : Type 0} → (S → SourceState) → Place I → List ℕ → Counts → Moment S → Moment S
+    → Result A Stop → Type 0
+Handled state p line d a b x = WhereKnown state a b (λ s t.
+    HandleOf p.rules (judge p.rules s.world p.reader.lines (parsed_at p line)) p.counts d s t x)
 
 -- its name was asked, and its report handed on, whereupon it was counted, or a prefix of the report
 pub handled : {I S : Type 0} (state : S → SourceState) (p : Place I) (line : List ℕ) (d : Counts) (vector : List ℕ)
@@ -43,7 +49,7 @@ pub handled : {I S : Type 0} (state : S → SourceState) (p : Place I) (line : L
     → (state b.source).refusals ≡ (state a.source).refusals
     → HandsBoth a.err b.err a.out b.out (err_by p.rules v.number v.verdict (judged_in vector v).name)
     (out_by p.rules.profile p.rules.settings.report v.verdict (judged_in vector v).name) x
-    → HandleGives state p line d a b (answered x (tt {0}))
+    → Handled state p line d a b (answered x (tt {0}))
 handled state p line d vector a b v (Ok u) h taken refusals hands = where_known state a b _ h (λ w v' judged.
     rw (judged.0) (judged.2, came_by _ _ (asks_of (judged_in vector v)) _ _ (Ok u)
     (record { world = judged.1; taken = taken; refusals = refusals }) hands))
@@ -146,7 +152,7 @@ moves_by p q reader c d s t line vector profile number took takes few counted = 
 pub step_line : {I S : Type 0} (input : I → InputState) (state : S → SourceState) (p q : Place I)
     (reader : LineReader I) (a b : Moment S) (line held : List ℕ) → ReadsLine input p reader line
     → TakesLine (record p { reader = reader }) q line → length held ≤ length line
-    → HandleGives {A = Unit {0}} state (record p { reader = reader }) line q.counts a b (Ok tt)
+    → Handled {A = Unit {0}} state (record p { reader = reader }) line q.counts a b (Ok tt)
     → StepGives p.rules held (now_of input p (run_state state a)) (now_of input q (run_state state b)) (Ok Going)
 step_line {I} input state p q reader a b line held reads takes few h =
     let then : Place I = record q { reader = reader } in
@@ -170,7 +176,7 @@ step_line {I} input state p q reader a b line held reads takes few h =
 pub step_line_stop : {I S : Type 0} (input : I → InputState) (state : S → SourceState) (p q : Place I)
     (reader : LineReader I) (a b : Moment S) (line : List ℕ) (stop : Stop) → ReadsLine input p reader line
     → TakesLine (record p { reader = reader }) q line
-    → HandleGives {A = Unit {0}} state (record p { reader = reader }) line q.counts a b (Err stop)
+    → Handled {A = Unit {0}} state (record p { reader = reader }) line q.counts a b (Err stop)
     → StepGives p.rules [] (now_of input p (run_state state a)) (now_of input q (run_state state b)) (Err stop)
 step_line_stop {I} input state p q reader a b line Write reads takes h =
     let then : Place I = record q { reader = reader } in

@@ -11,14 +11,15 @@ use Rattle.sum_engine.specs.Runs.{Run, events, outs, errs, asks}
 use Rattle.sum_engine.specs.Verdicts.{Rules, Judged, asks_of, all_verdicts}
 use Rattle.sum_engine.specs.Reports.{out_of, err_of}
 use Rattle.sum_engine.specs.Checking.{line_steps, content_run}
-use Rattle.sum_engine.specs.Moments.{Moment, RunState}
-use Rattle.sum_engine.specs.RunStates.{Did, DidPrefix, RunsTo}
+use Rattle.sum_engine.specs.Moments.{Moment, HoldNothing, RunState, WhereKnown}
+use Rattle.sum_engine.specs.RunStates.{Did, DidPrefix, RunOf}
 use Rattle.sum_engine.specs.Steps.{Now, Moves, GoesOn, Finishes, Breaks, to_come, start}
 
--- a new checker that was run to its end
+-- a new checker that was run to its end, from outputs that held nothing
 abbrev pub ManifestGives :
     {S : Type 0} → (S → SourceState) → Rules → Option Content → Moment S → Moment S → Result Bool Stop → Type 0
-ManifestGives state r c a b x = IfSome c (λ c. RunsTo state (λ w. content_run r c (all_verdicts r w c)) (λ g. g) a b x)
+ManifestGives state r c a b x = HoldNothing a → IfSome c (λ c. WhereKnown state a b (λ s t.
+    let run = content_run r c (all_verdicts r s.world c) in RunOf run.steps run.good s t x))
 
 -- ---- the laws
 

@@ -7,7 +7,7 @@ use Rattle.digest_kinds.specs.Limits.{one_more}
 use Rattle.sum_lines.specs.Sinks.{IsPrefix}
 use Rattle.sum_engine.specs.declared.stop.Stop.{Stop}
 use Rattle.sum_engine.specs.declared.stop.Stop.TheVariants.{Memory, Write}
-use Rattle.sum_engine.specs.Moments.{Moment, RunState, WhereKnown}
+use Rattle.sum_engine.specs.Moments.{Moment, HoldNothing, RunState, WhereKnown}
 use Rattle.sum_engine.specs.Worlds.{World, is_dash, after}
 use Rattle.sum_engine.specs.Runs.{Event, Step, Run, events, name_in, err_in, out_in}
 
@@ -40,11 +40,12 @@ RunOf steps x a b (Err Write) = DidPrefix a b (events steps)
 RunOf steps x a b (Err Memory) = (done : List Step) × (next : Step) × (rest : List Step) × (between : RunState)
     × (steps ≡ done ++ next ∷ rest) × Did a between (events done) × Wants next between b
 
--- the same of a run in whatever world it begins, where that is told; its answer goes by whether all is good
+-- the same from one moment, at which both outputs hold nothing, to another, of a run in whatever world it begins, where
+-- that is told; its answer goes by whether all is good
 abbrev pub RunsTo : {S A : Type 0} → (S → SourceState) → (World → Run) → (Bool → A) → Moment S → Moment S
     → Result A Stop → Type 0
-RunsTo state run answer a b r =
-    WhereKnown state a b (λ s t. RunOf (run s.world).steps (answer (run s.world).good) s t r)
+RunsTo state run answer a b r = HoldNothing a
+    → WhereKnown state a b (λ s t. RunOf (run s.world).steps (answer (run s.world).good) s t r)
 
 -- a source's refusals over a call that answers want of memory just where the source was refused it
 abbrev pub RefusedExactly : {S A : Type 0} → (S → SourceState) → Moment S → Moment S → Result A Stop → Type 0

@@ -28,8 +28,8 @@ pub fn generate_one<I: Input + Drop, S: Source, O: Sink, E: Sink>(
     name: &[u8],
     streams: &mut Streams<I, S, O, E>,
 ) -> Result<bool, Stop>
-    ensures gives { HoldNothing streams.old → RunsTo S.state
-        (λ w. generate_run settings.now tool.now w name.now) (λ good. good) streams.old streams.new result }
+    ensures gives { RunsTo S.state (λ w. generate_run settings.now tool.now w name.now) (λ good. good)
+        streams.old streams.new result }
     ensures none { HoldNothing streams.old → HoldNothing streams.new }
     ensures refusals { RefusedExactly S.state streams.old streams.new result }
     ensures failures { Failures streams.old.out streams.new.out streams.old.err streams.new.err result }

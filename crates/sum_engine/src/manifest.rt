@@ -34,8 +34,8 @@ pub fn check_one<A: Allocator + Copy, J: Input + Drop, S: Source, O: Sink, E: Si
     name: &[u8],
     streams: &mut Streams<J, S, O, E>,
 ) -> Result<bool, Stop>
-    ensures gives { HoldNothing streams.old → RunsTo S.state
-        (λ w. check_run settings tool.now w name.now) (λ good. good) streams.old streams.new result }
+    ensures gives { RunsTo S.state (λ w. check_run settings tool.now w name.now) (λ good. good)
+        streams.old streams.new result }
     ensures none { HoldNothing streams.old → HoldNothing streams.new }
     ensures refusals { RefusedOnMemory S.state streams.old streams.new result }
     ensures failures { Failures streams.old.out streams.new.out streams.old.err streams.new.err result }
@@ -75,8 +75,8 @@ fn check_input<'a, A: Allocator, I: Input + Drop, J: Input + Drop, S: Source, O:
     input: I,
     streams: &mut Streams<J, S, O, E>,
 ) -> Result<bool, Stop>
-    ensures gives { HoldNothing streams.old → ManifestGives S.state
-        (rules_in listing.entry) (option_map clip (I.state input).content) streams.old streams.new result }
+    ensures gives { ManifestGives S.state (rules_in listing.entry) (option_map clip (I.state input).content)
+        streams.old streams.new result }
     ensures none { HoldNothing streams.old → HoldNothing streams.new }
     ensures refusals { RefusedOnMemory S.state streams.old streams.new result }
     ensures failures { Failures streams.old.out streams.new.out streams.old.err streams.new.err result }

@@ -128,8 +128,8 @@ impl<'a, I: Input> Position<'a, I> {
     ) -> Result<(), Stop>
         requires room { total self.old.counts < self.old.reader.lines }
         requires few { self.old.reader.lines ≤ LIMIT }
-        ensures gives { HoldNothing streams.old → HandleGives S.state (place_of self.old) line.old.items
-            self.new.counts streams.old streams.new result }
+        ensures gives { HandleGives S.state (place_of self.old) line.old.items self.new.counts streams.old streams.new
+            result }
         ensures none { HoldNothing streams.old → HoldNothing streams.new }
         ensures place { TakesLine (place_of self.old) (place_of self.new) line.old.items }
         ensures held { length line.new.items ≤ length line.old.items }

@@ -1,6 +1,6 @@
 use Rattle.std.proofs.Common.{Some, None, Result, sym, subst}
+use Rattle.sum_engine.proofs.RunStateLemmas.{Runs}
 use Rattle.sum_engine.specs.Moments.{Moment, HoldNothing, Failures}
-use Rattle.sum_engine.specs.RunStates.{RunsTo}
 use Rattle.sum_words.specs.CommandLines.{call, unknown}
 use Rattle.digests.specs.Meaning.{status_of}
 use Rattle.digests.specs.Program.{run_of}
@@ -19,7 +19,7 @@ returns-in-Ok-Asks-clause-gives g c =
     let is = sym c.streams.view_is in
     λ hold. program_read g.S.Source.state first _ c.close.result _ line read
     (program_ends g.S.Source.state c.close.result (Some line) first _ _ _ answer
-    (subst (λ m. RunsTo g.S.Source.state (run_of (Some line)) status_of first m answer) is (ran.gives hold))
+    (subst (λ m. Runs g.S.Source.state (run_of (Some line)) status_of first m answer) is (ran.gives hold))
     (subst (λ (m : Moment g.row.S.Denot). Failures first.out m.out first.err m.err answer) is ran.failures)
     (subst (λ (m : Moment g.row.S.Denot). HoldNothing m) is (ran.none hold)) c.close.ensures.gives)
 
