@@ -41,7 +41,7 @@ impl<'a, I: Input> Position<'a, I> {
     ghost use Rattle.sum_engine.specs.Verdicts.{asks_of};
     ghost use Rattle.sum_engine.specs.refinement.Asking.{RefusedUnless, world_of};
     ghost use Rattle.sum_engine.specs.LineVerdicts.{judged_in, Names, FindGives, progress_of, asking};
-    ghost use Rattle.sum_engine.specs.refinement.Handling.{HandleGives};
+    ghost use Rattle.sum_engine.specs.refinement.Handling.{Handles};
     ghost use Rattle.sum_engine.specs.refinement.Finding.{TakesLine, LineGives};
     ghost use Rattle.sum_engine.specs.refinement.Listings.{rules_in};
     ghost use Rattle.sum_engine.specs.refinement.Positions.{place_of};
@@ -128,8 +128,8 @@ impl<'a, I: Input> Position<'a, I> {
     ) -> Result<(), Stop>
         requires room { total self.old.counts < self.old.reader.lines }
         requires few { self.old.reader.lines ≤ LIMIT }
-        ensures gives { HandleGives S.state (place_of self.old) line.old.items self.new.counts streams.old streams.new
-            result }
+        ensures gives { Handles S.state (place_of self.old) line.old.items self.new.counts
+            streams.old streams.new result }
         ensures none { HoldNothing streams.old → HoldNothing streams.new }
         ensures place { TakesLine (place_of self.old) (place_of self.new) line.old.items }
         ensures held { length line.new.items ≤ length line.old.items }

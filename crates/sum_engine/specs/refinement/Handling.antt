@@ -24,7 +24,7 @@ HandleOf r j c d a b (Err Memory) = Refused a b
 
 -- the last line that was read at a place was handled, where the run state tells and nothing was held; d are the counts
 -- then
-abbrev pub HandleGives : {I S A : Type 0} → (S → SourceState) → Place I → List ℕ → Counts → Moment S → Moment S
+abbrev pub Handles : {I S A : Type 0} → (S → SourceState) → Place I → List ℕ → Counts → Moment S → Moment S
     → Result A Stop → Type 0
-HandleGives state p line d a b x = HoldNothing a → WhereKnown state a b (λ s t.
+Handles state p line d a b x = HoldNothing a → WhereKnown state a b (λ s t.
     HandleOf p.rules (judge p.rules s.world p.reader.lines (parsed_at p line)) p.counts d s t x)
