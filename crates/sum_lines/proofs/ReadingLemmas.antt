@@ -9,9 +9,12 @@ use Rattle.sum_lines.specs.declared.line_reading.Reading.TheVariants as readings
 use Rattle.sum_lines.specs.declared.scanning.LineParts.{LineParts}
 use Rattle.sum_lines.specs.Escape.{escape}
 use Rattle.sum_lines.specs.PartsOfLines.{Parts, plain_parts, tagged_parts}
-use Rattle.sum_lines.specs.Entries.{is_ignored, begins_standard, Spells, RawOf, Spelled, ByTag, ByTail, form_of_tail, form_then}
-use Rattle.sum_lines.specs.refinement.Found.{line_parts, text_of, NamesEntry, NamesTail}
-use Rattle.sum_lines.specs.Readings.{form_after, Reads}
+use Rattle.sum_lines.specs.Entries.{is_ignored, begins_standard, Spells, RawOf, Spelled, ByTag, ByTail, form_of_tail, form_then, line_form}
+use Rattle.sum_lines.specs.refinement.Found.{line_parts, text_of, NamesEntry, NamesTail, form_after, Reads}
+use Rattle.sum_lines.specs.Readings.{parsed_line_by}
+use Rattle.sum_lines.specs.Profiles.{present}
+use Rattle.sum_lines.specs.ParsedLines.{parse_line}
+use Rattle.sum_lines.proofs.ParsedLineLemmas.{says_is}
 use Rattle.sum_lines.proofs.TaggedParts.{IsTagged, read_is_tagged}
 use Rattle.sum_lines.proofs.TaggedLemmas.{tagged_is_read}
 use Rattle.sum_lines.proofs.PlainLemmas.{apart, plain_is_read, read_is_plain}
@@ -27,8 +30,9 @@ pub form-other : (algos : Algos) (f : Form) (line : List ℕ) → plain_parts al
 form-other algos f line none = rw (form-alone algos line, none, form_then-last f) refl
 
 -- such as an ignored one
-pub form-ignored : (algos : Algos) (f : Form) (line : List ℕ) → is_ignored line ≡ true → f ≡ form_after algos f line
-form-ignored algos f line h = rw (form-alone algos line, ignored-mute algos line h, form_then-last f) refl
+pub form-ignored : (algos : Algos) (f : Form) (line : List ℕ) → is_ignored line ≡ true
+    → f ≡ form_then f (line_form algos line)
+form-ignored algos f line h = rw (ignored-mute algos line h, form_then-last f) refl
 
 -- or a tagged one
 no_plain : (algos : Algos) (line : List ℕ) (p : Parts) (o : Option Parts) → Some p ≡ tagged_parts algos line
@@ -187,3 +191,13 @@ names-standard p line new r h names =
     let size = length-take (p.stop - p.start) (drop p.start line) in
     let is : raw ≡ drop 1 (text_of line p) = range-more line p.start p.stop (omega arith) in
     tail-standard p (p.start + 1) (text_of line p) raw new r h is names
+
+-- ---- what the reading says
+
+-- it is what the line says by the definitions
+pub reads-says : (algos : Algos) (f : Form) (old new : List ℕ) (r : Reading) → Reads algos f old new r
+    → parsed_line_by new r ≡ parse_line present algos f old
+reads-says algos f old new readings.Ignored h = let is = says_is present algos f old in sym (is.nothing.1 h.0)
+reads-says algos f old new readings.Bad h = let is = says_is present algos f old in sym (is.improper.1 (h.0, h.1))
+reads-says algos f old new (readings.Entry kind digest start stop) h =
+    let is = says_is present algos f old in sym ((is.spells _).1 (h.3.0, h.3))

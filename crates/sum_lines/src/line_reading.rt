@@ -1,9 +1,11 @@
 //! One line of a manifest.
 
 ghost use Rattle.std.specs.Prelude.{◌≡◌, ◌≤◌, false, if◌then◌else◌, length, vec_len};
-ghost use Rattle.sum_lines.specs.Entries.{begins_standard, form_of_tail, form_then, is_ignored};
-ghost use Rattle.sum_lines.specs.refinement.Found.{NamesEntry, NamesTail, text_of};
-ghost use Rattle.sum_lines.specs.Readings.{Reads, form_after};
+ghost use Rattle.sum_lines.specs.Entries.{begins_standard, form_of_tail, form_then, is_ignored, line_form};
+ghost use Rattle.sum_lines.specs.refinement.Found.{NamesEntry, NamesTail, Reads, form_after, text_of};
+ghost use Rattle.sum_lines.specs.ParsedLines.{parse_line};
+ghost use Rattle.sum_lines.specs.Profiles.{present};
+ghost use Rattle.sum_lines.specs.Readings.{Within, parsed_line_by};
 ghost use Rattle.sum_lines.specs.refinement.Beginnings.{LeadsTo};
 
 use crate::beginnings::{Beginning, find_beginning};
@@ -59,8 +61,10 @@ pub enum Reading {
 /// The digits are hexadecimal, in either case, and as many as the algorithm has, or the tag says. A name holds no NUL
 /// and isn't empty. Any other line is bad.
 pub fn read_line<A: Allocator>(algos: Algos, form: Form, line: &mut Vec<u8, A>) -> (Reading, Form)
-    ensures form { result.1 ≡ form_after algos form line.old.items }
-    ensures reads { Reads algos result.1 line.old.items line.new.items result.0 }
+    ensures form { result.1 ≡ form_then form (line_form algos line.old.items) }
+    ensures says { parsed_line_by line.new.items result.0 ≡ parse_line present algos result.1 line.old.items }
+    ensures within { Within line.new.items result.0 }
+    ensures ignored { result.0 ≡ Reading.Ignored → line.new ≡ line.old }
     ensures len { vec_len line.new ≤ vec_len line.old }
 {
     if is_ignored(line) {

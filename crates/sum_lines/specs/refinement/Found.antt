@@ -5,7 +5,8 @@ use Rattle.sum_lines.specs.declared.line_reading.Reading.{Reading}
 use Rattle.sum_lines.specs.declared.line_reading.Reading.TheVariants as readings
 use Rattle.sum_lines.specs.declared.scanning.LineParts.{LineParts}
 use Rattle.sum_lines.specs.Escape.{escape}
-use Rattle.sum_lines.specs.Entries.{RawOf, Spells}
+use Rattle.digest_kinds.specs.declared.algo.Algos.{Algos}
+use Rattle.sum_lines.specs.Entries.{is_ignored, RawOf, Spells, Spelled, kind_of, Entry, form, form_then}
 use Rattle.sum_lines.specs.PartsOfLines.{Parts}
 
 -- the parts of a line that these places stand for
@@ -47,3 +48,16 @@ NamesTail p form tail new readings.Bad = (raw name : List ℕ) → RawOf form ta
 NamesTail p form tail new (readings.Entry kind digest start stop) = (kind ≡ p.kind) × (digest ≡ p.digest)
     × (start ≤ stop) × (stop ≤ length new) × (raw : List ℕ) × RawOf form tail raw
     × Spells escape p.escaped raw (slice_range new start stop)
+
+-- the form of the lines so far, where the line is one more
+abbrev pub form_after : Algos → Form → List ℕ → Form
+form_after algos before line = form_then before (form algos (line ∷ []))
+
+-- the line old was read in a list of that form, and its vector now holds new: an ignored line is as it was, a bad one
+-- spells nothing, and of an entry's line the places say where its name stands in new
+abbrev pub Reads : Algos → Form → List ℕ → List ℕ → Reading → Type 0
+Reads algos form old new readings.Ignored = (is_ignored old ≡ true) × (new ≡ old)
+Reads algos form old new readings.Bad = (is_ignored old ≡ false) × ((s : Spelled) → ¬ Entry escape algos form old s)
+Reads algos form old new (readings.Entry kind digest start stop) =
+    let s : Spelled = record { algo = kind.algo; digest = digest; name = slice_range new start stop } in
+    (start ≤ stop) × (stop ≤ length new) × (kind ≡ kind_of s) × Entry escape algos form old s
