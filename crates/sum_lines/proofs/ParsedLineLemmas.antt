@@ -1,19 +1,18 @@
 -- What is computed of a line's entry is what the relation Entry allows.
 use Rattle.std.proofs.Common.{◌≡◌, ℕ, Bool, true, false, cond, List, [], ◌∷◌, drop, Option, None, Some, refl, ap, sym, ◌∙◌, inl, inr, ◌⊎◌}
-use Rattle.std.specs.Prelude.{option_map, unwrap_or}
 use Rattle.std.specs.Option.{option_or}
-use Rattle.std.proofs.lemmas.Option.{cond_some}
+use Rattle.std.proofs.lemmas.Option.{cond_some, same_Some}
 use Rattle.digest_kinds.specs.Kinds.{KindValue}
 use Rattle.digest_kinds.specs.declared.algo.Algos.{Algos}
 use Rattle.sum_lines.specs.declared.line_reading.Form.{Form}
 use Rattle.sum_lines.specs.declared.line_reading.Form.TheVariants.{Undecided, Standard, Reversed}
-use Rattle.sum_lines.specs.Profiles.{Profile}
+use Rattle.sum_lines.specs.Profiles.{Profile, present}
 use Rattle.sum_lines.specs.Escape.{escape_by}
 use Rattle.sum_lines.specs.Shapes.{Plain}
 use Rattle.sum_lines.specs.Entries.{Spelled, Entry, ByTag, ByTail, RawOf, begins_standard, is_ignored_by}
 use Rattle.sum_lines.specs.PartsOfLines.{◌>>=◌, Parts, tagged_parts, plain_parts}
-use Rattle.sum_lines.specs.ParsedLines.{with_raw, entry_of_parts, entry_of, ParsedLine, Nothing, Improper, WithEntry}
-use Rattle.sum_lines.specs.Laws.{SaysIs}
+use Rattle.sum_lines.specs.ParsedLines.{with_raw, entry_of_parts, entry_of, ParsedLine, Nothing, Improper, WithEntry, parsed_line_of}
+use Rattle.sum_lines.specs.Laws.{OneEntry, SaysIs}
 use Rattle.sum_lines.proofs.PrefixLemmas.{bind_some}
 use Rattle.sum_lines.proofs.PlainLemmas.{apart, plain_is_read, read_is_plain}
 use Rattle.sum_lines.proofs.TaggedLemmas.{tagged_is_read}
@@ -75,6 +74,11 @@ entry_value p algos f line s (_, inr t) =
     rw (not-tagged (tagged_parts algos line) t.plain refl, plain_is_read q t.plain, raw-is f q t.raw t.is_raw)
     (spelled-is p (with_text q t.raw) s.name t.spells)
 
+-- so a line has at most one
+pub one_entry : OneEntry
+one_entry algos f line s t p q =
+    same_Some s t (sym (entry_value present algos f line s p) ∙ entry_value present algos f line t q)
+
 -- ---- the entry that is computed is the line's
 
 -- what a tagged line's parts spell
@@ -131,10 +135,6 @@ value_entry p algos f line s h =
     spoken p algos f line s (by-parts p algos f line s (tagged_parts algos line) (plain_parts algos line) refl refl h)
 
 -- ---- what a line says
-
--- what an entry says, where there is one
-abbrev pub parsed_line_of : Option Spelled → ParsedLine
-parsed_line_of o = unwrap_or (option_map WithEntry o) Improper
 
 -- it isn't nothing, it spells that entry, and without one it is improper
 nothing-not : (o : Option Spelled) → parsed_line_of o ≡ Nothing → ⊥
