@@ -121,8 +121,8 @@ fn read_tail<A: Allocator>(form: Form, line: &mut Vec<u8, A>, found: LineParts) 
     requires ordered { found.start ≤ found.stop }
     requires within { found.stop ≤ length line.old.items }
     ensures form { result.1 ≡ form_then form (form_of_tail (text_of line.old.items found)) }
-    ensures says { parsed_line_by line.new.items result.0
-        ≡ parsed_line_of (option_and_then (entry_of_parts present) (with_raw result.1 (line_parts line.old.items found))) }
+    ensures says { parsed_line_by line.new.items result.0 ≡ parsed_line_of
+        (option_and_then (entry_of_parts present) (with_raw result.1 (line_parts line.old.items found))) }
     ensures within { Within line.new.items result.0 }
     ensures len { vec_len line.new ≤ vec_len line.old }
 {
