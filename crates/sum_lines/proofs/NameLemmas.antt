@@ -1,16 +1,20 @@
--- The name that is left in place of a raw name.
-use Rattle.std.proofs.Common.{ℕ, zero, suc, ◌≡◌, ◌+◌, ◌-◌, ◌<◌, ◌≤◌, ◌↔◌, Bool, true, false, not, cond, List, ◌++◌, take, drop, get_or, slice_range, Option, None, Some, refl, ap, sym, ◌∙◌, arith}
+-- The name that is left in place of a raw name, and the raw name in a tail.
+use Rattle.std.proofs.Common.{ℕ, zero, suc, ◌≡◌, ◌+◌, ◌-◌, ◌<◌, ◌≤◌, ◌↔◌, Bool, true, false, not, cond, List, ◌∷◌, ◌++◌, length, take, drop, get_or, slice_range, Option, None, Some, refl, ap, sym, ◌∙◌, arith}
 use Rattle.std.specs.Prelude.{nat_lt}
 use Rattle.std.specs.List.{list_all}
 use Rattle.std.specs.Option.{is_some}
 use Rattle.std.proofs.lemmas.Bool.{eqb-true}
-use Rattle.std.proofs.lemmas.List.{drop-take, take-append-drop}
+use Rattle.std.proofs.lemmas.List.{drop-drop, drop-take, length-take, take-append-drop}
 use Rattle.std.proofs.lemmas.List.Elements.{All-from_get_or}
 use Rattle.std.proofs.lemmas.List.Folds.{list_all_at}
 use Rattle.memchr.specs.Find.{IsFirstByte, is_byte}
+use Rattle.sum_lines.specs.declared.line_reading.Form.TheVariants.{Standard}
+use Rattle.sum_lines.specs.declared.scanning.LineParts.{LineParts}
 use Rattle.sum_lines.specs.Profiles.{present}
 use Rattle.sum_lines.specs.Escape.{escape}
-use Rattle.sum_lines.specs.ParsedLines.{unescape}
+use Rattle.sum_lines.specs.Entries.{begins_standard}
+use Rattle.sum_lines.specs.ParsedLines.{unescape, with_raw}
+use Rattle.sum_lines.specs.refinement.Found.{line_parts, text_of}
 use Rattle.sum_lines.proofs.PrefixLemmas.{none_of}
 use Rattle.sum_lines.proofs.UnescapeOf.{all-of, unescape-escape, escape-unescape}
 
@@ -42,3 +46,24 @@ no_nul xs None h =
 no_nul xs (Some k) h =
     let nul : get_or xs k 0 ≡ 0 = eqb-true (get_or xs k 0) 0 h.1 in
     sym (list_all_at (nat_lt 0) xs k 0 h.0.high (rw nul refl))
+
+-- ---- the raw name of a Standard list's tail
+
+-- a part from one place further on
+range-more : (xs : List ℕ) (i j : ℕ) → i + 1 ≤ j → slice_range xs (i + 1) j ≡ drop 1 (slice_range xs i j)
+range-more xs i j lt =
+    let sum : j - i ≡ 1 + (j - (i + 1)) = omega arith in
+    rw (sum, drop-take 1 (j - (i + 1)) (drop i xs), drop-drop 1 i xs) refl
+
+-- a tail that begins with a space or a star and goes on has two bytes at least
+standard-two : (tail : List ℕ) → begins_standard tail ≡ true → 2 ≤ length tail
+standard-two (a ∷ b ∷ bs) h = omega arith
+standard-two tail h = cc
+
+-- so its raw name stands one place further on
+pub raw-standard : (line : List ℕ) (p : LineParts) → begins_standard (text_of line p) ≡ true
+    → with_raw Standard (line_parts line p) ≡ Some (line_parts line (record p { start = p.start + 1 }))
+raw-standard line p h =
+    let two = standard-two (text_of line p) h in
+    let size = length-take (p.stop - p.start) (drop p.start line) in
+    rw (h, range-more line p.start p.stop (omega arith)) refl

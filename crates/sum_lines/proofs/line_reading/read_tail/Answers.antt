@@ -1,5 +1,5 @@
 use Rattle.std.proofs.Common.{sym, ◌∙◌}
-use Rattle.sum_lines.proofs.ReadingLemmas.{raw-standard}
+use Rattle.sum_lines.proofs.NameLemmas.{raw-standard}
 use Rattle.sum_lines.proofs.line_reading.read_tail.Goals as goal
 
 -- in a Standard list the name is that of the tail without its first byte
