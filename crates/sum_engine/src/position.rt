@@ -10,10 +10,10 @@ use crate::report::{put_fault_line, put_report};
 use crate::stop::Stop;
 use crate::streams::Streams;
 use crate::summary::{Counts, is_good, put_summary};
-use crate::verdict::{LineVerdict, Verdict, judge, read};
+use crate::verdict::{LineVerdict, Verdict, judge};
 use digest_kinds::LIMIT;
 use std::alloc::Allocator;
-use sum_lines::{Form, Reading, Sink};
+use sum_lines::{Form, Reading, Sink, read_line};
 use sum_sources::{Input, LineReader, LineStop, Next, PIECE, Source, Stdin};
 
 /// A manifest, its lines so far, and what is still to come of it.
@@ -173,7 +173,7 @@ impl<'a, I: Input> Position<'a, I> {
         ensures held { length line.new.items ≤ length line.old.items }
         ensures refusals { RefusedUnless (S.state source.old) (S.state source.new) result }
     {
-        let (reading, form) = read(self.listing.settings.algo, self.form, line);
+        let (reading, form) = read_line(self.listing.settings.algo, self.form, line);
         self.form = form;
         match reading {
             Reading::Ignored => Some(self.found(Verdict::Ignored, 0, 0)),

@@ -1,19 +1,15 @@
 //! The verdict of a line.
-ghost use Rattle.std.specs.Prelude.{◌≡◌, ◌||◌, ◌≤◌, length, MatchOption, is_none};
+ghost use Rattle.std.specs.Prelude.{◌≡◌, ◌||◌, length, MatchOption, is_none};
 ghost use Rattle.std.specs.List.{list_any};
-ghost use Rattle.sum_lines.specs.Entries.{form_then, line_form};
 ghost use Rattle.sum_engine.specs.Worlds.{is_dash};
 ghost use Rattle.sum_engine.specs.Verdicts.{asks_by};
-ghost use Rattle.sum_lines.specs.Profiles.{present};
-ghost use Rattle.sum_lines.specs.ParsedLines.{parse_line, WithEntry};
+ghost use Rattle.sum_lines.specs.ParsedLines.{WithEntry};
 ghost use Rattle.sum_engine.specs.LineVerdicts.{asking};
 ghost use Rattle.sum_engine.specs.refinement.Asking.{RefusedUnless, world_of};
 
 use crate::asking::{Asked, ask, is_dash};
 use crate::listing::Listing;
-use digest_kinds::{Algos, Digest, Kind};
-use std::alloc::Allocator;
-use sum_lines::{Form, Reading, read_line};
+use digest_kinds::{Digest, Kind};
 use sum_sources::{Fault, Input, PIECE, Source, Stdin};
 
 /// What checking finds of a manifest's line.
@@ -44,19 +40,7 @@ pub struct LineVerdict {
 }
 
 ghost use Rattle.sum_engine.specs.refinement.Listings.{rules_in};
-ghost use Rattle.sum_engine.specs.refinement.Judging.{parsed_line_by, Within, JudgeGives, compared};
-
-/// Reads a line, in a list of the form that the lines before it have. Inlined, so that a line without an entry moves no
-/// room for one.
-#[inline(always)]
-pub(crate) fn read<A: Allocator>(algos: Algos, form: Form, line: &mut Vec<u8, A>) -> (Reading, Form)
-    ensures form { result.1 ≡ form_then form (line_form algos line.old.items) }
-    ensures said { parsed_line_by line.new.items result.0 ≡ parse_line present algos result.1 line.old.items }
-    ensures within { Within line.new.items result.0 }
-    ensures held { length line.new.items ≤ length line.old.items }
-{
-    read_line(algos, form, line)
-}
+ghost use Rattle.sum_engine.specs.refinement.Judging.{JudgeGives, compared};
 
 /// The verdict of an entry. None where the source had no memory to open the name; nothing was then asked.
 pub(crate) fn judge<I: Input + Drop, S: Source>(

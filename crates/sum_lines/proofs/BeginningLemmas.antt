@@ -1,5 +1,5 @@
 -- What a line begins with, and the parts that it is then read as.
-use Rattle.std.proofs.Common.{ℕ, ◌≡◌, ◌+◌, ◌-◌, ◌*◌, ◌/◌, ◌<◌, ◌≤◌, Bool, true, false, cond, ◌==◌, ◌&&◌, List, ◌∷◌, ◌++◌, length, take, drop, get_or, min, Option, None, Some, Result, Ok, Err, IfNone, IfSome, refl, ap, sym, ◌∙◌, arith, length-append, length-drop}
+use Rattle.std.proofs.Common.{ℕ, ◌≡◌, ◌+◌, ◌-◌, ◌*◌, ◌/◌, ◌<◌, Bool, true, false, cond, ◌==◌, List, ◌∷◌, ◌++◌, length, take, drop, get_or, min, Option, None, Some, Ok, IfNone, IfSome, refl, ap, sym, ◌∙◌, arith, length-append, length-drop}
 use Rattle.std.specs.List.{starts_with, position_or_len}
 use Rattle.std.proofs.lemmas.Bool.{eqb-true, lt-ltb}
 use Rattle.std.proofs.lemmas.Bool.Decides.{Decides-eqb}
@@ -8,7 +8,6 @@ use Rattle.std.proofs.lemmas.List.Elements.{All-get_or}
 use Rattle.std.proofs.lemmas.List.Sums.{passes_at_first, position_or_len_is}
 use Rattle.std.proofs.lemmas.Option.{cond_some}
 use Rattle.std.proofs.lemmas.Slice.Eq.{starts_is}
-use Rattle.std.specs.Result.{result_ok}
 use Rattle.memchr.specs.Find.{IsFirstByte, is_byte2}
 use Rattle.hex.specs.Hex.{decode_of, is_hex_digit}
 use Rattle.hex.proofs.HexLemmas.{decode_of-ok}
@@ -20,11 +19,11 @@ use Rattle.digest_kinds.specs.declared.algo.Algos.TheVariants.{One, Any}
 use Rattle.digest_kinds.proofs.TagLemmas.{IfSome-find-begins}
 use Rattle.sum_lines.specs.Shapes.{is_blank}
 use Rattle.sum_lines.specs.PartsOfLines.{Parts, after_while, strip_prefix, mark_and_rest, algo_at, plain_as, plain_parts, tagged_as, tagged_parts}
-use Rattle.sum_lines.specs.refinement.Beginnings.{tag_in, plain_at, EndsDigits, ByTag, ByDigits}
-use Rattle.sum_lines.proofs.PrefixLemmas.{bind_some, none_of, ok_some, strip_prefix-append}
+use Rattle.sum_lines.specs.refinement.Beginnings.{tag_in, EndsAt, EndsDigits, ByTag}
+use Rattle.sum_lines.proofs.PrefixLemmas.{none_of, strip_prefix-append}
 use Rattle.sum_lines.proofs.TaggedLemmas.{hex-no_blank}
-use Rattle.sum_lines.proofs.ScanLemmas.{decoded-size, has_len-most}
-use Rattle.sum_lines.proofs.PlainLemmas.{cut-within, has_len-some, no_prefix, plain-digits, plain-prefix, plain_as-some, read_is_plain}
+use Rattle.sum_lines.proofs.ScanLemmas.{decoded-size}
+use Rattle.sum_lines.proofs.PlainLemmas.{cut-within, no_prefix, plain-digits, plain-prefix, plain_as-some, read_is_plain}
 use Rattle.sum_lines.proofs.BlankLemmas.{cut-size, plain_as-none, searched-none, searched-some}
 
 -- a line's mark and what stands behind it
@@ -55,11 +54,6 @@ tag_in-some {algos = One b} {s} {a} h =
 tag_in-some {algos = Any} {s} {a} h =
     let found = rw h at (IfSome-find-begins s all_algos) in
     record { rest = found.0; is = found.1; algo = h }
-
--- where no tag stands in front, none is found
-pub tag_in-none : (algos : Algos) (s : List ℕ) → ((a : Algo) (rest : List ℕ) → s ≡ tag a ++ rest → ⊥)
-    → None ≡ tag_in algos s
-tag_in-none algos s other = none_of (tag_in algos s) (λ a h. let found = tag_in-some h in other a found.rest found.is)
 
 -- a line that begins with a tag is read behind it, and isn't plain
 pub by-tag : (algos : Algos) (line : List ℕ) (a : Algo) → tag_in algos (text line).1 ≡ Some a
@@ -95,24 +89,13 @@ has_len-fixed : (a : Algo) (n : ℕ) → (a ≡ Blake2b → ⊥) → has_len a n
 has_len-fixed Blake2b n other h = absurd (other refl)
 has_len-fixed a n other h = eqb-true n (full_len a) h
 
--- what holds wherever there is something
-if_some : {A P : Type 0} (o : Option A) → ((x : A) → o ≡ Some x → P) → IfSome o (λ _. P)
-if_some None h = tt
-if_some (Some x) h = h x refl
-
--- what holds where there is something, at that
-some_if : {A P : Type 0} (o : Option A) (x : A) → IfSome o (λ _. P) → o ≡ Some x → P
-some_if None x h is = cc
-some_if (Some y) x h is = h
-
 -- so its digits are as many
-pub fixed-len : (a : Algo) (s : List ℕ) (n : ℕ) → (a ≡ Blake2b → ⊥) → n ≡ 2 * full_len a → (e : Bool)
-    → IfSome (plain_as a e s) (λ _. n ≡ position_or_len is_blank s)
-fixed-len a s n other is e = if_some (plain_as a e s) (λ p h.
+pub fixed-len : (a : Algo) (s : List ℕ) (n : ℕ) → (a ≡ Blake2b → ⊥) → n ≡ 2 * full_len a → EndsAt a s n
+fixed-len a s n other is e p h =
     let cut = plain_as-some h in
     let len = has_len-fixed a (length p.digest) other cut.has in
     let size = (cut-size cut).0 in
-    omega (arith, is, len, size))
+    omega (arith, is, len, size)
 
 -- where no blank is found among the first bytes, no line is plain
 pub search-none : (a : Algo) (s : List ℕ) {n : ℕ} (r : Option ℕ) → n ≡ min (length s) 129
@@ -122,18 +105,16 @@ search-none a s (Some i) is first = tt
 
 -- the one that is found is the first
 pub search-some : (a : Algo) (s : List ℕ) {n : ℕ} (r : Option ℕ) → n ≡ min (length s) 129
-    → IsFirstByte (is_byte2 32 9) (take n s) r
-    → IfSome r (λ i. (e : Bool) → IfSome (plain_as a e s) (λ _. i ≡ position_or_len is_blank s))
+    → IsFirstByte (is_byte2 32 9) (take n s) r → IfSome r (EndsAt a s)
 search-some a s None is none = tt
-search-some a s (Some i) is first = λ e. if_some (plain_as a e s) (λ p h. (searched-some s is first).0)
+search-some a s (Some i) is first = λ e p h. (searched-some s is first).0
 
 -- a blank ends the digits of a plain line, and something stands behind it
-pub end-none : (a : Algo) (s : List ℕ) (at : ℕ)
-    → ((e : Bool) → IfSome (plain_as a e s) (λ _. at ≡ position_or_len is_blank s))
+pub end-none : (a : Algo) (s : List ℕ) (at : ℕ) → EndsAt a s at
     → (at + 1 < length s → is_blank (get_or s at 0) ≡ true → ⊥) → (e : Bool) → None ≡ plain_as a e s
 end-none a s at place other e = none_of (plain_as a e s) (λ p h.
     let cut = plain_as-some h in
-    let is = some_if (plain_as a e s) p (place e) h in
+    let is = place e p h in
     let some = cut.some in
     let rest = length-drop (position_or_len is_blank s + 1) s in
     other (omega (arith, is, some, rest)) (rw is (passes_at_first is_blank s 0 (cut-within cut))))
@@ -150,45 +131,6 @@ first-blank s d at within blank spelled =
     hex-no_blank (get_or s k 0) (rw (get_or-take at s k 0 less) at hex))
     (λ _. blank)
 
--- what holds with what is so
-and_true : (b : Bool) → (b && true) ≡ b
-and_true true = refl
-and_true false = refl
-
--- so the line is read with its digits up to there
-pub end-some : (a : Algo) (s : List ℕ) (at : ℕ)
-    → ((e : Bool) → IfSome (plain_as a e s) (λ _. at ≡ position_or_len is_blank s))
-    → at + 1 < length s → is_blank (get_or s at 0) ≡ true → EndsDigits a s at
-unfolding plain_as
-end-some a s at place within blank = record {
-  within = within;
-  is = λ e. go e (decode_of (take at s)) refl;
-}
-  where
-    go : (e : Bool) (r : Result (List ℕ) _) → decode_of (take at s) ≡ r → plain_as a e s ≡ plain_at (One a) e at s
-    go e (Ok d) spelled =
-        let first = first-blank s d at (omega (arith, within)) blank spelled in
-        let rest = length-drop (at + 1) s in
-        let some : 0 < length (drop (at + 1) s) = omega (arith, rest, within) in
-        rw (first, spelled, lt-ltb 0 (length (drop (at + 1) s)) some, and_true (has_len a (length d))) refl
-    go e (Err f) spelled = rw spelled (sym (none_of (plain_as a e s) (λ p h.
-        let cut = plain_as-some {a = a} {e = e} {s = s} {p = p} h in
-        let is = some_if (plain_as a e s) p (place e) h in
-        let read = rw (← is) at cut.spelled in
-        let bad = sym spelled ∙ read in cc)))
-
--- ---- the whole line
-
--- what a line without a tag is read as, where its digits can end at that place
-pub by-digits : (algos : Algos) (a : Algo) (line : List ℕ) (at : ℕ) → algos ≡ One a
-    → tag_in algos (text line).1 ≡ None → EndsDigits a (text line).1 at
-    → ByDigits algos line (text line).0 (text line).1 at
-by-digits algos a line at one none ends = record {
-  within = ends.within;
-  tagged = untagged algos line none;
-  plain = rw one (ends.is (text line).0);
-}
-
 -- what is read behind the tag is read of the line
 pub tag-parts : {e : Bool} {s front : List ℕ} (algos : Algos) (line : List ℕ) (a : Algo) (o : Option Parts)
     → (e, s) ≡ text line → front ≡ tag a → ByTag algos line (text line).0 (text line).1 a
@@ -198,51 +140,34 @@ tag-parts {e} {s} {front} algos line a o is tag_is by parts =
     let rest : s ≡ (text line).1 = ap (λ (x : Bool × List ℕ). x.1) is in
     rw (take_rest s (length front), tag_is, mark, rest) at parts ∙ sym by.tagged
 
--- and what is read with the digits up to that place
-pub digits-parts : {e : Bool} {s : List ℕ} (algos : Algos) (line : List ℕ) (at : ℕ) (o : Option Parts)
-    → (e, s) ≡ text line → ByDigits algos line (text line).0 (text line).1 at
-    → o ≡ plain_at algos e at s → o ≡ plain_parts algos line
-digits-parts {e} {s} algos line at o is by parts =
-    let mark : e ≡ (text line).0 = ap (λ (x : Bool × List ℕ). x.0) is in
-    let rest : s ≡ (text line).1 = ap (λ (x : Bool × List ℕ). x.1) is in
-    rw (mark, rest) at parts ∙ sym by.plain
+-- ---- a plain line with such digits
 
--- ---- reading it
-
--- what is read so is spelled by the digits
-pub record Spelled (a : Algo) (e : Bool) (at : ℕ) (s : List ℕ) (p : Parts) : Type 0 where
+-- what it holds
+pub record Spelled (a : Algo) (s : List ℕ) (at : ℕ) (p : Parts) : Type 0 where
   pub spelled : decode_of (take at s) ≡ Ok p.digest
   pub has : has_len a (length p.digest) ≡ true
+  pub size : at ≡ 2 * length p.digest
 
-pub plain_at-some : {a : Algo} {e : Bool} {at : ℕ} {s : List ℕ} {p : Parts} → plain_at (One a) e at s ≡ Some p
-    → Spelled a e at s p
-plain_at-some {a} {e} {at} {s} {p} h =
-    let digest = bind_some (result_ok (decode_of (take at s))) _ h in
-    let is = cond_some (has_len a (length digest.0)) _ p digest.2 in
-    rw (← is.1) (record { spelled = ok_some _ digest.0 digest.1; has = is.0 })
-
--- what isn't spelled so isn't read
-pub plain_at-none : (a : Algo) (e : Bool) (at : ℕ) (s : List ℕ) → ((p : Parts) → Spelled a e at s p → ⊥)
-    → None ≡ plain_at (One a) e at s
-plain_at-none a e at s never = none_of (plain_at (One a) e at s) (λ p h. never p (plain_at-some h))
-
--- there are two digits for each byte
-pub spelled-size : {a : Algo} {e : Bool} {at : ℕ} {s : List ℕ} {p : Parts} → Spelled a e at s p → at < length s
-    → (at ≡ 2 * length p.digest) × (length p.digest ≤ 64) × (0 < length p.digest)
-spelled-size {a} {e} {at} {s} {p} is within =
-    let size = decoded-size (take at s) p.digest is.spelled in
-    let len = length-take at s in
-    (omega (arith, size, len, within), has_len-most a (length p.digest) is.has, has_len-some a (length p.digest) is.has)
+pub plain-spelled : {a : Algo} {s : List ℕ} {at : ℕ} (e : Bool) (p : Parts) → EndsDigits a s at
+    → plain_as a e s ≡ Some p → Spelled a s at p
+plain-spelled e p ends h =
+    let cut = plain_as-some h in
+    rw (ends.place e p h) (record { spelled = cut.spelled; has = cut.has; size = (cut-size cut).0 })
 
 -- what is found so is read as the line's parts
-pub plain_at-read : (a : Algo) (e : Bool) (s : List ℕ) {d : List ℕ} {at : ℕ} (k : KindValue)
-    → at < length s → decode_of (take at s) ≡ Ok d
+pub plain-read : (a : Algo) (e : Bool) (s : List ℕ) {d : List ℕ} {at : ℕ} (k : KindValue)
+    → EndsDigits a s at → decode_of (take at s) ≡ Ok d
     → Some k ≡ cond (has_len a (at / 2)) (Some (record { algo = a; len = at / 2 })) None
-    → Some (record { escaped = e; kind = k; digest = d; text = drop (at + 1) s }) ≡ plain_at (One a) e at s
-plain_at-read a e s {d} {at} k within spelled kind =
+    → Some (record { escaped = e; kind = k; digest = d; text = drop (at + 1) s }) ≡ plain_as a e s
+unfolding plain_as
+plain-read a e s {d} {at} k ends spelled kind =
+    let within = ends.within in
     let size = decoded-size (take at s) d spelled in
     let len = length-take at s in
     let half : at / 2 ≡ length d = omega (arith, size, len, within) in
     let has = cond_some (has_len a (at / 2)) _ k (sym kind) in
     let fits : has_len a (length d) ≡ true = ap (has_len a) (sym half) ∙ has.0 in
-    rw (spelled, fits, ← half, has.1) refl
+    let rest = length-drop (at + 1) s in
+    let some : 0 < length (drop (at + 1) s) = omega (arith, rest, within) in
+    rw (first-blank s d at (omega (arith, within)) ends.blank spelled, spelled, fits)
+    (rw (lt-ltb 0 (length (drop (at + 1) s)) some, ← half, has.1) refl)

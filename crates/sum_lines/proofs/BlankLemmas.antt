@@ -1,13 +1,10 @@
 -- The code looks for the first blank of a plain line's text among as many bytes as the longest digest has digits.
-use Rattle.std.proofs.Common.{ℕ, ◌≡◌, ◌+◌, ◌*◌, ◌/◌, ◌<◌, ◌≤◌, Bool, true, false, cond, ◌==◌, List, [], ◌∷◌, length, take, drop, get_or, min, None, Some, Ok, refl, ap, sym, ◌∙◌, arith, inl, inr}
+use Rattle.std.proofs.Common.{ℕ, ◌≡◌, ◌*◌, ◌<◌, ◌≤◌, Bool, false, ◌==◌, List, [], ◌∷◌, length, take, get_or, min, None, Some, sym, arith, inl, inr}
 use Rattle.std.specs.List.{position_or_len}
-use Rattle.std.proofs.lemmas.Bool.{cases_Bool, lt-ltb}
+use Rattle.std.proofs.lemmas.Bool.{cases_Bool}
 use Rattle.std.proofs.lemmas.List.{get_or-take, length-take}
 use Rattle.std.proofs.lemmas.List.Sums.{passes_at_first, position_or_len_is}
-use Rattle.std.proofs.lemmas.Option.{cond_some}
 use Rattle.memchr.specs.Find.{IsFirstByte, is_byte2}
-use Rattle.hex.specs.Hex.{decode_of}
-use Rattle.digest_kinds.specs.Kinds.{KindValue, has_len}
 use Rattle.digest_kinds.specs.declared.algo.Algo.{Algo}
 use Rattle.sum_lines.specs.Shapes.{is_blank}
 use Rattle.sum_lines.specs.PartsOfLines.{Parts, plain_as}
@@ -66,17 +63,3 @@ searched-some s {n} {i} is first =
 pub tail-some : (tail : List ℕ) (r : Bool) → r ≡ (length tail == 0) → r ≡ false → 0 < length tail
 tail-some [] r is h = cc
 tail-some (x ∷ xs) r is h = omega arith
-
--- what stands there is read as the line's parts
-pub plain-read : (a : Algo) (e : Bool) (s : List ℕ) {d : List ℕ} {i : ℕ} (k : KindValue)
-    → i ≡ position_or_len is_blank s → i < length s → decode_of (take i s) ≡ Ok d → 0 < length (drop (i + 1) s)
-    → Some k ≡ cond (has_len a (i / 2)) (Some (record { algo = a; len = i / 2 })) None
-    → Some (record { escaped = e; kind = k; digest = d; text = drop (i + 1) s }) ≡ plain_as a e s
-unfolding plain_as
-plain-read a e s {d} {i} k first within spelled some kind =
-    let size = decoded-size (take i s) d spelled in
-    let len = length-take i s in
-    let half : i / 2 ≡ length d = omega (arith, size, len, within) in
-    let has = cond_some (has_len a (i / 2)) _ k (sym kind) in
-    let fits : has_len a (length d) ≡ true = ap (has_len a) (sym half) ∙ has.0 in
-    rw (← first, spelled, fits, lt-ltb 0 (length (drop (i + 1) s)) some, ← half, has.1) refl

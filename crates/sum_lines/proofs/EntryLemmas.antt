@@ -1,23 +1,20 @@
--- A line spells at most one entry, and a list of lines has one form.
+-- The parts of entries, and the one form of a list of lines.
 use Rattle.std.proofs.Common.{ℕ, ◌≡◌, Bool, true, false, cond, List, [], ◌∷◌, ◌++◌, Option, None, Some, refl, ap, sym, ◌∙◌, ◌⊎◌, inl, inr}
 use Rattle.std.specs.Prelude.{option_map, unwrap_or}
 use Rattle.std.specs.List.{AllPass}
 use Rattle.std.proofs.lemmas.List.Elements.{All-head}
 use Rattle.digest_kinds.specs.Kinds.{KindValue, tag}
-use Rattle.digest_kinds.specs.declared.algo.Algo.{Algo}
 use Rattle.digest_kinds.specs.declared.algo.Algos.{Algos}
 use Rattle.sum_lines.specs.declared.line_reading.Form.{Form}
 use Rattle.sum_lines.specs.declared.line_reading.Form.TheVariants.{Undecided, Standard, Reversed}
-use Rattle.sum_lines.specs.Escape.{escape}
 use Rattle.sum_lines.specs.Shapes.{is_blank, mark, Plain, Tagged}
 use Rattle.sum_lines.specs.PartsOfLines.{Parts, plain_parts}
-use Rattle.sum_lines.specs.Entries.{is_ignored, begins_standard, form_of_tail, Decides, IsForm, Spells, RawOf, Spelled, kind_of, ByTag, ByTail, form_then, line_form, form}
-use Rattle.sum_lines.specs.Laws.{OneEntry, OneForm}
-use Rattle.sum_lines.proofs.UnescapeLemmas.{escape-apart}
+use Rattle.sum_lines.specs.Entries.{is_ignored, begins_standard, form_of_tail, Decides, IsForm, Spelled, kind_of, ByTag, ByTail, form_then, line_form, form}
+use Rattle.sum_lines.specs.Laws.{OneForm}
 use Rattle.sum_lines.proofs.TaggedLemmas.{Begins, tag-begins, passes-other}
-use Rattle.sum_lines.proofs.PlainLemmas.{plain-digits, apart, plain-once, tagged-once, plain_is_read, read_is_plain}
+use Rattle.sum_lines.proofs.PlainLemmas.{plain-digits, plain_is_read, read_is_plain}
 
--- ---- one entry
+-- ---- the parts of an entry
 
 -- the parts of an entry's line, tagged or plain
 abbrev pub tag_parts : {escaped : List ℕ → List ℕ} {algos : Algos} {line : List ℕ} {s : Spelled}
@@ -28,54 +25,6 @@ tag_parts {s = s} by = record { escaped = by.escaped; kind = kind_of s; digest =
 abbrev pub tail_parts : {escaped : List ℕ → List ℕ} {algos : Algos} {f : Form} {line : List ℕ} {s : Spelled}
     → ByTail escaped algos f line s → Parts
 tail_parts {s = s} by = record { escaped = by.escaped; kind = kind_of s; digest = s.digest; text = by.tail }
-
--- an entry is its algorithm, its digest and its name
-spelled_same : (s t : Spelled) → s.algo ≡ t.algo → s.digest ≡ t.digest → s.name ≡ t.name → s ≡ t
-spelled_same s t a d n =
-    let make : Algo → List ℕ → List ℕ → Spelled = λ x y z. record { algo = x; digest = y; name = z } in
-    ap (λ x. make x s.digest s.name) a ∙ ap (λ y. make t.algo y s.name) d ∙ ap (λ z. make t.algo t.digest z) n
-
--- a raw name spells at most one name
-spelling_apart : (e : Bool) (m n : List ℕ) → cond e (escape m) m ≡ cond e (escape n) n → m ≡ n
-spelling_apart true m n h = escape-apart m n h
-spelling_apart false m n h = h
-
--- so equal raw names spell one name
-spells_one : {e f : Bool} {raw other m n : List ℕ} → e ≡ f → raw ≡ other → Spells escape e raw m
-    → Spells escape f other n → m ≡ n
-spells_one {e} {m = m} {n = n} mark raw s t = spelling_apart e m n (sym s.is ∙ raw ∙ rw mark t.is)
-
--- a tail has at most one raw name
-raws_one : (f : Form) (tail raw other : List ℕ) → RawOf f tail raw → RawOf f tail other → raw ≡ other
-raws_one Undecided tail raw other h k = absurd h
-raws_one Reversed tail raw other h k = h ∙ sym k
-raws_one Standard tail raw other h k = let both : h.1 ∷ raw ≡ k.1 ∷ other = sym h.2 ∙ k.2 in cc
-
--- a tagged line spells one entry, and so does a plain one
-tags_one : {algos : Algos} {line : List ℕ} (s t : Spelled) → ByTag escape algos line s → ByTag escape algos line t
-    → s ≡ t
-tags_one s t p q =
-    let same = tagged-once (tag_parts p) (tag_parts q) p.tagged q.tagged in
-    let text = ap (λ (x : Parts). x.text) same in
-    spelled_same s t (ap (λ (x : Parts). x.kind.algo) same) (ap (λ (x : Parts). x.digest) same)
-    (spells_one (ap (λ (x : Parts). x.escaped) same) text p.spells q.spells)
-
--- a plain line spells one entry, too
-tails_one : {algos : Algos} {f : Form} {line : List ℕ} (s t : Spelled) → ByTail escape algos f line s
-    → ByTail escape algos f line t → s ≡ t
-tails_one {f = f} s t p q =
-    let same = plain-once (tail_parts p) (tail_parts q) p.plain q.plain in
-    let text = ap (λ (x : Parts). x.text) same in
-    let raw = raws_one f q.tail p.raw q.raw (rw text at p.is_raw) q.is_raw in
-    spelled_same s t (ap (λ (x : Parts). x.kind.algo) same) (ap (λ (x : Parts). x.digest) same)
-    (spells_one (ap (λ (x : Parts). x.escaped) same) raw p.spells q.spells)
-
--- no line spells two entries, whichever its shapes
-pub one_entry : OneEntry
-one_entry algos f line s t (_, inl p) (_, inl q) = tags_one s t p q
-one_entry algos f line s t (_, inl p) (_, inr q) = absurd (apart q.plain p.tagged)
-one_entry algos f line s t (_, inr p) (_, inl q) = absurd (apart p.plain q.tagged)
-one_entry algos f line s t (_, inr p) (_, inr q) = tails_one s t p q
 
 -- ---- one form
 
@@ -183,10 +132,6 @@ one_form algos lines f = (form-is algos lines f, λ e. rw e (is-form algos lines
 pub form_then-last : (f : Form) → form_then f Undecided ≡ f
 form_then-last Undecided = refl
 form_then-last f = refl
-
--- the form of one line
-pub form-alone : (algos : Algos) (line : List ℕ) → form algos (line ∷ []) ≡ line_form algos line
-form-alone algos line = form_then-last (line_form algos line)
 
 -- the form of lines behind lines: that of the first ones, or else of the later ones
 pub form_then-again : (f g h : Form) → form_then (form_then f g) h ≡ form_then f (form_then g h)

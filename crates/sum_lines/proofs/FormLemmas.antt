@@ -6,11 +6,11 @@ use Rattle.sum_lines.specs.declared.line_reading.Form.TheVariants.{Undecided, St
 use Rattle.sum_lines.specs.Profiles.{Profile}
 use Rattle.sum_lines.specs.Entries.{form, form_then, line_form, form_of_tail, is_ignored_by, begins_standard}
 use Rattle.sum_lines.specs.PartsOfLines.{◌>>=◌, Parts, tagged_parts, plain_parts}
-use Rattle.sum_lines.specs.ParsedLines.{with_raw, entry_of_parts, entry_of, Nothing, parse_line}
+use Rattle.sum_lines.specs.ParsedLines.{with_raw, entry_of_parts, entry_of, Nothing, parse_line, parsed_line_of}
 use Rattle.sum_lines.specs.Laws.{SameSaid, SameForm}
 use Rattle.sum_lines.proofs.PlainLemmas.{plain_is_read}
 use Rattle.sum_lines.proofs.EntryLemmas.{form_of_parts, form_then-again, form-append}
-use Rattle.sum_lines.proofs.ParsedLineLemmas.{entry_by, parsed_line_of}
+use Rattle.sum_lines.proofs.ParsedLineLemmas.{entry_by}
 
 -- the form so far, then a line's, then that of the rest
 pub form_on : (f x g : Form) → form_then f (form_then x g) ≡ form_then (form_then f x) g

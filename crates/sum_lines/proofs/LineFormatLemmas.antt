@@ -17,7 +17,8 @@ use Rattle.sum_lines.specs.Shapes.{mark, Width, Allows}
 use Rattle.sum_lines.specs.Entries.{Spelled, ByTag, Entry, line_form, form}
 use Rattle.sum_lines.specs.Laws.{ReadBy, Writable, SpellsBack, ReadBack}
 use Rattle.sum_lines.proofs.PlainLemmas.{apart}
-use Rattle.sum_lines.proofs.EntryLemmas.{one_entry, decides-form, decides-or, form-alone, form-append}
+use Rattle.sum_lines.proofs.EntryLemmas.{decides-form, decides-or, form_then-last, form-append}
+use Rattle.sum_lines.proofs.ParsedLineLemmas.{one_entry}
 use Rattle.sum_lines.proofs.InlineLemmas.{Inline, inline}
 use Rattle.sum_lines.proofs.LineFormatShapes.{line-tag, plain_line, tagged_line, written_for, is_space_or_star, plain-decides, plain-entry, tagged-by, tagged-entry, Inline-plain, Inline-tagged}
 
@@ -42,7 +43,7 @@ form-after algos before later line h (inr standard) = rw (form-append algos befo
 form-kept : (algos : Algos) (before : List (List ℕ)) (line : List ℕ) → line_form algos line ≡ Undecided
     → Readable (form algos before) → Readable (form algos (before ++ (line ∷ [])))
 form-kept algos before line h (inl undecided) =
-    inl (rw (form-append algos before (line ∷ []), undecided) (form-alone algos line ∙ h))
+    inl (rw (form-append algos before (line ∷ []), undecided) (form_then-last (line_form algos line) ∙ h))
 form-kept algos before line h (inr standard) = inr (rw (form-append algos before (line ∷ []), standard) refl)
 
 -- a tagged line is no plain one, and decides nothing

@@ -1,19 +1,18 @@
 -- What is computed of a line's entry is what the relation Entry allows.
-use Rattle.std.proofs.Common.{◌≡◌, ℕ, Bool, true, false, cond, List, [], ◌∷◌, drop, Option, None, Some, refl, ap, sym, ◌∙◌, inl, inr, ◌⊎◌}
-use Rattle.std.specs.Prelude.{option_map, unwrap_or}
+use Rattle.std.proofs.Common.{◌≡◌, ℕ, Bool, true, false, List, [], ◌∷◌, drop, Option, None, Some, refl, ap, sym, ◌∙◌, inl, inr, ◌⊎◌}
 use Rattle.std.specs.Option.{option_or}
-use Rattle.std.proofs.lemmas.Option.{cond_some}
+use Rattle.std.proofs.lemmas.Option.{cond_some, same_Some}
 use Rattle.digest_kinds.specs.Kinds.{KindValue}
 use Rattle.digest_kinds.specs.declared.algo.Algos.{Algos}
 use Rattle.sum_lines.specs.declared.line_reading.Form.{Form}
 use Rattle.sum_lines.specs.declared.line_reading.Form.TheVariants.{Undecided, Standard, Reversed}
-use Rattle.sum_lines.specs.Profiles.{Profile}
+use Rattle.sum_lines.specs.Profiles.{Profile, present}
 use Rattle.sum_lines.specs.Escape.{escape_by}
 use Rattle.sum_lines.specs.Shapes.{Plain}
 use Rattle.sum_lines.specs.Entries.{Spelled, Entry, ByTag, ByTail, RawOf, begins_standard, is_ignored_by}
 use Rattle.sum_lines.specs.PartsOfLines.{◌>>=◌, Parts, tagged_parts, plain_parts}
-use Rattle.sum_lines.specs.ParsedLines.{with_raw, entry_of_parts, entry_of, ParsedLine, Nothing, Improper, WithEntry}
-use Rattle.sum_lines.specs.Laws.{SaysIs}
+use Rattle.sum_lines.specs.ParsedLines.{with_raw, entry_of_parts, entry_of}
+use Rattle.sum_lines.specs.Laws.{OneEntry, SaysOf, SaysIs}
 use Rattle.sum_lines.proofs.PrefixLemmas.{bind_some}
 use Rattle.sum_lines.proofs.PlainLemmas.{apart, plain_is_read, read_is_plain}
 use Rattle.sum_lines.proofs.TaggedLemmas.{tagged_is_read}
@@ -75,6 +74,11 @@ entry_value p algos f line s (_, inr t) =
     rw (not-tagged (tagged_parts algos line) t.plain refl, plain_is_read q t.plain, raw-is f q t.raw t.is_raw)
     (spelled-is p (with_text q t.raw) s.name t.spells)
 
+-- so a line has at most one
+pub one_entry : OneEntry
+one_entry algos f line s t p q =
+    same_Some s t (sym (entry_value present algos f line s p) ∙ entry_value present algos f line t q)
+
 -- ---- the entry that is computed is the line's
 
 -- what a tagged line's parts spell
@@ -132,62 +136,33 @@ value_entry p algos f line s h =
 
 -- ---- what a line says
 
--- what an entry says, where there is one
-abbrev pub parsed_line_of : Option Spelled → ParsedLine
-parsed_line_of o = unwrap_or (option_map WithEntry o) Improper
-
--- it isn't nothing, it spells that entry, and without one it is improper
-nothing-not : (o : Option Spelled) → parsed_line_of o ≡ Nothing → ⊥
-nothing-not None h = cc
-nothing-not (Some s) h = cc
-
--- it has the entry that it spells
-parsed_line-entry : (o : Option Spelled) (s : Spelled) → parsed_line_of o ≡ WithEntry s → o ≡ Some s
-parsed_line-entry None s h = cc
-parsed_line-entry (Some t) s h = cc
-
--- and none where it is improper
-parsed_line-improper : (o : Option Spelled) → parsed_line_of o ≡ Improper → o ≡ None
-parsed_line-improper None h = refl
-parsed_line-improper (Some t) h = cc
-
--- a line without an entry is improper
-no-entry : (p : Profile) (algos : Algos) (f : Form) (line : List ℕ) (o : Option Spelled)
-    → ((s : Spelled) → Entry (escape_by p) algos f line s → ⊥) → entry_of p algos f line ≡ o → parsed_line_of o
-    ≡ Improper
-no-entry p algos f line None none is = refl
-no-entry p algos f line (Some s) none is = absurd (none s (value_entry p algos f line s is))
-
--- a line that says something isn't ignored, and one that says nothing is
-record Heard (i : Bool) (x y : ParsedLine) : Type 0 where
-  heard : i ≡ false
-  says : x ≡ y
-
--- a line that says something says what its entry does
-heard-by : (i : Bool) (x y : ParsedLine) → (Nothing ≡ y → ⊥) → cond i Nothing x ≡ y → Heard i x y
-heard-by true x y other h = absurd (other h)
-heard-by false x y other h = record { heard = refl; says = h }
-
--- a line that says nothing is ignored
-ignored-by : (i : Bool) (x : ParsedLine) → (x ≡ Nothing → ⊥) → cond i Nothing x ≡ Nothing → i ≡ true
-ignored-by true x other h = refl
-ignored-by false x other h = absurd (other h)
+-- an ignored line says nothing, one without an entry is improper, and any other says its entry
+says-by : (p : Profile) (algos : Algos) (f : Form) (line : List ℕ) (ignored : Bool) (o : Option Spelled)
+    → is_ignored_by p line ≡ ignored → entry_of p algos f line ≡ o → SaysOf p algos f line
+says-by p algos f line true o i e = record {
+  nothing = (λ h. i, λ h. rw i refl);
+  spells = λ s. (λ h. let bad = rw i at h in cc, λ h. let bad = sym i ∙ h.0 in cc);
+  improper = (λ h. let bad = rw i at h in cc, λ h. let bad = sym i ∙ h.0 in cc);
+}
+says-by p algos f line false None i e =
+    let none : (s : Spelled) → Entry (escape_by p) algos f line s → ⊥ =
+    λ s h. let bad = sym e ∙ entry_value p algos f line s h in cc in
+    record {
+      nothing = (λ h. let bad = rw (i, e) at h in cc, λ h. let bad = sym i ∙ h in cc);
+      spells = λ s. (λ h. let bad = rw (i, e) at h in cc, λ h. absurd (none s h.1));
+      improper = (λ h. (i, none), λ h. rw (i, e) refl);
+    }
+says-by p algos f line false (Some t) i e =
+    let entry = value_entry p algos f line t e in
+    record {
+      nothing = (λ h. let bad = rw (i, e) at h in cc, λ h. let bad = sym i ∙ h in cc);
+      spells = λ s. (
+        λ h. let says = rw (i, e) at h in let same : t ≡ s = cc in (i, rw (← same) entry),
+        λ h. rw (i, entry_value p algos f line s h.1) refl,
+      );
+      improper = (λ h. let bad = rw (i, e) at h in cc, λ h. absurd (h.1 t entry));
+    }
 
 -- what a line says is computed, whichever the profile
 pub says_is : SaysIs
-says_is p algos f line =
-    let i = is_ignored_by p line in
-    let o = entry_of p algos f line in
-    record {
-      nothing = (ignored-by i (parsed_line_of o) (nothing-not o), λ h. rw h refl);
-      spells = λ s. (
-        λ h. let k = heard-by i (parsed_line_of o) (WithEntry s) (λ e. cc) h in
-            (k.heard, value_entry p algos f line s (parsed_line-entry o s k.says)),
-        λ h. rw (h.0, entry_value p algos f line s h.1) refl,
-      );
-      improper = (
-        λ h. let k = heard-by i (parsed_line_of o) Improper (λ e. cc) h in
-            (k.heard, λ s e. let bad = sym (entry_value p algos f line s e) ∙ parsed_line-improper o k.says in cc),
-        λ h. rw h.0 (no-entry p algos f line o h.1 refl),
-      );
-    }
+says_is p algos f line = says-by p algos f line (is_ignored_by p line) (entry_of p algos f line) refl refl

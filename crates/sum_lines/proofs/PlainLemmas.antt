@@ -1,5 +1,5 @@
 -- A line that joins from the parts of a plain line is read as these parts, and no other line is read. No line is both
--- plain and tagged, and either gives its parts once.
+-- plain and tagged.
 use Rattle.std.proofs.Common.{ℕ, zero, suc, ◌≡◌, ◌+◌, ◌*◌, ◌<◌, ◌≤◌, not, Bool, true, false, ◌==◌, ◌&&◌, List, [], ◌∷◌, ◌++◌, length, get_or, Some, Ok, refl, ap, sym, ◌∙◌, arith, length-drop}
 use Rattle.std.specs.Prelude.{nat_lt}
 use Rattle.std.specs.List.{AllPass, take_while, before_first, after_first, position_or_len}
@@ -8,7 +8,7 @@ use Rattle.std.proofs.lemmas.Bool.{and_parts, ltb-true, lt-ltb}
 use Rattle.std.proofs.lemmas.List.{take_at}
 use Rattle.std.proofs.lemmas.List.Elements.{All-head, All-tail, All-weaker}
 use Rattle.std.proofs.lemmas.List.Sums.{split_at_first, passes_at_first}
-use Rattle.std.proofs.lemmas.Option.{cond_some, same_Some}
+use Rattle.std.proofs.lemmas.Option.{cond_some}
 use Rattle.hex.specs.Hex.{decode_of, is_hex_digit}
 use Rattle.hex.proofs.HexLemmas.{decode_of-ok}
 use Rattle.digest_kinds.specs.Kinds.{KindValue, has_len, tag}
@@ -19,8 +19,7 @@ use Rattle.digest_kinds.specs.declared.algo.Algos.TheVariants.{One, Any}
 use Rattle.sum_lines.specs.Shapes.{is_blank, Plain, Tagged}
 use Rattle.sum_lines.specs.PartsOfLines.{Parts, after_while, mark_and_rest, plain_as, plain_parts}
 use Rattle.sum_lines.proofs.PrefixLemmas.{bind_some, ok_some, prefix-passes, prefix-and-rest, prefix_len-stop, rest-seam, mark_and_rest-is}
-use Rattle.sum_lines.proofs.TaggedParts.{IsTagged}
-use Rattle.sum_lines.proofs.TaggedLemmas.{Begins, begins-by, passes-other, behind_tag, hex-no_blank, tagged-prefix, tagged_is_read, mark_and_rest-prefix}
+use Rattle.sum_lines.proofs.TaggedLemmas.{Begins, begins-by, passes-other, behind_tag, hex-no_blank, tagged-prefix, mark_and_rest-prefix}
 
 -- the parts are those of a plain line
 abbrev pub IsPlain : Algos → List ℕ → Parts → Type 0
@@ -160,7 +159,7 @@ plain_is_read p t =
     let cut = first-at t.digits t.blank p.text no_blanks t.is_one_blank in
     rw (t.one, plain-prefix t, cut.0, cut.1, t.spelled, t.size, t.has, lt-ltb 0 (length p.text) t.some) refl
 
--- ---- one shape, once
+-- ---- one shape
 
 -- no two digits begin a tag
 no_digits : (a : Algo) (x y : ℕ) (xs rest : List ℕ) → is_hex_digit x ≡ true → is_hex_digit y ≡ true
@@ -184,12 +183,3 @@ apart {e = e} {f = f} {other = other} {tail = tail} p t =
     sym (plain-prefix p) ∙ tagged-prefix t in
     no_prefix other.algo p.digits (p.blank ∷ tail) (behind_tag t) digits.are digits.two
     (ap (λ (x : Bool × List ℕ). x.1) same)
-
--- a line of either shape gives its parts once
-pub plain-once : {algos : Algos} {line : List ℕ} (p q : Parts) → IsPlain algos line p → IsPlain algos line q → p ≡ q
-plain-once p q s t = same_Some p q (sym (plain_is_read p s) ∙ plain_is_read q t)
-
--- so does a tagged one
-pub tagged-once : {algos : Algos} {line : List ℕ} (p q : Parts) → IsTagged algos line p → IsTagged algos line q
-    → p ≡ q
-tagged-once p q s t = same_Some p q (sym (tagged_is_read p s) ∙ tagged_is_read q t)

@@ -8,7 +8,7 @@ use Rattle.std.proofs.lemmas.List.{append-nil, drop_at, take_at}
 use Rattle.memchr.specs.Find.{Nowhere, Passes, IsLastByte, is_byte}
 use Rattle.hex.specs.Hex.{decode_of}
 use Rattle.hex.proofs.HexLemmas.{decode_of-ok}
-use Rattle.digest_kinds.specs.Kinds.{KindValue, full_len, has_len, tag}
+use Rattle.digest_kinds.specs.Kinds.{KindValue, full_len, has_len}
 use Rattle.digest_kinds.specs.Digits.{IsDigits}
 use Rattle.digest_kinds.specs.declared.algo.Algo.{Algo}
 use Rattle.digest_kinds.specs.declared.algo.Algo.TheVariants.{Blake2b}
@@ -107,10 +107,6 @@ text-ends line text is = (
 pub ends-behind : {line s : List ℕ} (xs rest : List ℕ) → EndsIn line s → s ≡ xs ++ rest → EndsIn line rest
 ends-behind xs rest ends is =
     (ends.0 ++ xs, ends.1 ∙ ap (λ l. ends.0 ++ l) is ∙ sym (append_assoc ends.0 xs rest))
-
--- such as the tag, or the width and the parenthesis
-pub tag-ends : {line s rest : List ℕ} (a : Algo) → EndsIn line s → Some rest ≡ strip_prefix (tag a) s → EndsIn line rest
-tag-ends {s = s} {rest = rest} a ends is = ends-behind (tag a) rest ends (strip_prefix-some (tag a) s rest (sym is))
 
 -- and what stands behind the parenthesis
 pub inner-ends : {line s inner : List ℕ} (a : Algo) (w : KindValue × List ℕ) → EndsIn line s → Some w ≡ width_at a s

@@ -86,11 +86,6 @@ width_at-none : (a : Algo) (g : Bool) (s : List ℕ) → width_at a (opening g s
 width_at-none Blake2b true s = refl
 width_at-none a g s = refl
 
--- a kind is its algorithm and its length
-pub same_kind : (kind : KindValue) (a : Algo) (n : ℕ) → kind.algo ≡ a → kind.len ≡ n
-    → kind ≡ record { algo = a; len = n }
-same_kind kind a n algo len = rw (← algo, ← len) refl
-
 -- the bits of a length are read as that length
 width_at-bits : (len : ℕ) (g : Bool) (s : List ℕ) → 0 < len → len ≤ 64
     → width_at Blake2b (45 ∷ (decimal (8 * len) ++ opening g s)) ≡ Some (blake2b_kind len, opening g s)

@@ -7,6 +7,8 @@ use Rattle.std.proofs.Math.Seq.{take-append-add}
 use Rattle.std.proofs.lemmas.Option.{none-some, same_Some}
 use Rattle.sum_lines.specs.Profiles.{present}
 use Rattle.sum_lines.specs.Escape.{escape_of, escape, IsEscaped}
+use Rattle.sum_lines.specs.ParsedLines.{unescaped_bytes}
+use Rattle.sum_lines.proofs.UnescapeOf.{unescaped_bytes-escape}
 
 -- a byte whose escape is a backslash and this letter, and what follows
 abbrev pub behind : List ℕ → Option (ℕ × List ℕ)
@@ -57,11 +59,7 @@ escape-rest (x ∷ xs) (y ∷ ys) rest h =
 -- no two names have the same escape
 pub escape-apart : (a b : List ℕ) → escape a ≡ escape b → a ≡ b
 escape-apart a b h =
-    let rest = escape-rest a b [] (append-nil (escape a) ∙ h) in
-    elim rest.0 as (λ m. b ≡ a ++ m → [] ≡ escape m → a ≡ b) [
-      | [] ↦ λ is none. sym (is ∙ append-nil a)
-      | x ∷ xs ↦ λ is none. absurd (escape_of-some x (escape xs) none)
-    ] rest.1 rest.2
+    sym (unescaped_bytes-escape present a) ∙ ap unescaped_bytes h ∙ unescaped_bytes-escape present b
 
 -- what the loop keeps: the escape of what it wrote, and then what it has still to read, are the bytes at its start
 pub record Half (start bytes : List ℕ) (read write : ℕ) : Type 0 where

@@ -1,19 +1,20 @@
 -- The name whose escape some bytes are, computed.
-use Rattle.std.proofs.Common.{◌≡◌, ℕ, suc, ◌<◌, ◌==◌, ◌&&◌, Bool, true, false, cond, List, [], ◌∷◌, ◌++◌, Some, refl, ap, sym, ◌∙◌, inl, inr, arith}
+use Rattle.std.proofs.Common.{◌≡◌, ℕ, ◌<◌, ◌==◌, ◌&&◌, Bool, true, false, cond, List, [], ◌∷◌, ◌++◌, Some, refl, ap, sym, ◌∙◌, inl, inr}
 use Rattle.std.specs.List.{All, list_all}
-use Rattle.std.specs.Prelude.{nat_lt, slice_index_or, bytes_eq}
-use Rattle.std.proofs.lemmas.Bool.{lt-ltb, ltb-true, and_parts, eqb-true, false≢true, cases_Bool}
+use Rattle.std.specs.Prelude.{nat_lt, bytes_eq}
+use Rattle.std.proofs.lemmas.Bool.{lt-ltb, ltb-true, and_parts, eqb-true, cases_Bool}
 use Rattle.std.proofs.lemmas.Bool.Decides.{eqb_tells}
 use Rattle.std.proofs.lemmas.Option.{cond_some}
-use Rattle.std.proofs.lemmas.List.Folds.{list_all_at}
+use Rattle.std.proofs.lemmas.List.Elements.{All-weaker}
+use Rattle.std.proofs.lemmas.List.Sums.{AllPass-from_list_all, list_all-from_AllPass}
 use Rattle.std.proofs.lemmas.Slice.Eq.{bytes_eq-Decides}
 use Rattle.sum_lines.specs.Profiles.{Profile}
 use Rattle.sum_lines.specs.Escape.{escape_of, escape_by}
 use Rattle.sum_lines.specs.Entries.{Spells}
-use Rattle.sum_lines.specs.ParsedLines.{unescaped_bytes, unescape, entry_of_parts}
+use Rattle.sum_lines.specs.ParsedLines.{unescaped_bytes, unescape, name_of, entry_of_parts}
 use Rattle.sum_lines.specs.Entries.{Spelled}
 use Rattle.sum_lines.specs.PartsOfLines.{Parts}
-use Rattle.sum_lines.proofs.PrefixLemmas.{bind_some}
+use Rattle.sum_lines.proofs.PrefixLemmas.{bind_some, map_some}
 
 -- a byte that stands for itself
 plain-first : (b : ℕ) (rest : List ℕ) → (b == 92) ≡ false → unescaped_bytes (b ∷ rest) ≡ b ∷ unescaped_bytes rest
@@ -56,22 +57,14 @@ escape-unescape p raw n h =
 -- ---- no NUL
 
 -- a name without NUL passes the test for it
-all-of : (xs : List ℕ) → All (λ b. 0 < b) xs → list_all (nat_lt 0) xs ≡ true
-all-of [] h = refl
-all-of (x ∷ xs) h =
-    let first : 0 < x = h 0 x (omega arith) in
-    rw (lt-ltb 0 x first, all-of xs (λ k d lt. h (suc k) d (omega arith))) refl
-
--- what isn't false is true
-not-false : (b : Bool) → (b ≡ false → ⊥) → b ≡ true
-not-false true h = refl
-not-false false h = absurd (h refl)
+pub all-of : (xs : List ℕ) → All (λ b. 0 < b) xs → list_all (nat_lt 0) xs ≡ true
+all-of xs h =
+    list_all-from_AllPass (nat_lt 0) xs (All-weaker (λ b. 0 < b) (λ b. nat_lt 0 b ≡ true) (lt-ltb 0) xs h)
 
 -- and what passes it holds none
 of-all : (xs : List ℕ) → list_all (nat_lt 0) xs ≡ true → All (λ b. 0 < b) xs
-of-all xs h = λ k d lt. ltb-true 0 (slice_index_or xs k d)
-    (not-false (nat_lt 0 (slice_index_or xs k d))
-    (λ e. false≢true (sym (list_all_at (nat_lt 0) xs k d lt e) ∙ h)))
+of-all xs h =
+    All-weaker (λ b. nat_lt 0 b ≡ true) (λ b. 0 < b) (ltb-true 0) xs (AllPass-from_list_all (nat_lt 0) xs h)
 
 -- ---- the entry of a line's parts
 
@@ -100,6 +93,7 @@ spelled-is p t n s = rw (unescape-if p t.escaped t.text n s.is, all-of n s.no_nu
 pub is-spelled : (p : Profile) (t : Parts) (s : Spelled) → entry_of_parts p t ≡ Some s
     → (n : List ℕ) × Spells (escape_by p) t.escaped t.text n × (entry t n ≡ s)
 is-spelled p t s h =
-    let n = bind_some (cond t.escaped (unescape p t.text) (Some t.text)) _ h in
-    let e = cond_some (list_all (nat_lt 0) n.0) (entry t n.0) s n.2 in
-    (n.0, record { no_nul = of-all n.0 e.0; is = escape-if p t.escaped t.text n.0 n.1 }, e.1)
+    let m = map_some (entry t) (name_of p t.escaped t.text) h in
+    let n = bind_some (cond t.escaped (unescape p t.text) (Some t.text)) _ m.1 in
+    let e = cond_some (list_all (nat_lt 0) n.0) n.0 m.0 n.2 in
+    (n.0, record { no_nul = of-all n.0 e.0; is = escape-if p t.escaped t.text n.0 n.1 }, ap (entry t) e.1 ∙ m.2)

@@ -1,5 +1,5 @@
 -- What a line says, computed; it need not be believed: the law `says_is` ties it to the relation `Entry`.
-use Rattle.std.specs.Prelude.{ℕ, ◌==◌, List, ◌∷◌, drop, nat_lt, bytes_eq, Option, None, Some, option_map, unwrap_or, if◌then◌else◌}
+use Rattle.std.specs.Prelude.{ℕ, ◌==◌, Bool, List, ◌∷◌, drop, nat_lt, bytes_eq, Option, None, Some, option_map, unwrap_or, if◌then◌else◌}
 use Rattle.std.specs.Option.{option_or}
 use Rattle.std.specs.List.{list_all}
 use Rattle.digest_kinds.specs.declared.algo.Algos.{Algos}
@@ -27,11 +27,16 @@ with_raw Reversed q = Some q
 with_raw Standard q = if begins_standard q.text then Some (record q { text = drop 1 q.text }) else None
 with_raw Undecided q = None
 
--- the entry that a line's parts spell: its name holds no NUL
+-- the name that a raw name spells: it holds no NUL
+abbrev pub name_of : Profile → Bool → List ℕ → Option (List ℕ)
+name_of p escaped raw = do
+  name ← if escaped then unescape p raw else Some raw
+  if list_all (nat_lt 0) name then Some name else None
+
+-- the entry that a line's parts spell
 abbrev pub entry_of_parts : Profile → Parts → Option Spelled
-entry_of_parts p t = do
-  name ← if t.escaped then unescape p t.text else Some t.text
-  if list_all (nat_lt 0) name then Some (record { algo = t.kind.algo; digest = t.digest; name = name }) else None
+entry_of_parts p t =
+    option_map (λ n. record { algo = t.kind.algo; digest = t.digest; name = n }) (name_of p t.escaped t.text)
 
 unfoldable pub entry_of : Profile → Algos → Form → List ℕ → Option Spelled
 entry_of p algos f line =
@@ -43,6 +48,9 @@ pub data ParsedLine : Type 0 where
   Improper : ParsedLine
   WithEntry : Spelled → ParsedLine
 
+-- what an entry says, where there is one
+abbrev pub parsed_line_of : Option Spelled → ParsedLine
+parsed_line_of o = unwrap_or (option_map WithEntry o) Improper
+
 abbrev pub parse_line : Profile → Algos → Form → List ℕ → ParsedLine
-parse_line p algos f line =
-    if is_ignored_by p line then Nothing else unwrap_or (option_map WithEntry (entry_of p algos f line)) Improper
+parse_line p algos f line = if is_ignored_by p line then Nothing else parsed_line_of (entry_of p algos f line)

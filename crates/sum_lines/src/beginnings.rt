@@ -1,10 +1,8 @@
 //! What a line begins with. Most bad lines are told by that, and none of the rest is read.
 
 ghost use Rattle.std.specs.Prelude.{◌≡◌, Bool, IfNone, IfSome, None};
-ghost use Rattle.std.specs.List.{position_or_len};
 ghost use Rattle.sum_lines.specs.PartsOfLines.{plain_as, plain_parts, tagged_parts};
-ghost use Rattle.sum_lines.specs.Shapes.{is_blank};
-ghost use Rattle.sum_lines.specs.refinement.Beginnings.{LeadsTo, EndsDigits, tag_in};
+ghost use Rattle.sum_lines.specs.refinement.Beginnings.{LeadsTo, EndsAt, EndsDigits, tag_in};
 
 use crate::scanning::{is_blank, text_in};
 use digest_kinds::{Algo, Algos, Kind};
@@ -71,8 +69,7 @@ fn digits_end(algo: Algo, text: &[u8]) -> Option<usize>
 // If the line is plain, it has so many digits.
 fn digits_len(algo: Algo, text: &[u8]) -> Option<usize>
     ensures none { IfNone result ((e : Bool) → None ≡ plain_as algo e text.now) }
-    ensures some { IfSome result (λ n. (e : Bool) → IfSome (plain_as algo e text.now)
-        (λ _. n ≡ position_or_len is_blank text.now)) }
+    ensures some { IfSome result (EndsAt algo text.now) }
 {
     match algo {
         Algo::Blake2b => memchr2(b' ', b'\t', &text[..text.len().min(MOST_DIGITS + 1)]),

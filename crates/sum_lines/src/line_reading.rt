@@ -1,10 +1,13 @@
 //! One line of a manifest.
 
-ghost use Rattle.std.specs.Prelude.{◌≡◌, ◌≤◌, false, if◌then◌else◌, length, vec_len};
-ghost use Rattle.sum_lines.specs.Entries.{begins_standard, form_of_tail, form_then, is_ignored};
-ghost use Rattle.sum_lines.specs.refinement.Found.{NamesEntry, NamesTail, text_of};
-ghost use Rattle.sum_lines.specs.Readings.{Reads, form_after};
+ghost use Rattle.std.specs.Prelude.{◌≡◌, ◌≤◌, if◌then◌else◌, length, vec_len};
+ghost use Rattle.std.specs.Option.{option_and_then};
+ghost use Rattle.sum_lines.specs.Entries.{begins_standard, form_of_tail, form_then, is_ignored, line_form};
+ghost use Rattle.sum_lines.specs.ParsedLines.{entry_of, entry_of_parts, parse_line, parsed_line_of, with_raw};
+ghost use Rattle.sum_lines.specs.Profiles.{present};
+ghost use Rattle.sum_lines.specs.Readings.{Within, parsed_line_by};
 ghost use Rattle.sum_lines.specs.refinement.Beginnings.{LeadsTo};
+ghost use Rattle.sum_lines.specs.refinement.Found.{line_parts, text_of};
 
 use crate::beginnings::{Beginning, find_beginning};
 use crate::names::name_in;
@@ -59,8 +62,10 @@ pub enum Reading {
 /// The digits are hexadecimal, in either case, and as many as the algorithm has, or the tag says. A name holds no NUL
 /// and isn't empty. Any other line is bad.
 pub fn read_line<A: Allocator>(algos: Algos, form: Form, line: &mut Vec<u8, A>) -> (Reading, Form)
-    ensures form { result.1 ≡ form_after algos form line.old.items }
-    ensures reads { Reads algos result.1 line.old.items line.new.items result.0 }
+    ensures form { result.1 ≡ form_then form (line_form algos line.old.items) }
+    ensures says { parsed_line_by line.new.items result.0 ≡ parse_line present algos result.1 line.old.items }
+    ensures within { Within line.new.items result.0 }
+    ensures ignored { result.0 ≡ Reading.Ignored → line.new ≡ line.old }
     ensures len { vec_len line.new ≤ vec_len line.old }
 {
     if is_ignored(line) {
@@ -81,10 +86,11 @@ fn read_begun<A: Allocator>(
     line: &mut Vec<u8, A>,
     beginning: Beginning,
 ) -> (Reading, Form)
-    requires heard { is_ignored line.old.items ≡ false }
-    requires leads { LeadsTo algos line.old.items beginning }
-    ensures form { result.1 ≡ form_after algos form line.old.items }
-    ensures reads { Reads algos result.1 line.old.items line.new.items result.0 }
+    requires { LeadsTo algos line.old.items beginning }
+    ensures form { result.1 ≡ form_then form (line_form algos line.old.items) }
+    ensures says { parsed_line_by line.new.items result.0
+        ≡ parsed_line_of (entry_of present algos result.1 line.old.items) }
+    ensures within { Within line.new.items result.0 }
     ensures len { vec_len line.new ≤ vec_len line.old }
 {
     let (escaped, text) = text_in(line);
@@ -111,10 +117,13 @@ fn is_ignored(line: &[u8]) -> bool
 
 // Reads a plain line's tail. The first plain line of a manifest decides the form, whether it is bad or not.
 fn read_tail<A: Allocator>(form: Form, line: &mut Vec<u8, A>, found: LineParts) -> (Reading, Form)
+    requires size { length found.digest ≡ found.kind.len }
     requires ordered { found.start ≤ found.stop }
     requires within { found.stop ≤ length line.old.items }
     ensures form { result.1 ≡ form_then form (form_of_tail (text_of line.old.items found)) }
-    ensures names { NamesTail found result.1 (text_of line.old.items found) line.new.items result.0 }
+    ensures says { parsed_line_by line.new.items result.0 ≡ parsed_line_of
+        (option_and_then (entry_of_parts present) (with_raw result.1 (line_parts line.old.items found))) }
+    ensures within { Within line.new.items result.0 }
     ensures len { vec_len line.new ≤ vec_len line.old }
 {
     let standard = begins_standard(&line[found.start..found.stop]);
@@ -148,9 +157,12 @@ fn begins_standard(tail: &[u8]) -> bool
 
 // The entry of the parts, where their text is a raw name that spells a name.
 fn read_name<A: Allocator>(line: &mut Vec<u8, A>, found: LineParts) -> Reading
+    requires size { length found.digest ≡ found.kind.len }
     requires ordered { found.start ≤ found.stop }
     requires within { found.stop ≤ length line.old.items }
-    ensures names { NamesEntry found (text_of line.old.items found) line.new.items result }
+    ensures says { parsed_line_by line.new.items result
+        ≡ parsed_line_of (entry_of_parts present (line_parts line.old.items found)) }
+    ensures within { Within line.new.items result }
     ensures len { vec_len line.new ≤ vec_len line.old }
 {
     if name_in(line, found.escaped, found.start, found.stop) {

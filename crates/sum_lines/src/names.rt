@@ -1,10 +1,10 @@
 //! The names that raw names spell, in place.
 
-ghost use Rattle.std.specs.Prelude.{◌≡◌, ◌≤◌, ◌<◌, ◌++◌, ◌↔◌, ℕ, List, drop, false, if◌then◌else◌, length, slice_range};
-ghost use Rattle.std.specs.Prelude.{take, true, vec_len};
-ghost use Rattle.std.specs.List.{All};
-ghost use Rattle.sum_lines.specs.Escape.{escape};
-ghost use Rattle.sum_lines.specs.refinement.Found.{Names};
+ghost use Rattle.std.specs.Prelude.{◌≡◌, ◌≤◌, None, Some, drop, if◌then◌else◌, length, nat_lt, not, slice_range, take};
+ghost use Rattle.std.specs.Prelude.{vec_len};
+ghost use Rattle.std.specs.List.{list_all};
+ghost use Rattle.sum_lines.specs.ParsedLines.{name_of, unescape};
+ghost use Rattle.sum_lines.specs.Profiles.{present};
 
 use crate::escape::unescape_in;
 use memchr::memchr;
@@ -20,7 +20,9 @@ pub(crate) fn name_in<A: Allocator>(
 ) -> bool
     requires ordered { start ≤ stop }
     requires within { stop ≤ length line.old.items }
-    ensures names { Names escaped (slice_range line.old.items start stop) start line.new.items result }
+    ensures name { (if result then Some (drop start line.new.items) else None)
+        ≡ name_of present escaped (slice_range line.old.items start stop) }
+    ensures before { start ≤ length line.new.items }
     ensures len { vec_len line.new ≤ vec_len line.old }
 {
     line.truncate(stop);
@@ -29,17 +31,16 @@ pub(crate) fn name_in<A: Allocator>(
 
 fn unspell<A: Allocator>(line: &mut Vec<u8, A>, escaped: bool, start: usize) -> bool
     requires { start ≤ length line.old.items }
-    ensures name { (n : List ℕ) → (drop start line.old.items ≡ (if escaped then escape n else n))
-        ↔ ((result ≡ true) × (line.new.items ≡ take start line.old.items ++ n)) }
-    ensures prefix { take start line.new.items ≡ take start line.old.items }
+    ensures name { (if result then Some (drop start line.new.items) else None)
+        ≡ (if escaped then unescape present (drop start line.old.items) else Some (drop start line.old.items)) }
+    ensures before { take start line.new.items ≡ take start line.old.items }
     ensures len { vec_len line.new ≤ vec_len line.old }
 {
     !escaped || unescape_in(line, start)
 }
 
 fn has_nul(bytes: &[u8]) -> bool
-    ensures no { result ≡ false → All (λ b. 0 < b) bytes.now }
-    ensures yes { result ≡ true → ¬ All (λ b. 0 < b) bytes.now }
+    ensures { not result ≡ list_all (nat_lt 0) bytes.now }
 {
     memchr(0, bytes).is_some()
 }

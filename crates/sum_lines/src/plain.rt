@@ -1,10 +1,11 @@
 //! Plain lines: digits, a blank, a tail.
 
-ghost use Rattle.std.specs.Prelude.{◌≡◌, ◌+◌, ◌<◌, ◌≤◌, IfSome, if◌then◌else◌, length, Some, None};
+ghost use Rattle.std.specs.Prelude.{◌≡◌, ◌≤◌, IfSome, if◌then◌else◌, length, Some, None};
 ghost use Rattle.std.specs.Option.{option_map};
 ghost use Rattle.digest_kinds.specs.Kinds.{has_len};
-ghost use Rattle.digest_kinds.specs.declared.algo.Algos.TheVariants.{One};
-ghost use Rattle.sum_lines.specs.refinement.Beginnings.{plain_at};
+ghost use Rattle.sum_lines.specs.Shapes.{is_blank};
+ghost use Rattle.sum_lines.specs.PartsOfLines.{after_while, mark_and_rest, plain_as, plain_parts};
+ghost use Rattle.sum_lines.specs.refinement.Beginnings.{OneEndsDigits, EndsDigits};
 ghost use Rattle.sum_lines.specs.refinement.Found.{line_parts, EndsIn};
 
 use crate::scanning::LineParts;
@@ -19,9 +20,10 @@ pub(crate) fn plain(
     text: &[u8],
     at: usize,
 ) -> Option<LineParts>
+    requires text { (escaped, text.now) ≡ mark_and_rest (after_while is_blank line.now) }
     requires ends { EndsIn line.now text.now }
-    requires within { at + 1 < length text.now }
-    ensures parts { option_map (line_parts line.now) result ≡ plain_at algos escaped at text.now }
+    requires digits { OneEndsDigits algos text.now at }
+    ensures parts { option_map (line_parts line.now) result ≡ plain_parts algos line.now }
     ensures range { IfSome result (λ p. (p.start ≤ p.stop) × (p.stop ≤ length line.now)) }
 {
     match algos {
@@ -32,8 +34,8 @@ pub(crate) fn plain(
 
 fn plain_as(algo: Algo, line: &[u8], escaped: bool, text: &[u8], at: usize) -> Option<LineParts>
     requires ends { EndsIn line.now text.now }
-    requires within { at + 1 < length text.now }
-    ensures parts { option_map (line_parts line.now) result ≡ plain_at (One algo) escaped at text.now }
+    requires digits { EndsDigits algo text.now at }
+    ensures parts { option_map (line_parts line.now) result ≡ plain_as algo escaped text.now }
     ensures range { IfSome result (λ p. (p.start ≤ p.stop) × (p.stop ≤ length line.now)) }
 {
     let kind = kind_of_len(algo, at / 2)?;

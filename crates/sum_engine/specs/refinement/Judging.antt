@@ -1,10 +1,8 @@
 -- Joins what the code finds of a line to what the line says, and to its verdict.
-use Rattle.std.specs.Prelude.{ℕ, ◌≡◌, ◌≤◌, Bool, List, [], length, slice_range, Option, None, Some, ⊤, if◌then◌else◌}
+use Rattle.std.specs.Prelude.{ℕ, ◌≡◌, Bool, List, [], Option, None, Some, if◌then◌else◌}
 use Rattle.std.specs.Str.{bytes_eq}
 use Rattle.sum_sources.specs.declared.fault.Fault.TheVariants.{NotFound, Denied, Other}
 use Rattle.sum_sources.specs.Contents.{WhereTold}
-use Rattle.sum_lines.specs.declared.line_reading.Reading.{Reading}
-use Rattle.sum_lines.specs.declared.line_reading.Reading.TheVariants as readings
 use Rattle.sum_engine.specs.declared.asking.Asked.{Asked}
 use Rattle.sum_engine.specs.declared.asking.Asked.TheVariants as asked
 use Rattle.sum_engine.specs.declared.verdict.Verdict.{Verdict}
@@ -12,19 +10,6 @@ use Rattle.sum_engine.specs.declared.verdict.Verdict.TheVariants.{Right, Wrong, 
 use Rattle.sum_lines.specs.ParsedLines.{ParsedLine, Nothing, Improper, WithEntry}
 use Rattle.sum_engine.specs.Worlds.{World, after}
 use Rattle.sum_engine.specs.Verdicts.{Rules, judge, asks_by}
-
--- what a reading says, whose name stands in the line's vector
-abbrev pub parsed_line_by : List ℕ → Reading → ParsedLine
-parsed_line_by line readings.Ignored = Nothing
-parsed_line_by line readings.Bad = Improper
-parsed_line_by line (readings.Entry kind digest start stop) =
-    WithEntry (record { algo = kind.algo; digest = digest; name = slice_range line start stop })
-
--- the name stands in the line, and the digest is as long as the kind's
-abbrev pub Within : List ℕ → Reading → Type 0
-Within line readings.Ignored = ⊤
-Within line readings.Bad = ⊤
-Within line (readings.Entry kind digest start stop) = (start ≤ stop) × (stop ≤ length line) × (length digest ≡ kind.len)
 
 -- the name in what a line says, or nothing
 abbrev pub name_said : ParsedLine → List ℕ

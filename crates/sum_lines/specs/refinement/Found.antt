@@ -1,11 +1,6 @@
 -- Joins what the scanning functions answer to what a line was found to hold.
-use Rattle.std.specs.Prelude.{ℕ, ◌≡◌, ◌≤◌, ◌+◌, ◌-◌, ◌*◌, ◌==◌, ◌&&◌, nat_lt, not, Bool, true, false, List, [], ◌∷◌, ◌++◌, length, slice_range, Option, None, Some, if◌then◌else◌}
-use Rattle.sum_lines.specs.declared.line_reading.Form.{Form}
-use Rattle.sum_lines.specs.declared.line_reading.Reading.{Reading}
-use Rattle.sum_lines.specs.declared.line_reading.Reading.TheVariants as readings
+use Rattle.std.specs.Prelude.{ℕ, ◌≡◌, ◌+◌, ◌-◌, ◌*◌, ◌==◌, ◌&&◌, nat_lt, not, List, [], ◌∷◌, ◌++◌, length, slice_range, Option, None, Some, if◌then◌else◌}
 use Rattle.sum_lines.specs.declared.scanning.LineParts.{LineParts}
-use Rattle.sum_lines.specs.Escape.{escape}
-use Rattle.sum_lines.specs.Entries.{RawOf, Spells}
 use Rattle.sum_lines.specs.PartsOfLines.{Parts}
 
 -- the parts of a line that these places stand for
@@ -27,23 +22,3 @@ number_of (d ∷ ds) = if not (d == 48) && nat_lt (length ds) 3 then Some (numbe
 -- the bytes stand at the line's end
 abbrev pub EndsIn : List ℕ → List ℕ → Type 0
 EndsIn line s = (prefix : List ℕ) × (line ≡ prefix ++ s)
-
--- whether the raw name spells a name, which then stands in new from start on
-abbrev pub Names : Bool → List ℕ → ℕ → List ℕ → Bool → Type 0
-Names escaped raw start new true = (start ≤ length new) × Spells escape escaped raw (slice_range new start (length new))
-Names escaped raw start new false = (name : List ℕ) → ¬ Spells escape escaped raw name
-
--- the reading of a raw name, with the kind and the digest of its line
-abbrev pub NamesEntry : LineParts → List ℕ → List ℕ → Reading → Type 0
-NamesEntry p raw new readings.Ignored = ⊥
-NamesEntry p raw new readings.Bad = (name : List ℕ) → ¬ Spells escape p.escaped raw name
-NamesEntry p raw new (readings.Entry kind digest start stop) = (kind ≡ p.kind) × (digest ≡ p.digest)
-    × (start ≤ stop) × (stop ≤ length new) × Spells escape p.escaped raw (slice_range new start stop)
-
--- the reading of a plain line's tail, in a list of that form
-abbrev pub NamesTail : LineParts → Form → List ℕ → List ℕ → Reading → Type 0
-NamesTail p form tail new readings.Ignored = ⊥
-NamesTail p form tail new readings.Bad = (raw name : List ℕ) → RawOf form tail raw → ¬ Spells escape p.escaped raw name
-NamesTail p form tail new (readings.Entry kind digest start stop) = (kind ≡ p.kind) × (digest ≡ p.digest)
-    × (start ≤ stop) × (stop ≤ length new) × (raw : List ℕ) × RawOf form tail raw
-    × Spells escape p.escaped raw (slice_range new start stop)

@@ -1,11 +1,6 @@
-use Rattle.std.proofs.Common.{arith, rules}
-use Rattle.sum_lines.proofs.BeginningLemmas.{end-none, end-some}
+use Rattle.std.proofs.Common.{arith}
+use Rattle.sum_lines.proofs.BeginningLemmas.{end-none}
 use Rattle.sum_lines.proofs.beginnings.digits_end.Goals as goal
-
--- a blank stands there, and something behind it
-pub returns-in-Some-clause-some : goal.returns-in-Some-clause-some
-returns-in-Some-clause-some c =
-    end-some c.args.algo c.args.text.now c.in_ok-at.at c.in_ok-at.ensures.some c.if-at-text.true (search rules)
 
 -- nothing behind it
 pub returns-in_default-clause-none : goal.returns-in_default-clause-none

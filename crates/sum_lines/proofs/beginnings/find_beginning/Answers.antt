@@ -1,5 +1,5 @@
 use Rattle.std.proofs.Common.{Bool, List, ℕ, ap, sym}
-use Rattle.sum_lines.proofs.BeginningLemmas.{by-digits, by-tag, untagged}
+use Rattle.sum_lines.proofs.BeginningLemmas.{by-tag, untagged}
 use Rattle.sum_lines.proofs.beginnings.find_beginning.Goals as goal
 
 -- a tag stands in front
@@ -18,8 +18,10 @@ returns-in_err-digits_end-in-One-clause-tagged c =
 pub returns-in_ok-digits_end-in-One-clause-leads : goal.returns-in_ok-digits_end-in-One-clause-leads
 returns-in_ok-digits_end-in-One-clause-leads c =
     let text = ap (λ (x : Bool × List ℕ). x.1) c.text_in.ensures.text in
-    by-digits c.args.algos c.in-One.algo c.args.line.now c.in_ok-digits_end-in-One.field-0 c.in-One.is
-    (rw text at (sym c.in_default.ensures)) (rw text at c.in_ok-digits_end-in-One.ensures.some)
+    record {
+      tagged = untagged c.args.algos c.args.line.now (rw text at (sym c.in_default.ensures));
+      ends = rw c.in-One.is (rw text at c.in_ok-digits_end-in-One.ensures.some);
+    }
 
 -- no tag stands in front, and no line is plain
 pub returns-in-Any-clause-tagged : goal.returns-in-Any-clause-tagged

@@ -1,5 +1,5 @@
 use Rattle.sum_lines.proofs.PlainLemmas.{apart}
-use Rattle.sum_lines.proofs.EntryLemmas.{one_entry}
+use Rattle.sum_lines.proofs.ParsedLineLemmas.{one_entry}
 use Rattle.sum_lines.proofs.laws.one_entry.Goals as goal
 
 -- one entry, and one shape

@@ -1,16 +1,18 @@
 use Rattle.std.proofs.Common.{◌≡◌, ◌+◌, ◌/◌, length, take, drop, arith, sym}
 use Rattle.std.proofs.lemmas.List.{take-append-drop, take_rest}
-use Rattle.sum_lines.proofs.BeginningLemmas.{plain_at-none, plain_at-read, spelled-size}
-use Rattle.sum_lines.proofs.ScanLemmas.{decoded-digits, ends-behind, tail-place}
+use Rattle.sum_lines.specs.PartsOfLines.{plain_as}
+use Rattle.sum_lines.proofs.PlainLemmas.{has_len-some}
+use Rattle.sum_lines.proofs.PrefixLemmas.{none_of}
+use Rattle.sum_lines.proofs.BeginningLemmas.{plain-read, plain-spelled}
+use Rattle.sum_lines.proofs.ScanLemmas.{decoded-digits, ends-behind, has_len-most, tail-place}
 use Rattle.sum_lines.proofs.plain.plain_as.Goals as goal
 
 -- no digest has that length
 pub returns-in_err-kind-clause-parts : goal.returns-in_err-kind-clause-parts
 returns-in_err-kind-clause-parts c = rw c.from_residual.ensures
-    (plain_at-none c.args.algo c.args.escaped c.args.at c.args.text.now (λ p is.
-    let within = c.requires.within in
-    let size = spelled-size is (omega (arith, within)) in
-    let two = size.0 in
+    (none_of (plain_as c.args.algo c.args.escaped c.args.text.now) (λ p h.
+    let is = plain-spelled c.args.escaped p c.requires.digits h in
+    let two = is.size in
     let half : c.args.at / 2 ≡ length p.digest = omega (arith, two) in
     let none = c.in_err-kind.ensures in
     let bad = rw (half, is.has) at none in cc))
@@ -18,10 +20,11 @@ returns-in_err-kind-clause-parts c = rw c.from_residual.ensures
 -- what stands before it spells no digest
 pub returns-in_err-digest-clause-parts : goal.returns-in_err-digest-clause-parts
 returns-in_err-digest-clause-parts c = rw c.from_residual-in_err-digest.ensures
-    (plain_at-none c.args.algo c.args.escaped c.args.at c.args.text.now (λ p is.
-    let within = c.requires.within in
-    let size = spelled-size is (omega (arith, within)) in
-    let digits = decoded-digits (take c.args.at c.args.text.now) p.digest is.spelled size.2 size.1 in
+    (none_of (plain_as c.args.algo c.args.escaped c.args.text.now) (λ p h.
+    let is = plain-spelled c.args.escaped p c.requires.digits h in
+    let some = has_len-some c.args.algo (length p.digest) is.has in
+    let few = has_len-most c.args.algo (length p.digest) is.has in
+    let digits = decoded-digits (take c.args.at c.args.text.now) p.digest is.spelled some few in
     let bad = c.in_err-digest.ensures.found.1 digits in cc))
 
 -- the parts that were found are the line's
@@ -29,8 +32,7 @@ pub returns-clause-parts : goal.returns-clause-parts
 returns-clause-parts c =
     let s = c.args.text.now in
     let at = c.args.at in
-    let within = c.requires.within in
     let ends = ends-behind (take (at + 1) s) (drop (at + 1) s) c.requires.ends (sym (take-append-drop (at + 1) s)) in
     rw (take_rest s (at + 1), tail-place ends)
-    (plain_at-read c.args.algo c.args.escaped s c.in_ok-kind.kind (omega (arith, within))
+    (plain-read c.args.algo c.args.escaped s c.in_ok-kind.kind c.requires.digits
     c.in_ok-digest.ensures.value c.in_ok-kind.ensures)

@@ -12,7 +12,7 @@ returns-in-Some-clause-gives g c =
     let old = c.args.self.now in
     let line = c.args.line.now.items in
     let algos = old.listing.settings.algo in
-    let vector = c.read-reading.new.line.items in
+    let vector = c.read_line-reading.new.line.items in
     let entry = c.in-Entry in
     let s : Spelled = record {
       algo = entry.kind.algo;
@@ -20,8 +20,8 @@ returns-in-Some-clause-gives g c =
       name = slice_range vector entry.start entry.stop;
     } in
     let said : parse_line present algos (form_then old.form (line_form algos line)) line ≡ WithEntry s =
-    sym (rw entry.is at (c.read-reading.ensures.said
-    ∙ ap (λ f. parse_line present algos f line) c.read-reading.ensures.form)) in
+    sym (rw entry.is at (c.read_line-reading.ensures.says
+    ∙ ap (λ f. parse_line present algos f line) c.read_line-reading.ensures.form)) in
     let judged = rw c.deref.ensures.value at c.in-Some.ensures.gives in
     rw c.found-in-Entry.ensures.is (line_found (place_of old) line (WithEntry s) _ _ vector _ _ _ _ _ said judged
     c.found-in-Entry.ensures.counts refl refl)
