@@ -7,6 +7,7 @@ ghost use Rattle.sum_words.specs.refinement.ItemIterator.{fault_of};
 ghost use Rattle.sum_words.specs.refinement.Shown.{shown_text};
 ghost use Rattle.sum_words.specs.Texts.{wording, lines_of, fault_lines, stop_text, stop_line};
 
+use crate::options::Flag;
 use crate::tool::Tool;
 use sum_engine::Stop;
 use sum_lines::{Part, Sink, SinkFault, put_all, put_parts};
@@ -19,8 +20,8 @@ pub enum WordFault<'a> {
     UnknownLong(&'a str),
     /// A long option, of this name as it was typed, that several options' names begin with.
     AmbiguousLong(&'a str),
-    /// A value after `=` at the option of this full name, which takes none.
-    ValueNotAllowed(&'static str),
+    /// A value after `=` at this option, which takes none.
+    ValueNotAllowed(Flag),
     /// No word left for the value of `--length` (true) or of `-l` (false).
     ValueMissing(bool),
     /// A character of a cluster that is no option.
@@ -109,7 +110,7 @@ fn wording<'a>(fault: &WordFault<'a>) -> (&'static str, Shown<'a>, &'static str)
     match *fault {
         WordFault::UnknownLong(name) => ("unrecognized option '--", Shown::Typed(name.as_bytes()), "'"),
         WordFault::AmbiguousLong(name) => ("option '--", Shown::Typed(name.as_bytes()), "' is ambiguous"),
-        WordFault::ValueNotAllowed(full) => ("option '--", Shown::FullName(full), "' doesn't allow an argument"),
+        WordFault::ValueNotAllowed(flag) => ("option '--", Shown::FullName(flag.name()), "' doesn't allow an argument"),
         WordFault::ValueMissing(true) => ("option '--length' requires an argument", Shown::Nothing, ""),
         WordFault::ValueMissing(false) => ("option requires an argument -- 'l'", Shown::Nothing, ""),
         WordFault::UnknownShort(letter) => ("invalid option -- '", Shown::Letter(letter), "'"),

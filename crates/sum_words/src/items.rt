@@ -183,10 +183,7 @@ fn long_step<'a>(tool: Tool, text: &'a str) -> Step<'a>
     match (flag.takes_value(), value) {
         (true, Some(value)) => Step::Say(Item::Length(value.as_bytes()), State::Word),
         (true, None) => Step::Value(true),
-        (false, Some(_)) => Step::Say(
-            Item::Fault(WordFault::ValueNotAllowed(flag.name())),
-            State::Ended,
-        ),
+        (false, Some(_)) => Step::Say(Item::Fault(WordFault::ValueNotAllowed(flag)), State::Ended),
         (false, None) => Step::Say(Item::Flag(flag), State::Word),
     }
 }

@@ -3,7 +3,7 @@ ghost use Rattle.std.specs.Prelude.{◌≡◌, ◌∷◌, List, [], None, Some, 
 ghost use Rattle.std.specs.Option.{option_copied, option_map, option_transpose};
 ghost use Rattle.std.specs.Str.{all_ascii_digits};
 ghost use Rattle.sum_words.specs.Items.{Item as ItemSaid, a_word, items_from, option, options_of};
-ghost use Rattle.sum_words.specs.refinement.ItemIterator.{fault_of, full_name};
+ghost use Rattle.sum_words.specs.refinement.ItemIterator.{fault_of};
 ghost use Rattle.sum_words.specs.Request.{early_answer, length_kind, mode_of, report_of, first_fault, job_of, request};
 ghost use Rattle.sum_words.specs.refinement.Request.{IsChosenBy, result_of, IsNumberOf};
 
@@ -116,7 +116,7 @@ fn read_options<'a, A: Allocator>(
 }
 
 fn with_flag(chosen: Chosen<'_>, flag: Flag) -> Chosen<'_>
-    ensures { (rest all : List ItemSaid) → IsChosenBy chosen.entry (option (full_name flag) ∷ rest) all →
+    ensures { (rest all : List ItemSaid) → IsChosenBy chosen.entry (option flag ∷ rest) all →
         IsChosenBy result rest all }
 {
     let mut chosen = chosen;
