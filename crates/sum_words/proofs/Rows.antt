@@ -10,6 +10,7 @@ use Rattle.sum_lines.specs.declared.line_format.Mode.{Mode}
 use Rattle.sum_lines.specs.declared.line_format.Mode.TheVariants as modes
 use Rattle.sum_engine.specs.declared.settings.Report.TheVariants as reports
 use Rattle.sum_words.specs.declared.options.Flag.TheVariants as flags
+use Rattle.sum_words.specs.declared.options.Spelling.TheVariants.{Long, Short}
 use Rattle.sum_words.specs.declared.tool.Tool.{Tool}
 use Rattle.sum_words.specs.declared.tool.Tool.TheVariants.{Md5sum, Sha256sum, B2sum, Anysum}
 use Rattle.sum_words.specs.declared.request.Request.{Request}
@@ -34,7 +35,7 @@ length_faults :
     × (request B2sum (codes "-l" ∷ codes "12" ∷ codes "e" ∷ []) ≡ Err (length_not_bytes (codes "12")))
     × (request B2sum (codes "-l" ∷ codes "12" ∷ codes "-l" ∷ codes "8" ∷ codes "e" ∷ [])
     ≡ writes Blake2b 1 modes.Text (codes "e" ∷ []))
-    × (request B2sum (codes "e" ∷ codes "-l" ∷ []) ≡ Err (value_missing false))
+    × (request B2sum (codes "e" ∷ codes "-l" ∷ []) ≡ Err (value_missing Short))
     × (request Md5sum (codes "-l" ∷ codes "8" ∷ codes "a" ∷ []) ≡ Err (unknown_short 108))
 unfolding chars encode name_or_fault option_of_letter
 length_faults = (refl, refl, refl, refl, refl, refl)
@@ -83,7 +84,7 @@ length_values :
     ≡ writes Blake2b 64 modes.Tag (codes "e" ∷ []))
     × (request B2sum (codes "--length=" ∷ codes "e" ∷ []) ≡ Err (length_invalid []))
     × (request B2sum (codes "-l" ∷ codes "+8" ∷ codes "e" ∷ []) ≡ Err (length_invalid (codes "+8")))
-    × (request B2sum (codes "e" ∷ codes "--len" ∷ []) ≡ Err (value_missing true))
+    × (request B2sum (codes "e" ∷ codes "--len" ∷ []) ≡ Err (value_missing Long))
 unfolding chars encode name_or_fault option_of_letter
 length_values = (refl, refl, refl, refl, refl, refl, refl, refl, refl, refl)
 

@@ -8,6 +8,8 @@ use Rattle.sum_words.specs.declared.tool.Tool.{Tool}
 use Rattle.sum_words.specs.declared.tool.Tool.TheVariants as tools
 use Rattle.sum_words.specs.declared.options.Flag.{Flag}
 use Rattle.sum_words.specs.declared.options.Flag.TheVariants as flags
+use Rattle.sum_words.specs.declared.options.Spelling.{Spelling}
+use Rattle.sum_words.specs.declared.options.Spelling.TheVariants.{Long, Short}
 use Rattle.sum_words.specs.Faults.{Fault, unknown_long, ambiguous_long, value_not_allowed, value_missing, unknown_short}
 
 -- a list of bytes
@@ -53,10 +55,10 @@ abbrev pub takes_value : Flag → Bool
 takes_value flags.Length = true
 takes_value flag = false
 
--- what a word says, with how the next one is read: as it stands, as an option's value (a long one's or not), or not
+-- what a word says, with how the next one is read: as it stands, as the value of an option written so, or not at all
 pub data NextWord : Type 0 where
   a_word : NextWord
-  a_value : Bool → NextWord
+  a_value : Spelling → NextWord
   no_word : NextWord
 
 abbrev pub ItemsAndNext : Type 0
@@ -81,7 +83,7 @@ name_or_fault t name = option_map_or (λ flag. Ok flag) (find (λ flag. bytes_eq
 
 abbrev pub long_option : Result Flag Fault → Option Text → ItemsAndNext
 long_option (Err f) value = (fault f ∷ [], no_word)
-long_option (Ok flag) None = if takes_value flag then ([], a_value true) else (option flag ∷ [], a_word)
+long_option (Ok flag) None = if takes_value flag then ([], a_value Long) else (option flag ∷ [], a_word)
 long_option (Ok flag) (Some value) =
     if takes_value flag then (length_value value ∷ [], a_word) else (fault (value_not_allowed flag) ∷ [], no_word)
 
@@ -90,7 +92,7 @@ unfoldable pub option_of_letter : Tool → ℕ → Option Flag
 option_of_letter t c = find (λ flag. bytes_eq (row_of flag).0 (c ∷ [])) (flags_of t)
 
 abbrev pub attached_value : List ℕ → ItemsAndNext
-attached_value [] = ([], a_value false)
+attached_value [] = ([], a_value Short)
 attached_value cs = (length_value (encode_utf8_all cs) ∷ [], a_word)
 
 abbrev pub letter_then : ℕ → Option Flag → List ℕ → ItemsAndNext → ItemsAndNext
@@ -124,8 +126,8 @@ items_from t a_word [] = []
 items_from t a_word (w ∷ ws) =
     if bytes_eq w (codes "--") then map operand ws
     else (read_word t w).0 ++ items_from t (read_word t w).1 ws
-items_from t (a_value is_long) [] = fault (value_missing is_long) ∷ []
-items_from t (a_value is_long) (w ∷ ws) = length_value w ∷ items_from t a_word ws
+items_from t (a_value spelling) [] = fault (value_missing spelling) ∷ []
+items_from t (a_value spelling) (w ∷ ws) = length_value w ∷ items_from t a_word ws
 
 -- the options among the items, the length values, and the operands, each in their order
 abbrev pub options_of : List Item → List Flag

@@ -73,15 +73,13 @@ faults given =
 abbrev pub mode_of : List Flag → Mode
 mode_of given =
     if has flags.Tag given then modes.Tag
-    else if is_last flags.Binary mode_flags given then modes.Binary
-    else modes.Text
+    else if is_last flags.Binary mode_flags given then modes.Binary else modes.Text
 
 abbrev pub report_of : List Flag → Report
 report_of given =
     if is_last flags.Status report_flags given then reports.Status
     else if is_last flags.Warn report_flags given then reports.Warn
-    else if is_last flags.Quiet report_flags given then reports.Quiet
-    else reports.All
+    else if is_last flags.Quiet report_flags given then reports.Quiet else reports.All
 
 abbrev pub generation_job : Algos → Option KindValue → List Flag → Result Job Fault
 generation_job Any kind given = Err check_needed

@@ -7,7 +7,7 @@ ghost use Rattle.sum_words.specs.refinement.ItemIterator.{fault_of};
 ghost use Rattle.sum_words.specs.refinement.Shown.{shown_text};
 ghost use Rattle.sum_words.specs.Texts.{wording, lines_of, fault_lines, stop_text, stop_line};
 
-use crate::options::Flag;
+use crate::options::{Flag, Spelling};
 use crate::tool::Tool;
 use sum_engine::Stop;
 use sum_lines::{Part, Sink, SinkFault, put_all, put_parts};
@@ -22,8 +22,8 @@ pub enum WordFault<'a> {
     AmbiguousLong(&'a str),
     /// A value after `=` at this option, which takes none.
     ValueNotAllowed(Flag),
-    /// No word left for the value of `--length` (true) or of `-l` (false).
-    ValueMissing(bool),
+    /// No word left for the value of `--length` or of `-l`.
+    ValueMissing(Spelling),
     /// A character of a cluster that is no option.
     UnknownShort(char),
     /// A length that isn't one or more digits, or is over 512.
@@ -38,16 +38,8 @@ pub enum WordFault<'a> {
     TagWithCheck,
     /// `--binary` or `--text` with `--check`.
     ModeWithCheck,
-    /// `--ignore-missing` without `--check`.
-    IgnoreWithoutCheck,
-    /// `--status` as the report setting, without `--check`.
-    StatusWithoutCheck,
-    /// `--warn` as the report setting, without `--check`.
-    WarnWithoutCheck,
-    /// `--quiet` as the report setting, without `--check`.
-    QuietWithoutCheck,
-    /// `--strict` without `--check`.
-    StrictWithoutCheck,
+    /// This option without `--check`: first `--ignore-missing`, then the report setting, then `--strict`.
+    NeedsCheck(Flag),
     /// `anysum` without `--check`.
     CheckNeeded,
 }
@@ -100,8 +92,6 @@ fn put_lines<'a, E: Sink>(
     put_parts(err, &[name, colon, prefix, shown, suffix, hint, name, end])
 }
 
-const NEEDS_CHECK: &str = " option is meaningful only when verifying checksums";
-
 // A fault's text: what stands before what it shows of the words, that, and what stands behind it.
 #[rattlefmt::skip]
 fn wording<'a>(fault: &WordFault<'a>) -> (&'static str, Shown<'a>, &'static str)
@@ -111,8 +101,8 @@ fn wording<'a>(fault: &WordFault<'a>) -> (&'static str, Shown<'a>, &'static str)
         WordFault::UnknownLong(name) => ("unrecognized option '--", Shown::Typed(name.as_bytes()), "'"),
         WordFault::AmbiguousLong(name) => ("option '--", Shown::Typed(name.as_bytes()), "' is ambiguous"),
         WordFault::ValueNotAllowed(flag) => ("option '--", Shown::FullName(flag.name()), "' doesn't allow an argument"),
-        WordFault::ValueMissing(true) => ("option '--length' requires an argument", Shown::Nothing, ""),
-        WordFault::ValueMissing(false) => ("option requires an argument -- 'l'", Shown::Nothing, ""),
+        WordFault::ValueMissing(Spelling::Long) => ("option '--length' requires an argument", Shown::Nothing, ""),
+        WordFault::ValueMissing(Spelling::Short) => ("option requires an argument -- 'l'", Shown::Nothing, ""),
         WordFault::UnknownShort(letter) => ("invalid option -- '", Shown::Letter(letter), "'"),
         WordFault::LengthInvalid(value) => ("invalid length: '", Shown::Typed(value), "'"),
         WordFault::LengthNotBytes(value) => ("length is not a multiple of 8: '", Shown::Typed(value), "'"),
@@ -123,11 +113,8 @@ fn wording<'a>(fault: &WordFault<'a>) -> (&'static str, Shown<'a>, &'static str)
             ("the --tag option is meaningless when verifying checksums", Shown::Nothing, ""),
         WordFault::ModeWithCheck =>
             ("the --binary and --text options are meaningless when verifying checksums", Shown::Nothing, ""),
-        WordFault::IgnoreWithoutCheck => ("the --", Shown::FullName("ignore-missing"), NEEDS_CHECK),
-        WordFault::StatusWithoutCheck => ("the --", Shown::FullName("status"), NEEDS_CHECK),
-        WordFault::WarnWithoutCheck => ("the --", Shown::FullName("warn"), NEEDS_CHECK),
-        WordFault::QuietWithoutCheck => ("the --", Shown::FullName("quiet"), NEEDS_CHECK),
-        WordFault::StrictWithoutCheck => ("the --", Shown::FullName("strict"), NEEDS_CHECK),
+        WordFault::NeedsCheck(flag) =>
+            ("the --", Shown::FullName(flag.name()), " option is meaningful only when verifying checksums"),
         WordFault::CheckNeeded => ("--check is required", Shown::Nothing, ""),
     }
 }

@@ -28,6 +28,13 @@ pub enum Flag {
     Length,
 }
 
+/// How an option is written: by its full name or the beginning of it, or by its letter.
+#[derive(Clone, Copy, Debug, PartialEq, Eq)]
+pub enum Spelling {
+    Long,
+    Short,
+}
+
 static FLAGS: [Flag; 13] = [
     Flag::Binary,
     Flag::Check,

@@ -218,15 +218,15 @@ fn fault_of_options(chosen: &Chosen<'_>) -> Option<WordFault<'static>>
         return None;
     }
     if chosen.ignore_missing {
-        return Some(WordFault::IgnoreWithoutCheck);
+        return Some(WordFault::NeedsCheck(Flag::IgnoreMissing));
     }
     match chosen.report {
-        Some(Report::Status) => Some(WordFault::StatusWithoutCheck),
-        Some(Report::Warn) => Some(WordFault::WarnWithoutCheck),
-        Some(Report::Quiet) => Some(WordFault::QuietWithoutCheck),
+        Some(Report::Status) => Some(WordFault::NeedsCheck(Flag::Status)),
+        Some(Report::Warn) => Some(WordFault::NeedsCheck(Flag::Warn)),
+        Some(Report::Quiet) => Some(WordFault::NeedsCheck(Flag::Quiet)),
         _ => {
             if chosen.strict {
-                Some(WordFault::StrictWithoutCheck)
+                Some(WordFault::NeedsCheck(Flag::Strict))
             } else {
                 None
             }

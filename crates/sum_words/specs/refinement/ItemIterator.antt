@@ -4,7 +4,6 @@ use Rattle.std.specs.Prelude.{◌≡◌, ◌==◌, ℕ, drop, length, true, map,
 use Rattle.std.specs.List.{starts_with}
 use Rattle.std.specs.Str.{chars}
 use Rattle.sum_words.specs.declared.tool.Tool.{Tool}
-use Rattle.sum_words.specs.declared.options.Flag.TheVariants as flags
 use Rattle.sum_words.specs.declared.faults.WordFault.{WordFault}
 use Rattle.sum_words.specs.declared.faults.WordFault.TheVariants as words
 use Rattle.sum_words.specs.Faults.{Fault, unknown_long, ambiguous_long, value_not_allowed, value_missing, unknown_short, length_invalid, length_not_bytes, tag_with_text, zero_with_check, tag_with_check, mode_with_check, without_check, check_needed}
@@ -26,7 +25,7 @@ abbrev pub fault_of : WordFault → Fault
 fault_of (words.UnknownLong name) = unknown_long name.now
 fault_of (words.AmbiguousLong name) = ambiguous_long name.now
 fault_of (words.ValueNotAllowed flag) = value_not_allowed flag
-fault_of (words.ValueMissing is_long) = value_missing is_long
+fault_of (words.ValueMissing spelling) = value_missing spelling
 fault_of (words.UnknownShort c) = unknown_short c
 fault_of (words.LengthInvalid value) = length_invalid value.now
 fault_of (words.LengthNotBytes value) = length_not_bytes value.now
@@ -34,11 +33,7 @@ fault_of words.TagWithText = tag_with_text
 fault_of words.ZeroWithCheck = zero_with_check
 fault_of words.TagWithCheck = tag_with_check
 fault_of words.ModeWithCheck = mode_with_check
-fault_of words.IgnoreWithoutCheck = without_check flags.IgnoreMissing
-fault_of words.StatusWithoutCheck = without_check flags.Status
-fault_of words.WarnWithoutCheck = without_check flags.Warn
-fault_of words.QuietWithoutCheck = without_check flags.Quiet
-fault_of words.StrictWithoutCheck = without_check flags.Strict
+fault_of (words.NeedsCheck flag) = without_check flag
 fault_of words.CheckNeeded = check_needed
 
 -- the item that the program's value says
@@ -62,7 +57,7 @@ items_to_come t states.Ended words = items_from t no_word words
 -- the items that a step makes of these words
 abbrev pub step_says : Tool → Step → List Text → List Item
 step_says t (steps.Say x state) words = item_of x ∷ items_to_come t state words
-step_says t (steps.Value is_long) words = items_from t (a_value is_long) words
+step_says t (steps.Value spelling) words = items_from t (a_value spelling) words
 step_says t steps.OnlyOperands words = map operand words
 
 -- the first member was taken, as this says, or there is none
