@@ -1,5 +1,4 @@
--- What the words of a command line say, one by one: options, length values, operands, and at most one fault, with which
--- the list ends.
+-- What the words of a command line say, one by one: options, length values, operands, and at the end maybe a fault.
 use Rattle.std.specs.Prelude.{ℕ, ◌+◌, ◌==◌, ◌&&◌, ◌||◌, not, Bool, true, false, List, [], ◌∷◌, ◌++◌, map, drop, Option, None, Some, Result, Ok, Err, codes, if◌then◌else◌, option_map, filter, find, position}
 use Rattle.std.specs.List.{starts_with, before_first}
 use Rattle.std.specs.Option.{option_map_or}

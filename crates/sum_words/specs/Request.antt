@@ -71,13 +71,11 @@ faults given =
 
 -- what the options ask for where none of these holds; a tool without an algorithm of its own needs --check
 abbrev pub mode_of : List Flag → Mode
-mode_of given =
-    if has flags.Tag given then modes.Tag
+mode_of given = if has flags.Tag given then modes.Tag
     else if is_last flags.Binary mode_flags given then modes.Binary else modes.Text
 
 abbrev pub report_of : List Flag → Report
-report_of given =
-    if is_last flags.Status report_flags given then reports.Status
+report_of given = if is_last flags.Status report_flags given then reports.Status
     else if is_last flags.Warn report_flags given then reports.Warn
     else if is_last flags.Quiet report_flags given then reports.Quiet else reports.All
 

@@ -4,8 +4,8 @@ ghost use Rattle.std.specs.Option.{option_copied, option_map, option_transpose};
 ghost use Rattle.std.specs.Str.{all_ascii_digits};
 ghost use Rattle.sum_words.specs.Items.{Item as ItemSaid, a_word, items_from, option, options_of};
 ghost use Rattle.sum_words.specs.refinement.ItemIterator.{fault_of};
-ghost use Rattle.sum_words.specs.Request.{early_answer, length_kind, mode_of, report_of, first_fault, job_of, request};
-ghost use Rattle.sum_words.specs.refinement.Request.{IsChosenBy, result_of, IsNumberOf};
+ghost use Rattle.sum_words.specs.Request.{length_kind, mode_of, report_of, first_fault, job_of, request};
+ghost use Rattle.sum_words.specs.refinement.Request.{IsChosenBy, IsReadingOf, result_of, IsNumberOf};
 
 use crate::faults::WordFault;
 use crate::items::{Item, Items, Operands};
@@ -47,8 +47,8 @@ pub fn read_words<'a, A: Allocator>(
     ensures { result_of result ≡ request tool words.now }
 {
     let chosen = match read_options(tool, words) {
-        Ok(chosen) => chosen,
-        Err(answer) => return answer,
+        Reading::Options(chosen) => chosen,
+        Reading::Answer(answer) => return answer,
     };
     let kind = match asked_kind(chosen.length) {
         Ok(kind) => kind,
@@ -78,14 +78,15 @@ struct Chosen<'a> {
     strict: bool,
 }
 
-// What all options say, or the answer where one of the words decides it.
-fn read_options<'a, A: Allocator>(
-    tool: Tool,
-    words: &'a Words<A>,
-) -> Result<Chosen<'a>, Result<Request<'a>, WordFault<'a>>>
-    ensures read { MatchResult result (λ c. IsChosenBy c [] (items_from tool a_word words.now))
-        (λ r. early_answer (items_from tool a_word words.now) ≡ Some (result_of r)) }
-    ensures none { MatchResult result (λ _. early_answer (items_from tool a_word words.now) ≡ None) (λ _. Unit {0}) }
+// What reading all words comes to: what their options say, or the answer where one of the words decides it.
+#[derive(Drop)]
+enum Reading<'a> {
+    Options(Chosen<'a>),
+    Answer(Result<Request<'a>, WordFault<'a>>),
+}
+
+fn read_options<'a, A: Allocator>(tool: Tool, words: &'a Words<A>) -> Reading<'a>
+    ensures { IsReadingOf result (items_from tool a_word words.now) }
 {
     let mut items = Items::new(tool, words);
     let mut chosen = Chosen {
@@ -102,17 +103,17 @@ fn read_options<'a, A: Allocator>(
     };
     while let Some(item) = items.next() {
         match item {
-            Item::Fault(fault) => return Err(Err(fault)),
+            Item::Fault(fault) => return Reading::Answer(Err(fault)),
             Item::Flag(flag) => match flag {
-                Flag::Help => return Err(Ok(Request::Help)),
-                Flag::Version => return Err(Ok(Request::Version)),
+                Flag::Help => return Reading::Answer(Ok(Request::Help)),
+                Flag::Version => return Reading::Answer(Ok(Request::Version)),
                 _ => chosen = with_flag(chosen, flag),
             },
             Item::Length(value) => chosen.length = Some(value),
             Item::Operand(_) => {}
         }
     }
-    Ok(chosen)
+    Reading::Options(chosen)
 }
 
 fn with_flag(chosen: Chosen<'_>, flag: Flag) -> Chosen<'_>

@@ -1,5 +1,5 @@
 -- Joins the reader of the words to the request: what its running values say, and its answers.
-use Rattle.std.specs.Prelude.{ℕ, ◌≡◌, ◌≤◌, ◌^◌, ◌||◌, true, Bool, List, Option, None, Some, Result, Ok, Err, filter, option_map}
+use Rattle.std.specs.Prelude.{ℕ, ◌≡◌, ◌≤◌, ◌^◌, ◌||◌, true, Bool, List, [], Option, None, Some, Result, Ok, Err, filter, option_map}
 use Rattle.std.specs.List.{last_or}
 use Rattle.std.specs.Option.{option_copied, option_and_then}
 use Rattle.std.specs.Str.Parse.{digits_value}
@@ -11,10 +11,12 @@ use Rattle.sum_words.specs.declared.options.Flag.{Flag}
 use Rattle.sum_words.specs.declared.options.Flag.TheVariants as flags
 use Rattle.sum_words.specs.declared.faults.WordFault.{WordFault}
 use Rattle.sum_words.specs.declared.request.Chosen.{Chosen}
+use Rattle.sum_words.specs.declared.request.Reading.{Reading}
+use Rattle.sum_words.specs.declared.request.Reading.TheVariants.{Options, Answer}
 use Rattle.sum_words.specs.Faults.{Fault}
 use Rattle.sum_words.specs.Items.{Text, Item, options_of, values_of}
 use Rattle.sum_words.specs.refinement.ItemIterator.{fault_of}
-use Rattle.sum_words.specs.Request.{has, mode_flags, report_flags, is_number}
+use Rattle.sum_words.specs.Request.{early_answer, has, mode_flags, report_flags, is_number}
 
 -- the options that set these
 abbrev pub mode_flag : Mode → Flag
@@ -55,6 +57,11 @@ pub record IsChosenBy (c : Chosen) (rest all : List Item) : Type 0 where
 abbrev pub result_of : {X : Type 0} → Result X WordFault → Result X Fault
 result_of (Ok x) = Ok x
 result_of (Err f) = Err (fault_of f)
+
+-- reading says what the options of all items say, where none of them decides the answer; else it says that answer
+abbrev pub IsReadingOf : Reading → List Item → Type 0
+IsReadingOf (Options c) xs = IsChosenBy c [] xs × (early_answer xs ≡ None)
+IsReadingOf (Answer r) xs = early_answer xs ≡ Some (result_of r)
 
 -- whether a text is a number, and which, where a u64 holds it
 abbrev pub IsNumberOf : Text → Option ℕ → Type 0
