@@ -115,16 +115,14 @@ abbrev pub read_word : Tool → Text → ItemsAndNext
 read_word t word =
     if starts_with ◌==◌ word (codes "--")
     then long_option (name_or_fault t (name_part (drop 2 word))) (value_part (drop 2 word))
-    else if is_option_word word then cluster t (chars (drop 1 word))
-    else (operand word ∷ [], a_word)
+    else if is_option_word word then cluster t (chars (drop 1 word)) else (operand word ∷ [], a_word)
 
 -- all words; those behind a "--" that is no option's value are operands
 abbrev pub items_from : Tool → NextWord → List Text → List Item
 items_from t no_word words = []
 items_from t a_word [] = []
 items_from t a_word (w ∷ ws) =
-    if bytes_eq w (codes "--") then map operand ws
-    else (read_word t w).0 ++ items_from t (read_word t w).1 ws
+    if bytes_eq w (codes "--") then map operand ws else (read_word t w).0 ++ items_from t (read_word t w).1 ws
 items_from t (a_value spelling) [] = fault (value_missing spelling) ∷ []
 items_from t (a_value spelling) (w ∷ ws) = length_value w ∷ items_from t a_word ws
 

@@ -54,7 +54,13 @@ pub fn put_fault<E: Sink>(err: &mut E, tool: Tool, fault: &WordFault<'_>) -> Res
     let mut buffer = [0; 4];
     match shown {
         Shown::Nothing => put_lines(err, name, prefix, Part::Bytes(b""), suffix),
-        Shown::FullName(full) => put_lines(err, name, prefix, Part::Bytes(full.as_bytes()), suffix),
+        Shown::FullName(flag) => put_lines(
+            err,
+            name,
+            prefix,
+            Part::Bytes(flag.name().as_bytes()),
+            suffix,
+        ),
         Shown::Typed(text) => put_lines(err, name, prefix, Part::Escaped(text), suffix),
         Shown::Letter(letter) => {
             let text = letter.encode_utf8(&mut buffer);
@@ -67,7 +73,7 @@ pub fn put_fault<E: Sink>(err: &mut E, tool: Tool, fault: &WordFault<'_>) -> Res
 #[derive(Clone, Copy)]
 enum Shown<'a> {
     Nothing,
-    FullName(&'static str),
+    FullName(Flag),
     Typed(&'a [u8]),
     Letter(char),
 }
@@ -100,7 +106,7 @@ fn wording<'a>(fault: &WordFault<'a>) -> (&'static str, Shown<'a>, &'static str)
     match *fault {
         WordFault::UnknownLong(name) => ("unrecognized option '--", Shown::Typed(name.as_bytes()), "'"),
         WordFault::AmbiguousLong(name) => ("option '--", Shown::Typed(name.as_bytes()), "' is ambiguous"),
-        WordFault::ValueNotAllowed(flag) => ("option '--", Shown::FullName(flag.name()), "' doesn't allow an argument"),
+        WordFault::ValueNotAllowed(flag) => ("option '--", Shown::FullName(flag), "' doesn't allow an argument"),
         WordFault::ValueMissing(Spelling::Long) => ("option '--length' requires an argument", Shown::Nothing, ""),
         WordFault::ValueMissing(Spelling::Short) => ("option requires an argument -- 'l'", Shown::Nothing, ""),
         WordFault::UnknownShort(letter) => ("invalid option -- '", Shown::Letter(letter), "'"),
@@ -114,7 +120,7 @@ fn wording<'a>(fault: &WordFault<'a>) -> (&'static str, Shown<'a>, &'static str)
         WordFault::ModeWithCheck =>
             ("the --binary and --text options are meaningless when verifying checksums", Shown::Nothing, ""),
         WordFault::NeedsCheck(flag) =>
-            ("the --", Shown::FullName(flag.name()), " option is meaningful only when verifying checksums"),
+            ("the --", Shown::FullName(flag), " option is meaningful only when verifying checksums"),
         WordFault::CheckNeeded => ("--check is required", Shown::Nothing, ""),
     }
 }
