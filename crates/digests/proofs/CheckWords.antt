@@ -1,13 +1,15 @@
 -- The words of a check ask for that check.
-use Rattle.std.proofs.Common.{◌≡◌, Bool, true, false, List, [], ◌∷◌, ◌++◌, map, codes, Option, None, Result, Ok, refl, ap, sym, ◌∙◌}
-use Rattle.std.proofs.Common.{◌⊎◌, inl, inr, if◌then◌else◌, unwrap_or, append-nil}
+use Rattle.std.proofs.Common.{◌≡◌, Bool, true, false, not, List, [], ◌∷◌, ◌++◌, map, find, codes, Option, None, Some, Result, Ok, refl, ap, sym, ◌∙◌}
+use Rattle.std.proofs.Common.{◌⊎◌, inl, inr, unwrap_or}
 use Rattle.std.specs.Str.{bytes_eq}
 use Rattle.std.specs.Result.{result_map_both}
-use Rattle.std.specs.List.{All}
-use Rattle.std.proofs.lemmas.List.Elements.{All-nil, All-cons, All-head, All-tail, All-append}
+use Rattle.std.specs.List.{list_all}
+use Rattle.std.proofs.lemmas.Bool.{and_parts}
+use Rattle.std.proofs.lemmas.List.Elements.{All-nil, All-cons}
 use Rattle.sum_engine.specs.declared.settings.CheckSettings.{CheckSettings}
 use Rattle.sum_engine.specs.declared.settings.Report.{Report}
 use Rattle.sum_engine.specs.declared.settings.Report.TheVariants as reports
+use Rattle.sum_words.specs.declared.options.Flag.{Flag}
 use Rattle.sum_words.specs.declared.options.Flag.TheVariants as flags
 use Rattle.sum_words.specs.declared.tool.Tool.{Tool}
 use Rattle.sum_words.specs.declared.tool.Tool.TheVariants as tools
@@ -16,100 +18,83 @@ use Rattle.sum_words.specs.declared.request.Request.TheVariants.{Work}
 use Rattle.sum_words.specs.declared.request.Job.TheVariants.{Check}
 use Rattle.sum_words.specs.Tools.{algos_of}
 use Rattle.sum_words.specs.Faults.{Fault}
-use Rattle.sum_words.specs.Items.{Text, Item, option, operand, a_word, items_from, read_word, table, row_of, common, full_names, has, takes_value, name_part, value_part, name_or_fault, options_of, values_of, operands_of}
+use Rattle.sum_words.specs.Items.{Text, Item, option, operand, a_word, items_from, full_name, flags_of, common, takes_value, name_part, value_part, name_or_fault, options_of, values_of, operands_of}
 use Rattle.sum_words.specs.Request.{request, early_answer, job_or_fault, kind_asked}
 use Rattle.sum_words.specs.PlainWords.{is_plain}
 use Rattle.sum_words.proofs.PlainWordLemmas.{plain_words}
-use Rattle.digests.specs.GenerationRuns.{report_option, check_options, check_words, ChecksBy}
+use Rattle.digests.specs.GenerationRuns.{check_options, check_words, ChecksBy}
 
 -- ---- long options that every tool has, and that take no value
 
 -- a tool has the common options, or these and one more
-table-is : (t : Tool) → (table t ≡ map row_of common) ⊎ (table t ≡ map row_of (common ++ flags.Length ∷ []))
-table-is tools.Md5sum = inl refl
-table-is tools.Sha1sum = inl refl
-table-is tools.Sha224sum = inl refl
-table-is tools.Sha256sum = inl refl
-table-is tools.Sha384sum = inl refl
-table-is tools.Sha512sum = inl refl
-table-is tools.B2sum = inr refl
-table-is tools.Anysum = inl refl
+flags-are : (t : Tool) → (flags_of t ≡ common) ⊎ (flags_of t ≡ common ++ flags.Length ∷ [])
+flags-are tools.Md5sum = inl refl
+flags-are tools.Sha1sum = inl refl
+flags-are tools.Sha224sum = inl refl
+flags-are tools.Sha256sum = inl refl
+flags-are tools.Sha384sum = inl refl
+flags-are tools.Sha512sum = inl refl
+flags-are tools.B2sum = inr refl
+flags-are tools.Anysum = inl refl
 
-record IsLong (full : Text) : Type 0 where
-  in_common : has full (full_names (map row_of common)) ≡ true
-  in_all : has full (full_names (map row_of (common ++ flags.Length ∷ []))) ≡ true
-  no_value : takes_value full ≡ false
-  name : name_part full ≡ full
-  none : value_part full ≡ None
-  some : bytes_eq (codes "--" ++ full) (codes "--") ≡ false
+abbrev takes_none : Flag → Bool
+takes_none flag = not (takes_value flag)
+
+abbrev named_by : Flag → List Flag → Option Flag
+named_by flag fs = find (λ f. bytes_eq (full_name flag) (full_name f)) fs
+
+-- how the word of one is read
+abbrev IsLong : Flag → Type 0
+IsLong flag = (named_by flag common ≡ Some flag) × (named_by flag (common ++ flags.Length ∷ []) ≡ Some flag)
+    × (takes_value flag ≡ false) × (name_part (full_name flag) ≡ full_name flag) × (value_part (full_name flag) ≡ None)
+    × (bytes_eq (codes "--" ++ full_name flag) (codes "--") ≡ false)
+
+is-long : (flag : Flag) → takes_none flag ≡ true → IsLong flag
+is-long flags.Binary h = (refl, refl, refl, refl, refl, refl)
+is-long flags.Check h = (refl, refl, refl, refl, refl, refl)
+is-long flags.Tag h = (refl, refl, refl, refl, refl, refl)
+is-long flags.Text h = (refl, refl, refl, refl, refl, refl)
+is-long flags.Zero h = (refl, refl, refl, refl, refl, refl)
+is-long flags.IgnoreMissing h = (refl, refl, refl, refl, refl, refl)
+is-long flags.Quiet h = (refl, refl, refl, refl, refl, refl)
+is-long flags.Status h = (refl, refl, refl, refl, refl, refl)
+is-long flags.Strict h = (refl, refl, refl, refl, refl, refl)
+is-long flags.Warn h = (refl, refl, refl, refl, refl, refl)
+is-long flags.Help h = (refl, refl, refl, refl, refl, refl)
+is-long flags.Version h = (refl, refl, refl, refl, refl, refl)
+is-long flags.Length h = let no : false ≡ true = h in cc
 
 -- the name of one means it
-long_name : (t : Tool) (full : Text) → IsLong full → name_or_fault t full ≡ Ok full
+long_name : (t : Tool) (flag : Flag) → named_by flag common ≡ Some flag
+    → named_by flag (common ++ flags.Length ∷ []) ≡ Some flag → name_or_fault t (full_name flag) ≡ Ok flag
 unfolding name_or_fault
-long_name t full h = elim (table-is t) [
-  | inl is ↦ rw (is, h.in_common) refl
-  | inr is ↦ rw (is, h.in_all) refl
+long_name t flag in_common in_all = elim (flags-are t) [
+  | inl is ↦ rw (is, in_common) refl
+  | inr is ↦ rw (is, in_all) refl
 ]
 
 -- such a word is that option
-long_word : (t : Tool) (full : Text) (more : List Text) → IsLong full
-    → items_from t a_word ((codes "--" ++ full) ∷ more) ≡ option full ∷ items_from t a_word more
-long_word t full more h = rw (h.some, h.name, h.none, long_name t full h, h.no_value) refl
+long_word : (t : Tool) (flag : Flag) (more : List Text) → IsLong flag
+    → items_from t a_word ((codes "--" ++ full_name flag) ∷ more) ≡ option flag ∷ items_from t a_word more
+long_word t flag more (in_common, in_all, no_value, name, none, some) =
+    rw (some, name, none, long_name t flag in_common in_all, no_value) refl
 
-long_words : (t : Tool) (fulls more : List Text) → All IsLong fulls
-    → items_from t a_word (map (λ full. codes "--" ++ full) fulls ++ more)
-    ≡ map option fulls ++ items_from t a_word more
+long_words : (t : Tool) (fs : List Flag) (more : List Text) → list_all takes_none fs ≡ true
+    → items_from t a_word (map (λ f. codes "--" ++ full_name f) fs ++ more) ≡ map option fs ++ items_from t a_word more
 long_words t [] more all = refl
-long_words t (full ∷ fulls) more all =
-    long_word t full (map (λ f. codes "--" ++ f) fulls ++ more) (All-head IsLong full fulls all)
-    ∙ ap (λ xs. option full ∷ xs) (long_words t fulls more (All-tail IsLong full fulls all))
+long_words t (flag ∷ fs) more all =
+    let parts = and_parts _ _ all in
+    long_word t flag (map (λ f. codes "--" ++ full_name f) fs ++ more) (is-long flag parts.0)
+    ∙ ap (λ xs. option flag ∷ xs) (long_words t fs more parts.1)
 
 -- ---- the words of a check
 
-long_quiet : IsLong (codes "quiet")
-long_quiet = record { in_common = refl; in_all = refl; no_value = refl; name = refl; none = refl; some = refl }
-
-long_warn : IsLong (codes "warn")
-long_warn = record { in_common = refl; in_all = refl; no_value = refl; name = refl; none = refl; some = refl }
-
-long_status : IsLong (codes "status")
-long_status = record { in_common = refl; in_all = refl; no_value = refl; name = refl; none = refl; some = refl }
-
-long_check : IsLong (codes "check")
-long_check = record { in_common = refl; in_all = refl; no_value = refl; name = refl; none = refl; some = refl }
-
-long_strict : IsLong (codes "strict")
-long_strict = record { in_common = refl; in_all = refl; no_value = refl; name = refl; none = refl; some = refl }
-
-long_ignore : IsLong (codes "ignore-missing")
-long_ignore = record { in_common = refl; in_all = refl; no_value = refl; name = refl; none = refl; some = refl }
-
-long_if : (b : Bool) (full : Text) → IsLong full → All IsLong (if b then full ∷ [] else [])
-long_if true full h = All-cons IsLong full [] h (All-nil IsLong)
-long_if false full h = All-nil IsLong
-
-all_long_report : (r : Report) → All IsLong (report_option r)
-all_long_report reports.All = All-nil IsLong
-all_long_report reports.Quiet = long_if true (codes "quiet") long_quiet
-all_long_report reports.Warn = long_if true (codes "warn") long_warn
-all_long_report reports.Status = long_if true (codes "status") long_status
-
-all_long : (check : CheckSettings) → All IsLong (check_options check)
-all_long check =
-    let first : List Text = codes "check" ∷ report_option check.report in
-    let strict : List Text = if check.strict then codes "strict" ∷ [] else [] in
-    let ignore : List Text = if check.ignore_missing then codes "ignore-missing" ∷ [] else [] in
-    let long_first = All-cons IsLong (codes "check") (report_option check.report) long_check
-    (all_long_report check.report) in
-    All-append IsLong (first ++ strict) ignore
-    (All-append IsLong first strict long_first (long_if check.strict (codes "strict") long_strict))
-    (long_if check.ignore_missing (codes "ignore-missing") long_ignore)
-
 -- they are those options and an operand
-items-are : (t : Tool) (check : CheckSettings) (manifest : Text) → is_plain manifest ≡ true
+items-are : (t : Tool) (check : CheckSettings) (manifest : Text) → list_all takes_none (check_options check) ≡ true
+    → is_plain manifest ≡ true
     → items_from t a_word (check_words check manifest) ≡ map option (check_options check) ++ operand manifest ∷ []
-items-are t check manifest plain =
-    long_words t (check_options check) (manifest ∷ []) (all_long check)
+items-are t check manifest all plain =
+    long_words t (check_options check) (manifest ∷ []) all
     ∙ ap (λ xs. map option (check_options check) ++ xs) (plain_words t (manifest ∷ []) []
     (All-cons (λ w. is_plain w ≡ true) manifest [] plain (All-nil (λ w. is_plain w ≡ true))))
 
@@ -121,30 +106,32 @@ asked t xs = unwrap_or (early_answer xs) (result_map_both (λ job. Work job (ope
 abbrev settings : Tool → Report → Bool → Bool → CheckSettings
 settings t r s i = record { algo = algos_of t; report = r; strict = s; ignore_missing = i }
 
+-- no option of a check takes a value, and what they ask for is the check
 checked : (t : Tool) (m : Text) (r : Report) (s i : Bool)
-    → asked t (map option (check_options (settings t r s i)) ++ operand m ∷ [])
-    ≡ Ok (Work (Check (settings t r s i)) (m ∷ []))
-checked t m reports.All false false = refl
-checked t m reports.All false true = refl
-checked t m reports.All true false = refl
-checked t m reports.All true true = refl
-checked t m reports.Quiet false false = refl
-checked t m reports.Quiet false true = refl
-checked t m reports.Quiet true false = refl
-checked t m reports.Quiet true true = refl
-checked t m reports.Warn false false = refl
-checked t m reports.Warn false true = refl
-checked t m reports.Warn true false = refl
-checked t m reports.Warn true true = refl
-checked t m reports.Status false false = refl
-checked t m reports.Status false true = refl
-checked t m reports.Status true false = refl
-checked t m reports.Status true true = refl
+    → (list_all takes_none (check_options (settings t r s i)) ≡ true)
+    × (asked t (map option (check_options (settings t r s i)) ++ operand m ∷ [])
+    ≡ Ok (Work (Check (settings t r s i)) (m ∷ [])))
+checked t m reports.All false false = (refl, refl)
+checked t m reports.All false true = (refl, refl)
+checked t m reports.All true false = (refl, refl)
+checked t m reports.All true true = (refl, refl)
+checked t m reports.Quiet false false = (refl, refl)
+checked t m reports.Quiet false true = (refl, refl)
+checked t m reports.Quiet true false = (refl, refl)
+checked t m reports.Quiet true true = (refl, refl)
+checked t m reports.Warn false false = (refl, refl)
+checked t m reports.Warn false true = (refl, refl)
+checked t m reports.Warn true false = (refl, refl)
+checked t m reports.Warn true true = (refl, refl)
+checked t m reports.Status false false = (refl, refl)
+checked t m reports.Status false true = (refl, refl)
+checked t m reports.Status true false = (refl, refl)
+checked t m reports.Status true true = (refl, refl)
 
 -- so the words ask for the check
 pub request-check_words : (t : Tool) (check : CheckSettings) (manifest : Text) → ChecksBy t check manifest
     → request t (check_words check manifest) ≡ Ok (Work (Check check) (manifest ∷ []))
 request-check_words t check manifest h =
     let is = checked t manifest check.report check.strict check.ignore_missing in
-    ap (asked t) (items-are t check manifest h.operand) ∙ is
+    ap (asked t) (items-are t check manifest is.0 h.operand) ∙ is.1
     ∙ ap (λ a. Ok (Work (Check (record check { algo = a })) (manifest ∷ []))) (sym h.algo)

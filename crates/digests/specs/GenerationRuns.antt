@@ -15,9 +15,11 @@ use Rattle.sum_engine.specs.Worlds.{World, is_dash, reply}
 use Rattle.sum_engine.specs.Runs.{outs, errs}
 use Rattle.sum_engine.specs.Generation.{generate_run}
 use Rattle.sum_engine.specs.Reports.{right_line}
+use Rattle.sum_words.specs.declared.options.Flag.{Flag}
+use Rattle.sum_words.specs.declared.options.Flag.TheVariants as flags
 use Rattle.sum_words.specs.declared.tool.Tool.{Tool}
 use Rattle.sum_words.specs.Tools.{algos_of}
-use Rattle.sum_words.specs.Items.{Text}
+use Rattle.sum_words.specs.Items.{Text, full_name}
 use Rattle.sum_words.specs.PlainWords.{is_plain}
 use Rattle.digests.specs.Meaning.{all_of, meaning, status_of}
 
@@ -52,20 +54,20 @@ pub record Checkable (algos : Algos) (w v : World) (g : GenerationRun) : Type 0 
   pub listable : All (Listable w.answer) g.names
   pub same : All (λ name. v.answer name ≡ w.answer name) g.names
 
--- the options that ask for a check with these settings, by their full names
-abbrev pub report_option : Report → List Text
+-- the options that ask for a check with these settings
+abbrev pub report_option : Report → List Flag
 report_option reports.All = []
-report_option reports.Quiet = codes "quiet" ∷ []
-report_option reports.Warn = codes "warn" ∷ []
-report_option reports.Status = codes "status" ∷ []
+report_option reports.Quiet = flags.Quiet ∷ []
+report_option reports.Warn = flags.Warn ∷ []
+report_option reports.Status = flags.Status ∷ []
 
-abbrev pub check_options : CheckSettings → List Text
-check_options check = codes "check" ∷ report_option check.report ++ (if check.strict then codes "strict" ∷ [] else [])
-    ++ (if check.ignore_missing then codes "ignore-missing" ∷ [] else [])
+abbrev pub check_options : CheckSettings → List Flag
+check_options check = flags.Check ∷ report_option check.report ++ (if check.strict then flags.Strict ∷ [] else [])
+    ++ (if check.ignore_missing then flags.IgnoreMissing ∷ [] else [])
 
 -- the words of such a check of one manifest, as `--check --quiet SUMS`
 abbrev pub check_words : CheckSettings → Text → List Text
-check_words check manifest = map (λ full. codes "--" ++ full) (check_options check) ++ manifest ∷ []
+check_words check manifest = map (λ flag. codes "--" ++ full_name flag) (check_options check) ++ manifest ∷ []
 
 -- A tool, called with these words, ends with the status 0; it writes `NAME: OK` for each name, where the report setting
 -- has such lines, and nothing else.

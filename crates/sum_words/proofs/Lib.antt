@@ -1,7 +1,6 @@
 mod ToolLemmas
 mod CommandLineLemmas
 mod PieceLemmas
-mod OptionLemmas
 mod WordLemmas
 mod RequestLemmas
 mod TextLemmas

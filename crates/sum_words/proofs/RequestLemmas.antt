@@ -17,13 +17,12 @@ use Rattle.sum_words.specs.declared.request.Request.TheVariants.{Work}
 use Rattle.sum_words.specs.Tools.{algos_of}
 use Rattle.sum_words.specs.Faults.{Fault}
 use Rattle.sum_words.specs.Items.{Text, Item, option, a_word, items_from, options_of, values_of, operands_of}
-use Rattle.sum_words.specs.refinement.ItemIterator.{full_name}
 use Rattle.sum_words.specs.Request.{length_kind, first_fault, job_of, early_answer, request}
 use Rattle.sum_words.specs.refinement.Request.{IsNumberOf}
 
 -- an option that doesn't end the matter
 pub ending_not : (flag : Flag) (rest : List Item) → flag ≢ flags.Help → flag ≢ flags.Version
-    → early_answer (option (full_name flag) ∷ rest) ≡ early_answer rest
+    → early_answer (option flag ∷ rest) ≡ early_answer rest
 ending_not flags.Help rest help version = absurd (help refl)
 ending_not flags.Version rest help version = absurd (version refl)
 ending_not flag rest help version = refl

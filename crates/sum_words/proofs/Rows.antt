@@ -9,6 +9,8 @@ use Rattle.digest_kinds.specs.declared.algo.Algos.TheVariants.{One, Any}
 use Rattle.sum_lines.specs.declared.line_format.Mode.{Mode}
 use Rattle.sum_lines.specs.declared.line_format.Mode.TheVariants as modes
 use Rattle.sum_engine.specs.declared.settings.Report.TheVariants as reports
+use Rattle.sum_words.specs.declared.options.Flag.TheVariants as flags
+use Rattle.sum_words.specs.declared.options.Spelling.TheVariants.{Long, Short}
 use Rattle.sum_words.specs.declared.tool.Tool.{Tool}
 use Rattle.sum_words.specs.declared.tool.Tool.TheVariants.{Md5sum, Sha256sum, B2sum, Anysum}
 use Rattle.sum_words.specs.declared.request.Request.{Request}
@@ -33,7 +35,7 @@ length_faults :
     × (request B2sum (codes "-l" ∷ codes "12" ∷ codes "e" ∷ []) ≡ Err (length_not_bytes (codes "12")))
     × (request B2sum (codes "-l" ∷ codes "12" ∷ codes "-l" ∷ codes "8" ∷ codes "e" ∷ [])
     ≡ writes Blake2b 1 modes.Text (codes "e" ∷ []))
-    × (request B2sum (codes "e" ∷ codes "-l" ∷ []) ≡ Err (value_missing false))
+    × (request B2sum (codes "e" ∷ codes "-l" ∷ []) ≡ Err (value_missing Short))
     × (request Md5sum (codes "-l" ∷ codes "8" ∷ codes "a" ∷ []) ≡ Err (unknown_short 108))
 unfolding chars encode name_or_fault option_of_letter
 length_faults = (refl, refl, refl, refl, refl, refl)
@@ -49,12 +51,12 @@ tag_and_text = (refl, refl, refl)
 -- faults of an option
 option_faults :
     (request Sha256sum (codes "--st" ∷ codes "l" ∷ []) ≡ Err (ambiguous_long (codes "st")))
-    × (request Sha256sum (codes "--str" ∷ codes "l" ∷ []) ≡ Err (without_check (codes "strict")))
+    × (request Sha256sum (codes "--str" ∷ codes "l" ∷ []) ≡ Err (without_check flags.Strict))
     × (request Sha256sum (codes "-cq" ∷ codes "l" ∷ []) ≡ Err (unknown_short 113))
-    × (request Md5sum (codes "--status" ∷ codes "--quiet" ∷ codes "a" ∷ []) ≡ Err (without_check (codes "quiet")))
+    × (request Md5sum (codes "--status" ∷ codes "--quiet" ∷ codes "a" ∷ []) ≡ Err (without_check flags.Quiet))
     × (request Md5sum (codes "--foo" ∷ codes "--help" ∷ []) ≡ Err (unknown_long (codes "foo")))
     × (request Md5sum (codes "--help" ∷ codes "--foo" ∷ []) ≡ Ok Help)
-    × (request Md5sum (codes "--tag=1" ∷ codes "a" ∷ []) ≡ Err (value_not_allowed (codes "tag")))
+    × (request Md5sum (codes "--tag=1" ∷ codes "a" ∷ []) ≡ Err (value_not_allowed flags.Tag))
     × (request Md5sum (codes "--foo=1" ∷ codes "a" ∷ []) ≡ Err (unknown_long (codes "foo")))
 unfolding chars encode name_or_fault option_of_letter
 option_faults = (refl, refl, refl, refl, refl, refl, refl, refl)
@@ -65,7 +67,7 @@ abbreviations :
     × (request Md5sum (codes "--t" ∷ codes "a" ∷ []) ≡ Err (ambiguous_long (codes "t")))
     × (request Md5sum (codes "--=x" ∷ codes "a" ∷ []) ≡ Err (ambiguous_long []))
     × (request Md5sum (codes "--ta" ∷ codes "a" ∷ []) ≡ writes Md5 16 modes.Tag (codes "a" ∷ []))
-    × (request Md5sum (codes "--help=1" ∷ []) ≡ Err (value_not_allowed (codes "help")))
+    × (request Md5sum (codes "--help=1" ∷ []) ≡ Err (value_not_allowed flags.Help))
 unfolding chars encode name_or_fault option_of_letter
 abbreviations = (refl, refl, refl, refl, refl)
 
@@ -82,7 +84,7 @@ length_values :
     ≡ writes Blake2b 64 modes.Tag (codes "e" ∷ []))
     × (request B2sum (codes "--length=" ∷ codes "e" ∷ []) ≡ Err (length_invalid []))
     × (request B2sum (codes "-l" ∷ codes "+8" ∷ codes "e" ∷ []) ≡ Err (length_invalid (codes "+8")))
-    × (request B2sum (codes "e" ∷ codes "--len" ∷ []) ≡ Err (value_missing true))
+    × (request B2sum (codes "e" ∷ codes "--len" ∷ []) ≡ Err (value_missing Long))
 unfolding chars encode name_or_fault option_of_letter
 length_values = (refl, refl, refl, refl, refl, refl, refl, refl, refl, refl)
 
@@ -101,10 +103,10 @@ order_of_faults :
     × (request Md5sum (codes "-c" ∷ codes "--tag" ∷ codes "l" ∷ []) ≡ Err tag_with_check)
     × (request Md5sum (codes "-c" ∷ codes "-b" ∷ codes "l" ∷ []) ≡ Err mode_with_check)
     × (request Md5sum (codes "--strict" ∷ codes "--ignore-missing" ∷ codes "a" ∷ [])
-    ≡ Err (without_check (codes "ignore-missing")))
+    ≡ Err (without_check flags.IgnoreMissing))
     × (request Md5sum (codes "--quiet" ∷ codes "-w" ∷ codes "--status" ∷ codes "a" ∷ [])
-    ≡ Err (without_check (codes "status")))
-    × (request Md5sum (codes "--status" ∷ codes "-w" ∷ codes "a" ∷ []) ≡ Err (without_check (codes "warn")))
+    ≡ Err (without_check flags.Status))
+    × (request Md5sum (codes "--status" ∷ codes "-w" ∷ codes "a" ∷ []) ≡ Err (without_check flags.Warn))
     × (request Md5sum (codes "-c" ∷ codes "-t" ∷ codes "--tag" ∷ codes "-t" ∷ codes "l" ∷ []) ≡ Err tag_with_text)
 unfolding chars encode name_or_fault option_of_letter
 order_of_faults = (refl, refl, refl, refl, refl, refl, refl)
@@ -114,7 +116,7 @@ anysum_words :
     (request Anysum [] ≡ Err check_needed)
     × (request Anysum (codes "m" ∷ []) ≡ Err check_needed)
     × (request Anysum (codes "-b" ∷ codes "m" ∷ []) ≡ Err check_needed)
-    × (request Anysum (codes "--quiet" ∷ codes "m" ∷ []) ≡ Err (without_check (codes "quiet")))
+    × (request Anysum (codes "--quiet" ∷ codes "m" ∷ []) ≡ Err (without_check flags.Quiet))
     × (request Anysum (codes "-z" ∷ codes "-c" ∷ codes "m" ∷ []) ≡ Err zero_with_check)
     × (request Anysum (codes "-c" ∷ codes "-l" ∷ codes "8" ∷ codes "m" ∷ []) ≡ Err (unknown_short 108))
     × (request Anysum (codes "-c" ∷ codes "--length=8" ∷ codes "m" ∷ []) ≡ Err (unknown_long (codes "length")))

@@ -10,6 +10,7 @@ use Rattle.std.proofs.lemmas.Str.{chars-nil, chars_past_char, encodes-chars, IsU
 use Rattle.std.proofs.lemmas.List.{nil_from_length}
 use Rattle.std.proofs.lemmas.Bool.{eqb-true, and_parts, false_from_ne_true}
 use Rattle.std.proofs.Math.Bool.{and-true}
+use Rattle.sum_words.specs.declared.options.Spelling.TheVariants.{Short}
 use Rattle.sum_words.specs.Items.{attached_value, a_value, a_word, length_value, is_option_word, is_readable}
 use Rattle.sum_words.specs.refinement.ItemIterator.{IsBehind}
 
@@ -51,7 +52,7 @@ is_ok-text word (Ok s) P text = sym (is_utf8-from_IsUtf8 word text.1)
 is_ok-text word (Err e) P none = sym (false_from_ne_true _ (λ text. none.0 (IsUtf8-from_is_utf8 word text)))
 
 -- nothing is left of the word: the value is in the next one
-pub no_value : (bs : List ℕ) → length bs ≡ 0 → attached_value (chars bs) ≡ ([], a_value false)
+pub no_value : (bs : List ℕ) → length bs ≡ 0 → attached_value (chars bs) ≡ ([], a_value Short)
 no_value bs e = rw (nil_from_length bs e, chars-nil) refl
 
 -- what is left of the word is the value

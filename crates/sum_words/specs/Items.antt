@@ -1,12 +1,14 @@
--- What the words of a command line say, one by one: options by their full names, length values, operands, and at most
--- one fault, with which the list ends.
+-- What the words of a command line say, one by one: options, length values, operands, and at the end maybe a fault.
 use Rattle.std.specs.Prelude.{ℕ, ◌+◌, ◌==◌, ◌&&◌, ◌||◌, not, Bool, true, false, List, [], ◌∷◌, ◌++◌, map, drop, Option, None, Some, Result, Ok, Err, codes, if◌then◌else◌, option_map, filter, find, position}
-use Rattle.std.specs.List.{list_any, starts_with, before_first}
+use Rattle.std.specs.List.{starts_with, before_first}
+use Rattle.std.specs.Option.{option_map_or}
 use Rattle.std.specs.Str.{byte, bytes_eq, chars, encode_utf8_all, is_utf8}
 use Rattle.sum_words.specs.declared.tool.Tool.{Tool}
 use Rattle.sum_words.specs.declared.tool.Tool.TheVariants as tools
 use Rattle.sum_words.specs.declared.options.Flag.{Flag}
 use Rattle.sum_words.specs.declared.options.Flag.TheVariants as flags
+use Rattle.sum_words.specs.declared.options.Spelling.{Spelling}
+use Rattle.sum_words.specs.declared.options.Spelling.TheVariants.{Long, Short}
 use Rattle.sum_words.specs.Faults.{Fault, unknown_long, ambiguous_long, value_not_allowed, value_missing, unknown_short}
 
 -- a list of bytes
@@ -14,7 +16,7 @@ abbrev pub Text : Type 0
 Text = List ℕ
 
 pub data Item : Type 0 where
-  option : Text → Item
+  option : Flag → Item
   length_value : Text → Item
   operand : Text → Item
   fault : Fault → Item
@@ -35,23 +37,27 @@ row_of flags.Help = (codes "", codes "help")
 row_of flags.Version = (codes "", codes "version")
 row_of flags.Length = (codes "l", codes "length")
 
+abbrev pub full_name : Flag → Text
+full_name flag = (row_of flag).1
+
 -- the options of every tool
 abbrev pub common : List Flag
 common = flags.Binary ∷ flags.Check ∷ flags.Tag ∷ flags.Text ∷ flags.Zero ∷ flags.IgnoreMissing ∷ flags.Quiet ∷
     flags.Status ∷ flags.Strict ∷ flags.Warn ∷ flags.Help ∷ flags.Version ∷ []
 
 -- b2sum has one more, which alone takes a value
-abbrev pub table : Tool → List (Text × Text)
-table tools.B2sum = map row_of (common ++ flags.Length ∷ [])
-table t = map row_of common
+abbrev pub flags_of : Tool → List Flag
+flags_of tools.B2sum = common ++ flags.Length ∷ []
+flags_of t = common
 
-abbrev pub takes_value : Text → Bool
-takes_value full = bytes_eq full (codes "length")
+abbrev pub takes_value : Flag → Bool
+takes_value flags.Length = true
+takes_value flag = false
 
--- what a word says, with how the next one is read: as it stands, as an option's value (a long one's or not), or not
+-- what a word says, with how the next one is read: as it stands, as the value of an option written so, or not at all
 pub data NextWord : Type 0 where
   a_word : NextWord
-  a_value : Bool → NextWord
+  a_value : Spelling → NextWord
   no_word : NextWord
 
 abbrev pub ItemsAndNext : Type 0
@@ -64,43 +70,33 @@ name_part text = before_first (λ b. b == byte "=") text
 abbrev pub value_part : Text → Option Text
 value_part text = option_map (λ i. drop (i + 1) text) (position (λ b. b == byte "=") text)
 
-abbrev pub has : Text → List Text → Bool
-has name names = list_any (bytes_eq name) names
-
--- the option that a name means: the one that has it in full, or else the only one that begins with it
-abbrev pub the_one : Text → List Text → Result Text Fault
+-- the option that a name means: the one that has it in full, or else the only one whose full name begins with it
+abbrev pub the_one : Text → List Flag → Result Flag Fault
 the_one name [] = Err (unknown_long name)
-the_one name (full ∷ []) = Ok full
-the_one name fulls = Err (ambiguous_long name)
+the_one name (flag ∷ []) = Ok flag
+the_one name several = Err (ambiguous_long name)
 
-abbrev pub full_names : List (Text × Text) → List Text
-full_names rows = map (λ row. row.1) rows
+unfoldable pub name_or_fault : Tool → Text → Result Flag Fault
+name_or_fault t name = option_map_or (λ flag. Ok flag) (find (λ flag. bytes_eq name (full_name flag)) (flags_of t))
+    (the_one name (filter (λ flag. starts_with ◌==◌ (full_name flag) name) (flags_of t)))
 
-unfoldable pub name_or_fault : Tool → Text → Result Text Fault
-name_or_fault t name =
-    let fulls = full_names (table t) in
-    if has name fulls then Ok name else the_one name (filter (λ full. starts_with ◌==◌ full name) fulls)
-
-abbrev pub long_option : Result Text Fault → Option Text → ItemsAndNext
+abbrev pub long_option : Result Flag Fault → Option Text → ItemsAndNext
 long_option (Err f) value = (fault f ∷ [], no_word)
-long_option (Ok full) None = if takes_value full then ([], a_value true) else (option full ∷ [], a_word)
-long_option (Ok full) (Some value) =
-    if takes_value full then (length_value value ∷ [], a_word) else (fault (value_not_allowed full) ∷ [], no_word)
+long_option (Ok flag) None = if takes_value flag then ([], a_value Long) else (option flag ∷ [], a_word)
+long_option (Ok flag) (Some value) =
+    if takes_value flag then (length_value value ∷ [], a_word) else (fault (value_not_allowed flag) ∷ [], no_word)
 
 -- a cluster: options one by one, by their letters; what is left of the word is the value of one that takes it
-abbrev pub has_letter : ℕ → Text × Text → Bool
-has_letter c row = bytes_eq row.0 (c ∷ [])
-
-unfoldable pub option_of_letter : Tool → ℕ → Option Text
-option_of_letter t c = option_map (λ row. row.1) (find (has_letter c) (table t))
+unfoldable pub option_of_letter : Tool → ℕ → Option Flag
+option_of_letter t c = find (λ flag. bytes_eq (row_of flag).0 (c ∷ [])) (flags_of t)
 
 abbrev pub attached_value : List ℕ → ItemsAndNext
-attached_value [] = ([], a_value false)
+attached_value [] = ([], a_value Short)
 attached_value cs = (length_value (encode_utf8_all cs) ∷ [], a_word)
 
-abbrev pub letter_then : ℕ → Option Text → List ℕ → ItemsAndNext → ItemsAndNext
+abbrev pub letter_then : ℕ → Option Flag → List ℕ → ItemsAndNext → ItemsAndNext
 letter_then c None cs rest = (fault (unknown_short c) ∷ [], no_word)
-letter_then c (Some full) cs rest = if takes_value full then attached_value cs else (option full ∷ rest.0, rest.1)
+letter_then c (Some flag) cs rest = if takes_value flag then attached_value cs else (option flag ∷ rest.0, rest.1)
 
 abbrev pub cluster : Tool → List ℕ → ItemsAndNext
 cluster t [] = ([], a_word)
@@ -119,23 +115,21 @@ abbrev pub read_word : Tool → Text → ItemsAndNext
 read_word t word =
     if starts_with ◌==◌ word (codes "--")
     then long_option (name_or_fault t (name_part (drop 2 word))) (value_part (drop 2 word))
-    else if is_option_word word then cluster t (chars (drop 1 word))
-    else (operand word ∷ [], a_word)
+    else if is_option_word word then cluster t (chars (drop 1 word)) else (operand word ∷ [], a_word)
 
 -- all words; those behind a "--" that is no option's value are operands
 abbrev pub items_from : Tool → NextWord → List Text → List Item
 items_from t no_word words = []
 items_from t a_word [] = []
 items_from t a_word (w ∷ ws) =
-    if bytes_eq w (codes "--") then map operand ws
-    else (read_word t w).0 ++ items_from t (read_word t w).1 ws
-items_from t (a_value is_long) [] = fault (value_missing is_long) ∷ []
-items_from t (a_value is_long) (w ∷ ws) = length_value w ∷ items_from t a_word ws
+    if bytes_eq w (codes "--") then map operand ws else (read_word t w).0 ++ items_from t (read_word t w).1 ws
+items_from t (a_value spelling) [] = fault (value_missing spelling) ∷ []
+items_from t (a_value spelling) (w ∷ ws) = length_value w ∷ items_from t a_word ws
 
--- the full names of the options among the items, the length values, and the operands, each in their order
-abbrev pub options_of : List Item → List Text
+-- the options among the items, the length values, and the operands, each in their order
+abbrev pub options_of : List Item → List Flag
 options_of [] = []
-options_of (option full ∷ xs) = full ∷ options_of xs
+options_of (option flag ∷ xs) = flag ∷ options_of xs
 options_of (x ∷ xs) = options_of xs
 
 abbrev pub values_of : List Item → List Text

@@ -1,5 +1,5 @@
 -- The texts that the program itself writes: those of faults, help and version, and the line for a stop.
-use Rattle.std.specs.Prelude.{true, false, [], ◌++◌, codes}
+use Rattle.std.specs.Prelude.{[], ◌++◌, codes}
 use Rattle.std.specs.Char.{encode_utf8}
 use Rattle.digest_kinds.specs.declared.algo.Algos.{Algos}
 use Rattle.digest_kinds.specs.declared.algo.Algos.TheVariants.{One, Any}
@@ -7,19 +7,20 @@ use Rattle.digest_kinds.specs.Kinds.{tag}
 use Rattle.sum_lines.specs.Escape.{escape}
 use Rattle.sum_engine.specs.declared.stop.Stop.{Stop}
 use Rattle.sum_engine.specs.declared.stop.Stop.TheVariants.{Memory, Write}
+use Rattle.sum_words.specs.declared.options.Spelling.TheVariants.{Long, Short}
 use Rattle.sum_words.specs.declared.tool.Tool.{Tool}
 use Rattle.sum_words.specs.declared.tool.Tool.TheVariants as tools
 use Rattle.sum_words.specs.Tools.{name_of, algos_of}
-use Rattle.sum_words.specs.Items.{Text}
+use Rattle.sum_words.specs.Items.{Text, full_name}
 use Rattle.sum_words.specs.Faults.{Fault, unknown_long, ambiguous_long, value_not_allowed, value_missing, unknown_short, length_invalid, length_not_bytes, tag_with_text, zero_with_check, tag_with_check, mode_with_check, without_check, check_needed}
 
 -- a fault: what its text shows of the words is escaped as names are
 abbrev pub wording : Fault → Text
 wording (unknown_long name) = codes "unrecognized option '--" ++ escape name ++ codes "'"
 wording (ambiguous_long name) = codes "option '--" ++ escape name ++ codes "' is ambiguous"
-wording (value_not_allowed full) = codes "option '--" ++ full ++ codes "' doesn't allow an argument"
-wording (value_missing true) = codes "option '--length' requires an argument"
-wording (value_missing false) = codes "option requires an argument -- 'l'"
+wording (value_not_allowed f) = codes "option '--" ++ full_name f ++ codes "' doesn't allow an argument"
+wording (value_missing Long) = codes "option '--length' requires an argument"
+wording (value_missing Short) = codes "option requires an argument -- 'l'"
 wording (unknown_short c) = codes "invalid option -- '" ++ escape (encode_utf8 c) ++ codes "'"
 wording (length_invalid value) = codes "invalid length: '" ++ escape value ++ codes "'"
 wording (length_not_bytes value) = codes "length is not a multiple of 8: '" ++ escape value ++ codes "'"
@@ -27,7 +28,7 @@ wording tag_with_text = codes "--tag does not support --text mode"
 wording zero_with_check = codes "the --zero option is not supported when verifying checksums"
 wording tag_with_check = codes "the --tag option is meaningless when verifying checksums"
 wording mode_with_check = codes "the --binary and --text options are meaningless when verifying checksums"
-wording (without_check full) = codes "the --" ++ full ++ codes " option is meaningful only when verifying checksums"
+wording (without_check f) = codes "the --" ++ full_name f ++ codes " option is meaningful only when verifying checksums"
 wording check_needed = codes "--check is required"
 
 -- the two lines of a tool of this name

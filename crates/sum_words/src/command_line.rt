@@ -31,7 +31,8 @@ pub enum CommandLine<A: Allocator> {
 
 /// Reads the command line. The last part of the name by which the program was called is the tool's, where it is one;
 /// else the first word is. `NotRead` where a word that begins with a dash isn't UTF-8, or where memory is refused.
-/// Memory is wanted only where a word stands behind the tool's name, known or not, or an argument is longer than a page.
+/// Memory is wanted only where a word stands behind the tool's name, known or not, or where an argument is longer than
+/// a page.
 pub fn read_command_line<A: Allocator + Copy, G: Arguments>(
     alloc: A,
     arguments: &G,

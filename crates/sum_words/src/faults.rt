@@ -7,6 +7,7 @@ ghost use Rattle.sum_words.specs.refinement.ItemIterator.{fault_of};
 ghost use Rattle.sum_words.specs.refinement.Shown.{shown_text};
 ghost use Rattle.sum_words.specs.Texts.{wording, lines_of, fault_lines, stop_text, stop_line};
 
+use crate::options::{Flag, Spelling};
 use crate::tool::Tool;
 use sum_engine::Stop;
 use sum_lines::{Part, Sink, SinkFault, put_all, put_parts};
@@ -19,10 +20,10 @@ pub enum WordFault<'a> {
     UnknownLong(&'a str),
     /// A long option, of this name as it was typed, that several options' names begin with.
     AmbiguousLong(&'a str),
-    /// A value after `=` at the option of this full name, which takes none.
-    ValueNotAllowed(&'static str),
-    /// No word left for the value of `--length` (true) or of `-l` (false).
-    ValueMissing(bool),
+    /// A value after `=` at this option, which takes none.
+    ValueNotAllowed(Flag),
+    /// No word left for the value of `--length` or of `-l`.
+    ValueMissing(Spelling),
     /// A character of a cluster that is no option.
     UnknownShort(char),
     /// A length that isn't one or more digits, or is over 512.
@@ -37,16 +38,8 @@ pub enum WordFault<'a> {
     TagWithCheck,
     /// `--binary` or `--text` with `--check`.
     ModeWithCheck,
-    /// `--ignore-missing` without `--check`.
-    IgnoreWithoutCheck,
-    /// `--status` as the report setting, without `--check`.
-    StatusWithoutCheck,
-    /// `--warn` as the report setting, without `--check`.
-    WarnWithoutCheck,
-    /// `--quiet` as the report setting, without `--check`.
-    QuietWithoutCheck,
-    /// `--strict` without `--check`.
-    StrictWithoutCheck,
+    /// This option without `--check`: first `--ignore-missing`, then the report setting, then `--strict`.
+    NeedsCheck(Flag),
     /// `anysum` without `--check`.
     CheckNeeded,
 }
@@ -61,7 +54,13 @@ pub fn put_fault<E: Sink>(err: &mut E, tool: Tool, fault: &WordFault<'_>) -> Res
     let mut buffer = [0; 4];
     match shown {
         Shown::Nothing => put_lines(err, name, prefix, Part::Bytes(b""), suffix),
-        Shown::FullName(full) => put_lines(err, name, prefix, Part::Bytes(full.as_bytes()), suffix),
+        Shown::FullName(flag) => put_lines(
+            err,
+            name,
+            prefix,
+            Part::Bytes(flag.name().as_bytes()),
+            suffix,
+        ),
         Shown::Typed(text) => put_lines(err, name, prefix, Part::Escaped(text), suffix),
         Shown::Letter(letter) => {
             let text = letter.encode_utf8(&mut buffer);
@@ -74,7 +73,7 @@ pub fn put_fault<E: Sink>(err: &mut E, tool: Tool, fault: &WordFault<'_>) -> Res
 #[derive(Clone, Copy)]
 enum Shown<'a> {
     Nothing,
-    FullName(&'static str),
+    FullName(Flag),
     Typed(&'a [u8]),
     Letter(char),
 }
@@ -99,8 +98,6 @@ fn put_lines<'a, E: Sink>(
     put_parts(err, &[name, colon, prefix, shown, suffix, hint, name, end])
 }
 
-const NEEDS_CHECK: &str = " option is meaningful only when verifying checksums";
-
 // A fault's text: what stands before what it shows of the words, that, and what stands behind it.
 #[rattlefmt::skip]
 fn wording<'a>(fault: &WordFault<'a>) -> (&'static str, Shown<'a>, &'static str)
@@ -109,9 +106,9 @@ fn wording<'a>(fault: &WordFault<'a>) -> (&'static str, Shown<'a>, &'static str)
     match *fault {
         WordFault::UnknownLong(name) => ("unrecognized option '--", Shown::Typed(name.as_bytes()), "'"),
         WordFault::AmbiguousLong(name) => ("option '--", Shown::Typed(name.as_bytes()), "' is ambiguous"),
-        WordFault::ValueNotAllowed(full) => ("option '--", Shown::FullName(full), "' doesn't allow an argument"),
-        WordFault::ValueMissing(true) => ("option '--length' requires an argument", Shown::Nothing, ""),
-        WordFault::ValueMissing(false) => ("option requires an argument -- 'l'", Shown::Nothing, ""),
+        WordFault::ValueNotAllowed(flag) => ("option '--", Shown::FullName(flag), "' doesn't allow an argument"),
+        WordFault::ValueMissing(Spelling::Long) => ("option '--length' requires an argument", Shown::Nothing, ""),
+        WordFault::ValueMissing(Spelling::Short) => ("option requires an argument -- 'l'", Shown::Nothing, ""),
         WordFault::UnknownShort(letter) => ("invalid option -- '", Shown::Letter(letter), "'"),
         WordFault::LengthInvalid(value) => ("invalid length: '", Shown::Typed(value), "'"),
         WordFault::LengthNotBytes(value) => ("length is not a multiple of 8: '", Shown::Typed(value), "'"),
@@ -122,11 +119,8 @@ fn wording<'a>(fault: &WordFault<'a>) -> (&'static str, Shown<'a>, &'static str)
             ("the --tag option is meaningless when verifying checksums", Shown::Nothing, ""),
         WordFault::ModeWithCheck =>
             ("the --binary and --text options are meaningless when verifying checksums", Shown::Nothing, ""),
-        WordFault::IgnoreWithoutCheck => ("the --", Shown::FullName("ignore-missing"), NEEDS_CHECK),
-        WordFault::StatusWithoutCheck => ("the --", Shown::FullName("status"), NEEDS_CHECK),
-        WordFault::WarnWithoutCheck => ("the --", Shown::FullName("warn"), NEEDS_CHECK),
-        WordFault::QuietWithoutCheck => ("the --", Shown::FullName("quiet"), NEEDS_CHECK),
-        WordFault::StrictWithoutCheck => ("the --", Shown::FullName("strict"), NEEDS_CHECK),
+        WordFault::NeedsCheck(flag) =>
+            ("the --", Shown::FullName(flag), " option is meaningful only when verifying checksums"),
         WordFault::CheckNeeded => ("--check is required", Shown::Nothing, ""),
     }
 }

@@ -10,7 +10,7 @@ ghost use Rattle.sum_words.specs.refinement.ItemIterator.{IsBehind};
 ghost use Rattle.sum_words.specs.declared.tool.Tool.{Tool};
 
 use crate::faults::WordFault;
-use crate::options::Flag;
+use crate::options::{Flag, Spelling};
 use crate::tool::Tool;
 use crate::words::{LentWords, Words};
 use std::alloc::Allocator;
@@ -43,12 +43,12 @@ enum State<'a> {
     Ended,
 }
 
-// What one option or word makes of reading: it says an item, it wants the next word as the value of a long or a short
-// option, or it makes operands of all that come.
+// What one option or word makes of reading: it says an item, it wants the next word as the value of an option that was
+// written so, or it makes operands of all that come.
 #[derive(Clone, Copy)]
 enum Step<'a> {
     Say(Item<'a>, State<'a>),
-    Value(bool),
+    Value(Spelling),
     OnlyOperands,
 }
 
@@ -116,14 +116,14 @@ fn say<'a>(
             *state = next;
             Some(item)
         }
-        Step::Value(is_long) => match take_word(words, at) {
+        Step::Value(spelling) => match take_word(words, at) {
             Some(value) => {
                 *state = State::Word;
                 Some(Item::Length(value))
             }
             None => {
                 *state = State::Ended;
-                Some(Item::Fault(WordFault::ValueMissing(is_long)))
+                Some(Item::Fault(WordFault::ValueMissing(spelling)))
             }
         },
         Step::OnlyOperands => {
@@ -182,11 +182,8 @@ fn long_step<'a>(tool: Tool, text: &'a str) -> Step<'a>
     };
     match (flag.takes_value(), value) {
         (true, Some(value)) => Step::Say(Item::Length(value.as_bytes()), State::Word),
-        (true, None) => Step::Value(true),
-        (false, Some(_)) => Step::Say(
-            Item::Fault(WordFault::ValueNotAllowed(flag.name())),
-            State::Ended,
-        ),
+        (true, None) => Step::Value(Spelling::Long),
+        (false, Some(_)) => Step::Say(Item::Fault(WordFault::ValueNotAllowed(flag)), State::Ended),
         (false, None) => Step::Say(Item::Flag(flag), State::Word),
     }
 }
@@ -210,7 +207,7 @@ fn attached_value(rest: &str) -> Step<'_>
         step_says t result ws ≡ read_then t (attached_value (chars rest.now)) ws }
 {
     if rest.is_empty() {
-        Step::Value(false)
+        Step::Value(Spelling::Short)
     } else {
         Step::Say(Item::Length(rest.as_bytes()), State::Word)
     }

@@ -17,7 +17,7 @@ pub use arguments::{Arguments, SystemArguments, ToldArguments};
 pub use command_line::{CommandLine, NotRead, read_command_line};
 pub use faults::{WordFault, put_fault, put_stop, put_unknown};
 pub use items::{Item, Items, Operands};
-pub use options::Flag;
+pub use options::{Flag, Spelling};
 pub use request::{Job, Request, read_words};
 pub use texts::{put_help, put_version};
 pub use tool::Tool;

@@ -1,11 +1,11 @@
 //! The options of the tools, by name and by letter (coreutils manual, "md5sum invocation" and "b2sum invocation").
-ghost use Rattle.std.specs.Prelude.{◌≡◌, ◌==◌, map, find};
-ghost use Rattle.std.specs.Option.{option_map};
+ghost use Rattle.std.specs.Prelude.{◌≡◌, ◌==◌, [], ◌∷◌, find};
 ghost use Rattle.std.specs.List.{filter, starts_with};
 ghost use Rattle.std.specs.Str.{bytes_eq};
-ghost use Rattle.sum_words.specs.Items.{row_of, table, takes_value, full_names};
-ghost use Rattle.sum_words.specs.Items.{has_letter, option_of_letter, the_one, name_or_fault};
-ghost use Rattle.sum_words.specs.refinement.ItemIterator.{full_name, letter_text, resolution};
+ghost use Rattle.sum_words.specs.Items.{row_of, full_name, flags_of, takes_value};
+ghost use Rattle.sum_words.specs.Items.{option_of_letter, the_one, name_or_fault};
+ghost use Rattle.sum_words.specs.refinement.ItemIterator.{letter_text};
+ghost use Rattle.sum_words.specs.refinement.Request.{result_of};
 
 use crate::faults::WordFault;
 use crate::tool::Tool;
@@ -26,6 +26,13 @@ pub enum Flag {
     Help,
     Version,
     Length,
+}
+
+/// How an option is written: by its full name or the beginning of it, or by its letter.
+#[derive(Clone, Copy, Debug, PartialEq, Eq)]
+pub enum Spelling {
+    Long,
+    Short,
 }
 
 static FLAGS: [Flag; 13] = [
@@ -77,15 +84,16 @@ impl Flag {
 
     /// Whether the option takes a value.
     pub fn takes_value(self) -> bool
-        ensures { result ≡ takes_value (full_name self) }
+        ensures { result ≡ takes_value self }
     {
         matches!(self, Flag::Length)
     }
 
     /// The option that a long name means: the one that has it in full, else the only one that begins with it.
     /// `UnknownLong` where none does, `AmbiguousLong` where several do.
+    #[tactic(auto, unfolding(crate::specs::Items::name_or_fault))]
     pub fn of_name(tool: Tool, name: &str) -> Result<Flag, WordFault<'_>>
-        ensures { resolution result ≡ name_or_fault tool name.now }
+        ensures { result_of result ≡ name_or_fault tool name.now }
     {
         let flags = flags(tool);
         match first_named(flags, name) {
@@ -97,7 +105,7 @@ impl Flag {
     /// The option that a letter means.
     #[tactic(auto, unfolding(crate::specs::Items::option_of_letter))]
     pub fn of_letter(tool: Tool, letter: char) -> Option<Flag>
-        ensures { option_map full_name result ≡ option_of_letter tool letter }
+        ensures { result ≡ option_of_letter tool letter }
     {
         first_lettered(flags(tool), letter)
     }
@@ -105,7 +113,7 @@ impl Flag {
 
 // The options of a tool, of which b2sum alone has the last.
 fn flags(tool: Tool) -> &'static [Flag]
-    ensures { map row_of result.now ≡ table tool }
+    ensures { result.now ≡ flags_of tool }
 {
     match tool {
         Tool::B2sum => &FLAGS,
@@ -115,8 +123,7 @@ fn flags(tool: Tool) -> &'static [Flag]
 
 // The option that has this letter.
 fn first_lettered(flags: &[Flag], letter: char) -> Option<Flag>
-    ensures { option_map full_name result
-        ≡ option_map (λ row. row.1) (find (has_letter letter) (map row_of flags.now)) }
+    ensures { result ≡ find (λ flag. bytes_eq (row_of flag).0 (letter ∷ [])) flags.now }
 {
     for flag in flags {
         if has_letter(*flag, letter) {
@@ -127,7 +134,7 @@ fn first_lettered(flags: &[Flag], letter: char) -> Option<Flag>
 }
 
 fn has_letter(flag: Flag, letter: char) -> bool
-    ensures { result ≡ has_letter letter (row_of flag) }
+    ensures { result ≡ bytes_eq (row_of flag).0 (letter ∷ []) }
 {
     let (own, _) = flag.row();
     own == Some(letter)
@@ -135,7 +142,7 @@ fn has_letter(flag: Flag, letter: char) -> bool
 
 // The option that has this full name.
 fn first_named(flags: &[Flag], name: &str) -> Option<Flag>
-    ensures { option_map full_name result ≡ find (bytes_eq name.now) (full_names (map row_of flags.now)) }
+    ensures { result ≡ find (λ flag. bytes_eq name.now (full_name flag)) flags.now }
 {
     for flag in flags {
         if name == flag.name() {
@@ -154,8 +161,8 @@ fn begins(flag: Flag, name: &str) -> bool
 
 // The only option whose full name begins with this text.
 fn only_begun<'a>(flags: &[Flag], name: &'a str) -> Result<Flag, WordFault<'a>>
-    ensures { resolution result ≡ the_one name.now
-        (filter (λ full. starts_with ◌==◌ full name.now) (full_names (map row_of flags.now))) }
+    ensures { result_of result
+        ≡ the_one name.now (filter (λ flag. starts_with ◌==◌ (full_name flag) name.now) flags.now) }
 {
     let mut found = None;
     for flag in flags {

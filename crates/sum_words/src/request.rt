@@ -3,9 +3,9 @@ ghost use Rattle.std.specs.Prelude.{◌≡◌, ◌∷◌, List, [], None, Some, 
 ghost use Rattle.std.specs.Option.{option_copied, option_map, option_transpose};
 ghost use Rattle.std.specs.Str.{all_ascii_digits};
 ghost use Rattle.sum_words.specs.Items.{Item as ItemSaid, a_word, items_from, option, options_of};
-ghost use Rattle.sum_words.specs.refinement.ItemIterator.{fault_of, full_name};
-ghost use Rattle.sum_words.specs.Request.{early_answer, length_kind, mode_of, report_of, first_fault, job_of, request};
-ghost use Rattle.sum_words.specs.refinement.Request.{IsChosenBy, result_of, IsNumberOf};
+ghost use Rattle.sum_words.specs.refinement.ItemIterator.{fault_of};
+ghost use Rattle.sum_words.specs.Request.{length_kind, mode_of, report_of, first_fault, job_of, request};
+ghost use Rattle.sum_words.specs.refinement.Request.{IsChosenBy, IsReadingOf, result_of, IsNumberOf};
 
 use crate::faults::WordFault;
 use crate::items::{Item, Items, Operands};
@@ -47,8 +47,8 @@ pub fn read_words<'a, A: Allocator>(
     ensures { result_of result ≡ request tool words.now }
 {
     let chosen = match read_options(tool, words) {
-        Ok(chosen) => chosen,
-        Err(answer) => return answer,
+        Reading::Options(chosen) => chosen,
+        Reading::Answer(answer) => return answer,
     };
     let kind = match asked_kind(chosen.length) {
         Ok(kind) => kind,
@@ -78,14 +78,15 @@ struct Chosen<'a> {
     strict: bool,
 }
 
-// What all options say, or the answer where one of the words decides it.
-fn read_options<'a, A: Allocator>(
-    tool: Tool,
-    words: &'a Words<A>,
-) -> Result<Chosen<'a>, Result<Request<'a>, WordFault<'a>>>
-    ensures read { MatchResult result (λ c. IsChosenBy c [] (items_from tool a_word words.now))
-        (λ r. early_answer (items_from tool a_word words.now) ≡ Some (result_of r)) }
-    ensures none { MatchResult result (λ _. early_answer (items_from tool a_word words.now) ≡ None) (λ _. Unit {0}) }
+// What reading all words comes to: what their options say, or the answer where one of the words decides it.
+#[derive(Drop)]
+enum Reading<'a> {
+    Options(Chosen<'a>),
+    Answer(Result<Request<'a>, WordFault<'a>>),
+}
+
+fn read_options<'a, A: Allocator>(tool: Tool, words: &'a Words<A>) -> Reading<'a>
+    ensures { IsReadingOf result (items_from tool a_word words.now) }
 {
     let mut items = Items::new(tool, words);
     let mut chosen = Chosen {
@@ -102,21 +103,21 @@ fn read_options<'a, A: Allocator>(
     };
     while let Some(item) = items.next() {
         match item {
-            Item::Fault(fault) => return Err(Err(fault)),
+            Item::Fault(fault) => return Reading::Answer(Err(fault)),
             Item::Flag(flag) => match flag {
-                Flag::Help => return Err(Ok(Request::Help)),
-                Flag::Version => return Err(Ok(Request::Version)),
+                Flag::Help => return Reading::Answer(Ok(Request::Help)),
+                Flag::Version => return Reading::Answer(Ok(Request::Version)),
                 _ => chosen = with_flag(chosen, flag),
             },
             Item::Length(value) => chosen.length = Some(value),
             Item::Operand(_) => {}
         }
     }
-    Ok(chosen)
+    Reading::Options(chosen)
 }
 
 fn with_flag(chosen: Chosen<'_>, flag: Flag) -> Chosen<'_>
-    ensures { (rest all : List ItemSaid) → IsChosenBy chosen.entry (option (full_name flag) ∷ rest) all →
+    ensures { (rest all : List ItemSaid) → IsChosenBy chosen.entry (option flag ∷ rest) all →
         IsChosenBy result rest all }
 {
     let mut chosen = chosen;
@@ -218,15 +219,15 @@ fn fault_of_options(chosen: &Chosen<'_>) -> Option<WordFault<'static>>
         return None;
     }
     if chosen.ignore_missing {
-        return Some(WordFault::IgnoreWithoutCheck);
+        return Some(WordFault::NeedsCheck(Flag::IgnoreMissing));
     }
     match chosen.report {
-        Some(Report::Status) => Some(WordFault::StatusWithoutCheck),
-        Some(Report::Warn) => Some(WordFault::WarnWithoutCheck),
-        Some(Report::Quiet) => Some(WordFault::QuietWithoutCheck),
+        Some(Report::Status) => Some(WordFault::NeedsCheck(Flag::Status)),
+        Some(Report::Warn) => Some(WordFault::NeedsCheck(Flag::Warn)),
+        Some(Report::Quiet) => Some(WordFault::NeedsCheck(Flag::Quiet)),
         _ => {
             if chosen.strict {
-                Some(WordFault::StrictWithoutCheck)
+                Some(WordFault::NeedsCheck(Flag::Strict))
             } else {
                 None
             }

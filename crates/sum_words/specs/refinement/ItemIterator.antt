@@ -1,10 +1,9 @@
 -- Joins the iterator over the words to the list of items: what its values say, and what is still to come where it
 -- stands.
-use Rattle.std.specs.Prelude.{◌≡◌, ◌==◌, ℕ, drop, length, true, map, List, [], ◌∷◌, ◌++◌, Option, None, Some, Result, Ok, Err, codes}
+use Rattle.std.specs.Prelude.{◌≡◌, ◌==◌, ℕ, drop, length, true, map, List, [], ◌∷◌, ◌++◌, Option, None, Some}
 use Rattle.std.specs.List.{starts_with}
 use Rattle.std.specs.Str.{chars}
 use Rattle.sum_words.specs.declared.tool.Tool.{Tool}
-use Rattle.sum_words.specs.declared.options.Flag.{Flag}
 use Rattle.sum_words.specs.declared.faults.WordFault.{WordFault}
 use Rattle.sum_words.specs.declared.faults.WordFault.TheVariants as words
 use Rattle.sum_words.specs.Faults.{Fault, unknown_long, ambiguous_long, value_not_allowed, value_missing, unknown_short, length_invalid, length_not_bytes, tag_with_text, zero_with_check, tag_with_check, mode_with_check, without_check, check_needed}
@@ -14,10 +13,7 @@ use Rattle.sum_words.specs.declared.items.State.{State}
 use Rattle.sum_words.specs.declared.items.State.TheVariants as states
 use Rattle.sum_words.specs.declared.items.Step.{Step}
 use Rattle.sum_words.specs.declared.items.Step.TheVariants as steps
-use Rattle.sum_words.specs.Items.{Text, row_of, Item, option, length_value, operand, fault, ItemsAndNext, a_word, a_value, no_word, cluster, items_from}
-
-abbrev pub full_name : Flag → Text
-full_name flag = (row_of flag).1
+use Rattle.sum_words.specs.Items.{Text, Item, option, length_value, operand, fault, ItemsAndNext, a_word, a_value, no_word, cluster, items_from}
 
 -- a letter as a text, where there is one
 abbrev pub letter_text : Option ℕ → Text
@@ -28,8 +24,8 @@ letter_text (Some c) = c ∷ []
 abbrev pub fault_of : WordFault → Fault
 fault_of (words.UnknownLong name) = unknown_long name.now
 fault_of (words.AmbiguousLong name) = ambiguous_long name.now
-fault_of (words.ValueNotAllowed full) = value_not_allowed full.now
-fault_of (words.ValueMissing is_long) = value_missing is_long
+fault_of (words.ValueNotAllowed flag) = value_not_allowed flag
+fault_of (words.ValueMissing spelling) = value_missing spelling
 fault_of (words.UnknownShort c) = unknown_short c
 fault_of (words.LengthInvalid value) = length_invalid value.now
 fault_of (words.LengthNotBytes value) = length_not_bytes value.now
@@ -37,21 +33,12 @@ fault_of words.TagWithText = tag_with_text
 fault_of words.ZeroWithCheck = zero_with_check
 fault_of words.TagWithCheck = tag_with_check
 fault_of words.ModeWithCheck = mode_with_check
-fault_of words.IgnoreWithoutCheck = without_check (codes "ignore-missing")
-fault_of words.StatusWithoutCheck = without_check (codes "status")
-fault_of words.WarnWithoutCheck = without_check (codes "warn")
-fault_of words.QuietWithoutCheck = without_check (codes "quiet")
-fault_of words.StrictWithoutCheck = without_check (codes "strict")
+fault_of (words.NeedsCheck flag) = without_check flag
 fault_of words.CheckNeeded = check_needed
-
--- the full name, or the fault, to which a long name was resolved
-abbrev pub resolution : Result Flag WordFault → Result Text Fault
-resolution (Ok flag) = Ok (full_name flag)
-resolution (Err f) = Err (fault_of f)
 
 -- the item that the program's value says
 abbrev pub item_of : WordItem → Item
-item_of (says.Flag flag) = option (full_name flag)
+item_of (says.Flag flag) = option flag
 item_of (says.Length value) = length_value value.now
 item_of (says.Operand word) = operand word.now
 item_of (says.Fault f) = fault (fault_of f)
@@ -70,7 +57,7 @@ items_to_come t states.Ended words = items_from t no_word words
 -- the items that a step makes of these words
 abbrev pub step_says : Tool → Step → List Text → List Item
 step_says t (steps.Say x state) words = item_of x ∷ items_to_come t state words
-step_says t (steps.Value is_long) words = items_from t (a_value is_long) words
+step_says t (steps.Value spelling) words = items_from t (a_value spelling) words
 step_says t steps.OnlyOperands words = map operand words
 
 -- the first member was taken, as this says, or there is none

@@ -1,8 +1,9 @@
-use Rattle.std.proofs.Common.{◌≡◌, drop, map, find}
-use Rattle.sum_words.specs.Items.{row_of, has_letter}
+use Rattle.std.proofs.Common.{◌≡◌, [], ◌∷◌, drop, find}
+use Rattle.std.specs.Str.{bytes_eq}
+use Rattle.sum_words.specs.Items.{row_of}
 use Rattle.sum_words.proofs.options.first_lettered.Given as goal
 
 -- none of the options so far has the letter
 abbrev pub invariant-loop-flag : goal.invariant-loop-flag
-invariant-loop-flag l = find (has_letter l.letter) (map row_of l.flags)
-    ≡ find (has_letter l.letter) (map row_of (drop l.flag-index l.flags))
+invariant-loop-flag l = find (λ flag. bytes_eq (row_of flag).0 (l.letter ∷ [])) l.flags
+    ≡ find (λ flag. bytes_eq (row_of flag).0 (l.letter ∷ [])) (drop l.flag-index l.flags)

@@ -1,6 +1,6 @@
 use Rattle.std.proofs.Common.{◌≡◌, sym, ◌∙◌, ap, ◌∷◌}
 use Rattle.sum_words.specs.Items.{a_word, items_from, option}
-use Rattle.sum_words.specs.refinement.ItemIterator.{full_name, item_of}
+use Rattle.sum_words.specs.refinement.ItemIterator.{item_of}
 use Rattle.sum_words.specs.Request.{early_answer}
 use Rattle.sum_words.proofs.RequestLemmas.{ending_not}
 use Rattle.sum_words.proofs.request.read_options.Goals as goal
@@ -8,7 +8,7 @@ use Rattle.sum_words.proofs.request.read_options.Goals as goal
 -- an option that isn't help or version is kept, and doesn't end the matter
 pub loop-item-preserved-in_default-flag : goal.loop-item-preserved-in_default-flag
 loop-item-preserved-in_default-flag g c =
-    let one = option (full_name c.in-Flag.flag) in
+    let one = option c.in-Flag.flag in
     let rest = c.next.new.self in
     let all = items_from c.args.tool a_word c.args.words.now in
     let taken : c.loop-item.items ≡ one ∷ rest = c.in-Some.ensures ∙ ap (λ i. item_of i ∷ rest) c.in-Flag.is in
