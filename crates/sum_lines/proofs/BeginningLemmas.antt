@@ -24,7 +24,7 @@ use Rattle.sum_lines.proofs.PrefixLemmas.{none_of, strip_prefix-append}
 use Rattle.sum_lines.proofs.TaggedLemmas.{hex-no_blank}
 use Rattle.sum_lines.proofs.ScanLemmas.{decoded-size}
 use Rattle.sum_lines.proofs.PlainLemmas.{cut-within, no_prefix, plain-digits, plain-prefix, plain_as-some, read_is_plain}
-use Rattle.sum_lines.proofs.BlankLemmas.{cut-size, plain_as-none, searched-none, searched-some}
+use Rattle.sum_lines.proofs.BlankLemmas.{cut-size, searched-none, searched-some}
 
 -- a line's mark and what stands behind it
 abbrev pub text : List ℕ → Bool × List ℕ
@@ -100,7 +100,7 @@ fixed-len a s n other is e p h =
 -- where no blank is found among the first bytes, no line is plain
 pub search-none : (a : Algo) (s : List ℕ) {n : ℕ} (r : Option ℕ) → n ≡ min (length s) 129
     → IsFirstByte (is_byte2 32 9) (take n s) r → IfNone r ((e : Bool) → None ≡ plain_as a e s)
-search-none a s None is none = λ e. plain_as-none a e s (λ p cut. searched-none is none cut)
+search-none a s None is none = λ e. none_of (plain_as a e s) (λ p h. searched-none is none (plain_as-some h))
 search-none a s (Some i) is first = tt
 
 -- the one that is found is the first

@@ -7,14 +7,9 @@ use Rattle.std.proofs.lemmas.List.Sums.{passes_at_first, position_or_len_is}
 use Rattle.memchr.specs.Find.{IsFirstByte, is_byte2}
 use Rattle.digest_kinds.specs.declared.algo.Algo.{Algo}
 use Rattle.sum_lines.specs.Shapes.{is_blank}
-use Rattle.sum_lines.specs.PartsOfLines.{Parts, plain_as}
-use Rattle.sum_lines.proofs.PrefixLemmas.{none_of}
-use Rattle.sum_lines.proofs.PlainLemmas.{Cut, plain_as-some, cut-within}
+use Rattle.sum_lines.specs.PartsOfLines.{Parts}
+use Rattle.sum_lines.proofs.PlainLemmas.{Cut, cut-within}
 use Rattle.sum_lines.proofs.ScanLemmas.{decoded-size, has_len-most}
-
--- a text that can't be cut isn't plain
-pub plain_as-none : (a : Algo) (e : Bool) (s : List ℕ) → ((p : Parts) → Cut a e s p → ⊥) → None ≡ plain_as a e s
-plain_as-none a e s never = none_of (plain_as a e s) (λ p h. never p (plain_as-some h))
 
 -- a cut has two digits for each byte of its digest, and so few that the search meets its blank
 pub cut-size : {a : Algo} {e : Bool} {s : List ℕ} {p : Parts} → Cut a e s p

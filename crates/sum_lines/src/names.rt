@@ -22,7 +22,7 @@ pub(crate) fn name_in<A: Allocator>(
     requires within { stop ≤ length line.old.items }
     ensures name { (if result then Some (drop start line.new.items) else None)
         ≡ name_of present escaped (slice_range line.old.items start stop) }
-    ensures before { start ≤ length line.new.items }
+    ensures fits { start ≤ length line.new.items }
     ensures len { vec_len line.new ≤ vec_len line.old }
 {
     line.truncate(stop);
