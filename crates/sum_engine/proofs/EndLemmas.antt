@@ -1,5 +1,5 @@
 -- What is answered behind the end of a manifest's verdicts.
-use Rattle.std.proofs.Common.{◌≡◌, ℕ, Bool, true, false, List, [], ◌∷◌, length, Option, None, Some, Result, Ok, Err}
+use Rattle.std.proofs.Common.{◌≡◌, ℕ, Bool, true, false, List, [], length, Option, None, Some, Result, Ok, Err}
 use Rattle.std.proofs.Common.{ap, sym, ◌∙◌, arith, if◌then◌else◌}
 use Rattle.sum_sources.specs.declared.fault.Ending.{Ending}
 use Rattle.sum_sources.specs.declared.lines.LineStop.{LineStop}
@@ -10,7 +10,7 @@ use Rattle.sum_sources.proofs.LineLemmas.{pieces-nil, lines-nil}
 use Rattle.sum_lines.specs.Entries.{form, form_then}
 use Rattle.sum_engine.specs.declared.verdict.LineVerdict.{LineVerdict}
 use Rattle.sum_engine.specs.Profiles.{lines_by}
-use Rattle.sum_engine.specs.Verdicts.{Rules, Judged, verdicts}
+use Rattle.sum_engine.specs.Verdicts.{Rules, verdicts}
 use Rattle.sum_engine.specs.Steps.{Now, rest_verdicts}
 use Rattle.sum_engine.specs.LineVerdicts.{FindsNone, FindOf}
 use Rattle.sum_engine.specs.Laws.{ended_by}

@@ -1,13 +1,11 @@
 -- The next verdict of a manifest, by what reading and judging its line did.
-use Rattle.std.proofs.Common.{◌≡◌, ℕ, ◌+◌, ◌≤◌, ◌||◌, List, [], length, map, slice_range, Option, Some, Ok, Err, refl, ap, sym, ◌∙◌, inl, append-nil}
+use Rattle.std.proofs.Common.{◌≡◌, ℕ, ◌≤◌, ◌||◌, List, [], length, map, slice_range, Option, Some, Ok, Err, refl, ap, sym, ◌∙◌, inl, append-nil}
 use Rattle.std.specs.List.{list_any}
 use Rattle.std.proofs.KnownBytes.{Appends-nil}
-use Rattle.sum_sources.specs.declared.lines.Next.TheVariants.{Line}
 use Rattle.sum_sources.specs.declared.lines.LineStop.TheVariants.{Memory}
 use Rattle.sum_sources.specs.Contents.{InputState, WhereTold}
 use Rattle.sum_sources.specs.Sources.{SourceState}
 use Rattle.sum_sources.specs.declared.lines.LineReader.{LineReader}
-use Rattle.sum_sources.specs.ManifestLines as manifest
 use Rattle.sum_sources.proofs.LineLemmas.{line-some}
 use Rattle.sum_sources.proofs.ToldLemmas.{WhereTold-map}
 use Rattle.sum_lines.specs.ParsedLines.{ParsedLine}
@@ -22,7 +20,7 @@ use Rattle.sum_engine.specs.Moments.{Moment, WhereKnown, run_state}
 use Rattle.sum_engine.specs.refinement.Asking.{world_of}
 use Rattle.sum_engine.specs.RunStates.{Did, Refused}
 use Rattle.sum_engine.specs.Checkers.{Place, now_of}
-use Rattle.sum_engine.specs.Steps.{Now, Moves, next_judged}
+use Rattle.sum_engine.specs.Steps.{Now, next_judged}
 use Rattle.sum_engine.specs.LineVerdicts.{judged_in, FindGives}
 use Rattle.sum_engine.specs.refinement.Judging.{IsJudged, name_said}
 use Rattle.sum_engine.specs.refinement.Handling.{events_by}

@@ -51,8 +51,11 @@ pub handled : {I S : Type 0} (state : S → SourceState) (p : Place I) (line : L
     (out_by p.rules.profile p.rules.settings.report v.verdict (judged_in vector v).name) x
     → Handled state p line d a b (answered x (tt {0}))
 handled state p line d vector a b v (Ok u) h taken refusals hands = where_known state a b _ h (λ w v' judged.
-    rw (judged.0) (judged.2, came_by _ _ (asks_of (judged_in vector v)) _ _ (Ok u)
-    (record { world = judged.1; taken = taken; refusals = refusals }) hands))
+    rw (judged.0) (
+      judged.2,
+      came_by _ _ (asks_of (judged_in vector v)) _ _ (Ok u)
+          (record { world = judged.1; taken = taken; refusals = refusals }) hands,
+    ))
 handled state p line d vector a b v (Err e) h taken refusals hands = where_known state a b _ h (λ w v' judged.
     rw (judged.0) (came_by _ _ (asks_of (judged_in vector v)) _ _ (Err e)
     (record { world = judged.1; taken = taken; refusals = refusals }) hands))

@@ -1,5 +1,5 @@
 -- A text that is written and handed on at once, and one such text after another.
-use Rattle.std.proofs.Common.{◌≡◌, ℕ, List, [], ◌++◌, Option, Result, Ok, Err, ap, sym, ◌∙◌, append_assoc, subst}
+use Rattle.std.proofs.Common.{ℕ, List, ◌++◌, Option, Result, Ok, Err, ap, sym, ◌∙◌, append_assoc, subst}
 use Rattle.std.specs.Io.KnownBytes.{Appends}
 use Rattle.std.proofs.KnownBytes.{Appends-trans}
 use Rattle.sum_lines.specs.Sinks.{SinkState, Wrote, Broke, Flushes}
@@ -29,31 +29,46 @@ prefix_then a b c x y h k = (
 -- a text was written, and then flushed
 pub told_flushed : {E : Type 0} (a b c : SinkState) (text : List ℕ) (r : Result (Unit {0}) E) → Wrote a b text
     → Flushes b c r → Tells a c text r
-told_flushed a b c text (Ok u) h k = (k.2 ∙ h.kept, λ none.
-    (k.1, subst (λ l. Appends a.written c.written (l ++ text)) none (Wrote-flushed c.written text h k.0)))
-told_flushed a b c text (Err e) h k = (k.failed ∙ ap one_more h.kept, λ none.
-    (k.none, subst (λ l. AppendsPrefix a.written c.written (l ++ text)) none (Wrote-dropped text h k)))
+told_flushed a b c text (Ok u) h k = (
+  k.2 ∙ h.kept,
+  λ none.
+      (k.1, subst (λ l. Appends a.written c.written (l ++ text)) none (Wrote-flushed c.written text h k.0)),
+)
+told_flushed a b c text (Err e) h k = (
+  k.failed ∙ ap one_more h.kept,
+  λ none.
+      (k.none, subst (λ l. AppendsPrefix a.written c.written (l ++ text)) none (Wrote-dropped text h k)),
+)
 
 -- writing it failed
 pub told_broken : {E : Type 0} (a c : SinkState) (text : List ℕ) (e : E) → Broke a c text
     → Tells a c text (Err e)
-told_broken a c text e h = (h.failed, λ none.
-    let part = h.handed in
-    (h.none, (part.0, (part.1, ap (λ l. l ++ text) (sym none) ∙ part.2), part.4)))
+told_broken a c text e h = (
+  h.failed,
+  λ none.
+      let part = h.handed in
+      (h.none, (part.0, (part.1, ap (λ l. l ++ text) (sym none) ∙ part.2), part.4)),
+)
 
 -- ---- one text after another
 
 -- a text, and then another or a prefix of it
 pub tells_then : {E : Type 0} (a b c : SinkState) (x y : List ℕ) (r : Result (Unit {0}) E)
     → Tells {E = E} a b x (Ok tt) → Tells b c y r → Tells a c (x ++ y) r
-tells_then a b c x y (Ok u) h k = (k.0 ∙ h.0, λ none.
-    let first = h.1 none in
-    let then = k.1 first.0 in
-    (then.0, Appends-trans a.written b.written c.written x y first.1 then.1))
-tells_then a b c x y (Err e) h k = (k.0 ∙ ap one_more h.0, λ none.
-    let first = h.1 none in
-    let then = k.1 first.0 in
-    (then.0, prefix_then a.written b.written c.written x y first.1 then.1))
+tells_then a b c x y (Ok u) h k = (
+  k.0 ∙ h.0,
+  λ none.
+      let first = h.1 none in
+      let then = k.1 first.0 in
+      (then.0, Appends-trans a.written b.written c.written x y first.1 then.1),
+)
+tells_then a b c x y (Err e) h k = (
+  k.0 ∙ ap one_more h.0,
+  λ none.
+      let first = h.1 none in
+      let then = k.1 first.0 in
+      (then.0, prefix_then a.written b.written c.written x y first.1 then.1),
+)
 
 -- a prefix of a text, and none of the next
 pub part_more : {E : Type 0} (a b : SinkState) (x y : List ℕ) (e : E) → Tells a b x (Err e)

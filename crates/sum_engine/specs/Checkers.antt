@@ -1,5 +1,5 @@
 -- A checker, as its callers see it.
-use Rattle.std.specs.Prelude.{◌≡◌, ◌+◌, Bool, true, [], length, Option, None, Some, Result, Ok}
+use Rattle.std.specs.Prelude.{◌≡◌, ◌+◌, true, [], length, Option, None, Some, Result, Ok}
 use Rattle.sum_sources.specs.declared.lines.LineReader.{LineReader}
 use Rattle.std.specs.Option.{option_map}
 use Rattle.sum_sources.specs.Contents.{InputState, WhereTold, clip}

@@ -1,5 +1,5 @@
 -- What a checker's steps come to: a whole manifest.
-use Rattle.std.specs.Prelude.{ℕ, zero, suc, ◌≡◌, ◌+◌, ◌≤◌, ◌⊎◌, Bool, true, List, take, drop, length, flat_map, Option, Result, Ok, Err, IfSome}
+use Rattle.std.specs.Prelude.{ℕ, zero, suc, ◌≡◌, ◌+◌, ◌≤◌, Bool, true, List, take, drop, length, flat_map, Option, Result, IfSome}
 use Rattle.std.specs.Io.KnownBytes.{Appends}
 use Rattle.sum_sources.specs.Contents.{Content}
 use Rattle.sum_sources.specs.Sources.{SourceState}

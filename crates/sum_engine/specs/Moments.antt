@@ -1,6 +1,6 @@
 -- How the streams of a run stand at one moment: all that a contract sees of them.
-use Rattle.std.specs.Prelude.{ℕ, ◌≡◌, ◌⊎◌, Bool, List, [], Option, Some, Result, Ok, Err}
-use Rattle.sum_sources.specs.Contents.{Content, InputState, WhereTold}
+use Rattle.std.specs.Prelude.{ℕ, ◌≡◌, ◌⊎◌, Bool, [], Option, Some, Result, Err}
+use Rattle.sum_sources.specs.Contents.{Content, WhereTold}
 use Rattle.sum_sources.specs.Sources.{SourceState}
 use Rattle.sum_lines.specs.Sinks.{SinkState}
 use Rattle.sum_lines.specs.PartsOfLines.{◌>>=◌}

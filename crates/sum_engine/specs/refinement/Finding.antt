@@ -6,7 +6,7 @@ use Rattle.sum_lines.specs.ParsedLines.{ParsedLine, parse_line}
 use Rattle.sum_engine.specs.declared.summary.Counts.{Counts}
 use Rattle.sum_engine.specs.declared.verdict.LineVerdict.{LineVerdict}
 use Rattle.sum_engine.specs.Worlds.{World, after}
-use Rattle.sum_engine.specs.Verdicts.{Rules, judge, asks_of}
+use Rattle.sum_engine.specs.Verdicts.{judge, asks_of}
 use Rattle.sum_engine.specs.Reports.{counts_with}
 use Rattle.sum_engine.specs.Checkers.{Place}
 use Rattle.sum_engine.specs.LineVerdicts.{judged_in}

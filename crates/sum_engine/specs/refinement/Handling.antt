@@ -1,5 +1,5 @@
 -- Joins what handling a line does to what the line says.
-use Rattle.std.specs.Prelude.{ℕ, ◌≡◌, ◌++◌, List, map, Option, Result, Ok, Err}
+use Rattle.std.specs.Prelude.{ℕ, ◌≡◌, ◌++◌, List, map, Result, Ok, Err}
 use Rattle.sum_sources.specs.Sources.{SourceState}
 use Rattle.sum_engine.specs.declared.stop.Stop.{Stop}
 use Rattle.sum_engine.specs.declared.stop.Stop.TheVariants.{Memory, Write}
