@@ -1,5 +1,5 @@
 -- Operands, one after another: what those before came to, joined to what the rest comes to, is the whole.
-use Rattle.std.proofs.Common.{◌≡◌, ℕ, Bool, true, List, [], ◌∷◌, Option, Result, Ok, Err, None, Some, refl, ap, sym, ◌∙◌, inl, inr, subst, append_assoc}
+use Rattle.std.proofs.Common.{◌≡◌, ℕ, Bool, true, List, [], ◌∷◌, Option, Ok, Err, None, Some, refl, ap, sym, ◌∙◌, inl, inr, subst, append_assoc}
 use Rattle.std.specs.Prelude.{◌&&◌}
 use Rattle.std.proofs.Math.Bool.{and_assoc, and-true}
 use Rattle.std.proofs.lemmas.List.{append-nil}

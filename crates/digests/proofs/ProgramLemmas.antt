@@ -6,7 +6,7 @@ use Rattle.sum_sources.specs.Sources.{SourceState}
 use Rattle.sum_lines.specs.Sinks.{SinkState, IsPrefix}
 use Rattle.digest_kinds.specs.Limits.{one_more}
 use Rattle.sum_engine.specs.declared.stop.Stop.{Stop}
-use Rattle.sum_engine.specs.declared.stop.Stop.TheVariants.{Memory, Write}
+use Rattle.sum_engine.specs.declared.stop.Stop.TheVariants.{Write}
 use Rattle.sum_engine.specs.Moments.{Moment, RunState, HoldNothing, NoneFailed, OneFailed, Failures}
 use Rattle.sum_engine.specs.Runs.{Event, Tells, Run, events}
 use Rattle.sum_engine.specs.RunStates.{Did, RunOf}
