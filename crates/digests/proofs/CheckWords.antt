@@ -28,14 +28,8 @@ use Rattle.digests.specs.GenerationRuns.{check_options, check_words, ChecksBy}
 
 -- a tool has the common options, or these and one more
 flags-are : (t : Tool) → (flags_of t ≡ common) ⊎ (flags_of t ≡ common ++ flags.Length ∷ [])
-flags-are tools.Md5sum = inl refl
-flags-are tools.Sha1sum = inl refl
-flags-are tools.Sha224sum = inl refl
-flags-are tools.Sha256sum = inl refl
-flags-are tools.Sha384sum = inl refl
-flags-are tools.Sha512sum = inl refl
 flags-are tools.B2sum = inr refl
-flags-are tools.Anysum = inl refl
+flags-are t = inl refl
 
 abbrev takes_none : Flag → Bool
 takes_none flag = not (takes_value flag)
@@ -50,19 +44,8 @@ IsLong flag = (named_by flag common ≡ Some flag) × (named_by flag (common ++ 
     × (bytes_eq (codes "--" ++ full_name flag) (codes "--") ≡ false)
 
 is-long : (flag : Flag) → takes_none flag ≡ true → IsLong flag
-is-long flags.Binary h = (refl, refl, refl, refl, refl, refl)
-is-long flags.Check h = (refl, refl, refl, refl, refl, refl)
-is-long flags.Tag h = (refl, refl, refl, refl, refl, refl)
-is-long flags.Text h = (refl, refl, refl, refl, refl, refl)
-is-long flags.Zero h = (refl, refl, refl, refl, refl, refl)
-is-long flags.IgnoreMissing h = (refl, refl, refl, refl, refl, refl)
-is-long flags.Quiet h = (refl, refl, refl, refl, refl, refl)
-is-long flags.Status h = (refl, refl, refl, refl, refl, refl)
-is-long flags.Strict h = (refl, refl, refl, refl, refl, refl)
-is-long flags.Warn h = (refl, refl, refl, refl, refl, refl)
-is-long flags.Help h = (refl, refl, refl, refl, refl, refl)
-is-long flags.Version h = (refl, refl, refl, refl, refl, refl)
 is-long flags.Length h = let no : false ≡ true = h in cc
+is-long flag h = (refl, refl, refl, refl, refl, refl)
 
 -- the name of one means it
 long_name : (t : Tool) (flag : Flag) → named_by flag common ≡ Some flag
