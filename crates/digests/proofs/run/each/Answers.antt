@@ -56,9 +56,9 @@ operands-preserved g c =
       refusals = refused-none g.S.Source.state c.args.job.now c.operands.streams c.one.new.streams c.in-Ok.this
           c.in-Ok.ensures.refusals ∙ so_far.refusals;
       failures = (
-          c.in-Ok.ensures.failures.0 ∙ so_far.failures.0,
-          c.in-Ok.ensures.failures.1 ∙ so_far.failures.1,
-        );
+        c.in-Ok.ensures.failures.0 ∙ so_far.failures.0,
+        c.in-Ok.ensures.failures.1 ∙ so_far.failures.1,
+      );
     }
 
 -- an operand happened, and it was the last
