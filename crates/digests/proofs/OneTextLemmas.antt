@@ -5,9 +5,8 @@ use Rattle.sum_sources.specs.Sources.{SourceState}
 use Rattle.sum_lines.specs.Sinks.{SinkState}
 use Rattle.sum_engine.specs.Moments.{Moment}
 use Rattle.sum_engine.specs.Runs.{at_once}
-use Rattle.sum_engine.specs.refinement.Handling.{events_by}
 use Rattle.sum_engine.specs.refinement.Telling.{Tells}
-use Rattle.sum_engine.proofs.RunStateLemmas.{Runs, where_known, same_told, asks_none, did_by, prefix_err, prefix_out}
+use Rattle.sum_engine.proofs.RunStateLemmas.{events_by, Runs, where_known, same_told, asks_none, did_by, prefix_err, prefix_out}
 use Rattle.sum_words.specs.Items.{Text}
 use Rattle.digests.specs.Meaning.{status_of}
 use Rattle.digests.specs.refinement.Operands.{once_told}

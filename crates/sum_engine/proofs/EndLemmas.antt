@@ -31,7 +31,7 @@ pub end_stays : (r : Rules) (e : Ending) (vector : List ℕ) (a b c : Now) (x : 
     → FindsNone r e a b → FindOf r vector b c x → x ≡ ended_by e
 end_stays r e vector a b c (Ok (Some v)) ended found =
     let size : 0 ≡ length (rest_verdicts r b) = ap length (sym (none_left r e b ended.rest)) in
-    absurd (omega (arith, size, ap length found.first))
+    absurd (omega (arith, size, ap length found.0.first))
 end_stays r e vector a b c (Ok None) ended found =
     ap ended_by (sym found.ending ∙ ap (λ (d : Content). d.ending) ended.rest)
 end_stays r e vector a b c (Err (Fault f)) ended found =

@@ -23,9 +23,8 @@ use Rattle.sum_engine.specs.Checkers.{Place, now_of}
 use Rattle.sum_engine.specs.Steps.{Now, next_judged}
 use Rattle.sum_engine.specs.LineVerdicts.{judged_in, FindGives}
 use Rattle.sum_engine.specs.refinement.Judging.{IsJudged, name_said}
-use Rattle.sum_engine.specs.refinement.Handling.{events_by}
 use Rattle.sum_engine.specs.refinement.Finding.{TakesLine, LineGives, parsed_at}
-use Rattle.sum_engine.proofs.RunStateLemmas.{where_known, names-by, did_by}
+use Rattle.sum_engine.proofs.RunStateLemmas.{events_by, where_known, names-by, did_by}
 use Rattle.sum_engine.proofs.RestLemmas.{rest_on}
 use Rattle.sum_engine.proofs.StepLemmas.{now_at, now-told, ReadsLine, read_line, moves_by}
 
@@ -70,12 +69,14 @@ find_line {I} input state p q reader a b line vector v reads takes few h taken e
     let counted = found'.2 ∙ ap (λ (j : Judged). counts_with p.counts j.verdict) (sym is) in
     let moves = moves_by p q reader c d s t line vector reads.profile reads.number took takes few counted in
     let asked = rw (names-by names [] []) at found'.1.world in
-    record {
-      first = rest_on p.rules first next vector moves (rw is asked) ∙ rw is refl;
-      did = rw (append-nil (map Opens names)) at found'.1;
-      counts = found'.2;
-      rest = took.0.1;
-    }))
+    (
+      record {
+        first = rest_on p.rules first next vector moves (rw is asked) ∙ rw is refl;
+        did = rw (append-nil (map Opens names)) at found'.1;
+        counts = found'.2;
+      },
+      moves,
+    )))
 
 -- memory to open a line's file was refused: nothing happened, and the line was to come
 pub find_refused : {I S : Type 0} (input : I → InputState) (state : S → SourceState) (p q : Place I)

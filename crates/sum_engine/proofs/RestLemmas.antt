@@ -63,25 +63,15 @@ first_step r e k c [] = (
 first_step r e k c (j ∷ js) =
     (line_step r (length c.bytes) j, run_by r e (counts_with k j.verdict) (past_line c) js, refl, refl)
 
--- a line is next
-pub line_first : (r : Rules) (a : Now) (l : List ℕ) (ls : List (List ℕ)) → lines_by r.profile a.rest ≡ l ∷ ls
-    → (rest : Run) × (to_come r a ≡ step_then (line_step r (length a.rest.bytes) (next_judged r a l)) rest)
-line_first r a l ls h = (_, ap (run_by r a.rest.ending a.counts a.rest) (rest_head r a l ls h))
-
--- a line was handled
-pub line_done : (r : Rules) (a b : Now) (v : List ℕ) (h : Moves r a b v)
-    → b.run_state.world ≡ after a.run_state.world (asks_of (next_judged r a h.line))
-    → to_come r a ≡ step_then (line_step r (length a.rest.bytes) (next_judged r a h.line)) (to_come r b)
-line_done r a b v h world =
-    let s = line_step r (length a.rest.bytes) (next_judged r a h.line) in
-    ap (run_by r a.rest.ending a.counts a.rest) (rest_on r a b v h world)
-    ∙ ap (λ k. step_then s (run_by r a.rest.ending k (past_line a.rest) (rest_verdicts r b))) (sym h.counts)
-    ∙ ap (λ (c : Content). step_then s (run_by r c.ending b.counts c (rest_verdicts r b))) (sym h.rest)
-
--- no line is left: the end is next, and nothing comes behind it
-pub end_first : (r : Rules) (a : Now) → lines_by r.profile a.rest ≡ []
-    → to_come r a ≡ run_by r a.rest.ending a.counts a.rest []
-end_first r a h = rw h refl
+-- a line was found, which is the first of those that are to come
+pub found_first : (r : Rules) (a b : Now) (j : Judged) → rest_verdicts r a ≡ j ∷ rest_verdicts r b
+    → b.counts ≡ counts_with a.counts j.verdict → b.rest ≡ past_line a.rest
+    → to_come r a ≡ step_then (line_step r (length a.rest.bytes) j) (to_come r b)
+found_first r a b j first counted rest =
+    let s = line_step r (length a.rest.bytes) j in
+    ap (run_by r a.rest.ending a.counts a.rest) first
+    ∙ ap (λ k. step_then s (run_by r a.rest.ending k (past_line a.rest) (rest_verdicts r b))) (sym counted)
+    ∙ ap (λ (c : Content). step_then s (run_by r c.ending b.counts c (rest_verdicts r b))) (sym rest)
 
 -- contents past so many lines
 pub past_next : (k : ℕ) (c : Content) → past_line (past_lines k c) ≡ past_lines (suc k) c

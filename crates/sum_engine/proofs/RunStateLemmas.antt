@@ -15,7 +15,6 @@ use Rattle.digest_kinds.specs.Limits.{one_more}
 use Rattle.sum_lines.specs.Sinks.{SinkState}
 use Rattle.sum_lines.specs.refinement.Growing.{AppendsPrefix}
 use Rattle.sum_engine.specs.Worlds.{World, is_dash, after}
-use Rattle.sum_engine.specs.refinement.Handling.{events_by}
 use Rattle.sum_engine.specs.Runs.{Run, Event, Opens, Tells, Puts, name_in, err_in, out_in}
 use Rattle.sum_engine.specs.refinement.Telling.{Hands, HandsBoth}
 use Rattle.sum_lines.specs.PartsOfLines.{◌>>=◌}
@@ -27,6 +26,10 @@ use Rattle.sum_engine.specs.RunStates.{Did, DidPrefix, Refused, RunOf}
 use Rattle.sum_engine.proofs.WorldLemmas.{after-none, after-append}
 
 -- ---- what of a step's events is of each kind
+
+-- these names are opened, and then these texts are written, in this order
+abbrev pub events_by : List (List ℕ) → List ℕ → List ℕ → List Event
+events_by names err out = map Opens names ++ (map Tells err ++ map Puts out)
 
 -- events of the kind that is looked for
 kind-all : {A : Type 0} (f : A → Event) (h : Event → Option A) → ((x : A) → h (f x) ≡ Some x) → (xs : List A)
@@ -81,6 +84,14 @@ pub record Asks (a b : RunState) (names : List (List ℕ)) : Type 0 where
 pub asks_none : {a b : RunState} → b.world ≡ a.world → b.taken ≡ a.taken → b.refusals ≡ a.refusals → Asks a b []
 asks_none {a} world taken refusals =
     record { world = world ∙ after-none a.world; taken = taken ∙ sym (or-false a.taken); refusals = refusals }
+
+-- so it is where they were opened, and nothing was written
+pub asks_by : {a b : RunState} (names : List (List ℕ)) → Did a b (map Opens names) → Asks a b names
+asks_by names h = record {
+  world = rw (kind-all Opens name_in (λ x. refl) names) at h.world;
+  taken = rw (kind-all Opens name_in (λ x. refl) names) at h.taken;
+  refusals = h.refusals;
+}
 
 -- these names were asked and these texts handed on
 pub did_by : {a b : RunState} (names : List (List ℕ)) (err out : List ℕ) → Asks a b names
@@ -200,7 +211,7 @@ by_world f None c = refl
 by_world f (Some t) None = refl
 by_world f (Some t) (Some c) = refl
 
-run_state-known : {S : Type 0} (state : S → SourceState) (m : Moment S)
+pub run_state-known : {S : Type 0} (state : S → SourceState) (m : Moment S)
     → run_state state m ≡ option_map (known state m) (world_of state m)
 run_state-known state m = by_world (known state m) (state m.source).told m.input
 

@@ -1,7 +1,8 @@
--- One step of a checker, by what its parts did.
-use Rattle.std.proofs.Common.{◌≡◌, ℕ, ◌+◌, ◌≤◌, ◌<◌, ◌||◌, Bool, List, [], ◌∷◌, length, Option, None, Some, Result, Ok, Err, refl, ap, sym, inl, inr, ◌∙◌, subst}
-use Rattle.std.specs.List.{list_any}
+-- Where a checker stands, and one step of it by what it found.
+use Rattle.std.proofs.Common.{◌≡◌, ℕ, ◌+◌, ◌≤◌, ◌<◌, Bool, List, [], ◌∷◌, length, Option, None, Some, Result, Ok, Err, refl, ap, sym, inl, inr, ◌∙◌, subst, rules}
+use Rattle.std.specs.Option.{option_map}
 use Rattle.sum_sources.specs.declared.lines.Next.TheVariants.{Line}
+use Rattle.sum_sources.specs.declared.lines.LineStop.TheVariants as line_stops
 use Rattle.sum_sources.specs.declared.lines.LineReader.{LineReader}
 use Rattle.sum_sources.specs.declared.fault.Ending.{Ending}
 use Rattle.sum_sources.specs.Contents.{Content, InputState, WhereTold}
@@ -9,56 +10,29 @@ use Rattle.sum_sources.specs.Sources.{SourceState}
 use Rattle.sum_sources.specs.ManifestLines.{LineOf, lines}
 use Rattle.sum_sources.specs.LineReaders.{coming, used}
 use Rattle.sum_sources.proofs.ToldLemmas.{WhereTold-both}
+use Rattle.sum_lines.specs.Sinks.{SinkState}
+use Rattle.sum_lines.specs.Profiles.{Profile, present}
+use Rattle.sum_engine.specs.declared.settings.Report.{Report}
+use Rattle.sum_engine.specs.declared.settings.Report.TheVariants as reports
+use Rattle.sum_engine.specs.declared.verdict.Verdict.TheVariants.{Ignored}
 use Rattle.sum_engine.specs.Checkers.{Place, now_of}
 use Rattle.sum_engine.specs.declared.progress.Progress.TheVariants.{Going, Ended}
-use Rattle.sum_engine.specs.declared.stop.Stop.{Stop}
-use Rattle.sum_engine.specs.declared.stop.Stop.TheVariants.{Memory, Write}
-use Rattle.sum_engine.specs.declared.summary.Counts.{Counts}
+use Rattle.sum_engine.specs.declared.stop.Stop.TheVariants.{Memory}
 use Rattle.sum_engine.specs.declared.verdict.LineVerdict.{LineVerdict}
-use Rattle.sum_engine.specs.Worlds.{is_dash}
-use Rattle.sum_engine.specs.Runs.{Step}
-use Rattle.sum_lines.specs.Profiles.{present}
+use Rattle.sum_engine.specs.Worlds.{World}
 use Rattle.sum_engine.specs.Profiles.{lines_by}
-use Rattle.sum_engine.specs.Verdicts.{Rules, judge, asks_of}
-use Rattle.sum_engine.specs.Reports.{err_by, out_of, err_of, end_text, good, counts_with}
-use Rattle.sum_lines.specs.Sinks.{SinkState}
-use Rattle.sum_engine.specs.Moments.{Moment, RunState, HoldNothing, WhereKnown, run_state}
+use Rattle.sum_engine.specs.Runs.{Step}
+use Rattle.sum_engine.specs.Verdicts.{Rules, asks_of}
+use Rattle.sum_engine.specs.Reports.{err_by, end_text, good, counts_with}
+use Rattle.sum_engine.specs.Moments.{Moment, RunState, HoldNothing, run_state}
+use Rattle.sum_engine.specs.Steps.{Now, now_by, Moves, StepGives, next_judged, rest_verdicts, to_come}
+use Rattle.sum_engine.specs.LineVerdicts.{judged_in, FindGives, FindsNone}
 use Rattle.sum_engine.specs.refinement.Asking.{world_of}
-use Rattle.sum_engine.specs.Steps.{Now, now_by, Moves, StepGives, next_judged, rest_verdicts}
-use Rattle.sum_engine.specs.LineVerdicts.{judged_in}
-use Rattle.sum_engine.specs.refinement.Finding.{TakesLine, LineGives, parsed_at}
+use Rattle.sum_engine.specs.refinement.Finding.{TakesLine}
 use Rattle.sum_engine.specs.refinement.Telling.{Tells, out_by, HandsBoth}
-use Rattle.sum_engine.specs.refinement.Handling.{events_by, HandleOf}
-use Rattle.sum_engine.proofs.RunStateLemmas.{Writing, Came, came_by, err_came, where_known, same_told, names-by}
+use Rattle.sum_engine.proofs.RunStateLemmas.{Asks, Writing, known, run_state-known, asks_by, asks_none, came_by, err_alone}
 use Rattle.sum_engine.proofs.RunLemmas.{answered}
-use Rattle.sum_engine.proofs.RestLemmas.{line_step, first_step, line_first, line_done, end_first}
-
--- ---- one line was handled
-
--- the last line that was read at a place was handled, whatever the outputs hold
-abbrev pub Handled : {I S A : Type 0} → (S → SourceState) → Place I → List ℕ → Counts → Moment S → Moment S
-    → Result A Stop → Type 0
-Handled state p line d a b x = WhereKnown state a b (λ s t.
-    HandleOf p.rules (judge p.rules s.world p.reader.lines (parsed_at p line)) p.counts d s t x)
-
--- its name was asked, and its report handed on, whereupon it was counted, or a prefix of the report
-pub handled : {I S : Type 0} (state : S → SourceState) (p : Place I) (line : List ℕ) (d : Counts) (vector : List ℕ)
-    (a b : Moment S) (v : LineVerdict) (x : Writing)
-    → LineGives p line d vector (world_of state a) (world_of state b) (Some v)
-    → b.taken ≡ a.taken || list_any is_dash (asks_of (judged_in vector v))
-    → (state b.source).refusals ≡ (state a.source).refusals
-    → HandsBoth a.err b.err a.out b.out (err_by p.rules v.number v.verdict (judged_in vector v).name)
-    (out_by p.rules.profile p.rules.settings.report v.verdict (judged_in vector v).name) x
-    → Handled state p line d a b (answered x (tt {0}))
-handled state p line d vector a b v (Ok u) h taken refusals hands = where_known state a b _ h (λ w v' judged.
-    rw (judged.0) (
-      judged.2,
-      came_by _ _ (asks_of (judged_in vector v)) _ _ (Ok u)
-          (record { world = judged.1; taken = taken; refusals = refusals }) hands,
-    ))
-handled state p line d vector a b v (Err e) h taken refusals hands = where_known state a b _ h (λ w v' judged.
-    rw (judged.0) (came_by _ _ (asks_of (judged_in vector v)) _ _ (Err e)
-    (record { world = judged.1; taken = taken; refusals = refusals }) hands))
+use Rattle.sum_engine.proofs.RestLemmas.{line_step, run_by, first_step, found_first}
 
 -- ---- where a checker stands
 
@@ -151,84 +125,142 @@ moves_by p q reader c d s t line vector profile number took takes few counted = 
   held = few;
 }
 
--- a line, which was handled; q is the place then
-pub step_line : {I S : Type 0} (input : I → InputState) (state : S → SourceState) (p q : Place I)
-    (reader : LineReader I) (a b : Moment S) (line held : List ℕ) → ReadsLine input p reader line
-    → TakesLine (record p { reader = reader }) q line → length held ≤ length line
-    → Handled {A = Unit {0}} state (record p { reader = reader }) line q.counts a b (Ok tt)
-    → StepGives p.rules held (now_of input p (run_state state a)) (now_of input q (run_state state b)) (Ok Going)
-step_line {I} input state p q reader a b line held reads takes few h =
-    let then : Place I = record q { reader = reader } in
-    let took = read_line input p reader line reads in
-    rw takes.reader (now-told input p then (run_state state a) (run_state state b) _ took h (λ c d s t took done.
-    let done' = rw reads.number at done in
-    let first : Now = now_at p c s in
-    let next : Now = now_at then d t in
-    let moves = moves_by p q reader c d s t line held reads.profile reads.number took takes few done'.0 in
-    let j = next_judged p.rules first line in
-    let asked = rw (names-by (asks_of j) (err_of p.rules j) (out_of p.rules j)) at done'.1.world in (
+-- ---- a step, by what was found
+
+-- a call that is lent what a moment has, but for its outputs
+abbrev pub asked : {S : Type 0} → Moment S → Moment S
+asked m =
+    let silent : SinkState = record { written = None; held = []; failures = 0 } in
+    record m { err = silent; out = silent }
+
+-- the next, by contents and worlds themselves
+lent_made : {I : Type 0} (p q : Place I) (x y : Option Content) (w v : Option World) (f g h k : World → RunState)
+    (P R : Now → Now → Type 0) → WhereTold (now_where p x (option_map f w)) (now_where q y (option_map g v)) P
+    → ((c d : Content) (w v : World) → P (now_at p c (f w)) (now_at q d (g v)) → R (now_at p c (h w)) (now_at q d (k v)))
+    → WhereTold (now_where p x (option_map h w)) (now_where q y (option_map k v)) R
+lent_made p q None y w v f g h k P R is to = tt
+lent_made p q (Some c) y None v f g h k P R is to = tt
+lent_made p q (Some c) None (Some w) v f g h k P R is to = absurd is
+lent_made p q (Some c) (Some d) (Some w) None f g h k P R is to = absurd is
+lent_made p q (Some c) (Some d) (Some w) (Some v) f g h k P R is to = to c d w v is
+
+-- what follows of two moments from what holds of them but for their outputs
+lent : {I S : Type 0} (input : I → InputState) (state : S → SourceState) (p q : Place I) (a b : Moment S)
+    (P R : Now → Now → Type 0) → WhereTold (now_of input p (run_state state (asked a))) (now_of input q (run_state state (asked b))) P
+    → ((c d : Content) (w v : World)
+    → P (now_at p c (known state (asked a) w)) (now_at q d (known state (asked b) v))
+    → R (now_at p c (known state a w)) (now_at q d (known state b v)))
+    → WhereTold (now_of input p (run_state state a)) (now_of input q (run_state state b)) R
+lent input state p q a b P R is to = rw (run_state-known state a, run_state-known state b)
+    (lent_made p q (coming input p.reader) (coming input q.reader) (world_of state a) (world_of state b)
+    (known state (asked a)) (known state (asked b)) (known state a) (known state b) P R
+    (rw (run_state-known state (asked a), run_state-known state (asked b)) at is) to)
+
+-- a line was found, and its report was handed on, or a prefix of it; a is how things stood, by m
+pub step_found : {I S : Type 0} (input : I → InputState) (state : S → SourceState) (p q : Place I) (a m b : Moment S)
+    (vector : List ℕ) (v : LineVerdict) (x : Writing) → m ≡ a
+    → FindGives p.rules vector (now_of input p (run_state state (asked m))) (now_of input q (run_state state (asked b)))
+    (Ok (Some v))
+    → HandsBoth m.err b.err m.out b.out (err_by p.rules v.number v.verdict (judged_in vector v).name)
+    (out_by p.rules.profile p.rules.settings.report v.verdict (judged_in vector v).name) x
+    → StepGives p.rules vector (now_of input p (run_state state a)) (now_of input q (run_state state b))
+    (answered x Going)
+step_found input state p q a m b vector v (Ok u) is found hands =
+    rw (← is) (lent input state p q m b _ _ found (λ c d w v' f.
+    let j = judged_in vector v in
+    let names = asks_by (asks_of j) f.0.did in
+    let asks : Asks (known state m w) (known state b v') (asks_of j) =
+    record { world = names.world; taken = names.taken; refusals = names.refusals } in
+    let next : Now = now_at q d (known state b v') in (
       record {
         step = line_step p.rules (length c.bytes) j;
-        is = line_done p.rules first next held moves asked;
-        did = done'.1;
+        is = found_first p.rules (now_at p c (known state m w)) next j f.0.first f.0.counts f.1.rest;
+        did = came_by _ _ (asks_of j) _ _ (Ok u) asks hands;
       },
-      moves,
+      record {
+        line = f.1.line;
+        lines = f.1.lines;
+        rest = f.1.rest;
+        used = f.1.used;
+        number = f.1.number;
+        form = f.1.form;
+        counts = f.1.counts;
+        held = f.1.held;
+      },
     )))
-
--- a line, whose handling stopped: of its report a prefix was handed on, or the source had no memory
-pub step_line_stop : {I S : Type 0} (input : I → InputState) (state : S → SourceState) (p q : Place I)
-    (reader : LineReader I) (a b : Moment S) (line : List ℕ) (stop : Stop) → ReadsLine input p reader line
-    → TakesLine (record p { reader = reader }) q line
-    → Handled {A = Unit {0}} state (record p { reader = reader }) line q.counts a b (Err stop)
-    → StepGives p.rules [] (now_of input p (run_state state a)) (now_of input q (run_state state b)) (Err stop)
-step_line_stop {I} input state p q reader a b line Write reads takes h =
-    let then : Place I = record q { reader = reader } in
-    rw takes.reader (now-told input p then (run_state state a) (run_state state b) _ reads.came h (λ c d s t took cut.
-    let cut' = rw reads.number at cut in
-    let first = line_first p.rules (now_at p c s) line (lines d) (lines_now p.rules c reads.profile ∙ took.0) in
-    record { step = _; rest = first.0; is = first.1; did = cut' }))
-step_line_stop {I} input state p q reader a b line Memory reads takes h =
-    let then : Place I = record q { reader = reader } in
-    rw takes.reader (now-told input p then (run_state state a) (run_state state b) _ reads.came h (λ c d s t took wanted.
-    let first = line_first p.rules (now_at p c s) line (lines d) (lines_now p.rules c reads.profile ∙ took.0) in
-    record { step = _; rest = first.0; is = first.1; wants = inl wanted }))
-
--- there was no memory for the line
-pub step_no_room : {I : Type 0} (input : I → InputState) (p q : Place I) (s : Option RunState)
-    → WhereTold (coming input p.reader) (coming input q.reader) (λ c d. 0 < length c.bytes)
-    → StepGives p.rules [] (now_of input p s) (now_of input q s) (Err Memory)
-step_no_room input p q s came = now-told input p q s s _ came (same_told s) (λ c d s t some same.
-    let first = first_step p.rules c.ending p.counts c (rest_verdicts p.rules (now_at p c s)) in
+step_found input state p q a m b vector v (Err e) is found hands =
+    rw (← is) (lent input state p q m b _ _ found (λ c d w v' f.
+    let j = judged_in vector v in
+    let names = asks_by (asks_of j) f.0.did in
+    let asks : Asks (known state m w) (known state b v') (asks_of j) =
+    record { world = names.world; taken = names.taken; refusals = names.refusals } in
+    let next : Now = now_at q d (known state b v') in
     record {
-      step = first.0;
-      rest = first.1;
-      is = first.2;
-      wants = inr (same, subst (λ k. 0 < k) (sym first.3) some);
-    })
+      step = line_step p.rules (length c.bytes) j;
+      rest = to_come p.rules next;
+      is = found_first p.rules (now_at p c (known state m w)) next j f.0.first f.0.counts f.1.rest;
+      did = came_by _ _ (asks_of j) _ _ (Err e) asks hands;
+    }))
 
--- the end, whose text was handed on, or a prefix of it
-step_end : {I : Type 0} (input : I → InputState) (p q : Place I) (s z : Option RunState) (e : Ending)
-    (answer : Bool) (x : Writing)
-    → WhereTold (coming input p.reader) (coming input q.reader) (λ c d. (lines c ≡ []) × (c.ending ≡ e))
-    → p.rules.profile ≡ present → answer ≡ good p.rules e p.counts
-    → WhereTold s z (λ s t. Came x s t (events_by [] (end_text p.rules e p.counts) []))
-    → StepGives p.rules [] (now_of input p s) (now_of input q z) (answered x (Ended answer))
-step_end input p q s z e answer (Ok u) came profile is h = now-told input p q s z _ came h (λ c d s t took did.
-    let end = end_first p.rules (now_at p c s) (lines_now p.rules c profile ∙ took.0) in
-    let step : Step = record { names = []; err = end_text p.rules e p.counts; out = []; left = length c.bytes } in
-    record { step = step; is = end ∙ rw (took.1, is) refl; did = did })
-step_end input p q s z e answer (Err u) came profile is h = now-told input p q s z _ came h (λ c d s t took cut.
-    let end = end_first p.rules (now_at p c s) (lines_now p.rules c profile ∙ took.0) in
-    record { step = _; rest = _; is = end; did = rw took.1 cut })
+-- of a line that says nothing nothing is reported
+pub nothing_said : (p : Profile) (report : Report) (name : List ℕ) → out_by p report Ignored name ≡ []
+nothing_said p reports.All name = refl
+nothing_said p reports.Quiet name = refl
+nothing_said p reports.Warn name = refl
+nothing_said p reports.Status name = refl
 
--- the same by what the call was lent and what standard error did
-pub end_told : {I S : Type 0} (input : I → InputState) (state : S → SourceState) (p q : Place I) (a m : Moment S)
-    (err : SinkState) (e : Ending) (answer : Bool) (x : Writing) → m ≡ a
-    → WhereTold (coming input p.reader) (coming input q.reader) (λ c d. (lines c ≡ []) × (c.ending ≡ e))
-    → p.rules.profile ≡ present → answer ≡ good p.rules e p.counts
-    → Tells m.err err (end_text p.rules e p.counts) x → HoldNothing a → StepGives p.rules []
-    (now_of input p (run_state state a)) (now_of input q (run_state state (record m { err = err })))
+-- memory was wanted, and both outputs stayed
+pub step_wants : {I S : Type 0} (input : I → InputState) (state : S → SourceState) (p q : Place I) (a m b : Moment S)
+    (vector : List ℕ) → m ≡ a
+    → FindGives p.rules vector (now_of input p (run_state state (asked m))) (now_of input q (run_state state (asked b)))
+    (Err line_stops.Memory) → b.err ≡ m.err → b.out ≡ m.out
+    → StepGives p.rules vector (now_of input p (run_state state a)) (now_of input q (run_state state b)) (Err Memory)
+step_wants input state p q a m b vector is found err out = rw (← is) (lent input state p q m b _ _ found (λ c d w v f.
+    let s = first_step p.rules c.ending p.counts c (rest_verdicts p.rules (now_at p c (known state m w))) in
+    record {
+      step = s.0;
+      rest = s.1;
+      is = s.2;
+      wants = elim f.0 [
+        | inl e ↦ inl (rw (ap (λ t. t.world) e, ap (λ t. t.taken) e, ap (λ t. t.refusals) e, err, out) refl)
+        | inr e ↦ inr (
+            rw (ap (λ t. t.world) e, ap (λ t. t.taken) e, ap (λ t. t.refusals) e, err, out) refl,
+            subst (λ k. 0 < k) (sym s.3) f.1,
+          )
+      ];
+    }))
+
+-- the end was found, and its text was handed on, or a prefix of it
+pub step_end : {I S : Type 0} (input : I → InputState) (state : S → SourceState) (p q : Place I) (a m b : Moment S)
+    (vector : List ℕ) (e : Ending) (answer : Bool) (x : Writing) → m ≡ a
+    → WhereTold (now_of input p (run_state state (asked m))) (now_of input q (run_state state (asked b)))
+    (FindsNone p.rules e) → q.rules ≡ p.rules → answer ≡ good q.rules e q.counts → b.out ≡ m.out
+    → Tells m.err b.err (end_text q.rules e q.counts) x → HoldNothing a
+    → StepGives p.rules vector (now_of input p (run_state state a)) (now_of input q (run_state state b))
     (answered x (Ended answer))
-end_told input state p q a m err e answer x is came profile sum told hold =
+step_end input state p q a m b vector e answer (Ok u) is found rules sum out told hold =
     let none = rw (← is) at hold.1 in
-    rw (← is) (step_end input p q _ _ e answer x came profile sum (err_came state m err _ x (told.1 none).1))
+    rw (← is) (lent input state p q m b _ _ found (λ c d w v f.
+    let r = p.rules in
+    let said = rw (rules, f.counts) at (told.1 none).1 in
+    let step : Step = record { names = []; err = end_text r e p.counts; out = []; left = length c.bytes } in
+    let asks = asks_none (ap (λ t. t.world) f.same) (ap (λ t. t.taken) f.same) (ap (λ t. t.refusals) f.same) in
+    record {
+      step = step;
+      is = ap (run_by r c.ending p.counts c) f.none ∙ rw (f.ending, sum, rules, f.counts) refl;
+      did = came_by _ _ [] _ [] (Ok u) asks (rw out (err_alone m.err b.err m.out _ (Ok u) said));
+    }))
+step_end input state p q a m b vector e answer (Err u) is found rules sum out told hold =
+    let none = rw (← is) at hold.1 in
+    rw (← is) (lent input state p q m b _ _ found (λ c d w v f.
+    let r = p.rules in
+    let said = rw (rules, f.counts) at (told.1 none).1 in
+    let asks = asks_none (ap (λ t. t.world) f.same) (ap (λ t. t.taken) f.same) (ap (λ t. t.refusals) f.same) in
+    let cut = came_by (known state m w) (known state b v) [] (end_text r e p.counts) [] (Err u) asks
+    (rw out (err_alone m.err b.err m.out _ (Err u) said)) in
+    record {
+      step = _;
+      rest = _;
+      is = ap (run_by r c.ending p.counts c) f.none;
+      did = rw (← f.ending) at cut;
+    }))

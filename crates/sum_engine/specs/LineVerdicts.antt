@@ -9,7 +9,6 @@ use Rattle.sum_sources.specs.Contents.{InputState, WhereTold}
 use Rattle.sum_sources.specs.Standard.{left_in}
 use Rattle.sum_lines.specs.Sinks.{SinkState}
 use Rattle.sum_engine.specs.Moments.{Moment}
-use Rattle.sum_sources.specs.ManifestLines.{past_line}
 use Rattle.sum_engine.specs.declared.progress.Progress.{Progress}
 use Rattle.sum_engine.specs.declared.progress.Progress.TheVariants.{Going, Ended}
 use Rattle.sum_engine.specs.declared.stop.Stop.{Stop}
@@ -19,7 +18,7 @@ use Rattle.sum_engine.specs.Runs.{Opens}
 use Rattle.sum_engine.specs.Verdicts.{Rules, Judged, asks_of}
 use Rattle.sum_engine.specs.Reports.{counts_with}
 use Rattle.sum_engine.specs.RunStates.{Did, Refused}
-use Rattle.sum_engine.specs.Steps.{Now, rest_verdicts}
+use Rattle.sum_engine.specs.Steps.{Now, Moves, rest_verdicts}
 use Rattle.sum_engine.specs.Checkers.{Place}
 
 -- the verdicts of a manifest: where its checking stands; whether memory was wanted, which every later call answers; and
@@ -55,7 +54,6 @@ pub record Finds (r : Rules) (a b : Now) (j : Judged) : Type 0 where
   pub first : rest_verdicts r a ≡ j ∷ rest_verdicts r b
   pub did : Did a.run_state b.run_state (map Opens (asks_of j))
   pub counts : b.counts ≡ counts_with a.counts j.verdict
-  pub rest : b.rest ≡ past_line a.rest
 
 -- none is to come, and the manifest ends so; nothing was opened, and nothing is left but that ending
 pub record FindsNone (r : Rules) (e : Ending) (a b : Now) : Type 0 where
@@ -66,7 +64,7 @@ pub record FindsNone (r : Rules) (e : Ending) (a b : Now) : Type 0 where
   pub rest : b.rest ≡ record { bytes = []; ending = e }
 
 abbrev pub FindOf : Rules → List ℕ → Now → Now → Result (Option LineVerdict) LineStop → Type 0
-FindOf r vector a b (Ok (Some v)) = Finds r a b (judged_in vector v)
+FindOf r vector a b (Ok (Some v)) = Finds r a b (judged_in vector v) × Moves r a b vector
 FindOf r vector a b (Ok None) = FindsNone r Whole a b
 FindOf r vector a b (Err (Fault f)) = FindsNone r (Broken f) a b
 FindOf r vector a b (Err Memory) =

@@ -2,7 +2,6 @@
 -- user of the crate meets by themselves name some.
 pub mod Asking
 pub mod Telling
-pub mod Handling
 pub mod Judging
 pub mod Listings
 pub mod Positions

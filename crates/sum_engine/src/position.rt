@@ -31,7 +31,6 @@ pub(crate) struct Position<'a, I> {
 impl<'a, I: Input> Position<'a, I> {
     ghost use Rattle.sum_sources.specs.LineReaders.{coming};
     ghost use Rattle.sum_engine.specs.Moments.{run_state, HoldNothing, Failures, Untouched};
-    ghost use Rattle.sum_engine.specs.RunStates.{RefusedExactly};
     ghost use Rattle.sum_engine.specs.Steps.{StepGives, WantsMemory};
     ghost use Rattle.sum_engine.specs.Checkers.{Begins, now_of, Reads};
     ghost use Rattle.sum_sources.specs.declared.fault.Ending.TheVariants.{Whole};
@@ -41,7 +40,6 @@ impl<'a, I: Input> Position<'a, I> {
     ghost use Rattle.sum_engine.specs.Verdicts.{asks_of};
     ghost use Rattle.sum_engine.specs.refinement.Asking.{RefusedUnless, world_of};
     ghost use Rattle.sum_engine.specs.LineVerdicts.{judged_in, Names, FindGives, progress_of, asking};
-    ghost use Rattle.sum_engine.specs.refinement.Handling.{Handles};
     ghost use Rattle.sum_engine.specs.refinement.Finding.{TakesLine, LineGives};
     ghost use Rattle.sum_engine.specs.refinement.Listings.{rules_in};
     ghost use Rattle.sum_engine.specs.refinement.Positions.{place_of};
@@ -91,7 +89,7 @@ impl<'a, I: Input> Position<'a, I> {
         ensures untouched { Untouched streams.old streams.new result }
         ensures reads { Reads I.state (place_of self.old) (place_of self.new) result }
     {
-        match self.reader.next_line(line) {
+        match self.find(line, &mut streams.stdin, &mut streams.source) {
             Err(LineStop::Memory) => Err(Stop::Memory),
             Err(LineStop::Fault(fault)) => {
                 put_fault_line(
@@ -102,56 +100,50 @@ impl<'a, I: Input> Position<'a, I> {
                 )?;
                 Ok(Progress::Ended(false))
             }
-            Ok(Next::NoMore) => {
+            Ok(None) => {
                 put_summary(&mut streams.err, &self.listing, self.counts)?;
                 Ok(Progress::Ended(is_good(&self.listing, self.counts)))
             }
-            Ok(Next::Line) => {
-                self.handle(line, streams)?;
+            Ok(Some(found)) => {
+                if let Verdict::Ignored = found.verdict {
+                    return Ok(Progress::Going);
+                }
+                put_report(
+                    &mut streams.out,
+                    &mut streams.err,
+                    &self.listing,
+                    found.number,
+                    found.verdict,
+                    &line[found.start..found.stop],
+                )?;
                 Ok(Progress::Going)
             }
         }
     }
 
-    // The number of the line that was read last.
-    fn number(&self) -> u64
-        ensures { result ≡ self.now.reader.lines }
-    {
-        self.reader.lines()
-    }
-
-    // Handles a line that was read.
-    fn handle<A: Allocator, J: Input + Drop, S: Source, O: Sink, E: Sink>(
+    /// The verdict of the next line, or None where no line is left. Nothing is written.
+    pub(crate) fn find<A: Allocator, J: Input + Drop, S: Source>(
         &mut self,
         line: &mut Vec<u8, A>,
-        streams: &mut Streams<J, S, O, E>,
-    ) -> Result<(), Stop>
-        requires room { total self.old.counts < self.old.reader.lines }
-        requires few { self.old.reader.lines ≤ LIMIT }
-        ensures gives { Handles S.state (place_of self.old) line.old.items self.new.counts
-            streams.old streams.new result }
-        ensures none { HoldNothing streams.old → HoldNothing streams.new }
-        ensures place { TakesLine (place_of self.old) (place_of self.new) line.old.items }
-        ensures held { length line.new.items ≤ length line.old.items }
-        ensures refusals { RefusedExactly S.state streams.old streams.new result }
-        ensures failures { Failures streams.old.out streams.new.out streams.old.err streams.new.err result }
-        ensures untouched { Untouched streams.old streams.new result }
+        stdin: &mut Stdin<J>,
+        source: &mut S,
+    ) -> Result<Option<LineVerdict>, LineStop>
+        ensures gives { FindGives (rules_in self.old.listing) line.new.items
+            (now_of I.state (place_of self.old) (run_state S.state (asking J.state stdin.old source.old)))
+            (now_of I.state (place_of self.new) (run_state S.state (asking J.state stdin.new source.new))) result }
+        ensures names { IfOk result (λ found. IfSome found (λ v. Names line.new.items v)) }
+        ensures wants { WantsMemory (S.state source.old) (S.state source.new) (coming I.state self.old.reader)
+            (progress_of result) }
+        ensures reads { Reads I.state (place_of self.old) (place_of self.new) (progress_of result) }
     {
-        let Some(found) = self.judge_line(line, &mut streams.stdin, &mut streams.source) else {
-            return Err(Stop::Memory);
-        };
-        if let Verdict::Ignored = found.verdict {
-            return Ok(());
+        match self.reader.next_line(line) {
+            Err(stop) => Err(stop),
+            Ok(Next::NoMore) => Ok(None),
+            Ok(Next::Line) => match self.judge_line(line, stdin, source) {
+                Some(verdict) => Ok(Some(verdict)),
+                None => Err(LineStop::Memory),
+            },
         }
-        put_report(
-            &mut streams.out,
-            &mut streams.err,
-            &self.listing,
-            found.number,
-            found.verdict,
-            &line[found.start..found.stop],
-        )?;
-        Ok(())
     }
 
     // The verdict of a line that was read, which is counted. None where the source had no memory to open its name.
@@ -222,28 +214,10 @@ impl<'a, I: Input> Position<'a, I> {
         }
     }
 
-    /// The verdict of the next line, or None where no line is left. Nothing is written.
-    pub(crate) fn find<A: Allocator, J: Input + Drop, S: Source>(
-        &mut self,
-        line: &mut Vec<u8, A>,
-        stdin: &mut Stdin<J>,
-        source: &mut S,
-    ) -> Result<Option<LineVerdict>, LineStop>
-        ensures gives { FindGives (rules_in self.old.listing) line.new.items
-            (now_of I.state (place_of self.old) (run_state S.state (asking J.state stdin.old source.old)))
-            (now_of I.state (place_of self.new) (run_state S.state (asking J.state stdin.new source.new))) result }
-        ensures names { IfOk result (λ found. IfSome found (λ v. Names line.new.items v)) }
-        ensures wants { WantsMemory (S.state source.old) (S.state source.new) (coming I.state self.old.reader)
-            (progress_of result) }
-        ensures reads { Reads I.state (place_of self.old) (place_of self.new) (progress_of result) }
+    // The number of the line that was read last.
+    fn number(&self) -> u64
+        ensures { result ≡ self.now.reader.lines }
     {
-        match self.reader.next_line(line) {
-            Err(stop) => Err(stop),
-            Ok(Next::NoMore) => Ok(None),
-            Ok(Next::Line) => match self.judge_line(line, stdin, source) {
-                Some(verdict) => Ok(Some(verdict)),
-                None => Err(LineStop::Memory),
-            },
-        }
+        self.reader.lines()
     }
 }
