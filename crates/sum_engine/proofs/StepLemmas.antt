@@ -21,16 +21,16 @@ use Rattle.sum_engine.specs.declared.stop.Stop.TheVariants.{Memory}
 use Rattle.sum_engine.specs.declared.verdict.LineVerdict.{LineVerdict}
 use Rattle.sum_engine.specs.Worlds.{World}
 use Rattle.sum_engine.specs.Profiles.{lines_by}
-use Rattle.sum_engine.specs.Runs.{Step}
+use Rattle.sum_engine.specs.Runs.{Step, events_of}
 use Rattle.sum_engine.specs.Verdicts.{Rules, asks_of}
 use Rattle.sum_engine.specs.Reports.{err_by, end_text, good, counts_with}
 use Rattle.sum_engine.specs.Moments.{Moment, RunState, HoldNothing, run_state}
-use Rattle.sum_engine.specs.Steps.{Now, now_by, Moves, StepGives, next_judged, rest_verdicts, to_come}
+use Rattle.sum_engine.specs.Steps.{Now, now_by, step_then, Moves, StepOf, StepGives, next_judged, rest_verdicts, to_come}
 use Rattle.sum_engine.specs.LineVerdicts.{judged_in, FindGives, FindsNone}
 use Rattle.sum_engine.specs.refinement.Asking.{world_of}
 use Rattle.sum_engine.specs.refinement.Finding.{TakesLine}
 use Rattle.sum_engine.specs.refinement.Telling.{Tells, out_by, HandsBoth}
-use Rattle.sum_engine.proofs.RunStateLemmas.{Asks, Writing, known, run_state-known, asks_by, asks_none, came_by, err_alone}
+use Rattle.sum_engine.proofs.RunStateLemmas.{Asks, Writing, Came, known, run_state-known, asks_by, asks_none, came_by, err_alone}
 use Rattle.sum_engine.proofs.RunLemmas.{answered}
 use Rattle.sum_engine.proofs.RestLemmas.{line_step, run_by, first_step, found_first}
 
@@ -156,6 +156,13 @@ lent input state p q a b P R is to = rw (run_state-known state a, run_state-know
     (known state (asked a)) (known state (asked b)) (known state a) (known state b) P R
     (rw (run_state-known state (asked a), run_state-known state (asked b)) at is) to)
 
+-- one more step was done, or a prefix of its events
+step_by : (r : Rules) (a b : Now) (vector : List ℕ) (step : Step) (x : Writing)
+    → to_come r a ≡ step_then step (to_come r b) → Moves r a b vector → Came x a.run_state b.run_state (events_of step)
+    → StepOf r vector a b (answered x Going)
+step_by r a b vector step (Ok u) is moves did = (record { step = step; is = is; did = did }, moves)
+step_by r a b vector step (Err e) is moves cut = record { step = step; rest = to_come r b; is = is; did = cut }
+
 -- a line was found, and its report was handed on, or a prefix of it; a is how things stood, by m
 pub step_found : {I S : Type 0} (input : I → InputState) (state : S → SourceState) (p q : Place I) (a m b : Moment S)
     (vector : List ℕ) (v : LineVerdict) (x : Writing) → m ≡ a
@@ -165,42 +172,26 @@ pub step_found : {I S : Type 0} (input : I → InputState) (state : S → Source
     (out_by p.rules.profile p.rules.settings.report v.verdict (judged_in vector v).name) x
     → StepGives p.rules vector (now_of input p (run_state state a)) (now_of input q (run_state state b))
     (answered x Going)
-step_found input state p q a m b vector v (Ok u) is found hands =
-    rw (← is) (lent input state p q m b _ _ found (λ c d w v' f.
+step_found input state p q a m b vector v x is found hands = rw (← is) (lent input state p q m b _ _ found (λ c d w v' f.
     let j = judged_in vector v in
     let names = asks_by (asks_of j) f.0.did in
     let asks : Asks (known state m w) (known state b v') (asks_of j) =
     record { world = names.world; taken = names.taken; refusals = names.refusals } in
-    let next : Now = now_at q d (known state b v') in (
-      record {
-        step = line_step p.rules (length c.bytes) j;
-        is = found_first p.rules (now_at p c (known state m w)) next j f.0.first f.0.counts f.1.rest;
-        did = came_by _ _ (asks_of j) _ _ (Ok u) asks hands;
-      },
-      record {
-        line = f.1.line;
-        lines = f.1.lines;
-        rest = f.1.rest;
-        used = f.1.used;
-        number = f.1.number;
-        form = f.1.form;
-        counts = f.1.counts;
-        held = f.1.held;
-      },
-    )))
-step_found input state p q a m b vector v (Err e) is found hands =
-    rw (← is) (lent input state p q m b _ _ found (λ c d w v' f.
-    let j = judged_in vector v in
-    let names = asks_by (asks_of j) f.0.did in
-    let asks : Asks (known state m w) (known state b v') (asks_of j) =
-    record { world = names.world; taken = names.taken; refusals = names.refusals } in
+    let first : Now = now_at p c (known state m w) in
     let next : Now = now_at q d (known state b v') in
-    record {
-      step = line_step p.rules (length c.bytes) j;
-      rest = to_come p.rules next;
-      is = found_first p.rules (now_at p c (known state m w)) next j f.0.first f.0.counts f.1.rest;
-      did = came_by _ _ (asks_of j) _ _ (Err e) asks hands;
-    }))
+    let moves : Moves p.rules first next vector = record {
+      line = f.1.line;
+      lines = f.1.lines;
+      rest = f.1.rest;
+      used = f.1.used;
+      number = f.1.number;
+      form = f.1.form;
+      counts = f.1.counts;
+      held = f.1.held;
+    } in
+    step_by p.rules first next vector (line_step p.rules (length c.bytes) j) x
+    (found_first p.rules first next j f.0.first f.0.counts f.1.rest) moves
+    (came_by _ _ (asks_of j) _ _ x asks hands)))
 
 -- of a line that says nothing nothing is reported
 pub nothing_said : (p : Profile) (report : Report) (name : List ℕ) → out_by p report Ignored name ≡ []
@@ -230,6 +221,14 @@ step_wants input state p q a m b vector is found err out = rw (← is) (lent inp
       ];
     }))
 
+-- the last step was done, or a prefix of its events
+last_by : (r : Rules) (a b : Now) (vector : List ℕ) (step : Step) (answer : Bool) (x : Writing)
+    → to_come r a ≡ record { steps = step ∷ []; good = answer }
+    → Came x a.run_state b.run_state (events_of step) → StepOf r vector a b (answered x (Ended answer))
+last_by r a b vector step answer (Ok u) is did = record { step = step; is = is; did = did }
+last_by r a b vector step answer (Err e) is cut =
+    record { step = step; rest = record { steps = []; good = answer }; is = is; did = cut }
+
 -- the end was found, and its text was handed on, or a prefix of it
 pub step_end : {I S : Type 0} (input : I → InputState) (state : S → SourceState) (p q : Place I) (a m b : Moment S)
     (vector : List ℕ) (e : Ending) (answer : Bool) (x : Writing) → m ≡ a
@@ -238,29 +237,13 @@ pub step_end : {I S : Type 0} (input : I → InputState) (state : S → SourceSt
     → Tells m.err b.err (end_text q.rules e q.counts) x → HoldNothing a
     → StepGives p.rules vector (now_of input p (run_state state a)) (now_of input q (run_state state b))
     (answered x (Ended answer))
-step_end input state p q a m b vector e answer (Ok u) is found rules sum out told hold =
+step_end input state p q a m b vector e answer x is found rules sum out told hold =
     let none = rw (← is) at hold.1 in
     rw (← is) (lent input state p q m b _ _ found (λ c d w v f.
     let r = p.rules in
     let said = rw (rules, f.counts) at (told.1 none).1 in
     let step : Step = record { names = []; err = end_text r e p.counts; out = []; left = length c.bytes } in
     let asks = asks_none (ap (λ t. t.world) f.same) (ap (λ t. t.taken) f.same) (ap (λ t. t.refusals) f.same) in
-    record {
-      step = step;
-      is = ap (run_by r c.ending p.counts c) f.none ∙ rw (f.ending, sum, rules, f.counts) refl;
-      did = came_by _ _ [] _ [] (Ok u) asks (rw out (err_alone m.err b.err m.out _ (Ok u) said));
-    }))
-step_end input state p q a m b vector e answer (Err u) is found rules sum out told hold =
-    let none = rw (← is) at hold.1 in
-    rw (← is) (lent input state p q m b _ _ found (λ c d w v f.
-    let r = p.rules in
-    let said = rw (rules, f.counts) at (told.1 none).1 in
-    let asks = asks_none (ap (λ t. t.world) f.same) (ap (λ t. t.taken) f.same) (ap (λ t. t.refusals) f.same) in
-    let cut = came_by (known state m w) (known state b v) [] (end_text r e p.counts) [] (Err u) asks
-    (rw out (err_alone m.err b.err m.out _ (Err u) said)) in
-    record {
-      step = _;
-      rest = _;
-      is = ap (run_by r c.ending p.counts c) f.none;
-      did = rw (← f.ending) at cut;
-    }))
+    last_by r (now_at p c (known state m w)) (now_at q d (known state b v)) vector step answer x
+    (ap (run_by r c.ending p.counts c) f.none ∙ rw (f.ending, sum, rules, f.counts) refl)
+    (came_by _ _ [] _ [] x asks (rw out (err_alone m.err b.err m.out _ x said)))))
