@@ -10,7 +10,7 @@ use crate::report::{put_fault_line, put_report};
 use crate::stop::Stop;
 use crate::streams::Streams;
 use crate::summary::{Counts, is_good, put_summary};
-use crate::verdict::{LineVerdict, Verdict, judge};
+use crate::verdict::{LineVerdict, Listed, Verdict, judge};
 use digest_kinds::LIMIT;
 use std::alloc::Allocator;
 use sum_lines::{Form, Reading, Sink, read_line};
@@ -176,17 +176,14 @@ impl<'a, I: Input> Position<'a, I> {
                 start,
                 stop,
             } => {
-                let name = &line[start..stop];
-                let listing = &self.listing;
-                let Some(verdict) = judge(
-                    listing,
+                let listed = Listed {
                     kind,
-                    &digest,
-                    name,
-                    stdin,
-                    source,
-                    &mut self.buffer,
-                ) else {
+                    digest: &digest,
+                    name: &line[start..stop],
+                };
+                let listing = &self.listing;
+                let Some(verdict) = judge(listing, &listed, stdin, source, &mut self.buffer)
+                else {
                     return None;
                 };
                 Some(self.found(verdict, start, stop))

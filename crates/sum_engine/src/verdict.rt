@@ -40,33 +40,42 @@ pub struct LineVerdict {
 }
 
 ghost use Rattle.sum_engine.specs.refinement.Listings.{rules_in};
-ghost use Rattle.sum_engine.specs.refinement.Judging.{JudgeGives, compared};
+ghost use Rattle.sum_engine.specs.refinement.Judging.{JudgeGives, compared, spelled_by};
+
+/// An entry of a manifest: the digest of a file, with its kind, and the file's name.
+#[derive(Clone, Copy)]
+pub(crate) struct Listed<'a> {
+    pub kind: Kind,
+    pub digest: &'a Digest,
+    pub name: &'a [u8],
+}
 
 /// The verdict of an entry. None where the source had no memory to open the name; nothing was then asked.
 pub(crate) fn judge<I: Input + Drop, S: Source>(
     listing: &Listing,
-    kind: Kind,
-    digest: &Digest,
-    name: &[u8],
+    listed: &Listed,
     stdin: &mut Stdin<I>,
     source: &mut S,
     buffer: &mut [u8; PIECE],
 ) -> Option<Verdict>
-    requires { length digest.now ≡ kind.len }
+    requires { length listed.now.digest.now ≡ listed.now.kind.len }
     ensures gives { JudgeGives (rules_in listing.now) (world_of S.state (asking I.state stdin.old source.old))
-        (world_of S.state (asking I.state stdin.new source.new))
-        (WithEntry (record { algo = kind.algo; digest = digest.now; name = name.now })) result }
+        (world_of S.state (asking I.state stdin.new source.new)) (WithEntry (spelled_by listed.now)) result }
     ensures taken { MatchOption result (stdin.new ≡ stdin.old)
-        (λ v. is_none stdin.new ≡ is_none stdin.old || list_any is_dash (asks_by v name.now)) }
+        (λ v. is_none stdin.new ≡ is_none stdin.old || list_any is_dash (asks_by v listed.now.name.now)) }
     ensures refusals { RefusedUnless (S.state source.old) (S.state source.new) result }
 {
-    if listing.from_stdin && is_dash(name) {
+    if listing.from_stdin && is_dash(listed.name) {
         return Some(Verdict::Bad);
     }
-    let Some(asked) = ask(kind, name, stdin, source, buffer) else {
+    let Some(asked) = ask(listed.kind, listed.name, stdin, source, buffer) else {
         return None;
     };
-    Some(compare(&asked, digest, listing.settings.ignore_missing))
+    Some(compare(
+        &asked,
+        listed.digest,
+        listing.settings.ignore_missing,
+    ))
 }
 
 fn compare(asked: &Asked, digest: &Digest, ignore_missing: bool) -> Verdict

@@ -3,6 +3,8 @@ use Rattle.std.specs.Prelude.{ℕ, ◌≡◌, Bool, List, [], Option, None, Some
 use Rattle.std.specs.Str.{bytes_eq}
 use Rattle.sum_sources.specs.declared.fault.Fault.TheVariants.{NotFound, Denied, Other}
 use Rattle.sum_sources.specs.Contents.{WhereTold}
+use Rattle.sum_lines.specs.Entries.{Spelled}
+use Rattle.sum_engine.specs.declared.verdict.Listed.{Listed}
 use Rattle.sum_engine.specs.declared.asking.Asked.{Asked}
 use Rattle.sum_engine.specs.declared.asking.Asked.TheVariants as asked
 use Rattle.sum_engine.specs.declared.verdict.Verdict.{Verdict}
@@ -10,6 +12,10 @@ use Rattle.sum_engine.specs.declared.verdict.Verdict.TheVariants.{Right, Wrong, 
 use Rattle.sum_lines.specs.ParsedLines.{ParsedLine, Nothing, Improper, WithEntry}
 use Rattle.sum_engine.specs.Worlds.{World, after}
 use Rattle.sum_engine.specs.Verdicts.{Rules, judge, asks_by}
+
+-- what an entry spells
+abbrev pub spelled_by : Listed → Spelled
+spelled_by l = record { algo = l.kind.algo; digest = l.digest.now; name = l.name.now }
 
 -- the name in what a line says, or nothing
 abbrev pub name_said : ParsedLine → List ℕ

@@ -1,6 +1,7 @@
 use Rattle.std.proofs.Common.{◌≡◌, ◌&&◌, false, rules}
 use Rattle.sum_lines.specs.Entries.{Spelled}
 use Rattle.sum_engine.specs.Worlds.{is_dash}
+use Rattle.sum_engine.specs.refinement.Judging.{spelled_by}
 use Rattle.sum_engine.specs.refinement.Listings.{rules_in}
 use Rattle.sum_engine.proofs.VerdictLemmas.{judged_entry}
 use Rattle.sum_engine.proofs.verdict.judge.Goals as goal
@@ -8,9 +9,8 @@ use Rattle.sum_engine.proofs.verdict.judge.Goals.{else-listing-via-then-listing+
 
 pub returns-clause-gives : goal.returns-clause-gives
 returns-clause-gives g c =
-    let name = c.args.name.now in
-    let s : Spelled = record { algo = c.args.kind.algo; digest = c.args.digest.now; name = name } in
-    let dash : c.args.listing.now.from_stdin && is_dash name ≡ false =
+    let s : Spelled = spelled_by c.args.listed.now in
+    let dash : c.args.listing.now.from_stdin && is_dash s.name ≡ false =
     elim c.else-listing.branch [
       | else-listing-via-then-listing+else-is_dash w ↦ search rules
       | else-listing-via-else-listing
