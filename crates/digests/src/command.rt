@@ -1,17 +1,17 @@
 //! The whole program, from the list of its arguments to its exit status.
-ghost use Rattle.std.specs.Prelude.{◌≡◌, [], IsOk, codes};
+ghost use Rattle.std.specs.Prelude.{◌≡◌, [], IsOk};
 ghost use Rattle.sum_engine.specs.Moments.{HoldNothing, NoneFailed};
-ghost use Rattle.sum_engine.specs.refinement.Telling.{Tells};
 ghost use Rattle.digests.specs.Program.{ProgramGives};
 ghost use Rattle.digests.specs.refinement.Endings.{Closes, line_of};
 
-use crate::ending::{settle, tell};
+use crate::ending::{settle, tell_stop};
 use crate::run::{run, status_once};
+use crate::telling::{Text, tell};
 use std::alloc::Allocator;
 use sum_engine::{Stop, Streams};
-use sum_lines::{Sink, SinkFault, put_all};
+use sum_lines::Sink;
 use sum_sources::{Input, Source};
-use sum_words::{Arguments, CommandLine, NotRead, Tool, put_unknown, read_command_line};
+use sum_words::{Arguments, CommandLine, NotRead, Tool, read_command_line};
 
 /// Does what the program was called for, and answers its exit status. The tool is the one by whose name the program was
 /// called, as by a link, or else the one that the first word names; the other words are the tool's. Each line, and the
@@ -38,30 +38,14 @@ pub fn command<A: Allocator + Copy, G: Arguments, I: Input + Drop, S: Source, O:
             close(Some(tool), answer, &mut streams.out, &mut streams.err)
         }
         Ok(CommandLine::UnknownTool) => {
-            let answer = status_once(tell_unknown(&mut streams.err), 1);
+            let answer = status_once(tell(&mut streams.err, Text::UnknownTool), 1);
             close(None, answer, &mut streams.out, &mut streams.err)
         }
         Err(NotRead) => {
-            let answer = status_once(tell_not_read(&mut streams.err), 1);
+            let answer = status_once(tell(&mut streams.err, Text::NotRead), 1);
             close(None, answer, &mut streams.out, &mut streams.err)
         }
     }
-}
-
-// Writes the line for an unknown tool, and hands it on.
-fn tell_unknown<E: Sink>(err: &mut E) -> Result<(), SinkFault>
-    ensures { Tells (E.state err.old) (E.state err.new) (codes "digests: unknown tool\n") result }
-{
-    put_unknown(err)?;
-    err.flush()
-}
-
-// Writes the line for words that couldn't be read, and hands it on.
-fn tell_not_read<E: Sink>(err: &mut E) -> Result<(), SinkFault>
-    ensures { Tells (E.state err.old) (E.state err.new) (codes "digests: words not read\n") result }
-{
-    put_all(err, b"digests: words not read\n")?;
-    err.flush()
 }
 
 // Ends a run that answered so: flushes both outputs once more, unless it stopped, and tells of a stop. Answers
@@ -82,7 +66,7 @@ fn close<O: Sink, E: Sink>(
     match settle(answer, out, err) {
         Ok(status) => status,
         Err(stop) => {
-            let _ = tell(tool, stop, err);
+            let _ = tell_stop(tool, stop, err);
             1
         }
     }

@@ -1,13 +1,13 @@
 //! The end of a run: both outputs are flushed once more, and a stop is told.
-ghost use Rattle.std.specs.Prelude.{◌≡◌, ◌∷◌, [], Some};
+ghost use Rattle.std.specs.Prelude.{◌≡◌, []};
 ghost use Rattle.std.specs.Io.KnownBytes.{Keeps};
-ghost use Rattle.sum_words.specs.Texts.{stop_line};
 ghost use Rattle.sum_engine.specs.refinement.Telling.{Tells};
 ghost use Rattle.digests.specs.refinement.Endings.{Settles, line_of};
 
+use crate::telling::{Text, tell};
 use sum_engine::Stop;
 use sum_lines::{Sink, SinkFault};
-use sum_words::{Tool, put_stop};
+use sum_words::Tool;
 
 /// Flushes both outputs, unless the run stopped or the first flush fails. Answers as the run did, or `Stop::Write`
 /// where a flush failed, which can be though nothing was held.
@@ -30,12 +30,15 @@ pub(crate) fn settle<O: Sink, E: Sink>(
 }
 
 /// Writes the line for a stop and hands it on, where there is a tool to tell of it.
-pub(crate) fn tell<E: Sink>(tool: Option<Tool>, stop: Stop, err: &mut E) -> Result<(), SinkFault>
+pub(crate) fn tell_stop<E: Sink>(
+    tool: Option<Tool>,
+    stop: Stop,
+    err: &mut E,
+) -> Result<(), SinkFault>
     ensures { Tells (E.state err.old) (E.state err.new) (line_of tool stop) result }
 {
-    let Some(tool) = tool else {
-        return Ok(());
-    };
-    put_stop(err, tool, stop)?;
-    err.flush()
+    match tool {
+        None => Ok(()),
+        Some(tool) => tell(err, Text::Stop(tool, stop)),
+    }
 }

@@ -6,6 +6,7 @@ mod ending;
 pub mod laws;
 pub mod run;
 pub mod standard_input;
+mod telling;
 #[cfg(test)]
 mod tests;
 

@@ -2,24 +2,19 @@
 ghost use Rattle.std.specs.Prelude.{◌≡◌, ◌∷◌, List, ℕ, []};
 ghost use Rattle.sum_engine.specs.Moments.{HoldNothing, Failures};
 ghost use Rattle.sum_engine.specs.RunStates.{RunsTo};
-ghost use Rattle.sum_engine.specs.refinement.Telling.{Tells};
-ghost use Rattle.sum_words.specs.Faults.{Fault};
-ghost use Rattle.sum_words.specs.Texts.{fault_lines, help, version};
 ghost use Rattle.sum_words.specs.Tools.{name_of};
-ghost use Rattle.sum_words.specs.refinement.ItemIterator.{fault_of};
 ghost use Rattle.sum_words.specs.refinement.Request.{result_of};
 ghost use Rattle.sum_words.specs.Request.{request};
 ghost use Rattle.digests.specs.Meaning.{all_of, answer_run, one_of, or_dash, meaning, status_of};
 ghost use Rattle.digests.specs.Refusals.{RefusalsOfJob, RefusalsOf};
 ghost use Rattle.digests.specs.refinement.Operands.{once_told};
 
+use crate::telling::{Text, tell};
 use std::alloc::Allocator;
 use sum_engine::{Stop, Streams, check_one, generate_one};
 use sum_lines::{Sink, SinkFault};
 use sum_sources::{Input, Source};
-use sum_words::{
-    Job, Operands, Request, Tool, WordFault, Words, put_fault, put_help, put_version, read_words,
-};
+use sum_words::{Job, Operands, Request, Tool, WordFault, Words, read_words};
 
 /// Runs a tool on its words: writes what they mean for what standard input and the source have to give, and answers the
 /// status, 0 where all is good and 1 where anything isn't (coreutils manual, "md5sum invocation"). Each line, and the
@@ -55,9 +50,9 @@ fn answer<A: Allocator + Copy, I: Input + Drop, S: Source, O: Sink, E: Sink>(
     ensures failures { Failures streams.old.out streams.new.out streams.old.err streams.new.err result }
 {
     match asked {
-        Err(fault) => status_once(tell_fault(&mut streams.err, tool, &fault), 1),
-        Ok(Request::Help) => status_once(tell_help(&mut streams.out, tool), 0),
-        Ok(Request::Version) => status_once(tell_version(&mut streams.out, tool), 0),
+        Err(fault) => status_once(tell(&mut streams.err, Text::Fault(tool, &fault)), 1),
+        Ok(Request::Help) => status_once(tell(&mut streams.out, Text::Help(tool)), 0),
+        Ok(Request::Version) => status_once(tell(&mut streams.out, Text::Version(tool)), 0),
         Ok(Request::Work(job, operands)) => each(alloc, &job, tool, operands, streams),
     }
 }
@@ -68,30 +63,6 @@ pub(crate) fn status_once(told: Result<(), SinkFault>, status: u8) -> Result<u8,
 {
     told?;
     Ok(status)
-}
-
-// Writes the lines of a fault, and hands them on.
-fn tell_fault<E: Sink>(err: &mut E, tool: Tool, fault: &WordFault) -> Result<(), SinkFault>
-    ensures { Tells (E.state err.old) (E.state err.new) (fault_lines tool (fault_of fault.now)) result }
-{
-    put_fault(err, tool, fault)?;
-    err.flush()
-}
-
-// Writes the help, and hands it on.
-fn tell_help<O: Sink>(out: &mut O, tool: Tool) -> Result<(), SinkFault>
-    ensures { Tells (O.state out.old) (O.state out.new) (help tool) result }
-{
-    put_help(out, tool)?;
-    out.flush()
-}
-
-// Writes the version, and hands it on.
-fn tell_version<O: Sink>(out: &mut O, tool: Tool) -> Result<(), SinkFault>
-    ensures { Tells (O.state out.old) (O.state out.new) (version tool) result }
-{
-    put_version(out, tool)?;
-    out.flush()
 }
 
 fn one<A: Allocator + Copy, I: Input + Drop, S: Source, O: Sink, E: Sink>(

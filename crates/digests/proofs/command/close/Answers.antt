@@ -7,4 +7,4 @@ pub returns-in-Err-clause-gives : goal.returns-in-Err-clause-gives
 returns-in-Err-clause-gives g c = λ out err.
     let bytes = c.in-Err.ensures.bytes out err in
     closes-stop (line_of c.args.tool) c.args.answer c.in-Err.stop _ _ _ (g.E.Sink.state c.settle.new.err) _
-    c.tell.result c.in-Err.ensures.answer bytes.0 bytes.1 (c.in-Err.ensures.none out err).1 c.tell.ensures
+    c.tell_stop.result c.in-Err.ensures.answer bytes.0 bytes.1 (c.in-Err.ensures.none out err).1 c.tell_stop.ensures

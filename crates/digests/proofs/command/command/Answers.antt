@@ -28,26 +28,26 @@ pub returns-in-Ok-UnknownTool-clause-gives : goal.returns-in-Ok-UnknownTool-clau
 returns-in-Ok-UnknownTool-clause-gives g c =
     let read = rw c.in-Ok-UnknownTool.field-0-is at c.in-Ok-UnknownTool.ensures.line in
     let closed = rw c.status_once-answer.ensures at c.close-in-Ok-UnknownTool.ensures.gives in
-    let told = c.tell_unknown.ensures in
+    let told = c.tell.ensures in
     let inside = c.streams-in-Ok-UnknownTool.inside in
-    let err = g.E.Sink.state c.tell_unknown.new.err in
+    let err = g.E.Sink.state c.tell.new.sink in
     rw (← c.streams-in-Ok-UnknownTool.view_is) (λ hold. program_read g.S.Source.state _ _
     c.close-in-Ok-UnknownTool.result _ unknown read
     (program_ends g.S.Source.state c.close-in-Ok-UnknownTool.result (Some unknown) _ _ _ _ _
-    (told_on_err g.S.Source.state _ _ _ c.tell_unknown.result hold.1 told)
-    (failures-told (g.O.Sink.state inside.out) (g.E.Sink.state inside.err) err 1 c.tell_unknown.result told.0)
+    (told_on_err g.S.Source.state _ _ _ c.tell.result hold.1 told)
+    (failures-told (g.O.Sink.state inside.out) (g.E.Sink.state inside.err) err 1 c.tell.result told.0)
     (hold.0, (told.1 hold.1).0) closed))
 
 -- the words couldn't be read: another line says so
 pub returns-in-Err-clause-gives : goal.returns-in-Err-clause-gives
 returns-in-Err-clause-gives g c =
     let closed = rw c.status_once-answer-in-Err.ensures at c.close-in-Err.ensures.gives in
-    let told = c.tell_not_read.ensures in
+    let told = c.tell-in-Err.ensures in
     let inside = c.streams-in-Err.inside in
-    let err = g.E.Sink.state c.tell_not_read.new.err in
+    let err = g.E.Sink.state c.tell-in-Err.new.sink in
     rw (← c.streams-in-Err.view_is) (λ hold. program_unread g.S.Source.state _ _ c.close-in-Err.result _
     c.in-Err.ensures.not_read
     (program_ends g.S.Source.state c.close-in-Err.result None _ _ _ _ _
-    (told_on_err g.S.Source.state _ _ _ c.tell_not_read.result hold.1 told)
-    (failures-told (g.O.Sink.state inside.out) (g.E.Sink.state inside.err) err 1 c.tell_not_read.result told.0)
+    (told_on_err g.S.Source.state _ _ _ c.tell-in-Err.result hold.1 told)
+    (failures-told (g.O.Sink.state inside.out) (g.E.Sink.state inside.err) err 1 c.tell-in-Err.result told.0)
     (hold.0, (told.1 hold.1).0) closed))

@@ -5,19 +5,19 @@ use Rattle.digests.proofs.run.answer.Goals as goal
 pub returns-in-Err-clause-gives : goal.returns-in-Err-clause-gives
 returns-in-Err-clause-gives g c =
     rw (c.in-Err.is, c.status_once.ensures, ← c.streams.view_is)
-    (λ hold. told_on_err g.S.Source.state _ _ _ c.tell_fault.result hold.1 c.tell_fault.ensures)
+    (λ hold. told_on_err g.S.Source.state _ _ _ c.tell.result hold.1 c.tell.ensures)
 
 -- the help stands on standard output
 pub returns-in-Ok-Help-clause-gives : goal.returns-in-Ok-Help-clause-gives
 returns-in-Ok-Help-clause-gives g c =
     rw (c.in-Ok-Help.is, c.in-Ok-Help.field-0-is, c.status_once-in-Ok-Help.ensures)
-    (rw (← c.streams-in-Ok-Help.view_is) (λ hold. told_on_out g.S.Source.state _ _ _ c.tell_help.result hold.0 c.tell_help.ensures))
+    (rw (← c.streams-in-Ok-Help.view_is) (λ hold. told_on_out g.S.Source.state _ _ _ c.tell-in-Ok-Help.result hold.0 c.tell-in-Ok-Help.ensures))
 
 -- the version likewise
 pub returns-in-Ok-Version-clause-gives : goal.returns-in-Ok-Version-clause-gives
 returns-in-Ok-Version-clause-gives g c =
     rw (c.in-Ok-Version.is, c.in-Ok-Version.field-0-is, c.status_once-in-Ok-Version.ensures)
-    (rw (← c.streams-in-Ok-Version.view_is) (λ hold. told_on_out g.S.Source.state _ _ _ c.tell_version.result hold.0 c.tell_version.ensures))
+    (rw (← c.streams-in-Ok-Version.view_is) (λ hold. told_on_out g.S.Source.state _ _ _ c.tell-in-Ok-Version.result hold.0 c.tell-in-Ok-Version.ensures))
 
 -- the work is what `each` does
 pub returns-in-Ok-Work-clause-gives : goal.returns-in-Ok-Work-clause-gives

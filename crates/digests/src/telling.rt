@@ -1,0 +1,45 @@
+//! The texts that the program writes as a whole.
+ghost use Rattle.sum_lines.specs.Sinks.{Writes};
+ghost use Rattle.sum_engine.specs.refinement.Telling.{Tells};
+
+use sum_engine::Stop;
+use sum_lines::{Sink, SinkFault, put_all};
+use sum_words::{Tool, WordFault, put_fault, put_help, put_stop, put_unknown, put_version};
+
+/// A text of the program.
+#[derive(Clone, Copy)]
+pub(crate) enum Text<'a> {
+    /// The two lines of a fault in the words.
+    Fault(Tool, &'a WordFault<'a>),
+    Help(Tool),
+    Version(Tool),
+    /// The line for a tool that isn't known.
+    UnknownTool,
+    /// The line for words that couldn't be read.
+    NotRead,
+    /// The line for a run that stopped.
+    Stop(Tool, Stop),
+}
+
+ghost use Rattle.digests.specs.refinement.Texts.{text_of};
+
+/// Writes a text, and hands it on. A fault where that failed; a prefix of the text is then handed on.
+pub(crate) fn tell<S: Sink>(sink: &mut S, text: Text) -> Result<(), SinkFault>
+    ensures { Tells (S.state sink.old) (S.state sink.new) (text_of text.entry) result }
+{
+    put(sink, text)?;
+    sink.flush()
+}
+
+fn put<S: Sink>(sink: &mut S, text: Text) -> Result<(), SinkFault>
+    ensures { Writes (S.state sink.old) (S.state sink.new) (text_of text.entry) result }
+{
+    match text {
+        Text::Fault(tool, fault) => put_fault(sink, tool, fault),
+        Text::Help(tool) => put_help(sink, tool),
+        Text::Version(tool) => put_version(sink, tool),
+        Text::UnknownTool => put_unknown(sink),
+        Text::NotRead => put_all(sink, b"digests: words not read\n"),
+        Text::Stop(tool, stop) => put_stop(sink, tool, stop),
+    }
+}
