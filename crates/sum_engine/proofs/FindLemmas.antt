@@ -68,8 +68,7 @@ find_line {I} input state p q reader a b line vector v reads takes few h taken e
     let is : next_judged p.rules first line ≡ judged_in vector v = found'.0 in
     let counted = found'.2 ∙ ap (λ (j : Judged). counts_with p.counts j.verdict) (sym is) in
     let moves = moves_by p q reader c d s t line vector reads.profile reads.number took takes few counted in
-    let asked = rw (names-by names [] []) at found'.1.world in
-    (
+    let asked = rw (names-by names [] []) at found'.1.world in (
       record {
         first = rest_on p.rules first next vector moves (rw is asked) ∙ rw is refl;
         did = rw (append-nil (map Opens names)) at found'.1;

@@ -1,5 +1,5 @@
 -- Where a checker stands, and one step of it by what it found.
-use Rattle.std.proofs.Common.{◌≡◌, ℕ, ◌+◌, ◌≤◌, ◌<◌, Bool, List, [], ◌∷◌, length, Option, None, Some, Result, Ok, Err, refl, ap, sym, inl, inr, ◌∙◌, subst, rules}
+use Rattle.std.proofs.Common.{◌≡◌, ℕ, ◌+◌, ◌≤◌, ◌<◌, Bool, List, [], ◌∷◌, length, Option, None, Some, Ok, Err, refl, ap, sym, inl, inr, ◌∙◌, subst, rules}
 use Rattle.std.specs.Option.{option_map}
 use Rattle.sum_sources.specs.declared.lines.Next.TheVariants.{Line}
 use Rattle.sum_sources.specs.declared.lines.LineStop.TheVariants as line_stops
@@ -215,9 +215,9 @@ step_wants input state p q a m b vector is found err out = rw (← is) (lent inp
       wants = elim f.0 [
         | inl e ↦ inl (rw (ap (λ t. t.world) e, ap (λ t. t.taken) e, ap (λ t. t.refusals) e, err, out) refl)
         | inr e ↦ inr (
-            rw (ap (λ t. t.world) e, ap (λ t. t.taken) e, ap (λ t. t.refusals) e, err, out) refl,
-            subst (λ k. 0 < k) (sym s.3) f.1,
-          )
+          rw (ap (λ t. t.world) e, ap (λ t. t.taken) e, ap (λ t. t.refusals) e, err, out) refl,
+          subst (λ k. 0 < k) (sym s.3) f.1,
+        )
       ];
     }))
 

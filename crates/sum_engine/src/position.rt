@@ -182,8 +182,7 @@ impl<'a, I: Input> Position<'a, I> {
                     name: &line[start..stop],
                 };
                 let listing = &self.listing;
-                let Some(verdict) = judge(listing, &listed, stdin, source, &mut self.buffer)
-                else {
+                let Some(verdict) = judge(listing, &listed, stdin, source, &mut self.buffer) else {
                     return None;
                 };
                 Some(self.found(verdict, start, stop))

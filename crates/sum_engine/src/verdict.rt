@@ -71,11 +71,7 @@ pub(crate) fn judge<I: Input + Drop, S: Source>(
     let Some(asked) = ask(listed.kind, listed.name, stdin, source, buffer) else {
         return None;
     };
-    Some(compare(
-        &asked,
-        listed.digest,
-        listing.settings.ignore_missing,
-    ))
+    Some(compare(&asked, listed.digest, listing.settings.ignore_missing))
 }
 
 fn compare(asked: &Asked, digest: &Digest, ignore_missing: bool) -> Verdict
