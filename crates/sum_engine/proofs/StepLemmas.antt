@@ -136,7 +136,8 @@ asked m =
 -- the next, by contents and worlds themselves
 lent_made : {I : Type 0} (p q : Place I) (x y : Option Content) (w v : Option World) (f g h k : World → RunState)
     (P R : Now → Now → Type 0) → WhereTold (now_where p x (option_map f w)) (now_where q y (option_map g v)) P
-    → ((c d : Content) (w v : World) → P (now_at p c (f w)) (now_at q d (g v)) → R (now_at p c (h w)) (now_at q d (k v)))
+    → ((c d : Content) (w v : World) → P (now_at p c (f w)) (now_at q d (g v))
+    → R (now_at p c (h w)) (now_at q d (k v)))
     → WhereTold (now_where p x (option_map h w)) (now_where q y (option_map k v)) R
 lent_made p q None y w v f g h k P R is to = tt
 lent_made p q (Some c) y None v f g h k P R is to = tt
@@ -146,7 +147,8 @@ lent_made p q (Some c) (Some d) (Some w) (Some v) f g h k P R is to = to c d w v
 
 -- what follows of two moments from what holds of them but for their outputs
 lent : {I S : Type 0} (input : I → InputState) (state : S → SourceState) (p q : Place I) (a b : Moment S)
-    (P R : Now → Now → Type 0) → WhereTold (now_of input p (run_state state (asked a))) (now_of input q (run_state state (asked b))) P
+    (P R : Now → Now → Type 0)
+    → WhereTold (now_of input p (run_state state (asked a))) (now_of input q (run_state state (asked b))) P
     → ((c d : Content) (w v : World)
     → P (now_at p c (known state (asked a) w)) (now_at q d (known state (asked b) v))
     → R (now_at p c (known state a w)) (now_at q d (known state b v)))
@@ -172,7 +174,8 @@ pub step_found : {I S : Type 0} (input : I → InputState) (state : S → Source
     (out_by p.rules.profile p.rules.settings.report v.verdict (judged_in vector v).name) x
     → StepGives p.rules vector (now_of input p (run_state state a)) (now_of input q (run_state state b))
     (answered x Going)
-step_found input state p q a m b vector v x is found hands = rw (← is) (lent input state p q m b _ _ found (λ c d w v' f.
+step_found input state p q a m b vector v x is found hands =
+    rw (← is) (lent input state p q m b _ _ found (λ c d w v' f.
     let j = judged_in vector v in
     let names = asks_by (asks_of j) f.0.did in
     let asks : Asks (known state m w) (known state b v') (asks_of j) =

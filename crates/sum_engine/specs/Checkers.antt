@@ -42,9 +42,9 @@ abbrev pub Begins : {I : Type 0} → (I → InputState) → Place I → I → Ty
 Begins state p input = (p.reader ≡ record { input = input; ahead = []; taken = 0; lines = 0; answer = None })
     × ((s : Option RunState) → now_of state p s ≡ no_line (option_map clip (state input).content) s)
 
--- what a step does to the place, told or not: it is checked by the same; what the input has given and what is left of it
--- stay the same in sum; a line that was handled is one more; no read failed where a line was handled or the manifest is
--- good; where a whole line is ahead already, the input isn't read; and the reader's bounds hold
+-- what a step does to the place, told or not: it is checked by the same; what the input has given and what is left of
+-- it stay the same in sum; a line that was handled is one more; no read failed where a line was handled or the manifest
+-- is good; where a whole line is ahead already, the input isn't read; and the reader's bounds hold
 pub record Reads {I : Type 0} (state : I → InputState) (a b : Place I) (x : Result Progress Stop) : Type 0 where
   pub rules : b.rules ≡ a.rules
   pub taken : WhereTold (state a.reader.input).content (state b.reader.input).content

@@ -60,7 +60,8 @@ returns-in-Ignored-clause-gives g c =
     let found = rw c.in-Ok-Some.field-0-is at c.in-Ok-Some.ensures.gives in
     λ hold. step_found g.I.Input.state g.S.Source.state (place_of c.args.self.now) (place_of c.find.new.self)
     c.args.streams.now _ _ c.find.new.line.items c.in-Ok-Some.found (Ok tt) c.streams.view_is found
-    (rw (c.in-Ignored.is, nothing_said present c.args.self.now.listing.settings.report _) (Appends-nil _, Appends-nil _))
+    (rw (c.in-Ignored.is, nothing_said present c.args.self.now.listing.settings.report _)
+    (Appends-nil _, Appends-nil _))
 
 -- a line was found, and its report was handed on
 pub returns-in_ok-put_report-in-Ok-Some : goal.returns-in_ok-put_report-in-Ok-Some
