@@ -1,5 +1,5 @@
 //! What a whole command line does.
-ghost use Rattle.std.specs.Prelude.{◌≡◌, ◌∷◌, List, ℕ, []};
+ghost use Rattle.std.specs.Prelude.{◌≡◌, ◌∷◌};
 ghost use Rattle.sum_engine.specs.Moments.{HoldNothing, Failures};
 ghost use Rattle.sum_engine.specs.RunStates.{RunsTo};
 ghost use Rattle.sum_words.specs.Tools.{name_of};
@@ -20,10 +20,10 @@ use sum_words::{Job, Operands, Request, Tool, WordFault, Words, read_words};
 /// status, 0 where all is good and 1 where anything isn't (coreutils manual, "md5sum invocation"). Each line, and the
 /// help and the two lines of a fault as one, is handed on as soon as it is complete.
 ///
-/// `Stop::Memory` where memory was refused; just the first steps of the run happened, up to an operand or, in
-/// checking, up to a line of a manifest or its end. `Stop::Write` where an output failed; one prefix of all
-/// that is to be asked and written, in its order, happened. What is said of bytes and of what is held is said of
-/// outputs that hold nothing when they are lent.
+/// `Stop::Memory` where memory was refused; just the first steps of the run happened, up to an operand or, in checking,
+/// up to a line of a manifest or its end. `Stop::Write` where an output failed; one prefix of all that is to be asked
+/// and written, in its order, happened. What is said of bytes and of what is held is said of outputs that hold nothing
+/// when they are lent.
 pub fn run<A: Allocator + Copy, I: Input + Drop, S: Source, O: Sink, E: Sink>(
     alloc: A,
     tool: Tool,
