@@ -33,7 +33,7 @@ pub fn run<A: Allocator + Copy, I: Input + Drop, S: Source, O: Sink, E: Sink>(
     ensures gives { RunsTo S.state (meaning tool words.now) status_of streams.old streams.new result }
     ensures none { HoldNothing streams.old → HoldNothing streams.new }
     ensures refusals { RefusalsOf S.state (request tool words.now) streams.old streams.new result }
-    ensures failures { Failures streams.old.out streams.new.out streams.old.err streams.new.err result }
+    ensures failures { Failures streams.old streams.new result }
 {
     answer(alloc, tool, read_words(tool, words), streams)
 }
@@ -47,7 +47,7 @@ fn answer<A: Allocator + Copy, I: Input + Drop, S: Source, O: Sink, E: Sink>(
     ensures gives { RunsTo S.state (answer_run tool (result_of asked.entry)) status_of streams.old streams.new result }
     ensures none { HoldNothing streams.old → HoldNothing streams.new }
     ensures refusals { RefusalsOf S.state (result_of asked.entry) streams.old streams.new result }
-    ensures failures { Failures streams.old.out streams.new.out streams.old.err streams.new.err result }
+    ensures failures { Failures streams.old streams.new result }
 {
     match asked {
         Err(fault) => status_once(tell(&mut streams.err, Text::Fault(tool, &fault)), 1),
@@ -76,7 +76,7 @@ fn one<A: Allocator + Copy, I: Input + Drop, S: Source, O: Sink, E: Sink>(
         streams.old streams.new result }
     ensures none { HoldNothing streams.old → HoldNothing streams.new }
     ensures refusals { RefusalsOfJob S.state job.now streams.old streams.new result }
-    ensures failures { Failures streams.old.out streams.new.out streams.old.err streams.new.err result }
+    ensures failures { Failures streams.old streams.new result }
 {
     match job {
         Job::Generate(settings) => generate_one(settings, tool.name(), name, streams),
@@ -105,7 +105,7 @@ fn each<A: Allocator + Copy, I: Input + Drop, S: Source, O: Sink, E: Sink>(
         streams.old streams.new result }
     ensures none { HoldNothing streams.old → HoldNothing streams.new }
     ensures refusals { RefusalsOfJob S.state job.now streams.old streams.new result }
-    ensures failures { Failures streams.old.out streams.new.out streams.old.err streams.new.err result }
+    ensures failures { Failures streams.old streams.new result }
 {
     let mut operands = operands;
     let mut name = first_name(&mut operands);

@@ -1,18 +1,19 @@
 -- A checker, as its callers see it.
-use Rattle.std.specs.Prelude.{◌≡◌, ◌+◌, true, [], length, Option, None, Some, Result, Ok}
+use Rattle.std.specs.Prelude.{ℕ, ◌≡◌, ◌+◌, true, List, [], length, Option, None, Some, Result, Ok}
 use Rattle.sum_sources.specs.declared.lines.LineReader.{LineReader}
 use Rattle.std.specs.Option.{option_map}
 use Rattle.sum_sources.specs.Contents.{InputState, WhereTold, clip}
 use Rattle.sum_sources.specs.ManifestLines.{NoNewline}
 use Rattle.sum_sources.specs.LineReaders.{coming, used, Bounded}
+use Rattle.sum_sources.specs.Sources.{SourceState}
 use Rattle.sum_lines.specs.declared.line_reading.Form.{Form}
 use Rattle.sum_engine.specs.declared.progress.Progress.{Progress}
 use Rattle.sum_engine.specs.declared.progress.Progress.TheVariants.{Going, Ended}
 use Rattle.sum_engine.specs.declared.stop.Stop.{Stop}
 use Rattle.sum_engine.specs.declared.summary.Counts.{Counts}
 use Rattle.sum_engine.specs.Verdicts.{Rules}
-use Rattle.sum_engine.specs.Moments.{RunState}
-use Rattle.sum_engine.specs.Steps.{Now, now_by, no_line}
+use Rattle.sum_engine.specs.Moments.{Moment, HoldNothing, RunState, run_state}
+use Rattle.sum_engine.specs.Steps.{Now, now_by, no_line, StepGives}
 
 -- where the checking of a manifest stands: what it is checked by, its reader, and the form and the counts of its lines
 -- so far
@@ -54,3 +55,9 @@ pub record Reads {I : Type 0} (state : I → InputState) (a b : Place I) (x : Re
   pub end_read : x ≡ Ok (Ended true) → (state b.reader.input).failed ≡ (state a.reader.input).failed
   pub ahead : ¬ NoNewline a.reader.ahead → b.reader.input ≡ a.reader.input
   pub bounds : Bounded b.reader
+
+-- a step from one place and moment, at which both outputs hold nothing, to another, where manifest and world tell
+abbrev pub StepsTo : {I S : Type 0} → (I → InputState) → (S → SourceState) → List ℕ → Place I → Place I → Moment S
+    → Moment S → Result Progress Stop → Type 0
+StepsTo input source vector p q a b r = HoldNothing a → StepGives p.rules vector
+    (now_of input p (run_state source a)) (now_of input q (run_state source b)) r

@@ -21,18 +21,24 @@ pub record Moment (S : Type 0) : Type 0 where
 abbrev pub HoldNothing : {S : Type 0} → Moment S → Type 0
 HoldNothing m = (m.out.held ≡ []) × (m.err.held ≡ [])
 
--- of two outputs, from a to b and from c to d, none had a call that failed; one of them had one
-abbrev pub NoneFailed : SinkState → SinkState → SinkState → SinkState → Type 0
-NoneFailed a b c d = (b.failures ≡ a.failures) × (d.failures ≡ c.failures)
+-- the failures of the outputs: a call that answers a write fault had one more, of one of them, and any other had none
+abbrev pub Failures : {S A : Type 0} → Moment S → Moment S → Result A Stop → Type 0
+Failures a b (Err Write) = ((b.out.failures ≡ one_more a.out.failures) × (b.err.failures ≡ a.err.failures))
+    ⊎ ((b.out.failures ≡ a.out.failures) × (b.err.failures ≡ one_more a.err.failures))
+Failures a b r = (b.out.failures ≡ a.out.failures) × (b.err.failures ≡ a.err.failures)
 
-abbrev pub OneFailed : SinkState → SinkState → SinkState → SinkState → Type 0
-OneFailed a b c d = ((b.failures ≡ one_more a.failures) × (d.failures ≡ c.failures))
-    ⊎ ((b.failures ≡ a.failures) × (d.failures ≡ one_more c.failures))
+-- the source's refusals: want of memory changes their count in this way, and any other answer leaves it
+abbrev pub Refusals : {S A : Type 0} → (S → SourceState) → (ℕ → ℕ → Type 0) → Moment S → Moment S → Result A Stop
+    → Type 0
+Refusals state Changes a b (Err Memory) = Changes (state a.source).refusals (state b.source).refusals
+Refusals state Changes a b r = (state b.source).refusals ≡ (state a.source).refusals
 
--- their failures over a call that answers a write fault exactly where one of them failed
-abbrev pub Failures : {A : Type 0} → SinkState → SinkState → SinkState → SinkState → Result A Stop → Type 0
-Failures a b c d (Err Write) = OneFailed a b c d
-Failures a b c d r = NoneFailed a b c d
+-- what a call that may stop does, told or not: nothing is held back where nothing was, and a stop has its cause
+pub record Accounts {S A : Type 0} (state : S → SourceState) (Changes : ℕ → ℕ → Type 0) (a b : Moment S)
+    (r : Result A Stop) : Type 0 where
+  pub none : HoldNothing a → HoldNothing b
+  pub refusals : Refusals state Changes a b r
+  pub failures : Failures a b r
 
 -- want of memory left both outputs as they were
 abbrev pub Untouched : {S A : Type 0} → Moment S → Moment S → Result A Stop → Type 0

@@ -46,14 +46,3 @@ abbrev pub RunsTo : {S A : Type 0} → (S → SourceState) → (World → Run) �
     → Result A Stop → Type 0
 RunsTo state run answer a b r = HoldNothing a
     → WhereKnown state a b (λ s t. RunOf (run s.world).steps (answer (run s.world).good) s t r)
-
--- a source's refusals over a call that answers want of memory just where the source was refused it
-abbrev pub RefusedExactly : {S A : Type 0} → (S → SourceState) → Moment S → Moment S → Result A Stop → Type 0
-RefusedExactly state a b (Err Memory) = (state b.source).refusals ≡ one_more (state a.source).refusals
-RefusedExactly state a b r = (state b.source).refusals ≡ (state a.source).refusals
-
--- only want of memory may change what the source was refused, by one
-abbrev pub RefusedOnMemory : {S A : Type 0} → (S → SourceState) → Moment S → Moment S → Result A Stop → Type 0
-RefusedOnMemory state a b (Err Memory) = ((state b.source).refusals ≡ (state a.source).refusals)
-    ⊎ ((state b.source).refusals ≡ one_more (state a.source).refusals)
-RefusedOnMemory state a b r = (state b.source).refusals ≡ (state a.source).refusals

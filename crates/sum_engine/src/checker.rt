@@ -1,7 +1,7 @@
 //! Checking a manifest, a line at a time.
 ghost use Rattle.std.specs.Prelude.{◌≡◌, ◌≤◌, [], None, Some, Err, Ok, Option, IfSome};
 ghost use Rattle.sum_lines.specs.Profiles.{present};
-ghost use Rattle.sum_engine.specs.Steps.{StepGives, WantsMemory};
+ghost use Rattle.sum_engine.specs.Steps.{WantsMemory};
 
 use crate::listing::Listing;
 use crate::position::Position;
@@ -35,8 +35,8 @@ impl<'a, I> Model for Checker<'a, I> {
 
 impl<'a, I: Input> Checker<'a, I> {
     ghost use Rattle.sum_sources.specs.LineReaders.{coming};
-    ghost use Rattle.sum_engine.specs.Moments.{run_state, HoldNothing, Failures, Untouched};
-    ghost use Rattle.sum_engine.specs.Checkers.{Begins, again_after, now_of, Reads};
+    ghost use Rattle.sum_engine.specs.Moments.{HoldNothing, Failures, Untouched};
+    ghost use Rattle.sum_engine.specs.Checkers.{Begins, again_after, StepsTo, Reads};
     ghost use Rattle.sum_engine.specs.refinement.Listings.{rules_in};
 
     /// A checker of the manifest that `input` gives. Its diagnostics begin with `tool`, as with `md5sum`, and call the
@@ -100,10 +100,8 @@ impl<'a, I: Input> Checker<'a, I> {
         line: &mut Vec<u8, A>,
         streams: &mut Streams<J, S, O, E>,
     ) -> Result<Progress, Stop>
-        ensures gives { self.old.answer ≡ None → HoldNothing streams.old
-            → StepGives self.old.place.rules line.new.items
-            (now_of I.state self.old.place (run_state S.state streams.old))
-            (now_of I.state self.new.place (run_state S.state streams.new)) result }
+        ensures gives { self.old.answer ≡ None → StepsTo I.state S.state line.new.items self.old.place self.new.place
+            streams.old streams.new result }
         ensures none { HoldNothing streams.old → HoldNothing streams.new }
         ensures again { IfSome self.old.answer
             (λ r. (result ≡ r) × (self.new ≡ self.old) × (streams.new ≡ streams.old)) }
@@ -111,8 +109,7 @@ impl<'a, I: Input> Checker<'a, I> {
         ensures wants { self.old.answer ≡ None
             → WantsMemory (S.state streams.old.source) (S.state streams.new.source)
             (coming I.state self.old.place.reader) result }
-        ensures failures { self.old.answer ≡ None
-            → Failures streams.old.out streams.new.out streams.old.err streams.new.err result }
+        ensures failures { self.old.answer ≡ None → Failures streams.old streams.new result }
         ensures untouched { Untouched streams.old streams.new result }
         ensures reads { self.old.answer ≡ None → Reads I.state self.old.place self.new.place result }
     {

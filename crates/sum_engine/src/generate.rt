@@ -4,8 +4,9 @@ ghost use Rattle.sum_engine.specs.Worlds.{is_dash};
 ghost use Rattle.sum_lines.specs.Lines.{line};
 ghost use Rattle.sum_engine.specs.Generation.{generate_run};
 ghost use Rattle.sum_engine.specs.refinement.Telling.{Tells};
-ghost use Rattle.sum_engine.specs.Moments.{HoldNothing, Failures, Untouched};
-ghost use Rattle.sum_engine.specs.RunStates.{RunsTo, RefusedExactly};
+ghost use Rattle.digest_kinds.specs.Limits.{one_more};
+ghost use Rattle.sum_engine.specs.Moments.{HoldNothing, Failures, Refusals, Untouched};
+ghost use Rattle.sum_engine.specs.RunStates.{RunsTo};
 
 use crate::asking::{Asked, ask};
 use crate::report::put_fault_line;
@@ -31,8 +32,8 @@ pub fn generate_one<I: Input + Drop, S: Source, O: Sink, E: Sink>(
     ensures gives { RunsTo S.state (λ w. generate_run settings.now tool.now w name.now) (λ good. good)
         streams.old streams.new result }
     ensures none { HoldNothing streams.old → HoldNothing streams.new }
-    ensures refusals { RefusedExactly S.state streams.old streams.new result }
-    ensures failures { Failures streams.old.out streams.new.out streams.old.err streams.new.err result }
+    ensures refusals { Refusals S.state (λ n m. m ≡ one_more n) streams.old streams.new result }
+    ensures failures { Failures streams.old streams.new result }
     ensures taken { OnOk result (streams.new.taken ≡ streams.old.taken || is_dash name.now) }
     ensures untouched { Untouched streams.old streams.new result }
 {

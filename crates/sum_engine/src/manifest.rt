@@ -2,8 +2,10 @@
 ghost use Rattle.std.specs.Option.{option_map};
 ghost use Rattle.sum_sources.specs.Contents.{clip};
 ghost use Rattle.sum_engine.specs.Checking.{check_run};
-ghost use Rattle.sum_engine.specs.Moments.{HoldNothing, Failures};
-ghost use Rattle.sum_engine.specs.RunStates.{RunsTo, RefusedOnMemory};
+ghost use Rattle.std.specs.Prelude.{◌≡◌, ◌⊎◌};
+ghost use Rattle.digest_kinds.specs.Limits.{one_more};
+ghost use Rattle.sum_engine.specs.Moments.{HoldNothing, Failures, Refusals, Accounts};
+ghost use Rattle.sum_engine.specs.RunStates.{RunsTo};
 ghost use Rattle.sum_engine.specs.Manifests.{ManifestGives};
 ghost use Rattle.sum_engine.specs.refinement.Listings.{rules_in};
 
@@ -37,8 +39,8 @@ pub fn check_one<A: Allocator + Copy, J: Input + Drop, S: Source, O: Sink, E: Si
     ensures gives { RunsTo S.state (λ w. check_run settings tool.now w name.now) (λ good. good)
         streams.old streams.new result }
     ensures none { HoldNothing streams.old → HoldNothing streams.new }
-    ensures refusals { RefusedOnMemory S.state streams.old streams.new result }
-    ensures failures { Failures streams.old.out streams.new.out streams.old.err streams.new.err result }
+    ensures refusals { Refusals S.state (λ n m. (m ≡ n) ⊎ (m ≡ one_more n)) streams.old streams.new result }
+    ensures failures { Failures streams.old streams.new result }
 {
     if is_dash(name) {
         let input = streams.stdin.take();
@@ -77,9 +79,7 @@ fn check_input<'a, A: Allocator, I: Input + Drop, J: Input + Drop, S: Source, O:
 ) -> Result<bool, Stop>
     ensures gives { ManifestGives S.state (rules_in listing.entry) (option_map clip (I.state input).content)
         streams.old streams.new result }
-    ensures none { HoldNothing streams.old → HoldNothing streams.new }
-    ensures refusals { RefusedOnMemory S.state streams.old streams.new result }
-    ensures failures { Failures streams.old.out streams.new.out streams.old.err streams.new.err result }
+    ensures accounts { Accounts S.state (λ n m. (m ≡ n) ⊎ (m ≡ one_more n)) streams.old streams.new result }
 {
     let mut checker = Checker::over(listing, input);
     let mut line = Vec::new(alloc);

@@ -31,8 +31,8 @@ pub(crate) struct Position<'a, I> {
 impl<'a, I: Input> Position<'a, I> {
     ghost use Rattle.sum_sources.specs.LineReaders.{coming};
     ghost use Rattle.sum_engine.specs.Moments.{run_state, HoldNothing, Failures, Untouched};
-    ghost use Rattle.sum_engine.specs.Steps.{StepGives, WantsMemory};
-    ghost use Rattle.sum_engine.specs.Checkers.{Begins, now_of, Reads};
+    ghost use Rattle.sum_engine.specs.Steps.{WantsMemory};
+    ghost use Rattle.sum_engine.specs.Checkers.{Begins, now_of, StepsTo, Reads};
     ghost use Rattle.sum_sources.specs.declared.fault.Ending.TheVariants.{Whole};
     ghost use Rattle.sum_engine.specs.Reports.{good};
     ghost use Rattle.std.specs.List.{list_any};
@@ -79,13 +79,12 @@ impl<'a, I: Input> Position<'a, I> {
         line: &mut Vec<u8, A>,
         streams: &mut Streams<J, S, O, E>,
     ) -> Result<Progress, Stop>
-        ensures gives { HoldNothing streams.old → StepGives (rules_in self.old.listing) line.new.items
-            (now_of I.state (place_of self.old) (run_state S.state streams.old))
-            (now_of I.state (place_of self.new) (run_state S.state streams.new)) result }
+        ensures gives { StepsTo I.state S.state line.new.items (place_of self.old) (place_of self.new)
+            streams.old streams.new result }
         ensures none { HoldNothing streams.old → HoldNothing streams.new }
         ensures wants { WantsMemory (S.state streams.old.source) (S.state streams.new.source)
             (coming I.state self.old.reader) result }
-        ensures failures { Failures streams.old.out streams.new.out streams.old.err streams.new.err result }
+        ensures failures { Failures streams.old streams.new result }
         ensures untouched { Untouched streams.old streams.new result }
         ensures reads { Reads I.state (place_of self.old) (place_of self.new) result }
     {

@@ -7,8 +7,7 @@ ghost use Rattle.sum_lines.specs.Profiles.{present};
 ghost use Rattle.sum_engine.specs.Generation.{fault_line};
 ghost use Rattle.sum_engine.specs.Reports.{verdict_line, bad_line, err_by};
 ghost use Rattle.sum_engine.specs.refinement.Listings.{rules_in};
-ghost use Rattle.sum_engine.specs.Moments.{NoneFailed, OneFailed};
-ghost use Rattle.sum_engine.specs.refinement.Telling.{out_by, Tells, HandsBoth};
+ghost use Rattle.sum_engine.specs.refinement.Telling.{out_by, Tells, HandsBoth, NoneFailed, OneFailed};
 
 use crate::listing::Listing;
 use crate::settings::Report;

@@ -19,6 +19,14 @@ abbrev pub Fails : {A E : Type 0} → SinkState → SinkState → Result A E →
 Fails a b (Ok u) = b.failures ≡ a.failures
 Fails a b (Err e) = b.failures ≡ one_more a.failures
 
+-- the failures of two outputs, from a to b and from c to d: none failed; one call of one of them did
+abbrev pub NoneFailed : SinkState → SinkState → SinkState → SinkState → Type 0
+NoneFailed a b c d = (b.failures ≡ a.failures) × (d.failures ≡ c.failures)
+
+abbrev pub OneFailed : SinkState → SinkState → SinkState → SinkState → Type 0
+OneFailed a b c d = ((b.failures ≡ one_more a.failures) × (d.failures ≡ c.failures))
+    ⊎ ((b.failures ≡ a.failures) × (d.failures ≡ one_more c.failures))
+
 -- a call that writes the text and hands it on, where nothing was held; then nothing is held
 abbrev pub Tells : {E : Type 0} → SinkState → SinkState → List ℕ → Result (Unit {0}) E → Type 0
 Tells a b text r = Fails a b r × (a.held ≡ [] → (b.held ≡ []) × Hands a.written b.written text r)

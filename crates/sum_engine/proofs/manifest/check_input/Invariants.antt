@@ -1,7 +1,8 @@
-use Rattle.std.proofs.Common.{◌≡◌, ◌^◌, ◌-◌, None}
+use Rattle.std.proofs.Common.{◌≡◌, ◌⊎◌, ◌^◌, ◌-◌, Bool, true, Ok, None}
+use Rattle.digest_kinds.specs.Limits.{one_more}
 use Rattle.std.specs.Option.{option_map}
 use Rattle.sum_sources.specs.Contents.{clip}
-use Rattle.sum_engine.specs.Moments.{run_state, HoldNothing, NoneFailed}
+use Rattle.sum_engine.specs.Moments.{run_state, HoldNothing, Accounts}
 use Rattle.sum_engine.specs.Checkers.{now_of}
 use Rattle.sum_engine.specs.refinement.Listings.{rules_in}
 use Rattle.sum_engine.proofs.ManifestLemmas.{Comes}
@@ -14,11 +15,9 @@ invariant-lines g l =
       comes : HoldNothing l.fn.streams → Comes r (option_map clip (g.I.Input.state l.fn.input).content)
           (run_state g.S.Source.state l.fn.streams)
           (now_of g.I.Input.state l.checker.place (run_state g.S.Source.state l.streams));
-      none : HoldNothing l.fn.streams → HoldNothing l.streams;
       rules : l.checker.place.rules ≡ r;
       going : l.checker.answer ≡ None;
-      refusals : (g.S.Source.state l.streams.source).refusals ≡ (g.S.Source.state l.fn.streams.source).refusals;
-      failures : NoneFailed l.fn.streams.out l.streams.out l.fn.streams.err l.streams.err;
+      so_far : Accounts {A = Bool} g.S.Source.state (λ n m. (m ≡ n) ⊎ (m ≡ one_more n)) l.fn.streams l.streams (Ok true);
     }
 
 abbrev pub decreases-lines : goal.decreases-lines
