@@ -1,9 +1,9 @@
 -- Runs that write one text and nothing else: a fault, the help, the version.
-use Rattle.std.proofs.Common.{◌≡◌, true, false, [], Result, Ok, Err, refl, append-nil}
+use Rattle.std.proofs.Common.{◌≡◌, ℕ, true, false, [], Result, Ok, Err, refl, inl, inr, append-nil}
 use Rattle.std.proofs.KnownBytes.{Appends-nil}
 use Rattle.sum_sources.specs.Sources.{SourceState}
 use Rattle.sum_lines.specs.Sinks.{SinkState}
-use Rattle.sum_engine.specs.Moments.{Moment}
+use Rattle.sum_engine.specs.Moments.{Moment, Accounts}
 use Rattle.sum_engine.specs.Runs.{at_once}
 use Rattle.sum_engine.specs.refinement.Telling.{Tells}
 use Rattle.sum_engine.proofs.RunStateLemmas.{events_by, Runs, where_known, same_told, asks_none, did_by, prefix_err, prefix_out}
@@ -36,3 +36,20 @@ told_on_err state a err text (Ok u) none h = where_known state a (record a { err
 told_on_err state a err text (Err e) none h = where_known state a (record a { err = err }) _ (same_told _) (λ w v same.
     rw (append-nil (events_by [] text [])) (
     prefix_err [] text [] (asks_none same refl refl) (h.1 none).1 refl))
+
+-- a call that writes a text accounts for its stop
+pub accounts_on_out : {S E : Type 0} (state : S → SourceState) (Changes : ℕ → ℕ → Type 0) (a : Moment S)
+    (out : SinkState) (text : Text) (status : ℕ) (r : Result (Unit {0}) E) → Tells a.out out text r
+    → Accounts state Changes a (record a { out = out }) (once_told r status)
+accounts_on_out state Changes a out text status (Ok u) h =
+    record { none = λ hold. ((h.1 hold.0).0, hold.1); refusals = refl; failures = (h.0, refl) }
+accounts_on_out state Changes a out text status (Err e) h =
+    record { none = λ hold. ((h.1 hold.0).0, hold.1); refusals = refl; failures = inl (h.0, refl) }
+
+pub accounts_on_err : {S E : Type 0} (state : S → SourceState) (Changes : ℕ → ℕ → Type 0) (a : Moment S)
+    (err : SinkState) (text : Text) (status : ℕ) (r : Result (Unit {0}) E) → Tells a.err err text r
+    → Accounts state Changes a (record a { err = err }) (once_told r status)
+accounts_on_err state Changes a err text status (Ok u) h =
+    record { none = λ hold. (hold.0, (h.1 hold.1).0); refusals = refl; failures = (refl, h.0) }
+accounts_on_err state Changes a err text status (Err e) h =
+    record { none = λ hold. (hold.0, (h.1 hold.1).0); refusals = refl; failures = inr (refl, h.0) }

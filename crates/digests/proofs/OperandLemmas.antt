@@ -5,21 +5,16 @@ use Rattle.std.proofs.Math.Bool.{and_assoc, and-true}
 use Rattle.std.proofs.lemmas.List.{append-nil}
 use Rattle.sum_sources.specs.Contents.{WhereTold}
 use Rattle.sum_sources.specs.Sources.{SourceState}
-use Rattle.digest_kinds.specs.Limits.{one_more}
 use Rattle.sum_sources.proofs.ToldLemmas.{WhereTold-map, WhereTold-then}
 use Rattle.sum_engine.specs.declared.stop.Stop.{Stop}
-use Rattle.sum_engine.specs.declared.stop.Stop.TheVariants.{Memory, Write}
 use Rattle.sum_engine.specs.Worlds.{World, after}
 use Rattle.sum_engine.specs.Runs.{Run, run_then, asks}
 use Rattle.sum_engine.specs.Moments.{Moment, RunState, run_state}
 use Rattle.sum_engine.specs.RunStates.{RunOf}
 use Rattle.sum_engine.proofs.RunStateLemmas.{Runs, did_nothing}
 use Rattle.sum_engine.proofs.RunLemmas.{run_then-did, run_then-first, run_then-second, events_extend}
-use Rattle.sum_words.specs.declared.request.Job.{Job}
-use Rattle.sum_words.specs.declared.request.Job.TheVariants as jobs
 use Rattle.sum_words.specs.Items.{Text}
 use Rattle.digests.specs.Meaning.{all_of, status_of}
-use Rattle.digests.specs.Refusals.{RefusalsOfJob}
 use Rattle.digests.specs.refinement.Operands.{Reached, HasReached}
 
 -- ---- runs, one after another
@@ -92,19 +87,3 @@ reached_stop state o stop good name rest x y z h k =
     let next = run_then-first b c status run.good run.steps later.steps stop q in
     let all = run_then-second c status status p.done.steps (run_then run later).steps stop p.did next in
     subst (λ (r : Run). RunOf r.steps (status_of r.good) a c (Err stop)) (sym p.total) all) h k
-
--- an operand that was done was refused nothing
-pub refused-none : {S : Type 0} (state : S → SourceState) (job : Job) (x y : Moment S) (good : Bool)
-    → RefusalsOfJob state job x y (Ok good) → (state y.source).refusals ≡ (state x.source).refusals
-refused-none state (jobs.Generate settings) x y good h = h
-refused-none state (jobs.Check settings) x y good h = h
-
--- a stop at the last of several operands, where those before it were refused nothing
-pub refused-since : {S : Type 0} (state : S → SourceState) (job : Job) (x y z : Moment S) (stop : Stop)
-    → (state y.source).refusals ≡ (state x.source).refusals → RefusalsOfJob {A = Bool} state job y z (Err stop)
-    → RefusalsOfJob {A = ℕ} state job x z (Err stop)
-refused-since state (jobs.Generate settings) x y z Write is h = h ∙ is
-refused-since state (jobs.Generate settings) x y z Memory is h = h ∙ ap one_more is
-refused-since state (jobs.Check settings) x y z Write is h = h ∙ is
-refused-since state (jobs.Check settings) x y z Memory is (inl h) = inl (h ∙ is)
-refused-since state (jobs.Check settings) x y z Memory is (inr h) = inr (h ∙ ap one_more is)

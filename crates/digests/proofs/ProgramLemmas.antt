@@ -1,42 +1,40 @@
 -- A run and its end, joined: what the whole program does.
-use Rattle.std.proofs.Common.{◌≡◌, ℕ, List, [], map, Option, None, Some, Result, Ok, Err, refl, ap, sym, ◌∙◌, inl, inr, ◌⊎◌, subst, append-nil}
-use Rattle.std.specs.Io.KnownBytes.{Keeps, Appends}
-use Rattle.std.proofs.KnownBytes.{Appends-nil, Appends-kept}
+use Rattle.std.proofs.Common.{◌≡◌, ℕ, List, [], Option, None, Some, Result, Ok, Err, ap, sym, ◌∙◌, inl, inr, refl, ◌⊎◌, subst, append-nil}
+use Rattle.std.specs.Prelude.{IfSome}
+use Rattle.std.specs.Io.KnownBytes.{Keeps}
+use Rattle.std.proofs.KnownBytes.{Appends-kept}
 use Rattle.sum_sources.specs.Sources.{SourceState}
-use Rattle.sum_lines.specs.Sinks.{SinkState, IsPrefix}
+use Rattle.sum_lines.specs.Sinks.{SinkState}
 use Rattle.digest_kinds.specs.Limits.{one_more}
 use Rattle.sum_engine.specs.declared.stop.Stop.{Stop}
 use Rattle.sum_engine.specs.declared.stop.Stop.TheVariants.{Write}
-use Rattle.sum_engine.specs.Moments.{Moment, RunState, HoldNothing, NoneFailed, OneFailed, Failures}
-use Rattle.sum_engine.specs.Runs.{Event, Tells, Run, events}
+use Rattle.sum_engine.specs.Worlds.{World}
+use Rattle.sum_engine.specs.Moments.{Moment, RunState, HoldNothing, Failures}
+use Rattle.sum_engine.specs.Runs.{Event, Run, events}
 use Rattle.sum_engine.specs.RunStates.{Did, RunOf}
-use Rattle.sum_engine.specs.refinement.Telling.{Fails}
-use Rattle.sum_engine.proofs.RunStateLemmas.{Runs, where_known, known_worlds, asks_none, did_by, known}
+use Rattle.sum_engine.specs.refinement.Telling.{OneFailed, Tells}
+use Rattle.sum_engine.proofs.RunStateLemmas.{Runs, where_known, known_worlds}
 use Rattle.sum_words.specs.Items.{Text}
-use Rattle.std.specs.Prelude.{IfSome}
 use Rattle.sum_words.specs.CommandLines.{Call, command_line, NeedsMemory}
 use Rattle.sum_words.specs.refinement.Arguments.{CallIs, MayBeUnread}
 use Rattle.digests.specs.Meaning.{status_of}
-use Rattle.digests.specs.Program.{Leaves, EndsGives, run_of, line_of_stop}
+use Rattle.digests.specs.Program.{EndsGives, run_of, line_of_stop}
 use Rattle.digests.specs.refinement.Endings.{Closes}
 use Rattle.digests.specs.refinement.Operands.{once_told}
-
--- one text was told on standard error
-pub failures-told : {E : Type 0} (a b c : SinkState) (status : ℕ) (r : Result (Unit {0}) E) → Fails b c r
-    → Failures a a b c (once_told r status)
-failures-told a b c status (Ok u) h = (refl, h)
-failures-told a b c status (Err f) h = inr (refl, h)
+use Rattle.digests.proofs.OneTextLemmas.{accounts_on_err}
 
 -- ---- a run that answered, and its end
 
--- the run state, once both outputs stand so
-abbrev pub with_outputs : RunState → SinkState → SinkState → RunState
-with_outputs b out err = record b { out = out; err = err }
+-- one output failed, where none had before
+failed_since : {S : Type 0} (a b : Moment S) (out err : SinkState) (x y : ℕ) → Failures a b (Ok x)
+    → OneFailed b.out out b.err err → Failures {A = ℕ} a (record b { out = out; err = err }) (Err Write)
+failed_since a b out err x y h (inl k) = inl (k.0 ∙ ap one_more h.0, k.1 ∙ h.1)
+failed_since a b out err x y h (inr k) = inr (k.0 ∙ h.0, k.1 ∙ ap one_more h.1)
 
 -- nothing more was done
-did_kept : {a b : RunState} (p : List Event) (out err : SinkState) → Did a b p → Keeps b.out.written out.written
-    → Keeps b.err.written err.written → Did a (with_outputs b out err) p
-did_kept {a} {b} p out err h o e = record {
+did_kept : {a b : RunState} (es : List Event) (out err : SinkState) → Did a b es → Keeps b.out.written out.written
+    → Keeps b.err.written err.written → Did a (record b { out = out; err = err }) es
+did_kept {a} {b} es out err h o e = record {
   world = h.world;
   taken = h.taken;
   err = Appends-kept a.err.written b.err.written err.written _ h.err e;
@@ -44,61 +42,62 @@ did_kept {a} {b} p out err h o e = record {
   refusals = h.refusals;
 }
 
--- a line was said, and nothing else was done
-did_line : (b : RunState) (err : SinkState) (said : Text) → Appends b.err.written err.written said
-    → Did b (record b { err = err }) (map Tells said)
-did_line b err said e = subst (λ es. Did b (record b { err = err }) es) (append-nil (map Tells said)) (
-    did_by [] said [] (asks_none refl refl refl) e (Appends-nil b.out.written))
+-- so a run that answered is still done, once both outputs were flushed; or that failed behind all events
+runs-kept : {S : Type 0} (state : S → SourceState) (run : World → Run) (a b : Moment S) (out err : SinkState) (x : ℕ)
+    → Runs state run status_of a b (Ok x) → Keeps b.out.written out.written → Keeps b.err.written err.written
+    → Runs state run status_of a (record b { out = out; err = err }) (Ok x)
+    × Runs state run status_of a (record b { out = out; err = err }) (Err Write)
+runs-kept state run a b out err x ran o e =
+    let worlds = known_worlds state a b _ ran in
+    let last = record b { out = out; err = err } in (
+      where_known state a last _ worlds (λ w v h. (h.0, did_kept (events (run w).steps) out err h.1 o e)),
+      where_known state a last _ worlds (λ w v h. (
+        events (run w).steps,
+        ([], sym (append-nil (events (run w).steps))),
+        did_kept (events (run w).steps) out err h.1 o e,
+      )),
+    )
 
--- one output failed, where none had before
-fails_since : (a b c d e f : SinkState) → NoneFailed a b d e → OneFailed b c e f → OneFailed a c d f
-fails_since a b c d e f h (inl k) = inl (k.0 ∙ ap one_more h.0, k.1 ∙ h.1)
-fails_since a b c d e f h (inr k) = inr (k.0 ∙ h.0, k.1 ∙ ap one_more h.1)
-
--- what a program gives between two run states
-abbrev Ends : Option Call → Run → RunState → RunState → ℕ → Type 0
-Ends line run a b status = (answer : Result ℕ Stop) × (between : RunState)
-    × RunOf run.steps (status_of run.good) a between answer × Failures a.out between.out a.err between.err answer
-    × Leaves line answer between b status
-
--- by the run's answer; where the last flush failed, that is a write fault behind all events
-ends : {a : RunState} (b : RunState) (status : ℕ) (run : Run) (line : Option Call) (out err : SinkState)
-    (answer : Result ℕ Stop) → RunOf run.steps (status_of run.good) a b answer
-    → Failures a.out b.out a.err b.err answer → Closes (line_of_stop line) answer b.out out b.err err status
-    → Ends line run a (with_outputs b out err) status
-ends b status run line out err (Ok answer) ran failed (inl done) = (
-  Ok answer,
-  with_outputs b out err,
-  (ran.0, did_kept (events run.steps) out err ran.1 done.1 done.2),
+-- by the run's answer
+ends : {S : Type 0} (state : S → SourceState) (status : ℕ) (line : Option Call) (a b : Moment S) (out err : SinkState)
+    (answer : Result ℕ Stop) → Runs state (run_of line) status_of a b answer → Failures a b answer
+    → Closes (line_of_stop line) answer b.out out b.err err status
+    → EndsGives state line a (record b { out = out; err = err }) status
+ends state status line a b out err (Ok x) ran failed (inl done) = (
+  Ok x,
+  record b { out = out; err = err },
+  λ hold. (runs-kept state (run_of line) a b out err x ran done.1 done.2).0,
   (done.3.0 ∙ failed.0, done.3.1 ∙ failed.1),
   (done.0, refl),
 )
-ends {a} b status run line out err (Ok answer) ran failed (inr (e, kept, still, broken, told)) =
-    let all : IsPrefix (events run.steps) (events run.steps) = ([], sym (append-nil (events run.steps))) in
-    let between = with_outputs b out e in (
-      Err Write,
-      between,
-      (events run.steps, all, did_kept (events run.steps) out e ran.1 kept still),
-      fails_since a.out b.out out a.err b.err e failed broken,
-      (told.is, refl, told.said, told.says, did_line between err told.said told.err),
-    )
-ends b status run line out err (Err stop) ran failed told = (
-  Err stop,
-  b,
-  ran,
-  failed,
-  rw told.0 (told.1.is, refl, told.1.said, told.1.says, did_line b err told.1.said told.1.err),
+ends state status line a b out err (Ok x) ran failed (inr (e, kept, still, broken, is, told)) = (
+  Err Write,
+  record b { out = out; err = e },
+  λ hold. (runs-kept state (run_of line) a b out e x ran kept still).1,
+  failed_since a b out e x x failed broken,
+  (is, refl, told),
 )
+ends state status line a b out err (Err stop) ran failed told =
+    (Err stop, b, λ hold. ran, failed, (told.1, rw told.0 refl, told.2))
 
--- the same, where the run states tell: b is how things stood after the run, and held nothing
+-- the same; b is how things stood after the run, and held nothing
 pub program_ends : {S : Type 0} (state : S → SourceState) (status : ℕ) (line : Option Call) (a b : Moment S)
     (out err : SinkState) (answer : Result ℕ Stop) → Runs state (run_of line) status_of a b answer
-    → Failures a.out b.out a.err b.err answer → HoldNothing b
+    → Failures a b answer → HoldNothing b
     → (b.out.held ≡ [] → b.err.held ≡ [] → Closes (line_of_stop line) answer b.out out b.err err status)
     → EndsGives state line a (record b { out = out; err = err }) status
 program_ends state status line a b out err answer ran failed none closed =
-    where_known state a (record b { out = out; err = err }) _ (known_worlds state a b _ ran) (λ w v did.
-    ends (known state b v) status (run_of line w) line out err answer did failed (closed none.0 none.1))
+    ends state status line a b out err answer ran failed (closed none.0 none.1)
+
+-- of a run that wrote one text on standard error
+pub program_told : {S E : Type 0} (state : S → SourceState) (status : ℕ) (line : Option Call) (a : Moment S)
+    (err out last : SinkState) (text : Text) (r : Result (Unit {0}) E) → HoldNothing a → Tells a.err err text r
+    → Runs state (run_of line) status_of a (record a { err = err }) (once_told r 1)
+    → (a.out.held ≡ [] → err.held ≡ [] → Closes (line_of_stop line) (once_told r 1) a.out out err last status)
+    → EndsGives state line a (record a { out = out; err = last }) status
+program_told state status line a err out last text r none told ran closed =
+    program_ends state status line a (record a { err = err }) out last (once_told r 1) ran
+    (accounts_on_err state (λ n m. m ≡ n) a err text 1 r told).failures (none.0, (told.1 none.1).0) closed
 
 -- ---- by what was read of the arguments
 

@@ -1,13 +1,14 @@
 -- What the program does, from the list of its arguments to its status.
-use Rattle.std.specs.Prelude.{ℕ, ◌≡◌, ◌⊎◌, false, List, [], map, Option, None, Some, Result, Ok, Err, codes, IfSome}
+use Rattle.std.specs.Prelude.{ℕ, ◌≡◌, ◌⊎◌, false, List, [], Option, None, Some, Result, Ok, Err, codes, IfSome}
+use Rattle.std.specs.Io.KnownBytes.{Appends}
 use Rattle.sum_sources.specs.Sources.{SourceState}
 use Rattle.sum_lines.specs.Sinks.{SinkState, IsPrefix}
 use Rattle.digest_kinds.specs.Limits.{one_more}
 use Rattle.sum_engine.specs.declared.stop.Stop.{Stop}
 use Rattle.sum_engine.specs.Worlds.{World}
-use Rattle.sum_engine.specs.Runs.{Tells, Run, at_once}
-use Rattle.sum_engine.specs.Moments.{Moment, HoldNothing, RunState, WhereKnown, Failures}
-use Rattle.sum_engine.specs.RunStates.{Did, RunOf}
+use Rattle.sum_engine.specs.Runs.{Run, at_once}
+use Rattle.sum_engine.specs.Moments.{Moment, HoldNothing, Failures}
+use Rattle.sum_engine.specs.RunStates.{RunsTo}
 use Rattle.sum_words.specs.Items.{Text}
 use Rattle.sum_words.specs.CommandLines.{Call, unknown, call, command_line, NeedsMemory}
 use Rattle.sum_words.specs.Texts.{stop_line}
@@ -23,22 +24,23 @@ abbrev pub line_of_stop : Option Call → Stop → Text
 line_of_stop (Some (call tool words)) stop = stop_line tool stop
 line_of_stop line stop = []
 
--- this much of a line was handed on by standard error: all of it; or a prefix, where that output failed
-abbrev pub HandsOnLine : Text → Text → SinkState → SinkState → Type 0
-HandsOnLine line said a b = ((said ≡ line) × (b.failures ≡ a.failures))
-    ⊎ (IsPrefix said line × (b.failures ≡ one_more a.failures))
+-- a line was handed on by an output: all of it; or a prefix, where that output failed
+abbrev pub HandsOnLine : Text → SinkState → SinkState → Type 0
+HandsOnLine line a b = (said : Text) × Appends a.written b.written said
+    × (((said ≡ line) × (b.failures ≡ a.failures)) ⊎ (IsPrefix said line × (b.failures ≡ one_more a.failures)))
 
--- what an answer leaves to be done: nothing, and it is the status; or the stop is told, and the status is 1
-abbrev pub Leaves : Option Call → Result ℕ Stop → RunState → RunState → ℕ → Type 0
+-- what an answer leaves to be done: nothing, and it is the status; or standard error alone tells of the stop, and the
+-- status is 1
+abbrev pub Leaves : {S : Type 0} → Option Call → Result ℕ Stop → Moment S → Moment S → ℕ → Type 0
 Leaves line (Ok answer) a b status = (status ≡ answer) × (b ≡ a)
-Leaves line (Err stop) a b status = (status ≡ 1) × (b.out ≡ a.out)
-    × (said : Text) × HandsOnLine (line_of_stop line stop) said a.err b.err × Did a b (map Tells said)
+Leaves line (Err stop) a b status = (status ≡ 1) × (b ≡ record a { err = b.err })
+    × HandsOnLine (line_of_stop line stop) a.err b.err
 
 -- THE PROGRAM, for what it was called for: its run, as the headline has it, and then what its answer leaves to be done
 abbrev pub EndsGives : {S : Type 0} → (S → SourceState) → Option Call → Moment S → Moment S → ℕ → Type 0
-EndsGives state line a b status = WhereKnown state a b (λ s t. let run = run_of line s.world in
-    (answer : Result ℕ Stop) × (between : RunState) × RunOf run.steps (status_of run.good) s between answer
-    × Failures s.out between.out s.err between.err answer × Leaves line answer between t status)
+EndsGives {S} state line a b status = (answer : Result ℕ Stop) × (between : Moment S)
+    × RunsTo state (run_of line) status_of a between answer × Failures a between answer
+    × Leaves line answer between b status
 
 -- what it is called for is said by the arguments, where these are told; or the words couldn't be read, which needed
 -- memory; both outputs hold nothing at first

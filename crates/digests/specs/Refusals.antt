@@ -1,24 +1,18 @@
--- What a command line's want of memory says of the source's refusals, told or not.
-use Rattle.std.specs.Prelude.{◌≡◌, Result, Ok, Err}
-use Rattle.sum_sources.specs.Sources.{SourceState}
-use Rattle.sum_engine.specs.declared.stop.Stop.{Stop}
-use Rattle.sum_engine.specs.declared.stop.Stop.TheVariants.{Memory}
-use Rattle.sum_engine.specs.Moments.{Moment}
-use Rattle.sum_engine.specs.RunStates.{RefusedExactly, RefusedOnMemory}
+-- How want of memory may change the count of a source's refusals, told or not.
+use Rattle.std.specs.Prelude.{ℕ, ◌≡◌, ◌⊎◌, Result, Ok}
+use Rattle.digest_kinds.specs.Limits.{one_more}
 use Rattle.sum_words.specs.declared.request.Job.{Job}
 use Rattle.sum_words.specs.declared.request.Job.TheVariants as jobs
 use Rattle.sum_words.specs.declared.request.Request.{Request}
 use Rattle.sum_words.specs.declared.request.Request.TheVariants as requests
 use Rattle.sum_words.specs.Faults.{Fault}
 
--- in generation the source was refused memory; in checking a line may have been
-abbrev pub RefusalsOfJob : {S A : Type 0} → (S → SourceState) → Job → Moment S → Moment S → Result A Stop → Type 0
-RefusalsOfJob state (jobs.Generate settings) a b r = RefusedExactly state a b r
-RefusalsOfJob state (jobs.Check settings) a b r = RefusedOnMemory state a b r
+-- in generation it is one more; in checking it may be, or it was a line that wanted memory
+abbrev pub RefusalsOfJob : Job → ℕ → ℕ → Type 0
+RefusalsOfJob (jobs.Generate settings) n m = m ≡ one_more n
+RefusalsOfJob (jobs.Check settings) n m = (m ≡ n) ⊎ (m ≡ one_more n)
 
 -- a fault, help and version want no memory
-abbrev pub RefusalsOf : {S A : Type 0} → (S → SourceState) → Result Request Fault → Moment S → Moment S
-    → Result A Stop → Type 0
-RefusalsOf state (Ok (requests.Work job names)) a b r = RefusalsOfJob state job a b r
-RefusalsOf state asked a b (Err Memory) = ⊥
-RefusalsOf state asked a b r = (state b.source).refusals ≡ (state a.source).refusals
+abbrev pub RefusalsOf : Result Request Fault → ℕ → ℕ → Type 0
+RefusalsOf (Ok (requests.Work job names)) n m = RefusalsOfJob job n m
+RefusalsOf asked n m = ⊥

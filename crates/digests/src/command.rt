@@ -1,6 +1,7 @@
 //! The whole program, from the list of its arguments to its exit status.
-ghost use Rattle.std.specs.Prelude.{◌≡◌, [], IsOk};
-ghost use Rattle.sum_engine.specs.Moments.{HoldNothing, NoneFailed};
+ghost use Rattle.std.specs.Prelude.{◌≡◌, [], Ok, IsOk};
+ghost use Rattle.sum_engine.specs.Moments.{HoldNothing, Failures};
+ghost use Rattle.sum_engine.specs.refinement.Telling.{NoneFailed};
 ghost use Rattle.digests.specs.Program.{ProgramGives};
 ghost use Rattle.digests.specs.refinement.Endings.{Closes, line_of};
 
@@ -30,7 +31,7 @@ pub fn command<A: Allocator + Copy, G: Arguments, I: Input + Drop, S: Source, O:
 ) -> u8
     ensures gives { ProgramGives S.state (G.told arguments.now) streams.old streams.new result }
     ensures none { HoldNothing streams.old → HoldNothing streams.new }
-    ensures kept { result ≡ 0 → NoneFailed streams.old.out streams.new.out streams.old.err streams.new.err }
+    ensures kept { result ≡ 0 → Failures streams.old streams.new (Ok result) }
 {
     match read_command_line(alloc, arguments) {
         Ok(CommandLine::Asks(tool, words)) => {

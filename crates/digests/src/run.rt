@@ -1,6 +1,6 @@
 //! What a whole command line does.
 ghost use Rattle.std.specs.Prelude.{◌≡◌, ◌∷◌};
-ghost use Rattle.sum_engine.specs.Moments.{HoldNothing, Failures};
+ghost use Rattle.sum_engine.specs.Moments.{HoldNothing, Failures, Refusals, Accounts};
 ghost use Rattle.sum_engine.specs.RunStates.{RunsTo};
 ghost use Rattle.sum_words.specs.Tools.{name_of};
 ghost use Rattle.sum_words.specs.refinement.Request.{result_of};
@@ -32,7 +32,7 @@ pub fn run<A: Allocator + Copy, I: Input + Drop, S: Source, O: Sink, E: Sink>(
 ) -> Result<u8, Stop>
     ensures gives { RunsTo S.state (meaning tool words.now) status_of streams.old streams.new result }
     ensures none { HoldNothing streams.old → HoldNothing streams.new }
-    ensures refusals { RefusalsOf S.state (request tool words.now) streams.old streams.new result }
+    ensures refusals { Refusals S.state (RefusalsOf (request tool words.now)) streams.old streams.new result }
     ensures failures { Failures streams.old streams.new result }
 {
     answer(alloc, tool, read_words(tool, words), streams)
@@ -45,9 +45,7 @@ fn answer<A: Allocator + Copy, I: Input + Drop, S: Source, O: Sink, E: Sink>(
     streams: &mut Streams<I, S, O, E>,
 ) -> Result<u8, Stop>
     ensures gives { RunsTo S.state (answer_run tool (result_of asked.entry)) status_of streams.old streams.new result }
-    ensures none { HoldNothing streams.old → HoldNothing streams.new }
-    ensures refusals { RefusalsOf S.state (result_of asked.entry) streams.old streams.new result }
-    ensures failures { Failures streams.old streams.new result }
+    ensures accounts { Accounts S.state (RefusalsOf (result_of asked.entry)) streams.old streams.new result }
 {
     match asked {
         Err(fault) => status_once(tell(&mut streams.err, Text::Fault(tool, &fault)), 1),
@@ -74,9 +72,7 @@ fn one<A: Allocator + Copy, I: Input + Drop, S: Source, O: Sink, E: Sink>(
 ) -> Result<bool, Stop>
     ensures gives { RunsTo S.state (λ w. one_of job.now (name_of tool) w name.now) (λ good. good)
         streams.old streams.new result }
-    ensures none { HoldNothing streams.old → HoldNothing streams.new }
-    ensures refusals { RefusalsOfJob S.state job.now streams.old streams.new result }
-    ensures failures { Failures streams.old streams.new result }
+    ensures accounts { Accounts S.state (RefusalsOfJob job.now) streams.old streams.new result }
 {
     match job {
         Job::Generate(settings) => generate_one(settings, tool.name(), name, streams),
@@ -103,9 +99,7 @@ fn each<A: Allocator + Copy, I: Input + Drop, S: Source, O: Sink, E: Sink>(
 ) -> Result<u8, Stop>
     ensures gives { RunsTo S.state (λ w. all_of (one_of job.now (name_of tool)) w (or_dash operands.entry)) status_of
         streams.old streams.new result }
-    ensures none { HoldNothing streams.old → HoldNothing streams.new }
-    ensures refusals { RefusalsOfJob S.state job.now streams.old streams.new result }
-    ensures failures { Failures streams.old streams.new result }
+    ensures accounts { Accounts S.state (RefusalsOfJob job.now) streams.old streams.new result }
 {
     let mut operands = operands;
     let mut name = first_name(&mut operands);

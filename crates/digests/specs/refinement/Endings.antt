@@ -1,10 +1,10 @@
 -- Joins a run's answer to the end of the program.
 use Rattle.std.specs.Prelude.{ℕ, ◌≡◌, ◌⊎◌, [], Option, None, Some, Result, Ok, Err}
-use Rattle.std.specs.Io.KnownBytes.{Keeps, Appends}
+use Rattle.std.specs.Io.KnownBytes.{Keeps}
 use Rattle.sum_engine.specs.declared.stop.Stop.{Stop}
 use Rattle.sum_engine.specs.declared.stop.Stop.TheVariants.{Memory, Write}
 use Rattle.sum_lines.specs.Sinks.{SinkState}
-use Rattle.sum_engine.specs.Moments.{NoneFailed, OneFailed}
+use Rattle.sum_engine.specs.refinement.Telling.{NoneFailed, OneFailed}
 use Rattle.sum_words.specs.Items.{Text}
 use Rattle.sum_words.specs.Texts.{stop_line}
 use Rattle.sum_words.specs.declared.tool.Tool.{Tool}
@@ -23,16 +23,9 @@ Settles a b c d (Ok status) (Err Write) = OneFailed a b c d
 Settles a b c d (Ok status) (Err Memory) = ⊥
 Settles a b c d (Err stop) r = (r ≡ Err stop) × (b ≡ a) × (d ≡ c)
 
--- the line for a stop was told by standard error, and the status is 1
-pub record Tellings (line : Text) (a b : SinkState) (status : ℕ) : Type 0 where
-  pub is : status ≡ 1
-  pub said : Text
-  pub err : Appends a.written b.written said
-  pub says : HandsOnLine line said a b
-
 -- a run that answered so is ended: standard output goes from a to b, and standard error from c to d
 abbrev pub Closes : (Stop → Text) → Result ℕ Stop → SinkState → SinkState → SinkState → SinkState → ℕ → Type 0
 Closes line (Ok answer) a b c d status = ((status ≡ answer) × Keeps a.written b.written × Keeps c.written d.written
     × NoneFailed a b c d) ⊎ ((e : SinkState) × Keeps a.written b.written × Keeps c.written e.written
-    × OneFailed a b c e × Tellings (line Write) e d status)
-Closes line (Err stop) a b c d status = (b ≡ a) × Tellings (line stop) c d status
+    × OneFailed a b c e × (status ≡ 1) × HandsOnLine (line Write) e d)
+Closes line (Err stop) a b c d status = (b ≡ a) × (status ≡ 1) × HandsOnLine (line stop) c d

@@ -1,11 +1,11 @@
-use Rattle.std.proofs.Common.{Some, None, sym, subst}
+use Rattle.std.proofs.Common.{◌≡◌, Some, None, sym, subst}
 use Rattle.sum_engine.proofs.RunStateLemmas.{Runs}
 use Rattle.sum_engine.specs.Moments.{Moment, HoldNothing, Failures}
 use Rattle.sum_words.specs.CommandLines.{call, unknown}
 use Rattle.digests.specs.Meaning.{status_of}
 use Rattle.digests.specs.Program.{run_of}
 use Rattle.digests.proofs.OneTextLemmas.{told_on_err}
-use Rattle.digests.proofs.ProgramLemmas.{failures-told, program_ends, program_read, program_unread}
+use Rattle.digests.proofs.ProgramLemmas.{program_ends, program_told, program_read, program_unread}
 use Rattle.digests.proofs.command.command.Goals as goal
 
 -- the tool was run
@@ -20,7 +20,7 @@ returns-in-Ok-Asks-clause-gives g c =
     λ hold. program_read g.S.Source.state first _ c.close.result _ line read
     (program_ends g.S.Source.state c.close.result (Some line) first _ _ _ answer
     (subst (λ m. Runs g.S.Source.state (run_of (Some line)) status_of first m answer) is (ran.gives hold))
-    (subst (λ (m : Moment g.row.S.Denot). Failures first.out m.out first.err m.err answer) is ran.failures)
+    (subst (λ (m : Moment g.row.S.Denot). Failures first m answer) is ran.failures)
     (subst (λ (m : Moment g.row.S.Denot). HoldNothing m) is (ran.none hold)) c.close.ensures.gives)
 
 -- no tool of that name: a line says so
@@ -29,25 +29,17 @@ returns-in-Ok-UnknownTool-clause-gives g c =
     let read = rw c.in-Ok-UnknownTool.field-0-is at c.in-Ok-UnknownTool.ensures.line in
     let closed = rw c.status_once-answer.ensures at c.close-in-Ok-UnknownTool.ensures.gives in
     let told = c.tell.ensures in
-    let inside = c.streams-in-Ok-UnknownTool.inside in
-    let err = g.E.Sink.state c.tell.new.sink in
     rw (← c.streams-in-Ok-UnknownTool.view_is) (λ hold. program_read g.S.Source.state _ _
     c.close-in-Ok-UnknownTool.result _ unknown read
-    (program_ends g.S.Source.state c.close-in-Ok-UnknownTool.result (Some unknown) _ _ _ _ _
-    (told_on_err g.S.Source.state _ _ _ c.tell.result hold.1 told)
-    (failures-told (g.O.Sink.state inside.out) (g.E.Sink.state inside.err) err 1 c.tell.result told.0)
-    (hold.0, (told.1 hold.1).0) closed))
+    (program_told g.S.Source.state c.close-in-Ok-UnknownTool.result (Some unknown) _ _ _ _ _ c.tell.result hold told
+    (told_on_err g.S.Source.state _ _ _ c.tell.result hold.1 told) closed))
 
 -- the words couldn't be read: another line says so
 pub returns-in-Err-clause-gives : goal.returns-in-Err-clause-gives
 returns-in-Err-clause-gives g c =
     let closed = rw c.status_once-answer-in-Err.ensures at c.close-in-Err.ensures.gives in
     let told = c.tell-in-Err.ensures in
-    let inside = c.streams-in-Err.inside in
-    let err = g.E.Sink.state c.tell-in-Err.new.sink in
     rw (← c.streams-in-Err.view_is) (λ hold. program_unread g.S.Source.state _ _ c.close-in-Err.result _
     c.in-Err.ensures.not_read
-    (program_ends g.S.Source.state c.close-in-Err.result None _ _ _ _ _
-    (told_on_err g.S.Source.state _ _ _ c.tell-in-Err.result hold.1 told)
-    (failures-told (g.O.Sink.state inside.out) (g.E.Sink.state inside.err) err 1 c.tell-in-Err.result told.0)
-    (hold.0, (told.1 hold.1).0) closed))
+    (program_told g.S.Source.state c.close-in-Err.result None _ _ _ _ _ c.tell-in-Err.result hold told
+    (told_on_err g.S.Source.state _ _ _ c.tell-in-Err.result hold.1 told) closed))

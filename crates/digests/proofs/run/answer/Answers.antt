@@ -1,4 +1,4 @@
-use Rattle.digests.proofs.OneTextLemmas.{told_on_out, told_on_err}
+use Rattle.digests.proofs.OneTextLemmas.{told_on_out, told_on_err, accounts_on_out, accounts_on_err}
 use Rattle.digests.proofs.run.answer.Goals as goal
 
 -- a fault is told on standard error
@@ -26,6 +26,24 @@ returns-in-Ok-Version-clause-gives g c =
 pub returns-in-Ok-Work-clause-gives : goal.returns-in-Ok-Work-clause-gives
 returns-in-Ok-Work-clause-gives g c = rw (c.in-Ok-Work.is, c.in-Ok-Work.field-0-is) c.each.ensures.gives
 
--- and `each` wants the memory
-pub returns-in-Ok-Work-clause-refusals : goal.returns-in-Ok-Work-clause-refusals
-returns-in-Ok-Work-clause-refusals g c = rw (c.in-Ok-Work.is, c.in-Ok-Work.field-0-is) c.each.ensures.refusals
+-- and `each` accounts for it
+pub returns-in-Ok-Work-clause-accounts : goal.returns-in-Ok-Work-clause-accounts
+returns-in-Ok-Work-clause-accounts g c = rw (c.in-Ok-Work.is, c.in-Ok-Work.field-0-is) (record {
+  none = c.each.ensures.accounts.none;
+  refusals = c.each.ensures.accounts.refusals;
+  failures = c.each.ensures.accounts.failures;
+})
+
+-- one text that was told accounts for the stop
+pub returns-in-Err-clause-accounts : goal.returns-in-Err-clause-accounts
+returns-in-Err-clause-accounts g c = rw (c.status_once.ensures, ← c.streams.view_is)
+    (accounts_on_err g.S.Source.state _ _ _ _ 1 c.tell.result c.tell.ensures)
+
+pub returns-in-Ok-Help-clause-accounts : goal.returns-in-Ok-Help-clause-accounts
+returns-in-Ok-Help-clause-accounts g c = rw (c.status_once-in-Ok-Help.ensures, ← c.streams-in-Ok-Help.view_is)
+    (accounts_on_out g.S.Source.state _ _ _ _ 0 c.tell-in-Ok-Help.result c.tell-in-Ok-Help.ensures)
+
+pub returns-in-Ok-Version-clause-accounts : goal.returns-in-Ok-Version-clause-accounts
+returns-in-Ok-Version-clause-accounts g c =
+    rw (c.status_once-in-Ok-Version.ensures, ← c.streams-in-Ok-Version.view_is)
+    (accounts_on_out g.S.Source.state _ _ _ _ 0 c.tell-in-Ok-Version.result c.tell-in-Ok-Version.ensures)

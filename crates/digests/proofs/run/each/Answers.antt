@@ -1,8 +1,10 @@
-use Rattle.std.proofs.Common.{◌≡◌, refl, ◌∙◌}
+use Rattle.std.proofs.Common.{◌≡◌, Bool, true, ◌∙◌}
 use Rattle.std.specs.Prelude.{◌&&◌}
 use Rattle.sum_words.specs.Tools.{name_of}
 use Rattle.digests.specs.Meaning.{one_of, or_dash}
-use Rattle.digests.proofs.OperandLemmas.{Operands, reached_start, reached_step, reached_end, reached_stop, refused-none, refused-since}
+use Rattle.digests.proofs.OperandLemmas.{Operands, reached_start, reached_step, reached_end, reached_stop}
+use Rattle.sum_engine.proofs.AccountLemmas.{accounts-none, accounts-both, accounts-stop}
+use Rattle.digests.specs.Refusals.{RefusalsOfJob}
 use Rattle.digests.proofs.run.each.Goals as goal
 use Rattle.digests.proofs.run.each.Goals.{then-good, else-good}
 
@@ -13,9 +15,7 @@ operands-init g c =
     record { one = one_of c.args.job.now (name_of c.args.tool); names = or_dash c.args.operands } in
     record {
       reached = λ hold. reached_start g.S.Source.state all c.args.streams.now c.first_name-name.ensures;
-      none = λ hold. hold;
-      refusals = refl;
-      failures = (refl, refl);
+      so_far = accounts-none g.S.Source.state (RefusalsOfJob c.args.job.now) c.args.streams.now true;
     }
 
 -- an operand stopped the run
@@ -26,16 +26,12 @@ returns-in-Err-clause-gives g c =
     let so_far = c.operands.invariant in
     λ hold. reached_stop g.S.Source.state all c.in-Err.stop c.operands.good c.operands.name.now c.operands.operands
     c.args.streams.now c.operands.streams c.one.new.streams (so_far.reached hold)
-    (c.in-Err.ensures.gives (so_far.none hold))
+    (c.in-Err.ensures.gives (so_far.so_far.none hold))
 
--- its refusals are those of the run
-pub returns-in-Err-clause-refusals : goal.returns-in-Err-clause-refusals
-returns-in-Err-clause-refusals g c = refused-since g.S.Source.state c.args.job.now c.args.streams.now
-    c.operands.streams c.one.new.streams c.in-Err.stop c.operands.invariant.refusals c.in-Err.ensures.refusals
-
--- nothing is held then
-pub returns-in-Err-clause-none : goal.returns-in-Err-clause-none
-returns-in-Err-clause-none g c = λ hold. c.in-Err.ensures.none (c.operands.invariant.none hold)
+-- and why
+pub returns-in-Err-clause-accounts : goal.returns-in-Err-clause-accounts
+returns-in-Err-clause-accounts g c = accounts-stop Bool g.S.Source.state (RefusalsOfJob c.args.job.now) _ _ _
+    c.operands.good c.in-Err.stop c.operands.invariant.so_far c.in-Err.ensures.accounts
 
 -- an operand happened, and another one is left
 pub operands-preserved : goal.operands-preserved
@@ -48,17 +44,13 @@ operands-preserved g c =
     let all : Operands =
     record { one = one_of c.args.job.now (name_of c.args.tool); names = or_dash c.args.operands } in
     let so_far = c.operands.invariant in
+    let done = c.in-Ok.ensures.accounts in
     record {
       reached = λ hold. rw (is, ← c.in-Some.ensures) (reached_step g.S.Source.state all c.operands.good c.in-Ok.this
           c.operands.name.now c.operands.operands c.args.streams.now c.operands.streams c.one.new.streams
-          (so_far.reached hold) (c.in-Ok.ensures.gives (so_far.none hold)));
-      none = λ hold. c.in-Ok.ensures.none (so_far.none hold);
-      refusals = refused-none g.S.Source.state c.args.job.now c.operands.streams c.one.new.streams c.in-Ok.this
-          c.in-Ok.ensures.refusals ∙ so_far.refusals;
-      failures = (
-        c.in-Ok.ensures.failures.0 ∙ so_far.failures.0,
-        c.in-Ok.ensures.failures.1 ∙ so_far.failures.1,
-      );
+          (so_far.reached hold) (c.in-Ok.ensures.gives (so_far.so_far.none hold)));
+      so_far = accounts-both g.S.Source.state (RefusalsOfJob c.args.job.now) _ _ _ c.operands.good c.if-good.good
+          so_far.so_far done.none done.refusals done.failures;
     }
 
 -- an operand happened, and it was the last
@@ -75,10 +67,13 @@ returns-in-None-clause-gives g c =
     λ hold.
     let reached = reached_step g.S.Source.state all c.operands.good c.in-Ok.this c.operands.name.now c.operands.operands
     c.args.streams.now c.operands.streams c.one.new.streams (so_far.reached hold)
-    (c.in-Ok.ensures.gives (so_far.none hold)) in
+    (c.in-Ok.ensures.gives (so_far.so_far.none hold)) in
     rw c.status.ensures (reached_end g.S.Source.state all _ c.args.streams.now c.one.new.streams
     (rw (← is, c.in-None.ensures.0) at reached))
 
--- nothing is held then
-pub returns-in-None-clause-none : goal.returns-in-None-clause-none
-returns-in-None-clause-none g c = λ hold. c.in-Ok.ensures.none (c.operands.invariant.none hold)
+-- and no call failed
+pub returns-in-None-clause-accounts : goal.returns-in-None-clause-accounts
+returns-in-None-clause-accounts g c =
+    let done = c.in-Ok.ensures.accounts in
+    accounts-both g.S.Source.state (RefusalsOfJob c.args.job.now) _ _ _ c.operands.good c.status.result
+    c.operands.invariant.so_far done.none done.refusals done.failures

@@ -6,4 +6,4 @@ returns-clause-gives g c = rw c.read_words.ensures at c.answer.ensures.gives
 
 -- and so of the refusals
 pub returns-clause-refusals : goal.returns-clause-refusals
-returns-clause-refusals g c = rw c.read_words.ensures at c.answer.ensures.refusals
+returns-clause-refusals g c = rw c.read_words.ensures at c.answer.ensures.accounts.refusals
