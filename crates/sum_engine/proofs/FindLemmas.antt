@@ -18,7 +18,8 @@ use Rattle.sum_engine.specs.Verdicts.{Judged, judge, asks_of}
 use Rattle.sum_engine.specs.Reports.{counts_with}
 use Rattle.sum_engine.specs.Moments.{Moment, WhereKnown, run_state}
 use Rattle.sum_engine.specs.refinement.Asking.{world_of}
-use Rattle.sum_engine.specs.RunStates.{Did, Refused}
+use Rattle.sum_engine.specs.RunStates.{Did}
+use Rattle.sum_engine.specs.LineVerdicts.{OnlyRefused}
 use Rattle.sum_engine.specs.Checkers.{Place, now_of}
 use Rattle.sum_engine.specs.Steps.{Now, next_judged}
 use Rattle.sum_engine.specs.LineVerdicts.{judged_in, FindGives}
@@ -80,7 +81,7 @@ find_line {I} input state p q reader a b line vector v reads takes few h taken e
 -- memory to open a line's file was refused: nothing happened, and the line was to come
 pub find_refused : {I S : Type 0} (input : I → InputState) (state : S → SourceState) (p q : Place I)
     (reader : LineReader I) (a b : Moment S) (line vector : List ℕ) → ReadsLine input p reader line
-    → q.reader ≡ reader → WhereKnown state a b Refused
+    → q.reader ≡ reader → WhereKnown state a b OnlyRefused
     → FindGives p.rules vector (now_of input p (run_state state a)) (now_of input q (run_state state b)) (Err Memory)
 find_refused {I} input state p q reader a b line vector reads is refused =
     let then : Place I = record q { reader = reader } in

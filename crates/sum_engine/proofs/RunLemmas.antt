@@ -12,7 +12,8 @@ use Rattle.sum_engine.specs.Worlds.{World}
 use Rattle.sum_engine.specs.Moments.{Moment, RunState, WhereKnown, run_state}
 use Rattle.sum_engine.specs.refinement.Asking.{world_of}
 use Rattle.sum_engine.specs.Runs.{Event, Step, Run, events, events_of, at_once, name_in, err_in, out_in}
-use Rattle.sum_engine.specs.RunStates.{Did, DidPrefix, Refused, RunOf}
+use Rattle.sum_engine.specs.RunStates.{Did, DidPrefix, RunOf}
+use Rattle.sum_engine.specs.LineVerdicts.{OnlyRefused}
 use Rattle.sum_engine.specs.Steps.{GoesOn, Finishes, Breaks, Waits}
 use Rattle.sum_engine.specs.Manifests.{EventsExtend}
 use Rattle.sum_engine.specs.refinement.Telling.{HandsBoth}
@@ -145,7 +146,7 @@ once state run names err out good answer a b (Err e) h is told = where_known sta
 
 -- the source had no memory to open the first step's name
 pub unasked : {S A : Type 0} (state : S → SourceState) (run : World → Run) (answer : Bool → A) (a b : Moment S)
-    → ((w : World) → (s : Step) × (rest : List Step) × ((run w).steps ≡ s ∷ rest)) → WhereKnown state a b Refused
+    → ((w : World) → (s : Step) × (rest : List Step) × ((run w).steps ≡ s ∷ rest)) → WhereKnown state a b OnlyRefused
     → Runs state run answer a b (Err Memory)
 unasked state run answer a b first h = WhereTold-map (run_state state a) (run_state state b) (λ s t refused.
     let next = first s.world in

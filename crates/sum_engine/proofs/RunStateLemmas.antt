@@ -22,7 +22,8 @@ use Rattle.sum_sources.specs.Contents.{Content}
 use Rattle.sum_engine.specs.Moments.{Moment, RunState, WhereKnown, run_state}
 use Rattle.sum_engine.specs.refinement.Asking.{world_by, world_of}
 use Rattle.sum_engine.specs.declared.stop.Stop.{Stop}
-use Rattle.sum_engine.specs.RunStates.{Did, DidPrefix, Refused, RunOf}
+use Rattle.sum_engine.specs.RunStates.{Did, DidPrefix, RunOf}
+use Rattle.sum_engine.specs.LineVerdicts.{OnlyRefused}
 use Rattle.sum_engine.proofs.WorldLemmas.{after-none, after-append}
 
 -- ---- what of a step's events is of each kind
@@ -244,9 +245,9 @@ same_told (Some a) = refl
 pub known_refused : {S : Type 0} (state : S → SourceState) (a b : Moment S)
     → WhereTold (world_of state a) (world_of state b) (λ w v. v ≡ w) → b.taken ≡ a.taken → b.err ≡ a.err
     → b.out ≡ a.out → (state b.source).refusals ≡ one_more (state a.source).refusals
-    → WhereKnown state a b Refused
+    → WhereKnown state a b OnlyRefused
 known_refused state a b world taken err out refused =
-    where_known state a b Refused world (λ w v same. rw (same, taken, err, out, refused) refl)
+    where_known state a b OnlyRefused world (λ w v same. rw (same, taken, err, out, refused) refl)
 
 -- standard error handed on a text or a prefix of it, and nothing else was done
 pub err_came : {S : Type 0} (state : S → SourceState) (a : Moment S) (err : SinkState) (text : List ℕ) (x : Writing)

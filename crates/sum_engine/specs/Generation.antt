@@ -11,9 +11,11 @@ use Rattle.sum_lines.specs.Profiles.{Profile, present}
 use Rattle.sum_lines.specs.Escape.{escape_by}
 
 -- TOOL: NAME: TEXT
+abbrev pub tool_line : Profile → List ℕ → List ℕ → List ℕ → List ℕ
+tool_line p tool name text = concat (tool ∷ codes ": " ∷ escape_by p name ∷ codes ": " ∷ text ∷ codes "\n" ∷ [])
+
 abbrev pub fault_line : Profile → List ℕ → List ℕ → Fault → List ℕ
-fault_line p tool name fault =
-    concat (tool ∷ codes ": " ∷ escape_by p name ∷ codes ": " ∷ fault_text fault ∷ codes "\n" ∷ [])
+fault_line p tool name fault = tool_line p tool name (fault_text fault)
 
 abbrev pub generate_run_by : Settings → List ℕ → List ℕ → Result (List ℕ) Fault → Run
 generate_run_by settings tool name (Ok d) = at_once (name ∷ []) [] (line settings.style settings.kind name d) true

@@ -8,7 +8,8 @@ use Rattle.sum_sources.specs.declared.lines.LineStop.TheVariants.{Fault, Memory}
 use Rattle.sum_sources.specs.Contents.{InputState, WhereTold}
 use Rattle.sum_sources.specs.Standard.{left_in}
 use Rattle.sum_lines.specs.Sinks.{SinkState}
-use Rattle.sum_engine.specs.Moments.{Moment}
+use Rattle.digest_kinds.specs.Limits.{one_more}
+use Rattle.sum_engine.specs.Moments.{Moment, RunState}
 use Rattle.sum_engine.specs.declared.progress.Progress.{Progress}
 use Rattle.sum_engine.specs.declared.progress.Progress.TheVariants.{Going, Ended}
 use Rattle.sum_engine.specs.declared.stop.Stop.{Stop}
@@ -17,7 +18,7 @@ use Rattle.sum_engine.specs.declared.verdict.LineVerdict.{LineVerdict}
 use Rattle.sum_engine.specs.Runs.{Opens}
 use Rattle.sum_engine.specs.Verdicts.{Rules, Judged, asks_of}
 use Rattle.sum_engine.specs.Reports.{counts_with}
-use Rattle.sum_engine.specs.RunStates.{Did, Refused}
+use Rattle.sum_engine.specs.RunStates.{Did}
 use Rattle.sum_engine.specs.Steps.{Now, Moves, rest_verdicts}
 use Rattle.sum_engine.specs.Checkers.{Place}
 
@@ -63,12 +64,16 @@ pub record FindsNone (r : Rules) (e : Ending) (a b : Now) : Type 0 where
   pub counts : b.counts ≡ a.counts
   pub rest : b.rest ≡ record { bytes = []; ending = e }
 
+-- the source was refused memory, and nothing happened
+abbrev pub OnlyRefused : RunState → RunState → Type 0
+OnlyRefused a b = b ≡ record a { refusals = one_more a.refusals }
+
 abbrev pub FindOf : Rules → List ℕ → Now → Now → Result (Option LineVerdict) LineStop → Type 0
 FindOf r vector a b (Ok (Some v)) = Finds r a b (judged_in vector v) × Moves r a b vector
 FindOf r vector a b (Ok None) = FindsNone r Whole a b
 FindOf r vector a b (Err (Fault f)) = FindsNone r (Broken f) a b
 FindOf r vector a b (Err Memory) =
-    (Refused a.run_state b.run_state ⊎ (b.run_state ≡ a.run_state)) × (0 < length a.rest.bytes)
+    (OnlyRefused a.run_state b.run_state ⊎ (b.run_state ≡ a.run_state)) × (0 < length a.rest.bytes)
 
 -- what the next verdict is, where the manifest and the world tell
 abbrev pub FindGives : Rules → List ℕ → Option Now → Option Now → Result (Option LineVerdict) LineStop → Type 0

@@ -1,5 +1,5 @@
 -- What checking writes: the reports of the lines, and the end of a manifest.
-use Rattle.std.specs.Prelude.{ℕ, ◌+◌, ◌==◌, ◌&&◌, ◌||◌, Bool, true, false, not, List, [], ◌∷◌, ◌++◌, decimal, codes, if◌then◌else◌}
+use Rattle.std.specs.Prelude.{ℕ, ◌+◌, ◌==◌, ◌&&◌, ◌||◌, Bool, true, false, not, List, [], ◌∷◌, ◌++◌, decimal, codes, fold, if◌then◌else◌}
 use Rattle.std.specs.List.{concat}
 use Rattle.std.specs.Str.{bytes_eq}
 use Rattle.digest_kinds.specs.declared.algo.Algos.{Algos}
@@ -15,7 +15,7 @@ use Rattle.sum_engine.specs.declared.verdict.Verdict.{Verdict}
 use Rattle.sum_engine.specs.declared.verdict.Verdict.TheVariants.{Ignored, Bad, Right, Wrong, Missing, Unread}
 use Rattle.sum_lines.specs.Profiles.{Profile, present}
 use Rattle.sum_lines.specs.Escape.{escape_by}
-use Rattle.sum_engine.specs.Generation.{fault_line}
+use Rattle.sum_engine.specs.Generation.{tool_line, fault_line}
 use Rattle.sum_engine.specs.Verdicts.{Rules, Judged}
 
 -- NAME: TEXT, where a backslash stands before a name that its escape changes
@@ -80,8 +80,7 @@ counts_with c (Unread f) = record c { unread = c.unread + 1 }
 
 -- how many lines have each verdict but `Ignored`, and so many before them
 abbrev pub counts : Counts → List Judged → Counts
-counts c [] = c
-counts c (j ∷ js) = counts (counts_with c j.verdict) js
+counts c js = fold (λ c j. counts_with c j.verdict) c js
 
 abbrev pub entries : Counts → ℕ
 entries c = c.right + c.wrong + c.missing + c.unread
@@ -95,13 +94,10 @@ abbrev pub warning : List ℕ → ℕ → List ℕ → List ℕ → List ℕ
 warning tool n one many = if n == 0 then []
     else concat (tool ∷ codes ": WARNING: " ∷ decimal n ∷ (if n == 1 then one else many) ∷ codes "\n" ∷ [])
 
--- TOOL: LIST: TEXT
-abbrev pub list_line : Rules → List ℕ → List ℕ
-list_line r text = concat (r.tool ∷ codes ": " ∷ escape_by r.profile r.shown ∷ codes ": " ∷ text ∷ codes "\n" ∷ [])
-
 abbrev pub unverified_line : Rules → Counts → List ℕ
 unverified_line r c =
-    if r.settings.ignore_missing && (c.right == 0) then list_line r (codes "no file was verified") else []
+    if r.settings.ignore_missing && (c.right == 0)
+    then tool_line r.profile r.tool r.shown (codes "no file was verified") else []
 
 abbrev pub warnings : Rules → Counts → List ℕ
 warnings r c = warning r.tool c.bad (codes " line is improperly formatted") (codes " lines are improperly formatted")
@@ -115,7 +111,8 @@ unless_status report text = text
 
 -- the end of a manifest that was read whole
 abbrev pub summary : Rules → Counts → List ℕ
-summary r c = if entries c == 0 then list_line r (codes "no properly formatted checksum lines found")
+summary r c =
+    if entries c == 0 then tool_line r.profile r.tool r.shown (codes "no properly formatted checksum lines found")
     else unless_status r.settings.report (warnings r c)
 
 -- the end of a manifest on standard error

@@ -23,14 +23,10 @@ pub record Did (a b : RunState) (es : List Event) : Type 0 where
 abbrev pub DidPrefix : RunState → RunState → List Event → Type 0
 DidPrefix a b es = (p : List Event) × IsPrefix p es × Did a b p
 
--- the source was refused memory, and nothing happened
-abbrev pub Refused : RunState → RunState → Type 0
-Refused a b = b ≡ record a { refusals = one_more a.refusals }
-
 -- memory was wanted at a step, of which nothing happened: the source was refused it, or bytes of the manifest were
 -- still to come
 abbrev pub Wants : Step → RunState → RunState → Type 0
-Wants s a b = Refused a b ⊎ ((b ≡ a) × (0 < s.left))
+Wants s a b = (b ≡ record a { refusals = one_more a.refusals }) ⊎ ((b ≡ a) × (0 < s.left))
 
 -- THE HEADLINE, for a call that is to answer x: it answers x, and all events of the steps happened; or a write
 -- failed, and one prefix of the events happened; or memory was wanted at a step, and just the steps before it did

@@ -64,8 +64,8 @@ asks_of j = asks_by j.verdict j.name
 abbrev pub verdicts : Rules → Form → World → ℕ → List (List ℕ) → List Judged
 verdicts r f w n [] = []
 verdicts r f w n (l ∷ ls) =
-    judge r w (n + 1) (parse_line r.profile r.settings.algo f l)
-    ∷ verdicts r f (after w (asks_of (judge r w (n + 1) (parse_line r.profile r.settings.algo f l)))) (n + 1) ls
+    let j = judge r w (n + 1) (parse_line r.profile r.settings.algo f l) in
+    j ∷ verdicts r f (after w (asks_of j)) (n + 1) ls
 
 -- a whole manifest, whose form is that of all its lines
 abbrev pub all_verdicts : Rules → World → Content → List Judged

@@ -4,7 +4,7 @@ ghost use Rattle.std.specs.List.{concat};
 ghost use Rattle.sum_lines.specs.Escape.{escape, escape_differs};
 ghost use Rattle.sum_lines.specs.Shapes.{mark};
 ghost use Rattle.sum_lines.specs.Profiles.{present};
-ghost use Rattle.sum_engine.specs.Generation.{fault_line};
+ghost use Rattle.sum_engine.specs.Generation.{tool_line, fault_line};
 ghost use Rattle.sum_engine.specs.Reports.{verdict_line, bad_line, err_by};
 ghost use Rattle.sum_engine.specs.refinement.Listings.{rules_in};
 ghost use Rattle.sum_engine.specs.refinement.Telling.{out_by, Tells, HandsBoth, NoneFailed, OneFailed};
@@ -17,16 +17,15 @@ use digest_kinds::Algos;
 use sum_lines::{Part, Sink, SinkFault, needs_escape};
 use sum_sources::Fault;
 
-/// Writes `TOOL: NAME: TEXT` for a name that could not be opened or read.
-pub(crate) fn put_fault_line<'a, E: Sink>(
+/// Writes `TOOL: NAME: TEXT`.
+pub(crate) fn put_tool_line<'a, E: Sink>(
     err: &mut E,
     tool: &'a str,
     name: &'a [u8],
-    fault: Fault,
+    text: &'a [u8],
 ) -> Result<(), SinkFault>
-    ensures { Tells (E.state err.old) (E.state err.new) (fault_line present tool.now name.now fault) result }
+    ensures { Tells (E.state err.old) (E.state err.new) (tool_line present tool.now name.now text.now) result }
 {
-    let text = fault.text();
     tell(
         err,
         &[
@@ -34,10 +33,22 @@ pub(crate) fn put_fault_line<'a, E: Sink>(
             Part::Bytes(b": "),
             Part::Escaped(name),
             Part::Bytes(b": "),
-            Part::Bytes(text.as_bytes()),
+            Part::Bytes(text),
             Part::Bytes(b"\n"),
         ],
     )
+}
+
+/// The same for a name that could not be opened or read.
+pub(crate) fn put_fault_line<E: Sink>(
+    err: &mut E,
+    tool: &str,
+    name: &[u8],
+    fault: Fault,
+) -> Result<(), SinkFault>
+    ensures { Tells (E.state err.old) (E.state err.new) (fault_line present tool.now name.now fault) result }
+{
+    put_tool_line(err, tool, name, fault.text().as_bytes())
 }
 
 /// Writes what is reported of a line: first to `err`, and then to `out`.

@@ -2,6 +2,7 @@
 ghost use Rattle.std.specs.Prelude.{◌≡◌, ◌<◌, ◌^◌};
 
 use crate::listing::Listing;
+use crate::report::put_tool_line;
 use crate::settings::Report;
 use crate::telling::tell;
 use crate::verdict::Verdict;
@@ -17,7 +18,7 @@ pub(crate) struct Counts {
     pub bad: u64,
 }
 
-ghost use Rattle.sum_engine.specs.Reports.{list_line, warning, warnings, unverified_line, summary, good};
+ghost use Rattle.sum_engine.specs.Reports.{warning, warnings, unverified_line, summary, good};
 ghost use Rattle.sum_engine.specs.Reports.{entries, total, counts_with, no_counts};
 ghost use Rattle.sum_engine.specs.refinement.Listings.{rules_in};
 ghost use Rattle.sum_engine.specs.refinement.Telling.{Tells};
@@ -78,7 +79,8 @@ pub(crate) fn put_summary<E: Sink>(
     ensures { Tells (E.state err.old) (E.state err.new) (summary (rules_in listing.now) counts) result }
 {
     if counts.entries() == 0 {
-        return put_list_line(err, listing, b"no properly formatted checksum lines found");
+        let text = b"no properly formatted checksum lines found";
+        return put_tool_line(err, listing.tool, listing.shown, text);
     }
     match listing.settings.report {
         Report::Status => Ok(()),
@@ -143,28 +145,7 @@ fn put_unverified<E: Sink>(err: &mut E, listing: &Listing, counts: Counts) -> Re
     ensures { Tells (E.state err.old) (E.state err.new) (unverified_line (rules_in listing.now) counts) result }
 {
     if listing.settings.ignore_missing && counts.right == 0 {
-        return put_list_line(err, listing, b"no file was verified");
+        return put_tool_line(err, listing.tool, listing.shown, b"no file was verified");
     }
     Ok(())
-}
-
-// Writes `TOOL: LIST: TEXT`.
-fn put_list_line<E: Sink>(
-    err: &mut E,
-    listing: &Listing,
-    text: &'static [u8],
-) -> Result<(), SinkFault>
-    ensures { Tells (E.state err.old) (E.state err.new) (list_line (rules_in listing.now) text.now) result }
-{
-    tell(
-        err,
-        &[
-            Part::Bytes(listing.tool.as_bytes()),
-            Part::Bytes(b": "),
-            Part::Escaped(listing.shown),
-            Part::Bytes(b": "),
-            Part::Bytes(text),
-            Part::Bytes(b"\n"),
-        ],
-    )
 }
