@@ -4,7 +4,7 @@ use Rattle.std.specs.Io.KnownBytes.{Keeps, Appends}
 use Rattle.sum_lines.specs.Sinks.{SinkState, Dropped}
 use Rattle.sum_engine.specs.declared.stop.Stop.{Stop}
 use Rattle.sum_engine.specs.declared.stop.Stop.TheVariants.{Memory, Write}
-use Rattle.sum_engine.specs.refinement.Telling.{Tells}
+use Rattle.sum_engine.specs.refinement.Telling.{HandsOn}
 use Rattle.sum_words.specs.Items.{Text}
 use Rattle.digests.specs.Program.{HandsOnLine}
 use Rattle.digests.specs.refinement.Endings.{Settles, Closes}
@@ -27,14 +27,14 @@ dropped-none a b h none =
 
 -- the line for a stop was told, whole or in part
 pub tells-stop : {E : Type 0} (line : Text) (a b : SinkState) (r : Result (Unit {0}) E) → a.held ≡ []
-    → Tells a b line r → HandsOnLine line a b
+    → HandsOn a b line r → HandsOnLine line a b
 tells-stop line a b (Ok u) none h = (line, (h.1 none).1, inl (refl, h.0))
 tells-stop line a b (Err x) none h = let part = (h.1 none).1 in (part.0, part.2, inr (part.1, h.0))
 
 -- a run that answered so was settled, and stopped then or before: from a to b and from c to e; then the line was told
 pub closes-stop : {E : Type 0} (line : Stop → Text) (answer : Result ℕ Stop) (stop : Stop) (a b c e d : SinkState)
     (r : Result (Unit {0}) E) → Settles a b c e answer (Err stop) → Keeps a.written b.written
-    → Keeps c.written e.written → e.held ≡ [] → Tells e d (line stop) r → Closes line answer a b c d 1
+    → Keeps c.written e.written → e.held ≡ [] → HandsOn e d (line stop) r → Closes line answer a b c d 1
 closes-stop line (Ok x) Memory a b c e d r settled kept still none told = absurd settled
 closes-stop line (Ok x) Write a b c e d r settled kept still none told =
     inr (e, kept, still, settled, refl, tells-stop (line Write) e d r none told)

@@ -5,7 +5,7 @@ use Rattle.sum_sources.specs.Sources.{SourceState}
 use Rattle.sum_lines.specs.Sinks.{SinkState}
 use Rattle.sum_engine.specs.Moments.{Moment, Accounts}
 use Rattle.sum_engine.specs.Runs.{at_once}
-use Rattle.sum_engine.specs.refinement.Telling.{Tells}
+use Rattle.sum_engine.specs.refinement.Telling.{HandsOn}
 use Rattle.sum_engine.proofs.RunStateLemmas.{events_by, Runs, where_known, same_told, asks_none, did_by, prefix_err, prefix_out}
 use Rattle.sum_words.specs.Items.{Text}
 use Rattle.digests.specs.Meaning.{status_of}
@@ -13,7 +13,7 @@ use Rattle.digests.specs.refinement.Operands.{once_told}
 
 -- a text alone was handed on by standard output, or a prefix of it
 pub told_on_out : {S E : Type 0} (state : S → SourceState) (a : Moment S) (out : SinkState) (text : Text)
-    (r : Result (Unit {0}) E) → a.out.held ≡ [] → Tells a.out out text r
+    (r : Result (Unit {0}) E) → a.out.held ≡ [] → HandsOn a.out out text r
     → Runs state (λ w. at_once [] [] text true) status_of a (record a { out = out }) (once_told r 0)
 told_on_out state a out text (Ok u) none h = where_known state a (record a { out = out }) _ (same_told _) (λ w v same. (
   refl,
@@ -26,7 +26,7 @@ told_on_out state a out text (Err e) none h = where_known state a (record a { ou
 
 -- a text alone was handed on by standard error, or a prefix of it
 pub told_on_err : {S E : Type 0} (state : S → SourceState) (a : Moment S) (err : SinkState) (text : Text)
-    (r : Result (Unit {0}) E) → a.err.held ≡ [] → Tells a.err err text r
+    (r : Result (Unit {0}) E) → a.err.held ≡ [] → HandsOn a.err err text r
     → Runs state (λ w. at_once [] text [] false) status_of a (record a { err = err }) (once_told r 1)
 told_on_err state a err text (Ok u) none h = where_known state a (record a { err = err }) _ (same_told _) (λ w v same. (
   refl,
@@ -39,7 +39,7 @@ told_on_err state a err text (Err e) none h = where_known state a (record a { er
 
 -- a call that writes a text accounts for its stop
 pub accounts_on_out : {S E : Type 0} (state : S → SourceState) (Changes : ℕ → ℕ → Type 0) (a : Moment S)
-    (out : SinkState) (text : Text) (status : ℕ) (r : Result (Unit {0}) E) → Tells a.out out text r
+    (out : SinkState) (text : Text) (status : ℕ) (r : Result (Unit {0}) E) → HandsOn a.out out text r
     → Accounts state Changes a (record a { out = out }) (once_told r status)
 accounts_on_out state Changes a out text status (Ok u) h =
     record { none = λ hold. ((h.1 hold.0).0, hold.1); refusals = refl; failures = (h.0, refl) }
@@ -47,7 +47,7 @@ accounts_on_out state Changes a out text status (Err e) h =
     record { none = λ hold. ((h.1 hold.0).0, hold.1); refusals = refl; failures = inl (h.0, refl) }
 
 pub accounts_on_err : {S E : Type 0} (state : S → SourceState) (Changes : ℕ → ℕ → Type 0) (a : Moment S)
-    (err : SinkState) (text : Text) (status : ℕ) (r : Result (Unit {0}) E) → Tells a.err err text r
+    (err : SinkState) (text : Text) (status : ℕ) (r : Result (Unit {0}) E) → HandsOn a.err err text r
     → Accounts state Changes a (record a { err = err }) (once_told r status)
 accounts_on_err state Changes a err text status (Ok u) h =
     record { none = λ hold. (hold.0, (h.1 hold.1).0); refusals = refl; failures = (refl, h.0) }

@@ -12,7 +12,7 @@ use Rattle.sum_engine.specs.Worlds.{World}
 use Rattle.sum_engine.specs.Moments.{Moment, RunState, HoldNothing, Failures}
 use Rattle.sum_engine.specs.Runs.{Event, Run, events}
 use Rattle.sum_engine.specs.RunStates.{Did, RunOf}
-use Rattle.sum_engine.specs.refinement.Telling.{OneFailed, Tells}
+use Rattle.sum_engine.specs.refinement.Telling.{OneFailed, HandsOn}
 use Rattle.sum_engine.proofs.RunStateLemmas.{Runs, where_known, known_worlds}
 use Rattle.sum_words.specs.Items.{Text}
 use Rattle.sum_words.specs.CommandLines.{Call, command_line, NeedsMemory}
@@ -91,7 +91,7 @@ program_ends state status line a b out err answer ran failed none closed =
 
 -- of a run that wrote one text on standard error
 pub program_told : {S E : Type 0} (state : S → SourceState) (status : ℕ) (line : Option Call) (a : Moment S)
-    (err out last : SinkState) (text : Text) (r : Result (Unit {0}) E) → HoldNothing a → Tells a.err err text r
+    (err out last : SinkState) (text : Text) (r : Result (Unit {0}) E) → HoldNothing a → HandsOn a.err err text r
     → Runs state (run_of line) status_of a (record a { err = err }) (once_told r 1)
     → (a.out.held ≡ [] → err.held ≡ [] → Closes (line_of_stop line) (once_told r 1) a.out out err last status)
     → EndsGives state line a (record a { out = out; err = last }) status

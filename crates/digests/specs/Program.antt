@@ -29,8 +29,7 @@ abbrev pub HandsOnLine : Text → SinkState → SinkState → Type 0
 HandsOnLine line a b = (said : Text) × Appends a.written b.written said
     × (((said ≡ line) × (b.failures ≡ a.failures)) ⊎ (IsPrefix said line × (b.failures ≡ one_more a.failures)))
 
--- what an answer leaves to be done: nothing, and it is the status; or standard error alone tells of the stop, and the
--- status is 1
+-- what an answer leaves to do: nothing, and it is the status; or standard error tells of the stop, and the status is 1
 abbrev pub Leaves : {S : Type 0} → Option Call → Result ℕ Stop → Moment S → Moment S → ℕ → Type 0
 Leaves line (Ok answer) a b status = (status ≡ answer) × (b ≡ a)
 Leaves line (Err stop) a b status = (status ≡ 1) × (b ≡ record a { err = b.err })

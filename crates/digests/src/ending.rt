@@ -1,7 +1,7 @@
 //! The end of a run: both outputs are flushed once more, and a stop is told.
 ghost use Rattle.std.specs.Prelude.{◌≡◌, []};
 ghost use Rattle.std.specs.Io.KnownBytes.{Keeps};
-ghost use Rattle.sum_engine.specs.refinement.Telling.{Tells};
+ghost use Rattle.sum_engine.specs.refinement.Telling.{HandsOn};
 ghost use Rattle.digests.specs.refinement.Endings.{Settles, line_of};
 
 use crate::telling::{Text, tell};
@@ -35,7 +35,7 @@ pub(crate) fn tell_stop<E: Sink>(
     stop: Stop,
     err: &mut E,
 ) -> Result<(), SinkFault>
-    ensures { Tells (E.state err.old) (E.state err.new) (line_of tool stop) result }
+    ensures { HandsOn (E.state err.old) (E.state err.new) (line_of tool stop) result }
 {
     match tool {
         None => Ok(()),

@@ -1,6 +1,6 @@
 //! The texts that the program writes as a whole.
 ghost use Rattle.sum_lines.specs.Sinks.{Writes};
-ghost use Rattle.sum_engine.specs.refinement.Telling.{Tells};
+ghost use Rattle.sum_engine.specs.refinement.Telling.{HandsOn};
 
 use sum_engine::Stop;
 use sum_lines::{Sink, SinkFault, put_all};
@@ -25,7 +25,7 @@ ghost use Rattle.digests.specs.refinement.Texts.{text_of};
 
 /// Writes a text, and hands it on. A fault where that failed; a prefix of the text is then handed on.
 pub(crate) fn tell<S: Sink>(sink: &mut S, text: Text) -> Result<(), SinkFault>
-    ensures { Tells (S.state sink.old) (S.state sink.new) (text_of text.entry) result }
+    ensures { HandsOn (S.state sink.old) (S.state sink.new) (text_of text.entry) result }
 {
     put(sink, text)?;
     sink.flush()

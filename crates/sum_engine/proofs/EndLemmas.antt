@@ -9,7 +9,7 @@ use Rattle.sum_sources.specs.ManifestLines.{lines, pieces}
 use Rattle.sum_sources.proofs.LineLemmas.{pieces-nil, lines-nil}
 use Rattle.sum_lines.specs.Entries.{form, form_then}
 use Rattle.sum_engine.specs.declared.verdict.LineVerdict.{LineVerdict}
-use Rattle.sum_engine.specs.Profiles.{lines_by}
+use Rattle.sum_engine.specs.Verdicts.{lines_by}
 use Rattle.sum_engine.specs.Verdicts.{Rules, verdicts}
 use Rattle.sum_engine.specs.Steps.{Now, rest_verdicts}
 use Rattle.sum_engine.specs.LineVerdicts.{FindsNone, FindOf}

@@ -24,7 +24,7 @@ use Rattle.sum_engine.specs.Checkers.{Place, now_of}
 use Rattle.sum_engine.specs.Steps.{Now, next_judged}
 use Rattle.sum_engine.specs.LineVerdicts.{judged_in, FindGives}
 use Rattle.sum_engine.specs.refinement.Judging.{IsJudged, name_said}
-use Rattle.sum_engine.specs.refinement.Finding.{TakesLine, LineGives, parsed_at}
+use Rattle.sum_engine.specs.refinement.Finding.{TakesLine, JudgeLineGives, parsed_at}
 use Rattle.sum_engine.proofs.RunStateLemmas.{events_by, where_known, names-by, did_by}
 use Rattle.sum_engine.proofs.RestLemmas.{rest_on}
 use Rattle.sum_engine.proofs.StepLemmas.{now_at, now-told, ReadsLine, read_line, moves_by}
@@ -34,7 +34,7 @@ pub line_found : {I : Type 0} (p : Place I) (line : List ℕ) (said : ParsedLine
     (w v : Option World) (verdict : Verdict) (start stop : ℕ) → parsed_at p line ≡ said
     → WhereTold w v (λ w v. IsJudged p.rules w v said verdict) → d ≡ counts_with p.counts verdict
     → slice_range vector start stop ≡ name_said said → k ≡ p.reader.lines
-    → LineGives p line d vector w v
+    → JudgeLineGives p line d vector w v
     (Some (record { number = k; verdict = verdict; start = start; stop = stop }))
 line_found p line said k d vector w v verdict start stop is h count place number = WhereTold-map w v (λ w v judged. (
   ap (judge p.rules w p.reader.lines) is ∙ rw (place, number) (judged.0 p.reader.lines),
@@ -46,7 +46,7 @@ line_found p line said k d vector w v verdict start stop is h count place number
 pub find_line : {I S : Type 0} (input : I → InputState) (state : S → SourceState) (p q : Place I)
     (reader : LineReader I) (a b : Moment S) (line vector : List ℕ) (v : LineVerdict)
     → ReadsLine input p reader line → TakesLine (record p { reader = reader }) q line → length vector ≤ length line
-    → LineGives (record p { reader = reader }) line q.counts vector (world_of state a) (world_of state b) (Some v)
+    → JudgeLineGives (record p { reader = reader }) line q.counts vector (world_of state a) (world_of state b) (Some v)
     → b.taken ≡ a.taken || list_any is_dash (asks_of (judged_in vector v)) → b.err ≡ a.err → b.out ≡ a.out
     → (state b.source).refusals ≡ (state a.source).refusals
     → FindGives p.rules vector (now_of input p (run_state state a)) (now_of input q (run_state state b)) (Ok (Some v))

@@ -7,14 +7,14 @@ use Rattle.sum_sources.specs.ManifestLines.{past_line}
 use Rattle.sum_lines.specs.declared.line_reading.Form.{Form}
 use Rattle.sum_lines.specs.Entries.{form}
 use Rattle.sum_lines.specs.ParsedLines.{parse_line}
-use Rattle.sum_engine.specs.Profiles.{lines_by}
+use Rattle.sum_engine.specs.Verdicts.{lines_by}
 use Rattle.sum_engine.specs.Worlds.{World, after}
 use Rattle.sum_engine.specs.Runs.{Run, outs, errs, asks}
 use Rattle.sum_engine.specs.Verdicts.{Rules, Judged, asks_of, verdicts, all_verdicts, judge}
 use Rattle.sum_engine.specs.Reports.{no_counts, out_of, err_of, counts, end_text}
 use Rattle.sum_engine.specs.Checking.{line_steps, content_run}
 use Rattle.sum_engine.specs.Moments.{RunState}
-use Rattle.sum_engine.specs.Steps.{Now, Moves, GoesOn, to_come, start}
+use Rattle.sum_engine.specs.Steps.{Now, Moves, GoesOn, to_come, at_start}
 use Rattle.sum_engine.specs.Manifests.{HandledTimes, StepsJoin, StepsEnd, StepsCut, StepsReport, Joined}
 use Rattle.sum_engine.proofs.RunStateLemmas.{did_nothing}
 use Rattle.sum_engine.proofs.RestLemmas.{past_next}
@@ -27,7 +27,7 @@ abbrev whole : Rules → Content → RunState → Run
 whole r c s = content_run r c (all_verdicts r s.world c)
 
 -- of none nothing happened
-joined_none : (r : Rules) (c : Content) (s : RunState) → Joined r c s (start c s) 0
+joined_none : (r : Rules) (c : Content) (s : RunState) → Joined r c s (at_start c s) 0
 joined_none r c s = record {
   rest = refl;
   lines = refl;
@@ -90,7 +90,7 @@ joined_times r c s a b i (suc k) h more =
 -- so many lines handled one after another are the first so many steps
 pub steps_join : StepsJoin
 steps_join r c s b k h =
-    let same : 0 + k ≡ k = omega arith in rw same at (joined_times r c s (start c s) b 0 k (joined_none r c s) h)
+    let same : 0 + k ≡ k = omega arith in rw same at (joined_times r c s (at_start c s) b 0 k (joined_none r c s) h)
 
 -- there are as many verdicts as lines
 length_verdicts : (r : Rules) (f : Form) (w : World) (n : ℕ) (ls : List (List ℕ))

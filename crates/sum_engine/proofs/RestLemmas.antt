@@ -5,7 +5,7 @@ use Rattle.sum_sources.specs.ManifestLines.{past_line}
 use Rattle.sum_lines.specs.Entries.{form, form_then, line_form}
 use Rattle.sum_lines.proofs.FormLemmas.{form_on, said_stays}
 use Rattle.sum_engine.specs.Worlds.{after}
-use Rattle.sum_engine.specs.Profiles.{lines_by}
+use Rattle.sum_engine.specs.Verdicts.{lines_by}
 use Rattle.sum_lines.specs.ParsedLines.{parse_line}
 use Rattle.sum_engine.specs.Verdicts.{Rules, Judged, asks_of, verdicts}
 use Rattle.sum_engine.specs.declared.summary.Counts.{Counts}

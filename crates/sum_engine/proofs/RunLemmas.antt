@@ -14,7 +14,7 @@ use Rattle.sum_engine.specs.refinement.Asking.{world_of}
 use Rattle.sum_engine.specs.Runs.{Event, Step, Run, events, events_of, at_once, name_in, err_in, out_in}
 use Rattle.sum_engine.specs.RunStates.{Did, DidPrefix, RunOf}
 use Rattle.sum_engine.specs.LineVerdicts.{OnlyRefused}
-use Rattle.sum_engine.specs.Steps.{GoesOn, Finishes, Breaks, Waits}
+use Rattle.sum_engine.specs.Steps.{GoesOn, Finishes, Breaks, Lacks}
 use Rattle.sum_engine.specs.Manifests.{EventsExtend}
 use Rattle.sum_engine.specs.refinement.Telling.{HandsBoth}
 use Rattle.sum_engine.proofs.RunStateLemmas.{Runs, Asks, Writing, where_known, names-by, err-by, out-by, did_nothing, did_both, came_by, prefix_behind, known}
@@ -66,7 +66,7 @@ along_breaks {whole = whole} h k =
 
 -- a step that memory was wanted for
 pub along_waits : {A : Type 0} {a b c : RunState} {whole left : Run} (x : A) → Along whole left a b
-    → Waits left b c → RunOf whole.steps x a c (Err Memory)
+    → Lacks left b c → RunOf whole.steps x a c (Err Memory)
 along_waits {b = b} {whole = whole} x h k =
     let steps : whole.steps ≡ h.done ++ k.step ∷ k.rest.steps = h.steps ∙ ap (λ r. h.done ++ r.steps) k.is in
     (h.done, k.step, k.rest.steps, b, steps, h.did, k.wants)

@@ -20,7 +20,7 @@ use Rattle.sum_engine.specs.declared.progress.Progress.TheVariants.{Going, Ended
 use Rattle.sum_engine.specs.declared.stop.Stop.TheVariants.{Memory}
 use Rattle.sum_engine.specs.declared.verdict.LineVerdict.{LineVerdict}
 use Rattle.sum_engine.specs.Worlds.{World}
-use Rattle.sum_engine.specs.Profiles.{lines_by}
+use Rattle.sum_engine.specs.Verdicts.{lines_by}
 use Rattle.sum_engine.specs.Runs.{Step, events_of}
 use Rattle.sum_engine.specs.Verdicts.{Rules, asks_of}
 use Rattle.sum_engine.specs.Reports.{err_by, end_text, good, counts_with}
@@ -29,7 +29,7 @@ use Rattle.sum_engine.specs.Steps.{Now, now_by, step_then, Moves, StepOf, StepGi
 use Rattle.sum_engine.specs.LineVerdicts.{judged_in, FindGives, FindsNone}
 use Rattle.sum_engine.specs.refinement.Asking.{world_of}
 use Rattle.sum_engine.specs.refinement.Finding.{TakesLine}
-use Rattle.sum_engine.specs.refinement.Telling.{Tells, out_by, HandsBoth}
+use Rattle.sum_engine.specs.refinement.Telling.{HandsOn, out_by, HandsBoth}
 use Rattle.sum_engine.proofs.RunStateLemmas.{Asks, Writing, Came, known, run_state-known, asks_by, asks_none, came_by, err_alone}
 use Rattle.sum_engine.proofs.RunLemmas.{answered}
 use Rattle.sum_engine.proofs.RestLemmas.{line_step, run_by, first_step, found_first}
@@ -237,7 +237,7 @@ pub step_end : {I S : Type 0} (input : I → InputState) (state : S → SourceSt
     (vector : List ℕ) (e : Ending) (answer : Bool) (x : Writing) → m ≡ a
     → WhereTold (now_of input p (run_state state (asked m))) (now_of input q (run_state state (asked b)))
     (FindsNone p.rules e) → q.rules ≡ p.rules → answer ≡ good q.rules e q.counts → b.out ≡ m.out
-    → Tells m.err b.err (end_text q.rules e q.counts) x → HoldNothing a
+    → HandsOn m.err b.err (end_text q.rules e q.counts) x → HoldNothing a
     → StepGives p.rules vector (now_of input p (run_state state a)) (now_of input q (run_state state b))
     (answered x (Ended answer))
 step_end input state p q a m b vector e answer x is found rules sum out told hold =

@@ -6,7 +6,7 @@ use Rattle.sum_lines.specs.Sinks.{SinkState, Wrote, Broke, Flushes}
 use Rattle.digest_kinds.specs.Limits.{one_more}
 use Rattle.sum_lines.specs.refinement.Growing.{AppendsPrefix}
 use Rattle.sum_lines.proofs.SinkLemmas.{Wrote-flushed, Wrote-dropped}
-use Rattle.sum_engine.specs.refinement.Telling.{Tells}
+use Rattle.sum_engine.specs.refinement.Telling.{HandsOn}
 
 -- ---- known bytes
 
@@ -28,7 +28,7 @@ prefix_then a b c x y h k = (
 
 -- a text was written, and then flushed
 pub told_flushed : {E : Type 0} (a b c : SinkState) (text : List ℕ) (r : Result (Unit {0}) E) → Wrote a b text
-    → Flushes b c r → Tells a c text r
+    → Flushes b c r → HandsOn a c text r
 told_flushed a b c text (Ok u) h k = (
   k.2 ∙ h.kept,
   λ none.
@@ -42,7 +42,7 @@ told_flushed a b c text (Err e) h k = (
 
 -- writing it failed
 pub told_broken : {E : Type 0} (a c : SinkState) (text : List ℕ) (e : E) → Broke a c text
-    → Tells a c text (Err e)
+    → HandsOn a c text (Err e)
 told_broken a c text e h = (
   h.failed,
   λ none.
@@ -54,7 +54,7 @@ told_broken a c text e h = (
 
 -- a text, and then another or a prefix of it
 pub tells_then : {E : Type 0} (a b c : SinkState) (x y : List ℕ) (r : Result (Unit {0}) E)
-    → Tells {E = E} a b x (Ok tt) → Tells b c y r → Tells a c (x ++ y) r
+    → HandsOn {E = E} a b x (Ok tt) → HandsOn b c y r → HandsOn a c (x ++ y) r
 tells_then a b c x y (Ok u) h k = (
   k.0 ∙ h.0,
   λ none.
@@ -71,6 +71,6 @@ tells_then a b c x y (Err e) h k = (
 )
 
 -- a prefix of a text, and none of the next
-pub part_more : {E : Type 0} (a b : SinkState) (x y : List ℕ) (e : E) → Tells a b x (Err e)
-    → Tells a b (x ++ y) (Err e)
+pub part_more : {E : Type 0} (a b : SinkState) (x y : List ℕ) (e : E) → HandsOn a b x (Err e)
+    → HandsOn a b (x ++ y) (Err e)
 part_more a b x y e h = (h.0, λ none. ((h.1 none).0, prefix_more a.written b.written x y (h.1 none).1))

@@ -23,10 +23,11 @@ pub record Place (I : Type 0) : Type 0 where
   pub form : Form
   pub counts : Counts
 
--- a checker: where it stands, and the answer that every later step gives again, where there is one
-pub record Checking (I : Type 0) : Type 0 where
+-- a manifest that is being checked: where that stands, and the answer that every later call gives again, where there
+-- is one
+pub record Checking (I A : Type 0) : Type 0 where
   pub place : Place I
-  pub answer : Option (Result Progress Stop)
+  pub answer : Option A
 
 -- after a line no answer is given again, after anything else that one is
 abbrev pub again_after : Result Progress Stop → Option (Result Progress Stop)

@@ -29,10 +29,9 @@ line_steps r end c (j ∷ js) =
 
 -- a manifest that was opened, whose lines have these verdicts
 abbrev pub content_run : Rules → Content → List Judged → Run
-content_run r c js = record {
-  steps = line_steps r (end_text r c.ending (counts no_counts js)) c js;
-  good = good r c.ending (counts no_counts js);
-}
+content_run r c js =
+    let n = counts no_counts js in
+    record { steps = line_steps r (end_text r c.ending n) c js; good = good r c.ending n }
 
 abbrev pub check_run_by : Rules → List ℕ → World → Reply → Run
 check_run_by r name w (Refused f) = at_once (name ∷ []) (fault_line r.profile r.tool r.shown f) [] false

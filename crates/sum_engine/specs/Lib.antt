@@ -1,6 +1,5 @@
 pub mod Worlds
 pub mod Runs
-pub mod Profiles
 pub mod Generation
 pub mod Verdicts
 pub mod Reports

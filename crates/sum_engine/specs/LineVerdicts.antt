@@ -22,12 +22,9 @@ use Rattle.sum_engine.specs.RunStates.{Did}
 use Rattle.sum_engine.specs.Steps.{Now, Moves, rest_verdicts}
 use Rattle.sum_engine.specs.Checkers.{Place}
 
--- the verdicts of a manifest: where its checking stands; whether memory was wanted, which every later call answers; and
--- whether the last call found that it had ended, and not by a fault
-pub record Finding (I : Type 0) : Type 0 where
-  pub place : Place I
-  pub short : Bool
-  pub whole : Bool
+-- what is answered where the next verdict is asked for
+abbrev pub Found : Type 0
+Found = Result (Option LineVerdict) LineStop
 
 -- the moment of a call that is lent standard input and a source, and writes to no output
 abbrev pub asking : {I S : Type 0} → (I → InputState) → Option I → S → Moment S
@@ -68,7 +65,7 @@ pub record FindsNone (r : Rules) (e : Ending) (a b : Now) : Type 0 where
 abbrev pub OnlyRefused : RunState → RunState → Type 0
 OnlyRefused a b = b ≡ record a { refusals = one_more a.refusals }
 
-abbrev pub FindOf : Rules → List ℕ → Now → Now → Result (Option LineVerdict) LineStop → Type 0
+abbrev pub FindOf : Rules → List ℕ → Now → Now → Found → Type 0
 FindOf r vector a b (Ok (Some v)) = Finds r a b (judged_in vector v) × Moves r a b vector
 FindOf r vector a b (Ok None) = FindsNone r Whole a b
 FindOf r vector a b (Err (Fault f)) = FindsNone r (Broken f) a b
@@ -76,22 +73,22 @@ FindOf r vector a b (Err Memory) =
     (OnlyRefused a.run_state b.run_state ⊎ (b.run_state ≡ a.run_state)) × (0 < length a.rest.bytes)
 
 -- what the next verdict is, where the manifest and the world tell
-abbrev pub FindGives : Rules → List ℕ → Option Now → Option Now → Result (Option LineVerdict) LineStop → Type 0
+abbrev pub FindGives : Rules → List ℕ → Option Now → Option Now → Found → Type 0
 FindGives r vector a b x = WhereTold a b (λ a b. FindOf r vector a b x)
 
 -- a step's answer, but for whether the manifest is good: a line, the end, or want of memory
-abbrev pub progress_of : Result (Option LineVerdict) LineStop → Result Progress Stop
+abbrev pub progress_of : Found → Result Progress Stop
 progress_of (Ok (Some v)) = Ok Going
 progress_of (Ok None) = Ok (Ended true)
 progress_of (Err (Fault f)) = Ok (Ended false)
 progress_of (Err Memory) = Err stops.Memory
 
--- whether memory was wanted
-abbrev pub is_short : Result (Option LineVerdict) LineStop → Bool
-is_short (Err Memory) = true
-is_short x = false
+-- after a line no answer is given again, after anything else that one is
+abbrev pub again_found : Found → Option Found
+again_found (Ok (Some v)) = None
+again_found x = Some x
 
--- whether no line is left, and no fault ended the manifest
-abbrev pub is_whole : Result (Option LineVerdict) LineStop → Bool
-is_whole (Ok None) = true
+-- whether what is answered again is that no line is left, and no fault ended the manifest
+abbrev pub is_whole : Option Found → Bool
+is_whole (Some (Ok None)) = true
 is_whole x = false

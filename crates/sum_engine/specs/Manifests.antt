@@ -6,14 +6,14 @@ use Rattle.sum_sources.specs.Sources.{SourceState}
 use Rattle.sum_sources.specs.ManifestLines.{past_lines}
 use Rattle.sum_engine.specs.declared.stop.Stop.{Stop}
 use Rattle.sum_engine.specs.Worlds.{after}
-use Rattle.sum_engine.specs.Profiles.{lines_by}
+use Rattle.sum_engine.specs.Verdicts.{lines_by}
 use Rattle.sum_engine.specs.Runs.{Run, events, outs, errs, asks}
 use Rattle.sum_engine.specs.Verdicts.{Rules, Judged, asks_of, all_verdicts}
 use Rattle.sum_engine.specs.Reports.{out_of, err_of}
 use Rattle.sum_engine.specs.Checking.{line_steps, content_run}
 use Rattle.sum_engine.specs.Moments.{Moment, HoldNothing, RunState, WhereKnown}
 use Rattle.sum_engine.specs.RunStates.{Did, DidPrefix, RunOf}
-use Rattle.sum_engine.specs.Steps.{Now, Moves, GoesOn, Finishes, Breaks, to_come, start}
+use Rattle.sum_engine.specs.Steps.{Now, Moves, GoesOn, Finishes, Breaks, to_come, at_start}
 
 -- a new checker that was run to its end, from outputs that held nothing
 abbrev pub ManifestGives :
@@ -56,17 +56,17 @@ pub record Joined (r : Rules) (c : Content) (s : RunState) (b : Now) (k : ℕ) :
 
 -- any number of lines, handled one after another
 abbrev pub StepsJoin : Type 0
-StepsJoin = (r : Rules) (c : Content) (s : RunState) (b : Now) (k : ℕ) → HandledTimes r (start c s) b k
+StepsJoin = (r : Rules) (c : Content) (s : RunState) (b : Now) (k : ℕ) → HandledTimes r (at_start c s) b k
     → Joined r c s b k
 
 -- the step that ends comes after all lines, and all events have then happened
 abbrev pub StepsEnd : Type 0
 StepsEnd = (r : Rules) (c : Content) (s : RunState) (b : Now) (z : RunState) (k : ℕ) (x : Bool)
-    → HandledTimes r (start c s) b k → Finishes (to_come r b) x b.run_state z
+    → HandledTimes r (at_start c s) b k → Finishes (to_come r b) x b.run_state z
     → (k ≡ length (lines_by r.profile c)) × (x ≡ (content_run r c (all_verdicts r s.world c)).good)
     × Did s z (events (content_run r c (all_verdicts r s.world c)).steps)
 
 -- after a step that a write fault cut off one prefix of all events happened
 abbrev pub StepsCut : Type 0
-StepsCut = (r : Rules) (c : Content) (s : RunState) (b : Now) (z : RunState) (k : ℕ) → HandledTimes r (start c s) b k
+StepsCut = (r : Rules) (c : Content) (s : RunState) (b : Now) (z : RunState) (k : ℕ) → HandledTimes r (at_start c s) b k
     → Breaks (to_come r b) b.run_state z → DidPrefix s z (events (content_run r c (all_verdicts r s.world c)).steps)

@@ -12,7 +12,7 @@ use Rattle.sum_lines.specs.Escape.{escape}
 use Rattle.sum_lines.specs.Shapes.{Plain, Tagged}
 use Rattle.sum_lines.specs.Profiles.{Profile, present}
 use Rattle.sum_lines.specs.Escape.{escape_by}
-use Rattle.sum_engine.specs.Profiles.{lines_by}
+use Rattle.sum_engine.specs.Verdicts.{lines_by}
 use Rattle.sum_engine.specs.Worlds.{World}
 use Rattle.sum_lines.specs.ParsedLines.{Improper, parse_line}
 use Rattle.sum_engine.specs.Verdicts.{Rules, all_verdicts}

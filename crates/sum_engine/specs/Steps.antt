@@ -12,7 +12,7 @@ use Rattle.sum_engine.specs.declared.progress.Progress.TheVariants.{Going, Ended
 use Rattle.sum_engine.specs.declared.stop.Stop.{Stop}
 use Rattle.sum_engine.specs.declared.stop.Stop.TheVariants.{Memory, Write}
 use Rattle.sum_engine.specs.declared.summary.Counts.{Counts}
-use Rattle.sum_engine.specs.Profiles.{lines_by}
+use Rattle.sum_engine.specs.Verdicts.{lines_by}
 use Rattle.sum_lines.specs.ParsedLines.{parse_line}
 use Rattle.sum_engine.specs.Runs.{Step, Run, events_of}
 use Rattle.sum_engine.specs.Verdicts.{Rules, Judged, judge, verdicts}
@@ -41,8 +41,8 @@ now_by (Some rest) n u f c (Some s) =
 abbrev pub no_line : Option Content → Option RunState → Option Now
 no_line c s = now_by c 0 0 Undecided no_counts s
 
-abbrev pub start : Content → RunState → Now
-start c s = record { rest = c; number = 0; used = 0; form = Undecided; counts = no_counts; run_state = s }
+abbrev pub at_start : Content → RunState → Now
+at_start c s = record { rest = c; number = 0; used = 0; form = Undecided; counts = no_counts; run_state = s }
 
 -- the next line's verdict
 abbrev pub next_judged : Rules → Now → List ℕ → Judged
@@ -89,7 +89,7 @@ pub record Breaks (r : Run) (a b : RunState) : Type 0 where
   pub did : DidPrefix a b (events_of step)
 
 -- memory was wanted: nothing of the step happened
-pub record Waits (r : Run) (a b : RunState) : Type 0 where
+pub record Lacks (r : Run) (a b : RunState) : Type 0 where
   pub step : Step
   pub rest : Run
   pub is : r ≡ step_then step rest
@@ -110,7 +110,7 @@ abbrev pub StepOf : Rules → List ℕ → Now → Now → Result Progress Stop 
 StepOf r vector a b (Ok Going) = GoesOn (to_come r a) (to_come r b) a.run_state b.run_state × Moves r a b vector
 StepOf r vector a b (Ok (Ended answer)) = Finishes (to_come r a) answer a.run_state b.run_state
 StepOf r vector a b (Err Write) = Breaks (to_come r a) a.run_state b.run_state
-StepOf r vector a b (Err Memory) = Waits (to_come r a) a.run_state b.run_state
+StepOf r vector a b (Err Memory) = Lacks (to_come r a) a.run_state b.run_state
 
 -- what a step does, where the manifest and the run state tell
 abbrev pub StepGives : Rules → List ℕ → Option Now → Option Now → Result Progress Stop → Type 0

@@ -4,6 +4,7 @@ use Rattle.std.specs.Str.{bytes_eq}
 use Rattle.sum_sources.specs.declared.fault.Fault.{Fault}
 use Rattle.sum_sources.specs.declared.fault.Fault.TheVariants.{NotFound}
 use Rattle.sum_sources.specs.Contents.{Content}
+use Rattle.sum_sources.specs.ManifestLines.{lines, pieces}
 use Rattle.sum_sources.specs.Sources.{Reply, Refused}
 use Rattle.sum_lines.specs.declared.line_reading.Form.{Form}
 use Rattle.sum_lines.specs.Entries.{Spelled, kind_of, form}
@@ -11,7 +12,6 @@ use Rattle.sum_engine.specs.declared.settings.CheckSettings.{CheckSettings}
 use Rattle.sum_engine.specs.declared.verdict.Verdict.{Verdict}
 use Rattle.sum_engine.specs.declared.verdict.Verdict.TheVariants.{Ignored, Bad, Right, Wrong, Missing, Unread}
 use Rattle.sum_lines.specs.Profiles.{Profile}
-use Rattle.sum_engine.specs.Profiles.{lines_by}
 use Rattle.sum_lines.specs.ParsedLines.{ParsedLine, Nothing, Improper, WithEntry, parse_line}
 use Rattle.sum_engine.specs.Worlds.{World, is_dash, reply, after, digest_or_fault}
 
@@ -59,6 +59,10 @@ asks_by v name = name ∷ []
 
 abbrev pub asks_of : Judged → List (List ℕ)
 asks_of j = asks_by j.verdict j.name
+
+-- the lines of a content, each without one carriage return at its end, unless the profile drops none
+abbrev pub lines_by : Profile → Content → List (List ℕ)
+lines_by p c = if p.drops_return then lines c else pieces c
 
 -- the lines behind line n in a manifest of that form, each after the asks of those before it
 abbrev pub verdicts : Rules → Form → World → ℕ → List (List ℕ) → List Judged

@@ -24,9 +24,12 @@ pub struct Checker<'a, I> {
 }
 
 impl<'a, I> Model for Checker<'a, I> {
+    ghost use Rattle.std.specs.Prelude.{Result};
+    ghost use Rattle.sum_engine.specs.declared.progress.Progress.{Progress};
+    ghost use Rattle.sum_engine.specs.declared.stop.Stop.{Stop};
     ghost use Rattle.sum_engine.specs.Checkers.{Checking};
 
-    ghost Value = { Checking I };
+    ghost Value = { Checking I (Result Progress Stop) };
 
     ghost use Rattle.sum_engine.specs.refinement.Positions.{place_of};
 

@@ -3,7 +3,7 @@ ghost use Rattle.std.specs.Prelude.{◌≡◌, ◌||◌, Err, OnOk, length};
 ghost use Rattle.sum_engine.specs.Worlds.{is_dash};
 ghost use Rattle.sum_lines.specs.Lines.{line};
 ghost use Rattle.sum_engine.specs.Generation.{generate_run};
-ghost use Rattle.sum_engine.specs.refinement.Telling.{Tells};
+ghost use Rattle.sum_engine.specs.refinement.Telling.{HandsOn};
 ghost use Rattle.digest_kinds.specs.Limits.{one_more};
 ghost use Rattle.sum_engine.specs.Moments.{HoldNothing, Failures, Refusals, Untouched};
 ghost use Rattle.sum_engine.specs.RunStates.{RunsTo};
@@ -70,7 +70,7 @@ fn tell_line<O: Sink>(
     digest: &Digest,
 ) -> Result<(), SinkFault>
     requires { length digest.now ≡ settings.now.kind.len }
-    ensures { Tells (O.state out.old) (O.state out.new)
+    ensures { HandsOn (O.state out.old) (O.state out.new)
         (line settings.now.style settings.now.kind name.now digest.now) result }
 {
     put_line(out, settings.style, settings.kind, name, digest)?;

@@ -40,7 +40,7 @@ impl<'a, I: Input> Position<'a, I> {
     ghost use Rattle.sum_engine.specs.Verdicts.{asks_of};
     ghost use Rattle.sum_engine.specs.refinement.Asking.{RefusedUnless, world_of};
     ghost use Rattle.sum_engine.specs.LineVerdicts.{judged_in, Names, FindGives, progress_of, asking};
-    ghost use Rattle.sum_engine.specs.refinement.Finding.{TakesLine, LineGives};
+    ghost use Rattle.sum_engine.specs.refinement.Finding.{TakesLine, JudgeLineGives};
     ghost use Rattle.sum_engine.specs.refinement.Listings.{rules_in};
     ghost use Rattle.sum_engine.specs.refinement.Positions.{place_of};
 
@@ -154,7 +154,7 @@ impl<'a, I: Input> Position<'a, I> {
     ) -> Option<LineVerdict>
         requires room { total self.old.counts < self.old.reader.lines }
         requires few { self.old.reader.lines ≤ LIMIT }
-        ensures gives { LineGives (place_of self.old) line.old.items self.new.counts line.new.items
+        ensures gives { JudgeLineGives (place_of self.old) line.old.items self.new.counts line.new.items
             (world_of S.state (asking J.state stdin.old source.old))
             (world_of S.state (asking J.state stdin.new source.new)) result }
         ensures taken { MatchOption result (stdin.new ≡ stdin.old) (λ v. is_none stdin.new

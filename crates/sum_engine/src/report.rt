@@ -7,7 +7,7 @@ ghost use Rattle.sum_lines.specs.Profiles.{present};
 ghost use Rattle.sum_engine.specs.Generation.{tool_line, fault_line};
 ghost use Rattle.sum_engine.specs.Reports.{verdict_line, bad_line, err_by};
 ghost use Rattle.sum_engine.specs.refinement.Listings.{rules_in};
-ghost use Rattle.sum_engine.specs.refinement.Telling.{out_by, Tells, HandsBoth, NoneFailed, OneFailed};
+ghost use Rattle.sum_engine.specs.refinement.Telling.{out_by, HandsOn, HandsBoth, NoneFailed, OneFailed};
 
 use crate::listing::Listing;
 use crate::settings::Report;
@@ -24,7 +24,7 @@ pub(crate) fn put_tool_line<'a, E: Sink>(
     name: &'a [u8],
     text: &'a [u8],
 ) -> Result<(), SinkFault>
-    ensures { Tells (E.state err.old) (E.state err.new) (tool_line present tool.now name.now text.now) result }
+    ensures { HandsOn (E.state err.old) (E.state err.new) (tool_line present tool.now name.now text.now) result }
 {
     tell(
         err,
@@ -46,7 +46,7 @@ pub(crate) fn put_fault_line<E: Sink>(
     name: &[u8],
     fault: Fault,
 ) -> Result<(), SinkFault>
-    ensures { Tells (E.state err.old) (E.state err.new) (fault_line present tool.now name.now fault) result }
+    ensures { HandsOn (E.state err.old) (E.state err.new) (fault_line present tool.now name.now fault) result }
 {
     put_tool_line(err, tool, name, fault.text().as_bytes())
 }
@@ -82,7 +82,7 @@ fn put_out<O: Sink>(
     verdict: Verdict,
     name: &[u8],
 ) -> Result<(), SinkFault>
-    ensures { Tells (O.state out.old) (O.state out.new) (out_by present report verdict name.now) result }
+    ensures { HandsOn (O.state out.old) (O.state out.new) (out_by present report verdict name.now) result }
 {
     match report {
         Report::All => put_said(out, verdict, name),
@@ -96,7 +96,7 @@ fn put_out<O: Sink>(
 }
 
 fn put_said<O: Sink>(out: &mut O, verdict: Verdict, name: &[u8]) -> Result<(), SinkFault>
-    ensures { Tells (O.state out.old) (O.state out.new) (verdict_line present verdict name.now) result }
+    ensures { HandsOn (O.state out.old) (O.state out.new) (verdict_line present verdict name.now) result }
 {
     match verdict {
         Verdict::Ignored | Verdict::Bad | Verdict::Missing => Ok(()),
@@ -108,7 +108,7 @@ fn put_said<O: Sink>(out: &mut O, verdict: Verdict, name: &[u8]) -> Result<(), S
 
 // Writes the name and what stands behind it. Most names hold nothing to escape, and are then searched once.
 fn put_name_line<'a, O: Sink>(out: &mut O, name: &'a [u8], rest: &'a [u8]) -> Result<(), SinkFault>
-    ensures { Tells (O.state out.old) (O.state out.new)
+    ensures { HandsOn (O.state out.old) (O.state out.new)
         (concat (mark (escape_differs name.now) ∷ escape name.now ∷ rest.now ∷ [])) result }
 {
     if needs_escape(name) {
@@ -127,7 +127,7 @@ fn put_err<E: Sink>(
     verdict: Verdict,
     name: &[u8],
 ) -> Result<(), SinkFault>
-    ensures { Tells (E.state err.old) (E.state err.new)
+    ensures { HandsOn (E.state err.old) (E.state err.new)
         (err_by (rules_in listing.now) number verdict name.now) result }
 {
     match verdict {
@@ -141,7 +141,7 @@ fn put_err<E: Sink>(
 }
 
 fn put_bad_line<E: Sink>(err: &mut E, listing: &Listing, number: u64) -> Result<(), SinkFault>
-    ensures { Tells (E.state err.old) (E.state err.new) (bad_line (rules_in listing.now) number) result }
+    ensures { HandsOn (E.state err.old) (E.state err.new) (bad_line (rules_in listing.now) number) result }
 {
     let word = tag_word(listing.settings.algo);
     tell(

@@ -1,6 +1,8 @@
 //! The verdicts of a manifest, without any text.
-ghost use Rattle.std.specs.Prelude.{◌≡◌, ◌≤◌, ◌&&◌, [], true, false, None, Some, Err, Option, IfOk, IfSome};
+ghost use Rattle.std.specs.Prelude.{◌≡◌, ◌≤◌, ◌&&◌, [], None, IfOk, IfSome};
+ghost use Rattle.std.specs.Option.{option_and_then};
 ghost use Rattle.sum_lines.specs.Profiles.{present};
+ghost use Rattle.sum_engine.specs.LineVerdicts.{again_found};
 ghost use Rattle.sum_engine.specs.Steps.{WantsMemory};
 
 use crate::listing::Listing;
@@ -18,20 +20,20 @@ use sum_sources::{Input, LineStop, Source, Stdin};
 #[derive(Drop)]
 pub struct Verdicts<I> {
     position: Position<'static, I>,
-    // memory was wanted, which every later call answers again
-    short: bool,
-    // the last call found that the manifest had ended, and not by a fault
-    whole: bool,
+    // what every later call answers again, where there is such an answer
+    answer: Option<Result<Option<LineVerdict>, LineStop>>,
+    ghost again: { option_and_then again_found answer ≡ answer },
 }
 
 impl<I> Model for Verdicts<I> {
-    ghost use Rattle.sum_engine.specs.LineVerdicts.{Finding};
+    ghost use Rattle.sum_engine.specs.Checkers.{Checking};
+    ghost use Rattle.sum_engine.specs.LineVerdicts.{Found};
 
-    ghost Value = { Finding I };
+    ghost Value = { Checking I Found };
 
     ghost use Rattle.sum_engine.specs.refinement.Positions.{place_of};
 
-    ghost view = { λ v. record { place = place_of v.position; short = v.short; whole = v.whole } };
+    ghost view = { λ v. record { place = place_of v.position; answer = v.answer } };
 }
 
 impl<I: Input> Verdicts<I> {
@@ -40,7 +42,7 @@ impl<I: Input> Verdicts<I> {
     ghost use Rattle.sum_engine.specs.Reports.{good};
     ghost use Rattle.sum_engine.specs.Moments.{run_state};
     ghost use Rattle.sum_engine.specs.Checkers.{Begins, now_of, Reads};
-    ghost use Rattle.sum_engine.specs.LineVerdicts.{asking, Names, FindGives, progress_of, is_short, is_whole};
+    ghost use Rattle.sum_engine.specs.LineVerdicts.{asking, Names, FindGives, progress_of, again_found, is_whole};
 
     /// In front of the first line of the manifest that `input` gives; `from_stdin` says whether it came from standard
     /// input, where a line that names `-` is improperly formatted.
@@ -53,8 +55,7 @@ impl<I: Input> Verdicts<I> {
           from_stdin = from_stdin;
         } }
         ensures begins { Begins I.state result.place input }
-        ensures short { result.short ≡ false }
-        ensures whole { result.whole ≡ false }
+        ensures answer { result.answer ≡ None }
     {
         let listing = Listing {
             settings,
@@ -64,8 +65,7 @@ impl<I: Input> Verdicts<I> {
         };
         Verdicts {
             position: Position::new(listing, input),
-            short: false,
-            whole: false,
+            answer: None,
         }
     }
 
@@ -82,38 +82,43 @@ impl<I: Input> Verdicts<I> {
     /// name `-` stands for in a manifest that didn't come from there, and `source` is where files are opened.
     ///
     /// `LineStop::Fault` where the manifest ended by that fault. `LineStop::Memory` where there was no memory for the
-    /// line or for opening the file that it names; each later call then answers the same and does nothing.
+    /// line or for opening the file that it names. After either, and after None, each later call answers the same and
+    /// does nothing.
     pub fn next<A: Allocator, J: Input + Drop, S: Source>(
         &mut self,
         line: &mut Vec<u8, A>,
         stdin: &mut Stdin<J>,
         source: &mut S,
     ) -> Result<Option<LineVerdict>, LineStop>
-        ensures gives { self.old.short ≡ false → FindGives self.old.place.rules line.new.items
+        ensures gives { self.old.answer ≡ None → FindGives self.old.place.rules line.new.items
             (now_of I.state self.old.place (run_state S.state (asking J.state stdin.old source.old)))
             (now_of I.state self.new.place (run_state S.state (asking J.state stdin.new source.new))) result }
         ensures names { IfOk result (λ found. IfSome found (λ v. Names line.new.items v)) }
-        ensures again { self.old.short ≡ true → (result ≡ Err LineStop.Memory) × (self.new ≡ self.old)
-            × (stdin.new ≡ stdin.old) × (source.new ≡ source.old) }
-        ensures short { self.old.short ≡ false → self.new.short ≡ is_short result }
-        ensures whole { self.old.short ≡ false → self.new.whole ≡ is_whole result }
-        ensures wants { self.old.short ≡ false → WantsMemory (S.state source.old) (S.state source.new)
+        ensures again { IfSome self.old.answer (λ r. (result ≡ r) × (self.new ≡ self.old) × (stdin.new ≡ stdin.old)
+            × (source.new ≡ source.old)) }
+        ensures answer { self.old.answer ≡ None → self.new.answer ≡ again_found result }
+        ensures wants { self.old.answer ≡ None → WantsMemory (S.state source.old) (S.state source.new)
             (coming I.state self.old.place.reader) (progress_of result) }
-        ensures reads { self.old.short ≡ false → Reads I.state self.old.place self.new.place (progress_of result) }
+        ensures reads { self.old.answer ≡ None → Reads I.state self.old.place self.new.place (progress_of result) }
     {
-        if self.short {
-            return Err(LineStop::Memory);
+        if let Some(answer) = self.answer {
+            return answer;
         }
         let found = self.position.find(line, stdin, source);
-        self.short = found == Err(LineStop::Memory);
-        self.whole = found == Ok(None);
+        self.answer = match found {
+            Ok(Some(_)) => None,
+            _ => Some(found),
+        };
         found
     }
 
     /// Whether the manifest is good; false before `next` has answered that no line is left.
     pub fn is_good(&self) -> bool
-        ensures { result ≡ self.now.whole && good self.now.place.rules Whole self.now.place.counts }
+        ensures { result ≡ is_whole self.now.answer && good self.now.place.rules Whole self.now.place.counts }
     {
-        self.whole && self.position.is_good()
+        match self.answer {
+            Some(Ok(None)) => self.position.is_good(),
+            _ => false,
+        }
     }
 }

@@ -24,12 +24,12 @@ pub record TakesLine {I : Type 0} (a b : Place I) (line : List ℕ) : Type 0 whe
   pub rules : b.rules ≡ a.rules
 
 -- the last line that was read was judged, and its name was asked where that asks it; d are the counts then
-abbrev pub LineOf :
+abbrev pub JudgeLineOf :
     {I : Type 0} → Place I → List ℕ → Counts → List ℕ → World → World → Option LineVerdict → Type 0
-LineOf p line d vector w v None = v ≡ w
-LineOf p line d vector w v (Some found) = (judge p.rules w p.reader.lines (parsed_at p line) ≡ judged_in vector found)
+JudgeLineOf p line d vector w v None = v ≡ w
+JudgeLineOf p line d vector w v (Some found) = (judge p.rules w p.reader.lines (parsed_at p line) ≡ judged_in vector found)
     × (v ≡ after w (asks_of (judged_in vector found))) × (d ≡ counts_with p.counts found.verdict)
 
-abbrev pub LineGives : {I : Type 0} → Place I → List ℕ → Counts → List ℕ → Option World → Option World
+abbrev pub JudgeLineGives : {I : Type 0} → Place I → List ℕ → Counts → List ℕ → Option World → Option World
     → Option LineVerdict → Type 0
-LineGives p line d vector w v x = WhereTold w v (λ w v. LineOf p line d vector w v x)
+JudgeLineGives p line d vector w v x = WhereTold w v (λ w v. JudgeLineOf p line d vector w v x)
