@@ -1,7 +1,6 @@
 //! The command line: which tool is asked for, and on which words.
-ghost use Rattle.std.specs.Prelude.{◌≡◌, ◌≤◌, ◌<◌, ◌+◌, ◌*◌, ℕ, length, vec_len, Some, take, IfOk, IfSome, OnOk, OnErr};
+ghost use Rattle.std.specs.Prelude.{◌≡◌, ◌≤◌, ◌<◌, ◌*◌, vec_len, take, IfOk, IfSome, OnOk, OnErr};
 ghost use Rattle.std.specs.Option.{option_map};
-ghost use Rattle.sum_words.specs.Tools.{tool_called};
 ghost use Rattle.sum_words.specs.refinement.Arguments.{ArgumentIs, WordsAre, IsNameOf, IsFirstWord, CallIs, call_of};
 ghost use Rattle.sum_words.specs.refinement.Arguments.{IsLonger, IsThere, IsBadFirstWord, MayBeUnread};
 ghost use Rattle.sum_words.specs.CommandLines.{last_part};
