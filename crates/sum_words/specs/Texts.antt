@@ -32,12 +32,10 @@ wording mode_with_check = codes "the --binary and --text options are meaningless
 wording (without_check f) = codes "the --" ++ full_name f ++ codes " option is meaningful only when verifying checksums"
 wording check_needed = codes "--check is required"
 
--- the two lines of a tool of this name
-abbrev pub lines_of : Text → Text → Text
-lines_of name text = name ++ codes ": " ++ text ++ codes "\nTry '" ++ name ++ codes " --help' for more information.\n"
-
+-- the two lines of a tool for a fault
 abbrev pub fault_lines : Tool → Fault → Text
-fault_lines t f = lines_of (name_of t) (wording f)
+fault_lines t f =
+    name_of t ++ codes ": " ++ wording f ++ codes "\nTry '" ++ name_of t ++ codes " --help' for more information.\n"
 
 -- help: what the tool is for, and its options
 abbrev pub purpose : Algos → Text
