@@ -21,38 +21,38 @@ pub data Item : Type 0 where
   operand : Text → Item
   fault : Fault → Item
 
--- an option's letter, where there is one, and its full name
-abbrev pub row_of : Flag → Text × Text
-row_of flags.Binary = (codes "b", codes "binary")
-row_of flags.Check = (codes "c", codes "check")
-row_of flags.Tag = (codes "", codes "tag")
-row_of flags.Text = (codes "t", codes "text")
-row_of flags.Zero = (codes "z", codes "zero")
-row_of flags.IgnoreMissing = (codes "", codes "ignore-missing")
-row_of flags.Quiet = (codes "", codes "quiet")
-row_of flags.Status = (codes "", codes "status")
-row_of flags.Strict = (codes "", codes "strict")
-row_of flags.Warn = (codes "w", codes "warn")
-row_of flags.Help = (codes "", codes "help")
-row_of flags.Version = (codes "", codes "version")
-row_of flags.Length = (codes "l", codes "length")
+-- an option's letter, where there is one, its full name, and what help says of it
+abbrev pub row_of : Flag → Text × Text × Text
+row_of flags.Binary = (codes "b", codes "binary", codes "mark each line as binary")
+row_of flags.Check = (codes "c", codes "check", codes "read checksums from the FILEs and check them")
+row_of flags.Length = (codes "l", codes "length", codes "digest length in bits, a multiple of 8, at most 512")
+row_of flags.Tag = (codes "", codes "tag", codes "write lines of the tagged form")
+row_of flags.Text = (codes "t", codes "text", codes "mark each line as text (default)")
+row_of flags.Zero = (codes "z", codes "zero", codes "end each line with NUL and escape no name")
+row_of flags.IgnoreMissing =
+    (codes "", codes "ignore-missing", codes "with -c: neither fail nor report for missing files")
+row_of flags.Quiet = (codes "", codes "quiet", codes "with -c: print no OK lines")
+row_of flags.Status = (codes "", codes "status", codes "with -c: print no report")
+row_of flags.Strict = (codes "", codes "strict", codes "with -c: fail for improperly formatted lines")
+row_of flags.Warn = (codes "w", codes "warn", codes "with -c: name each improperly formatted line")
+row_of flags.Help = (codes "", codes "help", codes "print this text")
+row_of flags.Version = (codes "", codes "version", codes "print the version")
 
 abbrev pub full_name : Flag → Text
 full_name flag = (row_of flag).1
 
--- the options of every tool
-abbrev pub common : List Flag
-common = flags.Binary ∷ flags.Check ∷ flags.Tag ∷ flags.Text ∷ flags.Zero ∷ flags.IgnoreMissing ∷ flags.Quiet ∷
-    flags.Status ∷ flags.Strict ∷ flags.Warn ∷ flags.Help ∷ flags.Version ∷ []
-
--- b2sum has one more, which alone takes a value
-abbrev pub flags_of : Tool → List Flag
-flags_of tools.B2sum = common ++ flags.Length ∷ []
-flags_of t = common
-
 abbrev pub takes_value : Flag → Bool
 takes_value flags.Length = true
 takes_value flag = false
+
+-- all options, in the order of help; b2sum alone has the one that takes a value
+abbrev pub all_flags : List Flag
+all_flags = flags.Binary ∷ flags.Check ∷ flags.Length ∷ flags.Tag ∷ flags.Text ∷ flags.Zero ∷ flags.IgnoreMissing ∷
+    flags.Quiet ∷ flags.Status ∷ flags.Strict ∷ flags.Warn ∷ flags.Help ∷ flags.Version ∷ []
+
+abbrev pub flags_of : Tool → List Flag
+flags_of tools.B2sum = all_flags
+flags_of t = filter (λ flag. not (takes_value flag)) all_flags
 
 -- what a word says, with how the next one is read: as it stands, as the value of an option written so, or not at all
 pub data NextWord : Type 0 where

@@ -1,6 +1,7 @@
 -- The texts that the program itself writes: those of faults, help and version, and the line for a stop.
-use Rattle.std.specs.Prelude.{[], ◌++◌, codes}
+use Rattle.std.specs.Prelude.{[], ◌-◌, ◌++◌, codes, flat_map, if◌then◌else◌, length, replicate}
 use Rattle.std.specs.Char.{encode_utf8}
+use Rattle.std.specs.Str.{byte, bytes_eq}
 use Rattle.digest_kinds.specs.declared.algo.Algos.{Algos}
 use Rattle.digest_kinds.specs.declared.algo.Algos.TheVariants.{One, Any}
 use Rattle.digest_kinds.specs.Kinds.{tag}
@@ -9,9 +10,9 @@ use Rattle.sum_engine.specs.declared.stop.Stop.{Stop}
 use Rattle.sum_engine.specs.declared.stop.Stop.TheVariants.{Memory, Write}
 use Rattle.sum_words.specs.declared.options.Spelling.TheVariants.{Long, Short}
 use Rattle.sum_words.specs.declared.tool.Tool.{Tool}
-use Rattle.sum_words.specs.declared.tool.Tool.TheVariants as tools
 use Rattle.sum_words.specs.Tools.{name_of, algos_of}
-use Rattle.sum_words.specs.Items.{Text, full_name}
+use Rattle.sum_words.specs.declared.options.Flag.{Flag}
+use Rattle.sum_words.specs.Items.{Text, row_of, full_name, takes_value, flags_of}
 use Rattle.sum_words.specs.Faults.{Fault, unknown_long, ambiguous_long, value_not_allowed, value_missing, unknown_short, length_invalid, length_not_bytes, tag_with_text, zero_with_check, tag_with_check, mode_with_check, without_check, check_needed}
 
 -- a fault: what its text shows of the words is escaped as names are
@@ -31,39 +32,28 @@ wording mode_with_check = codes "the --binary and --text options are meaningless
 wording (without_check f) = codes "the --" ++ full_name f ++ codes " option is meaningful only when verifying checksums"
 wording check_needed = codes "--check is required"
 
--- the two lines of a tool of this name
-abbrev pub lines_of : Text → Text → Text
-lines_of name text = name ++ codes ": " ++ text ++ codes "\nTry '" ++ name ++ codes " --help' for more information.\n"
-
+-- the two lines of a tool for a fault
 abbrev pub fault_lines : Tool → Fault → Text
-fault_lines t f = lines_of (name_of t) (wording f)
+fault_lines t f =
+    name_of t ++ codes ": " ++ wording f ++ codes "\nTry '" ++ name_of t ++ codes " --help' for more information.\n"
 
 -- help: what the tool is for, and its options
 abbrev pub purpose : Algos → Text
 purpose (One algo) = codes "Print or check " ++ tag algo ++ codes " checksums."
 purpose Any = codes "Check checksums of tagged lines."
 
-abbrev pub length_help : Tool → Text
-length_help tools.B2sum = codes "  -l, --length=BITS     digest length in bits, a multiple of 8, at most 512\n"
-length_help t = []
+-- an option's line of help: its letter, its full name in 18 columns, and what is said of it
+abbrev pub help_line : Flag → Text
+help_line flag =
+    let name = codes "--" ++ full_name flag ++ (if takes_value flag then codes "=BITS" else []) in
+    (if bytes_eq (row_of flag).0 [] then codes "      " else codes "  -" ++ (row_of flag).0 ++ codes ", ")
+    ++ name ++ replicate (18 - length name) (byte " ") ++ (row_of flag).2 ++ codes "\n"
 
 abbrev pub help : Tool → Text
 help t =
     codes "Usage: " ++ name_of t ++ codes " [OPTION]... [FILE]...\n"
     ++ purpose (algos_of t) ++ codes " With no FILE, or when FILE is -, read standard input.\n"
-    ++ (codes "  -b, --binary          mark each line as binary\n"
-    ++ codes "  -c, --check           read checksums from the FILEs and check them\n")
-    ++ length_help t
-    ++ (codes "      --tag             write lines of the tagged form\n"
-    ++ codes "  -t, --text            mark each line as text (default)\n"
-    ++ codes "  -z, --zero            end each line with NUL and escape no name\n"
-    ++ codes "      --ignore-missing  with -c: neither fail nor report for missing files\n"
-    ++ codes "      --quiet           with -c: print no OK lines\n"
-    ++ codes "      --status          with -c: print no report\n"
-    ++ codes "      --strict          with -c: fail for improperly formatted lines\n"
-    ++ codes "  -w, --warn            with -c: name each improperly formatted line\n"
-    ++ codes "      --help            print this text\n"
-    ++ codes "      --version         print the version\n")
+    ++ flat_map help_line (flags_of t)
 
 abbrev pub version : Tool → Text
 version t = name_of t ++ codes " (digests), profile 2\n"

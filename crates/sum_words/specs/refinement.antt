@@ -3,5 +3,4 @@
 pub mod ItemIterator
 pub mod Request
 pub mod Arguments
-pub mod Shown
 pub mod Pieces

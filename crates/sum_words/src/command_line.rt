@@ -1,7 +1,6 @@
 //! The command line: which tool is asked for, and on which words.
-ghost use Rattle.std.specs.Prelude.{◌≡◌, ◌≤◌, ◌<◌, ◌+◌, ◌*◌, ℕ, length, vec_len, Some, take, IfOk, IfSome, OnOk, OnErr};
+ghost use Rattle.std.specs.Prelude.{◌≡◌, ◌≤◌, ◌<◌, ◌*◌, vec_len, take, IfOk, IfSome, OnOk, OnErr};
 ghost use Rattle.std.specs.Option.{option_map};
-ghost use Rattle.sum_words.specs.Tools.{tool_called};
 ghost use Rattle.sum_words.specs.refinement.Arguments.{ArgumentIs, WordsAre, IsNameOf, IsFirstWord, CallIs, call_of};
 ghost use Rattle.sum_words.specs.refinement.Arguments.{IsLonger, IsThere, IsBadFirstWord, MayBeUnread};
 ghost use Rattle.sum_words.specs.CommandLines.{last_part};
@@ -40,39 +39,48 @@ pub fn read_command_line<A: Allocator + Copy, G: Arguments>(
     ensures line { IfOk result (λ line. CallIs (G.told arguments.now) (call_of line)) }
     ensures not_read { OnErr result (MayBeUnread (G.told arguments.now)) }
 {
-    let mut page = [0; PAGE];
-    let mut more = Vec::new(alloc);
-    let mut tool = tool_called_by_name(arguments, &mut page, &mut more)?;
+    let mut room = Room {
+        page: [0; PAGE],
+        more: Vec::new(alloc),
+    };
+    let mut tool = tool_called_by_name(arguments, &mut room)?;
     let mut first = 1;
     if tool.is_none() {
-        tool = tool_called_by_word(arguments, &mut page, &mut more)?;
+        tool = tool_called_by_word(arguments, &mut room)?;
         first = 2;
     }
-    let words = words_from(alloc, arguments, first, &mut page, &mut more)?;
+    let words = words_from(alloc, arguments, first, &mut room)?;
     match tool {
         Some(tool) => Ok(CommandLine::Asks(tool, words)),
         None => Ok(CommandLine::UnknownTool),
     }
 }
 
-// The argument at this place, `None` past the last. It is copied to the page, or where it is longer to the vector,
-// which grows for it.
-fn argument<'a, A: Allocator, G: Arguments>(
-    arguments: &G,
-    place: usize,
-    page: &'a mut [u8; PAGE],
-    more: &'a mut Vec<u8, A>,
-) -> Result<Option<&'a [u8]>, NotRead>
-    ensures bytes { IfOk result (λ o. ArgumentIs (G.told arguments.now) place (option_map (λ s. s.now) o)) }
-    ensures not_read { OnErr result (IsLonger (G.told arguments.now) place PAGE) }
-{
-    match arguments.fill(place, page) {
-        Ok(len) => Ok(Some(&page[..len])),
-        Err(FillError::NotPresent) => Ok(None),
-        Err(FillError::TooLong) => match fill_growing(arguments, place, more)? {
-            Some(len) => Ok(Some(&more[..len])),
-            None => Ok(None),
-        },
+// Room for one argument at a time: a page, and a vector that grows for what is longer.
+#[derive(Drop)]
+struct Room<A: Allocator> {
+    page: [u8; PAGE],
+    more: Vec<u8, A>,
+}
+
+impl<A: Allocator> Room<A> {
+    // The argument at this place, `None` past the last.
+    fn argument<G: Arguments>(
+        &mut self,
+        arguments: &G,
+        place: usize,
+    ) -> Result<Option<&[u8]>, NotRead>
+        ensures bytes { IfOk result (λ o. ArgumentIs (G.told arguments.now) place (option_map (λ s. s.now) o)) }
+        ensures not_read { OnErr result (IsLonger (G.told arguments.now) place PAGE) }
+    {
+        match arguments.fill(place, &mut self.page) {
+            Ok(len) => Ok(Some(&self.page[..len])),
+            Err(FillError::NotPresent) => Ok(None),
+            Err(FillError::TooLong) => match fill_growing(arguments, place, &mut self.more)? {
+                Some(len) => Ok(Some(&self.more[..len])),
+                None => Ok(None),
+            },
+        }
     }
 }
 
@@ -115,13 +123,12 @@ fn grow<A: Allocator>(more: &mut Vec<u8, A>) -> Result<(), AllocError>
 // The tool that is called by the last part of the name by which the program was called.
 fn tool_called_by_name<A: Allocator, G: Arguments>(
     arguments: &G,
-    page: &mut [u8; PAGE],
-    more: &mut Vec<u8, A>,
+    room: &mut Room<A>,
 ) -> Result<Option<Tool>, NotRead>
     ensures tool { IfOk result (λ tool. IsNameOf (G.told arguments.now) tool) }
     ensures not_read { OnErr result (IsLonger (G.told arguments.now) 0 PAGE) }
 {
-    match argument(arguments, 0, page, more)? {
+    match room.argument(arguments, 0)? {
         Some(path) => Ok(Tool::of_name(last_part(path))),
         None => Ok(None),
     }
@@ -141,13 +148,12 @@ fn last_part(path: &[u8]) -> &[u8]
 #[tactic(auto, using(crate::proofs::CommandLineLemmas::first_is, crate::proofs::CommandLineLemmas::bad_first_is))]
 fn tool_called_by_word<A: Allocator, G: Arguments>(
     arguments: &G,
-    page: &mut [u8; PAGE],
-    more: &mut Vec<u8, A>,
+    room: &mut Room<A>,
 ) -> Result<Option<Tool>, NotRead>
     ensures tool { IfOk result (λ tool. IsFirstWord (G.told arguments.now) tool) }
     ensures not_read { OnErr result (IsBadFirstWord (G.told arguments.now)) }
 {
-    match argument(arguments, 1, page, more)? {
+    match room.argument(arguments, 1)? {
         Some(word) if is_readable(word) => Ok(Tool::of_name(word)),
         Some(_) => Err(NotRead),
         None => Ok(None),
@@ -160,8 +166,7 @@ fn words_from<A: Allocator + Copy, G: Arguments>(
     alloc: A,
     arguments: &G,
     first: usize,
-    page: &mut [u8; PAGE],
-    more: &mut Vec<u8, A>,
+    room: &mut Room<A>,
 ) -> Result<Words<A>, NotRead>
     requires { first < usize.MAX }
     ensures words { IfOk result (λ words. WordsAre (G.told arguments.now) first words) }
@@ -169,7 +174,7 @@ fn words_from<A: Allocator + Copy, G: Arguments>(
 {
     let mut words = Words::new(alloc);
     'places: for place in first..usize::MAX {
-        let Some(word) = argument(arguments, place, page, more)? else {
+        let Some(word) = room.argument(arguments, place)? else {
             return Ok(words);
         };
         if !is_readable(word) {

@@ -3,9 +3,9 @@
 ghost use Rattle.std.specs.Prelude.{◌≡◌, ◌++◌, codes};
 ghost use Rattle.sum_lines.specs.Sinks.{Writes};
 ghost use Rattle.sum_lines.specs.refinement.PartTexts.{part_text};
+ghost use Rattle.sum_words.specs.Faults.{Fault};
 ghost use Rattle.sum_words.specs.refinement.ItemIterator.{fault_of};
-ghost use Rattle.sum_words.specs.refinement.Shown.{shown_text};
-ghost use Rattle.sum_words.specs.Texts.{wording, lines_of, fault_lines, stop_text, stop_line};
+ghost use Rattle.sum_words.specs.Texts.{wording, fault_lines, stop_text, stop_line};
 
 use crate::options::{Flag, Spelling};
 use crate::tool::Tool;
@@ -49,81 +49,60 @@ pub enum WordFault<'a> {
 pub fn put_fault<E: Sink>(err: &mut E, tool: Tool, fault: &WordFault<'_>) -> Result<(), SinkFault>
     ensures { Writes (E.state err.old) (E.state err.new) (fault_lines tool (fault_of fault.now)) result }
 {
-    let name = tool.name();
-    let (prefix, shown, suffix) = wording(fault);
     let mut buffer = [0; 4];
-    match shown {
-        Shown::Nothing => put_lines(err, name, prefix, Part::Bytes(b""), suffix),
-        Shown::FullName(flag) => put_lines(
-            err,
-            name,
-            prefix,
-            Part::Bytes(flag.name().as_bytes()),
-            suffix,
-        ),
-        Shown::Typed(text) => put_lines(err, name, prefix, Part::Escaped(text), suffix),
-        Shown::Letter(letter) => {
-            let text = letter.encode_utf8(&mut buffer);
-            put_lines(err, name, prefix, Part::Escaped(text.as_bytes()), suffix)
-        }
-    }
-}
-
-// What a text shows: nothing, an option's full name, which needs no escape, or what was typed.
-#[derive(Clone, Copy)]
-enum Shown<'a> {
-    Nothing,
-    FullName(Flag),
-    Typed(&'a [u8]),
-    Letter(char),
+    let (prefix, shown, suffix) = wording(*fault, &mut buffer);
+    put_lines(err, tool, prefix, shown, suffix)
 }
 
 // Writes the two lines of a fault, of whose text these are the parts.
 fn put_lines<'a, E: Sink>(
     err: &mut E,
-    name: &'a str,
+    tool: Tool,
     prefix: &'a str,
     shown: Part<'a>,
     suffix: &'a str,
 ) -> Result<(), SinkFault>
-    ensures { Writes (E.state err.old) (E.state err.new)
-        (lines_of name.now (prefix.now ++ part_text shown.entry ++ suffix.now)) result }
+    ensures { (f : Fault) → prefix.now ++ part_text shown.entry ++ suffix.now ≡ wording f →
+        Writes (E.state err.old) (E.state err.new) (fault_lines tool f) result }
 {
-    let name = Part::Bytes(name.as_bytes());
+    let name = Part::Bytes(tool.name().as_bytes());
+    let colon = Part::Bytes(b": ");
     let prefix = Part::Bytes(prefix.as_bytes());
     let suffix = Part::Bytes(suffix.as_bytes());
     let hint = Part::Bytes(b"\nTry '");
     let end = Part::Bytes(b" --help' for more information.\n");
-    let colon = Part::Bytes(b": ");
     put_parts(err, &[name, colon, prefix, shown, suffix, hint, name, end])
 }
 
-// A fault's text: what stands before what it shows of the words, that, and what stands behind it.
+// A fault's text: what stands before what it shows of the words, that, and what stands behind it. A letter that it
+// shows is put into the buffer. A full name needs no escape.
 #[rattlefmt::skip]
-fn wording<'a>(fault: &WordFault<'a>) -> (&'static str, Shown<'a>, &'static str)
-    ensures { result.0.now ++ shown_text result.1 ++ result.2.now ≡ wording (fault_of fault.now) }
+fn wording<'a>(fault: WordFault<'a>, buffer: &'a mut [u8; 4]) -> (&'static str, Part<'a>, &'static str)
+    ensures { result.0.now ++ part_text result.1 ++ result.2.now ≡ wording (fault_of fault.entry) }
 {
-    match *fault {
-        WordFault::UnknownLong(name) => ("unrecognized option '--", Shown::Typed(name.as_bytes()), "'"),
-        WordFault::AmbiguousLong(name) => ("option '--", Shown::Typed(name.as_bytes()), "' is ambiguous"),
-        WordFault::ValueNotAllowed(flag) => ("option '--", Shown::FullName(flag), "' doesn't allow an argument"),
-        WordFault::ValueMissing(Spelling::Long) => ("option '--length' requires an argument", Shown::Nothing, ""),
-        WordFault::ValueMissing(Spelling::Short) => ("option requires an argument -- 'l'", Shown::Nothing, ""),
-        WordFault::UnknownShort(letter) => ("invalid option -- '", Shown::Letter(letter), "'"),
-        WordFault::LengthInvalid(value) => ("invalid length: '", Shown::Typed(value), "'"),
-        WordFault::LengthNotBytes(value) => ("length is not a multiple of 8: '", Shown::Typed(value), "'"),
-        WordFault::TagWithText => ("--tag does not support --text mode", Shown::Nothing, ""),
-        WordFault::ZeroWithCheck =>
-            ("the --zero option is not supported when verifying checksums", Shown::Nothing, ""),
-        WordFault::TagWithCheck =>
-            ("the --tag option is meaningless when verifying checksums", Shown::Nothing, ""),
+    match fault {
+        WordFault::UnknownLong(name) => ("unrecognized option '--", Part::Escaped(name.as_bytes()), "'"),
+        WordFault::AmbiguousLong(name) => ("option '--", Part::Escaped(name.as_bytes()), "' is ambiguous"),
+        WordFault::ValueNotAllowed(flag) =>
+            ("option '--", Part::Bytes(flag.name().as_bytes()), "' doesn't allow an argument"),
+        WordFault::ValueMissing(Spelling::Long) => ("option '--length' requires an argument", NOTHING, ""),
+        WordFault::ValueMissing(Spelling::Short) => ("option requires an argument -- 'l'", NOTHING, ""),
+        WordFault::UnknownShort(letter) =>
+            ("invalid option -- '", Part::Escaped(letter.encode_utf8(buffer).as_bytes()), "'"),
+        WordFault::LengthInvalid(value) => ("invalid length: '", Part::Escaped(value), "'"),
+        WordFault::LengthNotBytes(value) => ("length is not a multiple of 8: '", Part::Escaped(value), "'"),
+        WordFault::TagWithText => ("--tag does not support --text mode", NOTHING, ""),
+        WordFault::ZeroWithCheck => ("the --zero option is not supported when verifying checksums", NOTHING, ""),
+        WordFault::TagWithCheck => ("the --tag option is meaningless when verifying checksums", NOTHING, ""),
         WordFault::ModeWithCheck =>
-            ("the --binary and --text options are meaningless when verifying checksums", Shown::Nothing, ""),
+            ("the --binary and --text options are meaningless when verifying checksums", NOTHING, ""),
         WordFault::NeedsCheck(flag) =>
-            ("the --", Shown::FullName(flag), " option is meaningful only when verifying checksums"),
-        WordFault::CheckNeeded => ("--check is required", Shown::Nothing, ""),
+            ("the --", Part::Bytes(flag.name().as_bytes()), " option is meaningful only when verifying checksums"),
+        WordFault::CheckNeeded => ("--check is required", NOTHING, ""),
     }
 }
+
+const NOTHING: Part<'static> = Part::Bytes(b"");
 
 /// Writes the line for an unknown or missing tool. A fault of the sink where a write failed; of what was held and of
 /// the line a proper prefix is then handed on, and nothing is held.

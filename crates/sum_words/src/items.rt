@@ -3,7 +3,7 @@ ghost use Rattle.std.specs.Prelude.{◌≡◌, ◌==◌, List, ℕ, [], ◌∷�
 ghost use Rattle.std.specs.Option.{option_copied};
 ghost use Rattle.std.specs.List.{starts_with};
 ghost use Rattle.std.specs.Str.{chars};
-ghost use Rattle.sum_words.specs.Items.{a_word, name_part, value_part, long_option, name_or_fault, read_word};
+ghost use Rattle.sum_words.specs.Items.{a_word, name_part, value_part, long_option, name_or_fault};
 ghost use Rattle.sum_words.specs.Items.{attached_value, cluster, is_option_word, is_readable, items_from, operands_of};
 ghost use Rattle.sum_words.specs.refinement.ItemIterator.{items_to_come, read_then, step_says, item_of, TakesFirst};
 ghost use Rattle.sum_words.specs.refinement.ItemIterator.{IsBehind};

@@ -35,20 +35,18 @@ pub enum Spelling {
     Short,
 }
 
+// The options of b2sum, in the order of its help text.
+#[rattlefmt::skip]
 static FLAGS: [Flag; 13] = [
-    Flag::Binary,
-    Flag::Check,
-    Flag::Tag,
-    Flag::Text,
-    Flag::Zero,
-    Flag::IgnoreMissing,
-    Flag::Quiet,
-    Flag::Status,
-    Flag::Strict,
-    Flag::Warn,
-    Flag::Help,
-    Flag::Version,
-    Flag::Length,
+    Flag::Binary, Flag::Check, Flag::Length, Flag::Tag, Flag::Text, Flag::Zero, Flag::IgnoreMissing, Flag::Quiet,
+    Flag::Status, Flag::Strict, Flag::Warn, Flag::Help, Flag::Version,
+];
+
+// Those of the other tools, which have no `--length`.
+#[rattlefmt::skip]
+static COMMON: [Flag; 12] = [
+    Flag::Binary, Flag::Check, Flag::Tag, Flag::Text, Flag::Zero, Flag::IgnoreMissing, Flag::Quiet,
+    Flag::Status, Flag::Strict, Flag::Warn, Flag::Help, Flag::Version,
 ];
 
 impl Flag {
@@ -111,13 +109,13 @@ impl Flag {
     }
 }
 
-// The options of a tool, of which b2sum alone has the last.
+// The options of a tool.
 fn flags(tool: Tool) -> &'static [Flag]
     ensures { result.now ≡ flags_of tool }
 {
     match tool {
         Tool::B2sum => &FLAGS,
-        _ => &FLAGS[..FLAGS.len() - 1],
+        _ => &COMMON,
     }
 }
 
