@@ -1,27 +1,29 @@
 -- What a line begins with, and the parts that it is then read as.
-use Rattle.std.proofs.Common.{ℕ, ◌≡◌, ◌+◌, ◌-◌, ◌*◌, ◌/◌, ◌<◌, Bool, true, false, cond, ◌==◌, List, ◌∷◌, ◌++◌, length, take, drop, get_or, min, Option, None, Some, Ok, IfNone, IfSome, refl, ap, sym, ◌∙◌, arith, length-append, length-drop}
-use Rattle.std.specs.List.{starts_with, position_or_len}
+use Rattle.std.proofs.Common.{ℕ, ◌≡◌, ◌+◌, ◌-◌, ◌*◌, ◌/◌, ◌<◌, ◌≤◌, Bool, true, false, cond, ◌==◌, List, ◌∷◌, ◌++◌, length, take, drop, get_or, min, Option, None, Some, Ok, IfNone, IfSome, refl, ap, sym, ◌∙◌, arith, length-append, length-drop}
+use Rattle.std.specs.List.{position_or_len}
 use Rattle.std.proofs.lemmas.Bool.{eqb-true, lt-ltb}
-use Rattle.std.proofs.lemmas.Bool.Decides.{Decides-eqb}
-use Rattle.std.proofs.lemmas.List.{drop_at, get_or-take, length-take, take_rest}
+use Rattle.std.proofs.lemmas.List.{get_or-take, length-take, take_rest}
 use Rattle.std.proofs.lemmas.List.Elements.{All-get_or}
 use Rattle.std.proofs.lemmas.List.Sums.{passes_at_first, position_or_len_is}
 use Rattle.std.proofs.lemmas.Option.{cond_some}
-use Rattle.std.proofs.lemmas.Slice.Eq.{starts_is}
+use Rattle.std.proofs.lemmas.List.Prefix.{front_fits}
 use Rattle.memchr.specs.Find.{IsFirstByte, is_byte2}
 use Rattle.hex.specs.Hex.{decode_of, is_hex_digit}
 use Rattle.hex.proofs.HexLemmas.{decode_of-ok}
-use Rattle.digest_kinds.specs.Kinds.{KindValue, all_algos, full_len, has_len, tag}
+use Rattle.digest_kinds.specs.Kinds.{KindValue, full_len, has_len, tag}
 use Rattle.digest_kinds.specs.declared.algo.Algo.{Algo}
 use Rattle.digest_kinds.specs.declared.algo.Algo.TheVariants.{Blake2b}
 use Rattle.digest_kinds.specs.declared.algo.Algos.{Algos}
-use Rattle.digest_kinds.specs.declared.algo.Algos.TheVariants.{One, Any}
-use Rattle.digest_kinds.proofs.TagLemmas.{IfSome-find-begins}
+use Rattle.digest_kinds.specs.declared.algo.Algos.TheVariants.{One}
+use Rattle.sum_lines.specs.declared.line_reading.Form.{Form}
+use Rattle.sum_lines.specs.Entries.{form_then, line_form}
 use Rattle.sum_lines.specs.Shapes.{is_blank}
-use Rattle.sum_lines.specs.PartsOfLines.{Parts, after_while, strip_prefix, mark_and_rest, algo_at, plain_as, plain_parts, tagged_as, tagged_parts}
-use Rattle.sum_lines.specs.refinement.Beginnings.{tag_in, EndsAt, EndsDigits, ByTag}
-use Rattle.sum_lines.proofs.PrefixLemmas.{none_of, strip_prefix-append}
+use Rattle.sum_lines.specs.PartsOfLines.{Parts, after_while, mark_and_rest, plain_as, plain_parts, tag_in, tagged_as, tagged_parts}
+use Rattle.sum_lines.specs.refinement.Beginnings.{EndsAt, EndsDigits}
+use Rattle.sum_lines.proofs.PrefixLemmas.{none_of}
 use Rattle.sum_lines.proofs.TaggedLemmas.{hex-no_blank}
+use Rattle.sum_lines.proofs.EntryLemmas.{form_then-last}
+use Rattle.sum_lines.proofs.TaggedParts.{tag_in-some}
 use Rattle.sum_lines.proofs.ScanLemmas.{decoded-size}
 use Rattle.sum_lines.proofs.PlainLemmas.{cut-within, no_prefix, plain-digits, plain-prefix, plain_as-some, read_is_plain}
 use Rattle.sum_lines.proofs.BlankLemmas.{cut-size, searched-none, searched-some}
@@ -32,55 +34,44 @@ text line = mark_and_rest (after_while is_blank line)
 
 -- ---- the tag
 
--- a test that gives nothing fails
-cond_none : {A : Type 0} (b : Bool) (x : A) → cond b (Some x) None ≡ None → b ≡ false
-cond_none true x h = cc
-cond_none false x h = refl
+-- a text that begins with a tag is as long
+pub tag-within : {e : Bool} {s front : List ℕ} (algos : Algos) (line : List ℕ) (a : Algo)
+    → (e, s) ≡ text line → front ≡ tag a → tag_in algos (text line).1 ≡ Some a → length front ≤ length s
+tag-within algos line a is tag_is h =
+    let found = tag_in-some {algos = algos} h in
+    let rest = ap (λ (x : Bool × List ℕ). x.1) is in
+    rw (tag_is, rest) (front_fits (text line).1 (tag a) _ found.is)
 
--- the algorithm that is found has its tag in front, and is the one that a tagged line is read by
-pub record TagFound (algos : Algos) (s : List ℕ) (a : Algo) : Type 0 where
-  pub rest : List ℕ
-  pub is : s ≡ tag a ++ rest
-  pub algo : algo_at algos s ≡ Some a
+-- a line that begins with a tag isn't plain
+pub tag-not_plain : (algos : Algos) (line : List ℕ) (a : Algo) → tag_in algos (text line).1 ≡ Some a
+    → None ≡ plain_parts algos line
+tag-not_plain algos line a h =
+    let found = tag_in-some {algos = algos} h in
+    none_of (plain_parts algos line) (λ p plain.
+    let is = read_is_plain plain in
+    let digits = plain-digits is in
+    let same : (text line).1 ≡ is.digits ++ (is.blank ∷ p.text) = ap (λ (x : Bool × List ℕ). x.1) (plain-prefix is) in
+    no_prefix a is.digits (is.blank ∷ p.text) _ digits.are digits.two (sym same ∙ found.is))
 
-pub tag_in-some : {algos : Algos} {s : List ℕ} {a : Algo} → tag_in algos s ≡ Some a → TagFound algos s a
-tag_in-some {algos = One b} {s} {a} h =
-    let found = cond_some (starts_with ◌==◌ s (tag b)) b a h in
-    rw (← found.1) (record {
-      rest = drop (length (tag b)) s;
-      is = (starts_is Decides-eqb s (tag b) (starts_with ◌==◌ s (tag b)) refl).0 found.0;
-      algo = refl;
-    })
-tag_in-some {algos = Any} {s} {a} h =
-    let found = rw h at (IfSome-find-begins s all_algos) in
-    record { rest = found.0; is = found.1; algo = h }
-
--- a line that begins with a tag is read behind it, and isn't plain
-pub by-tag : (algos : Algos) (line : List ℕ) (a : Algo) → tag_in algos (text line).1 ≡ Some a
-    → ByTag algos line (text line).0 (text line).1 a
-unfolding tagged_parts
-by-tag algos line a h =
-    let s : List ℕ = (text line).1 in
-    let found = tag_in-some {algos = algos} {s = s} {a = a} h in
-    let behind : drop (length (tag a)) s ≡ found.rest =
-    ap (drop (length (tag a))) found.is ∙ drop_at (tag a) found.rest (length (tag a)) refl in
-    let strip : strip_prefix (tag a) s ≡ Some (drop (length (tag a)) s) =
-    ap (strip_prefix (tag a)) found.is ∙ strip_prefix-append (tag a) found.rest ∙ ap Some (sym behind) in
-    record {
-      within = omega (arith, ap length found.is, length-append (tag a) found.rest);
-      tagged = rw (found.algo, strip) refl;
-      plain = none_of (plain_parts algos line) (λ p plain.
-          let is = read_is_plain plain in
-          let digits = plain-digits is in
-          let same : s ≡ is.digits ++ (is.blank ∷ p.text) = ap (λ (x : Bool × List ℕ). x.1) (plain-prefix is) in
-          no_prefix a is.digits (is.blank ∷ p.text) found.rest digits.are digits.two (sym same ∙ found.is));
-    }
+-- so it leaves the form as it was
+pub tag-mute : (algos : Algos) (line : List ℕ) (a : Algo) (f : Form) → tag_in algos (text line).1 ≡ Some a
+    → f ≡ form_then f (line_form algos line)
+tag-mute algos line a f h = rw (← tag-not_plain algos line a h) (sym (form_then-last f))
 
 -- a line without a tag isn't tagged
 pub untagged : (algos : Algos) (line : List ℕ) → tag_in algos (text line).1 ≡ None → None ≡ tagged_parts algos line
 unfolding tagged_parts
-untagged (One a) line h = rw (cond_none (starts_with ◌==◌ (text line).1 (tag a)) a h) refl
-untagged Any line h = rw h refl
+untagged algos line h = rw h refl
+
+-- what is read behind the tag is read of the line
+pub tag-parts : {e : Bool} {s front : List ℕ} (algos : Algos) (line : List ℕ) (a : Algo) (o : Option Parts)
+    → (e, s) ≡ text line → front ≡ tag a → tag_in algos (text line).1 ≡ Some a
+    → o ≡ tagged_as a e (take (length s - length front) (drop (length front) s)) → o ≡ tagged_parts algos line
+unfolding tagged_parts
+tag-parts {e} {s} {front} algos line a o is tag_is found parts =
+    let mark : e ≡ (text line).0 = ap (λ (x : Bool × List ℕ). x.0) is in
+    let rest : s ≡ (text line).1 = ap (λ (x : Bool × List ℕ). x.1) is in
+    rw found (rw (take_rest s (length front), tag_is, mark, rest) at parts)
 
 -- ---- the blank behind the digits
 
@@ -131,16 +122,15 @@ first-blank s d at within blank spelled =
     hex-no_blank (get_or s k 0) (rw (get_or-take at s k 0 less) at hex))
     (λ _. blank)
 
--- what is read behind the tag is read of the line
-pub tag-parts : {e : Bool} {s front : List ℕ} (algos : Algos) (line : List ℕ) (a : Algo) (o : Option Parts)
-    → (e, s) ≡ text line → front ≡ tag a → ByTag algos line (text line).0 (text line).1 a
-    → o ≡ tagged_as a e (take (length s - length front) (drop (length front) s)) → o ≡ tagged_parts algos line
-tag-parts {e} {s} {front} algos line a o is tag_is by parts =
-    let mark : e ≡ (text line).0 = ap (λ (x : Bool × List ℕ). x.0) is in
-    let rest : s ≡ (text line).1 = ap (λ (x : Bool × List ℕ). x.1) is in
-    rw (take_rest s (length front), tag_is, mark, rest) at parts ∙ sym by.tagged
-
 -- ---- a plain line with such digits
+
+-- what is read of the text is read of the line
+pub digits-parts : {e : Bool} {s : List ℕ} {algos : Algos} (line : List ℕ) (a : Algo) (o : Option Parts)
+    → (e, s) ≡ text line → algos ≡ One a → o ≡ plain_as a e s → o ≡ plain_parts algos line
+digits-parts line a o is one parts =
+    let mark = ap (λ (x : Bool × List ℕ). x.0) is in
+    let rest = ap (λ (x : Bool × List ℕ). x.1) is in
+    rw one (rw (mark, rest) at parts)
 
 -- what it holds
 pub record Spelled (a : Algo) (s : List ℕ) (at : ℕ) (p : Parts) : Type 0 where

@@ -11,10 +11,10 @@ use Rattle.std.proofs.lemmas.Slice.Eq.{bytes_eq-Decides}
 use Rattle.sum_lines.specs.Profiles.{Profile}
 use Rattle.sum_lines.specs.Escape.{escape_of, escape_by}
 use Rattle.sum_lines.specs.Entries.{Spells}
-use Rattle.sum_lines.specs.ParsedLines.{unescaped_bytes, unescape, name_of, entry_of_parts}
+use Rattle.sum_lines.specs.ParsedLines.{unescaped_bytes, unescape, entry_of_parts}
 use Rattle.sum_lines.specs.Entries.{Spelled}
 use Rattle.sum_lines.specs.PartsOfLines.{Parts}
-use Rattle.sum_lines.proofs.PrefixLemmas.{bind_some, map_some}
+use Rattle.sum_lines.proofs.PrefixLemmas.{bind_some}
 
 -- a byte that stands for itself
 plain-first : (b : ℕ) (rest : List ℕ) → (b == 92) ≡ false → unescaped_bytes (b ∷ rest) ≡ b ∷ unescaped_bytes rest
@@ -93,7 +93,6 @@ spelled-is p t n s = rw (unescape-if p t.escaped t.text n s.is, all-of n s.no_nu
 pub is-spelled : (p : Profile) (t : Parts) (s : Spelled) → entry_of_parts p t ≡ Some s
     → (n : List ℕ) × Spells (escape_by p) t.escaped t.text n × (entry t n ≡ s)
 is-spelled p t s h =
-    let m = map_some (entry t) (name_of p t.escaped t.text) h in
-    let n = bind_some (cond t.escaped (unescape p t.text) (Some t.text)) _ m.1 in
-    let e = cond_some (list_all (nat_lt 0) n.0) n.0 m.0 n.2 in
-    (n.0, record { no_nul = of-all n.0 e.0; is = escape-if p t.escaped t.text n.0 n.1 }, ap (entry t) e.1 ∙ m.2)
+    let n = bind_some (cond t.escaped (unescape p t.text) (Some t.text)) _ h in
+    let e = cond_some (list_all (nat_lt 0) n.0) (entry t n.0) s n.2 in
+    (n.0, record { no_nul = of-all n.0 e.0; is = escape-if p t.escaped t.text n.0 n.1 }, e.1)

@@ -5,7 +5,7 @@ use Rattle.sum_lines.proofs.PlainLemmas.{has_len-some}
 use Rattle.sum_lines.proofs.PrefixLemmas.{none_of}
 use Rattle.sum_lines.proofs.BeginningLemmas.{plain-read, plain-spelled}
 use Rattle.sum_lines.proofs.ScanLemmas.{decoded-digits, ends-behind, has_len-most, tail-place}
-use Rattle.sum_lines.proofs.plain.plain_as.Goals as goal
+use Rattle.sum_lines.proofs.plain.plain.Goals as goal
 
 -- no digest has that length
 pub returns-in_err-kind-clause-parts : goal.returns-in_err-kind-clause-parts
