@@ -1,5 +1,5 @@
 -- What a line says, computed; it need not be believed: the law `says_is` ties it to the relation `Entry`.
-use Rattle.std.specs.Prelude.{ℕ, ◌==◌, Bool, List, ◌∷◌, drop, nat_lt, bytes_eq, Option, None, Some, if◌then◌else◌}
+use Rattle.std.specs.Prelude.{ℕ, ◌==◌, List, ◌∷◌, drop, nat_lt, bytes_eq, Option, None, Some, if◌then◌else◌}
 use Rattle.std.specs.Option.{option_or, option_map_or}
 use Rattle.std.specs.List.{list_all}
 use Rattle.digest_kinds.specs.declared.algo.Algos.{Algos}

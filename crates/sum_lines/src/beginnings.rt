@@ -1,8 +1,7 @@
 //! What a line begins with. Most bad lines are told by that, and none of the rest is read.
 
 ghost use Rattle.std.specs.Prelude.{◌≡◌, Bool, IfNone, IfSome, None};
-ghost use Rattle.sum_lines.specs.Shapes.{is_blank};
-ghost use Rattle.sum_lines.specs.PartsOfLines.{after_while, mark_and_rest, plain_as, plain_parts, tag_in, tagged_parts};
+ghost use Rattle.sum_lines.specs.PartsOfLines.{plain_as, plain_parts, tag_in, tagged_parts};
 ghost use Rattle.sum_lines.specs.refinement.Beginnings.{LeadsTo, EndsAt, EndsDigits};
 
 use crate::scanning::{is_blank, text_in};
@@ -27,7 +26,7 @@ pub(crate) enum Beginning {
 pub(crate) fn find_beginning(algos: Algos, line: &[u8]) -> Option<Beginning>
     ensures tagged { IfNone result (None ≡ tagged_parts algos line.now) }
     ensures plain { IfNone result (None ≡ plain_parts algos line.now) }
-    ensures leads { IfSome result (LeadsTo algos (mark_and_rest (after_while is_blank line.now)).1) }
+    ensures leads { IfSome result (LeadsTo algos line.now) }
 {
     let (_, text) = text_in(line);
     if let Some(algo) = tag_in(algos, text) {

@@ -4,8 +4,6 @@ ghost use Rattle.std.specs.Prelude.{◌≡◌, ◌≤◌, None, Some, drop, if�
 ghost use Rattle.std.specs.List.{list_all};
 ghost use Rattle.std.specs.Option.{option_and_then, option_map_or};
 ghost use Rattle.sum_lines.specs.Entries.{begins_standard, form_of_tail, form_then, is_ignored, line_form};
-ghost use Rattle.sum_lines.specs.Shapes.{is_blank};
-ghost use Rattle.sum_lines.specs.PartsOfLines.{after_while, mark_and_rest};
 ghost use Rattle.sum_lines.specs.ParsedLines.{Improper, WithEntry, entry_of, entry_of_parts, parse_line, unescape};
 ghost use Rattle.sum_lines.specs.ParsedLines.{with_raw};
 ghost use Rattle.sum_lines.specs.Profiles.{present};
@@ -16,7 +14,7 @@ ghost use Rattle.sum_lines.specs.refinement.Found.{line_parts, text_of};
 use crate::beginnings::{Beginning, find_beginning};
 use crate::escape::unescape_in;
 use crate::plain::plain;
-use crate::scanning::{LineParts, text_in};
+use crate::scanning::LineParts;
 use crate::tagged::tagged;
 use digest_kinds::{Algos, Digest, Kind};
 use memchr::memchr;
@@ -91,20 +89,19 @@ fn read_begun<A: Allocator>(
     line: &mut Vec<u8, A>,
     beginning: Beginning,
 ) -> (Reading, Form)
-    requires { LeadsTo algos (mark_and_rest (after_while is_blank line.old.items)).1 beginning }
+    requires { LeadsTo algos line.old.items beginning }
     ensures form { result.1 ≡ form_then form (line_form algos line.old.items) }
     ensures says { parsed_line_by line.new.items result.0
         ≡ option_map_or WithEntry (entry_of present algos result.1 line.old.items) Improper }
     ensures within { Within line.new.items result.0 }
     ensures len { vec_len line.new ≤ vec_len line.old }
 {
-    let (escaped, text) = text_in(line);
     match beginning {
-        Beginning::Tag(algo) => match tagged(algo, line, escaped, &text[algo.tag().len()..]) {
+        Beginning::Tag(algo) => match tagged(algo, line) {
             Some(found) => (read_name(line, found), form),
             None => (Reading::Bad, form),
         },
-        Beginning::Digits(algo, at) => match plain(algo, line, escaped, text, at) {
+        Beginning::Digits(algo, at) => match plain(algo, line, at) {
             Some(found) => read_tail(form, line, found),
             None => (Reading::Bad, form),
         },

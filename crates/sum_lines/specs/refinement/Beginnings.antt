@@ -7,7 +7,7 @@ use Rattle.digest_kinds.specs.declared.algo.Algos.TheVariants.{One}
 use Rattle.sum_lines.specs.declared.beginnings.Beginning.{Beginning}
 use Rattle.sum_lines.specs.declared.beginnings.Beginning.TheVariants as beginnings
 use Rattle.sum_lines.specs.Shapes.{is_blank}
-use Rattle.sum_lines.specs.PartsOfLines.{Parts, plain_as, tag_in}
+use Rattle.sum_lines.specs.PartsOfLines.{Parts, after_while, mark_and_rest, plain_as, plain_parts, tag_in, tagged_parts}
 
 -- a plain line with such a text has its first blank at that place
 abbrev pub EndsAt : Algo → List ℕ → ℕ → Type 0
@@ -19,7 +19,19 @@ pub record EndsDigits (a : Algo) (s : List ℕ) (at : ℕ) : Type 0 where
   pub blank : is_blank (get_or s at 0) ≡ true
   pub place : EndsAt a s at
 
--- what is to be read of a line that has such a text
+-- the algorithm's tag begins the line's text: it is read as tagged, and isn't plain
+pub record ByTag (algos : Algos) (line : List ℕ) (a : Algo) : Type 0 where
+  pub begins : tag_in (One a) (mark_and_rest (after_while is_blank line)).1 ≡ Some a
+  pub tagged : tagged_parts algos line ≡ tagged_parts (One a) line
+  pub plain : None ≡ plain_parts algos line
+
+-- the algorithm's digits would end at that place: it is read as plain, and isn't tagged
+pub record ByDigits (algos : Algos) (line : List ℕ) (a : Algo) (at : ℕ) : Type 0 where
+  pub ends : EndsDigits a (mark_and_rest (after_while is_blank line)).1 at
+  pub tagged : None ≡ tagged_parts algos line
+  pub plain : plain_parts algos line ≡ plain_parts (One a) line
+
+-- what is to be read of a line that begins so
 abbrev pub LeadsTo : Algos → List ℕ → Beginning → Type 0
-LeadsTo algos s (beginnings.Tag a) = tag_in algos s ≡ Some a
-LeadsTo algos s (beginnings.Digits a at) = (algos ≡ One a) × (tag_in algos s ≡ None) × EndsDigits a s at
+LeadsTo algos line (beginnings.Tag a) = ByTag algos line a
+LeadsTo algos line (beginnings.Digits a at) = ByDigits algos line a at

@@ -1,12 +1,12 @@
-use Rattle.std.proofs.Common.{Bool, List, ℕ, ap, sym}
-use Rattle.sum_lines.proofs.BeginningLemmas.{untagged}
+use Rattle.std.proofs.Common.{Bool, List, ℕ, refl, ap, sym}
+use Rattle.sum_lines.proofs.BeginningLemmas.{by-tag, untagged}
 use Rattle.sum_lines.proofs.beginnings.find_beginning.Goals as goal
 
 -- a tag stands in front
 pub returns-in-Some-clause-leads : goal.returns-in-Some-clause-leads
 returns-in-Some-clause-leads c =
     let text = ap (λ (x : Bool × List ℕ). x.1) c.text_in.ensures.text in
-    rw text at (sym c.in-Some.ensures)
+    by-tag c.args.algos c.args.line.now c.in-Some.algo (rw text at (sym c.in-Some.ensures))
 
 -- no blank stands where the digits would end
 pub returns-in_err-digits_end-in-One-clause-tagged : goal.returns-in_err-digits_end-in-One-clause-tagged
@@ -18,7 +18,11 @@ returns-in_err-digits_end-in-One-clause-tagged c =
 pub returns-in_ok-digits_end-in-One-clause-leads : goal.returns-in_ok-digits_end-in-One-clause-leads
 returns-in_ok-digits_end-in-One-clause-leads c =
     let text = ap (λ (x : Bool × List ℕ). x.1) c.text_in.ensures.text in
-    (c.in-One.is, rw text at (sym c.in_default.ensures), rw text at c.in_ok-digits_end-in-One.ensures.some)
+    record {
+      ends = rw text at c.in_ok-digits_end-in-One.ensures.some;
+      tagged = untagged c.args.algos c.args.line.now (rw text at (sym c.in_default.ensures));
+      plain = rw c.in-One.is refl;
+    }
 
 -- no tag stands in front, and no line is plain
 pub returns-in-Any-clause-tagged : goal.returns-in-Any-clause-tagged
