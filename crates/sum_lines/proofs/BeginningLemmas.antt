@@ -1,27 +1,28 @@
 -- What a line begins with, and the parts that it is then read as.
-use Rattle.std.proofs.Common.{ℕ, ◌≡◌, ◌+◌, ◌-◌, ◌*◌, ◌/◌, ◌<◌, Bool, true, false, cond, ◌==◌, List, ◌∷◌, ◌++◌, length, take, drop, get_or, min, Option, None, Some, Ok, IfNone, IfSome, refl, ap, sym, ◌∙◌, arith, length-append, length-drop}
-use Rattle.std.specs.List.{starts_with, position_or_len}
+use Rattle.std.proofs.Common.{ℕ, ◌≡◌, ◌+◌, ◌-◌, ◌*◌, ◌/◌, ◌<◌, ◌≤◌, Bool, true, cond, ◌==◌, List, ◌∷◌, ◌++◌, length, take, drop, get_or, min, Option, None, Some, Ok, IfNone, IfSome, refl, ap, sym, ◌∙◌, arith, length-drop}
+use Rattle.std.specs.List.{position_or_len, starts_with}
 use Rattle.std.proofs.lemmas.Bool.{eqb-true, lt-ltb}
-use Rattle.std.proofs.lemmas.Bool.Decides.{Decides-eqb}
-use Rattle.std.proofs.lemmas.List.{drop_at, get_or-take, length-take, take_rest}
+use Rattle.std.proofs.lemmas.List.{get_or-take, length-take, take_rest}
 use Rattle.std.proofs.lemmas.List.Elements.{All-get_or}
 use Rattle.std.proofs.lemmas.List.Sums.{passes_at_first, position_or_len_is}
 use Rattle.std.proofs.lemmas.Option.{cond_some}
+use Rattle.std.proofs.lemmas.Bool.Decides.{Decides-eqb}
+use Rattle.std.proofs.lemmas.List.Prefix.{front_fits}
 use Rattle.std.proofs.lemmas.Slice.Eq.{starts_is}
 use Rattle.memchr.specs.Find.{IsFirstByte, is_byte2}
 use Rattle.hex.specs.Hex.{decode_of, is_hex_digit}
 use Rattle.hex.proofs.HexLemmas.{decode_of-ok}
-use Rattle.digest_kinds.specs.Kinds.{KindValue, all_algos, full_len, has_len, tag}
+use Rattle.digest_kinds.specs.Kinds.{KindValue, full_len, has_len, tag}
 use Rattle.digest_kinds.specs.declared.algo.Algo.{Algo}
 use Rattle.digest_kinds.specs.declared.algo.Algo.TheVariants.{Blake2b}
 use Rattle.digest_kinds.specs.declared.algo.Algos.{Algos}
-use Rattle.digest_kinds.specs.declared.algo.Algos.TheVariants.{One, Any}
-use Rattle.digest_kinds.proofs.TagLemmas.{IfSome-find-begins}
+use Rattle.digest_kinds.specs.declared.algo.Algos.TheVariants.{One}
 use Rattle.sum_lines.specs.Shapes.{is_blank}
-use Rattle.sum_lines.specs.PartsOfLines.{Parts, after_while, strip_prefix, mark_and_rest, algo_at, plain_as, plain_parts, tagged_as, tagged_parts}
-use Rattle.sum_lines.specs.refinement.Beginnings.{tag_in, EndsAt, EndsDigits, ByTag}
-use Rattle.sum_lines.proofs.PrefixLemmas.{none_of, strip_prefix-append}
+use Rattle.sum_lines.specs.PartsOfLines.{Parts, after_while, mark_and_rest, plain_as, plain_parts, tag_in, tagged_as, tagged_parts}
+use Rattle.sum_lines.specs.refinement.Beginnings.{EndsAt, EndsDigits, ByTag}
+use Rattle.sum_lines.proofs.PrefixLemmas.{none_of}
 use Rattle.sum_lines.proofs.TaggedLemmas.{hex-no_blank}
+use Rattle.sum_lines.proofs.TaggedParts.{tag_in-some}
 use Rattle.sum_lines.proofs.ScanLemmas.{decoded-size}
 use Rattle.sum_lines.proofs.PlainLemmas.{cut-within, no_prefix, plain-digits, plain-prefix, plain_as-some, read_is_plain}
 use Rattle.sum_lines.proofs.BlankLemmas.{cut-size, searched-none, searched-some}
@@ -32,55 +33,41 @@ text line = mark_and_rest (after_while is_blank line)
 
 -- ---- the tag
 
--- a test that gives nothing fails
-cond_none : {A : Type 0} (b : Bool) (x : A) → cond b (Some x) None ≡ None → b ≡ false
-cond_none true x h = cc
-cond_none false x h = refl
-
--- the algorithm that is found has its tag in front, and is the one that a tagged line is read by
-pub record TagFound (algos : Algos) (s : List ℕ) (a : Algo) : Type 0 where
-  pub rest : List ℕ
-  pub is : s ≡ tag a ++ rest
-  pub algo : algo_at algos s ≡ Some a
-
-pub tag_in-some : {algos : Algos} {s : List ℕ} {a : Algo} → tag_in algos s ≡ Some a → TagFound algos s a
-tag_in-some {algos = One b} {s} {a} h =
-    let found = cond_some (starts_with ◌==◌ s (tag b)) b a h in
-    rw (← found.1) (record {
-      rest = drop (length (tag b)) s;
-      is = (starts_is Decides-eqb s (tag b) (starts_with ◌==◌ s (tag b)) refl).0 found.0;
-      algo = refl;
-    })
-tag_in-some {algos = Any} {s} {a} h =
-    let found = rw h at (IfSome-find-begins s all_algos) in
-    record { rest = found.0; is = found.1; algo = h }
-
 -- a line that begins with a tag is read behind it, and isn't plain
-pub by-tag : (algos : Algos) (line : List ℕ) (a : Algo) → tag_in algos (text line).1 ≡ Some a
-    → ByTag algos line (text line).0 (text line).1 a
+pub by-tag : (algos : Algos) (line : List ℕ) (a : Algo) → tag_in algos (text line).1 ≡ Some a → ByTag algos line a
 unfolding tagged_parts
 by-tag algos line a h =
     let s : List ℕ = (text line).1 in
     let found = tag_in-some {algos = algos} {s = s} {a = a} h in
-    let behind : drop (length (tag a)) s ≡ found.rest =
-    ap (drop (length (tag a))) found.is ∙ drop_at (tag a) found.rest (length (tag a)) refl in
-    let strip : strip_prefix (tag a) s ≡ Some (drop (length (tag a)) s) =
-    ap (strip_prefix (tag a)) found.is ∙ strip_prefix-append (tag a) found.rest ∙ ap Some (sym behind) in
+    let begins : tag_in (One a) s ≡ Some a =
+    rw ((starts_is Decides-eqb s (tag a) (starts_with ◌==◌ s (tag a)) refl).1 _ found.is) refl in
     record {
-      within = omega (arith, ap length found.is, length-append (tag a) found.rest);
-      tagged = rw (found.algo, strip) refl;
+      begins = begins;
+      tagged = rw (h, begins) refl;
       plain = none_of (plain_parts algos line) (λ p plain.
           let is = read_is_plain plain in
           let digits = plain-digits is in
           let same : s ≡ is.digits ++ (is.blank ∷ p.text) = ap (λ (x : Bool × List ℕ). x.1) (plain-prefix is) in
-          no_prefix a is.digits (is.blank ∷ p.text) found.rest digits.are digits.two (sym same ∙ found.is));
+          no_prefix a is.digits (is.blank ∷ p.text) _ digits.are digits.two (sym same ∙ found.is));
     }
 
 -- a line without a tag isn't tagged
 pub untagged : (algos : Algos) (line : List ℕ) → tag_in algos (text line).1 ≡ None → None ≡ tagged_parts algos line
 unfolding tagged_parts
-untagged (One a) line h = rw (cond_none (starts_with ◌==◌ (text line).1 (tag a)) a h) refl
-untagged Any line h = rw h refl
+untagged algos line h = rw h refl
+
+-- a text that begins with a tag is as long
+pub tag-within : {a : Algo} {front : List ℕ} (s : List ℕ) → front ≡ tag a → tag_in (One a) s ≡ Some a
+    → length front ≤ length s
+tag-within {a} s is h = let found = tag_in-some {algos = One a} {s = s} h in rw is (front_fits s (tag a) _ found.is)
+
+-- what is read behind the tag is read of the line
+pub tag-parts : {a : Algo} {e : Bool} {s front : List ℕ} (line : List ℕ) (o : Option Parts)
+    → (e, s) ≡ text line → front ≡ tag a → tag_in (One a) (text line).1 ≡ Some a
+    → o ≡ tagged_as a e (take (length s - length front) (drop (length front) s)) → o ≡ tagged_parts (One a) line
+unfolding tagged_parts
+tag-parts {s = s} {front = front} line o is tag_is found parts =
+    rw (found, ← is) (rw (take_rest s (length front), tag_is) at parts)
 
 -- ---- the blank behind the digits
 
@@ -131,15 +118,6 @@ first-blank s d at within blank spelled =
     hex-no_blank (get_or s k 0) (rw (get_or-take at s k 0 less) at hex))
     (λ _. blank)
 
--- what is read behind the tag is read of the line
-pub tag-parts : {e : Bool} {s front : List ℕ} (algos : Algos) (line : List ℕ) (a : Algo) (o : Option Parts)
-    → (e, s) ≡ text line → front ≡ tag a → ByTag algos line (text line).0 (text line).1 a
-    → o ≡ tagged_as a e (take (length s - length front) (drop (length front) s)) → o ≡ tagged_parts algos line
-tag-parts {e} {s} {front} algos line a o is tag_is by parts =
-    let mark : e ≡ (text line).0 = ap (λ (x : Bool × List ℕ). x.0) is in
-    let rest : s ≡ (text line).1 = ap (λ (x : Bool × List ℕ). x.1) is in
-    rw (take_rest s (length front), tag_is, mark, rest) at parts ∙ sym by.tagged
-
 -- ---- a plain line with such digits
 
 -- what it holds
@@ -171,3 +149,8 @@ plain-read a e s {d} {at} k ends spelled kind =
     let some : 0 < length (drop (at + 1) s) = omega (arith, rest, within) in
     rw (first-blank s d at (omega (arith, within)) ends.blank spelled, spelled, fits)
     (rw (lt-ltb 0 (length (drop (at + 1) s)) some, ← half, has.1) refl)
+
+-- and its digest is as long as its kind says
+pub plain-size : (a : Algo) (e : Bool) (s : List ℕ) {p : Parts} → Some p ≡ plain_as a e s
+    → length p.digest ≡ p.kind.len
+plain-size a e s h = let cut = plain_as-some (sym h) in rw (← cut.is) refl

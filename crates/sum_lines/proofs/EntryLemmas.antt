@@ -1,7 +1,6 @@
 -- The parts of entries, and the one form of a list of lines.
 use Rattle.std.proofs.Common.{ℕ, ◌≡◌, Bool, true, false, cond, List, [], ◌∷◌, ◌++◌, Option, None, Some, refl, ap, sym, ◌∙◌, ◌⊎◌, inl, inr}
-use Rattle.std.specs.Prelude.{option_map, unwrap_or}
-use Rattle.std.specs.List.{AllPass}
+use Rattle.std.specs.List.{AllPass, cons_option, filter_map, slice_get}
 use Rattle.std.proofs.lemmas.List.Elements.{All-head}
 use Rattle.digest_kinds.specs.Kinds.{KindValue, tag}
 use Rattle.digest_kinds.specs.declared.algo.Algos.{Algos}
@@ -9,7 +8,7 @@ use Rattle.sum_lines.specs.declared.line_reading.Form.{Form}
 use Rattle.sum_lines.specs.declared.line_reading.Form.TheVariants.{Undecided, Standard, Reversed}
 use Rattle.sum_lines.specs.Shapes.{is_blank, mark, Plain, Tagged}
 use Rattle.sum_lines.specs.PartsOfLines.{Parts, plain_parts}
-use Rattle.sum_lines.specs.Entries.{is_ignored, begins_standard, form_of_tail, Decides, IsForm, Spelled, kind_of, ByTag, ByTail, form_then, line_form, form}
+use Rattle.sum_lines.specs.Entries.{is_ignored, begins_standard, form_of_tail, Decides, IsForm, Spelled, kind_of, ByTag, ByTail, form_by, form_then, line_form, form}
 use Rattle.sum_lines.specs.Laws.{OneForm}
 use Rattle.sum_lines.proofs.TaggedLemmas.{Begins, tag-begins, passes-other}
 use Rattle.sum_lines.proofs.PlainLemmas.{plain-digits, plain_is_read, read_is_plain}
@@ -33,9 +32,15 @@ keeps : (b : Bool) (g : Form) → form_then (cond b Standard Reversed) g ≡ con
 keeps true g = refl
 keeps false g = refl
 
--- the form by what was found of a line
-abbrev pub form_of_parts : Option Parts → Form
-form_of_parts o = unwrap_or (option_map (λ (p : Parts). form_of_tail p.text) o) Undecided
+-- the first line's form, or else that of the later ones
+pub form-step : (algos : Algos) (line : List ℕ) (later : List (List ℕ))
+    → form algos (line ∷ later) ≡ form_then (line_form algos line) (form algos later)
+form-step algos line later = go (plain_parts algos line)
+  where
+    go : (o : Option Parts) → form_by (slice_get (cons_option o (filter_map (plain_parts algos) later)) 0)
+        ≡ form_then (form_by o) (form algos later)
+    go None = refl
+    go (Some p) = sym (keeps (begins_standard p.text) (form algos later))
 
 -- the parts of a line that decides
 abbrev decided_parts : {algos : Algos} {line : List ℕ} {f : Form} → Decides algos line f → Parts
@@ -46,7 +51,7 @@ pub decides-form : {algos : Algos} {line : List ℕ} {f : Form} → Decides algo
     → (line_form algos line ≡ f) × ((g : Form) → form_then f g ≡ f)
 decides-form {algos} {line} d =
     let here : line_form algos line ≡ form_of_tail d.tail =
-    ap form_of_parts (plain_is_read (decided_parts d) d.plain) in
+    ap form_by (plain_is_read (decided_parts d) d.plain) in
     (here ∙ sym d.is, λ g. rw d.is (keeps (begins_standard d.tail) g))
 
 -- a line of either shape isn't ignored
@@ -76,7 +81,7 @@ tagged-speaks {e = e} {kind = kind} t =
 
 -- a line that is found to be plain decides; any other decides nothing
 decided : (algos : Algos) (line : List ℕ) (o : Option Parts) → o ≡ plain_parts algos line
-    → Decides algos line (form_of_parts o) ⊎ ((o ≡ None) × ((f : Form) → Decides algos line f → ⊥))
+    → Decides algos line (form_by o) ⊎ ((o ≡ None) × ((f : Form) → Decides algos line f → ⊥))
 decided algos line None h = inr (refl, λ f d. let bad = h ∙ plain_is_read (decided_parts d) d.plain in cc)
 decided algos line (Some p) h =
     let plain = read_is_plain (sym h) in
@@ -95,7 +100,7 @@ pub decides-or : (algos : Algos) (line : List ℕ) → Decides algos line (line_
     ⊎ ((line_form algos line ≡ Undecided) × ((f : Form) → Decides algos line f → ⊥))
 decides-or algos line = elim (decided algos line (plain_parts algos line) refl) [
   | inl d ↦ inl d
-  | inr none ↦ inr (ap form_of_parts none.0, none.1)
+  | inr none ↦ inr (ap form_by none.0, none.1)
 ]
 
 -- an ignored line decides nothing
@@ -109,17 +114,18 @@ ignored-mute algos line h = elim (decides-or algos line) [
 is-form : (algos : Algos) (lines : List (List ℕ)) → IsForm algos lines (form algos lines)
 is-form algos [] = refl
 is-form algos (line ∷ later) = elim (decides-or algos line) [
-  | inl d ↦ let own = decides-form d in rw (own.1 (form algos later)) (inl d)
-  | inr none ↦ rw none.0 (inr (none.1, is-form algos later))
+  | inl d ↦ let own = decides-form d in rw (form-step algos line later, own.1 (form algos later)) (inl d)
+  | inr none ↦ rw (form-step algos line later, none.0) (inr (none.1, is-form algos later))
 ]
 
 -- a list's form is the one that is computed
 form-is : (algos : Algos) (lines : List (List ℕ)) (f : Form) → IsForm algos lines f → f ≡ form algos lines
 form-is algos [] f h = h
-form-is algos (line ∷ later) f (inl d) = let own = decides-form d in rw own.0 (sym (own.1 (form algos later)))
+form-is algos (line ∷ later) f (inl d) =
+    let own = decides-form d in rw (form-step algos line later, own.0) (sym (own.1 (form algos later)))
 form-is algos (line ∷ later) f (inr none) = elim (decides-or algos line) [
   | inl d ↦ absurd (none.0 (line_form algos line) d)
-  | inr mute ↦ rw mute.0 (form-is algos later f none.1)
+  | inr mute ↦ rw (form-step algos line later, mute.0) (form-is algos later f none.1)
 ]
 
 -- a list of lines has the computed form, and no other
@@ -133,15 +139,23 @@ pub form_then-last : (f : Form) → form_then f Undecided ≡ f
 form_then-last Undecided = refl
 form_then-last f = refl
 
--- the form of lines behind lines: that of the first ones, or else of the later ones
-pub form_then-again : (f g h : Form) → form_then (form_then f g) h ≡ form_then f (form_then g h)
-form_then-again Undecided g h = refl
-form_then-again f g h = refl
+-- the form so far, then a line's, then that of the rest
+pub form_on : (f x g : Form) → form_then f (form_then x g) ≡ form_then (form_then f x) g
+form_on Undecided x g = refl
+form_on f x g = refl
 
 -- the form of two lists, one behind the other
-pub form-append : (algos : Algos) (before after : List (List ℕ))
+form-append : (algos : Algos) (before after : List (List ℕ))
     → form algos (before ++ after) ≡ form_then (form algos before) (form algos after)
 form-append algos [] after = refl
 form-append algos (line ∷ before) after =
-    ap (form_then (line_form algos line)) (form-append algos before after)
-    ∙ sym (form_then-again (line_form algos line) (form algos before) (form algos after))
+    form-step algos line (before ++ after) ∙ ap (form_then (line_form algos line)) (form-append algos before after)
+    ∙ form_on (line_form algos line) (form algos before) (form algos after)
+    ∙ ap (λ f. form_then f (form algos after)) (sym (form-step algos line before))
+
+-- the form of all lines, at a line
+pub form_at : (algos : Algos) (before later : List (List ℕ)) (line : List ℕ) → form algos (before ++ (line ∷ later))
+    ≡ form_then (form_then (form algos before) (line_form algos line)) (form algos later)
+form_at algos before later line =
+    form-append algos before (line ∷ later) ∙ ap (form_then (form algos before)) (form-step algos line later)
+    ∙ form_on (form algos before) (line_form algos line) (form algos later)

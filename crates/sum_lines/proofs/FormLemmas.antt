@@ -1,20 +1,18 @@
 -- What comes behind a line has no part in what it says.
 use Rattle.std.proofs.Common.{◌≡◌, ℕ, Bool, true, cond, List, ◌∷◌, ◌++◌, Option, None, Some, refl, ap, sym, ◌∙◌}
+use Rattle.std.specs.Option.{option_map_or}
 use Rattle.digest_kinds.specs.declared.algo.Algos.{Algos}
 use Rattle.sum_lines.specs.declared.line_reading.Form.{Form}
 use Rattle.sum_lines.specs.declared.line_reading.Form.TheVariants.{Undecided, Standard, Reversed}
 use Rattle.sum_lines.specs.Profiles.{Profile}
-use Rattle.sum_lines.specs.Entries.{form, form_then, line_form, form_of_tail, is_ignored_by, begins_standard}
+use Rattle.sum_lines.specs.Entries.{form, form_by, form_then, line_form, form_of_tail, is_ignored_by, begins_standard}
 use Rattle.sum_lines.specs.PartsOfLines.{◌>>=◌, Parts, tagged_parts, plain_parts}
-use Rattle.sum_lines.specs.ParsedLines.{with_raw, entry_of_parts, entry_of, Nothing, parse_line, parsed_line_of}
+use Rattle.sum_lines.specs.ParsedLines.{with_raw, entry_of_parts, entry_of, Nothing, Improper, WithEntry, parse_line}
 use Rattle.sum_lines.specs.Laws.{SameSaid, SameForm}
 use Rattle.sum_lines.proofs.PlainLemmas.{plain_is_read}
-use Rattle.sum_lines.proofs.EntryLemmas.{form_of_parts, form_then-again, form-append}
+use Rattle.sum_lines.proofs.EntryLemmas.{form_at}
+pub use Rattle.sum_lines.proofs.EntryLemmas.{form_on}
 use Rattle.sum_lines.proofs.ParsedLineLemmas.{entry_by}
-
--- the form so far, then a line's, then that of the rest
-pub form_on : (f x g : Form) → form_then f (form_then x g) ≡ form_then (form_then f x) g
-form_on f x g = sym (form_then-again f x g)
 
 -- what is decided stays
 pub decided : (f : Form) (b : Bool) (g : Form)
@@ -24,7 +22,7 @@ decided f b g = refl
 
 -- so later lines leave the entry as it is
 entry_stays : (p : Profile) (f g : Form) (t q : Option Parts)
-    → entry_by p (form_then (form_then f (form_of_parts q)) g) t q ≡ entry_by p (form_then f (form_of_parts q)) t q
+    → entry_by p (form_then (form_then f (form_by q)) g) t q ≡ entry_by p (form_then f (form_by q)) t q
 entry_stays p f g None (Some q) = ap (λ x. with_raw x q >>= entry_of_parts p) (decided f (begins_standard q.text) g)
 entry_stays p f g t q = refl
 
@@ -34,14 +32,8 @@ pub said_stays : (p : Profile) (algos : Algos) (f g : Form) (line : List ℕ)
     ≡ parse_line p algos (form_then f (line_form algos line)) line
 unfolding entry_of
 said_stays p algos f g line =
-    ap (λ o. cond (is_ignored_by p line) Nothing (parsed_line_of o))
+    ap (λ o. cond (is_ignored_by p line) Nothing (option_map_or WithEntry o Improper))
     (entry_stays p f g (tagged_parts algos line) (plain_parts algos line))
-
--- the form of all lines, at a line
-form_at : (algos : Algos) (before later : List (List ℕ)) (line : List ℕ) → form algos (before ++ (line ∷ later))
-    ≡ form_then (form_then (form algos before) (line_form algos line)) (form algos later)
-form_at algos before later line =
-    form-append algos before (line ∷ later) ∙ form_on (form algos before) (line_form algos line) (form algos later)
 
 -- what a line says is said of it and of the lines before it
 parsed_line_alone : (p : Profile) (algos : Algos) (before later : List (List ℕ)) (line : List ℕ)
@@ -69,5 +61,5 @@ form_alone algos before later line tail own =
 pub same_form : SameForm
 same_form algos before later others line e kind d tail plain =
     let p : Parts = record { escaped = e; kind = kind; digest = d; text = tail } in
-    let own : line_form algos line ≡ form_of_tail tail = ap form_of_parts (plain_is_read p plain) in
+    let own : line_form algos line ≡ form_of_tail tail = ap form_by (plain_is_read p plain) in
     form_alone algos before later line tail own ∙ sym (form_alone algos before others line tail own)

@@ -1,5 +1,5 @@
 -- A line that is written is read back.
-use Rattle.std.proofs.Common.{ℕ, ◌≡◌, true, List, [], ◌∷◌, ◌++◌, refl, ap, sym, ◌∙◌, ◌⊎◌, inl, inr, append_assoc}
+use Rattle.std.proofs.Common.{ℕ, ◌≡◌, true, List, [], ◌∷◌, ◌++◌, refl, ap, sym, ◌⊎◌, inl, inr, append_assoc}
 use Rattle.std.specs.List.{All}
 use Rattle.std.proofs.lemmas.List.{append-nil}
 use Rattle.hex.specs.Hex.{encode_lower}
@@ -17,7 +17,7 @@ use Rattle.sum_lines.specs.Shapes.{mark, Width, Allows}
 use Rattle.sum_lines.specs.Entries.{Spelled, ByTag, Entry, line_form, form}
 use Rattle.sum_lines.specs.Laws.{ReadBy, Writable, SpellsBack, ReadBack}
 use Rattle.sum_lines.proofs.PlainLemmas.{apart}
-use Rattle.sum_lines.proofs.EntryLemmas.{decides-form, decides-or, form_then-last, form-append}
+use Rattle.sum_lines.proofs.EntryLemmas.{decides-form, decides-or, form_at}
 use Rattle.sum_lines.proofs.ParsedLineLemmas.{one_entry}
 use Rattle.sum_lines.proofs.InlineLemmas.{Inline, inline}
 use Rattle.sum_lines.proofs.LineFormatShapes.{line-tag, plain_line, tagged_line, written_for, is_space_or_star, plain-decides, plain-entry, tagged-by, tagged-entry, Inline-plain, Inline-tagged}
@@ -36,15 +36,15 @@ Readable f = (f ≡ Undecided) ⊎ (f ≡ Standard)
 -- a line that makes a list Standard does so behind any readable lines
 form-after : (algos : Algos) (before later : List (List ℕ)) (line : List ℕ) → line_form algos line ≡ Standard
     → Readable (form algos before) → form algos (before ++ (line ∷ later)) ≡ Standard
-form-after algos before later line h (inl undecided) = rw (form-append algos before (line ∷ later), undecided, h) refl
-form-after algos before later line h (inr standard) = rw (form-append algos before (line ∷ later), standard) refl
+form-after algos before later line h (inl undecided) = rw (form_at algos before later line, undecided, h) refl
+form-after algos before later line h (inr standard) = rw (form_at algos before later line, standard) refl
 
 -- a line that decides nothing leaves the form as it is
 form-kept : (algos : Algos) (before : List (List ℕ)) (line : List ℕ) → line_form algos line ≡ Undecided
     → Readable (form algos before) → Readable (form algos (before ++ (line ∷ [])))
 form-kept algos before line h (inl undecided) =
-    inl (rw (form-append algos before (line ∷ []), undecided) (form_then-last (line_form algos line) ∙ h))
-form-kept algos before line h (inr standard) = inr (rw (form-append algos before (line ∷ []), standard) refl)
+    inl (rw (form_at algos before [] line, undecided, h) refl)
+form-kept algos before line h (inr standard) = inr (rw (form_at algos before [] line, standard) refl)
 
 -- a tagged line is no plain one, and decides nothing
 tagged-mute : (algos : Algos) (line : List ℕ) (s : Spelled) → ByTag escape algos line s

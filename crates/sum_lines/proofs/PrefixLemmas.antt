@@ -21,6 +21,11 @@ pub bind_some : {A B : Type 0} {y : B} (o : Option A) (f : A → Option B) → (
 bind_some None f h = cc
 bind_some (Some x) f h = (x, refl, h)
 
+-- where each step that may come gives nothing, nothing comes
+pub bind_none : {A B : Type 0} (o : Option A) (f : A → Option B) → ((x : A) → o ≡ Some x → f x ≡ None) → None ≡ (o >>= f)
+bind_none None f h = refl
+bind_none (Some x) f h = sym (h x refl)
+
 -- a mapped option holds what its own element gives
 pub map_some : {A B : Type 0} {y : B} (f : A → B) (o : Option A) → option_map f o ≡ Some y
     → (x : A) × (o ≡ Some x) × (f x ≡ y)
@@ -97,11 +102,13 @@ strip_prefix-some xs ys zs h =
     let e = cond_some (starts_with ◌==◌ ys xs) (drop (length xs) ys) zs h in
     (starts_is Decides-eqb ys xs (starts_with ◌==◌ ys xs) refl).0 e.0 ∙ ap (λ l. xs ++ l) e.1
 
--- and what stands in front is passed over
+-- a text that stands in front is found there
+pub starts-append : (xs ys : List ℕ) → starts_with ◌==◌ (xs ++ ys) xs ≡ true
+starts-append xs ys = (starts_is Decides-eqb (xs ++ ys) xs (starts_with ◌==◌ (xs ++ ys) xs) refl).1 ys refl
+
+-- and is passed over
 pub strip_prefix-append : (xs ys : List ℕ) → strip_prefix xs (xs ++ ys) ≡ Some ys
-strip_prefix-append xs ys =
-    let here = (starts_is Decides-eqb (xs ++ ys) xs (starts_with ◌==◌ (xs ++ ys) xs) refl).1 ys refl in
-    rw (here, drop_at xs ys (length xs) refl) refl
+strip_prefix-append xs ys = rw (starts-append xs ys, drop_at xs ys (length xs) refl) refl
 
 -- the parenthesis is found, with a space before it or without
 pub opened-some : (s inner : List ℕ) → option_or (strip_prefix (32 ∷ 40 ∷ []) s) (strip_prefix (40 ∷ []) s) ≡ Some inner

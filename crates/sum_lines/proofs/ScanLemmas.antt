@@ -1,9 +1,10 @@
 -- What the scanning functions answer, step by step.
-use Rattle.std.proofs.Common.{ℕ, ◌≡◌, ◌≢◌, ◌+◌, ◌-◌, ◌*◌, ◌<◌, ◌≤◌, Bool, true, false, eq-eqb, ◌==◌, nat_le, List, [], ◌∷◌, ◌++◌, length, take, drop, get_or, slice_range, Option, None, Some, MatchOption, IfSome, IsSome, Ok, Bor, refl, ap, sym, ◌∙◌, arith, inl, inr, append_assoc, length-append}
+use Rattle.std.proofs.Common.{ℕ, ◌≡◌, ◌≢◌, ◌+◌, ◌-◌, ◌*◌, ◌<◌, ◌≤◌, Bool, true, false, eq-eqb, ◌==◌, nat_le, List, [], ◌∷◌, ◌++◌, length, take, drop, get_or, slice_range, Option, None, Some, MatchOption, Ok, Bor, refl, ap, sym, ◌∙◌, arith, inl, inr, append_assoc, length-append}
 use Rattle.std.specs.List.{take_while}
 use Rattle.std.specs.Option.{option_copied, option_or}
 use Rattle.std.specs.Path.{rsplit_once, rfind_below}
-use Rattle.std.proofs.lemmas.Bool.{cases_Bool, eqb-true, and_parts, leb-true, lt-ltb}
+use Rattle.std.specs.Result.{result_ok}
+use Rattle.std.proofs.lemmas.Bool.{cases_Bool, eqb-true, and_parts, leb-true, lt-ltb, ne_eqb}
 use Rattle.std.proofs.lemmas.List.{append-nil, drop_at, take_at}
 use Rattle.memchr.specs.Find.{Nowhere, Passes, IsLastByte, is_byte}
 use Rattle.hex.specs.Hex.{decode_of}
@@ -13,10 +14,10 @@ use Rattle.digest_kinds.specs.Digits.{IsDigits}
 use Rattle.digest_kinds.specs.declared.algo.Algo.{Algo}
 use Rattle.digest_kinds.specs.declared.algo.Algo.TheVariants.{Blake2b}
 use Rattle.sum_lines.specs.Shapes.{is_blank, mark, optional}
-use Rattle.sum_lines.specs.PartsOfLines.{after_while, strip_prefix, mark_and_rest, digest_at, width_at, tagged_as}
+use Rattle.sum_lines.specs.PartsOfLines.{after_while, strip_prefix, mark_and_rest, width_at, tagged_as}
 use Rattle.sum_lines.specs.refinement.Found.{EndsIn}
-use Rattle.sum_lines.proofs.PrefixLemmas.{none_of, strip_prefix-some, strip_prefix-append, prefix-and-rest, opened-some, rfind-at, rfind-none, mark_and_rest-is}
-use Rattle.sum_lines.proofs.TaggedParts.{digest_at-some, width_at-some}
+use Rattle.sum_lines.proofs.PrefixLemmas.{bind_none, none_of, ok_some, strip_prefix-some, strip_prefix-append, prefix-and-rest, opened-some, rfind-at, rfind-none, mark_and_rest-is}
+use Rattle.sum_lines.proofs.TaggedParts.{width_at-some}
 
 -- ---- a text in front
 
@@ -71,25 +72,14 @@ decoded-digits s d h some few =
     let size = decoded-size s d h in
     record { some = omega arith; few = omega arith; even = omega arith; digits = (decode_of-ok s d h).1 }
 
--- other digits are read as no digest of that length
-pub digest_other : (s : List ℕ) (n : ℕ) → (length s ≡ 2 * n → ⊥) → None ≡ digest_at n s
-digest_other s n other = none_of (digest_at n s) (λ d h.
-    let is = digest_at-some n s d h in
-    let size = decoded-size s d is.0 in
-    let len = is.1 in
-    other (omega (arith, size, len)))
+-- other digits spell no digest of that length
+pub digest_other : (s d : List ℕ) (n : ℕ) → (length s ≡ 2 * n → ⊥) → decode_of s ≡ Ok d → length d ≢ n
+digest_other s d n other spelled same = let size = decoded-size s d spelled in other (omega (arith, size, same))
 
--- as many digits are read as what decoding them gives
-pub digest_from : (s : List ℕ) (n : ℕ) (r : Option (List ℕ)) → 1 ≤ n → n ≤ 64 → length s ≡ 2 * n
-    → IfSome r (λ d. decode_of s ≡ Ok d) → (IsDigits s → IsSome r) → r ≡ digest_at n s
-digest_from s n (Some d) some few len spelled found =
-    let size = decoded-size s d spelled in
-    let same : length d ≡ n = omega (arith, size, len) in
-    rw (spelled, eq-eqb (length d) n same) refl
-digest_from s n None some few len spelled found = none_of (digest_at n s) (λ d h.
-    let is = digest_at-some n s d h in
-    let same = is.1 in
-    let bad = found (decoded-digits s d is.0 (omega (arith, some, same)) (omega (arith, few, same))) in cc)
+-- nor do such as the code reads none of
+pub digest_none : (s d : List ℕ) (n : ℕ) → 1 ≤ n → n ≤ 64 → (IsDigits s → ⊥) → decode_of s ≡ Ok d → length d ≢ n
+digest_none s d n some few none spelled same =
+    none (decoded-digits s d spelled (omega (arith, some, same)) (omega (arith, few, same)))
 
 -- ---- where the parts stand in the line
 
@@ -145,11 +135,28 @@ tail-place {line} {tail} ends =
 -- what was read step by step behind the tag is read as the line's parts
 pub tagged-read : {w : KindValue × List ℕ} {inner digits d : List ℕ} {name : List ℕ × List ℕ}
     (a : Algo) (e : Bool) (s : List ℕ) → Some w ≡ width_at a s
-    → Some inner ≡ option_or (strip_prefix (32 ∷ 40 ∷ []) w.1) (strip_prefix (40 ∷ []) w.1) → Some name
-    ≡ rsplit_once 41 inner
-    → Some digits ≡ strip_prefix (61 ∷ []) (after_while is_blank name.1)
-    → Some d ≡ digest_at w.0.len (after_while is_blank digits) → 0 < length name.0
+    → Some inner ≡ option_or (strip_prefix (32 ∷ 40 ∷ []) w.1) (strip_prefix (40 ∷ []) w.1)
+    → Some name ≡ rsplit_once 41 inner → Some digits ≡ strip_prefix (61 ∷ []) (after_while is_blank name.1)
+    → decode_of (after_while is_blank digits) ≡ Ok d → length d ≡ w.0.len → 0 < length name.0
     → Some (record { escaped = e; kind = w.0; digest = d; text = name.0 }) ≡ tagged_as a e s
 unfolding tagged_as
-tagged-read {name = name} a e s width opened split sign digest some =
-    rw (← width, ← opened, ← split, ← sign, ← digest, lt-ltb 0 (length name.0) some) refl
+tagged-read {w = w} {d = d} {name = name} a e s width opened split sign spelled size some = rw (
+  ← width,
+  ← opened,
+  ← split,
+  ← sign,
+  spelled,
+  eq-eqb (length d) w.0.len size,
+  lt-ltb 0 (length name.0) some,
+) refl
+
+-- digits that spell no digest of the kind's length give no parts
+pub tagged-none : {w : KindValue × List ℕ} {inner digits : List ℕ} {name : List ℕ × List ℕ}
+    (a : Algo) (e : Bool) (s : List ℕ) → Some w ≡ width_at a s
+    → Some inner ≡ option_or (strip_prefix (32 ∷ 40 ∷ []) w.1) (strip_prefix (40 ∷ []) w.1)
+    → Some name ≡ rsplit_once 41 inner → Some digits ≡ strip_prefix (61 ∷ []) (after_while is_blank name.1)
+    → ((d : List ℕ) → decode_of (after_while is_blank digits) ≡ Ok d → length d ≢ w.0.len) → None ≡ tagged_as a e s
+unfolding tagged_as
+tagged-none {w = w} {digits = digits} a e s width opened split sign none = rw (← width, ← opened, ← split, ← sign)
+    (bind_none (result_ok (decode_of (after_while is_blank digits))) _
+    (λ d h. rw (ne_eqb (length d) w.0.len (none d (ok_some _ d h))) refl))

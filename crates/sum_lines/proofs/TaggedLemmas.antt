@@ -1,6 +1,6 @@
 -- A line that joins from the parts of a tagged line is read as these parts.
 use Rattle.std.proofs.Common.{ℕ, ◌≡◌, ◌*◌, ◌<◌, ◌≤◌, Bool, true, false, ◌==◌, nat_le, eq-eqb, List, [], ◌∷◌, ◌++◌, length, Some, refl, ap, sym, ◌∙◌, arith, inl, inr}
-use Rattle.std.proofs.lemmas.List.{append-nil, drop_all}
+use Rattle.std.proofs.lemmas.List.{append-nil, drop_all, drop_at}
 use Rattle.std.specs.List.{AllPass, take_while, prefix_len}
 use Rattle.std.specs.Fmt.{decimal}
 use Rattle.std.proofs.lemmas.Bool.{and_parts, leb-true, lt-ltb}
@@ -15,8 +15,8 @@ use Rattle.digest_kinds.specs.declared.algo.Algos.{Algos}
 use Rattle.digest_kinds.specs.declared.algo.Algos.TheVariants.{One, Any}
 use Rattle.sum_lines.specs.Shapes.{is_blank, mark, optional, Width, Allows, Tagged}
 use Rattle.std.specs.Char.{is_ascii_digit}
-use Rattle.sum_lines.specs.PartsOfLines.{Parts, after_while, mark_and_rest, algo_at, width_at, tagged_as, tagged_parts}
-use Rattle.sum_lines.proofs.PrefixLemmas.{prefix-at, rest-at, prefix_len-all, strip_prefix-append, opened-at, rsplit-at, isn't}
+use Rattle.sum_lines.specs.PartsOfLines.{Parts, after_while, mark_and_rest, tag_in, width_at, tagged_as, tagged_parts}
+use Rattle.sum_lines.proofs.PrefixLemmas.{prefix-at, rest-at, prefix_len-all, starts-append, opened-at, rsplit-at, isn't}
 use Rattle.sum_lines.proofs.BitsLemmas.{kind_at-bits, decimal-digits}
 use Rattle.digest_kinds.proofs.TagLemmas.{find-begins}
 use Rattle.sum_lines.proofs.TaggedParts.{IsTagged}
@@ -107,9 +107,9 @@ width_at-of kind w g s (inr bits) =
 -- ---- the tag
 
 -- the tag that stands there is found
-pub algo_at-tag : (algos : Algos) (a : Algo) (s : List ℕ) → Allows algos a → algo_at algos (tag a ++ s) ≡ Some a
-algo_at-tag (One b) a s allowed = ap Some (sym allowed)
-algo_at-tag Any a s allowed = find-begins a s
+pub tag_in-tag : (algos : Algos) (a : Algo) (s : List ℕ) → Allows algos a → tag_in algos (tag a ++ s) ≡ Some a
+tag_in-tag (One b) a s allowed = rw (← allowed, starts-append (tag a) s) refl
+tag_in-tag Any a s allowed = find-begins a s
 
 -- ---- blanks, digits and the parenthesis
 
@@ -188,8 +188,8 @@ module _ {algos : Algos} {line : List ℕ} (p : Parts) (t : IsTagged algos line 
   unfolding tagged_parts tagged_as
   tagged_is_read = rw (
     tagged-prefix t,
-    algo_at-tag algos p.kind.algo (behind_tag t) t.allowed,
-    strip_prefix-append (tag p.kind.algo) (behind_tag t),
+    tag_in-tag algos p.kind.algo (behind_tag t) t.allowed,
+    drop_at (tag p.kind.algo) (behind_tag t) (length (tag p.kind.algo)) refl,
     width_at-of p.kind t.width t.gap (inner_of t) t.is_width,
     opened-at t.gap (inner_of t),
     rsplit-at 41 p.text (behind_name t) behind-free,

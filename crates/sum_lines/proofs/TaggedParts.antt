@@ -1,32 +1,43 @@
 -- What is read of a tagged line joins to the line.
-use Rattle.std.proofs.Common.{ℕ, ◌≡◌, Bool, true, ◌==◌, List, [], ◌∷◌, ◌++◌, length, Some, Ok, refl, ap, inl, inr}
+use Rattle.std.proofs.Common.{ℕ, ◌≡◌, Bool, true, ◌==◌, ◌&&◌, List, [], ◌∷◌, ◌++◌, length, drop, Some, refl, ap, inl, inr}
 use Rattle.std.specs.Prelude.{nat_lt}
 use Rattle.std.specs.Char.{is_ascii_digit}
-use Rattle.std.specs.List.{take_while}
+use Rattle.std.specs.List.{starts_with, take_while}
 use Rattle.std.specs.Option.{option_map, option_or}
 use Rattle.std.specs.Path.{rsplit_once}
 use Rattle.std.specs.Result.{result_ok}
-use Rattle.std.proofs.lemmas.Bool.{eqb-true, ltb-true, and_from, le-leb}
-use Rattle.std.proofs.lemmas.Bool.Decides.{eqb_tells}
+use Rattle.std.proofs.lemmas.Bool.{eqb-true, ltb-true, and_from, and_parts, le-leb}
+use Rattle.std.proofs.lemmas.Bool.Decides.{Decides-eqb, eqb_tells}
+use Rattle.std.proofs.lemmas.List.Prefix.{front_rest}
+use Rattle.std.proofs.lemmas.Slice.Eq.{starts_is}
 use Rattle.std.proofs.lemmas.Option.{cond_some, same_Some}
 use Rattle.hex.specs.Hex.{decode_of}
-use Rattle.digest_kinds.specs.Kinds.{KindValue, full_kind, has_len, tag}
+use Rattle.digest_kinds.specs.Kinds.{KindValue, all_algos, full_kind, has_len, tag}
+use Rattle.digest_kinds.proofs.TagLemmas.{IfSome-find-begins}
 use Rattle.digest_kinds.specs.declared.algo.Algo.{Algo}
 use Rattle.digest_kinds.specs.declared.algo.Algo.TheVariants.{Blake2b}
 use Rattle.digest_kinds.specs.declared.algo.Algos.{Algos}
 use Rattle.digest_kinds.specs.declared.algo.Algos.TheVariants.{One, Any}
 use Rattle.sum_lines.specs.Shapes.{is_blank, Width, Allows, Tagged}
-use Rattle.sum_lines.specs.PartsOfLines.{Parts, after_while, strip_prefix, mark_and_rest, algo_at, digest_at, kind_at, width_at, tagged_as, tagged_parts}
+use Rattle.sum_lines.specs.PartsOfLines.{Parts, after_while, strip_prefix, mark_and_rest, tag_in, kind_at, width_at, tagged_as, tagged_parts}
 use Rattle.sum_lines.proofs.PrefixLemmas.{bind_some, map_some, ok_some, prefix-passes, prefix-and-rest, mark_and_rest-is, strip_prefix-some, opened-some, rsplit-some}
 use Rattle.sum_lines.proofs.BitsLemmas.{kind_at-some}
 
--- digits that are read as a digest spell it, and it has the length that was asked for
-pub digest_at-some : (n : ℕ) (digits d : List ℕ) → digest_at n digits ≡ Some d
-    → (decode_of digits ≡ Ok d) × (length d ≡ n)
-digest_at-some n digits d h =
-    let found = bind_some (result_ok (decode_of digits)) _ h in
-    let e = cond_some (length found.0 == n) found.0 d found.2 in
-    rw (← e.1) (ok_some _ found.0 found.1, eqb-true (length found.0) n e.0)
+-- ---- the tag
+
+-- the algorithm that is found is allowed, and its tag stands in front
+pub record TagFound (algos : Algos) (s : List ℕ) (a : Algo) : Type 0 where
+  pub allowed : Allows algos a
+  pub is : s ≡ tag a ++ drop (length (tag a)) s
+
+pub tag_in-some : {algos : Algos} {s : List ℕ} {a : Algo} → tag_in algos s ≡ Some a → TagFound algos s a
+tag_in-some {algos = One b} {s} {a} h =
+    let found = cond_some (starts_with ◌==◌ s (tag b)) b a h in
+    let is = (starts_is Decides-eqb s (tag b) (starts_with ◌==◌ s (tag b)) refl).0 found.0 in
+    rw (← found.1) (record { allowed = refl; is = is })
+tag_in-some {algos = Any} {s} {a} h =
+    let found = rw h at (IfSome-find-begins s all_algos) in
+    record { allowed = tt; is = rw (front_rest s (tag a) found.0 found.1) found.1 }
 
 -- ---- between the tag and the name
 
@@ -73,29 +84,25 @@ width_at-some a s w h = wide-none a s w h
 abbrev pub IsTagged : Algos → List ℕ → Parts → Type 0
 IsTagged algos line p = Tagged algos line p.escaped p.kind p.digest p.text
 
--- the algorithm that is looked for is allowed
-algo_at-allowed : (algos : Algos) (s : List ℕ) (a : Algo) → algo_at algos s ≡ Some a → Allows algos a
-algo_at-allowed (One b) s a h = cc
-algo_at-allowed Any s a h = tt
-
 -- a line that is read as tagged is tagged
 pub read_is_tagged : {algos : Algos} {line : List ℕ} {p : Parts} → tagged_parts algos line ≡ Some p
     → IsTagged algos line p
 unfolding tagged_parts tagged_as
 read_is_tagged {algos} {line} {p} h =
     let text : Bool × List ℕ = mark_and_rest (after_while is_blank line) in
-    let algo = bind_some (algo_at algos text.1) _ h in
-    let rest = bind_some (strip_prefix (tag algo.0) text.1) _ algo.2 in
-    let width = bind_some (width_at algo.0 rest.0) _ rest.2 in
-    let inner = bind_some (option_or (strip_prefix (32 ∷ 40 ∷ []) width.0.1) (strip_prefix (40
-    ∷ []) width.0.1)) _ width.2 in
+    let algo = bind_some (tag_in algos text.1) _ h in
+    let rest : List ℕ = drop (length (tag algo.0)) text.1 in
+    let width = bind_some (width_at algo.0 rest) _ algo.2 in
+    let w : List ℕ = width.0.1 in
+    let inner = bind_some (option_or (strip_prefix (32 ∷ 40 ∷ []) w) (strip_prefix (40 ∷ []) w)) _ width.2 in
     let name = bind_some (rsplit_once 41 inner.0) _ inner.2 in
     let digits = bind_some (strip_prefix (61 ∷ []) (after_while is_blank name.0.1)) _ name.2 in
-    let digest = bind_some (digest_at width.0.0.len (after_while is_blank digits.0)) _ digits.2 in
-    let is = cond_some (nat_lt 0 (length name.0.0)) _ p digest.2 in
-    let spelled = digest_at-some width.0.0.len (after_while is_blank digits.0) digest.0 digest.1 in
-    let wide = width_at-some algo.0 rest.0 width.0 width.1 in
-    let gap = opened-some width.0.1 inner.0 inner.1 in
+    let digest = bind_some (result_ok (decode_of (after_while is_blank digits.0))) _ digits.2 in
+    let is = cond_some (length digest.0 == width.0.0.len && nat_lt 0 (length name.0.0)) _ p digest.2 in
+    let fits = and_parts (length digest.0 == width.0.0.len) (nat_lt 0 (length name.0.0)) is.0 in
+    let found = tag_in-some {algos = algos} {s = text.1} {a = algo.0} algo.1 in
+    let wide = width_at-some algo.0 rest width.0 width.1 in
+    let gap = opened-some w inner.0 inner.1 in
     rw (← is.1) (record {
       blanks = take_while is_blank line;
       width = wide.width;
@@ -103,14 +110,14 @@ read_is_tagged {algos} {line} {p} h =
       before = take_while is_blank name.0.1;
       after = take_while is_blank digits.0;
       digits = after_while is_blank digits.0;
-      allowed = rw wide.is_algo (algo_at-allowed algos text.1 algo.0 algo.1);
+      allowed = rw wide.is_algo found.allowed;
       are_blanks = prefix-passes is_blank line;
       is_width = wide.is_width;
-      some = ltb-true 0 (length name.0.0) is.0;
+      some = ltb-true 0 (length name.0.0) fits.1;
       before_blanks = prefix-passes is_blank name.0.1;
       after_blanks = prefix-passes is_blank digits.0;
-      spelled = spelled.0;
-      size = spelled.1;
+      spelled = ok_some _ digest.0 digest.1;
+      size = eqb-true (length digest.0) width.0.0.len fits.0;
       whole = rw (
         ← prefix-and-rest is_blank digits.0,
         ← strip_prefix-some (61 ∷ []) (after_while is_blank name.0.1) digits.0 digits.1,
@@ -119,7 +126,7 @@ read_is_tagged {algos} {line} {p} h =
         ← gap.1,
         ← wide.whole,
         wide.is_algo,
-        ← strip_prefix-some (tag algo.0) text.1 rest.0 rest.1,
+        ← found.is,
         ← mark_and_rest-is (after_while is_blank line),
       ) (prefix-and-rest is_blank line);
     })

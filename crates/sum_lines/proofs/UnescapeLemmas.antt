@@ -1,60 +1,20 @@
 -- What is escaped can be read back: no escape of a byte begins another's.
-use Rattle.std.proofs.Common.{◌≡◌, ◌≢◌, ℕ, ◌+◌, ◌-◌, ◌<◌, ◌≤◌, true, cond, ◌==◌, List, [], ◌∷◌, ◌++◌, length, take, drop, set, Option, None, Some, refl, ap, sym, ◌∙◌, inl, inr, append_assoc, arith, length-set, length-drop}
-use Rattle.std.proofs.lemmas.Bool.Decides.{eqb_tells}
+use Rattle.std.proofs.Common.{◌≡◌, ◌≢◌, ℕ, ◌+◌, ◌-◌, ◌<◌, ◌≤◌, true, List, [], ◌∷◌, ◌++◌, length, take, drop, set, refl, ap, sym, ◌∙◌, append_assoc, arith, length-set, length-drop}
 use Rattle.std.proofs.lemmas.List.{append_cancel_left, append-nil, take_rest, length-take-le, drop-drop, take-take, take-append-le, take_more_set, drop-set-lt}
 use Rattle.std.proofs.lemmas.Grind.{flat_map-append}
 use Rattle.std.proofs.Math.Seq.{take-append-add}
-use Rattle.std.proofs.lemmas.Option.{none-some, same_Some}
 use Rattle.sum_lines.specs.Profiles.{present}
 use Rattle.sum_lines.specs.Escape.{escape_of, escape, IsEscaped}
 use Rattle.sum_lines.specs.ParsedLines.{unescaped_bytes}
-use Rattle.sum_lines.proofs.UnescapeOf.{unescaped_bytes-escape}
-
--- a byte whose escape is a backslash and this letter, and what follows
-abbrev pub behind : List ℕ → Option (ℕ × List ℕ)
-behind [] = None
-behind (c ∷ cs) =
-    cond (c == 92) (Some (92, cs)) (cond (c == 110) (Some (10, cs)) (cond (c == 114) (Some (13, cs)) None))
-
--- the byte whose escape stands in front, and what follows
-abbrev pub first : List ℕ → Option (ℕ × List ℕ)
-first [] = None
-first (b ∷ bs) = cond (b == 92) (behind bs) (cond (b == 10) None (cond (b == 13) None (Some (b, bs))))
-
--- a byte's own escape is found so
-pub first-escape : (b : ℕ) (rest : List ℕ) → first (escape_of present b ++ rest) ≡ Some (b, rest)
-first-escape b rest = elim (eqb_tells b 92) [
-  | inl same ↦ rw same.1 refl
-  | inr backslash ↦ elim (eqb_tells b 10) [
-    | inl same ↦ rw same.1 refl
-    | inr newline ↦ elim (eqb_tells b 13) [
-      | inl same ↦ rw same.1 refl
-      | inr return ↦ rw (backslash.0, newline.0, return.0) (rw (backslash.0, newline.0, return.0) refl)
-    ]
-  ]
-]
-
--- two escapes with the same bytes are of one byte
-pub escape_of-apart : (a b : ℕ) (xs ys : List ℕ) → escape_of present a ++ xs ≡ escape_of present b ++ ys
-    → (a ≡ b) × (xs ≡ ys)
-escape_of-apart a b xs ys h =
-    let same = same_Some (a, xs) (b, ys) (sym (first-escape a xs) ∙ ap first h ∙ first-escape b ys) in
-    (ap (λ p. p.0) same, ap (λ p. p.1) same)
-
--- and none is empty
-pub escape_of-some : (b : ℕ) (rest : List ℕ) → [] ≡ escape_of present b ++ rest → ⊥
-escape_of-some b rest h = none-some (b, rest) (ap first h ∙ first-escape b rest)
+use Rattle.sum_lines.proofs.UnescapeOf.{unescaped_bytes-behind, unescaped_bytes-escape}
 
 -- what follows the escape of a in the escape of a name is the escape of what follows a in it
 pub escape-rest : (a n rest : List ℕ) → escape a ++ rest ≡ escape n → (m : List ℕ) × (n ≡ a ++ m) × (rest ≡ escape m)
-escape-rest [] n rest h = (n, refl, h)
-escape-rest (x ∷ xs) [] rest h =
-    absurd (escape_of-some x (escape xs ++ rest) (sym h ∙ append_assoc (escape_of present x) (escape xs) rest))
-escape-rest (x ∷ xs) (y ∷ ys) rest h =
-    let apart = escape_of-apart x y (escape xs ++ rest) (escape ys)
-    (sym (append_assoc (escape_of present x) (escape xs) rest) ∙ h) in
-    let more = escape-rest xs ys rest apart.1 in
-    (more.0, ap (λ b. b ∷ ys) (sym apart.0) ∙ ap (λ l. x ∷ l) more.1, more.2)
+escape-rest a n rest h =
+    let m = unescaped_bytes rest in
+    let is : n ≡ a ++ m =
+    sym (unescaped_bytes-escape present n) ∙ ap unescaped_bytes (sym h) ∙ unescaped_bytes-behind present a rest in
+    (m, is, append_cancel_left (escape a) rest (escape m) (h ∙ ap escape is ∙ flat_map-append (escape_of present) a m))
 
 -- no two names have the same escape
 pub escape-apart : (a b : List ℕ) → escape a ≡ escape b → a ≡ b

@@ -4,6 +4,7 @@ use Rattle.std.specs.List.{All, list_all}
 use Rattle.std.specs.Prelude.{nat_lt, bytes_eq}
 use Rattle.std.proofs.lemmas.Bool.{lt-ltb, ltb-true, and_parts, eqb-true, cases_Bool}
 use Rattle.std.proofs.lemmas.Bool.Decides.{eqb_tells}
+use Rattle.std.proofs.lemmas.List.{append-nil}
 use Rattle.std.proofs.lemmas.Option.{cond_some}
 use Rattle.std.proofs.lemmas.List.Elements.{All-weaker}
 use Rattle.std.proofs.lemmas.List.Sums.{AllPass-from_list_all, list_all-from_AllPass}
@@ -11,36 +12,40 @@ use Rattle.std.proofs.lemmas.Slice.Eq.{bytes_eq-Decides}
 use Rattle.sum_lines.specs.Profiles.{Profile}
 use Rattle.sum_lines.specs.Escape.{escape_of, escape_by}
 use Rattle.sum_lines.specs.Entries.{Spells}
-use Rattle.sum_lines.specs.ParsedLines.{unescaped_bytes, unescape, name_of, entry_of_parts}
+use Rattle.sum_lines.specs.ParsedLines.{unescaped_bytes, unescape, entry_of_parts}
 use Rattle.sum_lines.specs.Entries.{Spelled}
 use Rattle.sum_lines.specs.PartsOfLines.{Parts}
-use Rattle.sum_lines.proofs.PrefixLemmas.{bind_some, map_some}
+use Rattle.sum_lines.proofs.PrefixLemmas.{bind_some}
 
 -- a byte that stands for itself
 plain-first : (b : ℕ) (rest : List ℕ) → (b == 92) ≡ false → unescaped_bytes (b ∷ rest) ≡ b ∷ unescaped_bytes rest
 plain-first b [] h = refl
 plain-first b (c ∷ cs) h = rw h refl
 
--- unescaping what is escaped gives the name
-pub unescaped_bytes-escape : (p : Profile) (n : List ℕ) → unescaped_bytes (escape_by p n) ≡ n
-unescaped_bytes-escape p [] = refl
-unescaped_bytes-escape p (b ∷ bs) = elim (eqb_tells b 92) [
-  | inl same ↦ rw same.1 (ap (λ l. 92 ∷ l) (unescaped_bytes-escape p bs))
+-- unescaping what is escaped gives the name, and goes on behind it
+pub unescaped_bytes-behind : (p : Profile) (n rest : List ℕ)
+    → unescaped_bytes (escape_by p n ++ rest) ≡ n ++ unescaped_bytes rest
+unescaped_bytes-behind p [] rest = refl
+unescaped_bytes-behind p (b ∷ bs) rest = let more = unescaped_bytes-behind p bs rest in elim (eqb_tells b 92) [
+  | inl same ↦ rw same.1 (ap (λ l. 92 ∷ l) more)
   | inr backslash ↦ elim (eqb_tells b 10) [
-    | inl same ↦ rw same.1 (ap (λ l. 10 ∷ l) (unescaped_bytes-escape p bs))
+    | inl same ↦ rw same.1 (ap (λ l. 10 ∷ l) more)
     | inr newline ↦ elim (cases_Bool (p.escapes_return && (b == 13))) [
       | inl return ↦
           let is : b ≡ 13 = eqb-true b 13 (and_parts p.escapes_return (b == 13) return).1 in
           let one : escape_of p b ≡ 92 ∷ 114 ∷ [] = rw (backslash.0, newline.0, return) refl in
-          ap (λ l. unescaped_bytes (l ++ escape_by p bs)) one ∙ ap (λ l. 13 ∷ l) (unescaped_bytes-escape p bs)
-          ∙ ap (λ x. x ∷ bs) (sym is)
+          rw (one, is) (ap (λ l. 13 ∷ l) more)
       | inr return ↦
           let one : escape_of p b ≡ b ∷ [] = rw (backslash.0, newline.0, return) refl in
-          ap (λ l. unescaped_bytes (l ++ escape_by p bs)) one ∙ plain-first b (escape_by p bs) backslash.0
-          ∙ ap (λ l. b ∷ l) (unescaped_bytes-escape p bs)
+          rw (one, plain-first b (escape_by p bs ++ rest) backslash.0) (ap (λ l. b ∷ l) more)
     ]
   ]
 ]
+
+-- up to its end
+pub unescaped_bytes-escape : (p : Profile) (n : List ℕ) → unescaped_bytes (escape_by p n) ≡ n
+unescaped_bytes-escape p n =
+    ap unescaped_bytes (sym (append-nil (escape_by p n))) ∙ unescaped_bytes-behind p n [] ∙ append-nil n
 
 -- so a name is read back from its escape
 pub unescape-escape : (p : Profile) (n : List ℕ) → unescape p (escape_by p n) ≡ Some n
@@ -93,7 +98,6 @@ spelled-is p t n s = rw (unescape-if p t.escaped t.text n s.is, all-of n s.no_nu
 pub is-spelled : (p : Profile) (t : Parts) (s : Spelled) → entry_of_parts p t ≡ Some s
     → (n : List ℕ) × Spells (escape_by p) t.escaped t.text n × (entry t n ≡ s)
 is-spelled p t s h =
-    let m = map_some (entry t) (name_of p t.escaped t.text) h in
-    let n = bind_some (cond t.escaped (unescape p t.text) (Some t.text)) _ m.1 in
-    let e = cond_some (list_all (nat_lt 0) n.0) n.0 m.0 n.2 in
-    (n.0, record { no_nul = of-all n.0 e.0; is = escape-if p t.escaped t.text n.0 n.1 }, ap (entry t) e.1 ∙ m.2)
+    let n = bind_some (cond t.escaped (unescape p t.text) (Some t.text)) _ h in
+    let e = cond_some (list_all (nat_lt 0) n.0) (entry t n.0) s n.2 in
+    (n.0, record { no_nul = of-all n.0 e.0; is = escape-if p t.escaped t.text n.0 n.1 }, e.1)

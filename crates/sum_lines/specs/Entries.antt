@@ -1,12 +1,13 @@
 -- What a manifest's line says: the form that plain lines give the whole list, and the entry that a line spells.
-use Rattle.std.specs.Prelude.{ℕ, ◌≡◌, ◌<◌, ◌⊎◌, ◌==◌, ◌||◌, Bool, false, List, [], ◌∷◌, length, IsTrue, option_map, unwrap_or, if◌then◌else◌}
-use Rattle.std.specs.List.{All}
+use Rattle.std.specs.Prelude.{ℕ, ◌≡◌, ◌<◌, ◌⊎◌, ◌==◌, ◌||◌, Bool, false, List, [], ◌∷◌, length, IsTrue, Option, if◌then◌else◌}
+use Rattle.std.specs.List.{All, filter_map, slice_get}
+use Rattle.std.specs.Option.{option_map_or}
 use Rattle.digest_kinds.specs.Kinds.{KindValue}
 use Rattle.digest_kinds.specs.declared.algo.Algo.{Algo}
 use Rattle.digest_kinds.specs.declared.algo.Algos.{Algos}
 use Rattle.sum_lines.specs.Profiles.{Profile, present}
 use Rattle.sum_lines.specs.Shapes.{Plain, Tagged}
-use Rattle.sum_lines.specs.PartsOfLines.{plain_parts}
+use Rattle.sum_lines.specs.PartsOfLines.{Parts, plain_parts}
 use Rattle.sum_lines.specs.declared.line_reading.Form.{Form}
 use Rattle.sum_lines.specs.declared.line_reading.Form.TheVariants.{Undecided, Standard, Reversed}
 
@@ -83,13 +84,16 @@ Entry escape algos form line s = (is_ignored line ≡ false)
     × (ByTag escape algos line s ⊎ ByTail escape algos form line s)
 
 -- The form, computed: the first plain line decides it. It need not be believed: by the law `one_form` it is the list's.
+abbrev pub form_by : Option Parts → Form
+form_by found = option_map_or (λ p. form_of_tail p.text) found Undecided
+
+abbrev pub form : Algos → List (List ℕ) → Form
+form algos lines = form_by (slice_get (filter_map (plain_parts algos) lines) 0)
+
+-- the form of one line, and one form after another, as lines are read one by one
+abbrev pub line_form : Algos → List ℕ → Form
+line_form algos line = form_by (plain_parts algos line)
+
 abbrev pub form_then : Form → Form → Form
 form_then Undecided later = later
 form_then decided later = decided
-
-abbrev pub line_form : Algos → List ℕ → Form
-line_form algos line = unwrap_or (option_map (λ p. form_of_tail p.text) (plain_parts algos line)) Undecided
-
-abbrev pub form : Algos → List (List ℕ) → Form
-form algos [] = Undecided
-form algos (line ∷ later) = form_then (line_form algos line) (form algos later)

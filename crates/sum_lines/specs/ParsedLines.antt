@@ -1,6 +1,6 @@
 -- What a line says, computed; it need not be believed: the law `says_is` ties it to the relation `Entry`.
-use Rattle.std.specs.Prelude.{ℕ, ◌==◌, Bool, List, ◌∷◌, drop, nat_lt, bytes_eq, Option, None, Some, option_map, unwrap_or, if◌then◌else◌}
-use Rattle.std.specs.Option.{option_or}
+use Rattle.std.specs.Prelude.{ℕ, ◌==◌, List, ◌∷◌, drop, nat_lt, bytes_eq, Option, None, Some, if◌then◌else◌}
+use Rattle.std.specs.Option.{option_or, option_map_or}
 use Rattle.std.specs.List.{list_all}
 use Rattle.digest_kinds.specs.declared.algo.Algos.{Algos}
 use Rattle.sum_lines.specs.declared.line_reading.Form.{Form}
@@ -27,20 +27,14 @@ with_raw Reversed q = Some q
 with_raw Standard q = if begins_standard q.text then Some (record q { text = drop 1 q.text }) else None
 with_raw Undecided q = None
 
--- the name that a raw name spells: it holds no NUL
-abbrev pub name_of : Profile → Bool → List ℕ → Option (List ℕ)
-name_of p escaped raw = do
-  name ← if escaped then unescape p raw else Some raw
-  if list_all (nat_lt 0) name then Some name else None
-
--- the entry that a line's parts spell
+-- the entry that a line's parts spell, whose text is a raw name: the name holds no NUL
 abbrev pub entry_of_parts : Profile → Parts → Option Spelled
-entry_of_parts p t =
-    option_map (λ n. record { algo = t.kind.algo; digest = t.digest; name = n }) (name_of p t.escaped t.text)
+entry_of_parts p t = do
+  name ← if t.escaped then unescape p t.text else Some t.text
+  if list_all (nat_lt 0) name then Some (record { algo = t.kind.algo; digest = t.digest; name = name }) else None
 
 unfoldable pub entry_of : Profile → Algos → Form → List ℕ → Option Spelled
-entry_of p algos f line =
-    option_or (tagged_parts algos line) (plain_parts algos line >>= with_raw f) >>= entry_of_parts p
+entry_of p algos f line = option_or (tagged_parts algos line) (plain_parts algos line >>= with_raw f) >>= entry_of_parts p
 
 -- what a line says: nothing, an entry, or something improper
 pub data ParsedLine : Type 0 where
@@ -48,9 +42,6 @@ pub data ParsedLine : Type 0 where
   Improper : ParsedLine
   WithEntry : Spelled → ParsedLine
 
--- what an entry says, where there is one
-abbrev pub parsed_line_of : Option Spelled → ParsedLine
-parsed_line_of o = unwrap_or (option_map WithEntry o) Improper
-
 abbrev pub parse_line : Profile → Algos → Form → List ℕ → ParsedLine
-parse_line p algos f line = if is_ignored_by p line then Nothing else parsed_line_of (entry_of p algos f line)
+parse_line p algos f line =
+    if is_ignored_by p line then Nothing else option_map_or WithEntry (entry_of p algos f line) Improper

@@ -49,10 +49,10 @@ plain_parts Any line = None
 abbrev pub strip_prefix : List ℕ → List ℕ → Option (List ℕ)
 strip_prefix text s = if starts_with ◌==◌ s text then Some (drop (length text) s) else None
 
--- the algorithm whose tag is looked for
-abbrev pub algo_at : Algos → List ℕ → Option Algo
-algo_at (One a) s = Some a
-algo_at Any s = find (λ a. starts_with ◌==◌ s (tag a)) all_algos
+-- the one of these algorithms whose tag stands in front
+abbrev pub tag_in : Algos → List ℕ → Option Algo
+tag_in (One a) s = if starts_with ◌==◌ s (tag a) then Some a else None
+tag_in Any s = find (λ a. starts_with ◌==◌ s (tag a)) all_algos
 
 -- BLAKE2b with as many bits as these digits write
 abbrev pub kind_at : List ℕ → Option KindValue
@@ -65,10 +65,6 @@ width_at Blake2b (b ∷ bs) =
     else Some (full_kind Blake2b, b ∷ bs)
 width_at a s = Some (full_kind a, s)
 
--- the digest of n bytes that the digits spell
-abbrev pub digest_at : ℕ → List ℕ → Option (List ℕ)
-digest_at n digits = result_ok (decode_of digits) >>= (λ d. if length d == n then Some d else None)
-
 -- a tagged line behind its tag; the last parenthesis ends the name
 unfoldable pub tagged_as : Algo → Bool → List ℕ → Option Parts
 tagged_as a e s = do
@@ -76,12 +72,11 @@ tagged_as a e s = do
   inner ← option_or (strip_prefix (codes " (") w.1) (strip_prefix (codes "(") w.1)
   name ← rsplit_once 41 inner
   digits ← strip_prefix (codes "=") (after_while is_blank name.1)
-  d ← digest_at w.0.len (after_while is_blank digits)
-  if nat_lt 0 (length name.0)
+  d ← result_ok (decode_of (after_while is_blank digits))
+  if length d == w.0.len && nat_lt 0 (length name.0)
       then Some (record { escaped = e; kind = w.0; digest = d; text = name.0 }) else None
 
 unfoldable pub tagged_parts : Algos → List ℕ → Option Parts
 tagged_parts algos line = let text = mark_and_rest (after_while is_blank line) in do
-  a ← algo_at algos text.1
-  s ← strip_prefix (tag a) text.1
-  tagged_as a text.0 s
+  a ← tag_in algos text.1
+  tagged_as a text.0 (drop (length (tag a)) text.1)

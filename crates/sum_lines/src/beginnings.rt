@@ -1,8 +1,8 @@
 //! What a line begins with. Most bad lines are told by that, and none of the rest is read.
 
 ghost use Rattle.std.specs.Prelude.{◌≡◌, Bool, IfNone, IfSome, None};
-ghost use Rattle.sum_lines.specs.PartsOfLines.{plain_as, plain_parts, tagged_parts};
-ghost use Rattle.sum_lines.specs.refinement.Beginnings.{LeadsTo, EndsAt, EndsDigits, tag_in};
+ghost use Rattle.sum_lines.specs.PartsOfLines.{plain_as, plain_parts, tag_in, tagged_parts};
+ghost use Rattle.sum_lines.specs.refinement.Beginnings.{LeadsTo, EndsAt, EndsDigits};
 
 use crate::scanning::{is_blank, text_in};
 use digest_kinds::{Algo, Algos, Kind};
@@ -17,7 +17,7 @@ pub(crate) enum Beginning {
     /// The algorithm's tag.
     Tag(Algo),
     /// As many bytes as the one algorithm has digits, or for BLAKE2b those before the first blank; and a blank there.
-    Digits(usize),
+    Digits(Algo, usize),
 }
 
 /// What a line of these algorithms begins with. None only where it is neither tagged nor plain. A call of its own, so
@@ -33,7 +33,7 @@ pub(crate) fn find_beginning(algos: Algos, line: &[u8]) -> Option<Beginning>
         return Some(Beginning::Tag(algo));
     }
     match algos {
-        Algos::One(algo) => Some(Beginning::Digits(digits_end(algo, text)?)),
+        Algos::One(algo) => Some(Beginning::Digits(algo, digits_end(algo, text)?)),
         Algos::Any => None,
     }
 }

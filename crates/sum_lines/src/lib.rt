@@ -8,7 +8,6 @@ mod from_write;
 pub mod laws;
 mod line_format;
 mod line_reading;
-mod names;
 mod parts;
 mod plain;
 mod scanning;

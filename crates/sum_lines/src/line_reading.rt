@@ -1,20 +1,23 @@
 //! One line of a manifest.
 
-ghost use Rattle.std.specs.Prelude.{◌≡◌, ◌≤◌, if◌then◌else◌, length, vec_len};
-ghost use Rattle.std.specs.Option.{option_and_then};
+ghost use Rattle.std.specs.Prelude.{◌≡◌, ◌≤◌, None, Some, drop, if◌then◌else◌, length, nat_lt, not, take, vec_len};
+ghost use Rattle.std.specs.List.{list_all};
+ghost use Rattle.std.specs.Option.{option_and_then, option_map_or};
 ghost use Rattle.sum_lines.specs.Entries.{begins_standard, form_of_tail, form_then, is_ignored, line_form};
-ghost use Rattle.sum_lines.specs.ParsedLines.{entry_of, entry_of_parts, parse_line, parsed_line_of, with_raw};
+ghost use Rattle.sum_lines.specs.ParsedLines.{Improper, WithEntry, entry_of, entry_of_parts, parse_line, unescape};
+ghost use Rattle.sum_lines.specs.ParsedLines.{with_raw};
 ghost use Rattle.sum_lines.specs.Profiles.{present};
 ghost use Rattle.sum_lines.specs.Readings.{Within, parsed_line_by};
 ghost use Rattle.sum_lines.specs.refinement.Beginnings.{LeadsTo};
 ghost use Rattle.sum_lines.specs.refinement.Found.{line_parts, text_of};
 
 use crate::beginnings::{Beginning, find_beginning};
-use crate::names::name_in;
+use crate::escape::unescape_in;
 use crate::plain::plain;
-use crate::scanning::{LineParts, text_in};
+use crate::scanning::LineParts;
 use crate::tagged::tagged;
 use digest_kinds::{Algos, Digest, Kind};
+use memchr::memchr;
 use std::alloc::Allocator;
 
 /// Where the plain lines of a manifest have their names. The first of them decides.
@@ -89,17 +92,16 @@ fn read_begun<A: Allocator>(
     requires { LeadsTo algos line.old.items beginning }
     ensures form { result.1 ≡ form_then form (line_form algos line.old.items) }
     ensures says { parsed_line_by line.new.items result.0
-        ≡ parsed_line_of (entry_of present algos result.1 line.old.items) }
+        ≡ option_map_or WithEntry (entry_of present algos result.1 line.old.items) Improper }
     ensures within { Within line.new.items result.0 }
     ensures len { vec_len line.new ≤ vec_len line.old }
 {
-    let (escaped, text) = text_in(line);
     match beginning {
-        Beginning::Tag(algo) => match tagged(algo, line, escaped, &text[algo.tag().len()..]) {
+        Beginning::Tag(algo) => match tagged(algo, line) {
             Some(found) => (read_name(line, found), form),
             None => (Reading::Bad, form),
         },
-        Beginning::Digits(at) => match plain(algos, line, escaped, text, at) {
+        Beginning::Digits(algo, at) => match plain(algo, line, at) {
             Some(found) => read_tail(form, line, found),
             None => (Reading::Bad, form),
         },
@@ -121,8 +123,8 @@ fn read_tail<A: Allocator>(form: Form, line: &mut Vec<u8, A>, found: LineParts) 
     requires ordered { found.start ≤ found.stop }
     requires within { found.stop ≤ length line.old.items }
     ensures form { result.1 ≡ form_then form (form_of_tail (text_of line.old.items found)) }
-    ensures says { parsed_line_by line.new.items result.0 ≡ parsed_line_of
-        (option_and_then (entry_of_parts present) (with_raw result.1 (line_parts line.old.items found))) }
+    ensures says { parsed_line_by line.new.items result.0 ≡ option_map_or WithEntry
+        (option_and_then (entry_of_parts present) (with_raw result.1 (line_parts line.old.items found))) Improper }
     ensures within { Within line.new.items result.0 }
     ensures len { vec_len line.new ≤ vec_len line.old }
 {
@@ -155,17 +157,19 @@ fn begins_standard(tail: &[u8]) -> bool
     matches!(tail, [b' ' | b'*', _, ..])
 }
 
-// The entry of the parts, where their text is a raw name that spells a name.
+// The entry of the parts, where their text is a raw name that spells a name: it isn't the escape of none, though a
+// backslash stood in front, and the name holds no NUL.
 fn read_name<A: Allocator>(line: &mut Vec<u8, A>, found: LineParts) -> Reading
     requires size { length found.digest ≡ found.kind.len }
     requires ordered { found.start ≤ found.stop }
     requires within { found.stop ≤ length line.old.items }
     ensures says { parsed_line_by line.new.items result
-        ≡ parsed_line_of (entry_of_parts present (line_parts line.old.items found)) }
+        ≡ option_map_or WithEntry (entry_of_parts present (line_parts line.old.items found)) Improper }
     ensures within { Within line.new.items result }
     ensures len { vec_len line.new ≤ vec_len line.old }
 {
-    if name_in(line, found.escaped, found.start, found.stop) {
+    line.truncate(found.stop);
+    if unspell(line, found.escaped, found.start) && !has_nul(&line[found.start..]) {
         Reading::Entry {
             kind: found.kind,
             digest: found.digest,
@@ -175,4 +179,22 @@ fn read_name<A: Allocator>(line: &mut Vec<u8, A>, found: LineParts) -> Reading
     } else {
         Reading::Bad
     }
+}
+
+// Leaves the name that the bytes from that place on spell: what they are the escape of, behind a backslash, or else they
+// themselves. False where they are no escape.
+fn unspell<A: Allocator>(line: &mut Vec<u8, A>, escaped: bool, start: usize) -> bool
+    requires { start ≤ length line.old.items }
+    ensures name { (if result then Some (drop start line.new.items) else None)
+        ≡ (if escaped then unescape present (drop start line.old.items) else Some (drop start line.old.items)) }
+    ensures before { take start line.new.items ≡ take start line.old.items }
+    ensures len { vec_len line.new ≤ vec_len line.old }
+{
+    !escaped || unescape_in(line, start)
+}
+
+fn has_nul(bytes: &[u8]) -> bool
+    ensures { not result ≡ list_all (nat_lt 0) bytes.now }
+{
+    memchr(0, bytes).is_some()
 }

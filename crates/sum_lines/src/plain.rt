@@ -4,40 +4,22 @@ ghost use Rattle.std.specs.Prelude.{◌≡◌, ◌≤◌, IfSome, if◌then◌el
 ghost use Rattle.std.specs.Option.{option_map};
 ghost use Rattle.digest_kinds.specs.Kinds.{has_len};
 ghost use Rattle.sum_lines.specs.Shapes.{is_blank};
-ghost use Rattle.sum_lines.specs.PartsOfLines.{after_while, mark_and_rest, plain_as, plain_parts};
-ghost use Rattle.sum_lines.specs.refinement.Beginnings.{OneEndsDigits, EndsDigits};
-ghost use Rattle.sum_lines.specs.refinement.Found.{line_parts, EndsIn};
+ghost use Rattle.sum_lines.specs.PartsOfLines.{after_while, mark_and_rest, plain_parts};
+ghost use Rattle.sum_lines.specs.refinement.Beginnings.{EndsDigits};
+ghost use Rattle.sum_lines.specs.refinement.Found.{line_parts};
 
-use crate::scanning::LineParts;
+use crate::scanning::{LineParts, text_in};
 use digest_kinds::{Algo, Algos, Digest, Kind};
 
-/// Reads a plain line of the one algorithm, whose text stands behind its blanks and its mark, and has the blank behind
-/// its digits at that place. None where the line isn't plain.
-pub(crate) fn plain(
-    algos: Algos,
-    line: &[u8],
-    escaped: bool,
-    text: &[u8],
-    at: usize,
-) -> Option<LineParts>
-    requires text { (escaped, text.now) ≡ mark_and_rest (after_while is_blank line.now) }
-    requires ends { EndsIn line.now text.now }
-    requires digits { OneEndsDigits algos text.now at }
-    ensures parts { option_map (line_parts line.now) result ≡ plain_parts algos line.now }
+/// Reads a plain line of that algorithm, which has the blank behind its digits at that place of its text. None where the
+/// line isn't plain.
+pub(crate) fn plain(algo: Algo, line: &[u8], at: usize) -> Option<LineParts>
+    requires { EndsDigits algo (mark_and_rest (after_while is_blank line.now)).1 at }
+    ensures parts { option_map (line_parts line.now) result ≡ plain_parts (Algos.One algo) line.now }
     ensures range { IfSome result (λ p. (p.start ≤ p.stop) × (p.stop ≤ length line.now)) }
+    ensures size { IfSome result (λ p. length p.digest ≡ p.kind.len) }
 {
-    match algos {
-        Algos::One(algo) => plain_as(algo, line, escaped, text, at),
-        Algos::Any => None,
-    }
-}
-
-fn plain_as(algo: Algo, line: &[u8], escaped: bool, text: &[u8], at: usize) -> Option<LineParts>
-    requires ends { EndsIn line.now text.now }
-    requires digits { EndsDigits algo text.now at }
-    ensures parts { option_map (line_parts line.now) result ≡ plain_as algo escaped text.now }
-    ensures range { IfSome result (λ p. (p.start ≤ p.stop) × (p.stop ≤ length line.now)) }
-{
+    let (escaped, text) = text_in(line);
     let kind = kind_of_len(algo, at / 2)?;
     // Last, since it costs the most.
     let digest = Digest::from_hex(&text[..at])?;

@@ -1,22 +1,34 @@
 //! Tagged lines: a tag, a name in parentheses, `=`, digits.
 
-ghost use Rattle.std.specs.Prelude.{◌≡◌, ◌≤◌, codes, length, IfSome};
+ghost use Rattle.std.specs.Prelude.{◌≡◌, ◌≤◌, codes, length, IfSome, Some};
 ghost use Rattle.std.specs.Char.{is_ascii_digit as is_digit};
 ghost use Rattle.std.specs.List.{AllPass, prefix_len, take_while};
 ghost use Rattle.std.specs.Option.{option_copied, option_map, option_or};
-ghost use Rattle.sum_lines.specs.PartsOfLines.{after_while, strip_prefix};
-ghost use Rattle.sum_lines.specs.PartsOfLines.{digest_at, kind_at, tagged_as, width_at};
+ghost use Rattle.sum_lines.specs.Shapes.{is_blank};
+ghost use Rattle.sum_lines.specs.PartsOfLines.{after_while, mark_and_rest, strip_prefix, tag_in};
+ghost use Rattle.sum_lines.specs.PartsOfLines.{kind_at, tagged_as, tagged_parts, width_at};
 ghost use Rattle.sum_lines.specs.refinement.Found.{line_parts, number_of, EndsIn};
 
-use crate::scanning::{LineParts, past_text, skip_blanks, split_at_last};
-use digest_kinds::{Algo, Digest, Kind};
+use crate::scanning::{LineParts, past_text, skip_blanks, split_at_last, text_in};
+use digest_kinds::{Algo, Algos, Digest, Kind};
 
-/// Reads a tagged line of that algorithm behind its tag. None where the line isn't tagged.
+/// Reads a line whose text that algorithm's tag begins. None where the line isn't tagged.
+pub(crate) fn tagged(algo: Algo, line: &[u8]) -> Option<LineParts>
+    requires { tag_in (Algos.One algo) (mark_and_rest (after_while is_blank line.now)).1 ≡ Some algo }
+    ensures parts { option_map (line_parts line.now) result ≡ tagged_parts (Algos.One algo) line.now }
+    ensures range { IfSome result (λ t. (t.start ≤ t.stop) × (t.stop ≤ length line.now)) }
+    ensures size { IfSome result (λ t. length t.digest ≡ t.kind.len) }
+{
+    let (escaped, text) = text_in(line);
+    tagged_as(algo, line, escaped, &text[algo.tag().len()..])
+}
+
 #[tactic(auto, unfolding(crate::specs::PartsOfLines::tagged_as))]
-pub(crate) fn tagged(algo: Algo, line: &[u8], escaped: bool, behind_tag: &[u8]) -> Option<LineParts>
+fn tagged_as(algo: Algo, line: &[u8], escaped: bool, behind_tag: &[u8]) -> Option<LineParts>
     requires { EndsIn line.now behind_tag.now }
     ensures parts { option_map (line_parts line.now) result ≡ tagged_as algo escaped behind_tag.now }
     ensures range { IfSome result (λ t. (t.start ≤ t.stop) × (t.stop ≤ length line.now)) }
+    ensures size { IfSome result (λ t. length t.digest ≡ t.kind.len) }
 {
     let Some(width) = width(algo, behind_tag) else {
         return None;
@@ -25,8 +37,12 @@ pub(crate) fn tagged(algo: Algo, line: &[u8], escaped: bool, behind_tag: &[u8]) 
     let inner = past_parenthesis(width.rest)?;
     // The name may hold `)`, and what follows the closing one can't.
     let (raw, behind_name) = split_at_last(b')', inner)?;
-    let digits = past_text(b"=", skip_blanks(behind_name))?;
-    let digest = digest_of(kind.len(), skip_blanks(digits))?;
+    let digits = skip_blanks(past_text(b"=", skip_blanks(behind_name))?);
+    // They are decoded only where they are as many as the kind's.
+    if digits.len() != 2 * kind.len() {
+        return None;
+    }
+    let digest = Digest::from_hex(digits)?;
     if raw.is_empty() {
         return None;
     }
@@ -128,16 +144,4 @@ fn past_parenthesis(s: &[u8]) -> Option<&[u8]>
         Some(inner) => Some(inner),
         None => past_text(b"(", s),
     }
-}
-
-// The digest of that length that the digits spell. Digits are decoded only where they are as many.
-fn digest_of(len: usize, digits: &[u8]) -> Option<Digest>
-    requires some { 1 ≤ len }
-    requires few { len ≤ 64 }
-    ensures { result ≡ digest_at len digits.now }
-{
-    if digits.len() != 2 * len {
-        return None;
-    }
-    Digest::from_hex(digits)
 }

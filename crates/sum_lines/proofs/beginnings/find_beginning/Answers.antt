@@ -1,4 +1,4 @@
-use Rattle.std.proofs.Common.{Bool, List, ℕ, ap, sym}
+use Rattle.std.proofs.Common.{Bool, List, ℕ, refl, ap, sym}
 use Rattle.sum_lines.proofs.BeginningLemmas.{by-tag, untagged}
 use Rattle.sum_lines.proofs.beginnings.find_beginning.Goals as goal
 
@@ -19,8 +19,9 @@ pub returns-in_ok-digits_end-in-One-clause-leads : goal.returns-in_ok-digits_end
 returns-in_ok-digits_end-in-One-clause-leads c =
     let text = ap (λ (x : Bool × List ℕ). x.1) c.text_in.ensures.text in
     record {
+      ends = rw text at c.in_ok-digits_end-in-One.ensures.some;
       tagged = untagged c.args.algos c.args.line.now (rw text at (sym c.in_default.ensures));
-      ends = rw c.in-One.is (rw text at c.in_ok-digits_end-in-One.ensures.some);
+      plain = rw c.in-One.is refl;
     }
 
 -- no tag stands in front, and no line is plain

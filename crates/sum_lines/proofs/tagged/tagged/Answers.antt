@@ -1,28 +1,24 @@
-use Rattle.std.proofs.Common.{sym, arith}
-use Rattle.sum_lines.proofs.BlankLemmas.{tail-some}
-use Rattle.sum_lines.proofs.PrefixLemmas.{rsplit-some}
-use Rattle.sum_lines.proofs.ScanLemmas.{inner-ends, place, tagged-read}
+use Rattle.std.proofs.Common.{length, take, drop, sym}
+use Rattle.std.proofs.lemmas.List.{take-append-drop, take_rest}
+use Rattle.sum_lines.proofs.BeginningLemmas.{tag-parts, tag-within}
+use Rattle.sum_lines.proofs.ScanLemmas.{ends-behind}
 use Rattle.sum_lines.proofs.tagged.tagged.Goals as goal
 
--- the name stands within the line
-pub overflow_sub-start : goal.overflow_sub-start
-overflow_sub-start c =
-    let ends = inner-ends c.args.algo _ c.requires c.in-Some.ensures c.in_ok-inner.ensures in
-    (place c.in_ok-raw.raw.now _ ends (rsplit-some 41 c.in_ok-inner.inner.now _ (sym c.in_ok-raw.ensures))).0
+-- the tag fits in the text
+pub slice_bounds-tagged_as-start : goal.slice_bounds-tagged_as-start
+slice_bounds-tagged_as-start c = tag-within _ c.tag.ensures (rw (← c.text_in-escaped.ensures.text) at c.requires)
 
-pub returns-clause-range : goal.returns-clause-range
-returns-clause-range c =
-    let ends = inner-ends c.args.algo _ c.requires c.in-Some.ensures c.in_ok-inner.ensures in
-    let range = place c.in_ok-raw.raw.now _ ends (rsplit-some 41 c.in_ok-inner.inner.now _ (sym c.in_ok-raw.ensures)) in
-    (omega arith, range.1)
+pub slice_bounds-tagged_as-count : goal.slice_bounds-tagged_as-count
+slice_bounds-tagged_as-count c = tag-within _ c.tag.ensures (rw (← c.text_in-escaped.ensures.text) at c.requires)
 
--- the parts that were found are the line's
+-- what stands behind it ends the line
+pub tagged_as-requires : goal.tagged_as-requires
+tagged_as-requires c =
+    let s = c.text_in-escaped.result.1.now in
+    let n = length c.tag.result.now in
+    rw (take_rest s n) (ends-behind (take n s) (drop n s) c.text_in-escaped.ensures.ends (sym (take-append-drop n s)))
+
+-- and what is read of that is read of the line
 pub returns-clause-parts : goal.returns-clause-parts
 returns-clause-parts c =
-    let ends = inner-ends c.args.algo _ c.requires c.in-Some.ensures c.in_ok-inner.ensures in
-    let range = place c.in_ok-raw.raw.now _ ends (rsplit-some 41 c.in_ok-inner.inner.now _ (sym c.in_ok-raw.ensures)) in
-    let sign = rw c.skip_blanks.ensures at c.in_ok-digits.ensures in
-    let digest = rw (c.len.ensures.value, c.skip_blanks-2.ensures) at c.in_ok-digest.ensures in
-    let some = tail-some c.in_ok-raw.raw.now c.is_empty.result c.is_empty.ensures c.if-is_empty.false in
-    rw range.2 (tagged-read c.args.algo c.args.escaped c.args.behind_tag.now c.in-Some.ensures c.in_ok-inner.ensures
-    c.in_ok-raw.ensures sign digest some)
+    tag-parts c.args.line.now _ c.text_in-escaped.ensures.text c.tag.ensures c.requires c.tagged_as.ensures.parts

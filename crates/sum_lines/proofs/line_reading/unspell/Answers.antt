@@ -1,5 +1,5 @@
 use Rattle.sum_lines.proofs.NameLemmas.{unescaped}
-use Rattle.sum_lines.proofs.names.unspell.Goals as goal
+use Rattle.sum_lines.proofs.line_reading.unspell.Goals as goal
 
 -- the escape of a name was replaced by it
 pub returns-else-not-escaped-clause-name : goal.returns-else-not-escaped-clause-name

@@ -1,6 +1,6 @@
 use Rattle.std.proofs.Common.{not, ap, ◌∙◌}
 use Rattle.sum_lines.proofs.NameLemmas.{no_nul}
-use Rattle.sum_lines.proofs.names.has_nul.Goals as goal
+use Rattle.sum_lines.proofs.line_reading.has_nul.Goals as goal
 
 -- the search for a NUL tells whether there is one
 pub returns : goal.returns

@@ -1,0 +1,53 @@
+use Rattle.std.proofs.Common.{sym, arith}
+use Rattle.sum_lines.proofs.BlankLemmas.{tail-some}
+use Rattle.sum_lines.proofs.PrefixLemmas.{rsplit-some}
+use Rattle.sum_lines.proofs.ScanLemmas.{decoded-size, digest_none, digest_other, inner-ends, place, tagged-none, tagged-read}
+use Rattle.sum_lines.proofs.tagged.tagged_as.Goals as goal
+
+-- another number of digits than the kind's digests have
+pub returns-then-digits-len-clause-parts : goal.returns-then-digits-len-clause-parts
+returns-then-digits-len-clause-parts c =
+    let sign = rw c.skip_blanks.ensures at c.in_ok-past_text.ensures in
+    let other = rw (c.skip_blanks-digits.ensures, c.len.ensures.value) at c.if-digits-len.true in
+    tagged-none c.args.algo c.args.escaped c.args.behind_tag.now c.in-Some.ensures c.in_ok-inner.ensures
+    c.in_ok-raw.ensures sign (λ d. digest_other _ d _ other)
+
+-- as many that spell none
+pub returns-in_err-digest-clause-parts : goal.returns-in_err-digest-clause-parts
+returns-in_err-digest-clause-parts c =
+    let sign = rw c.skip_blanks.ensures at c.in_ok-past_text.ensures in
+    let size = rw c.len.ensures.value at c.len.ensures in
+    rw c.from_residual-in_err-digest.ensures (tagged-none c.args.algo c.args.escaped c.args.behind_tag.now
+    c.in-Some.ensures c.in_ok-inner.ensures c.in_ok-raw.ensures sign
+    (λ d. digest_none _ d _ size.some size.few (λ digits.
+    let bad = c.in_err-digest.ensures.found.1 (rw c.skip_blanks-digits.ensures digits) in cc)))
+
+-- the name stands within the line
+pub overflow_sub-start : goal.overflow_sub-start
+overflow_sub-start c =
+    let ends = inner-ends c.args.algo _ c.requires c.in-Some.ensures c.in_ok-inner.ensures in
+    (place c.in_ok-raw.raw.now _ ends (rsplit-some 41 c.in_ok-inner.inner.now _ (sym c.in_ok-raw.ensures))).0
+
+pub returns-clause-range : goal.returns-clause-range
+returns-clause-range c =
+    let ends = inner-ends c.args.algo _ c.requires c.in-Some.ensures c.in_ok-inner.ensures in
+    let range = place c.in_ok-raw.raw.now _ ends (rsplit-some 41 c.in_ok-inner.inner.now _ (sym c.in_ok-raw.ensures)) in
+    (omega arith, range.1)
+
+-- the digest is as long as its digits say
+pub returns-clause-size : goal.returns-clause-size
+returns-clause-size c =
+    let few = rw c.len.ensures.value at c.if-digits-len.false in
+    let size = decoded-size _ c.in_ok-digest.digest c.in_ok-digest.ensures.value in
+    omega (arith, size, few)
+
+-- the parts that were found are the line's
+pub returns-clause-parts : goal.returns-clause-parts
+returns-clause-parts c =
+    let ends = inner-ends c.args.algo _ c.requires c.in-Some.ensures c.in_ok-inner.ensures in
+    let range = place c.in_ok-raw.raw.now _ ends (rsplit-some 41 c.in_ok-inner.inner.now _ (sym c.in_ok-raw.ensures)) in
+    let sign = rw c.skip_blanks.ensures at c.in_ok-past_text.ensures in
+    let spelled = rw c.skip_blanks-digits.ensures at c.in_ok-digest.ensures.value in
+    let some = tail-some c.in_ok-raw.raw.now c.is_empty.result c.is_empty.ensures c.if-is_empty.false in
+    rw range.2 (tagged-read c.args.algo c.args.escaped c.args.behind_tag.now c.in-Some.ensures c.in_ok-inner.ensures
+    c.in_ok-raw.ensures sign spelled (returns-clause-size c) some)
