@@ -1,5 +1,5 @@
 -- What the steps of the line reader make of pieces and lines.
-use Rattle.std.proofs.Common.{◌≡◌, ℕ, ◌+◌, ◌<◌, Bool, List, [], ◌∷◌, ◌++◌, length, drop, map, Option, None, Some}
+use Rattle.std.proofs.Common.{◌≡◌, ℕ, ◌+◌, ◌-◌, ◌<◌, suc, Bool, List, [], ◌∷◌, ◌++◌, length, drop, map, Option, None, Some}
 use Rattle.std.proofs.Common.{Result, Ok, Err, refl, ap, sym, ◌∙◌, append_assoc, arith, length-append, length-drop}
 use Rattle.std.proofs.Common.{◌==◌}
 use Rattle.std.specs.List.{slice_split, after_first, position_or_len}
@@ -18,16 +18,10 @@ use Rattle.sum_sources.specs.declared.lines.LineStop.{LineStop}
 use Rattle.sum_sources.specs.declared.lines.LineStop.TheVariants as stops
 use Rattle.sum_sources.specs.Contents.{Content, WhereTold}
 use Rattle.sum_sources.specs.Standard.{empty_content}
-use Rattle.sum_sources.specs.ManifestLines.{last_line, line_pieces, pieces, lines, NoNewline, LineOf}
+use Rattle.sum_sources.specs.ManifestLines.{last_line, pieces, lines, NoNewline, LineOf}
 use Rattle.sum_sources.specs.LineReaders.{left_by}
 use Rattle.sum_sources.proofs.ContentLemmas.{Gave, content-same}
 use Rattle.sum_sources.proofs.ToldLemmas.{WhereTold-remade}
-
--- where a newline ended a piece, the other pieces follow it
-line_pieces-cons : (e : Ending) (piece : List ℕ) (more : List (List ℕ)) → 0 < length more
-    → line_pieces e (piece ∷ more) ≡ piece ∷ line_pieces e more
-line_pieces-cons e piece [] some = absurd (omega arith)
-line_pieces-cons e piece (next ∷ more) some = refl
 
 -- a newline ends the first piece
 pub pieces-newline : (e : Ending) (piece rest : List ℕ) → NoNewline piece
@@ -36,14 +30,15 @@ pub pieces-newline : (e : Ending) (piece rest : List ℕ) → NoNewline piece
 unfolding pieces
 pieces-newline e piece rest none =
     let newline : ℕ → Bool = λ b. b == 10 in
-    let some : 0 < length (slice_split newline rest) = omega (arith, length-slice_split newline rest) in
-    rw (slice_split_at newline piece 10 rest none refl) (line_pieces-cons e piece (slice_split newline rest) some)
+    let size : length (piece ∷ slice_split newline rest) - 1 ≡ suc (length (slice_split newline rest) - 1) =
+    omega (arith, length-slice_split newline rest) in
+    rw (slice_split_at newline piece 10 rest none refl, size) refl
 
 -- bytes without a newline are the last piece
 pub pieces-last : (e : Ending) (piece : List ℕ) → NoNewline piece
     → pieces (record { bytes = piece; ending = e }) ≡ last_line e piece
 unfolding pieces
-pieces-last e piece none = ap (line_pieces e) (slice_split_none (λ b. b == 10) piece none)
+pieces-last e piece none = rw (slice_split_none (λ b. b == 10) piece none) refl
 
 -- the first newline stands where the piece before it ends
 newline_after : (piece rest : List ℕ) → NoNewline piece
