@@ -18,32 +18,27 @@ IsPlain b = (b == 10) ≡ false
 -- a byte that is no newline goes to the first piece
 cut_plain : (b : ℕ) (bs : List ℕ) (ended : List (List ℕ)) (tail : List ℕ) → IsPlain b → CutsInto bs ended tail
     → IsCut (b ∷ bs)
-cut_plain b bs [] tail plain c =
-    let cut : CutsInto (b ∷ bs) [] (b ∷ tail) = record {
-      bytes_are = ap (λ l. b ∷ l) c.bytes_are;
-      pieces_plain = c.pieces_plain;
-      tail_plain = All-cons IsPlain b tail plain c.tail_plain;
-    } in
-    ([], b ∷ tail, cut)
+cut_plain b bs [] tail plain c = ([], b ∷ tail, record {
+  bytes_are = ap (λ l. b ∷ l) c.bytes_are;
+  pieces_plain = c.pieces_plain;
+  tail_plain = All-cons IsPlain b tail plain c.tail_plain;
+})
 cut_plain b bs (p ∷ ps) tail plain c =
     let longer : NoNewline (b ∷ p) = All-cons IsPlain b p plain (All-head NoNewline p ps c.pieces_plain) in
-    let cut : CutsInto (b ∷ bs) ((b ∷ p) ∷ ps) tail = record {
+    ((b ∷ p) ∷ ps, tail, record {
       bytes_are = ap (λ l. b ∷ l) c.bytes_are;
       pieces_plain = All-cons NoNewline (b ∷ p) ps longer (All-tail NoNewline p ps c.pieces_plain);
       tail_plain = c.tail_plain;
-    } in
-    ((b ∷ p) ∷ ps, tail, cut)
+    })
 
 -- so bytes with one more in front can be cut; a newline begins an empty piece
 cut_more : (b : ℕ) (bs : List ℕ) → IsCut bs → IsCut (b ∷ bs)
 cut_more b bs (ended, tail, c) = elim (eqb_tells b 10) [
-  | inl newline ↦
-      let cut : CutsInto (b ∷ bs) ([] ∷ ended) tail = record {
-        bytes_are = rw newline.1 (ap (λ l. 10 ∷ l) c.bytes_are);
-        pieces_plain = All-cons NoNewline [] ended (All-nil IsPlain) c.pieces_plain;
-        tail_plain = c.tail_plain;
-      } in
-      ([] ∷ ended, tail, cut)
+  | inl newline ↦ ([] ∷ ended, tail, record {
+      bytes_are = rw newline.1 (ap (λ l. 10 ∷ l) c.bytes_are);
+      pieces_plain = All-cons NoNewline [] ended (All-nil IsPlain) c.pieces_plain;
+      tail_plain = c.tail_plain;
+    })
   | inr other ↦ cut_plain b bs ended tail other.0 c
 ]
 
@@ -52,16 +47,11 @@ pub cut : (bytes : List ℕ) → (ended : List (List ℕ)) × (tail : List ℕ) 
 cut [] = ([], [], record { bytes_are = refl; pieces_plain = All-nil NoNewline; tail_plain = All-nil IsPlain })
 cut (b ∷ bs) = cut_more b bs (cut bs)
 
--- the first piece and its newline stand in front of what the others make
-bytes_of_pieces-cons : (p : List ℕ) (ps : List (List ℕ)) (tail : List ℕ)
-    → bytes_of_pieces (p ∷ ps) tail ≡ p ++ (10 ∷ bytes_of_pieces ps tail)
-bytes_of_pieces-cons p ps tail = simp append_assoc
-
 -- the pieces of bytes that were cut are those of the cut, and the last line
 pub pieces-joined : (ending : Ending) (ended : List (List ℕ)) (tail : List ℕ) → All NoNewline ended → NoNewline tail
     → pieces (record { bytes = bytes_of_pieces ended tail; ending = ending }) ≡ ended ++ last_line ending tail
 pieces-joined ending [] tail plain none = pieces-last ending tail none
 pieces-joined ending (p ∷ ps) tail plain none =
-    ap (λ l. pieces (record { bytes = l; ending = ending })) (bytes_of_pieces-cons p ps tail)
-    ∙ pieces-newline ending p (bytes_of_pieces ps tail) (All-head NoNewline p ps plain)
-    ∙ ap (λ ls. p ∷ ls) (pieces-joined ending ps tail (All-tail NoNewline p ps plain) none)
+    simp append_assoc (
+    pieces-newline ending p (bytes_of_pieces ps tail) (All-head NoNewline p ps plain)
+    ∙ ap (λ ls. p ∷ ls) (pieces-joined ending ps tail (All-tail NoNewline p ps plain) none))

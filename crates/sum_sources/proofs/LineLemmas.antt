@@ -1,14 +1,15 @@
 -- What the steps of the line reader make of pieces and lines.
-use Rattle.std.proofs.Common.{◌≡◌, ℕ, ◌+◌, ◌<◌, Bool, List, [], ◌∷◌, ◌++◌, length, drop, map, Option, None, Some}
+use Rattle.std.proofs.Common.{◌≡◌, ℕ, ◌+◌, ◌-◌, ◌<◌, suc, Bool, List, [], ◌∷◌, ◌++◌, length, drop, map, Option, None, Some}
 use Rattle.std.proofs.Common.{Result, Ok, Err, refl, ap, sym, ◌∙◌, append_assoc, arith, length-append, length-drop}
-use Rattle.std.proofs.Common.{◌==◌, inl, inr}
+use Rattle.std.proofs.Common.{◌==◌}
 use Rattle.std.specs.List.{slice_split, after_first, position_or_len}
 use Rattle.std.specs.Option.{option_map}
 use Rattle.std.specs.Str.Lines.{strip_carriage_return}
-use Rattle.std.proofs.lemmas.List.{get_or_append_left, drop_at, nil_from_length}
+use Rattle.std.proofs.lemmas.List.{append-nil, get_or_append_left, drop_at, nil_from_length}
 use Rattle.std.proofs.lemmas.List.Splits.{slice_split_at, slice_split_none, length-slice_split}
 use Rattle.std.proofs.lemmas.List.Sums.{position_or_len_is}
 use Rattle.std.proofs.Math.Seq.{get_or-append_seam}
+use Rattle.sum_sources.specs.declared.fault.Fault.{Fault}
 use Rattle.sum_sources.specs.declared.fault.Ending.{Ending}
 use Rattle.sum_sources.specs.declared.fault.Ending.TheVariants.{Whole, Broken}
 use Rattle.sum_sources.specs.declared.lines.Next.{Next}
@@ -17,17 +18,10 @@ use Rattle.sum_sources.specs.declared.lines.LineStop.{LineStop}
 use Rattle.sum_sources.specs.declared.lines.LineStop.TheVariants as stops
 use Rattle.sum_sources.specs.Contents.{Content, WhereTold}
 use Rattle.sum_sources.specs.Standard.{empty_content}
-use Rattle.sum_sources.specs.ManifestLines.{last_line, line_pieces, pieces, lines, past_line, NoNewline, LineOf}
+use Rattle.sum_sources.specs.ManifestLines.{last_line, pieces, lines, NoNewline, LineOf}
 use Rattle.sum_sources.specs.LineReaders.{left_by}
-use Rattle.sum_sources.specs.refinement.LineReading.{EndsPiece, IsLastPiece, PieceOf}
-use Rattle.sum_sources.proofs.ContentLemmas.{content-same}
-use Rattle.sum_sources.proofs.ToldLemmas.{WhereTold-map, WhereTold-remade}
-
--- where a newline ended a piece, the other pieces follow it
-line_pieces-cons : (e : Ending) (piece : List ℕ) (more : List (List ℕ)) → 0 < length more
-    → line_pieces e (piece ∷ more) ≡ piece ∷ line_pieces e more
-line_pieces-cons e piece [] some = absurd (omega arith)
-line_pieces-cons e piece (next ∷ more) some = refl
+use Rattle.sum_sources.proofs.ContentLemmas.{Gave, content-same}
+use Rattle.sum_sources.proofs.ToldLemmas.{WhereTold-remade}
 
 -- a newline ends the first piece
 pub pieces-newline : (e : Ending) (piece rest : List ℕ) → NoNewline piece
@@ -36,14 +30,15 @@ pub pieces-newline : (e : Ending) (piece rest : List ℕ) → NoNewline piece
 unfolding pieces
 pieces-newline e piece rest none =
     let newline : ℕ → Bool = λ b. b == 10 in
-    let some : 0 < length (slice_split newline rest) = omega (arith, length-slice_split newline rest) in
-    rw (slice_split_at newline piece 10 rest none refl) (line_pieces-cons e piece (slice_split newline rest) some)
+    let size : length (piece ∷ slice_split newline rest) - 1 ≡ suc (length (slice_split newline rest) - 1) =
+    omega (arith, length-slice_split newline rest) in
+    rw (slice_split_at newline piece 10 rest none refl, size) refl
 
 -- bytes without a newline are the last piece
 pub pieces-last : (e : Ending) (piece : List ℕ) → NoNewline piece
     → pieces (record { bytes = piece; ending = e }) ≡ last_line e piece
 unfolding pieces
-pieces-last e piece none = ap (line_pieces e) (slice_split_none (λ b. b == 10) piece none)
+pieces-last e piece none = rw (slice_split_none (λ b. b == 10) piece none) refl
 
 -- the first newline stands where the piece before it ends
 newline_after : (piece rest : List ℕ) → NoNewline piece
@@ -82,16 +77,16 @@ pieces-nil (Broken f) = pieces-last (Broken f) [] none_in_nil
 pub lines-nil : (e : Ending) → lines (record { bytes = []; ending = e }) ≡ []
 lines-nil e = ap (map strip_carriage_return) (pieces-nil e)
 
--- a piece that a newline ended is the first line
-LineOf-ended : (c d : Content) (piece : List ℕ) → NoNewline piece → EndsPiece c d piece
-    → (lines c ≡ strip_carriage_return piece ∷ lines d) × (d ≡ past_line c)
-LineOf-ended c d piece none is =
-    let past : after_first (λ b. b == 10) c.bytes ≡ d.bytes = rw is.0 (after_newline piece d.bytes none) in
-    let all : c ≡ record { bytes = piece ++ (10 ∷ d.bytes); ending = d.ending } =
-    content-same c (record { bytes = piece ++ (10 ∷ d.bytes); ending = d.ending }) is.0 (sym is.1) in (
-      ap lines all ∙ ap (map strip_carriage_return) (pieces-newline d.ending piece d.bytes none),
-      content-same d (past_line c) (sym past) is.1,
+-- a newline ends the first line
+pub LineOf-ended : (c d : Content) (piece : List ℕ) → NoNewline piece → Gave c d (piece ++ 10 ∷ [])
+    → LineOf c d (Ok Line) (strip_carriage_return piece)
+LineOf-ended c d piece none gave =
+    rw (
+      content-same c (record { bytes = piece ++ (10 ∷ d.bytes); ending = d.ending })
+          (gave.0 ∙ append_assoc piece (10 ∷ []) d.bytes) (sym gave.1),
+      after_newline piece d.bytes none,
     )
+    (ap (map strip_carriage_return) (pieces-newline d.ending piece d.bytes none), refl)
 
 -- a last piece that isn't empty is a line
 last_line-some : (piece : List ℕ) → 0 < length piece → last_line Whole piece ≡ piece ∷ []
@@ -99,54 +94,37 @@ last_line-some [] some = absurd (omega arith)
 last_line-some (b ∷ bs) some = refl
 
 -- the last piece is the only line left
-LineOf-last : (c d : Content) (piece : List ℕ) → NoNewline piece → IsLastPiece c d piece
-    → (lines c ≡ strip_carriage_return piece ∷ lines d) × (d ≡ past_line c)
-LineOf-last c d piece none is =
-    let past : after_first (λ b. b == 10) c.bytes ≡ [] = rw is.0 (nothing_after piece none) in
-    let all : c ≡ record { bytes = piece; ending = Whole } =
-    content-same c (record { bytes = piece; ending = Whole }) is.0 is.1 in
-    let one : lines c ≡ strip_carriage_return piece ∷ [] =
-    ap lines all ∙ ap (map strip_carriage_return) (pieces-last Whole piece none ∙ last_line-some piece is.2) in (
-      rw (is.3, lines-nil Whole) one,
-      is.3 ∙ sym (content-same (past_line c) empty_content past is.1),
+pub LineOf-last : (c : Content) (piece : List ℕ) → NoNewline piece → 0 < length piece → Gave c empty_content piece
+    → LineOf c empty_content (Ok Line) (strip_carriage_return piece)
+LineOf-last c piece none some gave =
+    rw (
+      content-same c (record { bytes = piece; ending = Whole }) (gave.0 ∙ append-nil piece) (sym gave.1),
+      nothing_after piece none,
+      lines-nil Whole,
     )
-
--- a piece, without its carriage return, is the line
-LineOf-line : (c d : Content) (piece : List ℕ) → PieceOf c d (Ok Line) piece
-    → LineOf c d (Ok Line) (strip_carriage_return piece)
-LineOf-line c d piece (none, inl ended) = LineOf-ended c d piece none ended
-LineOf-line c d piece (none, inr last) = LineOf-last c d piece none last
+    (ap (map strip_carriage_return) (pieces-last Whole piece none ∙ last_line-some piece some), refl)
 
 -- where nothing is left, there is no line
-LineOf-no_more : (c d : Content) (line piece : List ℕ)
-    → PieceOf c d (Ok NoMore) piece → LineOf c d (Ok NoMore) line
-LineOf-no_more c d line piece is = (ap lines is ∙ lines-nil Whole, ap (λ (x : Content). x.ending) is)
+pub LineOf-none : (c : Content) (line : List ℕ) → Gave c empty_content [] → LineOf c empty_content (Ok NoMore) line
+LineOf-none c line gave = rw (content-same c empty_content gave.0 (sym gave.1)) (lines-nil Whole, refl)
 
--- a fault leaves no line, whatever stands before it; what is to come after a stop doesn't matter
-LineOf-stop : (c d d' : Content) (e : LineStop) (line : List ℕ) → PieceOf c d (Err e) line → LineOf c d' (Err e) line
-LineOf-stop c d d' stops.Memory line is = is
-LineOf-stop c d d' (stops.Fault f) line is =
-    let all : c ≡ record { bytes = line; ending = Broken f } =
-    content-same c (record { bytes = line; ending = Broken f }) is.1 is.2 in
-    (ap lines all ∙ ap (map strip_carriage_return) (pieces-last (Broken f) line is.0), is.2)
+-- a fault leaves no line, whatever stands before it
+pub LineOf-fault : (c d : Content) (f : Fault) (piece : List ℕ) → NoNewline piece
+    → Gave c (record { bytes = []; ending = Broken f }) piece → LineOf c d (Err (stops.Fault f)) []
+LineOf-fault c d f piece none gave = (
+  rw (content-same c (record { bytes = piece; ending = Broken f }) (gave.0 ∙ append-nil piece) (sym gave.1))
+      (ap (map strip_carriage_return) (pieces-last (Broken f) piece none)),
+  sym gave.1,
+)
 
--- a line, where contents are told
-pub gives_line : {r : Result Next LineStop} {line : List ℕ} (x y : Option Content) (piece : List ℕ)
-    → r ≡ Ok Line → line ≡ strip_carriage_return piece → WhereTold x y (λ c d. PieceOf c d r piece)
-    → WhereTold x y (λ c d. LineOf c d r line)
-gives_line x y piece is dropped h = rw (is, dropped) (WhereTold-map x y (λ c d. LineOf-line c d piece) (rw is at h))
-
--- that no line is left
-pub gives_no_more : {r : Result Next LineStop} (x y : Option Content) (line : List ℕ)
-    → r ≡ Ok NoMore → WhereTold x y (λ c d. PieceOf c d r line) → WhereTold x y (λ c d. LineOf c d r line)
-gives_no_more x y line is h = rw is (WhereTold-map x y (λ c d. LineOf-no_more c d line line) (rw is at h))
-
--- a stop, by a fault or for want of memory
+-- what is still to come after a stop doesn't matter
 pub gives_stop : {r : Result Next LineStop} {e : LineStop} (x z : Option Content) (f g : Content → Content)
-    (line : List ℕ) → r ≡ Err e → WhereTold x (option_map f z) (λ c d. PieceOf c d r line)
+    (piece line : List ℕ) → r ≡ Err e → WhereTold x (option_map f z) (λ c d. LineOf c d r piece)
     → WhereTold x (option_map g z) (λ c d. LineOf c d r line)
-gives_stop {e = e} x z f g line is h =
-    rw is (WhereTold-remade x z f g _ _ (λ c d. LineOf-stop c (f d) (g d) e line) (rw is at h))
+gives_stop {e = stops.Memory} x z f g piece line is h =
+    rw is (WhereTold-remade x z f g _ _ (λ c d h. h) (rw is at h))
+gives_stop {e = stops.Fault q} x z f g piece line is h =
+    rw is (WhereTold-remade x z f g _ _ (λ c d h. h) (rw is at h))
 
 -- the end was answered before, and is answered again
 pub gives_ended : (z : Option Content) (line : List ℕ)

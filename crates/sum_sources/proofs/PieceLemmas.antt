@@ -1,10 +1,10 @@
 -- The piece of a line that stands in the reader's buffer.
 use Rattle.std.proofs.Common.{◌≡◌, ℕ, ◌+◌, ◌-◌, ◌<◌, ◌≤◌, ◌==◌, List, ◌∷◌, ◌++◌, length, take, drop, get_or}
-use Rattle.std.proofs.Common.{suc, ap, sym, ◌∙◌, arith, add-one, length-append, length-take, length-drop}
+use Rattle.std.proofs.Common.{suc, false, refl, ap, sym, ◌∙◌, arith, add-one, length-append, length-take, length-drop}
 use Rattle.std.proofs.lemmas.List.{length-take-le, take-append-drop, get_or-take, drop-take, drop-drop}
 use Rattle.std.proofs.lemmas.Bool.{false_from_ne_true}
-use Rattle.std.proofs.lemmas.Grind.{get_or_default_zero}
-use Rattle.std.proofs.Math.Seq.{drop-cons}
+use Rattle.std.proofs.lemmas.List.Elements.{All-from_get_or}
+use Rattle.std.proofs.Math.Seq.{split_at, take-length}
 use Rattle.memchr.specs.Find.{Nowhere, Passes, is_byte}
 use Rattle.sum_sources.specs.ManifestLines.{NoNewline}
 
@@ -18,18 +18,16 @@ pub some_buffered : (buf rest : List ℕ) (s e : ℕ) → s < e → e ≤ length
 some_buffered buf rest s e low high =
     omega (arith, length-append (take (e - s) (drop s buf)) rest, length-buffered buf s e (omega arith) high)
 
--- a byte that isn't found is no newline
-pub plain_piece : (bytes : List ℕ) → Nowhere (Passes (is_byte 10) bytes) 0 (length bytes) → NoNewline bytes
-plain_piece bytes none k d low =
-    ap (λ b. b == 10) (get_or_default_zero bytes k d low) ∙ false_from_ne_true _ (none k (omega arith) low)
-
--- nor are those before the first that is found
-pub plain_prefix : (bytes : List ℕ) (n : ℕ) → n < length bytes → Nowhere (Passes (is_byte 10) bytes) 0 n
+-- the bytes before the first newline that is found have none
+pub plain_prefix : (bytes : List ℕ) (n : ℕ) → n ≤ length bytes → Nowhere (Passes (is_byte 10) bytes) 0 n
     → NoNewline (take n bytes)
-plain_prefix bytes n few none k d low =
-    let below : k < n = omega (arith, low, length-take-le n bytes (omega arith)) in
-    ap (λ b. b == 10) (get_or-take n bytes k d below ∙ get_or_default_zero bytes k d (omega arith))
-    ∙ false_from_ne_true _ (none k (omega arith) below)
+plain_prefix bytes n few none = All-from_get_or (λ b. (b == 10) ≡ false) (take n bytes) 0 (λ k low.
+    let below : k < n = omega (arith, low, length-take-le n bytes few) in
+    rw (get_or-take n bytes k 0 below) (false_from_ne_true _ (none k (omega arith) below)))
+
+-- nor have all bytes, where none is found
+pub plain_piece : (bytes : List ℕ) → Nowhere (Passes (is_byte 10) bytes) 0 (length bytes) → NoNewline bytes
+plain_piece bytes none = rw take-length at (plain_prefix bytes (length bytes) (omega arith) none)
 
 -- the buffer is cut at a newline
 pub cut_buffer : (buf : List ℕ) (s e n : ℕ) → e ≤ length buf → n < e - s
@@ -37,12 +35,9 @@ pub cut_buffer : (buf : List ℕ) (s e n : ℕ) → e ≤ length buf → n < e -
     → take (e - s) (drop s buf)
     ≡ take n (take (e - s) (drop s buf)) ++ (10 ∷ take (e - (s + (n + 1))) (drop (s + (n + 1)) buf))
 cut_buffer buf s e n high few newline =
-    let held : List ℕ = take (e - s) (drop s buf) in
-    let low : n < length held = omega (arith, length-buffered buf s e (omega arith) high) in
+    let ahead : List ℕ = take (e - s) (drop s buf) in
+    let low : n < length ahead = omega (arith, length-buffered buf s e (omega arith) high) in
     let size : e - s ≡ (n + 1) + (e - (s + (n + 1))) = omega arith in
-    let behind : drop (n + 1) held ≡ take (e - (s + (n + 1))) (drop (s + (n + 1)) buf) =
-    ap (λ (k : ℕ). drop (n + 1) (take k (drop s buf))) size ∙ drop-take (n + 1) _ (drop s buf)
-    ∙ ap (take (e - (s + (n + 1)))) (drop-drop (n + 1) s buf) in
-    sym (take-append-drop n held)
-    ∙ ap (λ l. take n held ++ l) (drop-cons held n 0 low ∙ ap (λ b. b ∷ drop (suc n) held) newline
-    ∙ ap (λ l. 10 ∷ l) (rw (← add-one n) behind))
+    let behind : drop (n + 1) ahead ≡ take (e - (s + (n + 1))) (drop (s + (n + 1)) buf) =
+    ap (λ (k : ℕ). drop (n + 1) (take k (drop s buf))) size ∙ rw (drop-take, drop-drop) refl in
+    split_at ahead n 0 low ∙ rw (newline, ← add-one n, behind) refl

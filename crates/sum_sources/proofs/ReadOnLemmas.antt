@@ -1,21 +1,23 @@
 -- What was read of a line so far, and what reading on makes of it.
-use Rattle.std.proofs.Common.{◌≡◌, ℕ, ◌<◌, false, List, [], ◌++◌, length}
-use Rattle.std.proofs.Common.{Option, None, Ok, Err, refl, sym, ◌∙◌, append_assoc}
+use Rattle.std.proofs.Common.{◌≡◌, ℕ, true, false, List, [], ◌∷◌, ◌++◌}
+use Rattle.std.proofs.Common.{Option, None, Ok, Err, refl, append_assoc}
 use Rattle.std.proofs.Common.{◌==◌, inl, inr, ap, ◌⊎◌}
 use Rattle.std.specs.Option.{option_map}
 use Rattle.std.proofs.lemmas.List.{append-nil}
 use Rattle.std.proofs.lemmas.List.Elements.{All-append}
 use Rattle.sum_sources.specs.declared.fault.Fault.{Fault}
-use Rattle.sum_sources.specs.declared.fault.Ending.TheVariants.{Whole, Broken}
 use Rattle.sum_sources.specs.declared.lines.Next.TheVariants.{Line}
 use Rattle.sum_sources.specs.declared.lines.LineStop.TheVariants as stops
 use Rattle.sum_sources.specs.Contents.{Content, InputState, WhereTold}
 use Rattle.sum_sources.specs.Standard.{empty_content}
-use Rattle.sum_sources.specs.LineReaders.{Reader, coming, with_prefix}
-use Rattle.sum_sources.specs.refinement.LineReading.{FillOf, TakesPiece, PieceOf}
+use Rattle.sum_sources.specs.LineReaders.{Reader, coming}
+use Rattle.sum_sources.specs.refinement.LineReading.{FillOf, TakesPiece}
 use Rattle.sum_sources.specs.ManifestLines.{NoNewline}
+use Rattle.sum_sources.specs.ManifestLines.{LineOf}
+use Rattle.std.specs.Str.Lines.{strip_carriage_return}
 use Rattle.sum_sources.proofs.ContentLemmas.{Gave}
-use Rattle.sum_sources.proofs.ToldLemmas.{WhereTold-remade, WhereTold-then}
+use Rattle.sum_sources.proofs.LineLemmas.{LineOf-ended, LineOf-fault}
+use Rattle.sum_sources.proofs.ToldLemmas.{WhereTold-map, WhereTold-remade, WhereTold-then}
 
 -- this much of a line came to a reader, and no newline with it: a record, so that antt finds what it speaks of
 pub record LineSoFar {I : Type 0} (state : I → InputState) (old s : Reader I) (line : List ℕ) : Type 0 where
@@ -23,47 +25,55 @@ pub record LineSoFar {I : Type 0} (state : I → InputState) (old s : Reader I) 
   pub plain : NoNewline line
   pub going : s.answer ≡ None
 
--- bytes in front of what is still to come join the line
-Gave-prefix : (x y : Option Content) (rest : Content → Content) (prefix line : List ℕ)
-    → WhereTold x (option_map (λ c. with_prefix prefix (rest c)) y) (λ c d. Gave c d line)
-    → WhereTold x (option_map rest y) (λ c d. Gave c d (line ++ prefix))
-Gave-prefix x y rest prefix line = WhereTold-remade x y (λ c. with_prefix prefix (rest c)) rest
+-- bytes that were ahead came too
+took : {I : Type 0} {state : I → InputState} {old s s' : Reader I} {line : List ℕ} (prefix : List ℕ)
+    → LineSoFar state old s line → s' ≡ record s { ahead = s'.ahead } → s.ahead ≡ prefix ++ s'.ahead
+    → WhereTold (coming state old) (coming state s') (λ c d. Gave c d (line ++ prefix))
+took {state = state} {old = old} {s = s} {line = line} prefix h same ahead =
+    rw (same, h.going) (WhereTold-remade (coming state old) (state s.input).content _ _
     (λ c d. Gave c d line) (λ c d. Gave c d (line ++ prefix))
-    (λ c d h. (h.0 ∙ sym (append_assoc line prefix (rest d).bytes), h.1))
+    (λ c d gave. (simp append_assoc (simp append_assoc at gave.0), gave.1)) (rw (h.going, ahead) at h.came))
 
 -- the whole buffer joins the line, where it has no newline
 pub LineSoFar-piece : {I : Type 0} {state : I → InputState} {old s s' : Reader I} {line line' : List ℕ}
-    → LineSoFar state old s line → s'.input ≡ s.input → s'.taken ≡ s.taken → s'.answer ≡ s.answer
+    → LineSoFar state old s line → s' ≡ record s { ahead = s'.ahead }
     → TakesPiece false s.ahead s'.ahead line line' → LineSoFar state old s' line'
-LineSoFar-piece {state = state} {old = old} {s = s} {line = line} h input taken answer piece = record {
-  came = rw (input, taken, answer, h.going, piece.1, piece.2)
-      (Gave-prefix (coming state old) (state s.input).content _ s.ahead line (rw h.going at h.came));
-  plain = rw piece.2 (All-append (λ b. (b == 10) ≡ false) line s.ahead h.plain piece.0);
-  going = answer ∙ h.going;
+LineSoFar-piece {s = s} {line = line} h same (plain, none, is) = record {
+  came = rw is (took s.ahead h same (rw (none, append-nil) refl));
+  plain = rw is (All-append (λ b. (b == 10) ≡ false) line s.ahead h.plain plain);
+  going = rw same h.going;
 }
 
--- the input's end ends the line, where something came of it
-pub PieceOf-last : {I : Type 0} {state : I → InputState} {old s : Reader I} {line : List ℕ}
-    (z : Option Content) (f : Content → Content) → LineSoFar state old s line
-    → WhereTold (coming state s) (option_map f z) (λ c d. FillOf c d (Ok false)) → 0 < length line
-    → WhereTold (coming state old) (option_map (λ _. empty_content) z) (λ c d. PieceOf c d (Ok Line) line)
-PieceOf-last {state = state} {old = old} {s = s} {line = line} z f h ended some =
-    let IsAll : Content → Content → Type 0 = λ c _. (c.bytes ≡ line) × (c.ending ≡ Whole) in
-    WhereTold-remade (coming state old) z f (λ _. empty_content) IsAll (λ c d. PieceOf c d (Ok Line) line)
-    (λ c d is. (h.plain, inr (is.0, is.1, some, refl)))
-    (WhereTold-then (coming state old) (coming state s) (option_map f z) {R = IsAll}
-    (λ c d e came end. let all = rw end.1 at came in (all.0 ∙ append-nil line, sym all.1)) h.came ended)
+-- a newline in the buffer ends the line
+pub ends_line : {I : Type 0} {state : I → InputState} {old s s' : Reader I} {line line' : List ℕ}
+    → LineSoFar state old s line → s' ≡ record s { ahead = s'.ahead }
+    → TakesPiece true s.ahead s'.ahead line line'
+    → WhereTold (coming state old) (coming state s') (λ c d. LineOf c d (Ok Line) (strip_carriage_return line'))
+ends_line {state = state} {old = old} {s' = s'} {line = line} h same (piece, plain, cut, is) =
+    rw is (WhereTold-map (coming state old) (coming state s') (λ c d gave.
+    LineOf-ended c d (line ++ piece) (All-append (λ b. (b == 10) ≡ false) line piece h.plain plain)
+    (rw (append_assoc line piece (10 ∷ [])) gave)) (took (piece ++ 10 ∷ []) h same (rw append_assoc cut)))
+
+-- the input's end ends the line, or leaves none
+pub ends_last : {I : Type 0} {state : I → InputState} {old s : Reader I} {line : List ℕ}
+    (z : Option Content) (f : Content → Content) (Q : Content → Content → Type 0) → LineSoFar state old s line
+    → WhereTold (coming state s) (option_map f z) (λ c d. FillOf c d (Ok false))
+    → ((c : Content) → Gave c empty_content line → Q c empty_content)
+    → WhereTold (coming state old) (option_map (λ _. empty_content) z) Q
+ends_last {state = state} {old = old} {s = s} {line = line} z f Q h ended all =
+    WhereTold-remade (coming state old) z f (λ _. empty_content) (λ c _. Gave c empty_content line) Q (λ c d. all c)
+    (WhereTold-then (coming state old) (coming state s) (option_map f z) {R = λ c _. Gave c empty_content line}
+    (λ c d e came end. rw end.1 at came) h.came ended)
 
 -- a fault of the input ends the line
-pub PieceOf-fault : {I : Type 0} {state : I → InputState} {old s : Reader I} {line : List ℕ}
+pub ends_by_fault : {I : Type 0} {state : I → InputState} {old s : Reader I} {line : List ℕ}
     (s' : Reader I) (f : Fault) → LineSoFar state old s line
     → WhereTold (coming state s) (coming state s') (λ c d. FillOf c d (Err f))
-    → WhereTold (coming state old) (coming state s') (λ c d. PieceOf c d (Err (stops.Fault f)) line)
-PieceOf-fault {state = state} {old = old} {s = s} {line = line} s' f h broke =
-    let broken : Content = record { bytes = []; ending = Broken f } in
-    WhereTold-then (coming state old) (coming state s) (coming state s') {Q = λ c d. c ≡ broken}
-    {R = λ c d. PieceOf c d (Err (stops.Fault f)) line}
-    (λ c d e came is. let all = rw is at came in (h.plain, all.0 ∙ append-nil line, sym all.1)) h.came broke
+    → WhereTold (coming state old) (coming state s') (λ c d. LineOf c d (Err (stops.Fault f)) [])
+ends_by_fault {state = state} {old = old} {s = s} {line = line} s' f h broke =
+    WhereTold-then (coming state old) (coming state s) (coming state s')
+    {Q = λ c d. FillOf c d (Err f)} {R = λ c d. LineOf c d (Err (stops.Fault f)) []}
+    (λ c d e came is. LineOf-fault c e f line h.plain (rw is at came)) h.came broke
 
 -- the reader is as it was, or no newline stood in what was read ahead
 pub record Unread {I : Type 0} (old s : Reader I) : Type 0 where

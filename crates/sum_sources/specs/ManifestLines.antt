@@ -1,6 +1,6 @@
 -- The lines of a manifest.
 use Rattle.std.specs.Prelude.{ℕ, zero, suc, ◌≡◌, ◌+◌, ◌==◌, false, List, [], ◌∷◌, ◌++◌, map, All}
-use Rattle.std.specs.Prelude.{◌<◌, length, Result, Ok, Err}
+use Rattle.std.specs.Prelude.{◌<◌, ◌-◌, take, length, slice_index_or, Result, Ok, Err}
 use Rattle.std.specs.List.{slice_split, after_first, flat_map}
 use Rattle.std.specs.Str.Lines.{strip_carriage_return}
 use Rattle.sum_sources.specs.declared.fault.Ending.{Ending}
@@ -16,15 +16,10 @@ abbrev pub last_line : Ending → List ℕ → List (List ℕ)
 last_line Whole (b ∷ bs) = (b ∷ bs) ∷ []
 last_line _ _ = []
 
--- which of the pieces between newlines are lines: each that a newline ended, and the last one by its own rule
-abbrev pub line_pieces : Ending → List (List ℕ) → List (List ℕ)
-line_pieces e [] = []
-line_pieces e (last ∷ []) = last_line e last
-line_pieces e (piece ∷ next ∷ more) = piece ∷ line_pieces e (next ∷ more)
-
--- the lines of a content with their carriage returns
+-- the lines of a content with their carriage returns: each piece that a newline ended, and the last one by its own rule
 unfoldable pub pieces : Content → List (List ℕ)
-pieces c = line_pieces c.ending (slice_split (λ b. b == 10) c.bytes)
+pieces c = let all = slice_split (λ b. b == 10) c.bytes in
+    take (length all - 1) all ++ last_line c.ending (slice_index_or all (length all - 1) [])
 
 -- the lines of a content: each without one carriage return at its end, where it has one
 abbrev pub lines : Content → List (List ℕ)

@@ -1,10 +1,11 @@
 -- What sources of files answer, and what they were asked.
 use Rattle.digest_kinds.specs.Limits.{one_more}
-use Rattle.std.specs.Prelude.{ℕ, ◌≡◌, List, [], ◌∷◌, ◌++◌, Option, Some, Result, Ok, Err, ⊤}
+use Rattle.std.specs.Prelude.{ℕ, ◌≡◌, List, [], ◌∷◌, ◌++◌, Option, Some, Result, Ok, Err}
+use Rattle.std.specs.Option.{option_map}
 use Rattle.sum_sources.specs.declared.fault.Fault.{Fault}
 use Rattle.sum_sources.specs.declared.source.OpenFault.{OpenFault}
 use Rattle.sum_sources.specs.declared.source.OpenFault.TheVariants as faults
-use Rattle.sum_sources.specs.Contents.{Content, InputState, WhereTold}
+use Rattle.sum_sources.specs.Contents.{Content, InputState}
 
 -- what a source has for a name
 pub data Reply : Type 0 where
@@ -26,19 +27,12 @@ abbrev pub refusals_after : {F : Type 0} → ℕ → Result F OpenFault → ℕ
 refusals_after n (Err faults.Memory) = one_more n
 refusals_after n _ = n
 
--- every call but one that wants memory adds its name
-abbrev pub asked_after : {F : Type 0} → List (List ℕ) → List ℕ → Result F OpenFault → List (List ℕ)
-asked_after asked name (Err faults.Memory) = asked
-asked_after asked name _ = asked ++ name ∷ []
+-- a source is asked one name more, and this is its reply
+abbrev pub AsksName : Telling → Telling → List ℕ → Option Reply → Type 0
+AsksName s t name reply = (t ≡ record s { asked = s.asked ++ name ∷ [] }) × (reply ≡ Some (s.answer name))
 
--- opening comes out as the reply says, where memory was there
-abbrev pub OpensAsReply : {F : Type 0} → (F → InputState) → Reply → Result F OpenFault → Type 0
-OpensAsReply state reply (Ok file) = (c : Content) × (reply ≡ Given c) × ((state file).content ≡ Some c)
-OpensAsReply state reply (Err (faults.Fault f)) = reply ≡ Refused f
-OpensAsReply state reply (Err faults.Memory) = ⊤
-
--- what opening a name does, where a source tells: its replies stay the same
-abbrev pub OpenGives :
-    {F : Type 0} → (F → InputState) → Option Telling → Option Telling → List ℕ → Result F OpenFault → Type 0
-OpenGives state old new name r = WhereTold old new (λ s t. (t.answer ≡ s.answer)
-    × (t.asked ≡ asked_after s.asked name r) × OpensAsReply state (s.answer name) r)
+-- opening a name changes nothing for want of memory; else it is asked, and its reply is the file's content or the fault
+abbrev pub Opens : {F : Type 0} → (F → InputState) → Telling → Telling → List ℕ → Result F OpenFault → Type 0
+Opens state s t name (Ok file) = AsksName s t name (option_map Given (state file).content)
+Opens state s t name (Err (faults.Fault f)) = AsksName s t name (Some (Refused f))
+Opens state s t name (Err faults.Memory) = t ≡ s

@@ -1,5 +1,5 @@
 //! What can be read.
-ghost use Rattle.std.specs.Prelude.{ℕ, true, ◌≡◌, ◌≤◌, ◌||◌, length, None, is_err, IfOk};
+ghost use Rattle.std.specs.Prelude.{true, ◌≡◌, ◌≤◌, ◌||◌, length, None, is_err, IfOk};
 ghost use Rattle.sum_sources.specs.Contents.{InputState, WhereTold, ReadsFrom};
 
 use crate::Fault;

@@ -78,7 +78,7 @@ impl<I: Input> LineReader<I> {
     ghost use Rattle.sum_sources.specs.Contents.{clip};
     ghost use Rattle.sum_sources.specs.ManifestLines.{LineOf, NoNewline, lines_after};
     ghost use Rattle.sum_sources.specs.LineReaders.{coming, used, Bounded, Settles};
-    ghost use Rattle.sum_sources.specs.refinement.LineReading.{FillOf, TakesPiece, PieceOf};
+    ghost use Rattle.sum_sources.specs.refinement.LineReading.{FillOf, TakesPiece};
 
     /// A reader of the lines of `input`. An input of `LIMIT` bytes or more counts as its first
     /// `LIMIT - 1` bytes and then `Fault::Other`.
@@ -151,10 +151,7 @@ impl<I: Input> LineReader<I> {
         ensures memory { IsErr result → (self.new ≡ self.old) × (0 < length self.old.ahead) }
         ensures used { IfOk result (λ ended. used self.new + length line.old.items
             ≡ used self.old + length line.new.items + (if ended then 1 else 0)) }
-        ensures input { self.new.input ≡ self.old.input }
-        ensures taken { self.new.taken ≡ self.old.taken }
-        ensures lines { self.new.lines ≡ self.old.lines }
-        ensures answer { self.new.answer ≡ self.old.answer }
+        ensures same { self.new ≡ record self.old { ahead = self.new.ahead } }
     {
         if self.start == self.end {
             return Ok(false);
@@ -178,8 +175,8 @@ impl<I: Input> LineReader<I> {
     fn read_on<A: Allocator>(&mut self, line: &mut Vec<u8, A>) -> Result<Next, LineStop>
         requires empty { line.old.items ≡ [] }
         requires going { self.old.answer ≡ None }
-        ensures piece { WhereTold (coming I.state self.old) (coming I.state self.new)
-            (λ c d. PieceOf c d result line.new.items) }
+        ensures gives { WhereTold (coming I.state self.old) (coming I.state self.new)
+            (λ c d. LineOf c d result (strip_carriage_return line.new.items)) }
         ensures memory { result ≡ Err LineStop.Memory → 0 < length self.new.ahead }
         ensures used { OnOk result (WhereTold (coming I.state self.old) (coming I.state self.new)
             (λ c d. used self.new + length d.bytes ≡ used self.old + length c.bytes)) }

@@ -1,8 +1,8 @@
 //! A source in memory.
-ghost use Rattle.std.specs.Prelude.{◌≡◌, ◌++◌, ◌∷◌, [], OnOk, OnErr, IfOk, Some, map, max, slice_get};
+ghost use Rattle.std.specs.Prelude.{◌≡◌, ◌++◌, ◌∷◌, [], OnOk, OnErr, IfOk, map, max, slice_get};
 ghost use Rattle.std.specs.Option.{option_map};
 ghost use Rattle.sum_sources.specs.InMemory.{first_reply, telling_of};
-ghost use Rattle.sum_sources.specs.Sources.{OpenGives, refusals_after};
+ghost use Rattle.sum_sources.specs.Sources.{Opens, refusals_after};
 ghost use Rattle.digest_kinds.specs.Limits.{one_more};
 ghost use Rattle.sum_sources.specs.refinement.ToldPairs.{pair_of, reply_of};
 
@@ -129,8 +129,8 @@ impl<'a, A: Allocator + Copy> Source for ToldSource<'a, A> {
     ghost state = { λ s. record { told = Some (telling_of s); refusals = s.refusals } };
 
     fn open_file(&mut self, name: &[u8]) -> Result<Told<'a>, OpenFault>
-        ensures answer { OpenGives ⟦<Told<'a> as Input>⟧.state
-            (Some (telling_of self.old)) (Some (telling_of self.new)) name.now result }
+        ensures answer { Opens ⟦<Told<'a> as Input>⟧.state
+            (telling_of self.old) (telling_of self.new) name.now result }
         ensures refusals { self.new.refusals ≡ refusals_after self.old.refusals result }
         ensures piece { IfOk result (λ file. file.piece ≡ max self.old.piece 1) }
         ensures same { (self.new.pairs ≡ self.old.pairs) × (self.new.piece ≡ self.old.piece) }

@@ -1,7 +1,7 @@
-use Rattle.std.proofs.Common.{rules, [], ap, arith, ◌∙◌}
+use Rattle.std.proofs.Common.{[], ap, arith, ◌∙◌}
 use Rattle.sum_sources.specs.declared.lines.State.TheVariants.{Stopped}
 use Rattle.sum_sources.proofs.PieceLemmas.{some_buffered}
-use Rattle.sum_sources.proofs.LineLemmas.{gives_ended, gives_stopped, gives_line, gives_no_more, gives_stop}
+use Rattle.sum_sources.proofs.LineLemmas.{gives_ended, gives_stopped, gives_stop}
 use Rattle.sum_sources.proofs.lines.LineReader.next_line.Goals as goal
 
 -- the end is answered again
@@ -14,19 +14,8 @@ returns-in-Stopped-clause-gives g c = rw (← c.self.view_is, c.in-Stopped.is) (
     (λ is k. some_buffered c.self.inside.buf _ _ _ (c.self.invariant.wants (c.in-Stopped.is ∙ ap Stopped is))
     (omega (arith, c.self.invariant.end_in, c.self.told))))
 
--- a line
-pub returns-in-Ok-Line-clause-gives : goal.returns-in-Ok-Line-clause-gives
-returns-in-Ok-Line-clause-gives g c =
-    gives_line _ _ c.read_on-result.new.line.items (search rules) c.drop_return.ensures
-    (rw (← c.self-2.view_is) at c.read_on-result.ensures.piece)
-
--- no line is left
-pub returns-in-Ok-NoMore-clause-gives : goal.returns-in-Ok-NoMore-clause-gives
-returns-in-Ok-NoMore-clause-gives g c =
-    gives_no_more _ _ c.read_on-result.new.line.items (search rules) c.read_on-result.ensures.piece
-
 -- a stop
 pub returns-in-Err-clause-gives : goal.returns-in-Err-clause-gives
 returns-in-Err-clause-gives g c =
-    gives_stop _ _ _ _ c.read_on-result.new.line.items c.in-Err.is
-    (rw (← c.self-2.view_is) at c.read_on-result.ensures.piece)
+    gives_stop _ _ _ _ _ _ c.in-Err.is
+    (rw (← c.self-2.view_is) at c.read_on-result.ensures.gives)

@@ -1,26 +1,41 @@
-use Rattle.std.proofs.Common.{rules}
-use Rattle.sum_sources.proofs.ReadOnLemmas.{LineSoFar, LineSoFar-piece, PieceOf-last, PieceOf-fault}
+use Rattle.std.proofs.Common.{rules, [], ◌≡◌}
+use Rattle.std.proofs.lemmas.List.{nil_from_length}
+use Rattle.sum_sources.proofs.LineLemmas.{LineOf-last, LineOf-none}
+use Rattle.sum_sources.proofs.ReadOnLemmas.{LineSoFar, LineSoFar-piece, ends_line, ends_last, ends_by_fault}
 use Rattle.sum_sources.proofs.lines.LineReader.read_on.Given as given
 use Rattle.sum_sources.proofs.lines.LineReader.read_on.Goals as goal
 use Rattle.sum_sources.proofs.lines.LineReader.read_on.Goals.{In-Ok-false}
+
+-- a newline ended the line
+pub returns-in-Ok-true-clause-gives : goal.returns-in-Ok-true-clause-gives
+returns-in-Ok-true-clause-gives g c =
+    let piece = rw c.in-Ok-true.field-0-test at c.in-Ok-true.ensures.piece in
+    ends_line c.loop-self.invariant.so_far c.in-Ok-true.ensures.same piece
 
 -- the whole buffer went to the line
 moved : (g : given.Over) (c : In-Ok-false g)
     → LineSoFar g.I.Input.state c.args.self.now c.take_piece.new.self c.take_piece.new.line.items
 moved g c =
     let piece = rw c.in-Ok-false.field-0-test at c.in-Ok-false.ensures.piece in
-    LineSoFar-piece c.loop-self.invariant.so_far c.in-Ok-false.ensures.input c.in-Ok-false.ensures.taken
-    c.in-Ok-false.ensures.answer piece
+    LineSoFar-piece c.loop-self.invariant.so_far c.in-Ok-false.ensures.same piece
 
--- the input has ended
-pub returns-in-Ok-false-fill-clause-piece : goal.returns-in-Ok-false-fill-clause-piece
-returns-in-Ok-false-fill-clause-piece g c =
+-- the input has ended, and nothing came
+pub returns-then-is_empty-clause-gives : goal.returns-then-is_empty-clause-gives
+returns-then-is_empty-clause-gives g c =
     let ended = rw (c.in-Ok-false-fill.field-0-test, ← c.self.view_is) at c.in-Ok-false-fill.ensures.gives in
-    let so_far = moved g (goal.at.returns-in-Ok-false-fill-clause-piece g c).In-Ok-false in
-    PieceOf-last _ _ so_far ended (search rules)
+    let so_far = moved g (goal.at.returns-then-is_empty-clause-gives g c).In-Ok-false in
+    let none : c.take_piece.new.line.items ≡ [] = nil_from_length _ (search rules) in
+    ends_last _ _ _ so_far ended (λ d gave. LineOf-none d [] (rw none at gave))
+
+-- the input has ended behind something
+pub returns-in-Ok-false-fill-clause-gives : goal.returns-in-Ok-false-fill-clause-gives
+returns-in-Ok-false-fill-clause-gives g c =
+    let ended = rw (c.in-Ok-false-fill.field-0-test, ← c.self.view_is) at c.in-Ok-false-fill.ensures.gives in
+    let so_far = moved g (goal.at.returns-in-Ok-false-fill-clause-gives g c).In-Ok-false in
+    ends_last _ _ _ so_far ended (λ d. LineOf-last d _ so_far.plain (search rules))
 
 -- the input has a fault
-pub returns-in-Err-fill-clause-piece : goal.returns-in-Err-fill-clause-piece
-returns-in-Err-fill-clause-piece g c =
-    let so_far = moved g (goal.at.returns-in-Err-fill-clause-piece g c).In-Ok-false in
-    PieceOf-fault c.fill.new.self _ so_far c.in-Err-fill.ensures.gives
+pub returns-in-Err-fill-clause-gives : goal.returns-in-Err-fill-clause-gives
+returns-in-Err-fill-clause-gives g c =
+    let so_far = moved g (goal.at.returns-in-Err-fill-clause-gives g c).In-Ok-false in
+    ends_by_fault c.fill.new.self _ so_far c.in-Err-fill.ensures.gives

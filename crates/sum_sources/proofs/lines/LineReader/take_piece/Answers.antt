@@ -11,7 +11,7 @@ returns-in_ok-extend_from_slice-in-Some-clause-piece g c =
     (omega (arith, c.self.invariant.end_in, c.self.told)) in
     rw (← c.self.view_is) (
       _,
-      plain_prefix _ _ found.0.high found.0.before,
+      plain_prefix _ _ (omega (arith, found.0.high)) found.0.before,
       cut_buffer c.self.inside.buf _ _ _ (omega (arith, c.self.invariant.end_in, c.self.told))
           (omega (arith, found.0.high, size)) (eqb-true _ _ found.1),
       c.in_ok-extend_from_slice-in-Some.ensures.items,
