@@ -1,5 +1,5 @@
 -- A new checker that runs to its end, and one manifest that is asked and checked.
-use Rattle.std.proofs.Common.{◌≡◌, ℕ, ◌||◌, Bool, true, false, List, [], ◌∷◌, Option, None, Some, Result, Ok, Err, cond, refl, ap, sym, ◌∙◌, subst, codes}
+use Rattle.std.proofs.Common.{◌++◌, ◌≡◌, ℕ, ◌||◌, Bool, true, false, List, [], ◌∷◌, Option, None, Some, Result, Ok, Err, cond, refl, ap, sym, ◌∙◌, subst, codes}
 use Rattle.std.specs.Option.{option_map}
 use Rattle.std.proofs.KnownBytes.{Appends-nil}
 use Rattle.std.proofs.Math.Bool.{or-false, or-true}
@@ -10,7 +10,7 @@ use Rattle.std.specs.Prelude.{IfSome}
 use Rattle.sum_sources.specs.Contents.{Content, InputState, WhereTold, clip}
 use Rattle.sum_lines.specs.Sinks.{SinkState}
 use Rattle.sum_sources.proofs.ToldLemmas.{WhereTold-map}
-use Rattle.sum_sources.specs.Sources.{SourceState, Reply, Refused, Given, Telling, OpensAsReply, OpenGives, asked_after}
+use Rattle.sum_sources.specs.Sources.{SourceState, Reply, Refused, Given, Telling, Opens}
 use Rattle.digest_kinds.specs.Limits.{one_more}
 use Rattle.sum_sources.specs.Standard.{empty_content}
 use Rattle.sum_lines.specs.declared.line_reading.Form.TheVariants.{Undecided}
@@ -198,35 +198,56 @@ check_dash {S} state k a b x dash run =
     let asked : Moment S = record a { input = Some empty_content; taken = true } in
     check_gives state k true a.input a asked b x dash (dash_opened state k.name a dash) run
 
--- a name was opened, where source and standard input tell
+-- opening a name, as the world sees it
+abbrev OpensIn : {F : Type 0} → (F → InputState) → List ℕ → Result F OpenFault → World → World → Type 0
+OpensIn content name (Ok file) w v = (v ≡ record w { asked = w.asked ++ name ∷ [] })
+    × (c : Content) × (w.answer name ≡ Given c) × ((content file).content ≡ Some c)
+OpensIn content name (Err (open_faults.Fault f)) w v =
+    (v ≡ record w { asked = w.asked ++ name ∷ [] }) × (w.answer name ≡ Refused f)
+OpensIn content name (Err open_faults.Memory) w v = v ≡ w
+
+-- a reply that is a content
+given : (o : Option Content) (r : Reply) → option_map Given o ≡ Some r → (c : Content) × (r ≡ Given c) × (o ≡ Some c)
+given None r h = cc
+given (Some c) r h = (c, cc, refl)
+
+opens_in : {F : Type 0} (content : F → InputState) (name : List ℕ) (s t : Telling) (i : Content)
+    (x : Result F OpenFault) → Opens content s t name x
+    → OpensIn content name x (record { answer = s.answer; asked = s.asked; input = i })
+    (record { answer = t.answer; asked = t.asked; input = i })
+opens_in content name s t i (Ok file) h =
+    let c = given (content file).content (s.answer name) h.1 in (rw h.0 refl, c.0, c.1, c.2)
+opens_in content name s t i (Err (open_faults.Fault f)) h = (rw h.0 refl, cc)
+opens_in content name s t i (Err open_faults.Memory) h = rw h refl
+
+-- where source and standard input tell
 opens : {F : Type 0} (content : F → InputState) (name : List ℕ) (s t : Option Telling) (input : Option Content)
-    (x : Result F OpenFault) → OpenGives content s t name x
-    → WhereTold (world_by s input) (world_by t input) (λ w v.
-    (v ≡ record w { asked = asked_after w.asked name x }) × OpensAsReply content (w.answer name) x)
+    (x : Result F OpenFault) → WhereTold s t (λ s t. Opens content s t name x)
+    → WhereTold (world_by s input) (world_by t input) (OpensIn content name x)
 opens content name None t input x h = tt
 opens content name (Some s) t None x h = tt
 opens content name (Some s) None (Some i) x h = absurd h
-opens content name (Some s) (Some t) (Some i) x h = (rw (h.0, h.1) refl, h.2)
+opens content name (Some s) (Some t) (Some i) x h = opens_in content name s t i x h
 
 -- the manifest is a file
 file_opened : {F S : Type 0} (content : F → InputState) (state : S → SourceState) (name : List ℕ) (a : Moment S)
     (source : S) (file : F) → is_dash name ≡ false
-    → OpenGives content (state a.source).told (state source).told name (Ok file)
+    → WhereTold (state a.source).told (state source).told (λ s t. Opens content s t name (Ok file))
     → (state source).refusals ≡ (state a.source).refusals
     → WhereKnown state a (record a { source = source }) (IsOpened name (content file).content)
 file_opened content state name a source file dash h refusals =
     where_known state a (record a { source = source }) _
     (opens content name (state a.source).told (state source).told a.input (Ok file) h) (λ w v is. (
-      is.1.0,
-      is.1.2,
-      rw dash is.1.1,
+      is.1,
+      is.3,
+      rw dash is.2,
       asked_only name (is.0 ∙ rw dash refl) (rw dash (sym (or-false a.taken))) refusals refl refl,
     ))
 
 -- so what the checker does with it is what the call does
 pub check_file : {F S : Type 0} (content : F → InputState) (state : S → SourceState) (k : Call) (a b : Moment S)
     (source : S) (file : F) (x : Result Bool Stop) → is_dash k.name ≡ false
-    → OpenGives content (state a.source).told (state source).told k.name (Ok file)
+    → WhereTold (state a.source).told (state source).told (λ s t. Opens content s t k.name (Ok file))
     → (state source).refusals ≡ (state a.source).refusals
     → Checks state (rules_where k false) (option_map clip (content file).content)
     (record a { source = source }) b x → CheckGives state k a b x
@@ -238,7 +259,7 @@ check_file {S = S} content state k a b source file x dash h refusals run =
 -- the manifest could not be opened, and the line of its fault was handed on, or a prefix of it
 pub refused : {F S : Type 0} (content : F → InputState) (state : S → SourceState) (k : Call) (a : Moment S)
     (source : S) (f : Fault) (err : SinkState) (x : Writing) → is_dash k.name ≡ false
-    → OpenGives content (state a.source).told (state source).told k.name (Err (open_faults.Fault f))
+    → WhereTold (state a.source).told (state source).told (λ s t. Opens content s t k.name (Err (open_faults.Fault f)))
     → (state source).refusals ≡ (state a.source).refusals
     → Hands a.err.written err.written (fault_line present k.tool k.name f) x
     → CheckGives state k a (record a { source = source; err = err }) (answered x false)
@@ -264,13 +285,14 @@ begins r name w (Given c) = (opening name, _, refl)
 
 -- the source had no memory to open it
 pub no_room : {F S : Type 0} (content : F → InputState) (state : S → SourceState) (k : Call) (a : Moment S)
-    (source : S) → OpenGives content (state a.source).told (state source).told k.name (Err open_faults.Memory)
+    (source : S)
+    → WhereTold (state a.source).told (state source).told (λ s t. Opens content s t k.name (Err open_faults.Memory))
     → (state source).refusals ≡ one_more (state a.source).refusals
     → CheckGives state k a (record a { source = source }) (Err Memory)
 no_room {S = S} content state k a source h refused =
     let next : Moment S = record a { source = source } in
     unasked state (λ w. check_run k.settings k.tool w k.name) (λ g. g) a next
     (λ w. begins (rules_of_call k) k.name (after w (k.name ∷ [])) (reply w k.name))
-    (known_refused state a next (WhereTold-map (world_of state a) (world_of state next) (λ w v is. is.0)
+    (known_refused state a next (WhereTold-map (world_of state a) (world_of state next) (λ w v is. is)
     (opens content k.name (state a.source).told (state source).told a.input (Err open_faults.Memory) h))
     refl refl refl refused)

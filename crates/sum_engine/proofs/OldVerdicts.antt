@@ -1,8 +1,7 @@
 -- A manifest of the time of older versions is checked alike under both profiles.
-use Rattle.std.proofs.Common.{◌≡◌, ℕ, ◌+◌, ◌<◌, ◌==◌, false, not, cond, List, [], ◌∷◌, length, map, refl, ap, sym, ◌∙◌, subst, codes}
+use Rattle.std.proofs.Common.{◌≡◌, ℕ, ◌+◌, ◌<◌, ◌==◌, false, not, cond, List, [], ◌∷◌, length, map, refl, ap, sym, ◌∙◌, subst, codes, append_assoc, ◌++◌}
 use Rattle.std.specs.Prelude.{bytes_eq}
-use Rattle.std.specs.List.{All, concat, slice_split, join_with_byte}
-use Rattle.std.proofs.lemmas.List.Splits.{join_with_byte-slice_split}
+use Rattle.std.specs.List.{All, concat, flat_map}
 use Rattle.std.proofs.lemmas.List.Elements.{All-nil, All-cons, All-head, All-tail}
 use Rattle.digest_kinds.specs.declared.algo.Algos.{Algos}
 use Rattle.sum_sources.specs.declared.fault.Ending.{Ending}
@@ -10,7 +9,8 @@ use Rattle.sum_sources.specs.declared.fault.Ending.TheVariants.{Whole, Broken}
 use Rattle.sum_sources.specs.declared.fault.Fault.{Fault}
 use Rattle.sum_sources.specs.Contents.{Content, clip}
 use Rattle.sum_sources.specs.Sources.{Refused, Given}
-use Rattle.sum_sources.specs.ManifestLines.{pieces, line_pieces, last_line, past_line}
+use Rattle.sum_sources.specs.ManifestLines.{pieces, last_line, past_line, bytes_of_pieces}
+use Rattle.sum_sources.proofs.CutLemmas.{cut, pieces-joined}
 use Rattle.sum_lines.specs.declared.line_reading.Form.{Form}
 use Rattle.sum_lines.specs.Shapes.{mark}
 use Rattle.sum_lines.specs.Entries.{form}
@@ -43,18 +43,24 @@ last_clean Whole (b ∷ bs) free = All-cons NoReturn (b ∷ bs) [] free (All-nil
 last_clean (Broken f) piece free = All-nil NoReturn
 
 -- nor has any other line
-lines_clean : (e : Ending) (ls : List (List ℕ)) → NoReturn (join_with_byte 10 ls) → All NoReturn (line_pieces e ls)
-lines_clean e [] free = All-nil NoReturn
-lines_clean e (last ∷ []) free = last_clean e last free
-lines_clean e (l ∷ next ∷ more) free =
-    All-cons NoReturn l (line_pieces e (next ∷ more)) (all_left NotReturn l _ free)
-    (lines_clean e (next ∷ more) (All-tail NotReturn 10 _ (all_right NotReturn l _ free)))
+ended_clean : (e : Ending) (ended : List (List ℕ)) (tail : List ℕ) → NoReturn (bytes_of_pieces ended tail)
+    → All NoReturn (ended ++ last_line e tail)
+ended_clean e [] tail free = last_clean e tail free
+ended_clean e (p ∷ ps) tail free =
+    let whole : NoReturn ((p ++ 10 ∷ []) ++ bytes_of_pieces ps tail) =
+    subst NoReturn (append_assoc (p ++ 10 ∷ []) (flat_map (λ piece. piece ++ 10 ∷ []) ps) tail) free in
+    All-cons NoReturn p (ps ++ last_line e tail) (all_left NotReturn p _ (all_left NotReturn (p ++ 10 ∷ []) _ whole))
+    (ended_clean e ps tail (all_right NotReturn (p ++ 10 ∷ []) _ whole))
 
 -- so no line of a content has one
 pieces_clean : (c : Content) → NoReturn c.bytes → All NoReturn (pieces c)
-unfolding pieces
-pieces_clean c free = lines_clean c.ending (slice_split (λ b. b == 10) c.bytes)
-    (subst NoReturn (sym (join_with_byte-slice_split 10 c.bytes)) free)
+pieces_clean c free =
+    let cuts = (cut c.bytes).2 in
+    let ended = (cut c.bytes).0 in
+    let tail = (cut c.bytes).1 in
+    subst (λ (bytes : List ℕ). All NoReturn (pieces (record { bytes = bytes; ending = c.ending }))) (sym cuts.bytes_are)
+    (subst (All NoReturn) (sym (pieces-joined c.ending ended tail cuts.pieces_plain cuts.tail_plain))
+    (ended_clean c.ending ended tail (subst NoReturn cuts.bytes_are free)))
 
 -- so the lines are the same
 lines_same : (c : Content) → NoReturn c.bytes → lines_by older c ≡ lines_by present c
