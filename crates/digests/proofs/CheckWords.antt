@@ -1,5 +1,5 @@
 -- The words of a check ask for that check.
-use Rattle.std.proofs.Common.{◌≡◌, Bool, true, false, not, List, [], ◌∷◌, ◌++◌, map, find, codes, Option, None, Some, Result, Ok, refl, ap, sym, ◌∙◌}
+use Rattle.std.proofs.Common.{◌≡◌, Bool, true, false, not, List, [], ◌∷◌, ◌++◌, map, filter, find, codes, Option, None, Some, Result, Ok, refl, ap, sym, ◌∙◌}
 use Rattle.std.proofs.Common.{◌⊎◌, inl, inr, unwrap_or}
 use Rattle.std.specs.Str.{bytes_eq}
 use Rattle.std.specs.Result.{result_map_both}
@@ -18,7 +18,7 @@ use Rattle.sum_words.specs.declared.request.Request.TheVariants.{Work}
 use Rattle.sum_words.specs.declared.request.Job.TheVariants.{Check}
 use Rattle.sum_words.specs.Tools.{algos_of}
 use Rattle.sum_words.specs.Faults.{Fault}
-use Rattle.sum_words.specs.Items.{Text, Item, option, operand, a_word, items_from, full_name, flags_of, common, takes_value, name_part, value_part, name_or_fault, options_of, values_of, operands_of}
+use Rattle.sum_words.specs.Items.{Text, Item, option, operand, a_word, items_from, full_name, flags_of, all_flags, takes_value, name_part, value_part, name_or_fault, options_of, values_of, operands_of}
 use Rattle.sum_words.specs.Request.{request, early_answer, job_or_fault, kind_asked}
 use Rattle.sum_words.specs.PlainWords.{is_plain}
 use Rattle.sum_words.proofs.PlainWordLemmas.{plain_words}
@@ -26,8 +26,12 @@ use Rattle.digests.specs.GenerationRuns.{check_options, check_words, ChecksBy}
 
 -- ---- long options that every tool has, and that take no value
 
--- a tool has the common options, or these and one more
-flags-are : (t : Tool) → (flags_of t ≡ common) ⊎ (flags_of t ≡ common ++ flags.Length ∷ [])
+-- the options of a tool that has none which takes a value
+abbrev common : List Flag
+common = filter (λ flag. not (takes_value flag)) all_flags
+
+-- a tool has these, or all
+flags-are : (t : Tool) → (flags_of t ≡ common) ⊎ (flags_of t ≡ all_flags)
 flags-are tools.B2sum = inr refl
 flags-are t = inl refl
 
@@ -39,7 +43,7 @@ named_by flag fs = find (λ f. bytes_eq (full_name flag) (full_name f)) fs
 
 -- how the word of one is read
 abbrev IsLong : Flag → Type 0
-IsLong flag = (named_by flag common ≡ Some flag) × (named_by flag (common ++ flags.Length ∷ []) ≡ Some flag)
+IsLong flag = (named_by flag common ≡ Some flag) × (named_by flag all_flags ≡ Some flag)
     × (takes_value flag ≡ false) × (name_part (full_name flag) ≡ full_name flag) × (value_part (full_name flag) ≡ None)
     × (bytes_eq (codes "--" ++ full_name flag) (codes "--") ≡ false)
 
@@ -49,7 +53,7 @@ is-long flag h = (refl, refl, refl, refl, refl, refl)
 
 -- the name of one means it
 long_name : (t : Tool) (flag : Flag) → named_by flag common ≡ Some flag
-    → named_by flag (common ++ flags.Length ∷ []) ≡ Some flag → name_or_fault t (full_name flag) ≡ Ok flag
+    → named_by flag all_flags ≡ Some flag → name_or_fault t (full_name flag) ≡ Ok flag
 unfolding name_or_fault
 long_name t flag in_common in_all = elim (flags-are t) [
   | inl is ↦ rw (is, in_common) refl
