@@ -1,6 +1,7 @@
 -- Worked command lines: what the definitions say of each computes.
 use Rattle.std.proofs.Common.{◌≡◌, ◌≤◌, ◌<◌, List, ℕ, [], ◌∷◌, Result, Ok, Err, Option, Some, None, is_some, if◌then◌else◌, refl, codes, true, false, zero, suc, length, inl, inr, arith, ap, lit≤}
-use Rattle.std.specs.List.{AllByRecursion}
+use Rattle.std.specs.List.{AllByRecursion, Any as SomeOne}
+use Rattle.std.proofs.lemmas.List.Elements.{All-from_recursion}
 use Rattle.std.specs.Str.{chars, is_utf8}
 use lib.Utf8.{encode}
 use Rattle.digest_kinds.specs.declared.algo.Algo.{Algo}
@@ -19,7 +20,7 @@ use Rattle.sum_words.specs.declared.request.Job.TheVariants.{Generate, Check}
 use Rattle.sum_words.specs.Faults.{Fault, unknown_long, ambiguous_long, value_not_allowed, value_missing, unknown_short, length_invalid, length_not_bytes, tag_with_text, zero_with_check, tag_with_check, mode_with_check, without_check, check_needed}
 use Rattle.sum_words.specs.Items.{Text, name_or_fault, option_of_letter}
 use Rattle.sum_words.specs.Request.{request}
-use Rattle.sum_words.specs.CommandLines.{unknown, call, last_part, command_line, LongerAt, NeedsMemory, MayNotRead}
+use Rattle.sum_words.specs.CommandLines.{unknown, call, last_part, command_line, NeedsMemory, MayNotRead}
 use Rattle.sum_words.specs.Tools.{tool_called}
 use Rattle.sum_words.specs.declared.command_line.TheConstants.{PAGE}
 
@@ -154,11 +155,10 @@ unfolding chars encode name_or_fault option_of_letter
 checking = (refl, refl)
 
 -- no argument of these is longer than the page
-not_longer : (all : List Text) (place : ℕ) → AllByRecursion (λ a. length a ≤ PAGE) all → LongerAt all place PAGE → ⊥
-not_longer [] place short long = let none : None ≡ Some long.0 = long.1 in cc
-not_longer (a ∷ all) zero short long =
-    let same : a ≡ long.0 = cc in absurd (omega (arith, short.0, ap length same, long.2))
-not_longer (a ∷ all) (suc place) short long = not_longer all place short.1 long
+not_longer : (all : List Text) → AllByRecursion (λ a. length a ≤ PAGE) all → SomeOne (λ a. PAGE < length a) all → ⊥
+not_longer all short (k, a, less, at, long) =
+    let fits = All-from_recursion (λ a. length a ≤ PAGE) all short k a less in
+    absurd (omega (arith, rw at at fits, long))
 
 -- a command line without a word is always read, where the name is no longer than the page
 no_words : (name : Text) → length name ≤ PAGE → MayNotRead (name ∷ []) → ⊥
@@ -168,11 +168,10 @@ no_words name h (inr (inl kept)) = elim (tool_called (last_part name)) as (λ o.
       | None ↦ λ some. absurd (omega (arith, some))
       | Some tool ↦ λ some. absurd (omega (arith, some))
     ] kept
-no_words name h (inr (inr (place, long))) = not_longer (name ∷ []) place (h, tt) long
+no_words name h (inr (inr long)) = not_longer (name ∷ []) (h, tt) long
 
 -- a word that names the tool needs no memory
 only_tool : NeedsMemory (codes "digests" ∷ codes "md5sum" ∷ []) → ⊥
 unfolding tool_called
 only_tool (inl kept) = absurd (omega (arith, kept))
-only_tool (inr (place, long)) =
-    not_longer (codes "digests" ∷ codes "md5sum" ∷ []) place (lit≤ tt, (lit≤ tt, tt)) long
+only_tool (inr long) = not_longer (codes "digests" ∷ codes "md5sum" ∷ []) (lit≤ tt, (lit≤ tt, tt)) long

@@ -60,9 +60,6 @@ pub data NextWord : Type 0 where
   a_value : Spelling → NextWord
   no_word : NextWord
 
-abbrev pub ItemsAndNext : Type 0
-ItemsAndNext = List Item × NextWord
-
 -- A long option: its name goes up to the first '=', and a value stands behind that.
 abbrev pub name_part : Text → Text
 name_part text = before_first (λ b. b == byte "=") text
@@ -80,7 +77,7 @@ unfoldable pub name_or_fault : Tool → Text → Result Flag Fault
 name_or_fault t name = option_map_or (λ flag. Ok flag) (find (λ flag. bytes_eq name (full_name flag)) (flags_of t))
     (the_one name (filter (λ flag. starts_with ◌==◌ (full_name flag) name) (flags_of t)))
 
-abbrev pub long_option : Result Flag Fault → Option Text → ItemsAndNext
+abbrev pub long_option : Result Flag Fault → Option Text → List Item × NextWord
 long_option (Err f) value = (fault f ∷ [], no_word)
 long_option (Ok flag) None = if takes_value flag then ([], a_value Long) else (option flag ∷ [], a_word)
 long_option (Ok flag) (Some value) =
@@ -90,15 +87,15 @@ long_option (Ok flag) (Some value) =
 unfoldable pub option_of_letter : Tool → ℕ → Option Flag
 option_of_letter t c = find (λ flag. bytes_eq (row_of flag).0 (c ∷ [])) (flags_of t)
 
-abbrev pub attached_value : List ℕ → ItemsAndNext
+abbrev pub attached_value : List ℕ → List Item × NextWord
 attached_value [] = ([], a_value Short)
 attached_value cs = (length_value (encode_utf8_all cs) ∷ [], a_word)
 
-abbrev pub letter_then : ℕ → Option Flag → List ℕ → ItemsAndNext → ItemsAndNext
+abbrev pub letter_then : ℕ → Option Flag → List ℕ → List Item × NextWord → List Item × NextWord
 letter_then c None cs rest = (fault (unknown_short c) ∷ [], no_word)
 letter_then c (Some flag) cs rest = if takes_value flag then attached_value cs else (option flag ∷ rest.0, rest.1)
 
-abbrev pub cluster : Tool → List ℕ → ItemsAndNext
+abbrev pub cluster : Tool → List ℕ → List Item × NextWord
 cluster t [] = ([], a_word)
 cluster t (c ∷ cs) = letter_then c (option_of_letter t c) cs (cluster t cs)
 
@@ -111,7 +108,7 @@ abbrev pub is_option_word : Text → Bool
 is_option_word word = starts_with ◌==◌ word (codes "-") && not (bytes_eq word (codes "-"))
 
 -- a long option behind "--"; or a cluster behind '-'; or an operand
-abbrev pub read_word : Tool → Text → ItemsAndNext
+abbrev pub read_word : Tool → Text → List Item × NextWord
 read_word t word =
     if starts_with ◌==◌ word (codes "--")
     then long_option (name_or_fault t (name_part (drop 2 word))) (value_part (drop 2 word))
