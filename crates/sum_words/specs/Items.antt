@@ -1,4 +1,5 @@
 -- What the words of a command line say, one by one: options, length values, operands, and at the end maybe a fault.
+use denote.Enum.Bare.{sameb}
 use Rattle.std.specs.Prelude.{ℕ, ◌+◌, ◌==◌, ◌&&◌, ◌||◌, not, Bool, true, false, List, [], ◌∷◌, ◌++◌, map, drop, Option, None, Some, Result, Ok, Err, codes, if◌then◌else◌, option_map, filter, find, position}
 use Rattle.std.specs.List.{starts_with, before_first}
 use Rattle.std.specs.Option.{option_map_or}
@@ -7,6 +8,8 @@ use Rattle.sum_words.specs.declared.tool.Tool.{Tool}
 use Rattle.sum_words.specs.declared.tool.Tool.TheVariants as tools
 use Rattle.sum_words.specs.declared.options.Flag.{Flag}
 use Rattle.sum_words.specs.declared.options.Flag.TheVariants as flags
+use Rattle.sum_words.specs.contracts.tool.Tool.{the_type as tool_type}
+use Rattle.sum_words.specs.contracts.options.Flag.{the_type as flag_type}
 use Rattle.sum_words.specs.declared.options.Spelling.{Spelling}
 use Rattle.sum_words.specs.declared.options.Spelling.TheVariants.{Long, Short}
 use Rattle.sum_words.specs.Faults.{Fault, unknown_long, ambiguous_long, value_not_allowed, value_missing, unknown_short}
@@ -42,17 +45,13 @@ abbrev pub full_name : Flag → Text
 full_name flag = (row_of flag).1
 
 abbrev pub takes_value : Flag → Bool
-takes_value flags.Length = true
-takes_value flag = false
+takes_value flag = sameb flag_type flag flags.Length
 
--- all options, in the order of help; b2sum alone has the one that takes a value
-abbrev pub all_flags : List Flag
-all_flags = flags.Binary ∷ flags.Check ∷ flags.Length ∷ flags.Tag ∷ flags.Text ∷ flags.Zero ∷ flags.IgnoreMissing ∷
-    flags.Quiet ∷ flags.Status ∷ flags.Strict ∷ flags.Warn ∷ flags.Help ∷ flags.Version ∷ []
-
+-- a tool's options, in the order of help; b2sum alone has the one that takes a value
 abbrev pub flags_of : Tool → List Flag
-flags_of tools.B2sum = all_flags
-flags_of t = filter (λ flag. not (takes_value flag)) all_flags
+flags_of t = filter (λ flag. not (takes_value flag) || sameb tool_type t tools.B2sum)
+    (flags.Binary ∷ flags.Check ∷ flags.Length ∷ flags.Tag ∷ flags.Text ∷ flags.Zero ∷ flags.IgnoreMissing ∷
+    flags.Quiet ∷ flags.Status ∷ flags.Strict ∷ flags.Warn ∷ flags.Help ∷ flags.Version ∷ [])
 
 -- what a word says, with how the next one is read: as it stands, as the value of an option written so, or not at all
 pub data NextWord : Type 0 where
