@@ -1,9 +1,10 @@
 -- The command line by its list of arguments.
-use Rattle.std.proofs.Common.{ℕ, ◌≡◌, ◌+◌, ◌-◌, ◌<◌, ◌≤◌, true, false, not, ◌==◌, zero, suc, List, [], ◌∷◌, length, drop, Some, None, refl, ap, sym, ◌∙◌, arith, inl}
+use Rattle.std.proofs.Common.{ℕ, ◌≡◌, ◌+◌, ◌-◌, ◌<◌, ◌≤◌, true, false, not, ◌==◌, zero, suc, List, [], ◌∷◌, length, drop, Some, None, refl, ap, sym, ◌∙◌, arith, inl, inr}
 use Rattle.std.proofs.lemmas.List.Sums.{suffix_len_is}
 use Rattle.std.proofs.lemmas.Bool.{not_from_false, not_from_true, false_from_ne_true}
 use Rattle.std.specs.List.{suffix_len}
-use Rattle.std.specs.Prelude.{slice_get, Option, ◌++◌}
+use Rattle.std.specs.Prelude.{slice_get, Option, ◌++◌, Any, IsSomeAnd}
+use Rattle.sum_words.specs.declared.command_line.TheConstants.{PAGE}
 use Rattle.std.proofs.lemmas.Option.{slice_get_within, IfSome_then}
 use Rattle.std.proofs.lemmas.List.{append-nil, append_assoc}
 use Rattle.std.proofs.lemmas.List.Folds.{list_all-append}
@@ -12,7 +13,7 @@ use Rattle.sum_words.specs.Items.{Text, is_readable}
 use Rattle.sum_words.specs.Tools.{tool_called}
 use Rattle.memchr.specs.Find.{Passes, Nowhere, is_byte}
 use Rattle.sum_words.specs.CommandLines.{last_part}
-use Rattle.sum_words.specs.refinement.Arguments.{ArgumentIs, IsFirstWord, WordsUpTo, WordsAre, IsThere, IsBadFirstWord}
+use Rattle.sum_words.specs.refinement.Arguments.{ArgumentIs, IsFirstWord, WordsUpTo, WordsAre, IsThere, IsLonger, MayBeUnread}
 
 -- ---- the last part of a path
 
@@ -56,9 +57,26 @@ first_is told word tool h reads is = IfSome_then told h (λ all at.
     (rw at is, rw (drop_at_some all 1 at, ← reads) refl))
 
 -- the first word, which can't be read
-pub bad_first_is : (told : Option (List Text)) (word : Text)
-    → ArgumentIs told 1 (Some word) → false ≡ is_readable word → IsBadFirstWord told
-bad_first_is told word h bad = IfSome_then told h (λ all at. inl (rw (drop_at_some all 1 at, ← bad) refl))
+pub bad_first_unread : (told : Option (List Text)) (word : Text)
+    → ArgumentIs told 1 (Some word) → false ≡ is_readable word → MayBeUnread told
+bad_first_unread None word h bad = tt
+bad_first_unread (Some all) word h bad = inl (rw (drop_at_some all 1 h, ← bad) refl)
+
+-- a long argument is one of them
+longer : (all : List Text) (place : ℕ) → IsSomeAnd (slice_get all place) (λ a. PAGE < length a)
+    → Any (λ a. PAGE < length a) all
+longer [] zero h = absurd h
+longer [] (suc place) h = absurd h
+longer (a ∷ all) zero h = (0, a, omega arith, refl, h)
+longer (a ∷ all) (suc place) h =
+    let (k, x, less, at, long) = longer all place h in (suc k, x, omega (arith, less), at, long)
+
+pub longer_unread : (told : Option (List Text)) (place : ℕ) → IsLonger told place PAGE → MayBeUnread told
+longer_unread None place h = tt
+longer_unread (Some all) place h = inr (inr (longer all place h))
+
+-- what the reading of the first word goes by
+pub ruleset first_word_steps = (first_is, bad_first_unread, longer_unread)
 
 -- ---- the words, one after another
 

@@ -1,5 +1,5 @@
 -- What the program is called for: from the list of its arguments, the name that it was called by and the words.
-use Rattle.std.specs.Prelude.{ℕ, ◌≡◌, ◌<◌, ◌⊎◌, ◌==◌, List, length, drop, slice_get, Option, None, Some, is_some, if◌then◌else◌}
+use Rattle.std.specs.Prelude.{◌≡◌, ◌<◌, ◌⊎◌, ◌==◌, List, Any, length, drop, slice_get, Option, None, Some, is_some, if◌then◌else◌}
 use Rattle.std.specs.List.{after_last, list_all}
 use Rattle.std.specs.Option.{option_and_then, option_map_or}
 use Rattle.sum_words.specs.declared.command_line.TheConstants.{PAGE}
@@ -27,13 +27,9 @@ abbrev pub command_line : List Text → Option Call
 command_line all = if list_all is_readable (drop 1 all)
     then Some (option_map_or (λ tool. call tool (tool_and_words all).1) (tool_and_words all).0 unknown) else None
 
--- the argument at a place is longer than so many bytes
-abbrev pub LongerAt : List Text → ℕ → ℕ → Type 0
-LongerAt all place n = (argument : Text) × (slice_get all place ≡ Some argument) × (n < length argument)
-
 -- memory is needed for the words: there is one to keep, or an argument is longer than the page that it is read into
 abbrev pub NeedsMemory : List Text → Type 0
-NeedsMemory all = (0 < length (tool_and_words all).1) ⊎ ((place : ℕ) × LongerAt all place PAGE)
+NeedsMemory all = (0 < length (tool_and_words all).1) ⊎ Any (λ argument. PAGE < length argument) all
 
 -- only then can the command line be left unread: such a word is not UTF-8, or memory is needed
 abbrev pub MayNotRead : List Text → Type 0

@@ -1,4 +1,5 @@
 -- What the words of a command line say, one by one: options, length values, operands, and at the end maybe a fault.
+use denote.Enum.Bare.{sameb}
 use Rattle.std.specs.Prelude.{ℕ, ◌+◌, ◌==◌, ◌&&◌, ◌||◌, not, Bool, true, false, List, [], ◌∷◌, ◌++◌, map, drop, Option, None, Some, Result, Ok, Err, codes, if◌then◌else◌, option_map, filter, find, position}
 use Rattle.std.specs.List.{starts_with, before_first}
 use Rattle.std.specs.Option.{option_map_or}
@@ -7,6 +8,8 @@ use Rattle.sum_words.specs.declared.tool.Tool.{Tool}
 use Rattle.sum_words.specs.declared.tool.Tool.TheVariants as tools
 use Rattle.sum_words.specs.declared.options.Flag.{Flag}
 use Rattle.sum_words.specs.declared.options.Flag.TheVariants as flags
+use Rattle.sum_words.specs.contracts.tool.Tool.{the_type as tool_type}
+use Rattle.sum_words.specs.contracts.options.Flag.{the_type as flag_type}
 use Rattle.sum_words.specs.declared.options.Spelling.{Spelling}
 use Rattle.sum_words.specs.declared.options.Spelling.TheVariants.{Long, Short}
 use Rattle.sum_words.specs.Faults.{Fault, unknown_long, ambiguous_long, value_not_allowed, value_missing, unknown_short}
@@ -42,26 +45,19 @@ abbrev pub full_name : Flag → Text
 full_name flag = (row_of flag).1
 
 abbrev pub takes_value : Flag → Bool
-takes_value flags.Length = true
-takes_value flag = false
+takes_value flag = sameb flag_type flag flags.Length
 
--- all options, in the order of help; b2sum alone has the one that takes a value
-abbrev pub all_flags : List Flag
-all_flags = flags.Binary ∷ flags.Check ∷ flags.Length ∷ flags.Tag ∷ flags.Text ∷ flags.Zero ∷ flags.IgnoreMissing ∷
-    flags.Quiet ∷ flags.Status ∷ flags.Strict ∷ flags.Warn ∷ flags.Help ∷ flags.Version ∷ []
-
+-- a tool's options, in the order of help; b2sum alone has the one that takes a value
 abbrev pub flags_of : Tool → List Flag
-flags_of tools.B2sum = all_flags
-flags_of t = filter (λ flag. not (takes_value flag)) all_flags
+flags_of t = filter (λ flag. not (takes_value flag) || sameb tool_type t tools.B2sum)
+    (flags.Binary ∷ flags.Check ∷ flags.Length ∷ flags.Tag ∷ flags.Text ∷ flags.Zero ∷ flags.IgnoreMissing ∷
+    flags.Quiet ∷ flags.Status ∷ flags.Strict ∷ flags.Warn ∷ flags.Help ∷ flags.Version ∷ [])
 
 -- what a word says, with how the next one is read: as it stands, as the value of an option written so, or not at all
 pub data NextWord : Type 0 where
   a_word : NextWord
   a_value : Spelling → NextWord
   no_word : NextWord
-
-abbrev pub ItemsAndNext : Type 0
-ItemsAndNext = List Item × NextWord
 
 -- A long option: its name goes up to the first '=', and a value stands behind that.
 abbrev pub name_part : Text → Text
@@ -80,7 +76,7 @@ unfoldable pub name_or_fault : Tool → Text → Result Flag Fault
 name_or_fault t name = option_map_or (λ flag. Ok flag) (find (λ flag. bytes_eq name (full_name flag)) (flags_of t))
     (the_one name (filter (λ flag. starts_with ◌==◌ (full_name flag) name) (flags_of t)))
 
-abbrev pub long_option : Result Flag Fault → Option Text → ItemsAndNext
+abbrev pub long_option : Result Flag Fault → Option Text → List Item × NextWord
 long_option (Err f) value = (fault f ∷ [], no_word)
 long_option (Ok flag) None = if takes_value flag then ([], a_value Long) else (option flag ∷ [], a_word)
 long_option (Ok flag) (Some value) =
@@ -90,15 +86,15 @@ long_option (Ok flag) (Some value) =
 unfoldable pub option_of_letter : Tool → ℕ → Option Flag
 option_of_letter t c = find (λ flag. bytes_eq (row_of flag).0 (c ∷ [])) (flags_of t)
 
-abbrev pub attached_value : List ℕ → ItemsAndNext
+abbrev pub attached_value : List ℕ → List Item × NextWord
 attached_value [] = ([], a_value Short)
 attached_value cs = (length_value (encode_utf8_all cs) ∷ [], a_word)
 
-abbrev pub letter_then : ℕ → Option Flag → List ℕ → ItemsAndNext → ItemsAndNext
+abbrev pub letter_then : ℕ → Option Flag → List ℕ → List Item × NextWord → List Item × NextWord
 letter_then c None cs rest = (fault (unknown_short c) ∷ [], no_word)
 letter_then c (Some flag) cs rest = if takes_value flag then attached_value cs else (option flag ∷ rest.0, rest.1)
 
-abbrev pub cluster : Tool → List ℕ → ItemsAndNext
+abbrev pub cluster : Tool → List ℕ → List Item × NextWord
 cluster t [] = ([], a_word)
 cluster t (c ∷ cs) = letter_then c (option_of_letter t c) cs (cluster t cs)
 
@@ -111,7 +107,7 @@ abbrev pub is_option_word : Text → Bool
 is_option_word word = starts_with ◌==◌ word (codes "-") && not (bytes_eq word (codes "-"))
 
 -- a long option behind "--"; or a cluster behind '-'; or an operand
-abbrev pub read_word : Tool → Text → ItemsAndNext
+abbrev pub read_word : Tool → Text → List Item × NextWord
 read_word t word =
     if starts_with ◌==◌ word (codes "--")
     then long_option (name_or_fault t (name_part (drop 2 word))) (value_part (drop 2 word))

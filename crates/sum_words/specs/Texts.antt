@@ -58,9 +58,6 @@ help t =
 abbrev pub version : Tool → Text
 version t = name_of t ++ codes " (digests), profile 2\n"
 
-abbrev pub stop_text : Stop → Text
-stop_text Memory = codes "memory exhausted"
-stop_text Write = codes "write error"
-
 abbrev pub stop_line : Tool → Stop → Text
-stop_line t s = name_of t ++ codes ": " ++ stop_text s ++ codes "\n"
+stop_line t Memory = name_of t ++ codes ": memory exhausted\n"
+stop_line t Write = name_of t ++ codes ": write error\n"

@@ -2,7 +2,7 @@
 ghost use Rattle.std.specs.Prelude.{◌≡◌, ◌≤◌, ◌<◌, ◌*◌, vec_len, take, IfOk, IfSome, OnOk, OnErr};
 ghost use Rattle.std.specs.Option.{option_map};
 ghost use Rattle.sum_words.specs.refinement.Arguments.{ArgumentIs, WordsAre, IsNameOf, IsFirstWord, CallIs, call_of};
-ghost use Rattle.sum_words.specs.refinement.Arguments.{IsLonger, IsThere, IsBadFirstWord, MayBeUnread};
+ghost use Rattle.sum_words.specs.refinement.Arguments.{IsLonger, IsThere, MayBeUnread};
 ghost use Rattle.sum_words.specs.CommandLines.{last_part};
 
 use crate::arguments::Arguments;
@@ -121,12 +121,13 @@ fn grow<A: Allocator>(more: &mut Vec<u8, A>) -> Result<(), AllocError>
 }
 
 // The tool that is called by the last part of the name by which the program was called.
+#[tactic(auto, using(crate::proofs::CommandLineLemmas::longer_unread))]
 fn tool_called_by_name<A: Allocator, G: Arguments>(
     arguments: &G,
     room: &mut Room<A>,
 ) -> Result<Option<Tool>, NotRead>
     ensures tool { IfOk result (λ tool. IsNameOf (G.told arguments.now) tool) }
-    ensures not_read { OnErr result (IsLonger (G.told arguments.now) 0 PAGE) }
+    ensures not_read { OnErr result (MayBeUnread (G.told arguments.now)) }
 {
     match room.argument(arguments, 0)? {
         Some(path) => Ok(Tool::of_name(last_part(path))),
@@ -145,13 +146,13 @@ fn last_part(path: &[u8]) -> &[u8]
 }
 
 // The tool that is called by the first word.
-#[tactic(auto, using(crate::proofs::CommandLineLemmas::first_is, crate::proofs::CommandLineLemmas::bad_first_is))]
+#[tactic(auto, using(crate::proofs::CommandLineLemmas::first_word_steps))]
 fn tool_called_by_word<A: Allocator, G: Arguments>(
     arguments: &G,
     room: &mut Room<A>,
 ) -> Result<Option<Tool>, NotRead>
     ensures tool { IfOk result (λ tool. IsFirstWord (G.told arguments.now) tool) }
-    ensures not_read { OnErr result (IsBadFirstWord (G.told arguments.now)) }
+    ensures not_read { OnErr result (MayBeUnread (G.told arguments.now)) }
 {
     match room.argument(arguments, 1)? {
         Some(word) if is_readable(word) => Ok(Tool::of_name(word)),

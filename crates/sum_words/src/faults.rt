@@ -5,7 +5,9 @@ ghost use Rattle.sum_lines.specs.Sinks.{Writes};
 ghost use Rattle.sum_lines.specs.refinement.PartTexts.{part_text};
 ghost use Rattle.sum_words.specs.Faults.{Fault};
 ghost use Rattle.sum_words.specs.refinement.ItemIterator.{fault_of};
-ghost use Rattle.sum_words.specs.Texts.{wording, fault_lines, stop_text, stop_line};
+ghost use Rattle.sum_words.specs.declared.tool.Tool.{Tool};
+ghost use Rattle.sum_words.specs.Tools.{name_of};
+ghost use Rattle.sum_words.specs.Texts.{wording, fault_lines, stop_line};
 
 use crate::options::{Flag, Spelling};
 use crate::tool::Tool;
@@ -118,16 +120,15 @@ pub fn put_stop<E: Sink>(err: &mut E, tool: Tool, stop: Stop) -> Result<(), Sink
     ensures { Writes (E.state err.old) (E.state err.new) (stop_line tool stop) result }
 {
     let name = Part::Bytes(tool.name().as_bytes());
-    let text = Part::Bytes(stop_wording(stop).as_bytes());
-    put_parts(err, &[name, Part::Bytes(b": "), text, Part::Bytes(b"\n")])
+    put_parts(err, &[name, behind_name(stop)])
 }
 
 // The words of `Stop`'s Display, which writes to a formatter and to no sink, once more.
-fn stop_wording(stop: Stop) -> &'static str
-    ensures { result.now ≡ stop_text stop }
+fn behind_name(stop: Stop) -> Part<'static>
+    ensures { (t : Tool) → name_of t ++ part_text result ≡ stop_line t stop }
 {
     match stop {
-        Stop::Memory => "memory exhausted",
-        Stop::Write => "write error",
+        Stop::Memory => Part::Bytes(b": memory exhausted\n"),
+        Stop::Write => Part::Bytes(b": write error\n"),
     }
 }

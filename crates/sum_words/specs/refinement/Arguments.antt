@@ -1,23 +1,22 @@
 -- Joins the reading of the arguments to their list.
-use Rattle.std.specs.Prelude.{ℕ, ◌≡◌, ◌<◌, ◌⊎◌, true, false, List, ◌++◌, take, drop, length, slice_get, Option, None, Some, IfSome, Result, Ok, Err, ⊤}
+use Rattle.std.specs.Prelude.{ℕ, ◌≡◌, ◌<◌, ◌⊎◌, true, false, List, ◌++◌, take, drop, length, slice_get, Option, None, Some, IfSome, IsSomeAnd, Result, Ok, Err, ⊤}
 use Rattle.std.specs.List.{list_all}
 use Rattle.std.specs.Option.{option_and_then}
 use Rattle.std.specs.declared.env.FillError.{FillError}
 use Rattle.std.specs.declared.env.FillError.TheVariants.{NotPresent, TooLong}
-use Rattle.sum_words.specs.declared.command_line.TheConstants.{PAGE}
 use Rattle.sum_words.specs.declared.tool.Tool.{Tool}
 use Rattle.sum_words.specs.declared.command_line.CommandLine.{CommandLine}
 use Rattle.sum_words.specs.Items.{Text, is_readable}
 use Rattle.sum_words.specs.Tools.{tool_called}
 use Rattle.sum_words.specs.declared.command_line.CommandLine.TheVariants.{UnknownTool, Asks}
-use Rattle.sum_words.specs.CommandLines.{Call, unknown, call, last_part, command_line, LongerAt, MayNotRead}
+use Rattle.sum_words.specs.CommandLines.{Call, unknown, call, last_part, command_line, MayNotRead}
 
 -- what one call does: the argument at the place stands in front of the buffer; there is none; or it is longer
 abbrev pub Fills : Option (List Text) → ℕ → List ℕ → Result ℕ FillError → Type 0
 Fills None place buffer r = ⊤
 Fills (Some all) place buffer (Ok n) = slice_get all place ≡ Some (take n buffer)
 Fills (Some all) place buffer (Err NotPresent) = slice_get all place ≡ None
-Fills (Some all) place buffer (Err TooLong) = LongerAt all place (length buffer)
+Fills (Some all) place buffer (Err TooLong) = IsSomeAnd (slice_get all place) (λ a. length buffer < length a)
 
 -- the argument at a place, where there is one
 abbrev pub ArgumentIs : Option (List Text) → ℕ → Option Text → Type 0
@@ -25,7 +24,7 @@ ArgumentIs told place o = IfSome told (λ all. slice_get all place ≡ o)
 
 -- the argument at a place, which there is, is longer than so many bytes
 abbrev pub IsLonger : Option (List Text) → ℕ → ℕ → Type 0
-IsLonger told place n = IfSome told (λ all. LongerAt all place n)
+IsLonger told place n = IfSome told (λ all. IsSomeAnd (slice_get all place) (λ a. n < length a))
 
 -- there is an argument at a place
 abbrev pub IsThere : Option (List Text) → ℕ → Type 0
@@ -40,11 +39,6 @@ IsNameOf told tool =
 abbrev pub IsFirstWord : Option (List Text) → Option Tool → Type 0
 IsFirstWord told tool = IfSome told (λ all.
     (tool ≡ option_and_then tool_called (slice_get all 1)) × (list_all is_readable (take 1 (drop 1 all)) ≡ true))
-
--- the first word can't be read, or is longer than the page
-abbrev pub IsBadFirstWord : Option (List Text) → Type 0
-IsBadFirstWord told =
-    IfSome told (λ all. (list_all is_readable (take 1 (drop 1 all)) ≡ false) ⊎ LongerAt all 1 PAGE)
 
 -- the words from a place on, which can be read
 abbrev pub WordsAre : Option (List Text) → ℕ → List Text → Type 0
@@ -61,10 +55,8 @@ call_of UnknownTool = unknown
 call_of (Asks tool words) = call tool words
 
 abbrev pub CallIs : Option (List Text) → Call → Type 0
-CallIs None c = ⊤
-CallIs (Some all) c = command_line all ≡ Some c
+CallIs told c = IfSome told (λ all. command_line all ≡ Some c)
 
 -- these arguments may be left unread
 abbrev pub MayBeUnread : Option (List Text) → Type 0
-MayBeUnread None = ⊤
-MayBeUnread (Some all) = MayNotRead all
+MayBeUnread told = IfSome told MayNotRead

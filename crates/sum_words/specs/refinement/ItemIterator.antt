@@ -13,7 +13,7 @@ use Rattle.sum_words.specs.declared.items.State.{State}
 use Rattle.sum_words.specs.declared.items.State.TheVariants as states
 use Rattle.sum_words.specs.declared.items.Step.{Step}
 use Rattle.sum_words.specs.declared.items.Step.TheVariants as steps
-use Rattle.sum_words.specs.Items.{Text, Item, option, length_value, operand, fault, ItemsAndNext, a_word, a_value, no_word, cluster, items_from}
+use Rattle.sum_words.specs.Items.{Text, Item, option, length_value, operand, fault, NextWord, a_word, a_value, no_word, cluster, items_from}
 
 -- a letter as a text, where there is one
 abbrev pub letter_text : Option ℕ → Text
@@ -44,7 +44,7 @@ item_of (says.Operand word) = operand word.now
 item_of (says.Fault f) = fault (fault_of f)
 
 -- what a word says, and then the words behind it
-abbrev pub read_then : Tool → ItemsAndNext → List Text → List Item
+abbrev pub read_then : Tool → List Item × NextWord → List Text → List Item
 read_then t r words = r.0 ++ items_from t r.1 words
 
 -- the items still to come where the iterator stands, before these words
