@@ -1,14 +1,14 @@
 -- A line that joins from the parts of a tagged line is read as these parts.
-use Rattle.std.proofs.Common.{ℕ, ◌≡◌, ◌*◌, ◌<◌, ◌≤◌, Bool, true, false, ◌==◌, nat_le, eq-eqb, List, [], ◌∷◌, ◌++◌, length, Some, refl, ap, sym, ◌∙◌, arith, inl, inr}
+use Rattle.std.proofs.Common.{ℕ, ◌≡◌, ◌≢◌, ◌*◌, ◌<◌, ◌≤◌, Bool, true, false, ◌==◌, nat_le, eq-eqb, List, [], ◌∷◌, ◌++◌, length, Some, refl, ap, sym, ◌∙◌, arith, inl, inr}
 use Rattle.std.proofs.lemmas.List.{append-nil, drop_all, drop_at}
-use Rattle.std.specs.List.{AllPass, take_while, prefix_len}
+use Rattle.std.specs.List.{All, AllPass, take_while, prefix_len}
 use Rattle.std.specs.Fmt.{decimal}
 use Rattle.std.proofs.lemmas.Bool.{and_parts, leb-true, lt-ltb}
 use Rattle.std.proofs.lemmas.Bool.Decides.{eqb_tells}
 use Rattle.std.proofs.lemmas.List.Elements.{All-cons, All-head, All-append, All-weaker}
 use Rattle.hex.specs.Hex.{is_hex_digit}
 use Rattle.hex.proofs.HexLemmas.{decode_of-ok}
-use Rattle.digest_kinds.specs.Kinds.{KindValue, full_kind, blake2b_kind, tag}
+use Rattle.digest_kinds.specs.Kinds.{KindValue, full_kind, tag}
 use Rattle.digest_kinds.specs.declared.algo.Algo.{Algo}
 use Rattle.digest_kinds.specs.declared.algo.Algo.TheVariants.{Md5, Blake2b}
 use Rattle.digest_kinds.specs.declared.algo.Algos.{Algos}
@@ -16,7 +16,7 @@ use Rattle.digest_kinds.specs.declared.algo.Algos.TheVariants.{One, Any}
 use Rattle.sum_lines.specs.Shapes.{is_blank, mark, optional, Width, Allows, Tagged}
 use Rattle.std.specs.Char.{is_ascii_digit}
 use Rattle.sum_lines.specs.PartsOfLines.{Parts, after_while, mark_and_rest, tag_in, width_at, tagged_as, tagged_parts}
-use Rattle.sum_lines.proofs.PrefixLemmas.{prefix-at, rest-at, prefix_len-all, starts-append, opened-at, rsplit-at, isn't}
+use Rattle.sum_lines.proofs.PrefixLemmas.{parts-at, prefix_len-all, starts-append, opened-at, rsplit-at}
 use Rattle.sum_lines.proofs.BitsLemmas.{kind_at-bits, decimal-digits}
 use Rattle.digest_kinds.proofs.TagLemmas.{find-begins}
 use Rattle.sum_lines.proofs.TaggedParts.{IsTagged}
@@ -46,10 +46,10 @@ tag-begins sha = begins-by 83 _ refl refl refl
 -- behind a line's blanks the backslash is read, where there is one
 pub mark_and_rest-prefix : (blanks : List ℕ) (e : Bool) (xs rest : List ℕ) → AllPass is_blank blanks → Begins xs
     → mark_and_rest (after_while is_blank (blanks ++ (mark e ++ (xs ++ rest)))) ≡ (e, xs ++ rest)
-mark_and_rest-prefix blanks true xs rest are b = ap mark_and_rest (rest-at is_blank blanks 92 (xs ++ rest) are refl)
+mark_and_rest-prefix blanks true xs rest are b = ap mark_and_rest (parts-at is_blank blanks 92 (xs ++ rest) are refl).1
 mark_and_rest-prefix blanks false xs rest are b =
     let behind : after_while is_blank (blanks ++ (b.first ∷ (b.more ++ rest))) ≡ b.first ∷ (b.more ++ rest) =
-    rest-at is_blank blanks b.first (b.more ++ rest) are b.no_blank in
+    (parts-at is_blank blanks b.first (b.more ++ rest) are b.no_blank).1 in
     rw (b.are, behind, b.no_mark) refl
 
 -- a byte that passes a test isn't one that doesn't
@@ -70,29 +70,16 @@ abbrev pub opening : Bool → List ℕ → List ℕ
 opening g s = optional g (32 ∷ []) ++ (40 ∷ s)
 
 -- decimal digits end before it
-prefix-digits : (ds : List ℕ) (g : Bool) (s : List ℕ) → AllPass is_ascii_digit ds
-    → take_while is_ascii_digit (ds ++ opening g s) ≡ ds
-prefix-digits ds true s all = prefix-at is_ascii_digit ds 32 (40 ∷ s) all refl
-prefix-digits ds false s all = prefix-at is_ascii_digit ds 40 s all refl
-
--- and it begins the rest
-rest-digits : (ds : List ℕ) (g : Bool) (s : List ℕ) → AllPass is_ascii_digit ds
-    → after_while is_ascii_digit (ds ++ opening g s) ≡ opening g s
-rest-digits ds true s all = rest-at is_ascii_digit ds 32 (40 ∷ s) all refl
-rest-digits ds false s all = rest-at is_ascii_digit ds 40 s all refl
+digits-end : (ds : List ℕ) (g : Bool) (s : List ℕ) → AllPass is_ascii_digit ds
+    → (take_while is_ascii_digit (ds ++ opening g s) ≡ ds)
+    × (after_while is_ascii_digit (ds ++ opening g s) ≡ opening g s)
+digits-end ds true s all = parts-at is_ascii_digit ds 32 (40 ∷ s) all refl
+digits-end ds false s all = parts-at is_ascii_digit ds 40 s all refl
 
 -- without a width the digest is full
 width_at-none : (a : Algo) (g : Bool) (s : List ℕ) → width_at a (opening g s) ≡ Some (full_kind a, opening g s)
 width_at-none Blake2b true s = refl
 width_at-none a g s = refl
-
--- the bits of a length are read as that length
-width_at-bits : (len : ℕ) (g : Bool) (s : List ℕ) → 0 < len → len ≤ 64
-    → width_at Blake2b (45 ∷ (decimal (8 * len) ++ opening g s)) ≡ Some (blake2b_kind len, opening g s)
-width_at-bits len g s some most =
-    let bits : List ℕ = decimal (8 * len) in
-    let all = decimal-digits len most in
-    rw (prefix-digits bits g s all, rest-digits bits g s all, kind_at-bits len some most) refl
 
 -- a kind's width is read as that kind
 pub width_at-of : (kind : KindValue) (w : List ℕ) (g : Bool) (s : List ℕ) → Width kind w
@@ -102,7 +89,8 @@ width_at-of kind w g s (inr bits) =
     let range = and_parts (nat_le 1 kind.len) (nat_le kind.len 64) bits.2 in
     let some : 0 < kind.len = leb-true 1 kind.len range.0 in
     let most : kind.len ≤ 64 = leb-true kind.len 64 range.1 in
-    rw (bits.0, bits.1, width_at-bits kind.len g s some most) refl
+    let ends = digits-end (decimal (8 * kind.len)) g s (decimal-digits kind.len most) in
+    rw (bits.0, bits.1, ends.0, ends.1, kind_at-bits kind.len some most) refl
 
 -- ---- the tag
 
@@ -120,19 +108,19 @@ rest-hex blanks [] are all =
     let whole = prefix_len-all is_blank blanks are in
     rw (append-nil blanks) (drop_all (prefix_len is_blank blanks) blanks (omega arith))
 rest-hex blanks (d ∷ ds) are all =
-    rest-at is_blank blanks d ds are (hex-no_blank d (All-head (λ x. is_hex_digit x ≡ true) d ds all))
+    (parts-at is_blank blanks d ds are (hex-no_blank d (All-head (λ x. is_hex_digit x ≡ true) d ds all))).1
 
 -- a byte that is no closing parenthesis
 abbrev Not41 : ℕ → Type 0
-Not41 x = isn't 41 x ≡ true
+Not41 x = x ≢ 41
 
--- a blank is no closing parenthesis
+-- a blank is none
 blank-not41 : (x : ℕ) → is_blank x ≡ true → Not41 x
-blank-not41 x h = rw (passes-other is_blank 41 x h refl) refl
+blank-not41 x h = λ e. let bad = rw e at h in cc
 
 -- nor is a digit
 hex-not41 : (x : ℕ) → is_hex_digit x ≡ true → Not41 x
-hex-not41 x h = rw (passes-other is_hex_digit 41 x h refl) refl
+hex-not41 x h = λ e. let bad = rw e at h in cc
 
 -- ---- a tagged line
 
@@ -161,8 +149,8 @@ tagged-prefix {e = e} {kind = kind} t =
 
 module _ {algos : Algos} {line : List ℕ} (p : Parts) (t : IsTagged algos line p) where
   -- behind the closing parenthesis stand `=` and the digits
-  pub sign-found : after_while is_blank (behind_name t) ≡ 61 ∷ (t.after ++ t.digits)
-  sign-found = rest-at is_blank t.before 61 (t.after ++ t.digits) t.before_blanks refl
+  sign-found : after_while is_blank (behind_name t) ≡ 61 ∷ (t.after ++ t.digits)
+  sign-found = (parts-at is_blank t.before 61 (t.after ++ t.digits) t.before_blanks refl).1
 
   -- the digits are hexadecimal
   digits-are : AllPass is_hex_digit t.digits
@@ -173,15 +161,15 @@ module _ {algos : Algos} {line : List ℕ} (p : Parts) (t : IsTagged algos line 
   digits-found = rest-hex t.after t.digits t.after_blanks digits-are
 
   -- it is the last parenthesis
-  pub behind-free : AllPass (isn't 41) (behind_name t)
+  behind-free : All Not41 (behind_name t)
   behind-free =
-      let end : AllPass (isn't 41) (t.after ++ t.digits) =
+      let end : All Not41 (t.after ++ t.digits) =
       All-append Not41 t.after t.digits
       (All-weaker _ Not41 blank-not41 t.after t.after_blanks)
       (All-weaker _ Not41 hex-not41 t.digits digits-are) in
       All-append Not41 t.before (61 ∷ (t.after ++ t.digits))
       (All-weaker _ Not41 blank-not41 t.before t.before_blanks)
-      (All-cons Not41 61 (t.after ++ t.digits) refl end)
+      (All-cons Not41 61 (t.after ++ t.digits) (λ e. cc) end)
 
   -- so the line is read as these parts
   pub tagged_is_read : tagged_parts algos line ≡ Some p
