@@ -21,8 +21,7 @@ use Rattle.sum_lines.proofs.PlainLemmas.{apart, read_is_plain}
 use Rattle.sum_lines.proofs.PrefixLemmas.{none_of}
 use Rattle.sum_lines.proofs.EntryLemmas.{form_at}
 use Rattle.sum_lines.proofs.ParsedLineLemmas.{one_entry}
-use Rattle.sum_lines.proofs.InlineLemmas.{Inline, inline}
-use Rattle.sum_lines.proofs.LineFormatShapes.{line_width, width-is, plain_line, tagged_line, written_for, is_space_or_star, plain-form, plain-entry, tagged-written, tagged-entry, Inline-plain, Inline-tagged}
+use Rattle.sum_lines.proofs.LineFormatShapes.{Inline, inline, line_width, width-is, plain_line, tagged_line, written_for, is_space_or_star, plain-form, plain-entry, tagged-written, tagged-entry, Inline-plain, Inline-tagged}
 
 -- a line that ends with a newline, without it
 abbrev pub prefix_of : Mode → KindValue → List ℕ → List ℕ → List ℕ

@@ -15,10 +15,9 @@ use Rattle.sum_lines.specs.ParsedLines.{with_raw, entry_of_parts, entry_of}
 use Rattle.sum_lines.specs.Laws.{OneEntry, SaysOf, SaysIs}
 use Rattle.sum_lines.proofs.PrefixLemmas.{bind_some}
 use Rattle.sum_lines.proofs.PlainLemmas.{apart, plain_is_read, read_is_plain}
-use Rattle.sum_lines.proofs.TaggedLemmas.{tagged_is_read}
-use Rattle.sum_lines.proofs.TaggedParts.{read_is_tagged}
+use Rattle.sum_lines.proofs.TaggedLemmas.{tagged_is_read, read_is_tagged}
 use Rattle.sum_lines.proofs.EntryLemmas.{tag_parts, tail_parts, plain-speaks, tagged-speaks}
-use Rattle.sum_lines.proofs.UnescapeOf.{spelled-is, is-spelled}
+use Rattle.sum_lines.proofs.UnescapeLemmas.{spelled-is, is-spelled}
 
 -- ---- the raw name
 

@@ -17,7 +17,7 @@ use Rattle.sum_lines.specs.Shapes.{is_blank, mark, optional}
 use Rattle.sum_lines.specs.PartsOfLines.{after_while, strip_prefix, mark_and_rest, width_at, tagged_as}
 use Rattle.sum_lines.specs.refinement.Found.{EndsIn}
 use Rattle.sum_lines.proofs.PrefixLemmas.{bind_none, none_of, ok_some, strip_prefix-some, strip_prefix-append, prefix-and-rest, opened-some, rfind-at, rfind-none, mark_and_rest-is}
-use Rattle.sum_lines.proofs.TaggedParts.{width_at-some}
+use Rattle.sum_lines.proofs.TaggedLemmas.{width_at-some}
 
 -- ---- a text in front
 

@@ -1,5 +1,5 @@
 use Rattle.std.proofs.Common.{sym, arith}
-use Rattle.sum_lines.proofs.BlankLemmas.{tail-some}
+use Rattle.sum_lines.proofs.BeginningLemmas.{tail-some}
 use Rattle.sum_lines.proofs.PrefixLemmas.{rsplit-some}
 use Rattle.sum_lines.proofs.ScanLemmas.{decoded-size, digest_none, digest_other, inner-ends, place, tagged-none, tagged-read}
 use Rattle.sum_lines.proofs.tagged.tagged_as.Goals as goal
