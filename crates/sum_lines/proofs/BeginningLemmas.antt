@@ -1,6 +1,6 @@
 -- What a line begins with, and the parts that it is then read as. The code looks for the first blank of a plain line's
 -- text among as many bytes as the longest digest has digits.
-use Rattle.std.proofs.Common.{ℕ, ◌≡◌, ◌*◌, ◌<◌, ◌≤◌, Bool, false, ◌==◌, List, [], ◌∷◌, length, take, get_or, min, None, Some, sym, arith, inl, inr, ◌+◌, ◌-◌, ◌/◌, true, cond, ◌++◌, drop, Option, Ok, IfNone, IfSome, refl, ap, ◌∙◌, length-drop}
+use Rattle.std.proofs.Common.{ℕ, ◌≡◌, ◌*◌, ◌<◌, ◌≤◌, Bool, false, ◌==◌, List, ◌∷◌, length, take, get_or, min, None, Some, sym, arith, inl, inr, ◌+◌, ◌-◌, ◌/◌, true, cond, ◌++◌, drop, Option, Ok, IfNone, IfSome, refl, ap, ◌∙◌, length-drop}
 use Rattle.std.specs.List.{position_or_len, starts_with}
 use Rattle.std.proofs.lemmas.Bool.{cases_Bool, eqb-true, lt-ltb}
 use Rattle.std.proofs.lemmas.List.{get_or-take, length-take, take_rest}
@@ -10,7 +10,7 @@ use Rattle.digest_kinds.specs.declared.algo.Algo.{Algo}
 use Rattle.sum_lines.specs.Shapes.{is_blank}
 use Rattle.sum_lines.specs.PartsOfLines.{Parts, after_while, mark_and_rest, plain_as, plain_parts, tag_in, tagged_as, tagged_parts}
 use Rattle.sum_lines.proofs.PlainLemmas.{Cut, cut-within, no_prefix, plain-digits, plain-prefix, plain_as-some, read_is_plain}
-use Rattle.sum_lines.proofs.ScanLemmas.{decoded-size, has_len-most}
+use Rattle.sum_lines.proofs.ScanLemmas.{decoded-size}
 use Rattle.std.proofs.lemmas.List.Elements.{All-get_or}
 use Rattle.std.proofs.lemmas.Option.{cond_some}
 use Rattle.std.proofs.lemmas.Bool.Decides.{Decides-eqb}
@@ -25,6 +25,7 @@ use Rattle.digest_kinds.specs.declared.algo.Algos.TheVariants.{One}
 use Rattle.sum_lines.specs.refinement.Beginnings.{EndsAt, EndsDigits, ByTag}
 use Rattle.sum_lines.proofs.PrefixLemmas.{none_of}
 use Rattle.sum_lines.proofs.TaggedLemmas.{hex-no_blank, tag_in-some}
+use Rattle.sum_lines.proofs.BitsLemmas.{has_len-range}
 
 -- a cut has two digits for each byte of its digest, and so few that the search meets its blank
 pub cut-size : {a : Algo} {e : Bool} {s : List ℕ} {p : Parts} → Cut a e s p
@@ -33,7 +34,7 @@ cut-size {a} {e} {s} {p} cut =
     let within = cut-within cut in
     let size = decoded-size (take (position_or_len is_blank s) s) p.digest cut.spelled in
     let len = length-take (position_or_len is_blank s) s in
-    (omega (arith, within, size, len), has_len-most a (length p.digest) cut.has)
+    (omega (arith, within, size, len), (has_len-range a (length p.digest) cut.has).1)
 
 -- a search that finds none
 pub searched-none : {a : Algo} {e : Bool} {s : List ℕ} {p : Parts} {n : ℕ} → n ≡ min (length s) 129
@@ -68,11 +69,6 @@ searched-some s {n} {i} is first =
           (λ _. rw (get_or-take n s i 0 less) at first.1)),
       within,
     )
-
--- a tail that was looked at isn't empty
-pub tail-some : (tail : List ℕ) (r : Bool) → r ≡ (length tail == 0) → r ≡ false → 0 < length tail
-tail-some [] r is h = cc
-tail-some (x ∷ xs) r is h = omega arith
 
 -- a line's mark and what stands behind it
 abbrev pub text : List ℕ → Bool × List ℕ

@@ -1,11 +1,11 @@
 -- The lines that are written, as they are put together: each has its shape, spells the name and the digest that it was
 -- written for, and holds no newline and no carriage return before its end.
-use Rattle.std.proofs.Common.{ℕ, ◌≡◌, ◌≢◌, ◌*◌, ◌<◌, not, Bool, true, false, ◌==◌, ◌||◌, nat_le, List, [], ◌∷◌, ◌++◌, length, refl, ap, arith, inl, inr, cond, ◌∙◌}
+use Rattle.std.proofs.Common.{ℕ, ◌≡◌, ◌≢◌, ◌*◌, ◌<◌, not, Bool, true, false, ◌==◌, ◌||◌, List, [], ◌∷◌, ◌++◌, length, refl, ap, arith, inl, inr, cond, ◌∙◌}
 use Rattle.std.specs.List.{All, AllPass, list_all}
 use Rattle.std.proofs.lemmas.List.Folds.{list_all-append}
 use Rattle.std.proofs.lemmas.List.Sums.{AllPass-from_list_all, list_all-from_AllPass}
 use Rattle.std.specs.Fmt.{decimal}
-use Rattle.std.proofs.lemmas.Bool.{and_parts, leb-true, eqb-true, cases_Bool}
+use Rattle.std.proofs.lemmas.Bool.{eqb-true, cases_Bool}
 use Rattle.std.proofs.lemmas.Bool.Decides.{eqb_tells}
 use Rattle.std.proofs.lemmas.List.Elements.{All-weaker, All-cons, All-nil}
 use Rattle.digest_kinds.specs.Kinds.{KindValue, tag, full_len, has_len}
@@ -15,7 +15,7 @@ use Rattle.sum_lines.specs.Profiles.{present}
 use Rattle.sum_lines.specs.Escape.{escape, escape_of, escape_differs}
 use Rattle.sum_lines.specs.Shapes.{mark, Width, is_blank, Allows, Plain, Tagged}
 use Rattle.std.specs.Char.{is_ascii_digit}
-use Rattle.sum_lines.proofs.BitsLemmas.{decimal-digits}
+use Rattle.sum_lines.proofs.BitsLemmas.{decimal-digits, has_len-range}
 use Rattle.sum_lines.proofs.TaggedLemmas.{passes-other}
 use Rattle.std.specs.Str.{bytes_eq}
 use Rattle.std.proofs.lemmas.Slice.Eq.{bytes_eq-Decides}
@@ -28,7 +28,7 @@ use Rattle.sum_lines.specs.declared.line_reading.Form.TheVariants.{Standard}
 use Rattle.sum_lines.specs.PartsOfLines.{Parts}
 use Rattle.sum_lines.specs.Entries.{begins_standard, form_by, line_form, Spells, Spelled, Entry}
 use Rattle.sum_lines.specs.Laws.{Writable}
-use Rattle.sum_lines.proofs.PlainLemmas.{Digits, digits-of, has_len-some, plain_is_read}
+use Rattle.sum_lines.proofs.PlainLemmas.{Digits, digits-of, plain_is_read}
 use Rattle.sum_lines.proofs.EntryLemmas.{plain-speaks, tagged-speaks}
 
 -- a byte that may stand within a line
@@ -66,8 +66,7 @@ inline-mark false = refl
 pub inline-width : (kind : KindValue) (w : List ℕ) → Width kind w → list_all inline w ≡ true
 inline-width kind w (inl none) = rw none.0 refl
 inline-width kind w (inr bits) =
-    let range = and_parts (nat_le 1 kind.len) (nat_le kind.len 64) bits.2 in
-    let digits = decimal-digits kind.len (leb-true kind.len 64 range.1) in
+    let digits = decimal-digits kind.len (has_len-range Blake2b kind.len bits.2).1 in
     rw bits.0 (inline-all is_ascii_digit (decimal (8 * kind.len)) refl refl digits)
 
 -- an escaped byte is at least one
@@ -165,7 +164,7 @@ module _ {kind : KindValue} {name digest : List ℕ} (w : Writable kind name dig
   -- the digest's digits are read back
   pub digits-written : Digits (encode_lower digest)
   digits-written =
-      let some = has_len-some kind.algo kind.len w.has in
+      let some = (has_len-range kind.algo kind.len w.has).0 in
       let size = w.size in
       digits-of (encode_lower digest) digest (decode_of-encode_lower digest w.bytes) (omega arith)
 

@@ -1,13 +1,13 @@
 -- What is read of a tagged line joins to the line, and a line that joins from the parts of a tagged line is read as these
 -- parts.
-use Rattle.std.proofs.Common.{ℕ, ◌≡◌, Bool, true, ◌==◌, ◌&&◌, List, [], ◌∷◌, ◌++◌, length, drop, Some, refl, ap, inl, inr, ◌≢◌, ◌*◌, ◌<◌, ◌≤◌, false, nat_le, eq-eqb, sym, ◌∙◌, arith}
+use Rattle.std.proofs.Common.{ℕ, ◌≡◌, Bool, true, ◌==◌, ◌&&◌, List, [], ◌∷◌, ◌++◌, length, drop, Some, refl, ap, inl, inr, ◌≢◌, ◌*◌, false, eq-eqb, sym, ◌∙◌, arith}
 use Rattle.std.specs.Prelude.{nat_lt}
 use Rattle.std.specs.Char.{is_ascii_digit}
 use Rattle.std.specs.List.{starts_with, take_while, All, AllPass, prefix_len}
 use Rattle.std.specs.Option.{option_map, option_or}
 use Rattle.std.specs.Path.{rsplit_once}
 use Rattle.std.specs.Result.{result_ok}
-use Rattle.std.proofs.lemmas.Bool.{eqb-true, ltb-true, and_from, and_parts, le-leb, leb-true, lt-ltb}
+use Rattle.std.proofs.lemmas.Bool.{eqb-true, ltb-true, and_from, and_parts, le-leb, lt-ltb}
 use Rattle.std.proofs.lemmas.Bool.Decides.{Decides-eqb, eqb_tells}
 use Rattle.std.proofs.lemmas.List.Prefix.{front_rest}
 use Rattle.std.proofs.lemmas.Slice.Eq.{starts_is}
@@ -22,7 +22,7 @@ use Rattle.digest_kinds.specs.declared.algo.Algos.TheVariants.{One, Any}
 use Rattle.sum_lines.specs.Shapes.{is_blank, Width, Allows, Tagged, mark, optional}
 use Rattle.sum_lines.specs.PartsOfLines.{Parts, after_while, strip_prefix, mark_and_rest, tag_in, kind_at, width_at, tagged_as, tagged_parts}
 use Rattle.sum_lines.proofs.PrefixLemmas.{bind_some, map_some, ok_some, prefix-passes, prefix-and-rest, mark_and_rest-is, strip_prefix-some, opened-some, rsplit-some, parts-at, prefix_len-all, starts-append, opened-at, rsplit-at}
-use Rattle.sum_lines.proofs.BitsLemmas.{kind_at-some, kind_at-bits, decimal-digits}
+use Rattle.sum_lines.proofs.BitsLemmas.{kind_at-some, kind_at-bits, decimal-digits, has_len-range}
 use Rattle.std.proofs.lemmas.List.{append-nil, drop_all, drop_at}
 use Rattle.std.specs.Fmt.{decimal}
 use Rattle.std.proofs.lemmas.List.Elements.{All-cons, All-head, All-append, All-weaker}
@@ -201,11 +201,9 @@ pub width_at-of : (kind : KindValue) (w : List ℕ) (g : Bool) (s : List ℕ) �
     → width_at kind.algo (w ++ opening g s) ≡ Some (kind, opening g s)
 width_at-of kind w g s (inl none) = rw (none.0, width_at-none kind.algo g s, ← none.1) refl
 width_at-of kind w g s (inr bits) =
-    let range = and_parts (nat_le 1 kind.len) (nat_le kind.len 64) bits.2 in
-    let some : 0 < kind.len = leb-true 1 kind.len range.0 in
-    let most : kind.len ≤ 64 = leb-true kind.len 64 range.1 in
-    let ends = digits-end (decimal (8 * kind.len)) g s (decimal-digits kind.len most) in
-    rw (bits.0, bits.1, ends.0, ends.1, kind_at-bits kind.len some most) refl
+    let range = has_len-range Blake2b kind.len bits.2 in
+    let ends = digits-end (decimal (8 * kind.len)) g s (decimal-digits kind.len range.1) in
+    rw (bits.0, bits.1, ends.0, ends.1, kind_at-bits kind.len range.0 range.1) refl
 
 -- ---- the tag
 
