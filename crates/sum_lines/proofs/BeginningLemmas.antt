@@ -1,31 +1,74 @@
--- What a line begins with, and the parts that it is then read as.
-use Rattle.std.proofs.Common.{ℕ, ◌≡◌, ◌+◌, ◌-◌, ◌*◌, ◌/◌, ◌<◌, ◌≤◌, Bool, true, cond, ◌==◌, List, ◌∷◌, ◌++◌, length, take, drop, get_or, min, Option, None, Some, Ok, IfNone, IfSome, refl, ap, sym, ◌∙◌, arith, length-drop}
+-- What a line begins with, and the parts that it is then read as. The code looks for the first blank of a plain line's
+-- text among as many bytes as the longest digest has digits.
+use Rattle.std.proofs.Common.{ℕ, ◌≡◌, ◌*◌, ◌<◌, ◌≤◌, Bool, false, ◌==◌, List, ◌∷◌, length, take, get_or, min, None, Some, sym, arith, inl, inr, ◌+◌, ◌-◌, ◌/◌, true, cond, ◌++◌, drop, Option, Ok, IfNone, IfSome, refl, ap, ◌∙◌, length-drop}
 use Rattle.std.specs.List.{position_or_len, starts_with}
-use Rattle.std.proofs.lemmas.Bool.{eqb-true, lt-ltb}
+use Rattle.std.proofs.lemmas.Bool.{cases_Bool, eqb-true, lt-ltb}
 use Rattle.std.proofs.lemmas.List.{get_or-take, length-take, take_rest}
-use Rattle.std.proofs.lemmas.List.Elements.{All-get_or}
 use Rattle.std.proofs.lemmas.List.Sums.{passes_at_first, position_or_len_is}
+use Rattle.memchr.specs.Find.{IsFirstByte, is_byte2}
+use Rattle.digest_kinds.specs.declared.algo.Algo.{Algo}
+use Rattle.sum_lines.specs.Shapes.{is_blank}
+use Rattle.sum_lines.specs.PartsOfLines.{Parts, after_while, mark_and_rest, plain_as, plain_parts, tag_in, tagged_as, tagged_parts}
+use Rattle.sum_lines.proofs.PlainLemmas.{Cut, cut-within, no_prefix, plain-digits, plain-prefix, plain_as-some, read_is_plain}
+use Rattle.sum_lines.proofs.ScanLemmas.{decoded-size}
+use Rattle.std.proofs.lemmas.List.Elements.{All-get_or}
 use Rattle.std.proofs.lemmas.Option.{cond_some}
 use Rattle.std.proofs.lemmas.Bool.Decides.{Decides-eqb}
 use Rattle.std.proofs.lemmas.List.Prefix.{front_fits}
 use Rattle.std.proofs.lemmas.Slice.Eq.{starts_is}
-use Rattle.memchr.specs.Find.{IsFirstByte, is_byte2}
 use Rattle.hex.specs.Hex.{decode_of, is_hex_digit}
 use Rattle.hex.proofs.HexLemmas.{decode_of-ok}
 use Rattle.digest_kinds.specs.Kinds.{KindValue, full_len, has_len, tag}
-use Rattle.digest_kinds.specs.declared.algo.Algo.{Algo}
 use Rattle.digest_kinds.specs.declared.algo.Algo.TheVariants.{Blake2b}
 use Rattle.digest_kinds.specs.declared.algo.Algos.{Algos}
 use Rattle.digest_kinds.specs.declared.algo.Algos.TheVariants.{One}
-use Rattle.sum_lines.specs.Shapes.{is_blank}
-use Rattle.sum_lines.specs.PartsOfLines.{Parts, after_while, mark_and_rest, plain_as, plain_parts, tag_in, tagged_as, tagged_parts}
 use Rattle.sum_lines.specs.refinement.Beginnings.{EndsAt, EndsDigits, ByTag}
 use Rattle.sum_lines.proofs.PrefixLemmas.{none_of}
-use Rattle.sum_lines.proofs.TaggedLemmas.{hex-no_blank}
-use Rattle.sum_lines.proofs.TaggedParts.{tag_in-some}
-use Rattle.sum_lines.proofs.ScanLemmas.{decoded-size}
-use Rattle.sum_lines.proofs.PlainLemmas.{cut-within, no_prefix, plain-digits, plain-prefix, plain_as-some, read_is_plain}
-use Rattle.sum_lines.proofs.BlankLemmas.{cut-size, searched-none, searched-some}
+use Rattle.sum_lines.proofs.TaggedLemmas.{hex-no_blank, tag_in-some}
+use Rattle.sum_lines.proofs.BitsLemmas.{has_len-range}
+
+-- a cut has two digits for each byte of its digest, and so few that the search meets its blank
+pub cut-size : {a : Algo} {e : Bool} {s : List ℕ} {p : Parts} → Cut a e s p
+    → (position_or_len is_blank s ≡ 2 * length p.digest) × (length p.digest ≤ 64)
+cut-size {a} {e} {s} {p} cut =
+    let within = cut-within cut in
+    let size = decoded-size (take (position_or_len is_blank s) s) p.digest cut.spelled in
+    let len = length-take (position_or_len is_blank s) s in
+    (omega (arith, within, size, len), (has_len-range a (length p.digest) cut.has).1)
+
+-- a search that finds none
+pub searched-none : {a : Algo} {e : Bool} {s : List ℕ} {p : Parts} {n : ℕ} → n ≡ min (length s) 129
+    → IsFirstByte (is_byte2 32 9) (take n s) None → Cut a e s p → ⊥
+searched-none {s = s} {n = n} is none cut =
+    let at : ℕ = position_or_len is_blank s in
+    let within = cut-within cut in
+    let size = cut-size cut in
+    let digits = size.0 in
+    let few = size.1 in
+    let less : at < n = omega (arith, is, within, digits, few) in
+    let len = length-take n s in
+    none at (omega arith) (omega (arith, len, less, is))
+    (rw (get_or-take n s at 0 less) (passes_at_first is_blank s 0 within))
+
+-- one that finds the first blank
+pub searched-some : (s : List ℕ) {n i : ℕ} → n ≡ min (length s) 129 → IsFirstByte (is_byte2 32 9) (take n s) (Some i)
+    → (i ≡ position_or_len is_blank s) × (i < length s)
+searched-some s {n} {i} is first =
+    let len = length-take n s in
+    let high = first.0.high in
+    let less : i < n = omega (arith, len, high) in
+    let within : i < length s = omega (arith, len, high) in
+    let before : (k : ℕ) → k < i → is_blank (get_or s k 0) ≡ false =
+    λ k low. elim (cases_Bool (is_blank (get_or s k 0))) [
+      | inl here ↦
+          let same = get_or-take n s k 0 (omega (arith, low, less)) in
+          absurd (first.0.before k (omega arith) low (rw same here))
+      | inr other ↦ other
+    ] in (
+      sym (position_or_len_is is_blank s i 0 (omega (arith, within)) before
+          (λ _. rw (get_or-take n s i 0 less) at first.1)),
+      within,
+    )
 
 -- a line's mark and what stands behind it
 abbrev pub text : List ℕ → Bool × List ℕ

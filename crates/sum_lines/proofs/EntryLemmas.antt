@@ -10,6 +10,7 @@ use Rattle.sum_lines.specs.Shapes.{is_blank, mark, Plain, Tagged}
 use Rattle.sum_lines.specs.PartsOfLines.{Parts, plain_parts}
 use Rattle.sum_lines.specs.Entries.{is_ignored, begins_standard, form_of_tail, Decides, IsForm, Spelled, kind_of, ByTag, ByTail, form_by, form_then, line_form, form}
 use Rattle.sum_lines.specs.Laws.{OneForm}
+use Rattle.sum_lines.proofs.PrefixLemmas.{none_of}
 use Rattle.sum_lines.proofs.TaggedLemmas.{Begins, tag-begins, passes-other}
 use Rattle.sum_lines.proofs.PlainLemmas.{plain-digits, plain_is_read, read_is_plain}
 
@@ -55,7 +56,7 @@ decides-form {algos} {line} d =
     (here ∙ sym d.is, λ g. rw d.is (keeps (begins_standard d.tail) g))
 
 -- a line of either shape isn't ignored
-pub not_ignored : (e : Bool) (xs rest : List ℕ) → Begins xs → is_ignored (mark e ++ (xs ++ rest)) ≡ false
+not_ignored : (e : Bool) (xs rest : List ℕ) → Begins xs → is_ignored (mark e ++ (xs ++ rest)) ≡ false
 not_ignored true xs rest b = refl
 not_ignored false xs rest b = rw b.are b.no_hash
 
@@ -79,13 +80,15 @@ pub tagged-speaks : {algos : Algos} {line : List ℕ} {e : Bool} {kind : KindVal
 tagged-speaks {e = e} {kind = kind} t =
     rw t.whole (speaks t.blanks e (tag kind.algo) _ t.are_blanks (tag-begins kind.algo))
 
--- a line that is found to be plain decides; any other decides nothing
-decided : (algos : Algos) (line : List ℕ) (o : Option Parts) → o ≡ plain_parts algos line
-    → Decides algos line (form_by o) ⊎ ((o ≡ None) × ((f : Form) → Decides algos line f → ⊥))
-decided algos line None h = inr (refl, λ f d. let bad = h ∙ plain_is_read (decided_parts d) d.plain in cc)
-decided algos line (Some p) h =
-    let plain = read_is_plain (sym h) in
-    inl (record {
+-- a line that is found to be plain decides its own form; any other decides nothing
+decides-or : (algos : Algos) (line : List ℕ) → Decides algos line (line_form algos line)
+    ⊎ ((line_form algos line ≡ Undecided) × ((f : Form) → Decides algos line f → ⊥))
+decides-or algos line = go (plain_parts algos line) refl
+  where
+    go : (o : Option Parts) → plain_parts algos line ≡ o
+        → Decides algos line (form_by o) ⊎ ((form_by o ≡ Undecided) × ((f : Form) → Decides algos line f → ⊥))
+    go None h = inr (refl, λ f d. let bad = sym h ∙ plain_is_read (decided_parts d) d.plain in cc)
+    go (Some p) h = let plain = read_is_plain h in inl (record {
       escaped = p.escaped;
       kind = p.kind;
       digest = p.digest;
@@ -95,20 +98,10 @@ decided algos line (Some p) h =
       is = refl;
     })
 
--- a line decides its own form, or none
-pub decides-or : (algos : Algos) (line : List ℕ) → Decides algos line (line_form algos line)
-    ⊎ ((line_form algos line ≡ Undecided) × ((f : Form) → Decides algos line f → ⊥))
-decides-or algos line = elim (decided algos line (plain_parts algos line) refl) [
-  | inl d ↦ inl d
-  | inr none ↦ inr (ap form_by none.0, none.1)
-]
-
--- an ignored line decides nothing
+-- an ignored line is not plain, and has no form
 pub ignored-mute : (algos : Algos) (line : List ℕ) → is_ignored line ≡ true → line_form algos line ≡ Undecided
-ignored-mute algos line h = elim (decides-or algos line) [
-  | inl d ↦ let bad = sym h ∙ d.speaks in cc
-  | inr mute ↦ mute.0
-]
+ignored-mute algos line ignored = ap form_by (sym (none_of (plain_parts algos line) (λ p h.
+    let bad = sym ignored ∙ plain-speaks (read_is_plain h) in cc)))
 
 -- the computed form is one that the list has, and it has no other
 is-form : (algos : Algos) (lines : List (List ℕ)) → IsForm algos lines (form algos lines)
@@ -153,9 +146,14 @@ form-append algos (line ∷ before) after =
     ∙ form_on (line_form algos line) (form algos before) (form algos after)
     ∙ ap (λ f. form_then f (form algos after)) (sym (form-step algos line before))
 
+-- the form so far, and that of more lines
+pub form_next : (algos : Algos) (f : Form) (line : List ℕ) (later : List (List ℕ))
+    → form_then f (form algos (line ∷ later)) ≡ form_then (form_then f (line_form algos line)) (form algos later)
+form_next algos f line later =
+    ap (form_then f) (form-step algos line later) ∙ form_on f (line_form algos line) (form algos later)
+
 -- the form of all lines, at a line
 pub form_at : (algos : Algos) (before later : List (List ℕ)) (line : List ℕ) → form algos (before ++ (line ∷ later))
     ≡ form_then (form_then (form algos before) (line_form algos line)) (form algos later)
 form_at algos before later line =
-    form-append algos before (line ∷ later) ∙ ap (form_then (form algos before)) (form-step algos line later)
-    ∙ form_on (form algos before) (line_form algos line) (form algos later)
+    form-append algos before (line ∷ later) ∙ form_next algos (form algos before) line later

@@ -11,7 +11,7 @@ use Rattle.sum_lines.specs.ParsedLines.{with_raw, entry_of_parts, entry_of, Noth
 use Rattle.sum_lines.specs.Laws.{SameSaid, SameForm}
 use Rattle.sum_lines.proofs.PlainLemmas.{plain_is_read}
 use Rattle.sum_lines.proofs.EntryLemmas.{form_at}
-pub use Rattle.sum_lines.proofs.EntryLemmas.{form_on}
+pub use Rattle.sum_lines.proofs.EntryLemmas.{form_next, form_on}
 use Rattle.sum_lines.proofs.ParsedLineLemmas.{entry_by}
 
 -- what is decided stays

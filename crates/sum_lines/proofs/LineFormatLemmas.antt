@@ -1,5 +1,5 @@
 -- A line that is written is read back.
-use Rattle.std.proofs.Common.{ℕ, ◌≡◌, true, List, [], ◌∷◌, ◌++◌, refl, ap, sym, ◌⊎◌, inl, inr, append_assoc}
+use Rattle.std.proofs.Common.{ℕ, ◌≡◌, Bool, true, List, [], ◌∷◌, ◌++◌, refl, ap, sym, ◌⊎◌, inl, inr, append_assoc}
 use Rattle.std.specs.List.{All}
 use Rattle.std.proofs.lemmas.List.{append-nil}
 use Rattle.hex.specs.Hex.{encode_lower}
@@ -13,14 +13,15 @@ use Rattle.sum_lines.specs.declared.line_format.Mode.{Mode}
 use Rattle.sum_lines.specs.declared.line_format.Mode.TheVariants as modes
 use Rattle.sum_lines.specs.Escape.{escape, escape_differs}
 use Rattle.sum_lines.specs.Lines as lines
-use Rattle.sum_lines.specs.Shapes.{mark, Width, Allows}
-use Rattle.sum_lines.specs.Entries.{Spelled, ByTag, Entry, line_form, form}
+use Rattle.sum_lines.specs.Shapes.{mark, Width, Allows, Tagged}
+use Rattle.sum_lines.specs.PartsOfLines.{plain_parts}
+use Rattle.sum_lines.specs.Entries.{Spelled, Entry, form_by, line_form, form}
 use Rattle.sum_lines.specs.Laws.{ReadBy, Writable, SpellsBack, ReadBack}
-use Rattle.sum_lines.proofs.PlainLemmas.{apart}
-use Rattle.sum_lines.proofs.EntryLemmas.{decides-form, decides-or, form_at}
+use Rattle.sum_lines.proofs.PlainLemmas.{apart, read_is_plain}
+use Rattle.sum_lines.proofs.PrefixLemmas.{none_of}
+use Rattle.sum_lines.proofs.EntryLemmas.{form_at}
 use Rattle.sum_lines.proofs.ParsedLineLemmas.{one_entry}
-use Rattle.sum_lines.proofs.InlineLemmas.{Inline, inline}
-use Rattle.sum_lines.proofs.LineFormatShapes.{line-tag, plain_line, tagged_line, written_for, is_space_or_star, plain-decides, plain-entry, tagged-by, tagged-entry, Inline-plain, Inline-tagged}
+use Rattle.sum_lines.proofs.LineFormatShapes.{Inline, inline, line_width, width-is, plain_line, tagged_line, written_for, is_space_or_star, plain-form, plain-entry, tagged-written, tagged-entry, Inline-plain, Inline-tagged}
 
 -- a line that ends with a newline, without it
 abbrev pub prefix_of : Mode → KindValue → List ℕ → List ℕ → List ℕ
@@ -47,12 +48,10 @@ form-kept algos before line h (inl undecided) =
 form-kept algos before line h (inr standard) = inr (rw (form_at algos before [] line, standard) refl)
 
 -- a tagged line is no plain one, and decides nothing
-tagged-mute : (algos : Algos) (line : List ℕ) (s : Spelled) → ByTag escape algos line s
-    → line_form algos line ≡ Undecided
-tagged-mute algos line s by = elim (decides-or algos line) [
-  | inl d ↦ absurd (apart d.plain by.tagged)
-  | inr mute ↦ mute.0
-]
+tagged-mute : {algos : Algos} {line : List ℕ} {e : Bool} {kind : KindValue} {d raw : List ℕ}
+    → Tagged algos line e kind d raw → line_form algos line ≡ Undecided
+tagged-mute {algos} {line} tagged =
+    ap form_by (sym (none_of (plain_parts algos line) (λ p h. apart (read_is_plain h) tagged)))
 
 -- ---- the law
 
@@ -79,9 +78,8 @@ module _ {kind : KindValue} {name digest : List ℕ} (before later : List (List 
       → SpellsBack (One kind.algo) before later (plain_line x name digest ++ (10 ∷ [])) kind name digest
   plain-back x star one_line readable =
       let line : List ℕ = plain_line x name digest in
-      let decides = decides-form (plain-decides w x star) in
       let now : (others : List (List ℕ)) → form (One kind.algo) (before ++ (line ∷ others)) ≡ Standard =
-      λ others. form-after (One kind.algo) before others line decides.0 readable in
+      λ others. form-after (One kind.algo) before others line (plain-form w x star) readable in
       back (Inline-plain w x one_line) (plain-entry w x _ star (now later)) (inr (now []))
 
   -- and a tagged one
@@ -90,7 +88,7 @@ module _ {kind : KindValue} {name digest : List ℕ} (before later : List (List 
       → SpellsBack algos before later (tagged_line kind width name digest ++ (10 ∷ [])) kind name digest
   tagged-back algos width allowed is_width readable =
       let line : List ℕ = tagged_line kind width name digest in
-      let mute = tagged-mute algos line (written_for kind name digest) (tagged-by w algos width allowed is_width) in
+      let mute = tagged-mute (tagged-written w algos width allowed is_width) in
       back (Inline-tagged w width is_width) (tagged-entry w algos width _ allowed is_width)
       (form-kept algos before line mute readable)
 
@@ -114,6 +112,6 @@ read_back algos modes.Binary kind name digest before later by w readable =
     let one = plain-reads algos modes.Binary kind.algo (λ e. cc) by in
     rw (one, append-nil (escape name)) (plain-back before later w 42 refl refl (rw one at readable))
 read_back algos modes.Tag kind name digest before later by w readable =
-    let t = line-tag kind.algo kind.len w.has in
-    rw (t.is, append-nil (encode_lower digest), append_assoc (tag kind.algo) t.width)
-    (tagged-back before later w algos t.width (tag-reads algos kind.algo by) t.is_width readable)
+    let is_width = width-is kind.algo kind.len w.has in
+    rw (append-nil (encode_lower digest), append_assoc (tag kind.algo) (line_width kind))
+    (tagged-back before later w algos (line_width kind) (tag-reads algos kind.algo by) is_width readable)

@@ -1,65 +1,128 @@
--- The lines that are written, as they are put together: each has its shape, and spells the name and the digest that it
--- was written for.
-use Rattle.std.proofs.Common.{ℕ, ◌≡◌, ◌*◌, ◌<◌, Bool, true, false, cond, ◌==◌, ◌||◌, List, [], ◌∷◌, ◌++◌, length, refl, arith, inl, inr}
-use Rattle.std.specs.List.{All, AllPass}
-use Rattle.std.specs.Str.{bytes_eq}
+-- The lines that are written, as they are put together: each has its shape, spells the name and the digest that it was
+-- written for, and holds no newline and no carriage return before its end.
+use Rattle.std.proofs.Common.{ℕ, ◌≡◌, ◌≢◌, ◌*◌, ◌<◌, not, Bool, true, false, ◌==◌, ◌||◌, List, [], ◌∷◌, ◌++◌, length, refl, ap, arith, inl, inr, cond, ◌∙◌}
+use Rattle.std.specs.List.{All, AllPass, list_all}
+use Rattle.std.proofs.lemmas.List.Folds.{list_all-append}
+use Rattle.std.proofs.lemmas.List.Sums.{AllPass-from_list_all, list_all-from_AllPass}
 use Rattle.std.specs.Fmt.{decimal}
 use Rattle.std.proofs.lemmas.Bool.{eqb-true, cases_Bool}
 use Rattle.std.proofs.lemmas.Bool.Decides.{eqb_tells}
-use Rattle.std.proofs.lemmas.List.{append-nil}
-use Rattle.std.proofs.lemmas.List.Elements.{All-cons, All-nil, All-append, All-weaker}
+use Rattle.std.proofs.lemmas.List.Elements.{All-weaker, All-cons, All-nil}
+use Rattle.digest_kinds.specs.Kinds.{KindValue, tag, full_len, has_len}
+use Rattle.digest_kinds.specs.declared.algo.Algo.{Algo}
+use Rattle.digest_kinds.specs.declared.algo.Algo.TheVariants.{Md5, Blake2b}
+use Rattle.sum_lines.specs.Profiles.{present}
+use Rattle.sum_lines.specs.Escape.{escape, escape_of, escape_differs}
+use Rattle.sum_lines.specs.Shapes.{mark, Width, is_blank, Allows, Plain, Tagged}
+use Rattle.std.specs.Char.{is_ascii_digit}
+use Rattle.sum_lines.proofs.BitsLemmas.{decimal-digits, has_len-range}
+use Rattle.sum_lines.proofs.TaggedLemmas.{passes-other}
+use Rattle.std.specs.Str.{bytes_eq}
 use Rattle.std.proofs.lemmas.Slice.Eq.{bytes_eq-Decides}
 use Rattle.hex.specs.Hex.{encode_lower, is_hex_digit}
 use Rattle.hex.proofs.HexLemmas.{decode_of-encode_lower}
-use Rattle.digest_kinds.specs.Kinds.{KindValue, full_len, has_len, tag}
-use Rattle.digest_kinds.specs.declared.algo.Algo.{Algo}
-use Rattle.digest_kinds.specs.declared.algo.Algo.TheVariants.{Blake2b}
 use Rattle.digest_kinds.specs.declared.algo.Algos.{Algos}
 use Rattle.digest_kinds.specs.declared.algo.Algos.TheVariants.{One}
 use Rattle.sum_lines.specs.declared.line_reading.Form.{Form}
 use Rattle.sum_lines.specs.declared.line_reading.Form.TheVariants.{Standard}
-use Rattle.sum_lines.specs.Escape.{escape, escape_differs}
-use Rattle.sum_lines.specs.Lines as lines
-use Rattle.sum_lines.specs.Shapes.{is_blank, mark, Width, Allows, Plain, Tagged}
-use Rattle.sum_lines.specs.Entries.{begins_standard, Decides, Spells, Spelled, ByTag, Entry}
+use Rattle.sum_lines.specs.PartsOfLines.{Parts}
+use Rattle.sum_lines.specs.Entries.{begins_standard, form_by, line_form, Spells, Spelled, Entry}
 use Rattle.sum_lines.specs.Laws.{Writable}
-use Rattle.sum_lines.proofs.TaggedLemmas.{tag-begins}
-use Rattle.sum_lines.proofs.PlainLemmas.{Digits, digits-of, has_len-some}
-use Rattle.sum_lines.proofs.EntryLemmas.{not_ignored}
-use Rattle.sum_lines.proofs.InlineLemmas.{Inline, inline, Inline-by_test, Inline-escape, Inline-hex, Inline-mark, Inline-tag, Inline-test, Inline-width, escape-some}
+use Rattle.sum_lines.proofs.PlainLemmas.{Digits, digits-of, plain_is_read}
+use Rattle.sum_lines.proofs.EntryLemmas.{plain-speaks, tagged-speaks}
+
+-- a byte that may stand within a line
+abbrev pub Inline : ℕ → Type 0
+Inline b = (b ≢ 10) × (b ≢ 13)
+
+-- its test
+abbrev pub inline : ℕ → Bool
+inline b = not (b == 10 || b == 13)
+
+-- bytes that pass it may
+pub Inline-by_test : (xs : List ℕ) → list_all inline xs ≡ true → All Inline xs
+Inline-by_test xs h = All-weaker (λ b. inline b ≡ true) Inline
+    (λ b test. (λ e. let bad = rw e at test in cc, λ e. let bad = rw e at test in cc)) xs
+    (AllPass-from_list_all inline xs h)
+
+-- so do bytes of a kind that a newline and a carriage return aren't
+pub inline-all : (test : ℕ → Bool) (xs : List ℕ) → test 10 ≡ false → test 13 ≡ false → AllPass test xs
+    → list_all inline xs ≡ true
+inline-all test xs ten thirteen all = list_all-from_AllPass inline xs
+    (All-weaker (λ x. test x ≡ true) (λ x. inline x ≡ true)
+    (λ x pass. rw (passes-other test 10 x pass ten, passes-other test 13 x pass thirteen) refl) xs all)
+
+-- each tag
+pub inline-tag : (a : Algo) → list_all inline (tag a) ≡ true
+inline-tag Md5 = refl
+inline-tag a = refl
+
+-- the backslash before the line
+pub inline-mark : (b : Bool) → list_all inline (mark b) ≡ true
+inline-mark true = refl
+inline-mark false = refl
+
+-- what may stand between the tag and the name
+pub inline-width : (kind : KindValue) (w : List ℕ) → Width kind w → list_all inline w ≡ true
+inline-width kind w (inl none) = rw none.0 refl
+inline-width kind w (inr bits) =
+    let digits = decimal-digits kind.len (has_len-range Blake2b kind.len bits.2).1 in
+    rw bits.0 (inline-all is_ascii_digit (decimal (8 * kind.len)) refl refl digits)
+
+-- an escaped byte is at least one
+record Escaped (xs : List ℕ) : Type 0 where
+  first : ℕ
+  more : List ℕ
+  are : xs ≡ first ∷ more
+  one_line : list_all inline xs ≡ true
+
+-- each byte's escape
+escape_of-some : (x : ℕ) → Escaped (escape_of present x)
+escape_of-some x = elim (eqb_tells x 92) [
+  | inl same ↦ rw same.1 (record { first = 92; more = 92 ∷ []; are = refl; one_line = refl })
+  | inr back ↦ elim (eqb_tells x 10) [
+    | inl same ↦ rw same.1 (record { first = 92; more = 110 ∷ []; are = refl; one_line = refl })
+    | inr new ↦ elim (eqb_tells x 13) [
+      | inl same ↦ rw same.1 (record { first = 92; more = 114 ∷ []; are = refl; one_line = refl })
+      | inr other ↦ rw (back.0, new.0, other.0)
+          (record { first = x; more = []; are = refl; one_line = rw (new.0, other.0) refl })
+    ]
+  ]
+]
+
+-- so an escaped name holds none, and is empty only if the name is
+pub inline-escape : (name : List ℕ) → list_all inline (escape name) ≡ true
+inline-escape [] = refl
+inline-escape (x ∷ xs) =
+    let e = escape_of-some x in
+    rw (list_all-append inline (escape_of present x) (escape xs), e.one_line) (inline-escape xs)
+
+-- bytes of which there is one
+pub record NonEmpty (xs : List ℕ) : Type 0 where
+  pub first : ℕ
+  pub more : List ℕ
+  pub are : xs ≡ first ∷ more
+
+-- the escape of a name that isn't empty isn't, either
+pub escape-some : (name : List ℕ) → 0 < length name → NonEmpty (escape name)
+escape-some [] h = absurd (omega arith)
+escape-some (x ∷ xs) h = let e = escape_of-some x in
+    record { first = e.first; more = e.more ++ escape xs; are = ap (λ l. l ++ escape xs) e.are }
 
 -- ---- the tag
 
--- a written tag is the kind's tag and its width
-pub record LineTag (kind : KindValue) : Type 0 where
-  pub width : List ℕ
-  pub is_width : Width kind width
-  pub is : lines.line_tag kind ≡ tag kind.algo ++ width
+-- what a written tag has behind the kind's tag: the bits of a BLAKE2b digest that isn't full
+abbrev pub line_width : KindValue → List ℕ
+line_width kind = cond (kind.len == full_len kind.algo) [] (45 ∷ decimal (8 * kind.len))
 
--- a full digest's tag has no width
-full-tag : (kind : KindValue) → (kind.len == full_len kind.algo) ≡ true → LineTag kind
-full-tag kind same = record {
-  width = [];
-  is_width = inl (refl, eqb-true kind.len (full_len kind.algo) same);
-  is = rw (same, append-nil) refl;
-}
-
--- that of a BLAKE2b digest of another length has its bits
-bits-tag : (n : ℕ) → (n == full_len Blake2b) ≡ false → has_len Blake2b n ≡ true
-    → LineTag (record { algo = Blake2b; len = n })
-bits-tag n other has = record {
-  width = 45 ∷ decimal (8 * n);
-  is_width = inr (refl, refl, has);
-  is = rw other refl;
-}
-
--- every kind has a tag
-pub line-tag : (a : Algo) (n : ℕ) → has_len a n ≡ true → LineTag (record { algo = a; len = n })
-line-tag Blake2b n has = elim (eqb_tells n 64) [
-  | inl same ↦ full-tag _ same.0
-  | inr other ↦ bits-tag n other.0 has
+-- that is a width of every kind
+pub width-is : (a : Algo) (n : ℕ) → has_len a n ≡ true
+    → Width (record { algo = a; len = n }) (line_width (record { algo = a; len = n }))
+width-is Blake2b n has = elim (eqb_tells n 64) [
+  | inl same ↦ rw same.0 (inl (refl, same.1))
+  | inr other ↦ rw other.0 (inr (refl, refl, has))
 ]
-line-tag a n has = full-tag _ has
+width-is a n has = rw has (inl (refl, eqb-true n (full_len a) has))
 
 -- ---- the lines without their newline
 
@@ -101,7 +164,7 @@ module _ {kind : KindValue} {name digest : List ℕ} (w : Writable kind name dig
   -- the digest's digits are read back
   pub digits-written : Digits (encode_lower digest)
   digits-written =
-      let some = has_len-some kind.algo kind.len w.has in
+      let some = (has_len-range kind.algo kind.len w.has).0 in
       let size = w.size in
       digits-of (encode_lower digest) digest (decode_of-encode_lower digest w.bytes) (omega arith)
 
@@ -123,37 +186,30 @@ module _ {kind : KindValue} {name digest : List ℕ} (w : Writable kind name dig
   }
 
   -- its star or second space makes the list Standard
-  pub plain-decides : (x : ℕ) → is_space_or_star x ≡ true
-      → Decides (One kind.algo) (plain_line x name digest) Standard
-  plain-decides x star = let ds = digits-written in record {
-    escaped = escape_differs name;
-    kind = kind;
-    digest = digest;
-    tail = x ∷ escape name;
-    speaks = not_ignored (escape_differs name) (encode_lower digest) (32 ∷ x ∷ escape name) ds.begins;
-    plain = plain-written x;
-    is = rw (standard x name w.some star) refl;
-  }
+  pub plain-form : (x : ℕ) → is_space_or_star x ≡ true
+      → line_form (One kind.algo) (plain_line x name digest) ≡ Standard
+  plain-form x star =
+      let p : Parts =
+      record { escaped = escape_differs name; kind = kind; digest = digest; text = x ∷ escape name } in
+      ap form_by (plain_is_read p (plain-written x)) ∙ rw (standard x name w.some star) refl
 
   -- in a Standard list it spells what it was written for
   pub plain-entry : (x : ℕ) (f : Form) → is_space_or_star x ≡ true → f ≡ Standard
       → Entry escape (One kind.algo) f (plain_line x name digest) (written_for kind name digest)
-  plain-entry x f star is =
-      let decides = plain-decides x star in
-      rw is (
-        decides.speaks,
-        inr (record {
-          escaped = escape_differs name;
-          tail = x ∷ escape name;
-          raw = escape name;
-          plain = rw w.size (plain-written x);
-          is_raw = (standard x name w.some star, x, refl);
-          spells = name-spelled;
-        }),
-      )
+  plain-entry x f star is = rw is (
+    plain-speaks (plain-written x),
+    inr (record {
+      escaped = escape_differs name;
+      tail = x ∷ escape name;
+      raw = escape name;
+      plain = rw w.size (plain-written x);
+      is_raw = (standard x name w.some star, x, refl);
+      spells = name-spelled;
+    }),
+  )
 
   -- a tagged line has that shape
-  tagged-written : (algos : Algos) (width : List ℕ) → Allows algos kind.algo → Width kind width
+  pub tagged-written : (algos : Algos) (width : List ℕ) → Allows algos kind.algo → Width kind width
       → Tagged algos (tagged_line kind width name digest) (escape_differs name) kind digest (escape name)
   tagged-written algos width allowed is_width =
       let space : AllPass is_blank (32 ∷ []) =
@@ -178,44 +234,40 @@ module _ {kind : KindValue} {name digest : List ℕ} (w : Writable kind name dig
       }
 
   -- whatever the form, it spells what it was written for
-  pub tagged-by : (algos : Algos) (width : List ℕ) → Allows algos kind.algo → Width kind width
-      → ByTag escape algos (tagged_line kind width name digest) (written_for kind name digest)
-  tagged-by algos width allowed is_width = record {
-    escaped = escape_differs name;
-    raw = escape name;
-    tagged = rw w.size (tagged-written algos width allowed is_width);
-    spells = name-spelled;
-  }
-
-  -- so has a tagged one
   pub tagged-entry : (algos : Algos) (width : List ℕ) (f : Form) → Allows algos kind.algo → Width kind width
       → Entry escape algos f (tagged_line kind width name digest) (written_for kind name digest)
-  tagged-entry algos width f allowed is_width = (
-    not_ignored (escape_differs name) (tag kind.algo) _ (tag-begins kind.algo),
-    inl (tagged-by algos width allowed is_width),
-  )
+  tagged-entry algos width f allowed is_width =
+      let tagged = tagged-written algos width allowed is_width in (
+        tagged-speaks tagged,
+        inl (record {
+          escaped = escape_differs name;
+          raw = escape name;
+          tagged = rw w.size tagged;
+          spells = name-spelled;
+        }),
+      )
 
   -- neither line holds a newline or a carriage return
-  Inline-digits : All Inline (encode_lower digest)
-  Inline-digits = let ds = digits-written in
-      All-weaker (λ b. is_hex_digit b ≡ true) Inline Inline-hex (encode_lower digest) ds.are
+  inline-digits : list_all inline (encode_lower digest) ≡ true
+  inline-digits = let ds = digits-written in inline-all is_hex_digit (encode_lower digest) refl refl ds.are
 
   -- a plain line holds no end of a line
   pub Inline-plain : (x : ℕ) → inline x ≡ true → All Inline (plain_line x name digest)
-  Inline-plain x h =
-      All-append Inline (mark (escape_differs name)) _ (Inline-mark (escape_differs name))
-      (All-append Inline (encode_lower digest) (32 ∷ x ∷ escape name) Inline-digits
-      (All-cons Inline 32 (x ∷ escape name) (Inline-test 32 refl)
-      (All-cons Inline x (escape name) (Inline-test x h) (Inline-escape name))))
+  Inline-plain x h = Inline-by_test _ (simp (
+    list_all-append inline,
+    inline-mark (escape_differs name),
+    inline-digits,
+    inline-escape name,
+    h,
+  ) refl)
 
   -- nor does a tagged one
   pub Inline-tagged : (width : List ℕ) → Width kind width → All Inline (tagged_line kind width name digest)
-  Inline-tagged width is_width =
-      let between : List ℕ = 41 ∷ 32 ∷ 61 ∷ 32 ∷ [] in
-      let opening : List ℕ = 32 ∷ 40 ∷ [] in
-      All-append Inline (mark (escape_differs name)) _ (Inline-mark (escape_differs name))
-      (All-append Inline (tag kind.algo) _ (Inline-tag kind.algo)
-      (All-append Inline width _ (Inline-width kind width is_width)
-      (All-append Inline opening _ (Inline-by_test opening refl)
-      (All-append Inline (escape name) _ (Inline-escape name)
-      (All-append Inline between (encode_lower digest) (Inline-by_test between refl) Inline-digits)))))
+  Inline-tagged width is_width = Inline-by_test _ (simp (
+    list_all-append inline,
+    inline-mark (escape_differs name),
+    inline-tag kind.algo,
+    inline-width kind width is_width,
+    inline-escape name,
+    inline-digits,
+  ) refl)

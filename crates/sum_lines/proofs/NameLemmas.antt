@@ -16,7 +16,7 @@ use Rattle.sum_lines.specs.Entries.{begins_standard}
 use Rattle.sum_lines.specs.ParsedLines.{unescape, with_raw}
 use Rattle.sum_lines.specs.refinement.Found.{line_parts, text_of}
 use Rattle.sum_lines.proofs.PrefixLemmas.{none_of}
-use Rattle.sum_lines.proofs.UnescapeOf.{all-of, unescape-escape, escape-unescape}
+use Rattle.sum_lines.proofs.UnescapeLemmas.{all-of, unescape-escape, escape-unescape}
 
 -- a part of a vector that was cut behind it
 pub part_of : (xs : List ℕ) (i j : ℕ) → i ≤ j → drop i (take j xs) ≡ slice_range xs i j

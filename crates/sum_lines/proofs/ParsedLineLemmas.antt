@@ -1,5 +1,5 @@
 -- What is computed of a line's entry is what the relation Entry allows.
-use Rattle.std.proofs.Common.{◌≡◌, ℕ, Bool, true, false, List, [], ◌∷◌, drop, Option, None, Some, refl, ap, sym, ◌∙◌, inl, inr, ◌⊎◌}
+use Rattle.std.proofs.Common.{◌≡◌, ℕ, Bool, true, false, List, [], ◌∷◌, drop, Option, None, Some, refl, ap, sym, ◌∙◌, inl, inr}
 use Rattle.std.specs.Option.{option_or}
 use Rattle.std.proofs.lemmas.Option.{cond_some, same_Some}
 use Rattle.digest_kinds.specs.Kinds.{KindValue}
@@ -9,16 +9,15 @@ use Rattle.sum_lines.specs.declared.line_reading.Form.TheVariants.{Undecided, St
 use Rattle.sum_lines.specs.Profiles.{Profile, present}
 use Rattle.sum_lines.specs.Escape.{escape_by}
 use Rattle.sum_lines.specs.Shapes.{Plain}
-use Rattle.sum_lines.specs.Entries.{Spelled, Entry, ByTag, ByTail, RawOf, begins_standard, is_ignored_by}
+use Rattle.sum_lines.specs.Entries.{Spelled, Entry, RawOf, begins_standard, is_ignored_by}
 use Rattle.sum_lines.specs.PartsOfLines.{◌>>=◌, Parts, tagged_parts, plain_parts}
 use Rattle.sum_lines.specs.ParsedLines.{with_raw, entry_of_parts, entry_of}
 use Rattle.sum_lines.specs.Laws.{OneEntry, SaysOf, SaysIs}
-use Rattle.sum_lines.proofs.PrefixLemmas.{bind_some}
+use Rattle.sum_lines.proofs.PrefixLemmas.{bind_some, none_of}
 use Rattle.sum_lines.proofs.PlainLemmas.{apart, plain_is_read, read_is_plain}
-use Rattle.sum_lines.proofs.TaggedLemmas.{tagged_is_read}
-use Rattle.sum_lines.proofs.TaggedParts.{read_is_tagged}
+use Rattle.sum_lines.proofs.TaggedLemmas.{tagged_is_read, read_is_tagged}
 use Rattle.sum_lines.proofs.EntryLemmas.{tag_parts, tail_parts, plain-speaks, tagged-speaks}
-use Rattle.sum_lines.proofs.UnescapeOf.{spelled-is, is-spelled}
+use Rattle.sum_lines.proofs.UnescapeLemmas.{spelled-is, is-spelled}
 
 -- ---- the raw name
 
@@ -41,98 +40,83 @@ standard-raw : (tail : List ℕ) → begins_standard tail ≡ true → RawOf Sta
 standard-raw [] h = cc
 standard-raw (x ∷ xs) h = (h, x, refl)
 
--- the parts with the raw name of a tail
-record RawParts (f : Form) (t q : Parts) : Type 0 where
-  raw : List ℕ
-  is_raw : RawOf f t.text raw
-  are : with_text t raw ≡ q
-
 -- what is found in place of a tail is its raw name
-is-raw : (f : Form) (t q : Parts) → with_raw f t ≡ Some q → RawParts f t q
+is-raw : (f : Form) (t q : Parts) → with_raw f t ≡ Some q
+    → (raw : List ℕ) × RawOf f t.text raw × (with_text t raw ≡ q)
 is-raw Undecided t q h = cc
-is-raw Reversed t q h = record { raw = t.text; is_raw = refl; are = cc }
+is-raw Reversed t q h = (t.text, refl, cc)
 is-raw Standard t q h =
     let e = cond_some (begins_standard t.text) (with_text t (drop 1 t.text)) q h in
-    record { raw = drop 1 t.text; is_raw = standard-raw t.text e.0; are = e.1 }
+    (drop 1 t.text, standard-raw t.text e.0, e.1)
 
--- ---- the entry that a line has is computed
+module _ (p : Profile) (algos : Algos) (f : Form) (line : List ℕ) where
+  -- ---- the entry that a line has is computed
 
--- a plain line isn't found to be tagged
-not-tagged : {algos : Algos} {line : List ℕ} {e : Bool} {kind : KindValue} {d tail : List ℕ} (o : Option Parts)
-    → Plain algos line e kind d tail → tagged_parts algos line ≡ o → o ≡ None
-not-tagged None plain h = refl
-not-tagged (Some q) plain h = absurd (apart plain (read_is_tagged h))
+  -- a plain line isn't found to be tagged
+  not-tagged : {e : Bool} {kind : KindValue} {d tail : List ℕ} → Plain algos line e kind d tail
+      → None ≡ tagged_parts algos line
+  not-tagged plain = none_of (tagged_parts algos line) (λ q h. apart plain (read_is_tagged h))
 
--- an entry by its tag or by its tail
-pub entry_value : (p : Profile) (algos : Algos) (f : Form) (line : List ℕ) (s : Spelled)
-    → Entry (escape_by p) algos f line s → entry_of p algos f line ≡ Some s
-unfolding entry_of
-entry_value p algos f line s (_, inl t) =
-    rw (tagged_is_read (tag_parts t) t.tagged) (spelled-is p (tag_parts t) s.name t.spells)
-entry_value p algos f line s (_, inr t) =
-    let q = tail_parts t in
-    rw (not-tagged (tagged_parts algos line) t.plain refl, plain_is_read q t.plain, raw-is f q t.raw t.is_raw)
-    (spelled-is p (with_text q t.raw) s.name t.spells)
+  -- an entry by its tag or by its tail
+  pub entry_value : (s : Spelled) → Entry (escape_by p) algos f line s → entry_of p algos f line ≡ Some s
+  unfolding entry_of
+  entry_value s (_, inl t) =
+      rw (tagged_is_read (tag_parts t) t.tagged) (spelled-is p (tag_parts t) s.name t.spells)
+  entry_value s (_, inr t) =
+      let q = tail_parts t in
+      rw (← not-tagged t.plain, plain_is_read q t.plain, raw-is f q t.raw t.is_raw)
+      (spelled-is p (with_text q t.raw) s.name t.spells)
 
--- so a line has at most one
+  -- ---- the entry that is computed is the line's
+
+  -- what a tagged line's parts spell
+  by-tag : (s : Spelled) (t : Parts) → tagged_parts algos line ≡ Some t → entry_of_parts p t ≡ Some s
+      → Entry (escape_by p) algos f line s
+  by-tag s t found h =
+      let name = is-spelled p t s h in
+      let tagged = read_is_tagged found in
+      rw (← name.2) (
+        tagged-speaks tagged,
+        inl (record { escaped = t.escaped; raw = t.text; tagged = rw tagged.size tagged; spells = name.1 }),
+      )
+
+  -- what a plain line's spell, with the raw name of its tail
+  by-tail : (s : Spelled) (t : Parts) (raw : List ℕ) → plain_parts algos line ≡ Some t → RawOf f t.text raw
+      → entry_of_parts p (with_text t raw) ≡ Some s → Entry (escape_by p) algos f line s
+  by-tail s t raw found is h =
+      let name = is-spelled p (with_text t raw) s h in
+      let plain = read_is_plain found in
+      rw (← name.2) (
+        plain-speaks plain,
+        inr (record {
+          escaped = t.escaped;
+          tail = t.text;
+          raw = raw;
+          plain = rw plain.size plain;
+          is_raw = is;
+          spells = name.1;
+        }),
+      )
+
+  -- either of them, as a line is found to be tagged or only plain
+  by-parts : (s : Spelled) (t q : Option Parts) → tagged_parts algos line ≡ t → plain_parts algos line ≡ q
+      → entry_by p f t q ≡ Some s → Entry (escape_by p) algos f line s
+  by-parts s (Some t) q tagged plain h = by-tag s t tagged h
+  by-parts s None None tagged plain h = cc
+  by-parts s None (Some q) tagged plain h =
+      let named = bind_some (with_raw f q) (entry_of_parts p) h in
+      let raw = is-raw f q named.0 named.1 in
+      by-tail s q raw.0 plain raw.1 (ap (entry_of_parts p) raw.2 ∙ named.2)
+
+  -- so what is computed is an entry of the line
+  pub value_entry : (s : Spelled) → entry_of p algos f line ≡ Some s → Entry (escape_by p) algos f line s
+  unfolding entry_of
+  value_entry s h = by-parts s (tagged_parts algos line) (plain_parts algos line) refl refl h
+
+-- a line has at most one entry
 pub one_entry : OneEntry
 one_entry algos f line s t p q =
     same_Some s t (sym (entry_value present algos f line s p) ∙ entry_value present algos f line t q)
-
--- ---- the entry that is computed is the line's
-
--- what a tagged line's parts spell
-by-tag : (p : Profile) (algos : Algos) (line : List ℕ) (s : Spelled) (t : Parts) → tagged_parts algos line ≡ Some t
-    → entry_of_parts p t ≡ Some s → ByTag (escape_by p) algos line s
-by-tag p algos line s t found h =
-    let name = is-spelled p t s h in
-    let tagged = read_is_tagged found in
-    rw (← name.2) (record {
-      escaped = t.escaped;
-      raw = t.text;
-      tagged = rw tagged.size tagged;
-      spells = name.1;
-    })
-
--- what a plain line's spell, with the raw name of its tail
-by-tail : (p : Profile) (algos : Algos) (f : Form) (line : List ℕ) (s : Spelled) (t : Parts) (raw : List ℕ)
-    → plain_parts algos line ≡ Some t → RawOf f t.text raw → entry_of_parts p (with_text t raw) ≡ Some s
-    → ByTail (escape_by p) algos f line s
-by-tail p algos f line s t raw found is h =
-    let name = is-spelled p (with_text t raw) s h in
-    let plain = read_is_plain found in
-    rw (← name.2) (record {
-      escaped = t.escaped;
-      tail = t.text;
-      raw = raw;
-      plain = rw plain.size plain;
-      is_raw = is;
-      spells = name.1;
-    })
-
--- either of them, as a line is found to be tagged or only plain
-by-parts : (p : Profile) (algos : Algos) (f : Form) (line : List ℕ) (s : Spelled) (t q : Option Parts)
-    → tagged_parts algos line ≡ t → plain_parts algos line ≡ q → entry_by p f t q ≡ Some s
-    → ByTag (escape_by p) algos line s ⊎ ByTail (escape_by p) algos f line s
-by-parts p algos f line s (Some t) q tagged plain h = inl (by-tag p algos line s t tagged h)
-by-parts p algos f line s None None tagged plain h = cc
-by-parts p algos f line s None (Some q) tagged plain h =
-    let named = bind_some (with_raw f q) (entry_of_parts p) h in
-    let raw = is-raw f q named.0 named.1 in
-    inr (by-tail p algos f line s q raw.raw plain raw.is_raw (ap (entry_of_parts p) raw.are ∙ named.2))
-
--- such a line isn't ignored
-spoken : (p : Profile) (algos : Algos) (f : Form) (line : List ℕ) (s : Spelled)
-    → ByTag (escape_by p) algos line s ⊎ ByTail (escape_by p) algos f line s → Entry (escape_by p) algos f line s
-spoken p algos f line s (inl t) = (tagged-speaks t.tagged, inl t)
-spoken p algos f line s (inr t) = (plain-speaks t.plain, inr t)
-
--- so what is computed is an entry of the line
-pub value_entry : (p : Profile) (algos : Algos) (f : Form) (line : List ℕ) (s : Spelled)
-    → entry_of p algos f line ≡ Some s → Entry (escape_by p) algos f line s
-unfolding entry_of
-value_entry p algos f line s h =
-    spoken p algos f line s (by-parts p algos f line s (tagged_parts algos line) (plain_parts algos line) refl refl h)
 
 -- ---- what a line says
 

@@ -1,6 +1,6 @@
 -- A line that joins from the parts of a plain line is read as these parts, and no other line is read. No line is both
 -- plain and tagged.
-use Rattle.std.proofs.Common.{ℕ, zero, suc, ◌≡◌, ◌+◌, ◌*◌, ◌<◌, ◌≤◌, not, Bool, true, false, ◌==◌, ◌&&◌, List, [], ◌∷◌, ◌++◌, length, get_or, Some, Ok, refl, ap, sym, ◌∙◌, arith, length-drop}
+use Rattle.std.proofs.Common.{ℕ, ◌≡◌, ◌+◌, ◌*◌, ◌<◌, ◌≤◌, not, Bool, true, ◌&&◌, List, [], ◌∷◌, ◌++◌, length, get_or, Some, Ok, refl, ap, sym, ◌∙◌, arith, length-drop}
 use Rattle.std.specs.Prelude.{nat_lt}
 use Rattle.std.specs.List.{AllPass, take_while, before_first, after_first, position_or_len}
 use Rattle.std.specs.Result.{result_ok}
@@ -20,6 +20,7 @@ use Rattle.sum_lines.specs.Shapes.{is_blank, Plain, Tagged}
 use Rattle.sum_lines.specs.PartsOfLines.{Parts, after_while, mark_and_rest, plain_as, plain_parts}
 use Rattle.sum_lines.proofs.PrefixLemmas.{bind_some, ok_some, prefix-passes, prefix-and-rest, prefix_len-stop, rest-seam, mark_and_rest-is}
 use Rattle.sum_lines.proofs.TaggedLemmas.{Begins, begins-by, passes-other, behind_tag, hex-no_blank, tagged-prefix, mark_and_rest-prefix}
+use Rattle.sum_lines.proofs.BitsLemmas.{has_len-range}
 
 -- the parts are those of a plain line
 abbrev pub IsPlain : Algos → List ℕ → Parts → Type 0
@@ -84,24 +85,6 @@ read_is_plain {algos = Any} h = cc
 
 -- ---- what joins to the line is read
 
--- a digit is no backslash
-hex-no_mark : (x : ℕ) → is_hex_digit x ≡ true → (x == 92) ≡ false
-hex-no_mark x h = passes-other is_hex_digit 92 x h refl
-
--- nor `#`
-hex-no_hash : (x : ℕ) → is_hex_digit x ≡ true → (x == 35) ≡ false
-hex-no_hash x h = passes-other is_hex_digit 35 x h refl
-
--- no algorithm has digests without a byte
-no_none : (a : Algo) → has_len a 0 ≡ true → ⊥
-no_none Md5 h = cc
-no_none a h = cc
-
--- so each digest has a byte
-pub has_len-some : (a : Algo) (n : ℕ) → has_len a n ≡ true → 0 < n
-has_len-some a zero h = absurd (no_none a h)
-has_len-some a (suc n) h = omega arith
-
 -- a byte that is a hexadecimal digit
 abbrev Hex : ℕ → Type 0
 Hex x = is_hex_digit x ≡ true
@@ -122,7 +105,8 @@ digits-of (x ∷ xs) d h lt =
     record {
       are = k.1;
       two = omega arith;
-      begins = begins-by x xs (hex-no_blank x first) (hex-no_mark x first) (hex-no_hash x first);
+      begins = begins-by x xs (hex-no_blank x first) (passes-other is_hex_digit 92 x first refl)
+          (passes-other is_hex_digit 35 x first refl);
     }
 
 -- the first blank stands behind bytes that are none
@@ -138,7 +122,7 @@ module _ {algos : Algos} {line : List ℕ} {e : Bool} {kind : KindValue} {d tail
   -- the digits of a plain line are those of a digest
   pub plain-digits : Digits t.digits
   plain-digits =
-      let some = has_len-some kind.algo kind.len t.has in
+      let some = (has_len-range kind.algo kind.len t.has).0 in
       let size = t.size in
       digits-of t.digits d t.spelled (omega arith)
 

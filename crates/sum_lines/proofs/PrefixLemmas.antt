@@ -1,11 +1,11 @@
 -- The longest prefix that passes, and what stands behind a text or a byte.
-use Rattle.std.proofs.Common.{ℕ, zero, suc, ◌≡◌, ◌+◌, ◌-◌, ◌<◌, ◌≤◌, not, Bool, true, false, eq-eqb, ◌==◌, List, [], ◌∷◌, ◌++◌, length, take, drop, get_or, Option, None, Some, Result, Ok, Err, refl, ap, sym, ◌∙◌, arith, inl, inr, append_assoc, length-append}
-use Rattle.std.specs.List.{AllPass, prefix_len, starts_with, take_while}
+use Rattle.std.proofs.Common.{ℕ, zero, suc, ◌≡◌, ◌≢◌, ◌+◌, ◌-◌, ◌<◌, ◌≤◌, Bool, true, false, eq-eqb, ◌==◌, List, [], ◌∷◌, ◌++◌, length, take, drop, get_or, Option, None, Some, Result, Ok, Err, refl, ap, sym, ◌∙◌, arith, inl, inr, append_assoc, length-append}
+use Rattle.std.specs.List.{All, AllPass, prefix_len, starts_with, take_while}
 use Rattle.std.specs.Option.{option_map, option_or}
 use Rattle.std.specs.Result.{result_ok}
 use Rattle.std.specs.Path.{rsplit_once, rfind_below}
 use Rattle.std.proofs.Math.Seq.{get_or-append_seam}
-use Rattle.std.proofs.lemmas.Bool.{cases_Bool, not-true}
+use Rattle.std.proofs.lemmas.Bool.{cases_Bool, ne_eqb}
 use Rattle.std.proofs.lemmas.Bool.Decides.{Decides-eqb, eqb_tells}
 use Rattle.std.proofs.lemmas.List.{take-append-drop, take_at, drop_at, drop_more, get_or-append-add}
 use Rattle.std.proofs.lemmas.List.Sums.{take_while-cons}
@@ -75,16 +75,10 @@ prefix_len-all p (x ∷ xs) all =
     rw head (omega arith)
 
 -- so that byte parts the prefix from the rest
-pub prefix-at : (p : ℕ → Bool) (xs : List ℕ) (y : ℕ) (ys : List ℕ) → AllPass p xs → p y ≡ false
-    → take_while p (xs ++ (y ∷ ys)) ≡ xs
-prefix-at p xs y ys all stop =
-    take_at xs (y ∷ ys) (prefix_len p (xs ++ (y ∷ ys))) (sym (prefix_len-stop p xs y ys all stop))
-
--- and begins the rest
-pub rest-at : (p : ℕ → Bool) (xs : List ℕ) (y : ℕ) (ys : List ℕ) → AllPass p xs → p y ≡ false
-    → after_while p (xs ++ (y ∷ ys)) ≡ y ∷ ys
-rest-at p xs y ys all stop =
-    drop_at xs (y ∷ ys) (prefix_len p (xs ++ (y ∷ ys))) (sym (prefix_len-stop p xs y ys all stop))
+pub parts-at : (p : ℕ → Bool) (xs : List ℕ) (y : ℕ) (ys : List ℕ) → AllPass p xs → p y ≡ false
+    → (take_while p (xs ++ (y ∷ ys)) ≡ xs) × (after_while p (xs ++ (y ∷ ys)) ≡ y ∷ ys)
+parts-at p xs y ys all stop =
+    let len = sym (prefix_len-stop p xs y ys all stop) in (take_at xs (y ∷ ys) _ len, drop_at xs (y ∷ ys) _ len)
 
 -- ---- a byte or a text in front
 
@@ -127,10 +121,6 @@ opened-at true inner = refl
 opened-at false inner = refl
 
 -- ---- the last such byte
-
--- whether a byte is another
-abbrev pub isn't : ℕ → ℕ → Bool
-isn't c x = not (x == c)
 
 -- a search from the end passes over other bytes
 pub rfind-none : (c : ℕ) (s : List ℕ) (n : ℕ) → ((i : ℕ) → i < n → (get_or s i 0 == c) ≡ false)
@@ -181,7 +171,7 @@ rest-seam xs b ys =
     ∙ drop_at (xs ++ (b ∷ [])) ys (length xs + 1) (length-append xs (b ∷ []))
 
 -- where what follows a byte has none of it, the split is there
-pub rsplit-at : (c : ℕ) (xs ys : List ℕ) → AllPass (isn't c) ys → rsplit_once c (xs ++ (c ∷ ys)) ≡ Some (xs, ys)
+pub rsplit-at : (c : ℕ) (xs ys : List ℕ) → All (λ x. x ≢ c) ys → rsplit_once c (xs ++ (c ∷ ys)) ≡ Some (xs, ys)
 unfolding rsplit_once
 rsplit-at c xs ys all =
     let s : List ℕ = xs ++ (c ∷ ys) in
@@ -189,7 +179,7 @@ rsplit-at c xs ys all =
     let other : (i : ℕ) → length xs < i → i < length xs + 1 + length ys → (get_or s i 0 == c) ≡ false =
     λ i more less. let at : get_or s i 0 ≡ get_or ys (i - (length xs + 1)) 0 =
     ap (λ k. get_or s k 0) (omega (arith, more)) ∙ get_or-append-add xs (c ∷ ys) (suc (i - (length xs + 1))) 0 in
-    rw at (not-true (get_or ys (i - (length xs + 1)) 0 == c)
-    (All-get_or (λ x. isn't c x ≡ true) ys (i - (length xs + 1)) 0 (omega (arith, more, less)) all)) in
+    rw at (ne_eqb _ c
+    (All-get_or (λ x. x ≢ c) ys (i - (length xs + 1)) 0 (omega (arith, more, less)) all)) in
     let found = ap (rfind_below c s) n ∙ rfind-at c s (length xs) (length ys) (get_or-append_seam xs c ys 0) other in
     rw (found, take_at xs (c ∷ ys) (length xs) refl, rest-seam xs c ys) refl

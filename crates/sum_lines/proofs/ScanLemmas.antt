@@ -1,23 +1,22 @@
 -- What the scanning functions answer, step by step.
-use Rattle.std.proofs.Common.{ℕ, ◌≡◌, ◌≢◌, ◌+◌, ◌-◌, ◌*◌, ◌<◌, ◌≤◌, Bool, true, false, eq-eqb, ◌==◌, nat_le, List, [], ◌∷◌, ◌++◌, length, take, drop, get_or, slice_range, Option, None, Some, MatchOption, Ok, Bor, refl, ap, sym, ◌∙◌, arith, inl, inr, append_assoc, length-append}
+use Rattle.std.proofs.Common.{ℕ, ◌≡◌, ◌≢◌, ◌+◌, ◌-◌, ◌*◌, ◌<◌, ◌≤◌, Bool, true, false, eq-eqb, ◌==◌, List, [], ◌∷◌, ◌++◌, length, take, drop, get_or, slice_range, Option, None, Some, MatchOption, Ok, Bor, refl, ap, sym, ◌∙◌, arith, inl, inr, append_assoc, length-append}
 use Rattle.std.specs.List.{take_while}
 use Rattle.std.specs.Option.{option_copied, option_or}
 use Rattle.std.specs.Path.{rsplit_once, rfind_below}
 use Rattle.std.specs.Result.{result_ok}
-use Rattle.std.proofs.lemmas.Bool.{cases_Bool, eqb-true, and_parts, leb-true, lt-ltb, ne_eqb}
+use Rattle.std.proofs.lemmas.Bool.{cases_Bool, eqb-true, lt-ltb, ne_eqb}
 use Rattle.std.proofs.lemmas.List.{append-nil, drop_at, take_at}
 use Rattle.memchr.specs.Find.{Nowhere, Passes, IsLastByte, is_byte}
 use Rattle.hex.specs.Hex.{decode_of}
 use Rattle.hex.proofs.HexLemmas.{decode_of-ok}
-use Rattle.digest_kinds.specs.Kinds.{KindValue, full_len, has_len}
+use Rattle.digest_kinds.specs.Kinds.{KindValue}
 use Rattle.digest_kinds.specs.Digits.{IsDigits}
 use Rattle.digest_kinds.specs.declared.algo.Algo.{Algo}
-use Rattle.digest_kinds.specs.declared.algo.Algo.TheVariants.{Blake2b}
 use Rattle.sum_lines.specs.Shapes.{is_blank, mark, optional}
 use Rattle.sum_lines.specs.PartsOfLines.{after_while, strip_prefix, mark_and_rest, width_at, tagged_as}
 use Rattle.sum_lines.specs.refinement.Found.{EndsIn}
 use Rattle.sum_lines.proofs.PrefixLemmas.{bind_none, none_of, ok_some, strip_prefix-some, strip_prefix-append, prefix-and-rest, opened-some, rfind-at, rfind-none, mark_and_rest-is}
-use Rattle.sum_lines.proofs.TaggedParts.{width_at-some}
+use Rattle.sum_lines.proofs.TaggedLemmas.{width_at-some}
 
 -- ---- a text in front
 
@@ -56,11 +55,6 @@ last_some c k s last =
     rw found refl
 
 -- ---- digits that spell no digest of that length
-
--- no digest has more than 64 bytes
-pub has_len-most : (a : Algo) (n : ℕ) → has_len a n ≡ true → n ≤ 64
-has_len-most Blake2b n h = let k = and_parts (nat_le 1 n) (nat_le n 64) h in leb-true n 64 k.1
-has_len-most a n h = let e : n ≡ full_len a = eqb-true n (full_len a) h in omega arith
 
 -- a digest is spelled by two digits for each byte
 pub decoded-size : (s d : List ℕ) → decode_of s ≡ Ok d → length s ≡ 2 * length d

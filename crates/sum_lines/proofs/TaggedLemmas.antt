@@ -1,25 +1,140 @@
--- A line that joins from the parts of a tagged line is read as these parts.
-use Rattle.std.proofs.Common.{ℕ, ◌≡◌, ◌*◌, ◌<◌, ◌≤◌, Bool, true, false, ◌==◌, nat_le, eq-eqb, List, [], ◌∷◌, ◌++◌, length, Some, refl, ap, sym, ◌∙◌, arith, inl, inr}
-use Rattle.std.proofs.lemmas.List.{append-nil, drop_all, drop_at}
-use Rattle.std.specs.List.{AllPass, take_while, prefix_len}
-use Rattle.std.specs.Fmt.{decimal}
-use Rattle.std.proofs.lemmas.Bool.{and_parts, leb-true, lt-ltb}
-use Rattle.std.proofs.lemmas.Bool.Decides.{eqb_tells}
-use Rattle.std.proofs.lemmas.List.Elements.{All-cons, All-head, All-append, All-weaker}
-use Rattle.hex.specs.Hex.{is_hex_digit}
-use Rattle.hex.proofs.HexLemmas.{decode_of-ok}
-use Rattle.digest_kinds.specs.Kinds.{KindValue, full_kind, blake2b_kind, tag}
+-- What is read of a tagged line joins to the line, and a line that joins from the parts of a tagged line is read as these
+-- parts.
+use Rattle.std.proofs.Common.{ℕ, ◌≡◌, Bool, true, ◌==◌, ◌&&◌, List, [], ◌∷◌, ◌++◌, length, drop, Some, refl, ap, inl, inr, ◌≢◌, ◌*◌, false, eq-eqb, sym, ◌∙◌, arith}
+use Rattle.std.specs.Prelude.{nat_lt}
+use Rattle.std.specs.Char.{is_ascii_digit}
+use Rattle.std.specs.List.{starts_with, take_while, All, AllPass, prefix_len}
+use Rattle.std.specs.Option.{option_map, option_or}
+use Rattle.std.specs.Path.{rsplit_once}
+use Rattle.std.specs.Result.{result_ok}
+use Rattle.std.proofs.lemmas.Bool.{eqb-true, ltb-true, and_from, and_parts, le-leb, lt-ltb}
+use Rattle.std.proofs.lemmas.Bool.Decides.{Decides-eqb, eqb_tells}
+use Rattle.std.proofs.lemmas.List.Prefix.{front_rest}
+use Rattle.std.proofs.lemmas.Slice.Eq.{starts_is}
+use Rattle.std.proofs.lemmas.Option.{cond_some, same_Some}
+use Rattle.hex.specs.Hex.{decode_of, is_hex_digit}
+use Rattle.digest_kinds.specs.Kinds.{KindValue, all_algos, full_kind, has_len, tag}
+use Rattle.digest_kinds.proofs.TagLemmas.{IfSome-find-begins, find-begins}
 use Rattle.digest_kinds.specs.declared.algo.Algo.{Algo}
-use Rattle.digest_kinds.specs.declared.algo.Algo.TheVariants.{Md5, Blake2b}
+use Rattle.digest_kinds.specs.declared.algo.Algo.TheVariants.{Blake2b, Md5}
 use Rattle.digest_kinds.specs.declared.algo.Algos.{Algos}
 use Rattle.digest_kinds.specs.declared.algo.Algos.TheVariants.{One, Any}
-use Rattle.sum_lines.specs.Shapes.{is_blank, mark, optional, Width, Allows, Tagged}
-use Rattle.std.specs.Char.{is_ascii_digit}
-use Rattle.sum_lines.specs.PartsOfLines.{Parts, after_while, mark_and_rest, tag_in, width_at, tagged_as, tagged_parts}
-use Rattle.sum_lines.proofs.PrefixLemmas.{prefix-at, rest-at, prefix_len-all, starts-append, opened-at, rsplit-at, isn't}
-use Rattle.sum_lines.proofs.BitsLemmas.{kind_at-bits, decimal-digits}
-use Rattle.digest_kinds.proofs.TagLemmas.{find-begins}
-use Rattle.sum_lines.proofs.TaggedParts.{IsTagged}
+use Rattle.sum_lines.specs.Shapes.{is_blank, Width, Allows, Tagged, mark, optional}
+use Rattle.sum_lines.specs.PartsOfLines.{Parts, after_while, strip_prefix, mark_and_rest, tag_in, kind_at, width_at, tagged_as, tagged_parts}
+use Rattle.sum_lines.proofs.PrefixLemmas.{bind_some, map_some, ok_some, prefix-passes, prefix-and-rest, mark_and_rest-is, strip_prefix-some, opened-some, rsplit-some, parts-at, prefix_len-all, starts-append, opened-at, rsplit-at}
+use Rattle.sum_lines.proofs.BitsLemmas.{kind_at-some, kind_at-bits, decimal-digits, has_len-range}
+use Rattle.std.proofs.lemmas.List.{append-nil, drop_all, drop_at}
+use Rattle.std.specs.Fmt.{decimal}
+use Rattle.std.proofs.lemmas.List.Elements.{All-cons, All-head, All-append, All-weaker}
+use Rattle.hex.proofs.HexLemmas.{decode_of-ok}
+
+-- ---- the tag
+
+-- the algorithm that is found is allowed, and its tag stands in front
+pub record TagFound (algos : Algos) (s : List ℕ) (a : Algo) : Type 0 where
+  pub allowed : Allows algos a
+  pub is : s ≡ tag a ++ drop (length (tag a)) s
+
+pub tag_in-some : {algos : Algos} {s : List ℕ} {a : Algo} → tag_in algos s ≡ Some a → TagFound algos s a
+tag_in-some {algos = One b} {s} {a} h =
+    let found = cond_some (starts_with ◌==◌ s (tag b)) b a h in
+    let is = (starts_is Decides-eqb s (tag b) (starts_with ◌==◌ s (tag b)) refl).0 found.0 in
+    rw (← found.1) (record { allowed = refl; is = is })
+tag_in-some {algos = Any} {s} {a} h =
+    let found = rw h at (IfSome-find-begins s all_algos) in
+    record { allowed = tt; is = rw (front_rest s (tag a) found.0 found.1) found.1 }
+
+-- ---- between the tag and the name
+
+-- what stands behind an algorithm's tag is a width of its kinds, and what is left
+pub record Wide (a : Algo) (s : List ℕ) (w : KindValue × List ℕ) : Type 0 where
+  pub is_algo : w.0.algo ≡ a
+  pub width : List ℕ
+  pub is_width : Width w.0 width
+  pub whole : s ≡ width ++ w.1
+
+-- nothing, for the full length
+wide-none : (a : Algo) (s : List ℕ) (w : KindValue × List ℕ) → Some (full_kind a, s) ≡ Some w → Wide a s w
+wide-none a s w h =
+    rw (← same_Some _ _ h) (record { is_algo = refl; width = []; is_width = inl (refl, refl); whole = refl })
+
+-- the bits of BLAKE2b
+wide-bits : (s : List ℕ) (w : KindValue × List ℕ)
+    → option_map (λ k. (k, after_while is_ascii_digit s)) (kind_at (take_while is_ascii_digit s)) ≡ Some w
+    → Wide Blake2b (45 ∷ s) w
+wide-bits s w h =
+    let k = map_some (λ k. (k, after_while is_ascii_digit s)) (kind_at (take_while is_ascii_digit s)) h in
+    let bits = kind_at-some (take_while is_ascii_digit s) k.0 k.1 in
+    let has : has_len Blake2b bits.len ≡ true =
+    and_from _ _ (le-leb 1 bits.len bits.some) (le-leb bits.len 64 bits.few) in
+    rw (← k.2, bits.is) (record {
+      is_algo = refl;
+      width = 45 ∷ take_while is_ascii_digit s;
+      is_width = inr (ap (λ l. 45 ∷ l) bits.digits, refl, has);
+      whole = ap (λ l. 45 ∷ l) (prefix-and-rest is_ascii_digit s);
+    })
+
+-- either of them, as a `-` follows BLAKE2b's tag or not
+pub width_at-some : (a : Algo) (s : List ℕ) (w : KindValue × List ℕ) → width_at a s ≡ Some w → Wide a s w
+width_at-some Blake2b [] w h = wide-none Blake2b [] w h
+width_at-some Blake2b (b ∷ bs) w h = elim (eqb_tells b 45) [
+  | inl same ↦ rw same.1 (wide-bits bs w (rw same.0 at h))
+  | inr other ↦ wide-none Blake2b (b ∷ bs) w (rw other.0 at h)
+]
+width_at-some a s w h = wide-none a s w h
+
+-- ---- the whole line
+
+-- the parts are those of a tagged line
+abbrev pub IsTagged : Algos → List ℕ → Parts → Type 0
+IsTagged algos line p = Tagged algos line p.escaped p.kind p.digest p.text
+
+-- a line that is read as tagged is tagged
+pub read_is_tagged : {algos : Algos} {line : List ℕ} {p : Parts} → tagged_parts algos line ≡ Some p
+    → IsTagged algos line p
+unfolding tagged_parts tagged_as
+read_is_tagged {algos} {line} {p} h =
+    let text : Bool × List ℕ = mark_and_rest (after_while is_blank line) in
+    let algo = bind_some (tag_in algos text.1) _ h in
+    let rest : List ℕ = drop (length (tag algo.0)) text.1 in
+    let width = bind_some (width_at algo.0 rest) _ algo.2 in
+    let w : List ℕ = width.0.1 in
+    let inner = bind_some (option_or (strip_prefix (32 ∷ 40 ∷ []) w) (strip_prefix (40 ∷ []) w)) _ width.2 in
+    let name = bind_some (rsplit_once 41 inner.0) _ inner.2 in
+    let digits = bind_some (strip_prefix (61 ∷ []) (after_while is_blank name.0.1)) _ name.2 in
+    let digest = bind_some (result_ok (decode_of (after_while is_blank digits.0))) _ digits.2 in
+    let is = cond_some (length digest.0 == width.0.0.len && nat_lt 0 (length name.0.0)) _ p digest.2 in
+    let fits = and_parts (length digest.0 == width.0.0.len) (nat_lt 0 (length name.0.0)) is.0 in
+    let found = tag_in-some {algos = algos} {s = text.1} {a = algo.0} algo.1 in
+    let wide = width_at-some algo.0 rest width.0 width.1 in
+    let gap = opened-some w inner.0 inner.1 in
+    rw (← is.1) (record {
+      blanks = take_while is_blank line;
+      width = wide.width;
+      gap = gap.0;
+      before = take_while is_blank name.0.1;
+      after = take_while is_blank digits.0;
+      digits = after_while is_blank digits.0;
+      allowed = rw wide.is_algo found.allowed;
+      are_blanks = prefix-passes is_blank line;
+      is_width = wide.is_width;
+      some = ltb-true 0 (length name.0.0) fits.1;
+      before_blanks = prefix-passes is_blank name.0.1;
+      after_blanks = prefix-passes is_blank digits.0;
+      spelled = ok_some _ digest.0 digest.1;
+      size = eqb-true (length digest.0) width.0.0.len fits.0;
+      whole = rw (
+        ← prefix-and-rest is_blank digits.0,
+        ← strip_prefix-some (61 ∷ []) (after_while is_blank name.0.1) digits.0 digits.1,
+        ← prefix-and-rest is_blank name.0.1,
+        ← rsplit-some 41 inner.0 name.0 name.1,
+        ← gap.1,
+        ← wide.whole,
+        wide.is_algo,
+        ← found.is,
+        ← mark_and_rest-is (after_while is_blank line),
+      ) (prefix-and-rest is_blank line);
+    })
 
 -- ---- bytes that a line may begin with
 
@@ -46,10 +161,10 @@ tag-begins sha = begins-by 83 _ refl refl refl
 -- behind a line's blanks the backslash is read, where there is one
 pub mark_and_rest-prefix : (blanks : List ℕ) (e : Bool) (xs rest : List ℕ) → AllPass is_blank blanks → Begins xs
     → mark_and_rest (after_while is_blank (blanks ++ (mark e ++ (xs ++ rest)))) ≡ (e, xs ++ rest)
-mark_and_rest-prefix blanks true xs rest are b = ap mark_and_rest (rest-at is_blank blanks 92 (xs ++ rest) are refl)
+mark_and_rest-prefix blanks true xs rest are b = ap mark_and_rest (parts-at is_blank blanks 92 (xs ++ rest) are refl).1
 mark_and_rest-prefix blanks false xs rest are b =
     let behind : after_while is_blank (blanks ++ (b.first ∷ (b.more ++ rest))) ≡ b.first ∷ (b.more ++ rest) =
-    rest-at is_blank blanks b.first (b.more ++ rest) are b.no_blank in
+    (parts-at is_blank blanks b.first (b.more ++ rest) are b.no_blank).1 in
     rw (b.are, behind, b.no_mark) refl
 
 -- a byte that passes a test isn't one that doesn't
@@ -70,39 +185,25 @@ abbrev pub opening : Bool → List ℕ → List ℕ
 opening g s = optional g (32 ∷ []) ++ (40 ∷ s)
 
 -- decimal digits end before it
-prefix-digits : (ds : List ℕ) (g : Bool) (s : List ℕ) → AllPass is_ascii_digit ds
-    → take_while is_ascii_digit (ds ++ opening g s) ≡ ds
-prefix-digits ds true s all = prefix-at is_ascii_digit ds 32 (40 ∷ s) all refl
-prefix-digits ds false s all = prefix-at is_ascii_digit ds 40 s all refl
-
--- and it begins the rest
-rest-digits : (ds : List ℕ) (g : Bool) (s : List ℕ) → AllPass is_ascii_digit ds
-    → after_while is_ascii_digit (ds ++ opening g s) ≡ opening g s
-rest-digits ds true s all = rest-at is_ascii_digit ds 32 (40 ∷ s) all refl
-rest-digits ds false s all = rest-at is_ascii_digit ds 40 s all refl
+digits-end : (ds : List ℕ) (g : Bool) (s : List ℕ) → AllPass is_ascii_digit ds
+    → (take_while is_ascii_digit (ds ++ opening g s) ≡ ds)
+    × (after_while is_ascii_digit (ds ++ opening g s) ≡ opening g s)
+digits-end ds true s all = parts-at is_ascii_digit ds 32 (40 ∷ s) all refl
+digits-end ds false s all = parts-at is_ascii_digit ds 40 s all refl
 
 -- without a width the digest is full
 width_at-none : (a : Algo) (g : Bool) (s : List ℕ) → width_at a (opening g s) ≡ Some (full_kind a, opening g s)
 width_at-none Blake2b true s = refl
 width_at-none a g s = refl
 
--- the bits of a length are read as that length
-width_at-bits : (len : ℕ) (g : Bool) (s : List ℕ) → 0 < len → len ≤ 64
-    → width_at Blake2b (45 ∷ (decimal (8 * len) ++ opening g s)) ≡ Some (blake2b_kind len, opening g s)
-width_at-bits len g s some most =
-    let bits : List ℕ = decimal (8 * len) in
-    let all = decimal-digits len most in
-    rw (prefix-digits bits g s all, rest-digits bits g s all, kind_at-bits len some most) refl
-
 -- a kind's width is read as that kind
 pub width_at-of : (kind : KindValue) (w : List ℕ) (g : Bool) (s : List ℕ) → Width kind w
     → width_at kind.algo (w ++ opening g s) ≡ Some (kind, opening g s)
 width_at-of kind w g s (inl none) = rw (none.0, width_at-none kind.algo g s, ← none.1) refl
 width_at-of kind w g s (inr bits) =
-    let range = and_parts (nat_le 1 kind.len) (nat_le kind.len 64) bits.2 in
-    let some : 0 < kind.len = leb-true 1 kind.len range.0 in
-    let most : kind.len ≤ 64 = leb-true kind.len 64 range.1 in
-    rw (bits.0, bits.1, width_at-bits kind.len g s some most) refl
+    let range = has_len-range Blake2b kind.len bits.2 in
+    let ends = digits-end (decimal (8 * kind.len)) g s (decimal-digits kind.len range.1) in
+    rw (bits.0, bits.1, ends.0, ends.1, kind_at-bits kind.len range.0 range.1) refl
 
 -- ---- the tag
 
@@ -120,19 +221,19 @@ rest-hex blanks [] are all =
     let whole = prefix_len-all is_blank blanks are in
     rw (append-nil blanks) (drop_all (prefix_len is_blank blanks) blanks (omega arith))
 rest-hex blanks (d ∷ ds) are all =
-    rest-at is_blank blanks d ds are (hex-no_blank d (All-head (λ x. is_hex_digit x ≡ true) d ds all))
+    (parts-at is_blank blanks d ds are (hex-no_blank d (All-head (λ x. is_hex_digit x ≡ true) d ds all))).1
 
 -- a byte that is no closing parenthesis
 abbrev Not41 : ℕ → Type 0
-Not41 x = isn't 41 x ≡ true
+Not41 x = x ≢ 41
 
--- a blank is no closing parenthesis
+-- a blank is none
 blank-not41 : (x : ℕ) → is_blank x ≡ true → Not41 x
-blank-not41 x h = rw (passes-other is_blank 41 x h refl) refl
+blank-not41 x h = λ e. let bad = rw e at h in cc
 
 -- nor is a digit
 hex-not41 : (x : ℕ) → is_hex_digit x ≡ true → Not41 x
-hex-not41 x h = rw (passes-other is_hex_digit 41 x h refl) refl
+hex-not41 x h = λ e. let bad = rw e at h in cc
 
 -- ---- a tagged line
 
@@ -161,8 +262,8 @@ tagged-prefix {e = e} {kind = kind} t =
 
 module _ {algos : Algos} {line : List ℕ} (p : Parts) (t : IsTagged algos line p) where
   -- behind the closing parenthesis stand `=` and the digits
-  pub sign-found : after_while is_blank (behind_name t) ≡ 61 ∷ (t.after ++ t.digits)
-  sign-found = rest-at is_blank t.before 61 (t.after ++ t.digits) t.before_blanks refl
+  sign-found : after_while is_blank (behind_name t) ≡ 61 ∷ (t.after ++ t.digits)
+  sign-found = (parts-at is_blank t.before 61 (t.after ++ t.digits) t.before_blanks refl).1
 
   -- the digits are hexadecimal
   digits-are : AllPass is_hex_digit t.digits
@@ -173,15 +274,15 @@ module _ {algos : Algos} {line : List ℕ} (p : Parts) (t : IsTagged algos line 
   digits-found = rest-hex t.after t.digits t.after_blanks digits-are
 
   -- it is the last parenthesis
-  pub behind-free : AllPass (isn't 41) (behind_name t)
+  behind-free : All Not41 (behind_name t)
   behind-free =
-      let end : AllPass (isn't 41) (t.after ++ t.digits) =
+      let end : All Not41 (t.after ++ t.digits) =
       All-append Not41 t.after t.digits
       (All-weaker _ Not41 blank-not41 t.after t.after_blanks)
       (All-weaker _ Not41 hex-not41 t.digits digits-are) in
       All-append Not41 t.before (61 ∷ (t.after ++ t.digits))
       (All-weaker _ Not41 blank-not41 t.before t.before_blanks)
-      (All-cons Not41 61 (t.after ++ t.digits) refl end)
+      (All-cons Not41 61 (t.after ++ t.digits) (λ e. cc) end)
 
   -- so the line is read as these parts
   pub tagged_is_read : tagged_parts algos line ≡ Some p

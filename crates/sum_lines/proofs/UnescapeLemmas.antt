@@ -1,12 +1,107 @@
--- What is escaped can be read back: no escape of a byte begins another's.
-use Rattle.std.proofs.Common.{◌≡◌, ◌≢◌, ℕ, ◌+◌, ◌-◌, ◌<◌, ◌≤◌, true, List, [], ◌∷◌, ◌++◌, length, take, drop, set, refl, ap, sym, ◌∙◌, append_assoc, arith, length-set, length-drop}
-use Rattle.std.proofs.lemmas.List.{append_cancel_left, append-nil, take_rest, length-take-le, drop-drop, take-take, take-append-le, take_more_set, drop-set-lt}
+-- What is escaped can be read back: the name whose escape some bytes are, as it is computed, and as the code finds it.
+use Rattle.std.proofs.Common.{◌≡◌, ℕ, ◌<◌, ◌==◌, ◌&&◌, Bool, true, false, cond, List, [], ◌∷◌, ◌++◌, Some, refl, ap, sym, ◌∙◌, inl, inr, ◌≢◌, ◌+◌, ◌-◌, ◌≤◌, length, take, drop, set, append_assoc, arith, length-set, length-drop}
+use Rattle.std.specs.List.{All, list_all}
+use Rattle.std.specs.Prelude.{nat_lt, bytes_eq}
+use Rattle.std.proofs.lemmas.Bool.{lt-ltb, ltb-true, and_parts, eqb-true, cases_Bool}
+use Rattle.std.proofs.lemmas.Bool.Decides.{eqb_tells}
+use Rattle.std.proofs.lemmas.List.{append-nil, append_cancel_left, take_rest, length-take-le, drop-drop, take-take, take-append-le, take_more_set, drop-set-lt}
+use Rattle.std.proofs.lemmas.Option.{cond_some}
+use Rattle.std.proofs.lemmas.List.Elements.{All-weaker}
+use Rattle.std.proofs.lemmas.List.Sums.{AllPass-from_list_all, list_all-from_AllPass}
+use Rattle.std.proofs.lemmas.Slice.Eq.{bytes_eq-Decides}
+use Rattle.sum_lines.specs.Profiles.{Profile, present}
+use Rattle.sum_lines.specs.Escape.{escape_of, escape_by, escape, IsEscaped}
+use Rattle.sum_lines.specs.Entries.{Spells, Spelled}
+use Rattle.sum_lines.specs.ParsedLines.{unescaped_bytes, unescape, entry_of_parts}
+use Rattle.sum_lines.specs.PartsOfLines.{Parts}
+use Rattle.sum_lines.proofs.PrefixLemmas.{bind_some}
 use Rattle.std.proofs.lemmas.Grind.{flat_map-append}
 use Rattle.std.proofs.Math.Seq.{take-append-add}
-use Rattle.sum_lines.specs.Profiles.{present}
-use Rattle.sum_lines.specs.Escape.{escape_of, escape, IsEscaped}
-use Rattle.sum_lines.specs.ParsedLines.{unescaped_bytes}
-use Rattle.sum_lines.proofs.UnescapeOf.{unescaped_bytes-behind, unescaped_bytes-escape}
+
+-- a byte that stands for itself
+plain-first : (b : ℕ) (rest : List ℕ) → (b == 92) ≡ false → unescaped_bytes (b ∷ rest) ≡ b ∷ unescaped_bytes rest
+plain-first b [] h = refl
+plain-first b (c ∷ cs) h = rw h refl
+
+-- unescaping what is escaped gives the name, and goes on behind it
+pub unescaped_bytes-behind : (p : Profile) (n rest : List ℕ)
+    → unescaped_bytes (escape_by p n ++ rest) ≡ n ++ unescaped_bytes rest
+unescaped_bytes-behind p [] rest = refl
+unescaped_bytes-behind p (b ∷ bs) rest = let more = unescaped_bytes-behind p bs rest in elim (eqb_tells b 92) [
+  | inl same ↦ rw same.1 (ap (λ l. 92 ∷ l) more)
+  | inr backslash ↦ elim (eqb_tells b 10) [
+    | inl same ↦ rw same.1 (ap (λ l. 10 ∷ l) more)
+    | inr newline ↦ elim (cases_Bool (p.escapes_return && (b == 13))) [
+      | inl return ↦
+          let is : b ≡ 13 = eqb-true b 13 (and_parts p.escapes_return (b == 13) return).1 in
+          let one : escape_of p b ≡ 92 ∷ 114 ∷ [] = rw (backslash.0, newline.0, return) refl in
+          rw (one, is) (ap (λ l. 13 ∷ l) more)
+      | inr return ↦
+          let one : escape_of p b ≡ b ∷ [] = rw (backslash.0, newline.0, return) refl in
+          rw (one, plain-first b (escape_by p bs ++ rest) backslash.0) (ap (λ l. b ∷ l) more)
+    ]
+  ]
+]
+
+-- up to its end
+pub unescaped_bytes-escape : (p : Profile) (n : List ℕ) → unescaped_bytes (escape_by p n) ≡ n
+unescaped_bytes-escape p n =
+    ap unescaped_bytes (sym (append-nil (escape_by p n))) ∙ unescaped_bytes-behind p n [] ∙ append-nil n
+
+-- so a name is read back from its escape
+pub unescape-escape : (p : Profile) (n : List ℕ) → unescape p (escape_by p n) ≡ Some n
+unescape-escape p n =
+    let same = (bytes_eq-Decides (escape_by p n) (escape_by p n)).1 refl in
+    rw (unescaped_bytes-escape p n, same) refl
+
+-- and what is read as a name is its escape
+pub escape-unescape : (p : Profile) (raw n : List ℕ) → unescape p raw ≡ Some n → raw ≡ escape_by p n
+escape-unescape p raw n h =
+    let e = cond_some (bytes_eq (escape_by p (unescaped_bytes raw)) raw) (unescaped_bytes raw) n h in
+    sym ((bytes_eq-Decides (escape_by p (unescaped_bytes raw)) raw).0 e.0) ∙ ap (escape_by p) e.1
+
+-- ---- no NUL
+
+-- a name without NUL passes the test for it
+pub all-of : (xs : List ℕ) → All (λ b. 0 < b) xs → list_all (nat_lt 0) xs ≡ true
+all-of xs h =
+    list_all-from_AllPass (nat_lt 0) xs (All-weaker (λ b. 0 < b) (λ b. nat_lt 0 b ≡ true) (lt-ltb 0) xs h)
+
+-- and what passes it holds none
+of-all : (xs : List ℕ) → list_all (nat_lt 0) xs ≡ true → All (λ b. 0 < b) xs
+of-all xs h =
+    All-weaker (λ b. nat_lt 0 b ≡ true) (λ b. 0 < b) (ltb-true 0) xs (AllPass-from_list_all (nat_lt 0) xs h)
+
+-- ---- the entry of a line's parts
+
+-- a raw name is read as the name that it spells, and only as that
+unescape-if : (p : Profile) (e : Bool) (raw n : List ℕ) → raw ≡ cond e (escape_by p n) n
+    → cond e (unescape p raw) (Some raw) ≡ Some n
+unescape-if p true raw n h = ap (unescape p) h ∙ unescape-escape p n
+unescape-if p false raw n h = ap Some h
+
+-- and what is found is such a name
+escape-if : (p : Profile) (e : Bool) (raw n : List ℕ) → cond e (unescape p raw) (Some raw) ≡ Some n
+    → raw ≡ cond e (escape_by p n) n
+escape-if p true raw n h = escape-unescape p raw n h
+escape-if p false raw n h = cc
+
+-- the entry of such parts
+abbrev pub entry : Parts → List ℕ → Spelled
+entry t n = record { algo = t.kind.algo; digest = t.digest; name = n }
+
+-- so parts whose raw name spells a name spell an entry, and only such parts do
+pub spelled-is : (p : Profile) (t : Parts) (n : List ℕ) → Spells (escape_by p) t.escaped t.text n
+    → entry_of_parts p t ≡ Some (entry t n)
+spelled-is p t n s = rw (unescape-if p t.escaped t.text n s.is, all-of n s.no_nul) refl
+
+-- only such parts
+pub is-spelled : (p : Profile) (t : Parts) (s : Spelled) → entry_of_parts p t ≡ Some s
+    → (n : List ℕ) × Spells (escape_by p) t.escaped t.text n × (entry t n ≡ s)
+is-spelled p t s h =
+    let n = bind_some (cond t.escaped (unescape p t.text) (Some t.text)) _ h in
+    let e = cond_some (list_all (nat_lt 0) n.0) (entry t n.0) s n.2 in
+    (n.0, record { no_nul = of-all n.0 e.0; is = escape-if p t.escaped t.text n.0 n.1 }, e.1)
 
 -- what follows the escape of a in the escape of a name is the escape of what follows a in it
 pub escape-rest : (a n rest : List ℕ) → escape a ++ rest ≡ escape n → (m : List ℕ) × (n ≡ a ++ m) × (rest ≡ escape m)

@@ -1,5 +1,5 @@
 //! The line that is written for a name and its digest.
-ghost use Rattle.std.specs.Prelude.{◌≡◌, ◌++◌, length};
+ghost use Rattle.std.specs.Prelude.{◌≡◌, length};
 ghost use Rattle.sum_lines.specs.Sinks.{Writes};
 
 use crate::escape::needs_escape;

@@ -1,5 +1,5 @@
 //! Texts that are written part after part.
-ghost use Rattle.std.specs.Prelude.{◌≡◌, decimal};
+ghost use Rattle.std.specs.Prelude.{decimal};
 ghost use Rattle.sum_lines.specs.Sinks.{Writes};
 
 use crate::escape::put_escaped;

@@ -1,6 +1,6 @@
 //! The steps by which a line is read from its start.
 
-ghost use Rattle.std.specs.Prelude.{◌≡◌, ◌<◌, ◌≤◌, IfNone, IfSome, length};
+ghost use Rattle.std.specs.Prelude.{◌≡◌, ◌≤◌, length};
 ghost use Rattle.std.specs.List.{prefix_len, take_while};
 ghost use Rattle.std.specs.Option.{option_copied, option_map};
 ghost use Rattle.std.specs.Path.{rsplit_once};

@@ -1,10 +1,10 @@
 use Rattle.std.proofs.Common.{◌≡◌, ◌+◌, ◌/◌, length, take, drop, arith, sym}
 use Rattle.std.proofs.lemmas.List.{take-append-drop, take_rest}
 use Rattle.sum_lines.specs.PartsOfLines.{plain_as}
-use Rattle.sum_lines.proofs.PlainLemmas.{has_len-some}
+use Rattle.sum_lines.proofs.BitsLemmas.{has_len-range}
 use Rattle.sum_lines.proofs.PrefixLemmas.{none_of}
 use Rattle.sum_lines.proofs.BeginningLemmas.{plain-read, plain-size, plain-spelled}
-use Rattle.sum_lines.proofs.ScanLemmas.{decoded-digits, ends-behind, has_len-most, tail-place}
+use Rattle.sum_lines.proofs.ScanLemmas.{decoded-digits, ends-behind, tail-place}
 use Rattle.sum_lines.proofs.plain.plain.Goals as goal
 
 -- no digest has that length
@@ -22,9 +22,8 @@ pub returns-in_err-digest-clause-parts : goal.returns-in_err-digest-clause-parts
 returns-in_err-digest-clause-parts c = rw (c.from_residual-in_err-digest.ensures, ← c.text_in-escaped.ensures.text)
     (none_of (plain_as c.args.algo c.text_in-escaped.result.0 c.text_in-escaped.result.1.now) (λ p h.
     let is = plain-spelled c.text_in-escaped.result.0 p (rw (← c.text_in-escaped.ensures.text) at c.requires) h in
-    let some = has_len-some c.args.algo (length p.digest) is.has in
-    let few = has_len-most c.args.algo (length p.digest) is.has in
-    let digits = decoded-digits (take c.args.at c.text_in-escaped.result.1.now) p.digest is.spelled some few in
+    let range = has_len-range c.args.algo (length p.digest) is.has in
+    let digits = decoded-digits (take c.args.at c.text_in-escaped.result.1.now) p.digest is.spelled range.0 range.1 in
     let bad = c.in_err-digest.ensures.found.1 digits in cc))
 
 -- the parts that were found are the line's

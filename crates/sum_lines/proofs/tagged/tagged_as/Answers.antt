@@ -1,5 +1,5 @@
-use Rattle.std.proofs.Common.{sym, arith}
-use Rattle.sum_lines.proofs.BlankLemmas.{tail-some}
+use Rattle.std.proofs.Common.{sym, arith, length, ◌∙◌}
+use Rattle.std.proofs.lemmas.Bool.{eqb-false}
 use Rattle.sum_lines.proofs.PrefixLemmas.{rsplit-some}
 use Rattle.sum_lines.proofs.ScanLemmas.{decoded-size, digest_none, digest_other, inner-ends, place, tagged-none, tagged-read}
 use Rattle.sum_lines.proofs.tagged.tagged_as.Goals as goal
@@ -48,6 +48,6 @@ returns-clause-parts c =
     let range = place c.in_ok-raw.raw.now _ ends (rsplit-some 41 c.in_ok-inner.inner.now _ (sym c.in_ok-raw.ensures)) in
     let sign = rw c.skip_blanks.ensures at c.in_ok-past_text.ensures in
     let spelled = rw c.skip_blanks-digits.ensures at c.in_ok-digest.ensures.value in
-    let some = tail-some c.in_ok-raw.raw.now c.is_empty.result c.is_empty.ensures c.if-is_empty.false in
+    let some = eqb-false (length c.in_ok-raw.raw.now) 0 (sym c.is_empty.ensures ∙ c.if-is_empty.false) in
     rw range.2 (tagged-read c.args.algo c.args.escaped c.args.behind_tag.now c.in-Some.ensures c.in_ok-inner.ensures
-    c.in_ok-raw.ensures sign spelled (returns-clause-size c) some)
+    c.in_ok-raw.ensures sign spelled (returns-clause-size c) (omega (arith, some)))
