@@ -74,27 +74,3 @@ ends_by_fault {state = state} {old = old} {s = s} {line = line} s' f h broke =
     WhereTold-then (coming state old) (coming state s) (coming state s')
     {Q = λ c d. FillOf c d (Err f)} {R = λ c d. LineOf c d (Err (stops.Fault f)) []}
     (λ c d e came is. LineOf-fault c e f line h.plain (rw is at came)) h.came broke
-
--- the reader is as it was, or no newline stood in what was read ahead
-pub record Unread {I : Type 0} (old s : Reader I) : Type 0 where
-  pub ahead : (s ≡ old) ⊎ NoNewline old.ahead
-
-pub Unread-first : {I : Type 0} (r : Reader I) → Unread r r
-Unread-first r = record { ahead = inl refl }
-
-pub Unread-none : {I : Type 0} {old s : Reader I} → NoNewline old.ahead → Unread old s
-Unread-none none = record { ahead = inr none }
-
--- a buffer without a newline shows it
-pub none_ahead : {I : Type 0} {old s : Reader I} → Unread old s → NoNewline s.ahead → NoNewline old.ahead
-none_ahead {s = s} u none = elim u.ahead [
-  | inl same ↦ rw (← same) none
-  | inr before ↦ before
-]
-
--- the input wasn't read, where a newline stood there
-pub input_unread : {I : Type 0} {old s : Reader I} → Unread old s → ¬ NoNewline old.ahead → s.input ≡ old.input
-input_unread u some = elim u.ahead [
-  | inl same ↦ ap (λ r. r.input) same
-  | inr none ↦ absurd (some none)
-]
