@@ -1,18 +1,19 @@
 -- Contents that are the same, what came of one so far, and when it is its own clip.
-use Rattle.std.proofs.Common.{◌≡◌, ℕ, ◌^◌, ◌<◌, List, ◌++◌, length, refl, ap, ◌∙◌, nat_lt}
+use Rattle.std.proofs.Common.{◌≡◌, ℕ, ◌^◌, ◌<◌, List, ◌++◌, length, refl, ap, sym, ◌∙◌, nat_lt}
 use Rattle.std.proofs.lemmas.Bool.{cond-true, lt-ltb}
 use Rattle.sum_sources.specs.declared.fault.Ending.{Ending}
 use Rattle.sum_sources.specs.Contents.{Content, clip, limit}
-
--- contents with the same bytes and the same ending are the same
-pub content-same : (c d : Content) → c.bytes ≡ d.bytes → c.ending ≡ d.ending → c ≡ d
-content-same c d bytes ending =
-    let make : List ℕ → Ending → Content = λ l e. record { bytes = l; ending = e } in
-    ap (λ l. make l c.ending) bytes ∙ ap (make d.bytes) ending
+use Rattle.sum_sources.specs.LineReaders.{with_prefix}
 
 -- these bytes came between the two
 abbrev pub Gave : Content → Content → List ℕ → Type 0
 Gave c d bytes = (c.bytes ≡ bytes ++ d.bytes) × (d.ending ≡ c.ending)
+
+-- so the first is the second with them in front
+pub Gave-is : (c d : Content) (bytes : List ℕ) → Gave c d bytes → c ≡ with_prefix bytes d
+Gave-is c d bytes gave =
+    let make : List ℕ → Ending → Content = λ l e. record { bytes = l; ending = e } in
+    ap (λ l. make l c.ending) gave.0 ∙ ap (make (bytes ++ d.bytes)) (sym gave.1)
 
 -- the limit as a number
 pub limit-value : limit ≡ 2 ^ 61

@@ -18,27 +18,38 @@ IsPlain b = (b == 10) ≡ false
 -- a byte that is no newline goes to the first piece
 cut_plain : (b : ℕ) (bs : List ℕ) (ended : List (List ℕ)) (tail : List ℕ) → IsPlain b → CutsInto bs ended tail
     → IsCut (b ∷ bs)
-cut_plain b bs [] tail plain c = ([], b ∷ tail, record {
-  bytes_are = ap (λ l. b ∷ l) c.bytes_are;
-  pieces_plain = c.pieces_plain;
-  tail_plain = All-cons IsPlain b tail plain c.tail_plain;
-})
+cut_plain b bs [] tail plain c = (
+  [],
+  b ∷ tail,
+  record {
+    bytes_are = ap (λ l. b ∷ l) c.bytes_are;
+    pieces_plain = c.pieces_plain;
+    tail_plain = All-cons IsPlain b tail plain c.tail_plain;
+  },
+)
 cut_plain b bs (p ∷ ps) tail plain c =
-    let longer : NoNewline (b ∷ p) = All-cons IsPlain b p plain (All-head NoNewline p ps c.pieces_plain) in
-    ((b ∷ p) ∷ ps, tail, record {
-      bytes_are = ap (λ l. b ∷ l) c.bytes_are;
-      pieces_plain = All-cons NoNewline (b ∷ p) ps longer (All-tail NoNewline p ps c.pieces_plain);
-      tail_plain = c.tail_plain;
-    })
+    let longer : NoNewline (b ∷ p) = All-cons IsPlain b p plain (All-head NoNewline p ps c.pieces_plain) in (
+      (b ∷ p) ∷ ps,
+      tail,
+      record {
+        bytes_are = ap (λ l. b ∷ l) c.bytes_are;
+        pieces_plain = All-cons NoNewline (b ∷ p) ps longer (All-tail NoNewline p ps c.pieces_plain);
+        tail_plain = c.tail_plain;
+      },
+    )
 
 -- so bytes with one more in front can be cut; a newline begins an empty piece
 cut_more : (b : ℕ) (bs : List ℕ) → IsCut bs → IsCut (b ∷ bs)
 cut_more b bs (ended, tail, c) = elim (eqb_tells b 10) [
-  | inl newline ↦ ([] ∷ ended, tail, record {
+  | inl newline ↦ (
+    [] ∷ ended,
+    tail,
+    record {
       bytes_are = rw newline.1 (ap (λ l. 10 ∷ l) c.bytes_are);
       pieces_plain = All-cons NoNewline [] ended (All-nil IsPlain) c.pieces_plain;
       tail_plain = c.tail_plain;
-    })
+    },
+  )
   | inr other ↦ cut_plain b bs ended tail other.0 c
 ]
 

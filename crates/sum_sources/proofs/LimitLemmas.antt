@@ -9,7 +9,7 @@ use Rattle.sum_sources.specs.declared.fault.Fault.TheVariants.{Other}
 use Rattle.sum_sources.specs.declared.fault.Ending.TheVariants.{Broken}
 use Rattle.sum_sources.specs.Contents.{Content, limit, WhereTold, ReadsFrom}
 use Rattle.sum_sources.specs.LineReaders.{clip_to, with_prefix}
-use Rattle.sum_sources.proofs.ContentLemmas.{content-same, limit-value}
+use Rattle.sum_sources.proofs.ContentLemmas.{Gave-is, limit-value}
 
 -- a content of fewer than n bytes stays whole
 clip_to-short : (n : ℕ) (c : Content) → length c.bytes < n → clip_to n c ≡ c
@@ -41,7 +41,7 @@ pub clipped-bytes : (c d : Content) (part rest : List ℕ) (n t : ℕ) → n ≤
     → ReadsFrom (clip_to (limit - t) c) (clip_to (limit - (t + n)) d) (Ok n) (part ++ rest)
 clipped-bytes c d part rest n t few some fits read =
     let size : length (take n part) ≡ n = length-take-le n part few in
-    let split : c ≡ with_prefix (take n part) d = content-same c (with_prefix (take n part) d) read.0 (sym read.1) in
+    let split : c ≡ with_prefix (take n part) d = Gave-is c d (take n part) (read.0, read.1) in
     let cut : clip_to (limit - t) c ≡ with_prefix (take n part) (clip_to (limit - (t + n)) d) =
     rw split (clip_to-behind (limit - t) (limit - (t + n)) (take n part) d
     (rw limit-value (omega arith)) (rw limit-value (omega arith))) in (

@@ -1,14 +1,13 @@
 -- What the steps of the line reader make of pieces and lines.
-use Rattle.std.proofs.Common.{◌≡◌, ℕ, ◌+◌, ◌-◌, ◌<◌, suc, Bool, List, [], ◌∷◌, ◌++◌, length, drop, map, Option, None, Some}
-use Rattle.std.proofs.Common.{Result, Ok, Err, refl, ap, sym, ◌∙◌, append_assoc, arith, length-append, length-drop}
+use Rattle.std.proofs.Common.{◌≡◌, ℕ, ◌+◌, ◌-◌, ◌<◌, suc, false, Bool, List, [], ◌∷◌, ◌++◌, length, map, Option, None, Some}
+use Rattle.std.proofs.Common.{Result, Ok, Err, refl, ap, sym, ◌∙◌, append_assoc, arith}
 use Rattle.std.proofs.Common.{◌==◌}
 use Rattle.std.specs.List.{slice_split, after_first, position_or_len}
 use Rattle.std.specs.Option.{option_map}
 use Rattle.std.specs.Str.Lines.{strip_carriage_return}
-use Rattle.std.proofs.lemmas.List.{append-nil, get_or_append_left, drop_at, nil_from_length}
+use Rattle.std.proofs.lemmas.List.{append-nil}
 use Rattle.std.proofs.lemmas.List.Splits.{slice_split_at, slice_split_none, length-slice_split}
-use Rattle.std.proofs.lemmas.List.Sums.{position_or_len_is}
-use Rattle.std.proofs.Math.Seq.{get_or-append_seam}
+use Rattle.std.proofs.lemmas.List.Elements.{All-head, All-tail}
 use Rattle.sum_sources.specs.declared.fault.Fault.{Fault}
 use Rattle.sum_sources.specs.declared.fault.Ending.{Ending}
 use Rattle.sum_sources.specs.declared.fault.Ending.TheVariants.{Whole, Broken}
@@ -20,7 +19,7 @@ use Rattle.sum_sources.specs.Contents.{Content, WhereTold}
 use Rattle.sum_sources.specs.Standard.{empty_content}
 use Rattle.sum_sources.specs.ManifestLines.{last_line, pieces, lines, NoNewline, LineOf}
 use Rattle.sum_sources.specs.LineReaders.{left_by}
-use Rattle.sum_sources.proofs.ContentLemmas.{Gave, content-same}
+use Rattle.sum_sources.proofs.ContentLemmas.{Gave, Gave-is}
 use Rattle.sum_sources.proofs.ToldLemmas.{WhereTold-remade}
 
 -- a newline ends the first piece
@@ -40,39 +39,21 @@ pub pieces-last : (e : Ending) (piece : List ℕ) → NoNewline piece
 unfolding pieces
 pieces-last e piece none = rw (slice_split_none (λ b. b == 10) piece none) refl
 
--- the first newline stands where the piece before it ends
-newline_after : (piece rest : List ℕ) → NoNewline piece
-    → position_or_len (λ b. b == 10) (piece ++ (10 ∷ rest)) ≡ length piece
-newline_after piece rest none =
-    let all : List ℕ = piece ++ (10 ∷ rest) in
-    position_or_len_is (λ b. b == 10) all (length piece) 0 (omega (arith, length-append piece (10 ∷ rest)))
-    (λ k low. ap (λ b. b == 10) (get_or_append_left piece (10 ∷ rest) 0 k low) ∙ none k 0 low)
-    (λ _. ap (λ b. b == 10) (get_or-append_seam piece 10 rest 0))
+-- the first newline stands past a piece that has none
+after_piece : (piece rest : List ℕ) → NoNewline piece
+    → after_first (λ b. b == 10) (piece ++ rest) ≡ after_first (λ b. b == 10) rest
+after_piece [] rest none = refl
+after_piece (b ∷ bs) rest none =
+    let plain : (b == 10) ≡ false = All-head (λ b. (b == 10) ≡ false) b bs none in
+    let place : ℕ = position_or_len (λ b. b == 10) (bs ++ rest) in
+    let size : (1 + place) + 1 ≡ suc (place + 1) = omega arith in
+    rw (plain, size) (after_piece bs rest (All-tail (λ b. (b == 10) ≡ false) b bs none))
 
--- what stands past the first newline
-after_newline : (piece rest : List ℕ) → NoNewline piece
-    → after_first (λ b. b == 10) (piece ++ (10 ∷ rest)) ≡ rest
-after_newline piece rest none =
-    rw (newline_after piece rest none, ← append_assoc piece (10 ∷ []) rest)
-    (drop_at (piece ++ 10 ∷ []) rest (length piece + 1) (length-append piece (10 ∷ [])))
-
--- nothing stands past a newline that isn't there
-nothing_after : (piece : List ℕ) → NoNewline piece → after_first (λ b. b == 10) piece ≡ []
-nothing_after piece none =
-    let is : position_or_len (λ b. b == 10) piece ≡ length piece =
-    position_or_len_is (λ b. b == 10) piece (length piece) 0 (omega arith)
-    (λ k low. none k 0 low) (λ low. absurd (omega arith)) in
-    nil_from_length (drop (position_or_len (λ b. b == 10) piece + 1) piece)
-    (omega (arith, is, length-drop (position_or_len (λ b. b == 10) piece + 1) piece))
-
--- no bytes, no newline
-none_in_nil : NoNewline []
-none_in_nil k d low = absurd (omega arith)
-
--- nor a piece or a line
+-- no bytes, no piece or line
 pub pieces-nil : (e : Ending) → pieces (record { bytes = []; ending = e }) ≡ []
-pieces-nil Whole = pieces-last Whole [] none_in_nil
-pieces-nil (Broken f) = pieces-last (Broken f) [] none_in_nil
+unfolding pieces
+pieces-nil Whole = refl
+pieces-nil (Broken f) = refl
 
 pub lines-nil : (e : Ending) → lines (record { bytes = []; ending = e }) ≡ []
 lines-nil e = ap (map strip_carriage_return) (pieces-nil e)
@@ -81,41 +62,27 @@ lines-nil e = ap (map strip_carriage_return) (pieces-nil e)
 pub LineOf-ended : (c d : Content) (piece : List ℕ) → NoNewline piece → Gave c d (piece ++ 10 ∷ [])
     → LineOf c d (Ok Line) (strip_carriage_return piece)
 LineOf-ended c d piece none gave =
-    rw (
-      content-same c (record { bytes = piece ++ (10 ∷ d.bytes); ending = d.ending })
-          (gave.0 ∙ append_assoc piece (10 ∷ []) d.bytes) (sym gave.1),
-      after_newline piece d.bytes none,
-    )
+    rw (Gave-is c d _ gave, append_assoc piece (10 ∷ []) d.bytes, after_piece piece (10 ∷ d.bytes) none)
     (ap (map strip_carriage_return) (pieces-newline d.ending piece d.bytes none), refl)
 
--- a last piece that isn't empty is a line
-last_line-some : (piece : List ℕ) → 0 < length piece → last_line Whole piece ≡ piece ∷ []
-last_line-some [] some = absurd (omega arith)
-last_line-some (b ∷ bs) some = refl
-
--- the last piece is the only line left
+-- a last piece that isn't empty is the only line left
 pub LineOf-last : (c : Content) (piece : List ℕ) → NoNewline piece → 0 < length piece → Gave c empty_content piece
     → LineOf c empty_content (Ok Line) (strip_carriage_return piece)
-LineOf-last c piece none some gave =
-    rw (
-      content-same c (record { bytes = piece; ending = Whole }) (gave.0 ∙ append-nil piece) (sym gave.1),
-      nothing_after piece none,
-      lines-nil Whole,
-    )
-    (ap (map strip_carriage_return) (pieces-last Whole piece none ∙ last_line-some piece some), refl)
+LineOf-last c [] none some gave = absurd (omega arith)
+LineOf-last c (b ∷ bs) none some gave =
+    rw (Gave-is c empty_content (b ∷ bs) gave, after_piece (b ∷ bs) [] none, append-nil, lines-nil Whole)
+    (ap (map strip_carriage_return) (pieces-last Whole (b ∷ bs) none), refl)
 
 -- where nothing is left, there is no line
 pub LineOf-none : (c : Content) (line : List ℕ) → Gave c empty_content [] → LineOf c empty_content (Ok NoMore) line
-LineOf-none c line gave = rw (content-same c empty_content gave.0 (sym gave.1)) (lines-nil Whole, refl)
+LineOf-none c line gave = rw (Gave-is c empty_content [] gave) (lines-nil Whole, refl)
 
 -- a fault leaves no line, whatever stands before it
 pub LineOf-fault : (c d : Content) (f : Fault) (piece : List ℕ) → NoNewline piece
     → Gave c (record { bytes = []; ending = Broken f }) piece → LineOf c d (Err (stops.Fault f)) []
-LineOf-fault c d f piece none gave = (
-  rw (content-same c (record { bytes = piece; ending = Broken f }) (gave.0 ∙ append-nil piece) (sym gave.1))
-      (ap (map strip_carriage_return) (pieces-last (Broken f) piece none)),
-  sym gave.1,
-)
+LineOf-fault c d f piece none gave =
+    rw (Gave-is c (record { bytes = []; ending = Broken f }) piece gave, append-nil)
+    (ap (map strip_carriage_return) (pieces-last (Broken f) piece none), refl)
 
 -- what is still to come after a stop doesn't matter
 pub gives_stop : {r : Result Next LineStop} {e : LineStop} (x z : Option Content) (f g : Content → Content)
@@ -138,18 +105,14 @@ pub gives_stopped : (e : LineStop) (z : Option Content) (f : Content → Content
     → (e ≡ stops.Memory → (c : Content) → 0 < length (f c).bytes)
     → WhereTold (option_map (λ c. left_by (Some (Err e)) (f c)) z) (option_map (λ c. left_by (Some (Err e)) (f c)) z)
     (λ c d. LineOf c d (Err e) line)
-gives_stopped (stops.Fault x) None f line some = tt
-gives_stopped stops.Memory None f line some = tt
-gives_stopped (stops.Fault x) (Some c) f line some =
-    (lines-nil (Broken x), refl)
+gives_stopped e None f line some = tt
+gives_stopped (stops.Fault x) (Some c) f line some = (lines-nil (Broken x), refl)
 gives_stopped stops.Memory (Some c) f line some = some refl c
 
 -- what has a line has a byte
 some_bytes : (bytes line : List ℕ) (e : Ending) (ls : List (List ℕ))
     → lines (record { bytes = bytes; ending = e }) ≡ line ∷ ls → 0 < length bytes
-some_bytes [] line e ls is =
-    let size : 0 ≡ length (line ∷ ls) = ap length (sym (lines-nil e) ∙ is) in
-    absurd (omega (arith, size))
+some_bytes [] line e ls is = let nil = sym (lines-nil e) ∙ is in cc
 some_bytes (b ∷ bs) line e ls is = omega arith
 
 pub line-some : (c d : Content) (line : List ℕ) → LineOf c d (Ok Line) line → 0 < length c.bytes

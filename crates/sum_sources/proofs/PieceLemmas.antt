@@ -1,7 +1,7 @@
 -- The piece of a line that stands in the reader's buffer.
 use Rattle.std.proofs.Common.{◌≡◌, ℕ, ◌+◌, ◌-◌, ◌<◌, ◌≤◌, ◌==◌, List, ◌∷◌, ◌++◌, length, take, drop, get_or}
-use Rattle.std.proofs.Common.{suc, false, refl, ap, sym, ◌∙◌, arith, add-one, length-append, length-take, length-drop}
-use Rattle.std.proofs.lemmas.List.{length-take-le, take-append-drop, get_or-take, drop-take, drop-drop}
+use Rattle.std.proofs.Common.{false, refl, ap, ◌∙◌, arith, add-one, length-append, length-take, length-drop}
+use Rattle.std.proofs.lemmas.List.{length-take-le, get_or-take, drop-take, drop-drop}
 use Rattle.std.proofs.lemmas.Bool.{false_from_ne_true}
 use Rattle.std.proofs.lemmas.List.Elements.{All-from_get_or}
 use Rattle.std.proofs.Math.Seq.{split_at, take-length}

@@ -1,7 +1,7 @@
 -- What was read of a line so far, and what reading on makes of it.
 use Rattle.std.proofs.Common.{◌≡◌, ℕ, true, false, List, [], ◌∷◌, ◌++◌}
 use Rattle.std.proofs.Common.{Option, None, Ok, Err, refl, append_assoc}
-use Rattle.std.proofs.Common.{◌==◌, inl, inr, ap, ◌⊎◌}
+use Rattle.std.proofs.Common.{◌==◌}
 use Rattle.std.specs.Option.{option_map}
 use Rattle.std.proofs.lemmas.List.{append-nil}
 use Rattle.std.proofs.lemmas.List.Elements.{All-append}
@@ -11,7 +11,7 @@ use Rattle.sum_sources.specs.declared.lines.LineStop.TheVariants as stops
 use Rattle.sum_sources.specs.Contents.{Content, InputState, WhereTold}
 use Rattle.sum_sources.specs.Standard.{empty_content}
 use Rattle.sum_sources.specs.LineReaders.{Reader, coming}
-use Rattle.sum_sources.specs.refinement.LineReading.{FillOf, TakesPiece}
+use Rattle.sum_sources.specs.refinement.LineStates.{FillOf, TakesPiece}
 use Rattle.sum_sources.specs.ManifestLines.{NoNewline}
 use Rattle.sum_sources.specs.ManifestLines.{LineOf}
 use Rattle.std.specs.Str.Lines.{strip_carriage_return}
@@ -74,27 +74,3 @@ ends_by_fault {state = state} {old = old} {s = s} {line = line} s' f h broke =
     WhereTold-then (coming state old) (coming state s) (coming state s')
     {Q = λ c d. FillOf c d (Err f)} {R = λ c d. LineOf c d (Err (stops.Fault f)) []}
     (λ c d e came is. LineOf-fault c e f line h.plain (rw is at came)) h.came broke
-
--- the reader is as it was, or no newline stood in what was read ahead
-pub record Unread {I : Type 0} (old s : Reader I) : Type 0 where
-  pub ahead : (s ≡ old) ⊎ NoNewline old.ahead
-
-pub Unread-first : {I : Type 0} (r : Reader I) → Unread r r
-Unread-first r = record { ahead = inl refl }
-
-pub Unread-none : {I : Type 0} {old s : Reader I} → NoNewline old.ahead → Unread old s
-Unread-none none = record { ahead = inr none }
-
--- a buffer without a newline shows it
-pub none_ahead : {I : Type 0} {old s : Reader I} → Unread old s → NoNewline s.ahead → NoNewline old.ahead
-none_ahead {s = s} u none = elim u.ahead [
-  | inl same ↦ rw (← same) none
-  | inr before ↦ before
-]
-
--- the input wasn't read, where a newline stood there
-pub input_unread : {I : Type 0} {old s : Reader I} → Unread old s → ¬ NoNewline old.ahead → s.input ≡ old.input
-input_unread u some = elim u.ahead [
-  | inl same ↦ ap (λ r. r.input) same
-  | inr none ↦ absurd (some none)
-]

@@ -1,6 +1,5 @@
 -- What holds between told values, carried along.
 use Rattle.std.proofs.Common.{Option, None, Some}
-use Rattle.std.specs.Prelude.{IfSome}
 use Rattle.std.specs.Option.{option_map}
 use Rattle.sum_sources.specs.Contents.{WhereTold}
 
@@ -25,12 +24,6 @@ pub WhereTold-both : {A : Type 0} (x y : Option A) {P Q R : A → A → Type 0}
 WhereTold-both None y f p q = tt
 WhereTold-both (Some a) None f p q = p
 WhereTold-both (Some a) (Some b) f p q = f a b p q
-
--- what holds of the first value
-pub WhereTold-first : {A : Type 0} (x y : Option A) (P : A → Type 0) → WhereTold x y (λ a b. P a) → IfSome x P
-WhereTold-first None y P h = tt
-WhereTold-first (Some a) None P h = absurd h
-WhereTold-first (Some a) (Some b) P h = h
 
 -- what follows where something else is made of the last value
 pub WhereTold-remade : {A : Type 0} (x z : Option A) (f g : A → A) (P Q : A → A → Type 0)

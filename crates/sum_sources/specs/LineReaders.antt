@@ -41,10 +41,9 @@ with_prefix prefix c = record { bytes = prefix ++ c.bytes; ending = c.ending }
 
 -- what is still to come, where this is answered again: nothing after the end, and just the fault after a fault
 abbrev pub left_by : Option (Result Next LineStop) → Content → Content
-left_by None c = c
 left_by (Some (Ok n)) c = empty_content
 left_by (Some (Err (stops.Fault f))) c = record { bytes = []; ending = Broken f }
-left_by (Some (Err stops.Memory)) c = c
+left_by _ c = c
 
 -- what is still to come: the bytes read ahead and then the input's content, as far as the limit allows
 abbrev pub coming : {I : Type 0} → (I → InputState) → Reader I → Option Content
@@ -53,6 +52,6 @@ coming state r =
 
 -- what every later call answers, once this was answered: after a line nothing is settled, or the end; after the end or
 -- a stop, the same
-abbrev pub Settles : Result Next LineStop → Option (Result Next LineStop) → Type 0
-Settles (Ok Line) later = (later ≡ None) ⊎ (later ≡ Some (Ok NoMore))
-Settles answer later = later ≡ Some answer
+abbrev pub AnsweredAfter : Result Next LineStop → Option (Result Next LineStop) → Type 0
+AnsweredAfter (Ok Line) later = (later ≡ None) ⊎ (later ≡ Some (Ok NoMore))
+AnsweredAfter answer later = later ≡ Some answer

@@ -77,8 +77,8 @@ impl<I: Input> LineReader<I> {
     ghost use Rattle.std.specs.Option.{option_map};
     ghost use Rattle.sum_sources.specs.Contents.{clip};
     ghost use Rattle.sum_sources.specs.ManifestLines.{LineOf, NoNewline, lines_after};
-    ghost use Rattle.sum_sources.specs.LineReaders.{coming, used, Bounded, Settles};
-    ghost use Rattle.sum_sources.specs.refinement.LineReading.{FillOf, TakesPiece};
+    ghost use Rattle.sum_sources.specs.LineReaders.{coming, used, Bounded, AnsweredAfter};
+    ghost use Rattle.sum_sources.specs.refinement.LineStates.{FillOf, TakesPiece};
 
     /// A reader of the lines of `input`. An input of `LIMIT` bytes or more counts as its first
     /// `LIMIT - 1` bytes and then `Fault::Other`.
@@ -184,7 +184,7 @@ impl<I: Input> LineReader<I> {
             (λ c d. self.new.taken + length d.bytes ≡ self.old.taken + length c.bytes) }
         ensures some { result ≡ Ok Next.Line → used self.old < used self.new }
         ensures lines { self.new.lines ≡ self.old.lines }
-        ensures answer { OnOk result (Settles result self.new.answer) }
+        ensures answer { OnOk result (AnsweredAfter result self.new.answer) }
         ensures failed { OnOk result ((I.state self.new.input).failed ≡ (I.state self.old.input).failed) }
         ensures ahead { ¬ NoNewline self.old.ahead → self.new.input ≡ self.old.input }
     {
@@ -216,7 +216,7 @@ impl<I: Input> LineReader<I> {
         ensures gives { WhereTold (coming I.state self.old) (coming I.state self.new)
             (λ c d. LineOf c d result line.new.items) }
         ensures again { IfSome self.old.answer (λ answer. (result ≡ answer) × (self.new ≡ self.old)) }
-        ensures answer { Settles result self.new.answer }
+        ensures answer { AnsweredAfter result self.new.answer }
         ensures lines { self.new.lines ≡ lines_after self.old.lines result }
         ensures taken { WhereTold (I.state self.old.input).content (I.state self.new.input).content
             (λ c d. self.new.taken + length d.bytes ≡ self.old.taken + length c.bytes) }

@@ -1,7 +1,10 @@
--- Joins the line reader's fields to what its callers see of it, and says what they keep.
+-- Joins the line reader's fields to what its callers see of it, says what they keep, and joins its steps to one another.
 use Rattle.std.specs.Prelude.{◌≡◌, ◌+◌, ◌-◌, ◌<◌, ◌≤◌, take, drop, Option, None, Some, Result, Ok, Err}
+use Rattle.std.specs.Prelude.{Bool, true, false, ℕ, List, [], ◌∷◌, ◌++◌}
 use Rattle.digest_kinds.specs.Limits.{LIMIT}
 use Rattle.sum_sources.specs.declared.input.TheConstants.{PIECE}
+use Rattle.sum_sources.specs.declared.fault.Fault.{Fault}
+use Rattle.sum_sources.specs.declared.fault.Ending.TheVariants.{Broken}
 use Rattle.sum_sources.specs.declared.lines.LineReader.TheInside.{Inside}
 use Rattle.sum_sources.specs.declared.lines.State.{State}
 use Rattle.sum_sources.specs.declared.lines.State.TheVariants.{Reading, Ended, Stopped}
@@ -9,6 +12,9 @@ use Rattle.sum_sources.specs.declared.lines.Next.{Next}
 use Rattle.sum_sources.specs.declared.lines.Next.TheVariants.{NoMore}
 use Rattle.sum_sources.specs.declared.lines.LineStop.{LineStop}
 use Rattle.sum_sources.specs.declared.lines.LineStop.TheVariants as stops
+use Rattle.sum_sources.specs.Contents.{Content}
+use Rattle.sum_sources.specs.ManifestLines.{NoNewline}
+use Rattle.sum_sources.specs.Standard.{empty_content}
 use Rattle.sum_sources.specs.LineReaders.{Reader}
 
 -- what every later call answers again
@@ -34,3 +40,15 @@ pub record Kept {I : Type 0} (s : Inside I) : Type 0 where
   pub each : s.lines + (s.end - s.start) ≤ s.taken
   pub most : s.taken ≤ LIMIT
   pub wants : s.state ≡ Stopped stops.Memory → s.start < s.end
+
+-- filling the empty buffer: what is still to come stays, and is nothing where the end was found
+abbrev pub FillOf : Content → Content → Result Bool Fault → Type 0
+FillOf c d (Ok true) = d ≡ c
+FillOf c d (Ok false) = (d ≡ c) × (c ≡ empty_content)
+FillOf c d (Err f) = c ≡ record { bytes = []; ending = Broken f }
+
+-- a piece went from the front of the buffer to the line's end: up to a newline, which went too, or the whole buffer
+abbrev pub TakesPiece : Bool → List ℕ → List ℕ → List ℕ → List ℕ → Type 0
+TakesPiece true old new line line' = (piece : List ℕ) × NoNewline piece × (old ≡ piece ++ (10 ∷ new))
+    × (line' ≡ line ++ piece)
+TakesPiece false old new line line' = NoNewline old × (new ≡ []) × (line' ≡ line ++ old)

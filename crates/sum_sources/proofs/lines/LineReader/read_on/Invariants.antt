@@ -1,7 +1,8 @@
-use Rattle.std.proofs.Common.{◌≡◌, length, ◌^◌, ◌-◌, ◌+◌}
+use Rattle.std.proofs.Common.{◌≡◌, length, ◌^◌, ◌-◌, ◌+◌, ◌⊎◌}
 use Rattle.sum_sources.specs.Contents.{WhereTold}
 use Rattle.sum_sources.specs.LineReaders.{used}
-use Rattle.sum_sources.proofs.ReadOnLemmas.{LineSoFar, Unread}
+use Rattle.sum_sources.proofs.ReadOnLemmas.{LineSoFar}
+use Rattle.sum_sources.specs.ManifestLines.{NoNewline}
 use Rattle.sum_sources.proofs.lines.LineReader.read_on.Given as goal
 
 -- what came of the line so far, and the sums that stay
@@ -12,7 +13,7 @@ invariant-loop-self g l = record {
       (λ c d. l.self.taken + length d.bytes ≡ l.fn.self.taken + length c.bytes);
   used : used l.self ≡ used l.fn.self + length l.line.items;
   lines : l.self.lines ≡ l.fn.self.lines;
-  unread : Unread l.fn.self l.self;
+  unread : (l.self ≡ l.fn.self) ⊎ NoNewline l.fn.self.ahead;
   failed : (g.I.Input.state l.self.input).failed ≡ (g.I.Input.state l.fn.self.input).failed;
 }
 
