@@ -1,6 +1,6 @@
 -- The words of a check ask for that check.
-use Rattle.std.proofs.Common.{◌≡◌, Bool, true, false, not, List, [], ◌∷◌, ◌++◌, map, filter, find, codes, Option, None, Some, Result, Ok, refl, ap, sym, ◌∙◌}
-use Rattle.std.proofs.Common.{◌⊎◌, inl, inr, unwrap_or}
+use Rattle.std.proofs.Common.{◌≡◌, Bool, true, false, not, List, [], ◌∷◌, ◌++◌, map, find, codes, Option, None, Some, Result, Ok, refl, ap, sym, ◌∙◌}
+use Rattle.std.proofs.Common.{unwrap_or}
 use Rattle.std.specs.Str.{bytes_eq}
 use Rattle.std.specs.Result.{result_map_both}
 use Rattle.std.specs.List.{list_all}
@@ -18,7 +18,7 @@ use Rattle.sum_words.specs.declared.request.Request.TheVariants.{Work}
 use Rattle.sum_words.specs.declared.request.Job.TheVariants.{Check}
 use Rattle.sum_words.specs.Tools.{algos_of}
 use Rattle.sum_words.specs.Faults.{Fault}
-use Rattle.sum_words.specs.Items.{Text, Item, option, operand, a_word, items_from, full_name, flags_of, all_flags, takes_value, name_part, value_part, name_or_fault, options_of, values_of, operands_of}
+use Rattle.sum_words.specs.Items.{Text, Item, option, operand, a_word, items_from, full_name, flags_of, takes_value, name_part, value_part, name_or_fault, options_of, values_of, operands_of}
 use Rattle.sum_words.specs.Request.{request, early_answer, job_or_fault, kind_asked}
 use Rattle.sum_words.specs.PlainWords.{is_plain}
 use Rattle.sum_words.proofs.PlainWordLemmas.{plain_words}
@@ -26,52 +26,42 @@ use Rattle.digests.specs.GenerationRuns.{check_options, check_words, ChecksBy}
 
 -- ---- long options that every tool has, and that take no value
 
--- the options of a tool that has none which takes a value
-abbrev common : List Flag
-common = filter (λ flag. not (takes_value flag)) all_flags
-
--- a tool has these, or all
-flags-are : (t : Tool) → (flags_of t ≡ common) ⊎ (flags_of t ≡ all_flags)
-flags-are tools.B2sum = inr refl
-flags-are t = inl refl
-
 abbrev takes_none : Flag → Bool
 takes_none flag = not (takes_value flag)
 
-abbrev named_by : Flag → List Flag → Option Flag
-named_by flag fs = find (λ f. bytes_eq (full_name flag) (full_name f)) fs
+-- the full name of one means it
+named : (t : Tool) (flag : Flag) → takes_none flag ≡ true
+    → find (λ f. bytes_eq (full_name flag) (full_name f)) (flags_of t) ≡ Some flag
+named t flags.Length h = let no : false ≡ true = h in cc
+named tools.B2sum flag h = refl
+named t flag h = refl
 
--- how the word of one is read
+-- how its word is read
 abbrev IsLong : Flag → Type 0
-IsLong flag = (named_by flag common ≡ Some flag) × (named_by flag all_flags ≡ Some flag)
-    × (takes_value flag ≡ false) × (name_part (full_name flag) ≡ full_name flag) × (value_part (full_name flag) ≡ None)
-    × (bytes_eq (codes "--" ++ full_name flag) (codes "--") ≡ false)
+IsLong flag = (takes_value flag ≡ false) × (name_part (full_name flag) ≡ full_name flag)
+    × (value_part (full_name flag) ≡ None) × (bytes_eq (codes "--" ++ full_name flag) (codes "--") ≡ false)
 
 is-long : (flag : Flag) → takes_none flag ≡ true → IsLong flag
 is-long flags.Length h = let no : false ≡ true = h in cc
-is-long flag h = (refl, refl, refl, refl, refl, refl)
+is-long flag h = (refl, refl, refl, refl)
 
--- the name of one means it
-long_name : (t : Tool) (flag : Flag) → named_by flag common ≡ Some flag
-    → named_by flag all_flags ≡ Some flag → name_or_fault t (full_name flag) ≡ Ok flag
+long_name : (t : Tool) (flag : Flag) → takes_none flag ≡ true → name_or_fault t (full_name flag) ≡ Ok flag
 unfolding name_or_fault
-long_name t flag in_common in_all = elim (flags-are t) [
-  | inl is ↦ rw (is, in_common) refl
-  | inr is ↦ rw (is, in_all) refl
-]
+long_name t flag h = rw (named t flag h) refl
 
--- such a word is that option
-long_word : (t : Tool) (flag : Flag) (more : List Text) → IsLong flag
+-- it is that option
+long_word : (t : Tool) (flag : Flag) (more : List Text) → takes_none flag ≡ true
     → items_from t a_word ((codes "--" ++ full_name flag) ∷ more) ≡ option flag ∷ items_from t a_word more
-long_word t flag more (in_common, in_all, no_value, name, none, some) =
-    rw (some, name, none, long_name t flag in_common in_all, no_value) refl
+long_word t flag more h =
+    let long = is-long flag h in
+    rw (long.3, long.1, long.2, long_name t flag h, long.0) refl
 
 long_words : (t : Tool) (fs : List Flag) (more : List Text) → list_all takes_none fs ≡ true
     → items_from t a_word (map (λ f. codes "--" ++ full_name f) fs ++ more) ≡ map option fs ++ items_from t a_word more
 long_words t [] more all = refl
 long_words t (flag ∷ fs) more all =
     let parts = and_parts _ _ all in
-    long_word t flag (map (λ f. codes "--" ++ full_name f) fs ++ more) (is-long flag parts.0)
+    long_word t flag (map (λ f. codes "--" ++ full_name f) fs ++ more) parts.0
     ∙ ap (λ xs. option flag ∷ xs) (long_words t fs more parts.1)
 
 -- ---- the words of a check
