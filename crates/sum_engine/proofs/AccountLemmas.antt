@@ -1,5 +1,5 @@
 -- Calls that account for their stops, one after another.
-use Rattle.std.proofs.Common.{◌≡◌, ◌⊎◌, ℕ, Option, Result, Ok, Err, refl, ap, ◌∙◌, inl, inr, subst}
+use Rattle.std.proofs.Common.{rules, ◌≡◌, ◌⊎◌, ℕ, Option, Result, Ok, Err, refl, ap, ◌∙◌, inl, inr, subst}
 use Rattle.sum_sources.specs.Contents.{Content}
 use Rattle.sum_sources.specs.Sources.{SourceState}
 use Rattle.digest_kinds.specs.Limits.{one_more}
@@ -19,29 +19,14 @@ pub accounts-both : {S A C : Type 0} (state : S → SourceState) (Changes : ℕ 
     (x : A) (z : C) → Accounts state Changes a b (Ok x) → (HoldNothing b → HoldNothing c)
     → (state c.source).refusals ≡ (state b.source).refusals → Failures b c (Ok z)
     → Accounts state Changes a c (Ok z)
-accounts-both state Changes a b c x z h none refusals failures = record {
-  none = λ hold. none (h.none hold);
-  refusals = refusals ∙ h.refusals;
-  failures = (failures.0 ∙ h.failures.0, failures.1 ∙ h.failures.1);
-}
+accounts-both state Changes a b c x z h none refusals failures = search rules
 
 -- and one that stopped
 pub accounts-stop : {S A C : Type 0} (B : Type 0) (state : S → SourceState) (Changes : ℕ → ℕ → Type 0)
     (a b c : Moment S) (x : A) (stop : Stop) → Accounts state Changes a b (Ok x)
     → Accounts {A = B} state Changes b c (Err stop) → Accounts {A = C} state Changes a c (Err stop)
-accounts-stop B state Changes a b c x Memory h k = record {
-  none = λ hold. k.none (h.none hold);
-  refusals = subst (λ n. Changes n (state c.source).refusals) h.refusals k.refusals;
-  failures = (k.failures.0 ∙ h.failures.0, k.failures.1 ∙ h.failures.1);
-}
-accounts-stop B state Changes a b c x Write h k = record {
-  none = λ hold. k.none (h.none hold);
-  refusals = k.refusals ∙ h.refusals;
-  failures = elim k.failures [
-    | inl f ↦ inl (f.0 ∙ ap one_more h.failures.0, f.1 ∙ h.failures.1)
-    | inr f ↦ inr (f.0 ∙ h.failures.0, f.1 ∙ ap one_more h.failures.1)
-  ];
-}
+accounts-stop B state Changes a b c x Memory h k = search rules
+accounts-stop B state Changes a b c x Write h k = search rules
 
 -- what a step wants, as what checking wants
 pub step_refusals : {S : Type 0} (state : S → SourceState) (a b : Moment S) (c : Option Content)

@@ -1,5 +1,5 @@
 -- What is answered behind the end of a manifest's verdicts.
-use Rattle.std.proofs.Common.{◌≡◌, ℕ, Bool, true, false, List, [], length, Option, None, Some, Result, Ok, Err}
+use Rattle.std.proofs.Common.{rules, ◌≡◌, ℕ, Bool, true, false, List, [], length, Option, None, Some, Result, Ok, Err}
 use Rattle.std.proofs.Common.{ap, sym, ◌∙◌, arith, if◌then◌else◌}
 use Rattle.sum_sources.specs.declared.fault.Ending.{Ending}
 use Rattle.sum_sources.specs.declared.lines.LineStop.{LineStop}
@@ -32,9 +32,6 @@ pub end_stays : (r : Rules) (e : Ending) (vector : List ℕ) (a b c : Now) (x : 
 end_stays r e vector a b c (Ok (Some v)) ended found =
     let size : 0 ≡ length (rest_verdicts r b) = ap length (sym (none_left r e b ended.rest)) in
     absurd (omega (arith, size, ap length found.0.first))
-end_stays r e vector a b c (Ok None) ended found =
-    ap ended_by (sym found.ending ∙ ap (λ (d : Content). d.ending) ended.rest)
-end_stays r e vector a b c (Err (Fault f)) ended found =
-    ap ended_by (sym found.ending ∙ ap (λ (d : Content). d.ending) ended.rest)
-end_stays r e vector a b c (Err Memory) ended found =
-    absurd (omega (arith, found.1, ap (λ (d : Content). length d.bytes) ended.rest))
+end_stays r e vector a b c (Ok None) ended found = search rules
+end_stays r e vector a b c (Err (Fault f)) ended found = search rules
+end_stays r e vector a b c (Err Memory) ended found = search rules

@@ -1,5 +1,5 @@
 -- The next verdict of a manifest, by what reading and judging its line did.
-use Rattle.std.proofs.Common.{◌≡◌, ℕ, ◌≤◌, ◌||◌, List, [], length, map, slice_range, Option, Some, Ok, Err, refl, ap, sym, ◌∙◌, inl, append-nil}
+use Rattle.std.proofs.Common.{rules, ◌≡◌, ℕ, ◌≤◌, ◌||◌, List, [], length, map, slice_range, Option, Some, Ok, Err, refl, ap, sym, ◌∙◌, inl, append-nil}
 use Rattle.std.specs.List.{list_any}
 use Rattle.std.proofs.KnownBytes.{Appends-nil}
 use Rattle.sum_sources.specs.declared.lines.LineStop.TheVariants.{Memory}
@@ -36,11 +36,7 @@ pub line_found : {I : Type 0} (p : Place I) (line : List ℕ) (said : ParsedLine
     → slice_range vector start stop ≡ name_said said → k ≡ p.reader.lines
     → JudgeLineGives p line d vector w v
     (Some (record { number = k; verdict = verdict; start = start; stop = stop }))
-line_found p line said k d vector w v verdict start stop is h count place number = WhereTold-map w v (λ w v judged. (
-  ap (judge p.rules w p.reader.lines) is ∙ rw (place, number) (judged.0 p.reader.lines),
-  rw place judged.1,
-  count,
-)) h
+line_found p line said k d vector w v verdict start stop is h count place number = search rules
 
 -- it is the first of those that were to come; q is the place then
 pub find_line : {I S : Type 0} (input : I → InputState) (state : S → SourceState) (p q : Place I)

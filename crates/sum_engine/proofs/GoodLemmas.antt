@@ -1,5 +1,5 @@
 -- A manifest of lines that were written for whole files is good.
-use Rattle.std.proofs.Common.{◌≡◌, ◌==◌, ℕ, suc, ◌+◌, ◌<◌, true, false, List, [], ◌∷◌, ◌++◌, length, map, refl, ap, ◌∙◌, append_assoc, arith, inl, append-nil, sym}
+use Rattle.std.proofs.Common.{rules, ◌≡◌, ◌==◌, ℕ, suc, ◌+◌, ◌<◌, true, false, List, [], ◌∷◌, ◌++◌, length, map, refl, ap, ◌∙◌, append_assoc, arith, inl, append-nil, sym}
 use Rattle.std.specs.Prelude.{flat_map}
 use Rattle.std.specs.List.{All}
 use Rattle.std.proofs.lemmas.Bool.{ne_eqb}
@@ -129,10 +129,7 @@ silent reports.Status = refl
 
 -- the whole summary is empty
 no-summary : (r : Rules) (k : ℕ) → summary r (right_counts (suc k)) ≡ []
-no-summary r k =
-    let some : (entries (right_counts (suc k)) == 0) ≡ false =
-    ne_eqb (entries (right_counts (suc k))) 0 (λ e. omega (arith, e)) in
-    rw (some, ne_eqb (suc k) 0 (λ e. omega (arith, e)), and-false) (silent r.settings.report)
+no-summary r k = search rules
 
 -- and the list is good
 is-good : (r : Rules) (k : ℕ) → good r Whole (right_counts (suc k)) ≡ true

@@ -1,5 +1,5 @@
 -- Steps of a new checker, one after another.
-use Rattle.std.proofs.Common.{◌≡◌, ℕ, zero, suc, ◌+◌, ◌≤◌, true, List, [], ◌∷◌, ◌++◌, length, take, drop, refl, ap, sym, ◌∙◌, ◌-◌, arith, zero-add, length-drop}
+use Rattle.std.proofs.Common.{rules, ◌≡◌, ℕ, zero, suc, ◌+◌, ◌≤◌, true, List, [], ◌∷◌, ◌++◌, length, take, drop, refl, ap, sym, ◌∙◌, ◌-◌, arith, zero-add, length-drop}
 use Rattle.std.specs.List.{flat_map}
 use Rattle.std.proofs.lemmas.List.{take-append-drop}
 use Rattle.sum_sources.specs.Contents.{Content}
@@ -28,15 +28,7 @@ whole r c s = content_run r c (all_verdicts r s.world c)
 
 -- of none nothing happened
 joined_none : (r : Rules) (c : Content) (s : RunState) → Joined r c s (at_start c s) 0
-joined_none r c s = record {
-  rest = refl;
-  lines = refl;
-  number = refl;
-  used = zero-add (length c.bytes);
-  done = did_nothing s;
-  left = refl;
-  good = refl;
-}
+joined_none r c s = search rules
 
 -- what is left and what is done behind one more
 drop_next : {X : Type 0} (k : ℕ) (xs ys : List X) (y : X) → drop k xs ≡ y ∷ ys
@@ -79,8 +71,7 @@ joined_more {r} {c} {s} {b} {d} {v} {k} h step moves =
 -- so many were, one after another
 joined_times : (r : Rules) (c : Content) (s : RunState) (a b : Now) (i k : ℕ) → Joined r c s a i → HandledTimes r a b k
     → Joined r c s b (i + k)
-joined_times r c s a b i zero h is =
-    let same : i + 0 ≡ i = omega arith in rw (is, same) h
+joined_times r c s a b i zero h is = search rules
 joined_times r c s a b i (suc k) h more =
     let next : i + suc k ≡ suc i + k = omega arith in
     rw next (joined_times r c s more.0 b (suc i) k (joined_more h more.2 more.3) more.4)

@@ -1,5 +1,5 @@
 -- A new checker that runs to its end, and one manifest that is asked and checked.
-use Rattle.std.proofs.Common.{◌++◌, ◌≡◌, ℕ, ◌||◌, Bool, true, false, List, [], ◌∷◌, Option, None, Some, Result, Ok, Err, cond, refl, ap, sym, ◌∙◌, subst, codes}
+use Rattle.std.proofs.Common.{rules, ◌++◌, ◌≡◌, ℕ, ◌||◌, Bool, true, false, List, [], ◌∷◌, Option, None, Some, Result, Ok, Err, cond, refl, ap, sym, ◌∙◌, subst, codes}
 use Rattle.std.specs.Option.{option_map}
 use Rattle.std.proofs.KnownBytes.{Appends-nil}
 use Rattle.std.proofs.Math.Bool.{or-false, or-true}
@@ -164,11 +164,7 @@ check_gives state k dash c a asked b x is h run =
 asked_only : {a b : RunState} (name : List ℕ) → b.world ≡ after a.world (name ∷ [])
     → b.taken ≡ a.taken || is_dash name → b.refusals ≡ a.refusals → b.err ≡ a.err → b.out ≡ a.out
     → Did a b (events_of (opening name))
-asked_only {a} name world taken refusals err out = did_by (name ∷ []) [] [] (record {
-  world = world;
-  taken = taken ∙ ap (λ b. a.taken || b) (sym (or-false (is_dash name)));
-  refusals = refusals;
-}) (rw err (Appends-nil a.err.written)) (rw out (Appends-nil a.out.written))
+asked_only {a} name world taken refusals err out = search rules
 
 -- the worlds of a source before and after standard input was taken
 dash_worlds : (name : List ℕ) (s : Option Telling) (c : Option Content) → is_dash name ≡ true
@@ -181,14 +177,7 @@ dash_worlds name (Some s) (Some c) dash = (dash_asked s.answer s.asked c name da
 -- the manifest is standard input, which is taken then
 dash_opened : {S : Type 0} (state : S → SourceState) (name : List ℕ) (a : Moment S) → is_dash name ≡ true
     → WhereKnown state a (record a { input = Some empty_content; taken = true }) (IsOpened name a.input)
-dash_opened {S} state name a dash =
-    let next : Moment S = record a { input = Some empty_content; taken = true } in
-    where_known state a next _ (dash_worlds name (state a.source).told a.input dash) (λ w v is. (
-      w.input,
-      is.1,
-      rw dash refl,
-      asked_only name is.0 (rw dash (sym (or-true a.taken))) refl refl refl,
-    ))
+dash_opened {S} state name a dash = search rules
 
 -- so what the checker does with standard input is what the call does
 pub check_dash : {S : Type 0} (state : S → SourceState) (k : Call) (a b : Moment S) (x : Result Bool Stop)
@@ -215,8 +204,7 @@ opens_in : {F : Type 0} (content : F → InputState) (name : List ℕ) (s t : Te
     (x : Result F OpenFault) → Opens content s t name x
     → OpensIn content name x (record { answer = s.answer; asked = s.asked; input = i })
     (record { answer = t.answer; asked = t.asked; input = i })
-opens_in content name s t i (Ok file) h =
-    let c = given (content file).content (s.answer name) h.1 in (rw h.0 refl, c.0, c.1, c.2)
+opens_in content name s t i (Ok file) h = search rules
 opens_in content name s t i (Err (open_faults.Fault f)) h = (rw h.0 refl, cc)
 opens_in content name s t i (Err open_faults.Memory) h = rw h refl
 
@@ -235,14 +223,7 @@ file_opened : {F S : Type 0} (content : F → InputState) (state : S → SourceS
     → WhereTold (state a.source).told (state source).told (λ s t. Opens content s t name (Ok file))
     → (state source).refusals ≡ (state a.source).refusals
     → WhereKnown state a (record a { source = source }) (IsOpened name (content file).content)
-file_opened content state name a source file dash h refusals =
-    where_known state a (record a { source = source }) _
-    (opens content name (state a.source).told (state source).told a.input (Ok file) h) (λ w v is. (
-      is.1,
-      is.3,
-      rw dash is.2,
-      asked_only name (is.0 ∙ rw dash refl) (rw dash (sym (or-false a.taken))) refusals refl refl,
-    ))
+file_opened content state name a source file dash h refusals = search rules
 
 -- so what the checker does with it is what the call does
 pub check_file : {F S : Type 0} (content : F → InputState) (state : S → SourceState) (k : Call) (a b : Moment S)

@@ -1,5 +1,5 @@
 -- The verdicts and the run that are left, after one line and the next.
-use Rattle.std.proofs.Common.{◌≡◌, ℕ, zero, suc, ◌+◌, List, [], ◌∷◌, length, refl, ap, sym, ◌∙◌}
+use Rattle.std.proofs.Common.{rules, ◌≡◌, ℕ, zero, suc, ◌+◌, List, [], ◌∷◌, length, refl, ap, sym, ◌∙◌}
 use Rattle.sum_sources.specs.Contents.{Content}
 use Rattle.sum_sources.specs.ManifestLines.{past_line}
 use Rattle.sum_lines.specs.Entries.{form, form_then, line_form}
@@ -69,11 +69,7 @@ first_step r e k c (j ∷ js) =
 pub found_first : (r : Rules) (a b : Now) (j : Judged) → rest_verdicts r a ≡ j ∷ rest_verdicts r b
     → b.counts ≡ counts_with a.counts j.verdict → b.rest ≡ past_line a.rest
     → to_come r a ≡ step_then (line_step r (length a.rest.bytes) j) (to_come r b)
-found_first r a b j first counted rest =
-    let s = line_step r (length a.rest.bytes) j in
-    ap (run_by r a.rest.ending a.counts a.rest) first
-    ∙ ap (λ k. step_then s (run_by r a.rest.ending k (past_line a.rest) (rest_verdicts r b))) (sym counted)
-    ∙ ap (λ (c : Content). step_then s (run_by r c.ending b.counts c (rest_verdicts r b))) (sym rest)
+found_first r a b j first counted rest = search rules
 
 -- contents past so many lines
 pub past_next : (k : ℕ) (c : Content) → past_line (past_lines k c) ≡ past_lines (suc k) c

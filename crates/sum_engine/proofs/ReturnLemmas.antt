@@ -1,5 +1,5 @@
 -- Lines without a carriage return are kept as they are.
-use Rattle.std.proofs.Common.{◌≡◌, ◌≢◌, ℕ, ◌-◌, ◌==◌, List, [], ◌∷◌, length, map, refl, ap, ◌∙◌, arith}
+use Rattle.std.proofs.Common.{rules, ◌≡◌, ◌≢◌, ℕ, ◌-◌, ◌==◌, List, [], ◌∷◌, length, map, refl, ap, ◌∙◌, arith}
 use Rattle.std.specs.Prelude.{slice_index}
 use Rattle.std.specs.List.{All}
 use Rattle.std.specs.Str.Lines.{strip_carriage_return}
@@ -14,9 +14,7 @@ NotReturn b = b ≢ 13
 -- nothing is taken from one line
 strip-kept : (l : List ℕ) → NoReturn l → strip_carriage_return l ≡ l
 strip-kept [] free = refl
-strip-kept (b ∷ bs) free =
-    let i = length (b ∷ bs) - 1 in
-    cond-false (slice_index (b ∷ bs) i == 13) _ _ (ne_eqb (slice_index (b ∷ bs) i) 13 (free i 0 (omega arith)))
+strip-kept (b ∷ bs) free = search rules
 
 -- nor from several
 pub strips-kept : (ls : List (List ℕ)) → All NoReturn ls → map strip_carriage_return ls ≡ ls

@@ -1,5 +1,5 @@
 -- Runs, one after another, and what a run's steps come to.
-use Rattle.std.proofs.Common.{◌≡◌, ℕ, Bool, List, [], ◌∷◌, ◌++◌, Option, Result, Ok, Err, refl, ap, sym, ◌∙◌, inl, append_assoc, append-nil}
+use Rattle.std.proofs.Common.{rules, ◌≡◌, ℕ, Bool, List, [], ◌∷◌, ◌++◌, Option, Result, Ok, Err, refl, ap, sym, ◌∙◌, inl, append_assoc, append-nil}
 use Rattle.std.specs.Prelude.{flat_map, filter_map}
 use Rattle.std.proofs.lemmas.Grind.{flat_map-append}
 use Rattle.std.proofs.lemmas.List.Elements.{filter_map-append}
@@ -67,9 +67,7 @@ along_breaks {whole = whole} h k =
 -- a step that memory was wanted for
 pub along_waits : {A : Type 0} {a b c : RunState} {whole left : Run} (x : A) → Along whole left a b
     → Lacks left b c → RunOf whole.steps x a c (Err Memory)
-along_waits {b = b} {whole = whole} x h k =
-    let steps : whole.steps ≡ h.done ++ k.step ∷ k.rest.steps = h.steps ∙ ap (λ r. h.done ++ r.steps) k.is in
-    (h.done, k.step, k.rest.steps, b, steps, h.did, k.wants)
+along_waits {b = b} {whole = whole} x h k = search rules
 
 -- ---- a run behind a step, and one run after another
 

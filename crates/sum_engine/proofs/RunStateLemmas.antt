@@ -1,5 +1,5 @@
 -- What happened at a run state, one thing after another; and moments whose run states tell or don't.
-use Rattle.std.proofs.Common.{◌≡◌, ℕ, ◌||◌, Bool, List, [], ◌∷◌, ◌++◌, map, Option, None, Some, Result, Ok, Err, refl, ap, sym, ◌∙◌, inl, inr, append_assoc, append-nil}
+use Rattle.std.proofs.Common.{rules, ◌≡◌, ℕ, ◌||◌, Bool, List, [], ◌∷◌, ◌++◌, map, Option, None, Some, Result, Ok, Err, refl, ap, sym, ◌∙◌, inl, inr, append_assoc, append-nil}
 use Rattle.std.specs.Prelude.{filter_map}
 use Rattle.std.specs.List.{list_any}
 use Rattle.std.specs.Option.{option_map}
@@ -83,8 +83,7 @@ pub record Asks (a b : RunState) (names : List (List ℕ)) : Type 0 where
 
 -- no name was
 pub asks_none : {a b : RunState} → b.world ≡ a.world → b.taken ≡ a.taken → b.refusals ≡ a.refusals → Asks a b []
-asks_none {a} world taken refusals =
-    record { world = world ∙ after-none a.world; taken = taken ∙ sym (or-false a.taken); refusals = refusals }
+asks_none {a} world taken refusals = search rules
 
 -- so it is where they were opened, and nothing was written
 pub asks_by : {a b : RunState} (names : List (List ℕ)) → Did a b (map Opens names) → Asks a b names
@@ -108,13 +107,7 @@ did_by names err out h p q = record {
 
 -- nothing
 pub did_nothing : (a : RunState) → Did a a []
-did_nothing a = record {
-  world = after-none a.world;
-  taken = sym (or-false a.taken);
-  err = Appends-nil a.err.written;
-  out = Appends-nil a.out.written;
-  refusals = refl;
-}
+did_nothing a = search rules
 
 -- one thing after another
 pub did_both : {a b c : RunState} (p q : List Event) → Did a b p → Did b c q → Did a c (p ++ q)
@@ -220,8 +213,7 @@ run_state-known state m = by_world (known state m) (state m.source).told m.input
 pub where_known : {S : Type 0} (state : S → SourceState) (a b : Moment S) {P : World → World → Type 0}
     (R : RunState → RunState → Type 0) → WhereTold (world_of state a) (world_of state b) P
     → ((w v : World) → P w v → R (known state a w) (known state b v)) → WhereKnown state a b R
-where_known state a b R h f = rw (run_state-known state a, run_state-known state b)
-    (WhereTold-made (world_of state a) (world_of state b) (known state a) (known state b) R h f)
+where_known state a b R h f = search rules
 
 -- and what holds of their worlds from what holds of the moments
 told-of : {A B : Type 0} (x y : Option A) (f g : A → B) (R : B → B → Type 0)
@@ -233,8 +225,7 @@ told-of (Some a) (Some b) f g R h = h
 pub known_worlds : {S : Type 0} (state : S → SourceState) (a b : Moment S) (R : RunState → RunState → Type 0)
     → WhereKnown state a b R
     → WhereTold (world_of state a) (world_of state b) (λ w v. R (known state a w) (known state b v))
-known_worlds state a b R h = told-of (world_of state a) (world_of state b) (known state a) (known state b) R
-    (rw (run_state-known state a, run_state-known state b) at h)
+known_worlds state a b R h = search rules
 
 -- a value that stayed
 pub same_told : {A : Type 0} (x : Option A) → WhereTold x x (λ a b. b ≡ a)
@@ -246,8 +237,7 @@ pub known_refused : {S : Type 0} (state : S → SourceState) (a b : Moment S)
     → WhereTold (world_of state a) (world_of state b) (λ w v. v ≡ w) → b.taken ≡ a.taken → b.err ≡ a.err
     → b.out ≡ a.out → (state b.source).refusals ≡ one_more (state a.source).refusals
     → WhereKnown state a b OnlyRefused
-known_refused state a b world taken err out refused =
-    where_known state a b OnlyRefused world (λ w v same. rw (same, taken, err, out, refused) refl)
+known_refused state a b world taken err out refused = search rules
 
 -- standard error handed on a text or a prefix of it, and nothing else was done
 pub err_came : {S : Type 0} (state : S → SourceState) (a : Moment S) (err : SinkState) (text : List ℕ) (x : Writing)

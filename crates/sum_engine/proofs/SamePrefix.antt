@@ -1,5 +1,5 @@
 -- What comes behind a line has no part in what the line says.
-use Rattle.std.proofs.Common.{◌≡◌, ℕ, suc, ◌+◌, List, [], ◌∷◌, ◌++◌, length, take, refl, ap, sym, ◌∙◌}
+use Rattle.std.proofs.Common.{rules, ◌≡◌, ℕ, suc, ◌+◌, List, [], ◌∷◌, ◌++◌, length, take, refl, ap, sym, ◌∙◌}
 use Rattle.sum_lines.specs.declared.line_reading.Form.{Form}
 use Rattle.sum_lines.specs.declared.line_reading.Form.TheVariants.{Undecided}
 use Rattle.sum_lines.specs.Entries.{form, form_then, line_form}
@@ -47,11 +47,7 @@ judge_under r p other w n (WithEntry s) = refl
 running_renamed : (r : Rules) (other : List ℕ) (w : World) (n : ℕ) (f : Form) (ls : List (List ℕ))
     → running r w n f ls ≡ running (record r { shown = other }) w n f ls
 running_renamed r other w n f [] = refl
-running_renamed r other w n f (l ∷ ls) =
-    let here = form_then f (line_form r.settings.algo l) in
-    let j = judge (record r { shown = other }) w (n + 1) (parse_line r.profile r.settings.algo here l) in
-    rw (judge_under r r.profile other w (n + 1) (parse_line r.profile r.settings.algo here l))
-    (ap (λ xs. j ∷ xs) (running_renamed r other (after w (asks_of j)) (n + 1) here ls))
+running_renamed r other w n f (l ∷ ls) = search rules
 
 -- so the first verdicts don't depend on the lines behind, nor on the manifest's name
 pub same_verdicts : SameVerdicts

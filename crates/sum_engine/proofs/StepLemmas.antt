@@ -103,9 +103,7 @@ lines_now r c h = rw h refl
 pub read_line : {I : Type 0} (state : I → InputState) (p : Place I) (reader : LineReader I) (line : List ℕ)
     → ReadsLine state p reader line → WhereTold (coming state p.reader) (coming state reader)
     (λ c d. LineOf c d (Ok Line) line × (used reader + length d.bytes ≡ used p.reader + length c.bytes))
-read_line state p reader line h = WhereTold-both (coming state p.reader) (coming state reader)
-    {R = λ c d. LineOf c d (Ok Line) line × (used reader + length d.bytes ≡ used p.reader + length c.bytes)}
-    (λ c d came using. (came, using)) h.came h.using
+read_line state p reader line h = search rules
 
 -- a line of which so much was taken, and what its place became, make one move
 abbrev pub moves_by : {I : Type 0} (p q : Place I) (reader : LineReader I) (c d : Content) (s t : RunState)
@@ -153,10 +151,7 @@ lent : {I S : Type 0} (input : I → InputState) (state : S → SourceState) (p 
     → P (now_at p c (known state (asked a) w)) (now_at q d (known state (asked b) v))
     → R (now_at p c (known state a w)) (now_at q d (known state b v)))
     → WhereTold (now_of input p (run_state state a)) (now_of input q (run_state state b)) R
-lent input state p q a b P R is to = rw (run_state-known state a, run_state-known state b)
-    (lent_made p q (coming input p.reader) (coming input q.reader) (world_of state a) (world_of state b)
-    (known state (asked a)) (known state (asked b)) (known state a) (known state b) P R
-    (rw (run_state-known state (asked a), run_state-known state (asked b)) at is) to)
+lent input state p q a b P R is to = search rules
 
 -- one more step was done, or a prefix of its events
 step_by : (r : Rules) (a b : Now) (vector : List ℕ) (step : Step) (x : Writing)

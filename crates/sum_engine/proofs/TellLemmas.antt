@@ -1,5 +1,5 @@
 -- A text that is written and handed on at once, and one such text after another.
-use Rattle.std.proofs.Common.{ℕ, List, ◌++◌, Option, Result, Ok, Err, ap, sym, ◌∙◌, append_assoc, subst}
+use Rattle.std.proofs.Common.{rules, ℕ, List, ◌++◌, Option, Result, Ok, Err, ap, sym, ◌∙◌, append_assoc, subst}
 use Rattle.std.specs.Io.KnownBytes.{Appends}
 use Rattle.std.proofs.KnownBytes.{Appends-trans}
 use Rattle.sum_lines.specs.Sinks.{SinkState, Wrote, Broke, Flushes}
@@ -29,11 +29,7 @@ prefix_then a b c x y h k = (
 -- a text was written, and then flushed
 pub told_flushed : {E : Type 0} (a b c : SinkState) (text : List ℕ) (r : Result (Unit {0}) E) → Wrote a b text
     → Flushes b c r → HandsOn a c text r
-told_flushed a b c text (Ok u) h k = (
-  k.2 ∙ h.kept,
-  λ none.
-      (k.1, subst (λ l. Appends a.written c.written (l ++ text)) none (Wrote-flushed c.written text h k.0)),
-)
+told_flushed a b c text (Ok u) h k = search rules
 told_flushed a b c text (Err e) h k = (
   k.failed ∙ ap one_more h.kept,
   λ none.
@@ -43,12 +39,7 @@ told_flushed a b c text (Err e) h k = (
 -- writing it failed
 pub told_broken : {E : Type 0} (a c : SinkState) (text : List ℕ) (e : E) → Broke a c text
     → HandsOn a c text (Err e)
-told_broken a c text e h = (
-  h.failed,
-  λ none.
-      let part = h.handed in
-      (h.none, (part.0, (part.1, ap (λ l. l ++ text) (sym none) ∙ part.2), part.4)),
-)
+told_broken a c text e h = search rules
 
 -- ---- one text after another
 

@@ -1,5 +1,5 @@
 -- The verdict of an entry, by what came of asking its name.
-use Rattle.std.proofs.Common.{◌≡◌, ℕ, ◌&&◌, Bool, true, false, cond, List, [], ◌∷◌, Option, Some, refl}
+use Rattle.std.proofs.Common.{rules, ◌≡◌, ℕ, ◌&&◌, Bool, true, false, cond, List, [], ◌∷◌, Option, Some, refl}
 use Rattle.std.specs.Str.{bytes_eq}
 use Rattle.std.proofs.Math.Bool.{and-false, and-true}
 use Rattle.digest_kinds.specs.Kinds.{KindValue}
@@ -46,15 +46,11 @@ asks_compared ignore d a name = refl
 -- so is the verdict of an entry
 verdict_is : (r : Rules) (w : World) (s : Spelled) (a : Asked) → r.from_stdin && is_dash s.name ≡ false
     → IsAsked (kind_of s) (reply w s.name) a → verdict_of r w s ≡ compared r.settings.ignore_missing s.digest a
-verdict_is r w s a dash h =
-    rw dash (by_asked r.settings.ignore_missing (kind_of s) s.digest (reply w s.name) a h)
+verdict_is r w s a dash h = search rules
 
 -- an entry's verdict, by what came of asking its name
 pub judged_entry : (r : Rules) (w v : Option World) (s : Spelled) (a : Asked) (verdict : Verdict)
     → r.from_stdin && is_dash s.name ≡ false → AskGives (kind_of s) w v s.name (Some a)
     → verdict ≡ compared r.settings.ignore_missing s.digest a
     → WhereTold w v (λ w v. IsJudged r w v (WithEntry s) verdict)
-judged_entry r w v s a verdict dash h is = WhereTold-map w v (λ w v asked. (
-  λ n. rw (is, verdict_is r w s a dash asked.1) refl,
-  rw (is, asks_compared r.settings.ignore_missing s.digest a s.name) asked.0,
-)) h
+judged_entry r w v s a verdict dash h is = search rules
