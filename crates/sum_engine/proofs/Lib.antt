@@ -1,6 +1,5 @@
 pub mod WorldLemmas
 pub mod RunStateLemmas
-pub mod AccountLemmas
 pub mod GenerateLemmas
 pub mod TellLemmas
 pub mod VerdictLemmas

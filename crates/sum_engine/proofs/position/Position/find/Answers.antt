@@ -33,17 +33,3 @@ returns-in-None-clause-gives g c =
     (record { came = gives; using = c.in-Ok-Line.ensures.used; number = number; profile = refl })
     done.place.reader (known_refused g.S.Source.state first then done.gives (ap is_none done.taken) refl refl
     done.refusals)
-
--- a line was read, and its judging left the reader alone
-pub returns-in-Some-clause-reads : goal.returns-in-Some-clause-reads
-returns-in-Some-clause-reads g c =
-    let read = c.in-Ok-Line.ensures in
-    rw c.in-Some.ensures.place.reader (record {
-      rules = c.in-Some.ensures.place.rules;
-      taken = read.taken;
-      number = search rules;
-      line_read = search rules;
-      end_read = search rules;
-      ahead = read.ahead;
-      bounds = read.bounds;
-    })
