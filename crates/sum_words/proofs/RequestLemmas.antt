@@ -27,23 +27,6 @@ ending_not flags.Help rest help version = absurd (help refl)
 ending_not flags.Version rest help version = absurd (version refl)
 ending_not flag rest help version = refl
 
--- where no item decides the request, it is the first fault of the options that holds, or else the work
-pub request_is : {kind : Option KindValue} {value : Option Text} {fault : Option Fault} {r : Result Job Fault}
-    (t : Tool) (words : List Text) → early_answer (items_from t a_word words) ≡ None
-    → value ≡ last_or None (values_of (items_from t a_word words))
-    → Ok kind ≡ option_transpose (option_map length_kind value)
-    → fault ≡ first_fault (options_of (items_from t a_word words))
-    → r ≡ job_of (algos_of t) kind (options_of (items_from t a_word words))
-    → result_map_both (λ job. Work job (operands_of (items_from t a_word words))) (λ f. f)
-    (option_map_or (λ f. Err f) fault r)
-    ≡ request t words
-request_is t words none last asked holds job = rw (none, ← last, ← asked, ← holds, ← job) refl
-
--- what is not there in any way is absent
-pub not_some : {X : Type 0} (o : Option X) → ((x : X) → o ≡ Some x → ⊥) → o ≡ None
-not_some None h = refl
-not_some (Some x) h = absurd (h x refl)
-
 -- digits are a text
 digits_ascii : (value : Text) → all_ascii_digits value ≡ true → (i : ℕ) → get_or value i 0 < 128
 digits_ascii [] digits i = omega arith

@@ -1,10 +1,10 @@
 //! What the words ask for.
-ghost use Rattle.std.specs.Prelude.{◌≡◌, ◌∷◌, List, []};
+ghost use Rattle.std.specs.Prelude.{◌≡◌, ◌∷◌, List, [], Ok};
 ghost use Rattle.std.specs.Option.{option_copied, option_map, option_transpose};
 ghost use Rattle.std.specs.Str.{all_ascii_digits};
 ghost use Rattle.sum_words.specs.Items.{Item as ItemSaid, a_word, items_from, option, options_of};
 ghost use Rattle.sum_words.specs.refinement.ItemIterator.{fault_of};
-ghost use Rattle.sum_words.specs.Request.{length_kind, mode_of, report_of, first_fault, job_of, request};
+ghost use Rattle.sum_words.specs.Request.{length_kind, mode_of, report_of, first_fault, job_or_fault, request};
 ghost use Rattle.sum_words.specs.refinement.Request.{IsChosenBy, IsReadingOf, result_of, IsNumberOf};
 
 use crate::faults::WordFault;
@@ -54,9 +54,6 @@ pub fn read_words<'a, A: Allocator>(
         Ok(kind) => kind,
         Err(fault) => return Err(fault),
     };
-    if let Some(fault) = fault_of_options(&chosen) {
-        return Err(fault);
-    }
     match asked_job(tool.algos(), kind, &chosen) {
         Ok(job) => Ok(Request::Work(job, Operands::new(tool, words))),
         Err(fault) => Err(fault),
@@ -235,15 +232,18 @@ fn fault_of_options(chosen: &Chosen<'_>) -> Option<WordFault<'static>>
     }
 }
 
-// What is done with each operand, where none of these faults holds.
+// What is done with each operand, where none of these faults holds; else the first of them.
 fn asked_job(
     algos: Algos,
     kind: Option<Kind>,
     chosen: &Chosen<'_>,
 ) -> Result<Job, WordFault<'static>>
     ensures { (xs : List ItemSaid) → IsChosenBy chosen.now [] xs →
-        result_of result ≡ job_of algos kind (options_of xs) }
+        result_of result ≡ job_or_fault algos (Ok kind) (options_of xs) }
 {
+    if let Some(fault) = fault_of_options(chosen) {
+        return Err(fault);
+    }
     if chosen.check {
         return Ok(Job::Check(CheckSettings {
             algo: algos,
