@@ -131,6 +131,7 @@ impl<'a> LentWords<'a> {
 }
 
 // The piece of the bytes at a place, `None` past the last.
+#[tactic(auto, using(crate::proofs::PieceLemmas::piece_read))]
 fn piece_at<'a>(bytes: &'a [u8], ends: &'a [usize], i: usize) -> Option<&'a [u8]>
     requires { CutsAt bytes.now 0 ends.now }
     ensures piece { option_copied result ≡ slice_get (pieces_cut bytes.now 0 ends.now) i }
