@@ -106,12 +106,12 @@ is_readable word = not (starts_with ◌==◌ word (codes "-")) || is_utf8 word
 abbrev pub is_option_word : Text → Bool
 is_option_word word = starts_with ◌==◌ word (codes "-") && not (bytes_eq word (codes "-"))
 
--- a long option behind "--"; or a cluster behind '-'; or an operand
+-- an operand; or behind '-' a cluster; or behind "--" a long option
 abbrev pub read_word : Tool → Text → List Item × NextWord
 read_word t word =
-    if starts_with ◌==◌ word (codes "--")
-    then long_option (name_or_fault t (name_part (drop 2 word))) (value_part (drop 2 word))
-    else if is_option_word word then cluster t (chars (drop 1 word)) else (operand word ∷ [], a_word)
+    if not (is_option_word word) then (operand word ∷ [], a_word)
+    else if not (starts_with ◌==◌ word (codes "--")) then cluster t (chars (drop 1 word))
+    else long_option (name_or_fault t (name_part (drop 2 word))) (value_part (drop 2 word))
 
 -- all words; those behind a "--" that is no option's value are operands
 abbrev pub items_from : Tool → NextWord → List Text → List Item
