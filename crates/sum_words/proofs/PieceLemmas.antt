@@ -58,6 +58,8 @@ pieces_cut-push bytes word from (end ∷ ends) cuts =
     (take-append-le (end - from) (drop from bytes) word (omega (arith, length-drop from bytes, past))) in
     rw (first, pieces_cut-push bytes word end ends cuts.1) refl
 
+pub ruleset pushed = (pieces_cut-push)
+
 -- so a word more that can be read makes words
 pub AreWords-push : (bytes word ends : List ℕ) → is_readable word ≡ true → AreWords bytes ends
     → AreWords (bytes ++ word) (ends ++ length (bytes ++ word) ∷ [])

@@ -65,6 +65,7 @@ impl<A: Allocator> Words<A> {
 
     /// Adds a word that can be read ([`is_readable`]) at the end. `NoRoom` where memory is refused; the list is then as
     /// it was.
+    #[tactic(auto, using(crate::proofs::PieceLemmas::pushed))]
     pub fn add_bytes(&mut self, word: &[u8]) -> Result<(), NoRoom>
         requires { is_readable word.now ≡ true }
         ensures ok { OnOk result (self.new ≡ self.old ++ word.now ∷ []) }
