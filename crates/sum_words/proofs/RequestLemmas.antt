@@ -1,8 +1,6 @@
 -- The options read so far, and the number of a length value.
-use Rattle.std.proofs.Common.{◌≡◌, ◌≢◌, ℕ, zero, suc, get_or, ◌<◌, ◌^◌, true, List, [], ◌∷◌, length, Option, None, Some, Result, Ok, Err, refl, arith, inl, inr}
-use Rattle.std.specs.List.{last_or}
-use Rattle.std.specs.Option.{option_map, option_map_or, option_transpose}
-use Rattle.std.specs.Result.{result_ok, result_map_both, OkIff}
+use Rattle.std.proofs.Common.{◌≡◌, ◌≢◌, ℕ, zero, suc, get_or, ◌<◌, ◌^◌, true, List, [], ◌∷◌, length, Result, Ok, Err, refl, arith, inl, inr}
+use Rattle.std.specs.Result.{result_ok, OkIff}
 use Rattle.std.specs.Str.{IsUtf8, all_ascii_digits}
 use Rattle.std.specs.Str.Parse.{ParsesUnsigned, digits_value}
 use Rattle.std.proofs.lemmas.Bool.{cases_lt}
@@ -10,14 +8,8 @@ use Rattle.std.proofs.lemmas.Str.{IsUtf8-from_ascii}
 use Rattle.std.proofs.lemmas.Str.Parse.{IsNumeralModel, numerals_by_value, tells_all_ascii_digits, parse_digits}
 use Rattle.sum_words.specs.declared.options.Flag.{Flag}
 use Rattle.sum_words.specs.declared.options.Flag.TheVariants as flags
-use Rattle.digest_kinds.specs.Kinds.{KindValue}
-use Rattle.sum_words.specs.declared.tool.Tool.{Tool}
-use Rattle.sum_words.specs.declared.request.Job.{Job}
-use Rattle.sum_words.specs.declared.request.Request.TheVariants.{Work}
-use Rattle.sum_words.specs.Tools.{algos_of}
-use Rattle.sum_words.specs.Faults.{Fault}
-use Rattle.sum_words.specs.Items.{Text, Item, option, a_word, items_from, options_of, values_of, operands_of}
-use Rattle.sum_words.specs.Request.{length_kind, first_fault, job_of, early_answer, request}
+use Rattle.sum_words.specs.Items.{Text, Item, option}
+use Rattle.sum_words.specs.Request.{early_answer}
 use Rattle.sum_words.specs.refinement.Request.{IsNumberOf}
 
 -- an option that doesn't end the matter
