@@ -1,11 +1,12 @@
 -- The command line by its list of arguments.
-use Rattle.std.proofs.Common.{ℕ, ◌≡◌, ◌+◌, ◌-◌, ◌<◌, ◌≤◌, true, false, not, ◌==◌, zero, suc, List, [], ◌∷◌, length, drop, Some, None, refl, ap, sym, ◌∙◌, arith, inl, inr}
+use Rattle.std.proofs.Common.{ℕ, ◌≡◌, ◌+◌, ◌-◌, ◌<◌, ◌≤◌, true, false, not, ◌==◌, zero, suc, List, [], ◌∷◌, length, drop, Some, None, refl, ap, sym, ◌∙◌, arith, inl, inr, add-one}
 use Rattle.std.proofs.lemmas.List.Sums.{suffix_len_is}
 use Rattle.std.proofs.lemmas.Bool.{not_from_false, not_from_true, false_from_ne_true}
 use Rattle.std.specs.List.{suffix_len}
 use Rattle.std.specs.Prelude.{slice_get, Option, ◌++◌, Any, IsSomeAnd}
 use Rattle.sum_words.specs.declared.command_line.TheConstants.{PAGE}
-use Rattle.std.proofs.lemmas.Option.{slice_get_within, IfSome_then}
+use Rattle.std.proofs.lemmas.Option.{slice_get_within, get_or_from_slice_get, IfSome_then}
+use Rattle.std.proofs.Math.Seq.{drop-cons}
 use Rattle.std.proofs.lemmas.List.{append-nil, append_assoc}
 use Rattle.std.proofs.lemmas.List.Folds.{list_all-append}
 use Rattle.sum_words.specs.declared.tool.Tool.{Tool}
@@ -40,9 +41,8 @@ drop_at_none (x ∷ xs) (suc p) h = drop_at_none xs p h
 -- what stands at a place is the first from there on
 pub drop_at_some : {X : Type 0} {x : X} (xs : List X) (p : ℕ) → slice_get xs p ≡ Some x
     → drop p xs ≡ x ∷ drop (p + 1) xs
-drop_at_some [] p h = cc
-drop_at_some {x = x} (y ∷ ys) zero h = let same : y ≡ x = cc in rw same refl
-drop_at_some (y ∷ ys) (suc p) h = let next : suc p + 1 ≡ suc (p + 1) = omega arith in rw next (drop_at_some ys p h)
+drop_at_some {x = x} xs p h =
+    rw (drop-cons xs p x (slice_get_within xs p x h), get_or_from_slice_get xs p x x h, add-one) refl
 
 -- there is an argument at each place up to one where an argument stands
 pub there_is : (told : Option (List Text)) (first place : ℕ) (word : Text)

@@ -7,7 +7,9 @@ use Rattle.std.specs.Str.{IsUtf8}
 use Rattle.std.proofs.lemmas.Str.{is_utf8-from_IsUtf8}
 use Rattle.std.proofs.lemmas.List.{take-append-le, drop-append-le}
 use Rattle.std.proofs.lemmas.List.Folds.{list_all-append}
-use Rattle.std.proofs.lemmas.Bool.{ltb-true, and_parts}
+use Rattle.std.proofs.lemmas.Bool.{ltb-true}
+use Rattle.std.proofs.lemmas.List.Sums.{AllPass-from_list_all}
+use Rattle.std.proofs.lemmas.Option.{get_or_from_slice_get, slice_get_within}
 use Rattle.std.proofs.Math.Bool.{or-true}
 use Rattle.std.proofs.Math.Seq.{drop-append_seam, take-length}
 use Rattle.sum_words.specs.Items.{Text, is_readable}
@@ -20,19 +22,13 @@ pub readable_text : (word : Text) → IsUtf8 word → is_readable word ≡ true
 readable_text word valid = rw (is_utf8-from_IsUtf8 word valid) (or-true _)
 
 -- where all words can be read, the one at a place can
-readable_of : (words : List Text) (i : ℕ) (word : Text) → list_all is_readable words ≡ true
-    → slice_get words i ≡ Some word → is_readable word ≡ true
-readable_of [] i word all at = cc
-readable_of (w ∷ ws) zero word all at =
-    let same : w ≡ word = cc in rw same at (and_parts (is_readable w) (list_all is_readable ws) all).0
-readable_of (w ∷ ws) (suc i) word all at =
-    readable_of ws i word (and_parts (is_readable w) (list_all is_readable ws) all).1 at
-
--- the same of what is lent
 pub readable_at : (words : List Text) (i : ℕ) (r : Option (Bor Text)) → list_all is_readable words ≡ true
     → option_copied r ≡ slice_get words i → IfSome r (λ word. is_readable word.now ≡ true)
 readable_at words i None all at = tt
-readable_at words i (Some word) all at = readable_of words i word.now all (sym at)
+readable_at words i (Some word) all at =
+    let each = AllPass-from_list_all is_readable words all in
+    rw (get_or_from_slice_get words i word.now word.now (sym at))
+    at (each i word.now (slice_get_within words i word.now (sym at)))
 
 -- ---- pieces
 
@@ -61,6 +57,8 @@ pieces_cut-push bytes word from (end ∷ ends) cuts =
     rw (drop-append-le from bytes word fits)
     (take-append-le (end - from) (drop from bytes) word (omega (arith, length-drop from bytes, past))) in
     rw (first, pieces_cut-push bytes word end ends cuts.1) refl
+
+pub ruleset pushed = (pieces_cut-push)
 
 -- so a word more that can be read makes words
 pub AreWords-push : (bytes word ends : List ℕ) → is_readable word ≡ true → AreWords bytes ends

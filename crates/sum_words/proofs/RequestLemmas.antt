@@ -1,8 +1,6 @@
 -- The options read so far, and the number of a length value.
-use Rattle.std.proofs.Common.{◌≡◌, ◌≢◌, ℕ, zero, suc, get_or, ◌<◌, ◌^◌, true, List, [], ◌∷◌, length, Option, None, Some, Result, Ok, Err, refl, arith, inl, inr}
-use Rattle.std.specs.List.{last_or}
-use Rattle.std.specs.Option.{option_map, option_map_or, option_transpose}
-use Rattle.std.specs.Result.{result_ok, result_map_both, OkIff}
+use Rattle.std.proofs.Common.{◌≡◌, ◌≢◌, ℕ, zero, suc, get_or, ◌<◌, ◌^◌, true, List, [], ◌∷◌, length, Result, Ok, Err, refl, arith, inl, inr}
+use Rattle.std.specs.Result.{result_ok, OkIff}
 use Rattle.std.specs.Str.{IsUtf8, all_ascii_digits}
 use Rattle.std.specs.Str.Parse.{ParsesUnsigned, digits_value}
 use Rattle.std.proofs.lemmas.Bool.{cases_lt}
@@ -10,14 +8,8 @@ use Rattle.std.proofs.lemmas.Str.{IsUtf8-from_ascii}
 use Rattle.std.proofs.lemmas.Str.Parse.{IsNumeralModel, numerals_by_value, tells_all_ascii_digits, parse_digits}
 use Rattle.sum_words.specs.declared.options.Flag.{Flag}
 use Rattle.sum_words.specs.declared.options.Flag.TheVariants as flags
-use Rattle.digest_kinds.specs.Kinds.{KindValue}
-use Rattle.sum_words.specs.declared.tool.Tool.{Tool}
-use Rattle.sum_words.specs.declared.request.Job.{Job}
-use Rattle.sum_words.specs.declared.request.Request.TheVariants.{Work}
-use Rattle.sum_words.specs.Tools.{algos_of}
-use Rattle.sum_words.specs.Faults.{Fault}
-use Rattle.sum_words.specs.Items.{Text, Item, option, a_word, items_from, options_of, values_of, operands_of}
-use Rattle.sum_words.specs.Request.{length_kind, first_fault, job_of, early_answer, request}
+use Rattle.sum_words.specs.Items.{Text, Item, option}
+use Rattle.sum_words.specs.Request.{early_answer}
 use Rattle.sum_words.specs.refinement.Request.{IsNumberOf}
 
 -- an option that doesn't end the matter
@@ -26,23 +18,6 @@ pub ending_not : (flag : Flag) (rest : List Item) → flag ≢ flags.Help → fl
 ending_not flags.Help rest help version = absurd (help refl)
 ending_not flags.Version rest help version = absurd (version refl)
 ending_not flag rest help version = refl
-
--- where no item decides the request, it is the first fault of the options that holds, or else the work
-pub request_is : {kind : Option KindValue} {value : Option Text} {fault : Option Fault} {r : Result Job Fault}
-    (t : Tool) (words : List Text) → early_answer (items_from t a_word words) ≡ None
-    → value ≡ last_or None (values_of (items_from t a_word words))
-    → Ok kind ≡ option_transpose (option_map length_kind value)
-    → fault ≡ first_fault (options_of (items_from t a_word words))
-    → r ≡ job_of (algos_of t) kind (options_of (items_from t a_word words))
-    → result_map_both (λ job. Work job (operands_of (items_from t a_word words))) (λ f. f)
-    (option_map_or (λ f. Err f) fault r)
-    ≡ request t words
-request_is t words none last asked holds job = rw (none, ← last, ← asked, ← holds, ← job) refl
-
--- what is not there in any way is absent
-pub not_some : {X : Type 0} (o : Option X) → ((x : X) → o ≡ Some x → ⊥) → o ≡ None
-not_some None h = refl
-not_some (Some x) h = absurd (h x refl)
 
 -- digits are a text
 digits_ascii : (value : Text) → all_ascii_digits value ≡ true → (i : ℕ) → get_or value i 0 < 128

@@ -1,5 +1,5 @@
 -- Worked command lines: what the definitions say of each computes.
-use Rattle.std.proofs.Common.{◌≡◌, ◌==◌, ◌≤◌, ◌<◌, List, ℕ, [], ◌∷◌, Result, Ok, Err, Option, Some, None, is_some, if◌then◌else◌, refl, codes, true, false, zero, suc, length, inl, inr, arith, ap, lit≤}
+use Rattle.std.proofs.Common.{◌≡◌, ◌==◌, ◌≤◌, ◌<◌, List, ℕ, [], ◌∷◌, Result, Ok, Err, Option, Some, None, is_some, if◌then◌else◌, refl, codes, true, false, length, inl, inr, arith, lit≤}
 use Rattle.std.specs.List.{AllByRecursion, Any as SomeOne, slice_split}
 use Rattle.std.proofs.lemmas.List.Elements.{All-from_recursion}
 use Rattle.std.specs.Str.{byte, chars, is_utf8}

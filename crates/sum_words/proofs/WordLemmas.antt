@@ -1,5 +1,5 @@
 -- Cuts of one word.
-use Rattle.std.proofs.Common.{◌≡◌, ◌==◌, ◌≢◌, ℕ, ◌+◌, ◌<◌, true, false, List, [], ◌∷◌, ◌++◌, codes, length, drop, get_or, Option, None, Some, Result, Ok, Err, is_ok, refl, ap, sym, ◌∙◌, eqb, MatchOption, MatchResult, arith}
+use Rattle.std.proofs.Common.{◌≡◌, ◌==◌, ◌≢◌, ℕ, ◌+◌, true, false, List, [], ◌∷◌, ◌++◌, codes, length, drop, Option, None, Some, Result, Ok, Err, is_ok, refl, ap, sym, ◌∙◌, eqb, MatchOption, MatchResult}
 use denote.Ref.{Bor}
 use Rattle.std.specs.List.{starts_with}
 use Rattle.std.specs.Str.{chars, encode_utf8_all, IsUtf8, is_utf8}
@@ -32,12 +32,12 @@ first_char {bs = bs} {ys = ys} c valid same rest first = rw rest (chars_past_cha
 begins_with : (b : ℕ) (bs : List ℕ) → starts_with ◌==◌ (b ∷ bs) (codes "-") ≡ true → b ≡ 45
 begins_with b bs h = sym (eqb-true 45 b (sym (and-true (eqb 45 b)) ∙ h))
 
--- what begins with a dash and goes on: a dash, and something behind it
-pub dash_and_more : (word : List ℕ) → is_option_word word ≡ true → (get_or word 0 0 ≡ 45) × (1 < length word)
-dash_and_more [] h = let no : false ≡ true = h in cc
-dash_and_more (b ∷ []) h =
+-- what begins with a dash and goes on: something stands behind the dash
+pub goes_on : (word rest : List ℕ) → is_option_word word ≡ true → rest ≡ drop 1 word → rest ≡ [] → ⊥
+goes_on [] rest h behind none = let no : false ≡ true = h in cc
+goes_on (b ∷ []) rest h behind none =
     let dash = begins_with b [] (and_parts _ _ h).0 in let no : false ≡ true = rw dash at h in cc
-dash_and_more (b ∷ c ∷ cs) h = (begins_with b (c ∷ cs) (and_parts _ _ h).0, omega arith)
+goes_on (b ∷ c ∷ cs) rest h behind none = cc
 
 -- such a word that can be read is a text
 pub option_text : (word : List ℕ) → is_readable word ≡ true → is_option_word word ≡ true → IsUtf8 word

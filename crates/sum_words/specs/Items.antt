@@ -1,6 +1,6 @@
 -- What the words of a command line say, one by one: options, length values, operands, and at the end maybe a fault.
 use denote.Enum.Bare.{sameb}
-use Rattle.std.specs.Prelude.{ℕ, ◌+◌, ◌==◌, ◌&&◌, ◌||◌, not, Bool, true, false, List, [], ◌∷◌, ◌++◌, map, drop, Option, None, Some, Result, Ok, Err, codes, if◌then◌else◌, option_map, filter, find, position}
+use Rattle.std.specs.Prelude.{ℕ, ◌+◌, ◌==◌, ◌&&◌, ◌||◌, not, Bool, List, [], ◌∷◌, ◌++◌, map, drop, Option, None, Some, Result, Ok, Err, codes, if◌then◌else◌, option_map, filter, find, position}
 use Rattle.std.specs.List.{starts_with, before_first}
 use Rattle.std.specs.Option.{option_map_or}
 use Rattle.std.specs.Str.{byte, bytes_eq, chars, encode_utf8_all, is_utf8}
@@ -106,12 +106,12 @@ is_readable word = not (starts_with ◌==◌ word (codes "-")) || is_utf8 word
 abbrev pub is_option_word : Text → Bool
 is_option_word word = starts_with ◌==◌ word (codes "-") && not (bytes_eq word (codes "-"))
 
--- a long option behind "--"; or a cluster behind '-'; or an operand
+-- an operand; or behind '-' a cluster; or behind "--" a long option
 abbrev pub read_word : Tool → Text → List Item × NextWord
 read_word t word =
-    if starts_with ◌==◌ word (codes "--")
-    then long_option (name_or_fault t (name_part (drop 2 word))) (value_part (drop 2 word))
-    else if is_option_word word then cluster t (chars (drop 1 word)) else (operand word ∷ [], a_word)
+    if not (is_option_word word) then (operand word ∷ [], a_word)
+    else if not (starts_with ◌==◌ word (codes "--")) then cluster t (chars (drop 1 word))
+    else long_option (name_or_fault t (name_part (drop 2 word))) (value_part (drop 2 word))
 
 -- all words; those behind a "--" that is no option's value are operands
 abbrev pub items_from : Tool → NextWord → List Text → List Item

@@ -225,11 +225,15 @@ fn rest_of_cluster(letters: &str) -> State<'_>
 }
 
 // The characters behind a word's dash, the first and those behind it.
+#[tactic(auto, using(crate::proofs::WordLemmas::goes_on))]
 fn letters_of(word: &str) -> (char, &str)
     requires { is_option_word word.now ≡ true }
     ensures { chars (drop 1 word.now) ≡ result.0 ∷ chars result.1.now }
 {
-    match first(&word[1..]) {
+    let Some(rest) = behind("-", word) else {
+        unreachable!()
+    };
+    match first(rest) {
         Some(letters) => letters,
         None => unreachable!(),
     }

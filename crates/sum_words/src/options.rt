@@ -105,7 +105,8 @@ impl Flag {
     pub fn of_letter(tool: Tool, letter: char) -> Option<Flag>
         ensures { result ≡ option_of_letter tool letter }
     {
-        first_lettered(flags(tool), letter)
+        let flags = flags(tool);
+        flags.iter().copied().find(|flag| has_letter(*flag, letter))
     }
 }
 
@@ -119,18 +120,6 @@ fn flags(tool: Tool) -> &'static [Flag]
     }
 }
 
-// The option that has this letter.
-fn first_lettered(flags: &[Flag], letter: char) -> Option<Flag>
-    ensures { result ≡ find (λ flag. bytes_eq (row_of flag).0 (letter ∷ [])) flags.now }
-{
-    for flag in flags {
-        if has_letter(*flag, letter) {
-            return Some(*flag);
-        }
-    }
-    None
-}
-
 fn has_letter(flag: Flag, letter: char) -> bool
     ensures { result ≡ bytes_eq (row_of flag).0 (letter ∷ []) }
 {
@@ -142,12 +131,7 @@ fn has_letter(flag: Flag, letter: char) -> bool
 fn first_named(flags: &[Flag], name: &str) -> Option<Flag>
     ensures { result ≡ find (λ flag. bytes_eq name.now (full_name flag)) flags.now }
 {
-    for flag in flags {
-        if name == flag.name() {
-            return Some(*flag);
-        }
-    }
-    None
+    flags.iter().copied().find(|flag| name == flag.name())
 }
 
 #[tactic(auto, using(std::proofs::lemmas::Str::Pattern::starts_text))]

@@ -1,10 +1,10 @@
 //! What the words ask for.
-ghost use Rattle.std.specs.Prelude.{◌≡◌, ◌∷◌, List, []};
+ghost use Rattle.std.specs.Prelude.{◌≡◌, ◌∷◌, List, [], Ok};
 ghost use Rattle.std.specs.Option.{option_copied, option_map, option_transpose};
 ghost use Rattle.std.specs.Str.{all_ascii_digits};
 ghost use Rattle.sum_words.specs.Items.{Item as ItemSaid, a_word, items_from, option, options_of};
 ghost use Rattle.sum_words.specs.refinement.ItemIterator.{fault_of};
-ghost use Rattle.sum_words.specs.Request.{length_kind, mode_of, report_of, first_fault, job_of, request};
+ghost use Rattle.sum_words.specs.Request.{length_kind, mode_of, first_fault, job_or_fault, request};
 ghost use Rattle.sum_words.specs.refinement.Request.{IsChosenBy, IsReadingOf, result_of, IsNumberOf};
 
 use crate::faults::WordFault;
@@ -54,9 +54,6 @@ pub fn read_words<'a, A: Allocator>(
         Ok(kind) => kind,
         Err(fault) => return Err(fault),
     };
-    if let Some(fault) = fault_of_options(&chosen) {
-        return Err(fault);
-    }
     match asked_job(tool.algos(), kind, &chosen) {
         Ok(job) => Ok(Request::Work(job, Operands::new(tool, words))),
         Err(fault) => Err(fault),
@@ -67,7 +64,7 @@ pub fn read_words<'a, A: Allocator>(
 #[derive(Clone, Copy)]
 struct Chosen<'a> {
     mode: Option<Mode>,
-    report: Option<Report>,
+    report: Report,
     length: Option<&'a [u8]>,
     binary: bool,
     check: bool,
@@ -91,7 +88,7 @@ fn read_options<'a, A: Allocator>(tool: Tool, words: &'a Words<A>) -> Reading<'a
     let mut items = Items::new(tool, words);
     let mut chosen = Chosen {
         mode: None,
-        report: None,
+        report: Report::All,
         length: None,
         binary: false,
         check: false,
@@ -137,9 +134,9 @@ fn with_flag(chosen: Chosen<'_>, flag: Flag) -> Chosen<'_>
         Flag::Check => chosen.check = true,
         Flag::Zero => chosen.zero = true,
         Flag::IgnoreMissing => chosen.ignore_missing = true,
-        Flag::Quiet => chosen.report = Some(Report::Quiet),
-        Flag::Status => chosen.report = Some(Report::Status),
-        Flag::Warn => chosen.report = Some(Report::Warn),
+        Flag::Quiet => chosen.report = Report::Quiet,
+        Flag::Status => chosen.report = Report::Status,
+        Flag::Warn => chosen.report = Report::Warn,
         Flag::Strict => chosen.strict = true,
         Flag::Help | Flag::Version | Flag::Length => {}
     }
@@ -222,32 +219,30 @@ fn fault_of_options(chosen: &Chosen<'_>) -> Option<WordFault<'static>>
         return Some(WordFault::NeedsCheck(Flag::IgnoreMissing));
     }
     match chosen.report {
-        Some(Report::Status) => Some(WordFault::NeedsCheck(Flag::Status)),
-        Some(Report::Warn) => Some(WordFault::NeedsCheck(Flag::Warn)),
-        Some(Report::Quiet) => Some(WordFault::NeedsCheck(Flag::Quiet)),
-        _ => {
-            if chosen.strict {
-                Some(WordFault::NeedsCheck(Flag::Strict))
-            } else {
-                None
-            }
-        }
+        Report::Status => Some(WordFault::NeedsCheck(Flag::Status)),
+        Report::Warn => Some(WordFault::NeedsCheck(Flag::Warn)),
+        Report::Quiet => Some(WordFault::NeedsCheck(Flag::Quiet)),
+        Report::All if chosen.strict => Some(WordFault::NeedsCheck(Flag::Strict)),
+        Report::All => None,
     }
 }
 
-// What is done with each operand, where none of these faults holds.
+// What is done with each operand, where none of these faults holds; else the first of them.
 fn asked_job(
     algos: Algos,
     kind: Option<Kind>,
     chosen: &Chosen<'_>,
 ) -> Result<Job, WordFault<'static>>
     ensures { (xs : List ItemSaid) → IsChosenBy chosen.now [] xs →
-        result_of result ≡ job_of algos kind (options_of xs) }
+        result_of result ≡ job_or_fault algos (Ok kind) (options_of xs) }
 {
+    if let Some(fault) = fault_of_options(chosen) {
+        return Err(fault);
+    }
     if chosen.check {
         return Ok(Job::Check(CheckSettings {
             algo: algos,
-            report: report(chosen),
+            report: chosen.report,
             strict: chosen.strict,
             ignore_missing: chosen.ignore_missing,
         }));
@@ -275,11 +270,4 @@ fn mode(chosen: &Chosen<'_>) -> Mode
         Some(Mode::Binary) => Mode::Binary,
         _ => Mode::Text,
     }
-}
-
-// How much is reported.
-fn report(chosen: &Chosen<'_>) -> Report
-    ensures { (xs : List ItemSaid) → IsChosenBy chosen.now [] xs → result ≡ report_of (options_of xs) }
-{
-    chosen.report.unwrap_or(Report::All)
 }

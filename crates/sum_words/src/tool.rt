@@ -2,8 +2,6 @@
 ghost use Rattle.std.specs.Prelude.{◌≡◌, ◌↔◌, Some, IfSome};
 ghost use Rattle.sum_words.specs.declared.tool.Tool.{Tool};
 ghost use Rattle.sum_words.specs.Tools.{name_of, algos_of, tool_called};
-ghost use Rattle.std.specs.List.{find};
-ghost use Rattle.std.specs.Str.{bytes_eq};
 
 use digest_kinds::{Algo, Algos};
 
@@ -46,7 +44,10 @@ impl Tool {
         ensures tool { result ≡ tool_called name.now }
         ensures named { IfSome result (λ tool. name_of tool ≡ name.now) }
     {
-        first_called(&TOOLS, name)
+        TOOLS
+            .iter()
+            .copied()
+            .find(|tool| tool.name().as_bytes() == name)
     }
 
     /// The tool's name, as it is typed and as it begins each of its messages.
@@ -80,17 +81,4 @@ impl Tool {
             Tool::Anysum => Algos::Any,
         }
     }
-}
-
-// The first of these tools that has this name.
-fn first_called(tools: &[Tool], name: &[u8]) -> Option<Tool>
-    ensures tool { result ≡ find (λ tool. bytes_eq (name_of tool) name.now) tools.now }
-    ensures named { IfSome result (λ tool. name_of tool ≡ name.now) }
-{
-    for tool in tools {
-        if tool.name().as_bytes() == name {
-            return Some(*tool);
-        }
-    }
-    None
 }

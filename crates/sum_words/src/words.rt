@@ -65,6 +65,7 @@ impl<A: Allocator> Words<A> {
 
     /// Adds a word that can be read ([`is_readable`]) at the end. `NoRoom` where memory is refused; the list is then as
     /// it was.
+    #[tactic(auto, using(crate::proofs::PieceLemmas::pushed))]
     pub fn add_bytes(&mut self, word: &[u8]) -> Result<(), NoRoom>
         requires { is_readable word.now ≡ true }
         ensures ok { OnOk result (self.new ≡ self.old ++ word.now ∷ []) }
@@ -131,6 +132,7 @@ impl<'a> LentWords<'a> {
 }
 
 // The piece of the bytes at a place, `None` past the last.
+#[tactic(auto, using(crate::proofs::PieceLemmas::piece_read))]
 fn piece_at<'a>(bytes: &'a [u8], ends: &'a [usize], i: usize) -> Option<&'a [u8]>
     requires { CutsAt bytes.now 0 ends.now }
     ensures piece { option_copied result ≡ slice_get (pieces_cut bytes.now 0 ends.now) i }

@@ -1,5 +1,5 @@
 -- Joins the reading of the arguments to their list.
-use Rattle.std.specs.Prelude.{ℕ, ◌≡◌, ◌<◌, ◌⊎◌, true, false, List, ◌++◌, take, drop, length, slice_get, Option, None, Some, IfSome, IsSomeAnd, Result, Ok, Err, ⊤}
+use Rattle.std.specs.Prelude.{ℕ, ◌≡◌, ◌<◌, true, List, ◌++◌, take, drop, length, slice_get, Option, None, Some, IfSome, IsSomeAnd, Result, Ok, Err, ⊤}
 use Rattle.std.specs.List.{list_all}
 use Rattle.std.specs.Option.{option_and_then}
 use Rattle.std.specs.declared.env.FillError.{FillError}

@@ -1,7 +1,7 @@
 -- Joins the reader of the words to the request: what its running values say, and its answers.
 use Rattle.std.specs.Prelude.{ℕ, ◌≡◌, ◌≤◌, ◌^◌, ◌||◌, true, Bool, List, [], Option, None, Some, Result, Ok, Err, filter, option_map}
 use Rattle.std.specs.List.{last_or}
-use Rattle.std.specs.Option.{option_copied, option_and_then}
+use Rattle.std.specs.Option.{option_copied}
 use Rattle.std.specs.Str.Parse.{digits_value}
 use Rattle.sum_lines.specs.declared.line_format.Mode.{Mode}
 use Rattle.sum_lines.specs.declared.line_format.Mode.TheVariants as modes
@@ -42,7 +42,7 @@ IsThere flag earlier rest all = (has flag (options_of rest) || earlier) ≡ has 
 pub record IsChosenBy (c : Chosen) (rest all : List Item) : Type 0 where
   pub mode : last_after mode_flags (option_map mode_flag c.mode) (options_of rest)
       ≡ last_after mode_flags None (options_of all)
-  pub report : last_after report_flags (option_and_then report_flag c.report) (options_of rest)
+  pub report : last_after report_flags (report_flag c.report) (options_of rest)
       ≡ last_after report_flags None (options_of all)
   pub length : last_or (option_copied c.length) (values_of rest) ≡ last_or None (values_of all)
   pub binary : IsThere flags.Binary c.binary rest all

@@ -16,22 +16,16 @@ returns-in_err-end-clause-piece c =
 -- a piece begins before it ends
 pub slice_bounds-result-count : goal.slice_bounds-result-count
 slice_bounds-result-count c =
-    (piece_read c.args.bytes.now c.args.ends.now c.args.i c.start_of-start.ensures
-    c.in_ok-end.ensures.lookup.0 c.in_ok-end.ensures.lookup.1 c.requires).order
+    let looked = c.in_ok-end.ensures.lookup in
+    (piece_read c.args.bytes.now _ _ c.start_of-start.ensures looked.0 looked.1 c.requires).order
 
 pub slice_bounds-result-start : goal.slice_bounds-result-start
 slice_bounds-result-start c =
-    (piece_read c.args.bytes.now c.args.ends.now c.args.i c.start_of-start.ensures
-    c.in_ok-end.ensures.lookup.0 c.in_ok-end.ensures.lookup.1 c.requires).order
+    let looked = c.in_ok-end.ensures.lookup in
+    (piece_read c.args.bytes.now _ _ c.start_of-start.ensures looked.0 looked.1 c.requires).order
 
 -- and ends within the bytes
 pub slice_bounds-result-end : goal.slice_bounds-result-end
 slice_bounds-result-end c =
-    (piece_read c.args.bytes.now c.args.ends.now c.args.i c.start_of-start.ensures
-    c.in_ok-end.ensures.lookup.0 c.in_ok-end.ensures.lookup.1 c.requires).within
-
--- and the cut is the piece
-pub returns-clause-piece : goal.returns-clause-piece
-returns-clause-piece c =
-    sym (piece_read c.args.bytes.now c.args.ends.now c.args.i c.start_of-start.ensures
-    c.in_ok-end.ensures.lookup.0 c.in_ok-end.ensures.lookup.1 c.requires).piece
+    let looked = c.in_ok-end.ensures.lookup in
+    (piece_read c.args.bytes.now _ _ c.start_of-start.ensures looked.0 looked.1 c.requires).within

@@ -1,5 +1,5 @@
 use Rattle.std.proofs.Common.{◌≡◌, length, ◌∙◌}
-use Rattle.sum_words.proofs.PieceLemmas.{AreWords-push, pieces_cut-push}
+use Rattle.sum_words.proofs.PieceLemmas.{AreWords-push}
 use Rattle.sum_words.proofs.words.Words.add_bytes.Goals as goal
 
 -- with one more place the bytes still are words
@@ -8,11 +8,3 @@ invariant_of-self-in-Ok-push g c =
     let end : c.len.result ≡ length c.extend_from_slice.new.self.items =
     c.len.ensures ∙ c.extend_from_slice.new.self.ok.0 in
     rw (c.in-Ok-push.ensures.items, end, c.in-Ok.ensures.items) (AreWords-push _ _ _ c.requires c.self.invariant)
-
--- the word is the last piece
-pub returns-clause-ok : goal.returns-clause-ok
-returns-clause-ok g c =
-    let end : c.len.result ≡ length c.extend_from_slice.new.self.items =
-    c.len.ensures ∙ c.extend_from_slice.new.self.ok.0 in
-    rw (c.in-Ok-push.ensures.items, end, c.in-Ok.ensures.items, ← c.self.view_is)
-    (pieces_cut-push _ _ 0 _ c.self.invariant.cuts)
