@@ -41,10 +41,10 @@ pub record Kept {I : Type 0} (s : Inside I) : Type 0 where
   pub most : s.taken ≤ LIMIT
   pub wants : s.state ≡ Stopped stops.Memory → s.start < s.end
 
--- filling the empty buffer: what is still to come stays, and is nothing where the end was found
+-- filling the empty buffer: what is still to come stays, or nothing is, by the ending
 abbrev pub FillOf : Content → Content → Result Bool Fault → Type 0
 FillOf c d (Ok true) = d ≡ c
-FillOf c d (Ok false) = (d ≡ c) × (c ≡ empty_content)
+FillOf c d (Ok false) = c ≡ empty_content
 FillOf c d (Err f) = c ≡ record { bytes = []; ending = Broken f }
 
 -- a piece went from the front of the buffer to the line's end: up to a newline, which went too, or the whole buffer
