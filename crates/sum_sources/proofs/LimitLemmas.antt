@@ -25,14 +25,12 @@ clip_to-behind : (n k : ℕ) (prefix : List ℕ) (c : Content) → n ≡ length 
     → clip_to n (with_prefix prefix c) ≡ with_prefix prefix (clip_to k c)
 clip_to-behind n k prefix c sum some = elim (cases_lt (length c.bytes) k) [
   | inl short ↦
-      clip_to-short n (with_prefix prefix c) (omega (arith, length-append prefix c.bytes))
-      ∙ ap (with_prefix prefix) (sym (clip_to-short k c short))
+      rw (clip_to-short k c short)
+      (clip_to-short n (with_prefix prefix c) (omega (arith, length-append prefix c.bytes)))
   | inr long ↦
       let size : n - 1 ≡ length prefix + (k - 1) = omega arith in
-      let cut : take (n - 1) (prefix ++ c.bytes) ≡ prefix ++ take (k - 1) c.bytes =
-      rw size (take-append-add prefix c.bytes (k - 1)) in
       let longer : n ≤ length (prefix ++ c.bytes) = omega (arith, length-append prefix c.bytes) in
-      rw (clip_to-long n (with_prefix prefix c) longer, clip_to-long k c long, cut) refl
+      rw (clip_to-long n (with_prefix prefix c) longer, clip_to-long k c long, size, take-append-add) refl
 ]
 
 -- bytes that all count, or the end
