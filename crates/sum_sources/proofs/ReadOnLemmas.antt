@@ -1,7 +1,5 @@
 -- What was read of a line so far, and what reading on makes of it.
-use Rattle.std.proofs.Common.{◌≡◌, ℕ, true, false, List, [], ◌∷◌, ◌++◌}
-use Rattle.std.proofs.Common.{Option, None, Ok, refl, append_assoc}
-use Rattle.std.proofs.Common.{◌==◌}
+use Rattle.std.proofs.Common.{◌≡◌, ℕ, true, false, List, [], ◌∷◌, ◌++◌, Option, None, Ok, refl, append_assoc, ◌==◌}
 use Rattle.std.specs.Option.{option_map}
 use Rattle.std.proofs.lemmas.List.{append-nil}
 use Rattle.std.proofs.lemmas.List.Elements.{All-append}
@@ -10,8 +8,7 @@ use Rattle.sum_sources.specs.Contents.{Content, InputState, WhereTold}
 use Rattle.sum_sources.specs.Standard.{empty_content}
 use Rattle.sum_sources.specs.LineReaders.{Reader, coming}
 use Rattle.sum_sources.specs.refinement.LineStates.{TakesPiece}
-use Rattle.sum_sources.specs.ManifestLines.{NoNewline}
-use Rattle.sum_sources.specs.ManifestLines.{LineOf}
+use Rattle.sum_sources.specs.ManifestLines.{NoNewline, LineOf}
 use Rattle.std.specs.Str.Lines.{strip_carriage_return}
 use Rattle.sum_sources.proofs.ContentLemmas.{Gave}
 use Rattle.sum_sources.proofs.LineLemmas.{LineOf-ended}
