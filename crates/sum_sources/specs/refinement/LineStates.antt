@@ -1,4 +1,4 @@
--- Joins the line reader's fields to what its callers see of it, says what they keep, and joins its steps to one another.
+-- Joins the line reader's fields and steps to what its callers see of it, and says what the fields keep.
 use Rattle.std.specs.Prelude.{◌≡◌, ◌+◌, ◌-◌, ◌<◌, ◌≤◌, take, drop, Option, None, Some, Result, Ok, Err}
 use Rattle.std.specs.Prelude.{Bool, true, false, ℕ, List, [], ◌∷◌, ◌++◌}
 use Rattle.digest_kinds.specs.Limits.{LIMIT}
