@@ -4,58 +4,39 @@ use Rattle.std.specs.List.{All}
 use Rattle.std.proofs.lemmas.Bool.Decides.{eqb_tells}
 use Rattle.std.proofs.lemmas.List.Elements.{All-nil, All-cons, All-head, All-tail}
 use Rattle.sum_sources.specs.declared.fault.Ending.{Ending}
-use Rattle.sum_sources.specs.ManifestLines.{CutsInto, NoNewline, bytes_of_pieces, last_line, pieces}
+use Rattle.sum_sources.specs.ManifestLines.{NoNewline, bytes_of_pieces, last_line, pieces}
 use Rattle.sum_sources.proofs.LineLemmas.{pieces-newline, pieces-last}
 
 -- the bytes can be cut
-abbrev IsCut : List ℕ → Type 0
-IsCut bytes = (ended : List (List ℕ)) × (tail : List ℕ) × CutsInto bytes ended tail
+abbrev pub IsCut : List ℕ → Type 0
+IsCut bytes = (ended : List (List ℕ)) × (tail : List ℕ)
+    × (bytes ≡ bytes_of_pieces ended tail) × All NoNewline ended × NoNewline tail
 
 -- the byte is no newline
 abbrev IsPlain : ℕ → Type 0
 IsPlain b = (b == 10) ≡ false
 
 -- a byte that is no newline goes to the first piece
-cut_plain : (b : ℕ) (bs : List ℕ) (ended : List (List ℕ)) (tail : List ℕ) → IsPlain b → CutsInto bs ended tail
-    → IsCut (b ∷ bs)
-cut_plain b bs [] tail plain c = (
-  [],
-  b ∷ tail,
-  record {
-    bytes_are = ap (λ l. b ∷ l) c.bytes_are;
-    pieces_plain = c.pieces_plain;
-    tail_plain = All-cons IsPlain b tail plain c.tail_plain;
-  },
-)
-cut_plain b bs (p ∷ ps) tail plain c =
-    let longer : NoNewline (b ∷ p) = All-cons IsPlain b p plain (All-head NoNewline p ps c.pieces_plain) in (
-      (b ∷ p) ∷ ps,
-      tail,
-      record {
-        bytes_are = ap (λ l. b ∷ l) c.bytes_are;
-        pieces_plain = All-cons NoNewline (b ∷ p) ps longer (All-tail NoNewline p ps c.pieces_plain);
-        tail_plain = c.tail_plain;
-      },
-    )
+cut_plain : (b : ℕ) (bs : List ℕ) → IsPlain b → IsCut bs → IsCut (b ∷ bs)
+cut_plain b bs plain ([], tail, is, all, none) =
+    ([], b ∷ tail, ap (λ l. b ∷ l) is, all, All-cons IsPlain b tail plain none)
+cut_plain b bs plain (p ∷ ps, tail, is, all, none) =
+    let longer : NoNewline (b ∷ p) = All-cons IsPlain b p plain (All-head NoNewline p ps all) in
+    let rest : All NoNewline ps = All-tail NoNewline p ps all in
+    ((b ∷ p) ∷ ps, tail, ap (λ l. b ∷ l) is, All-cons NoNewline (b ∷ p) ps longer rest, none)
 
 -- so bytes with one more in front can be cut; a newline begins an empty piece
 cut_more : (b : ℕ) (bs : List ℕ) → IsCut bs → IsCut (b ∷ bs)
-cut_more b bs (ended, tail, c) = elim (eqb_tells b 10) [
-  | inl newline ↦ (
-    [] ∷ ended,
-    tail,
-    record {
-      bytes_are = rw newline.1 (ap (λ l. 10 ∷ l) c.bytes_are);
-      pieces_plain = All-cons NoNewline [] ended (All-nil IsPlain) c.pieces_plain;
-      tail_plain = c.tail_plain;
-    },
-  )
-  | inr other ↦ cut_plain b bs ended tail other.0 c
+cut_more b bs (ended, tail, is, all, none) = elim (eqb_tells b 10) [
+  | inl newline ↦
+      let more : All NoNewline ([] ∷ ended) = All-cons NoNewline [] ended (All-nil IsPlain) all in
+      ([] ∷ ended, tail, rw newline.1 (ap (λ l. 10 ∷ l) is), more, none)
+  | inr other ↦ cut_plain b bs other.0 (ended, tail, is, all, none)
 ]
 
 -- all bytes can be cut
-pub cut : (bytes : List ℕ) → (ended : List (List ℕ)) × (tail : List ℕ) × CutsInto bytes ended tail
-cut [] = ([], [], record { bytes_are = refl; pieces_plain = All-nil NoNewline; tail_plain = All-nil IsPlain })
+pub cut : (bytes : List ℕ) → IsCut bytes
+cut [] = ([], [], refl, All-nil NoNewline, All-nil IsPlain)
 cut (b ∷ bs) = cut_more b bs (cut bs)
 
 -- the pieces of bytes that were cut are those of the cut, and the last line

@@ -25,14 +25,12 @@ clip_to-behind : (n k : ℕ) (prefix : List ℕ) (c : Content) → n ≡ length 
     → clip_to n (with_prefix prefix c) ≡ with_prefix prefix (clip_to k c)
 clip_to-behind n k prefix c sum some = elim (cases_lt (length c.bytes) k) [
   | inl short ↦
-      clip_to-short n (with_prefix prefix c) (omega (arith, length-append prefix c.bytes))
-      ∙ ap (with_prefix prefix) (sym (clip_to-short k c short))
+      rw (clip_to-short k c short)
+      (clip_to-short n (with_prefix prefix c) (omega (arith, length-append prefix c.bytes)))
   | inr long ↦
       let size : n - 1 ≡ length prefix + (k - 1) = omega arith in
-      let cut : take (n - 1) (prefix ++ c.bytes) ≡ prefix ++ take (k - 1) c.bytes =
-      rw size (take-append-add prefix c.bytes (k - 1)) in
       let longer : n ≤ length (prefix ++ c.bytes) = omega (arith, length-append prefix c.bytes) in
-      rw (clip_to-long n (with_prefix prefix c) longer, clip_to-long k c long, cut) refl
+      rw (clip_to-long n (with_prefix prefix c) longer, clip_to-long k c long, size, take-append-add) refl
 ]
 
 -- bytes that all count, or the end
@@ -58,10 +56,6 @@ pub clipped-fault : (c d : Content) (f : Fault) (t : ℕ) → t < 2 ^ 61 → Rea
 clipped-fault c d f t few read =
     rw (read.2, clip_to-short (limit - t) c (rw (read.0, limit-value) (omega arith))) (read.0, read.1, refl)
 
--- what is left once a byte didn't count
-clip_to-none : (c : Content) → clip_to 0 c ≡ record { bytes = []; ending = Broken Other }
-clip_to-none c = clip_to-long 0 c (omega arith)
-
 -- the byte that doesn't count
 pub clipped-long : (c d : Content) (part : List ℕ) (n t : ℕ) → n ≤ length part → n ≡ 1 → t + n ≡ 2 ^ 61
     → ReadsFrom c d (Ok n) part
@@ -72,7 +66,7 @@ clipped-long c d part n t few one full read =
     let left : limit - t ≡ 1 = rw limit-value (omega arith) in
     let none : limit - (t + n) ≡ 0 = rw limit-value (omega arith) in
     let long : 1 ≤ length c.bytes = omega (arith, size, length-take-le n part few) in
-    rw (left, none, clip_to-long 1 c long, clip_to-none d) (refl, refl, refl)
+    rw (left, none, clip_to-long 1 c long, clip_to-long 0 d (omega arith)) (refl, refl, refl)
 
 -- nothing more is read then
 pub clipped-none : (x : Option Content) (t : ℕ) → t ≡ 2 ^ 61
@@ -80,4 +74,4 @@ pub clipped-none : (x : Option Content) (t : ℕ) → t ≡ 2 ^ 61
 clipped-none None t full = tt
 clipped-none (Some c) t full =
     let none : limit - t ≡ 0 = rw limit-value (omega arith) in
-    rw (none, clip_to-none c) (refl, refl, refl)
+    rw (none, clip_to-long 0 c (omega arith)) (refl, refl, refl)

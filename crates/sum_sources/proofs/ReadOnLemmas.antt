@@ -1,22 +1,17 @@
 -- What was read of a line so far, and what reading on makes of it.
-use Rattle.std.proofs.Common.{◌≡◌, ℕ, true, false, List, [], ◌∷◌, ◌++◌}
-use Rattle.std.proofs.Common.{Option, None, Ok, Err, refl, append_assoc}
-use Rattle.std.proofs.Common.{◌==◌}
+use Rattle.std.proofs.Common.{◌≡◌, ℕ, true, false, List, [], ◌∷◌, ◌++◌, Option, None, Ok, refl, append_assoc, ◌==◌}
 use Rattle.std.specs.Option.{option_map}
 use Rattle.std.proofs.lemmas.List.{append-nil}
 use Rattle.std.proofs.lemmas.List.Elements.{All-append}
-use Rattle.sum_sources.specs.declared.fault.Fault.{Fault}
 use Rattle.sum_sources.specs.declared.lines.Next.TheVariants.{Line}
-use Rattle.sum_sources.specs.declared.lines.LineStop.TheVariants as stops
 use Rattle.sum_sources.specs.Contents.{Content, InputState, WhereTold}
 use Rattle.sum_sources.specs.Standard.{empty_content}
 use Rattle.sum_sources.specs.LineReaders.{Reader, coming}
-use Rattle.sum_sources.specs.refinement.LineStates.{FillOf, TakesPiece}
-use Rattle.sum_sources.specs.ManifestLines.{NoNewline}
-use Rattle.sum_sources.specs.ManifestLines.{LineOf}
+use Rattle.sum_sources.specs.refinement.LineStates.{TakesPiece}
+use Rattle.sum_sources.specs.ManifestLines.{NoNewline, LineOf}
 use Rattle.std.specs.Str.Lines.{strip_carriage_return}
 use Rattle.sum_sources.proofs.ContentLemmas.{Gave}
-use Rattle.sum_sources.proofs.LineLemmas.{LineOf-ended, LineOf-fault}
+use Rattle.sum_sources.proofs.LineLemmas.{LineOf-ended}
 use Rattle.sum_sources.proofs.ToldLemmas.{WhereTold-map, WhereTold-remade, WhereTold-then}
 
 -- this much of a line came to a reader, and no newline with it: a record, so that antt finds what it speaks of
@@ -54,23 +49,20 @@ ends_line {state = state} {old = old} {s' = s'} {line = line} h same (piece, pla
     LineOf-ended c d (line ++ piece) (All-append (λ b. (b == 10) ≡ false) line piece h.plain plain)
     (rw (append_assoc line piece (10 ∷ [])) gave)) (took (piece ++ 10 ∷ []) h same (rw append_assoc cut)))
 
--- the input's end ends the line, or leaves none
+-- the line is all that came, where just this is still to come
+pub all_came : {I : Type 0} {state : I → InputState} {old s : Reader I} {line : List ℕ} (y : Option Content)
+    (rest : Content) → LineSoFar state old s line → WhereTold (coming state s) y (λ c d. c ≡ rest)
+    → WhereTold (coming state old) y (λ c d. Gave c rest line)
+all_came {state = state} {old = old} {s = s} {line = line} y rest h is =
+    WhereTold-then (coming state old) (coming state s) y {R = λ c d. Gave c rest line}
+    (λ c d e came is. rw is at came) h.came is
+
+-- so the input's end ends the line, or leaves none
 pub ends_last : {I : Type 0} {state : I → InputState} {old s : Reader I} {line : List ℕ}
     (z : Option Content) (f : Content → Content) (Q : Content → Content → Type 0) → LineSoFar state old s line
-    → WhereTold (coming state s) (option_map f z) (λ c d. FillOf c d (Ok false))
+    → WhereTold (coming state s) (option_map f z) (λ c d. c ≡ empty_content)
     → ((c : Content) → Gave c empty_content line → Q c empty_content)
     → WhereTold (coming state old) (option_map (λ _. empty_content) z) Q
-ends_last {state = state} {old = old} {s = s} {line = line} z f Q h ended all =
-    WhereTold-remade (coming state old) z f (λ _. empty_content) (λ c _. Gave c empty_content line) Q (λ c d. all c)
-    (WhereTold-then (coming state old) (coming state s) (option_map f z) {R = λ c _. Gave c empty_content line}
-    (λ c d e came end. rw end.1 at came) h.came ended)
-
--- a fault of the input ends the line
-pub ends_by_fault : {I : Type 0} {state : I → InputState} {old s : Reader I} {line : List ℕ}
-    (s' : Reader I) (f : Fault) → LineSoFar state old s line
-    → WhereTold (coming state s) (coming state s') (λ c d. FillOf c d (Err f))
-    → WhereTold (coming state old) (coming state s') (λ c d. LineOf c d (Err (stops.Fault f)) [])
-ends_by_fault {state = state} {old = old} {s = s} {line = line} s' f h broke =
-    WhereTold-then (coming state old) (coming state s) (coming state s')
-    {Q = λ c d. FillOf c d (Err f)} {R = λ c d. LineOf c d (Err (stops.Fault f)) []}
-    (λ c d e came is. LineOf-fault c e f line h.plain (rw is at came)) h.came broke
+ends_last {state = state} {old = old} {line = line} z f Q h ended all =
+    WhereTold-remade (coming state old) z f (λ _. empty_content) (λ c d. Gave c empty_content line) Q (λ c d. all c)
+    (all_came (option_map f z) empty_content h ended)

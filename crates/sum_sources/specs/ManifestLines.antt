@@ -37,12 +37,6 @@ NoNewline piece = All (λ b. (b == 10) ≡ false) piece
 abbrev pub bytes_of_pieces : List (List ℕ) → List ℕ → List ℕ
 bytes_of_pieces ended tail = flat_map (λ piece. piece ++ 10 ∷ []) ended ++ tail
 
--- the bytes are cut at every newline into these pieces and the tail
-pub record CutsInto (bytes : List ℕ) (ended : List (List ℕ)) (tail : List ℕ) : Type 0 where
-  pub bytes_are : bytes ≡ bytes_of_pieces ended tail
-  pub pieces_plain : All NoNewline ended
-  pub tail_plain : NoNewline tail
-
 -- what next_line answers: the first line, with what stands past it still to come; or that none is left, by the ending;
 -- or that it wants memory, only where something is still to come
 abbrev pub LineOf : Content → Content → Result Next LineStop → List ℕ → Type 0

@@ -31,7 +31,7 @@ refusals_after n _ = n
 abbrev pub AsksName : Telling → Telling → List ℕ → Option Reply → Type 0
 AsksName s t name reply = (t ≡ record s { asked = s.asked ++ name ∷ [] }) × (reply ≡ Some (s.answer name))
 
--- opening a name changes nothing for want of memory; else it is asked, and its reply is the file's content or the fault
+-- opening a name: the same is told for want of memory; else it was asked, and its reply is the file's content or fault
 abbrev pub Opens : {F : Type 0} → (F → InputState) → Telling → Telling → List ℕ → Result F OpenFault → Type 0
 Opens state s t name (Ok file) = AsksName s t name (option_map Given (state file).content)
 Opens state s t name (Err (faults.Fault f)) = AsksName s t name (Some (Refused f))

@@ -127,8 +127,6 @@ impl<I: Input> LineReader<I> {
         ensures gives { WhereTold (coming I.state self.old) (coming I.state self.new)
             (λ c d. FillOf c d result) }
         ensures more { result ≡ Ok true → self.old.taken < self.new.taken }
-        ensures none { result ≡ Ok false → self.new.ahead ≡ [] }
-        ensures few { IfOk result (λ _. self.new.taken < LIMIT) }
         ensures used { IfOk result (λ _. used self.new ≡ used self.old) }
         ensures input { WhereTold (I.state self.old.input).content (I.state self.new.input).content
             (λ c d. self.new.taken + length d.bytes ≡ self.old.taken + length c.bytes) }

@@ -1,4 +1,4 @@
--- Joins the line reader's fields to what its callers see of it, says what they keep, and joins its steps to one another.
+-- Joins the line reader's fields and steps to what its callers see of it, and says what the fields keep.
 use Rattle.std.specs.Prelude.{◌≡◌, ◌+◌, ◌-◌, ◌<◌, ◌≤◌, take, drop, Option, None, Some, Result, Ok, Err}
 use Rattle.std.specs.Prelude.{Bool, true, false, ℕ, List, [], ◌∷◌, ◌++◌}
 use Rattle.digest_kinds.specs.Limits.{LIMIT}
@@ -41,10 +41,10 @@ pub record Kept {I : Type 0} (s : Inside I) : Type 0 where
   pub most : s.taken ≤ LIMIT
   pub wants : s.state ≡ Stopped stops.Memory → s.start < s.end
 
--- filling the empty buffer: what is still to come stays, and is nothing where the end was found
+-- filling the empty buffer: what is still to come stays, or nothing is, by the ending
 abbrev pub FillOf : Content → Content → Result Bool Fault → Type 0
 FillOf c d (Ok true) = d ≡ c
-FillOf c d (Ok false) = (d ≡ c) × (c ≡ empty_content)
+FillOf c d (Ok false) = c ≡ empty_content
 FillOf c d (Err f) = c ≡ record { bytes = []; ending = Broken f }
 
 -- a piece went from the front of the buffer to the line's end: up to a newline, which went too, or the whole buffer

@@ -7,7 +7,7 @@ use Rattle.sum_sources.proofs.hashing.hash_input_over.Given as goal
 -- the hasher holds the bytes that the input has given
 abbrev pub invariant-loop-hasher : goal.invariant-loop-hasher
 invariant-loop-hasher g l = record {
-  held : (m : List ℕ) × g.H.Hasher.holds l.hasher m
+  came : (m : List ℕ) × g.H.Hasher.holds l.hasher m
       × WhereTold (g.I.Input.state l.fn.input).content (g.I.Input.state l.input).content
       (λ c d. Gave (clip c) (clip_to (limit - l.taken) d) m);
   taken : g.H.Hasher.taken_of l.hasher ≡ l.taken;

@@ -1,7 +1,8 @@
 use Rattle.std.proofs.Common.{rules, [], ◌≡◌}
 use Rattle.std.proofs.lemmas.List.{nil_from_length}
-use Rattle.sum_sources.proofs.LineLemmas.{LineOf-last, LineOf-none}
-use Rattle.sum_sources.proofs.ReadOnLemmas.{LineSoFar, LineSoFar-piece, ends_line, ends_last, ends_by_fault}
+use Rattle.sum_sources.proofs.LineLemmas.{LineOf-last, LineOf-none, LineOf-fault}
+use Rattle.sum_sources.proofs.ToldLemmas.{WhereTold-map}
+use Rattle.sum_sources.proofs.ReadOnLemmas.{LineSoFar, LineSoFar-piece, ends_line, all_came, ends_last}
 use Rattle.sum_sources.proofs.lines.LineReader.read_on.Given as given
 use Rattle.sum_sources.proofs.lines.LineReader.read_on.Goals as goal
 use Rattle.sum_sources.proofs.lines.LineReader.read_on.Goals.{In-Ok-false}
@@ -38,4 +39,4 @@ returns-in-Ok-false-fill-clause-gives g c =
 pub returns-in-Err-fill-clause-gives : goal.returns-in-Err-fill-clause-gives
 returns-in-Err-fill-clause-gives g c =
     let so_far = moved g (goal.at.returns-in-Err-fill-clause-gives g c).In-Ok-false in
-    ends_by_fault c.fill.new.self _ so_far c.in-Err-fill.ensures.gives
+    WhereTold-map _ _ (λ d e. LineOf-fault d e _ _ so_far.plain) (all_came _ _ so_far c.in-Err-fill.ensures.gives)
