@@ -6,11 +6,11 @@ use Rattle.std.specs.Fmt.{decimal}
 use Rattle.std.specs.List.{AllPass, find, range_with_len}
 use Rattle.std.specs.Option.{option_map}
 use Rattle.std.specs.Result.{result_ok}
-use Rattle.std.proofs.lemmas.Bool.{and_parts, and_from, cases_Bool, cases_lt, eqb-false, leb-true, le-leb, le-ltb, lt-ltb, ltb-true, ne_eqb, not-true, eqb-true}
+use Rattle.std.proofs.lemmas.Bool.{and_parts, and_from, cases_lt, eqb-false, leb-true, le-leb, le-ltb, lt-ltb, ltb-true, ne_eqb, not-true, eqb-true}
 use Rattle.std.proofs.lemmas.Bool.Decides.{eqb_tells}
 use Rattle.std.proofs.lemmas.Fmt.{decimal_digit, decimal_injective, decimal-digits_value, digits_decimal, first_decimal, length-decimal-le}
 use Rattle.std.proofs.lemmas.List.Elements.{All-cons, All-head, All-tail, All-nil}
-use Rattle.std.proofs.lemmas.Option.{cond_some, same_Some}
+use Rattle.std.proofs.lemmas.Option.{cond_some}
 use Rattle.std.proofs.lemmas.Slice.Eq.{bytes_eq-Decides}
 use Rattle.std.proofs.lemmas.Str.Parse.{IsDigitsTest, IsNumeralModel, digits_value_short, numerals_by_fold}
 use Rattle.digest_kinds.specs.Kinds.{KindValue, blake2b_kind, has_len, full_len}
@@ -34,26 +34,13 @@ has_len-range a n h = let e : n ≡ full_len a = eqb-true n (full_len a) h in (o
 -- what is found passes
 found-range : (p : ℕ → Bool) (a n i : ℕ) → find p (range_with_len a n) ≡ Some i → (a ≤ i) × (i < a + n) × (p i ≡ true)
 found-range p a zero i h = cc
-found-range p a (suc n) i h = elim (cases_Bool (p a)) [
-  | inl here ↦
-      let same : a ≡ i = same_Some a i (rw here at h) in
-      rw (← same) (omega arith, omega arith, here)
-  | inr other ↦
-      let more = found-range p (a + 1) n i (rw other at h) in
-      (omega (arith, more.0), omega (arith, more.1), more.2)
-]
+found-range p a (suc n) i h = grind (arith, found-range p (a + 1) n i)
 
 -- and where no other passes, it is found
 range-found : (p : ℕ → Bool) (a n i : ℕ) → a ≤ i → i < a + n → p i ≡ true
     → ((k : ℕ) → k < a + n → p k ≡ true → k ≡ i) → find p (range_with_len a n) ≡ Some i
 range-found p a zero i low high pass one = absurd (omega (arith, low, high))
-range-found p a (suc n) i low high pass one = elim (cases_Bool (p a)) [
-  | inl here ↦ rw here (ap Some (one a (omega arith) here))
-  | inr other ↦
-      let differs : a ≢ i = λ same. let bad = sym (rw same at other) ∙ pass in cc in
-      rw other (range-found p (a + 1) n i (omega (arith, differs, low)) (omega (arith, high)) pass
-      (λ k less. one k (omega (arith, less))))
-]
+range-found p a (suc n) i low high pass one = grind (arith, range-found p (a + 1) n i, one)
 
 -- ---- digits and the kind that they give
 

@@ -1,8 +1,8 @@
 -- The escape of a list of bytes, cut where its first special byte stands: a backslash, a newline or a carriage return.
-use Rattle.std.proofs.Common.{◌≡◌, ◌⊎◌, inl, inr, add-zero, ℕ, zero, suc, ◌+◌, ◌-◌, ◌<◌, ◌≤◌, Bool, true, false, not, ◌==◌, List, [], ◌∷◌, ◌++◌, length, take, drop, get_or, Option, None, Some, MatchOption, refl, ap, sym, ◌∙◌, arith, is_some, bytes_eq, length-append, length-drop, lit≤}
+use Rattle.std.proofs.Common.{◌≡◌, ◌⊎◌, inl, inr, ℕ, zero, suc, ◌+◌, ◌-◌, ◌<◌, ◌≤◌, Bool, true, false, not, ◌==◌, List, [], ◌∷◌, ◌++◌, length, take, drop, get_or, Option, None, Some, MatchOption, refl, ap, sym, ◌∙◌, arith, is_some, bytes_eq, length-append, length-drop, lit≤}
 use Rattle.std.proofs.lemmas.Bool.{cases_Bool}
-use Rattle.std.proofs.lemmas.List.{get_or-drop, drop-drop, take-append-drop, take_rest, drop_more, length-take-le}
-use Rattle.std.proofs.lemmas.Grind.{flat_map-append}
+use Rattle.std.proofs.lemmas.List.{length-take-le}
+use Rattle.std.proofs.lemmas.Grind.{flat_map-append, common_steps}
 use Rattle.std.proofs.lemmas.Slice.Eq.{bytes_eq-Decides}
 use Rattle.std.proofs.Math.Seq.{take-length}
 use Rattle.memchr.specs.Find.{Nowhere, Passes, IsFirstByte, is_byte3}
@@ -47,8 +47,7 @@ pub escape-split : (xs : List ℕ) (k : ℕ) → k < length xs → Nowhere (Pass
 escape-split xs k lt none =
     let byte = get_or xs k 0 in
     let rest : List ℕ = drop (k + 1) xs in
-    let cut : xs ≡ take k xs ++ (byte ∷ rest) =
-    sym (take-append-drop k xs) ∙ ap (λ l. take k xs ++ l) (drop_more xs k 0 lt) in
+    let cut : xs ≡ take k xs ++ (byte ∷ rest) = grind (arith, common_steps) in
     ap escape cut
     ∙ flat_map-append (escape_of present) (take k xs) (byte ∷ rest)
     ∙ ap (λ l. l ++ (escape_of present byte ++ escape rest)) (escape-plain xs k (omega arith) none)
@@ -70,11 +69,7 @@ escape-cut xs (Some k) first = escape-split xs k first.0.high first.0.before
 pub escape-parts : {prefix back : List ℕ} (xs : List ℕ) (k : ℕ) → prefix ≡ take k xs → back ≡ drop k xs
     → escape xs ≡ take k xs ++ (escape_of present (get_or xs k 0) ++ escape (drop (k + 1) xs))
     → escape xs ≡ prefix ++ (escape_of present (get_or back 0 0) ++ escape (take (length back - 1) (drop 1 back)))
-escape-parts {back = back} xs k prefix_is back_is cut =
-    let rest : take (length back - 1) (drop 1 back) ≡ drop (k + 1) xs =
-    take_rest back 1 ∙ ap (drop 1) back_is ∙ drop-drop 1 k xs in
-    let byte : get_or back 0 0 ≡ get_or xs k 0 = rw (back_is, get_or-drop k xs 0 0, add-zero) refl in
-    rw (prefix_is, byte, rest) cut
+escape-parts xs k prefix_is back_is cut = grind (arith, common_steps)
 
 -- an escape is no shorter than its name
 pub length-escape : (xs : List ℕ) → length xs ≤ length (escape xs)
