@@ -6,7 +6,7 @@ use Rattle.std.specs.Result.{result_ok}
 use Rattle.std.specs.Path.{rsplit_once, rfind_below}
 use Rattle.std.proofs.Math.Seq.{get_or-append_seam}
 use Rattle.std.proofs.lemmas.Bool.{cases_Bool, ne_eqb}
-use Rattle.std.proofs.lemmas.Bool.Decides.{Decides-eqb, eqb_tells}
+use Rattle.std.proofs.lemmas.Bool.Decides.{Decides-eqb}
 use Rattle.std.proofs.lemmas.List.{take-append-drop, take_at, drop_at, get_or-append_right}
 use Rattle.std.proofs.lemmas.List.Sums.{take_while-cons}
 use Rattle.std.proofs.lemmas.List.Elements.{All-cons, All-get_or, All-head, All-tail, All-nil}
@@ -85,11 +85,7 @@ parts-at p xs y ys all stop =
 
 -- a line's text is its backslash, where it has one, and what stands behind that
 pub mark_and_rest-is : (xs : List ℕ) → xs ≡ mark (mark_and_rest xs).0 ++ (mark_and_rest xs).1
-mark_and_rest-is [] = refl
-mark_and_rest-is (x ∷ xs) = elim (eqb_tells x 92) [
-  | inl same ↦ rw same.1 refl
-  | inr other ↦ rw other.0 refl
-]
+mark_and_rest-is xs = grind arith
 
 -- what was passed over stood in front
 pub strip_prefix-some : (xs ys zs : List ℕ) → strip_prefix xs ys ≡ Some zs → ys ≡ xs ++ zs

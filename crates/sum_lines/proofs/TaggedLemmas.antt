@@ -1,6 +1,6 @@
 -- What is read of a tagged line joins to the line, and a line that joins from the parts of a tagged line is read as these
 -- parts.
-use Rattle.std.proofs.Common.{ℕ, ◌≡◌, Bool, true, ◌==◌, ◌&&◌, List, [], ◌∷◌, ◌++◌, length, drop, Some, refl, ap, inl, inr, ◌≢◌, ◌*◌, false, eq-eqb, sym, ◌∙◌, arith}
+use Rattle.std.proofs.Common.{ℕ, ◌≡◌, Bool, true, ◌==◌, ◌&&◌, List, [], ◌∷◌, ◌++◌, length, drop, Some, refl, ap, inl, inr, ◌≢◌, ◌*◌, false, eq-eqb, ◌∙◌, arith}
 use Rattle.std.specs.Prelude.{nat_lt}
 use Rattle.std.specs.Char.{is_ascii_digit}
 use Rattle.std.specs.List.{starts_with, take_while, All, AllPass, prefix_len}
@@ -169,10 +169,7 @@ mark_and_rest-prefix blanks false xs rest are b =
 
 -- a byte that passes a test isn't one that doesn't
 pub passes-other : (test : ℕ → Bool) (c x : ℕ) → test x ≡ true → test c ≡ false → (x == c) ≡ false
-passes-other test c x pass stop = elim (eqb_tells x c) [
-  | inl same ↦ let bad = sym (rw same.1 at pass) ∙ stop in cc
-  | inr other ↦ other.0
-]
+passes-other test c x pass stop = grind arith
 
 -- a digit is no blank
 pub hex-no_blank : (x : ℕ) → is_hex_digit x ≡ true → is_blank x ≡ false

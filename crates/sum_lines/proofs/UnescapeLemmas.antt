@@ -1,9 +1,8 @@
 -- What is escaped can be read back: the name whose escape some bytes are, as it is computed, and as the code finds it.
-use Rattle.std.proofs.Common.{◌≡◌, ℕ, ◌<◌, ◌==◌, ◌&&◌, Bool, true, false, cond, List, [], ◌∷◌, ◌++◌, Some, refl, ap, sym, ◌∙◌, inl, inr, ◌≢◌, ◌+◌, ◌-◌, ◌≤◌, length, take, drop, set, append_assoc, arith, length-set, length-drop}
+use Rattle.std.proofs.Common.{◌≡◌, ℕ, ◌<◌, ◌==◌, Bool, true, false, cond, List, [], ◌∷◌, ◌++◌, Some, refl, ap, sym, ◌∙◌, ◌≢◌, ◌+◌, ◌-◌, ◌≤◌, length, take, drop, set, append_assoc, arith, length-set, length-drop}
 use Rattle.std.specs.List.{All, list_all}
 use Rattle.std.specs.Prelude.{nat_lt, bytes_eq}
-use Rattle.std.proofs.lemmas.Bool.{lt-ltb, ltb-true, and_parts, eqb-true, cases_Bool}
-use Rattle.std.proofs.lemmas.Bool.Decides.{eqb_tells}
+use Rattle.std.proofs.lemmas.Bool.{lt-ltb, ltb-true}
 use Rattle.std.proofs.lemmas.List.{append-nil, append_cancel_left, length-take-le, drop-drop, take-take, take-append-le, take_more_set, drop-set-lt}
 use Rattle.std.proofs.lemmas.Option.{cond_some}
 use Rattle.std.proofs.lemmas.List.Elements.{All-weaker}
@@ -20,28 +19,13 @@ use Rattle.std.proofs.Math.Seq.{take-append-add}
 
 -- a byte that stands for itself
 plain-first : (b : ℕ) (rest : List ℕ) → (b == 92) ≡ false → unescaped_bytes (b ∷ rest) ≡ b ∷ unescaped_bytes rest
-plain-first b [] h = refl
-plain-first b (c ∷ cs) h = rw h refl
+plain-first b rest h = grind arith
 
 -- unescaping what is escaped gives the name, and goes on behind it
 pub unescaped_bytes-behind : (p : Profile) (n rest : List ℕ)
     → unescaped_bytes (escape_by p n ++ rest) ≡ n ++ unescaped_bytes rest
 unescaped_bytes-behind p [] rest = refl
-unescaped_bytes-behind p (b ∷ bs) rest = let more = unescaped_bytes-behind p bs rest in elim (eqb_tells b 92) [
-  | inl same ↦ rw same.1 (ap (λ l. 92 ∷ l) more)
-  | inr backslash ↦ elim (eqb_tells b 10) [
-    | inl same ↦ rw same.1 (ap (λ l. 10 ∷ l) more)
-    | inr newline ↦ elim (cases_Bool (p.escapes_return && (b == 13))) [
-      | inl return ↦
-          let is : b ≡ 13 = eqb-true b 13 (and_parts p.escapes_return (b == 13) return).1 in
-          let one : escape_of p b ≡ 92 ∷ 114 ∷ [] = rw (backslash.0, newline.0, return) refl in
-          rw (one, is) (ap (λ l. 13 ∷ l) more)
-      | inr return ↦
-          let one : escape_of p b ≡ b ∷ [] = rw (backslash.0, newline.0, return) refl in
-          rw (one, plain-first b (escape_by p bs ++ rest) backslash.0) (ap (λ l. b ∷ l) more)
-    ]
-  ]
-]
+unescaped_bytes-behind p (b ∷ bs) rest = grind (arith, append_assoc, unescaped_bytes-behind p bs rest, plain-first)
 
 -- up to its end
 pub unescaped_bytes-escape : (p : Profile) (n : List ℕ) → unescaped_bytes (escape_by p n) ≡ n
