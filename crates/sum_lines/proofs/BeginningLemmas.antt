@@ -2,7 +2,7 @@
 -- text among as many bytes as the longest digest has digits.
 use Rattle.std.proofs.Common.{ℕ, ◌≡◌, ◌*◌, ◌<◌, ◌≤◌, Bool, ◌==◌, List, ◌∷◌, length, take, get_or, min, None, Some, sym, arith, ◌+◌, ◌-◌, ◌/◌, true, cond, ◌++◌, drop, Option, Ok, IfNone, IfSome, refl, ap, ◌∙◌, length-drop}
 use Rattle.std.specs.List.{position_or_len, starts_with}
-use Rattle.std.proofs.lemmas.Bool.{eqb-true, lt-ltb, false_from_ne_true}
+use Rattle.std.proofs.lemmas.Bool.{lt-ltb, false_from_ne_true}
 use Rattle.std.proofs.lemmas.List.{get_or-take, length-take, take_rest}
 use Rattle.std.proofs.lemmas.List.Sums.{passes_at_first, position_or_len_is}
 use Rattle.memchr.specs.Find.{IsFirstByte, is_byte2}
@@ -83,8 +83,7 @@ tag-parts {s = s} {front = front} line o is tag_is found parts =
 
 -- an algorithm other than BLAKE2b has digests of one length
 has_len-fixed : (a : Algo) (n : ℕ) → (a ≡ Blake2b → ⊥) → has_len a n ≡ true → n ≡ full_len a
-has_len-fixed Blake2b n other h = absurd (other refl)
-has_len-fixed a n other h = eqb-true n (full_len a) h
+has_len-fixed a n other h = grind arith
 
 -- so its digits are as many
 pub fixed-len : (a : Algo) (s : List ℕ) (n : ℕ) → (a ≡ Blake2b → ⊥) → n ≡ 2 * full_len a → EndsAt a s n

@@ -1,33 +1,30 @@
 -- The bits that a BLAKE2b tag may carry: the digits that the code takes are those of `decimal`.
-use Rattle.std.proofs.Common.{ℕ, zero, suc, ◌≡◌, ◌≢◌, ◌+◌, ◌*◌, ◌/◌, ◌%◌, ◌<◌, ◌≤◌, not, ◌&&◌, Bool, true, false, ◌==◌, List, [], ◌∷◌, length, get_or, None, Some, refl, ap, sym, ◌∙◌, arith, inl, inr, nat_le}
+use Rattle.std.proofs.Common.{ℕ, zero, suc, ◌≡◌, ◌≢◌, ◌+◌, ◌*◌, ◌/◌, ◌%◌, ◌<◌, ◌≤◌, not, ◌&&◌, Bool, true, false, ◌==◌, List, [], ◌∷◌, length, get_or, None, Some, refl, ap, sym, ◌∙◌, arith, inl, inr}
 use Rattle.std.specs.Prelude.{bytes_eq, nat_lt}
 use Rattle.std.specs.Char.{is_ascii_digit}
 use Rattle.std.specs.Fmt.{decimal}
 use Rattle.std.specs.List.{AllPass, find, range_with_len}
 use Rattle.std.specs.Option.{option_map}
 use Rattle.std.specs.Result.{result_ok}
-use Rattle.std.proofs.lemmas.Bool.{and_parts, and_from, cases_lt, eqb-false, leb-true, le-leb, le-ltb, lt-ltb, ltb-true, ne_eqb, not-true, eqb-true}
+use Rattle.std.proofs.lemmas.Bool.{and_parts, and_from, cases_lt, eqb-false, leb-true, le-leb, le-ltb, lt-ltb, ltb-true, ne_eqb, not-true}
 use Rattle.std.proofs.lemmas.Bool.Decides.{eqb_tells}
 use Rattle.std.proofs.lemmas.Fmt.{decimal_digit, decimal_injective, decimal-digits_value, digits_decimal, first_decimal, length-decimal-le}
 use Rattle.std.proofs.lemmas.List.Elements.{All-cons, All-head, All-tail, All-nil}
 use Rattle.std.proofs.lemmas.Option.{cond_some}
 use Rattle.std.proofs.lemmas.Slice.Eq.{bytes_eq-Decides}
 use Rattle.std.proofs.lemmas.Str.Parse.{IsDigitsTest, IsNumeralModel, digits_value_short, numerals_by_fold}
-use Rattle.digest_kinds.specs.Kinds.{KindValue, blake2b_kind, has_len, full_len}
+use Rattle.digest_kinds.specs.Kinds.{KindValue, blake2b_kind, has_len}
 use Rattle.digest_kinds.specs.Lengths.{blake2b_of_bits}
 use Rattle.sum_lines.specs.PartsOfLines.{kind_at}
 use Rattle.sum_lines.specs.refinement.Found.{number_after, number_of}
 use Rattle.sum_lines.proofs.PrefixLemmas.{map_some, none_of}
 use Rattle.digest_kinds.specs.declared.algo.Algo.{Algo}
-use Rattle.digest_kinds.specs.declared.algo.Algo.TheVariants.{Blake2b}
 
 -- ---- lengths
 
 -- each digest has 1 to 64 bytes
 pub has_len-range : (a : Algo) (n : ℕ) → has_len a n ≡ true → (0 < n) × (n ≤ 64)
-has_len-range Blake2b n h = let range = and_parts (nat_le 1 n) (nat_le n 64) h in
-    (leb-true 1 n range.0, leb-true n 64 range.1)
-has_len-range a n h = let e : n ≡ full_len a = eqb-true n (full_len a) h in (omega arith, omega arith)
+has_len-range a n h = grind arith
 
 -- ---- the one number in a range that passes
 
@@ -149,9 +146,7 @@ number-kind (d ∷ ds) v all h =
 
 -- and where it makes none, no number of bits is written so
 number-there : (ds : List ℕ) → 48 < get_or ds 0 0 → length ds ≤ 3 → number_of ds ≡ None → ⊥
-number-there [] lead few h = absurd (omega (arith, lead))
-number-there (d ∷ ds) lead few h =
-    let bad = rw (ne_eqb d 48 (λ e. omega (arith, lead, e)), lt-ltb (length ds) 3 (omega (arith, few))) at h in cc
+number-there ds lead few h = grind arith
 
 -- so its digits give no kind
 pub number-none : (ds : List ℕ) → number_of ds ≡ None → None ≡ kind_at ds

@@ -13,7 +13,6 @@ use Rattle.hex.specs.Hex.{decode_of, is_hex_digit}
 use Rattle.hex.proofs.HexLemmas.{decode_of-ok}
 use Rattle.digest_kinds.specs.Kinds.{KindValue, has_len, tag}
 use Rattle.digest_kinds.specs.declared.algo.Algo.{Algo}
-use Rattle.digest_kinds.specs.declared.algo.Algo.TheVariants.{Md5, Blake2b}
 use Rattle.digest_kinds.specs.declared.algo.Algos.{Algos}
 use Rattle.digest_kinds.specs.declared.algo.Algos.TheVariants.{One, Any}
 use Rattle.sum_lines.specs.Shapes.{is_blank, Plain, Tagged}
@@ -148,9 +147,7 @@ plain_is_read p t =
 -- no two digits begin a tag
 no_digits : (a : Algo) (x y : ℕ) (xs rest : List ℕ) → is_hex_digit x ≡ true → is_hex_digit y ≡ true
     → x ∷ y ∷ xs ≡ tag a ++ rest → ⊥
-no_digits Md5 x y xs rest h k e = let same : x ≡ 77 = cc in let bad = rw same at h in cc
-no_digits Blake2b x y xs rest h k e = let same : y ≡ 76 = cc in let bad = rw same at k in cc
-no_digits sha x y xs rest h k e = let same : x ≡ 83 = cc in let bad = rw same at h in cc
+no_digits a x y xs rest h k e = grind arith
 
 -- so a plain line's digits begin none
 pub no_prefix : (a : Algo) (ds s rest : List ℕ) → AllPass is_hex_digit ds → 2 ≤ length ds → ds ++ s ≡ tag a ++ rest → ⊥

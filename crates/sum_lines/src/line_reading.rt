@@ -83,6 +83,7 @@ pub fn read_line<A: Allocator>(algos: Algos, form: Form, line: &mut Vec<u8, A>) 
 // Reads a line that isn't ignored and begins so, which most bad ones don't. A call of its own, since it clears room for
 // all that an entry holds.
 #[inline(never)]
+#[tactic(auto, unfolding(crate::specs::ParsedLines::entry_of))]
 fn read_begun<A: Allocator>(
     algos: Algos,
     form: Form,
