@@ -128,10 +128,10 @@ bits-kind v some few =
     ]
 
 -- a number that the code makes of digits is the one that they write
-pub number-kind : (ds : List ℕ) (v : ℕ) → AllPass is_ascii_digit ds → number_of ds ≡ Some v
+pub number_kind : (ds : List ℕ) (v : ℕ) → AllPass is_ascii_digit ds → number_of ds ≡ Some v
     → result_ok (blake2b_of_bits v) ≡ kind_at ds
-number-kind [] v all h = cc
-number-kind (d ∷ ds) v all h =
+number_kind [] v all h = cc
+number_kind (d ∷ ds) v all h =
     let is = cond_some (not (d == 48) && nat_lt (length ds) 3) (number_after 0 (d ∷ ds)) v h in
     let fits = and_parts (not (d == 48)) (nat_lt (length ds) 3) is.0 in
     let lead = eqb-false d 48 (not-true (d == 48) fits.0) in
@@ -149,8 +149,8 @@ number-there : (ds : List ℕ) → 48 < get_or ds 0 0 → length ds ≤ 3 → nu
 number-there ds lead few h = grind arith
 
 -- so its digits give no kind
-pub number-none : (ds : List ℕ) → number_of ds ≡ None → None ≡ kind_at ds
-number-none ds h = kind_at-none ds (λ len some few is.
+pub number_none : (ds : List ℕ) → number_of ds ≡ None → None ≡ kind_at ds
+number_none ds h = kind_at-none ds (λ len some few is.
     let bits : 8 * len < 1000 = omega (arith, few) in
     number-there (decimal (8 * len)) (first_decimal (8 * len) (omega (arith, some)) (omega (arith, bits)))
     (length-decimal-le 3 (8 * len) (omega arith) bits (omega (arith, bits))) (rw is at h))

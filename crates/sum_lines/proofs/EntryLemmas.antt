@@ -98,8 +98,8 @@ decides-or algos line = go (plain_parts algos line) refl
     })
 
 -- an ignored line is not plain, and has no form
-pub ignored-mute : (algos : Algos) (line : List ℕ) → is_ignored line ≡ true → line_form algos line ≡ Undecided
-ignored-mute algos line ignored = ap form_by (sym (none_of (plain_parts algos line) (λ p h.
+pub ignored_mute : (algos : Algos) (line : List ℕ) → is_ignored line ≡ true → line_form algos line ≡ Undecided
+ignored_mute algos line ignored = ap form_by (sym (none_of (plain_parts algos line) (λ p h.
     let bad = sym ignored ∙ plain-speaks (read_is_plain h) in cc)))
 
 -- the computed form is one that the list has, and it has no other

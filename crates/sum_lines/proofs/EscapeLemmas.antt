@@ -44,11 +44,11 @@ escape-none xs none =
     rw (take-length xs) at whole
 
 -- what a search for the first special byte says
-pub escape-cut : (xs : List ℕ) (r : Option ℕ) → IsFirstByte (is_byte3 92 10 13) xs r
+pub escape_cut : (xs : List ℕ) (r : Option ℕ) → IsFirstByte (is_byte3 92 10 13) xs r
     → MatchOption r (escape xs ≡ xs)
     (λ k. escape xs ≡ take k xs ++ (escape_of present (get_or xs k 0) ++ escape (drop (k + 1) xs)))
-escape-cut xs None none = escape-none xs none
-escape-cut xs (Some k) first = escape-split xs k first.0.high first.0.before
+escape_cut xs None none = escape-none xs none
+escape_cut xs (Some k) first = escape-split xs k first.0.high first.0.before
 
 -- the same, of the two parts of a slice that was split there
 pub escape-parts : {prefix back : List ℕ} (xs : List ℕ) (k : ℕ) → prefix ≡ take k xs → back ≡ drop k xs
@@ -62,9 +62,9 @@ length-escape [] = omega arith
 length-escape (x ∷ xs) = grind (arith, length-append, length-escape xs)
 
 -- a name without a special byte is its own escape, and any other name is shorter than its escape
-pub escape-differs : (xs : List ℕ) (r : Option ℕ) → IsFirstByte (is_byte3 92 10 13) xs r → is_some r ≡ escape_differs xs
-escape-differs xs None none = ap not (sym ((bytes_eq-Decides (escape xs) xs).1 (escape-none xs none)))
-escape-differs xs (Some k) first =
+pub differs_by : (xs : List ℕ) (r : Option ℕ) → IsFirstByte (is_byte3 92 10 13) xs r → is_some r ≡ escape_differs xs
+differs_by xs None none = ap not (sym ((bytes_eq-Decides (escape xs) xs).1 (escape-none xs none)))
+differs_by xs (Some k) first =
     let rest : List ℕ = drop (k + 1) xs in
     let size = simp length-append at (ap length (escape-split xs k first.0.high first.0.before)) in
     ap not (sym (false_from_ne_true _ (λ same. omega (

@@ -66,9 +66,9 @@ digest_none s d n some few none spelled same =
 -- ---- where the parts stand in the line
 
 -- behind its blanks and its mark the line ends in its text
-pub text-ends : (line : List ℕ) (text : Bool × List ℕ) → text ≡ mark_and_rest (after_while is_blank line)
+pub text_ends : (line : List ℕ) (text : Bool × List ℕ) → text ≡ mark_and_rest (after_while is_blank line)
     → EndsIn line text.1
-text-ends line text is = (
+text_ends line text is = (
   take_while is_blank line ++ mark text.0,
   prefix-and-rest is_blank line ∙ ap (λ l. take_while is_blank line ++ l) (mark_and_rest-is (after_while is_blank line)
       ∙ ap (λ (x : Bool × List ℕ). mark x.0 ++ x.1) (sym is))

@@ -64,6 +64,7 @@ pub enum Reading {
 ///
 /// The digits are hexadecimal, in either case, and as many as the algorithm has, or the tag says. A name holds no NUL
 /// and isn't empty. Any other line is bad.
+#[tactic(auto, using(crate::proofs::EntryLemmas::ignored_mute))]
 pub fn read_line<A: Allocator>(algos: Algos, form: Form, line: &mut Vec<u8, A>) -> (Reading, Form)
     ensures form { result.1 ≡ form_then form (line_form algos line.old.items) }
     ensures says { parsed_line_by line.new.items result.0 ≡ parse_line present algos result.1 line.old.items }
@@ -184,6 +185,7 @@ fn read_name<A: Allocator>(line: &mut Vec<u8, A>, found: LineParts) -> Reading
 
 // Leaves the name that the bytes from that place on spell: what they are the escape of, behind a backslash, or else they
 // themselves. False where they are no escape.
+#[tactic(auto, using(crate::proofs::NameLemmas::unescaped))]
 fn unspell<A: Allocator>(line: &mut Vec<u8, A>, escaped: bool, start: usize) -> bool
     requires { start ≤ length line.old.items }
     ensures name { (if result then Some (drop start line.new.items) else None)
@@ -194,6 +196,7 @@ fn unspell<A: Allocator>(line: &mut Vec<u8, A>, escaped: bool, start: usize) -> 
     !escaped || unescape_in(line, start)
 }
 
+#[tactic(auto, using(crate::proofs::NameLemmas::no_nul))]
 fn has_nul(bytes: &[u8]) -> bool
     ensures { not result ≡ list_all (nat_lt 0) bytes.now }
 {

@@ -113,6 +113,7 @@ fn digits(s: &[u8]) -> usize
 }
 
 // BLAKE2b with as many bits as the digits write, a multiple of 8 up to 512.
+#[tactic(auto, using(crate::proofs::BitsLemmas::number_kind, crate::proofs::BitsLemmas::number_none))]
 fn kind_of_bits(digits: &[u8]) -> Option<Kind>
     requires { AllPass is_digit digits.now }
     ensures { result ≡ kind_at digits.now }
