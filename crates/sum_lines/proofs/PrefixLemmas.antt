@@ -1,5 +1,5 @@
 -- The longest prefix that passes, and what stands behind a text or a byte.
-use Rattle.std.proofs.Common.{ℕ, zero, suc, ◌≡◌, ◌≢◌, ◌+◌, ◌-◌, ◌<◌, ◌≤◌, Bool, true, false, ◌==◌, List, [], ◌∷◌, ◌++◌, length, take, drop, get_or, Option, None, Some, Result, Ok, Err, refl, ap, sym, ◌∙◌, arith, inl, inr, length-append}
+use Rattle.std.proofs.Common.{ℕ, zero, suc, ◌≡◌, ◌≢◌, ◌+◌, ◌<◌, ◌≤◌, Bool, true, false, ◌==◌, List, [], ◌∷◌, ◌++◌, length, take, drop, get_or, Option, None, Some, Result, Ok, Err, refl, ap, sym, ◌∙◌, arith, inl, inr, length-append}
 use Rattle.std.specs.List.{All, AllPass, prefix_len, starts_with, take_while}
 use Rattle.std.specs.Option.{option_map, option_or}
 use Rattle.std.specs.Result.{result_ok}
@@ -156,11 +156,8 @@ rest-seam (x ∷ xs) b ys = grind (arith, rest-seam xs b ys)
 
 -- behind a byte stands what follows it
 behind_seam : (xs : List ℕ) (c : ℕ) (ys : List ℕ) → All (λ x. x ≢ c) ys → (i : ℕ) → length xs < i
-    → i < length (xs ++ (c ∷ ys)) → get_or (c ∷ ys) (i - length xs) 0 ≢ c
-behind_seam xs c ys all i more less =
-    let at : i - length xs ≡ suc (i - (length xs + 1)) = omega (arith, more) in
-    rw at (All-get_or (λ x. x ≢ c) ys (i - (length xs + 1)) 0
-    (omega (arith, more, less, length-append xs (c ∷ ys))) all)
+    → i < length (xs ++ (c ∷ ys)) → get_or (xs ++ (c ∷ ys)) i 0 ≢ c
+behind_seam xs c ys all i more less = grind (arith, get_or-append_right, All-get_or, length-append)
 
 -- where what follows a byte has none of it, the split is there
 pub rsplit-at : (c : ℕ) (xs ys : List ℕ) → All (λ x. x ≢ c) ys → rsplit_once c (xs ++ (c ∷ ys)) ≡ Some (xs, ys)
@@ -168,6 +165,5 @@ unfolding rsplit_once
 rsplit-at c xs ys all =
     let found : rfind_below c (xs ++ (c ∷ ys)) (length (xs ++ (c ∷ ys))) ≡ Some (length xs) =
     rfind-at c _ (length xs) _ (omega (arith, length-append xs (c ∷ ys))) (get_or-append_seam xs c ys 0)
-    (λ i more less. ne_eqb _ c (rw (get_or-append_right xs (c ∷ ys) (length xs) i 0 refl (omega (arith, more)))
-    (behind_seam xs c ys all i more less))) in
+    (λ i more less. ne_eqb _ c (behind_seam xs c ys all i more less)) in
     rw (found, take_at xs (c ∷ ys) (length xs) refl, rest-seam xs c ys) refl
