@@ -22,7 +22,8 @@ use Rattle.digest_kinds.specs.Kinds.{KindValue, full_len, has_len, tag}
 use Rattle.digest_kinds.specs.declared.algo.Algo.TheVariants.{Blake2b}
 use Rattle.digest_kinds.specs.declared.algo.Algos.{Algos}
 use Rattle.digest_kinds.specs.declared.algo.Algos.TheVariants.{One}
-use Rattle.sum_lines.specs.refinement.Beginnings.{EndsAt, EndsDigits, ByTag}
+use Rattle.sum_lines.specs.declared.beginnings.Beginning.TheVariants as beginnings
+use Rattle.sum_lines.specs.refinement.Beginnings.{EndsAt, EndsDigits, LeadsTo}
 use Rattle.sum_lines.proofs.PrefixLemmas.{none_of}
 use Rattle.sum_lines.proofs.TaggedLemmas.{hex-no_blank, tag_in-some}
 use Rattle.sum_lines.proofs.BitsLemmas.{has_len-range}
@@ -44,22 +45,22 @@ text line = mark_and_rest (after_while is_blank line)
 -- ---- the tag
 
 -- a line that begins with a tag is read behind it, and isn't plain
-pub by-tag : (algos : Algos) (line : List ℕ) (a : Algo) → tag_in algos (text line).1 ≡ Some a → ByTag algos line a
+pub by-tag : (algos : Algos) (line : List ℕ) (a : Algo) → tag_in algos (text line).1 ≡ Some a
+    → LeadsTo algos line (beginnings.Tag a)
 unfolding tagged_parts
 by-tag algos line a h =
     let s : List ℕ = (text line).1 in
     let found = tag_in-some {algos = algos} {s = s} {a = a} h in
     let begins : tag_in (One a) s ≡ Some a =
-    rw ((starts_is Decides-eqb s (tag a) (starts_with ◌==◌ s (tag a)) refl).1 _ found.is) refl in
-    record {
-      begins = begins;
-      tagged = rw (h, begins) refl;
-      plain = none_of (plain_parts algos line) (λ p plain.
+    rw ((starts_is Decides-eqb s (tag a) (starts_with ◌==◌ s (tag a)) refl).1 _ found.is) refl in (
+      begins,
+      rw (h, begins) refl,
+      none_of (plain_parts algos line) (λ p plain.
           let is = read_is_plain plain in
           let digits = plain-digits is in
           let same : s ≡ is.digits ++ (is.blank ∷ p.text) = ap (λ (x : Bool × List ℕ). x.1) (plain-prefix is) in
-          no_prefix a is.digits (is.blank ∷ p.text) _ digits.are digits.two (sym same ∙ found.is));
-    }
+          no_prefix a is.digits (is.blank ∷ p.text) _ digits.are digits.two (sym same ∙ found.is)),
+    )
 
 -- a line without a tag isn't tagged
 pub untagged : (algos : Algos) (line : List ℕ) → tag_in algos (text line).1 ≡ None → None ≡ tagged_parts algos line

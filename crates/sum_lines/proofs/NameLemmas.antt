@@ -14,7 +14,7 @@ use Rattle.sum_lines.specs.Profiles.{present}
 use Rattle.sum_lines.specs.Escape.{escape}
 use Rattle.sum_lines.specs.Entries.{begins_standard}
 use Rattle.sum_lines.specs.ParsedLines.{unescape, with_raw}
-use Rattle.sum_lines.specs.refinement.Found.{line_parts, text_of}
+use Rattle.sum_lines.specs.refinement.Found.{line_parts}
 use Rattle.sum_lines.proofs.PrefixLemmas.{none_of}
 use Rattle.sum_lines.proofs.UnescapeLemmas.{all-of, unescape-escape, escape-unescape}
 use Rattle.std.proofs.lemmas.Grind.{common_steps}
@@ -59,9 +59,9 @@ standard-two : (tail : List ℕ) → begins_standard tail ≡ true → 2 ≤ len
 standard-two tail h = grind arith
 
 -- so its raw name stands one place further on
-pub raw-standard : (line : List ℕ) (p : LineParts) → begins_standard (text_of line p) ≡ true
+pub raw-standard : (line : List ℕ) (p : LineParts) → begins_standard (line_parts line p).text ≡ true
     → with_raw Standard (line_parts line p) ≡ Some (line_parts line (record p { start = p.start + 1 }))
 raw-standard line p h =
-    let two = standard-two (text_of line p) h in
+    let two = standard-two (line_parts line p).text h in
     let size = length-take (p.stop - p.start) (drop p.start line) in
     rw (h, range-more line p.start p.stop (omega arith)) refl

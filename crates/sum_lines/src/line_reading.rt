@@ -9,7 +9,7 @@ ghost use Rattle.sum_lines.specs.ParsedLines.{with_raw};
 ghost use Rattle.sum_lines.specs.Profiles.{present};
 ghost use Rattle.sum_lines.specs.Readings.{Within, parsed_line_by};
 ghost use Rattle.sum_lines.specs.refinement.Beginnings.{LeadsTo};
-ghost use Rattle.sum_lines.specs.refinement.Found.{line_parts, text_of};
+ghost use Rattle.sum_lines.specs.refinement.Found.{line_parts};
 
 use crate::beginnings::{Beginning, find_beginning};
 use crate::escape::unescape_in;
@@ -124,7 +124,7 @@ fn read_tail<A: Allocator>(form: Form, line: &mut Vec<u8, A>, found: LineParts) 
     requires size { length found.digest ≡ found.kind.len }
     requires ordered { found.start ≤ found.stop }
     requires within { found.stop ≤ length line.old.items }
-    ensures form { result.1 ≡ form_then form (form_of_tail (text_of line.old.items found)) }
+    ensures form { result.1 ≡ form_then form (form_of_tail (line_parts line.old.items found).text) }
     ensures says { parsed_line_by line.new.items result.0 ≡ option_map_or WithEntry
         (option_and_then (entry_of_parts present) (with_raw result.1 (line_parts line.old.items found))) Improper }
     ensures within { Within line.new.items result.0 }

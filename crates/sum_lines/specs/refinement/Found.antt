@@ -5,11 +5,9 @@ use Rattle.sum_lines.specs.declared.scanning.LineParts.{LineParts}
 use Rattle.sum_lines.specs.PartsOfLines.{Parts}
 
 -- the parts of a line that these places stand for
-abbrev pub text_of : List ℕ → LineParts → List ℕ
-text_of line p = slice_range line p.start p.stop
-
 abbrev pub line_parts : List ℕ → LineParts → Parts
-line_parts line p = record { escaped = p.escaped; kind = p.kind; digest = p.digest; text = text_of line p }
+line_parts line p =
+    record { escaped = p.escaped; kind = p.kind; digest = p.digest; text = slice_range line p.start p.stop }
 
 -- the number that one to three digits without a leading zero write
 abbrev pub number_of : List ℕ → Option ℕ
