@@ -5,7 +5,7 @@ use Rattle.std.specs.List.{All, AllPass, list_all}
 use Rattle.std.proofs.lemmas.List.Folds.{list_all-append}
 use Rattle.std.proofs.lemmas.List.Sums.{AllPass-from_list_all, list_all-from_AllPass}
 use Rattle.std.specs.Fmt.{decimal}
-use Rattle.std.proofs.lemmas.Bool.{eqb-true, cases_Bool}
+use Rattle.std.proofs.lemmas.Bool.{eqb-true}
 use Rattle.std.proofs.lemmas.Bool.Decides.{eqb_tells}
 use Rattle.std.proofs.lemmas.List.Elements.{All-weaker, All-cons, All-nil}
 use Rattle.digest_kinds.specs.Kinds.{KindValue, tag, full_len, has_len}
@@ -17,7 +17,6 @@ use Rattle.sum_lines.specs.Shapes.{mark, Width, is_blank, Allows, Plain, Tagged}
 use Rattle.std.specs.Char.{is_ascii_digit}
 use Rattle.sum_lines.proofs.BitsLemmas.{decimal-digits, has_len-range}
 use Rattle.sum_lines.proofs.TaggedLemmas.{passes-other}
-use Rattle.std.specs.Str.{bytes_eq}
 use Rattle.std.proofs.lemmas.Slice.Eq.{bytes_eq-Decides}
 use Rattle.hex.specs.Hex.{encode_lower, is_hex_digit}
 use Rattle.hex.proofs.HexLemmas.{decode_of-encode_lower}
@@ -117,10 +116,7 @@ is_space_or_star x = x == 32 || x == 42
 
 -- what is written of a name is its escape or, where that is no other, the name
 name-written : (name : List ℕ) → escape name ≡ cond (escape_differs name) (escape name) name
-name-written name = elim (cases_Bool (bytes_eq (escape name) name)) [
-  | inl same ↦ rw same ((bytes_eq-Decides (escape name) name).0 same)
-  | inr other ↦ rw other refl
-]
+name-written name = grind (arith, bytes_eq-Decides)
 
 -- a tail that begins with that byte says that the list is Standard
 standard : (x : ℕ) (name : List ℕ) → 0 < length name → is_space_or_star x ≡ true

@@ -59,9 +59,9 @@ standard-two : (tail : List ℕ) → begins_standard tail ≡ true → 2 ≤ len
 standard-two tail h = grind arith
 
 -- so its raw name stands one place further on
-pub raw-standard : (line : List ℕ) (p : LineParts) → begins_standard (line_parts line p).text ≡ true
+pub raw_standard : (line : List ℕ) (p : LineParts) → begins_standard (line_parts line p).text ≡ true
     → with_raw Standard (line_parts line p) ≡ Some (line_parts line (record p { start = p.start + 1 }))
-raw-standard line p h =
+raw_standard line p h =
     let two = standard-two (line_parts line p).text h in
     let size = length-take (p.stop - p.start) (drop p.start line) in
     rw (h, range-more line p.start p.stop (omega arith)) refl

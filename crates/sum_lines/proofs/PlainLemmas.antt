@@ -17,7 +17,7 @@ use Rattle.digest_kinds.specs.declared.algo.Algos.{Algos}
 use Rattle.digest_kinds.specs.declared.algo.Algos.TheVariants.{One, Any}
 use Rattle.sum_lines.specs.Shapes.{is_blank, Plain, Tagged}
 use Rattle.sum_lines.specs.PartsOfLines.{Parts, after_while, mark_and_rest, plain_as, plain_parts}
-use Rattle.sum_lines.proofs.PrefixLemmas.{bind_some, ok_some, prefix-passes, prefix-and-rest, prefix_len-stop, rest-seam, mark_and_rest-is}
+use Rattle.sum_lines.proofs.PrefixLemmas.{bind_some, ok_some, prefix_passes, prefix-and-rest, prefix_len-stop, rest-seam, mark_and_rest-is}
 use Rattle.sum_lines.proofs.TaggedLemmas.{Begins, begins-by, passes-other, behind_tag, hex-no_blank, tagged-prefix, mark_and_rest-prefix}
 use Rattle.sum_lines.proofs.BitsLemmas.{has_len-range}
 
@@ -72,7 +72,7 @@ read_is_plain {algos = One a} {line} {p} h =
       blank = get_or s (position_or_len is_blank s) 0;
       one = refl;
       has = cut.has;
-      are_blanks = prefix-passes is_blank line;
+      are_blanks = prefix_passes is_blank line;
       spelled = cut.spelled;
       size = refl;
       is_one_blank = passes_at_first is_blank s 0 within;

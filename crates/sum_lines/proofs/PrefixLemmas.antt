@@ -46,11 +46,11 @@ none_of (Some x) h = absurd (h x refl)
 -- ---- the longest prefix that passes
 
 -- its bytes pass
-pub prefix-passes : (p : ℕ → Bool) (xs : List ℕ) → AllPass p (take_while p xs)
-prefix-passes p [] = All-nil (λ x. p x ≡ true)
-prefix-passes p (x ∷ xs) = elim (cases_Bool (p x)) [
+pub prefix_passes : (p : ℕ → Bool) (xs : List ℕ) → AllPass p (take_while p xs)
+prefix_passes p [] = All-nil (λ x. p x ≡ true)
+prefix_passes p (x ∷ xs) = elim (cases_Bool (p x)) [
   | inl pass ↦ rw (take_while-cons p x xs, pass)
-      (All-cons (λ x. p x ≡ true) x (take_while p xs) pass (prefix-passes p xs))
+      (All-cons (λ x. p x ≡ true) x (take_while p xs) pass (prefix_passes p xs))
   | inr stop ↦ rw (take_while-cons p x xs, stop) (All-nil (λ x. p x ≡ true))
 ]
 

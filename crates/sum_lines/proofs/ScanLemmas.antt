@@ -1,5 +1,5 @@
 -- What the scanning functions answer, step by step.
-use Rattle.std.proofs.Common.{ℕ, ◌≡◌, ◌≢◌, ◌+◌, ◌-◌, ◌*◌, ◌<◌, ◌≤◌, Bool, eq-eqb, List, [], ◌∷◌, ◌++◌, length, take, drop, get_or, slice_range, Option, None, Some, MatchOption, Ok, Bor, refl, ap, sym, ◌∙◌, arith, append_assoc}
+use Rattle.std.proofs.Common.{ℕ, ◌≡◌, ◌≢◌, ◌+◌, ◌-◌, ◌*◌, ◌<◌, ◌≤◌, Bool, eq-eqb, List, [], ◌∷◌, ◌++◌, length, take, drop, get_or, slice_range, Option, None, Some, MatchOption, Ok, Bor, refl, sym, arith, append_assoc}
 use Rattle.std.specs.List.{take_while}
 use Rattle.std.specs.Option.{option_copied, option_or}
 use Rattle.std.specs.Path.{rsplit_once}
@@ -68,12 +68,10 @@ digest_none s d n some few none spelled same =
 -- behind its blanks and its mark the line ends in its text
 pub text_ends : (line : List ℕ) (text : Bool × List ℕ) → text ≡ mark_and_rest (after_while is_blank line)
     → EndsIn line text.1
-text_ends line text is = (
-  take_while is_blank line ++ mark text.0,
-  prefix-and-rest is_blank line ∙ ap (λ l. take_while is_blank line ++ l) (mark_and_rest-is (after_while is_blank line)
-      ∙ ap (λ (x : Bool × List ℕ). mark x.0 ++ x.1) (sym is))
-      ∙ sym (append_assoc (take_while is_blank line) (mark text.0) text.1),
-)
+text_ends line text is =
+    let whole = prefix-and-rest is_blank line in
+    let marked = mark_and_rest-is (after_while is_blank line) in
+    (take_while is_blank line ++ mark text.0, grind (arith, append_assoc))
 
 -- and so in what stands behind any part of that
 pub ends-behind : {line s : List ℕ} (xs rest : List ℕ) → EndsIn line s → s ≡ xs ++ rest → EndsIn line rest

@@ -46,13 +46,8 @@ handed_some (Some x) b c held_before held_after text grows taken handed =
 handed_part : (a b c : Option (List ℕ)) (held_before held_after text piece later : List ℕ) → Grows a b
     → Appends (append_known a held_before) (append_known b held_after) text → 0 < length piece
     → AppendsPart b c (held_after ++ piece) → AppendsPart a c (held_before ++ (text ++ (piece ++ later)))
-handed_part None b c held_before held_after text piece later grows taken some handed = (
-  held_before ++ text,
-  piece ++ later,
-  sym (append_assoc held_before text (piece ++ later)),
-  omega (arith, length-append piece later),
-  tt,
-)
+handed_part None b c held_before held_after text piece later grows taken some handed =
+    ([], held_before ++ (text ++ (piece ++ later)), refl, grind (arith, length-append), tt)
 handed_part (Some x) b c held_before held_after text piece later grows taken some handed =
     let grown = grows.1 in
     let cut = handed.2 in
@@ -106,7 +101,7 @@ pub Wrote-told : (old new piece : List ℕ) (failures : ℕ) → new ≡ old ++ 
     → Wrote (record { written = Some old; held = []; failures = failures })
     (record { written = Some new; held = []; failures = failures }) piece
 Wrote-told old new piece failures is = record {
-  taken = append-nil new ∙ is ∙ ap (λ l. l ++ piece) (sym (append-nil old));
+  taken = grind (arith, append-nil);
   grows = (piece, is);
   kept = refl;
 }

@@ -120,6 +120,7 @@ fn is_ignored(line: &[u8]) -> bool
 }
 
 // Reads a plain line's tail. The first plain line of a manifest decides the form, whether it is bad or not.
+#[tactic(auto, using(crate::proofs::NameLemmas::raw_standard))]
 fn read_tail<A: Allocator>(form: Form, line: &mut Vec<u8, A>, found: LineParts) -> (Reading, Form)
     requires size { length found.digest ≡ found.kind.len }
     requires ordered { found.start ≤ found.stop }

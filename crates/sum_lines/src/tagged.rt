@@ -97,6 +97,7 @@ fn is_digit(byte: u8) -> bool
     matches!(byte, b'0'..=b'9')
 }
 
+#[tactic(auto, using(crate::proofs::PrefixLemmas::prefix_passes))]
 fn split_digits(s: &[u8]) -> (&[u8], &[u8])
     ensures digits { result.0.now ≡ take_while is_digit s.now }
     ensures rest { result.1.now ≡ after_while is_digit s.now }
