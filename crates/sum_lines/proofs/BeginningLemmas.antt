@@ -1,8 +1,8 @@
 -- What a line begins with, and the parts that it is then read as. The code looks for the first blank of a plain line's
 -- text among as many bytes as the longest digest has digits.
-use Rattle.std.proofs.Common.{ℕ, ◌≡◌, ◌*◌, ◌<◌, ◌≤◌, Bool, false, ◌==◌, List, ◌∷◌, length, take, get_or, min, None, Some, sym, arith, inl, inr, ◌+◌, ◌-◌, ◌/◌, true, cond, ◌++◌, drop, Option, Ok, IfNone, IfSome, refl, ap, ◌∙◌, length-drop}
+use Rattle.std.proofs.Common.{ℕ, ◌≡◌, ◌*◌, ◌<◌, ◌≤◌, Bool, ◌==◌, List, ◌∷◌, length, take, get_or, min, None, Some, sym, arith, ◌+◌, ◌-◌, ◌/◌, true, cond, ◌++◌, drop, Option, Ok, IfNone, IfSome, refl, ap, ◌∙◌, length-drop}
 use Rattle.std.specs.List.{position_or_len, starts_with}
-use Rattle.std.proofs.lemmas.Bool.{cases_Bool, eqb-true, lt-ltb}
+use Rattle.std.proofs.lemmas.Bool.{lt-ltb, false_from_ne_true}
 use Rattle.std.proofs.lemmas.List.{get_or-take, length-take, take_rest}
 use Rattle.std.proofs.lemmas.List.Sums.{passes_at_first, position_or_len_is}
 use Rattle.memchr.specs.Find.{IsFirstByte, is_byte2}
@@ -10,7 +10,7 @@ use Rattle.digest_kinds.specs.declared.algo.Algo.{Algo}
 use Rattle.sum_lines.specs.Shapes.{is_blank}
 use Rattle.sum_lines.specs.PartsOfLines.{Parts, after_while, mark_and_rest, plain_as, plain_parts, tag_in, tagged_as, tagged_parts}
 use Rattle.sum_lines.proofs.PlainLemmas.{Cut, cut-within, no_prefix, plain-digits, plain-prefix, plain_as-some, read_is_plain}
-use Rattle.sum_lines.proofs.ScanLemmas.{decoded-size}
+use Rattle.sum_lines.proofs.ScanLemmas.{decoded-size, decoded-digits}
 use Rattle.std.proofs.lemmas.List.Elements.{All-get_or}
 use Rattle.std.proofs.lemmas.Option.{cond_some}
 use Rattle.std.proofs.lemmas.Bool.Decides.{Decides-eqb}
@@ -22,10 +22,12 @@ use Rattle.digest_kinds.specs.Kinds.{KindValue, full_len, has_len, tag}
 use Rattle.digest_kinds.specs.declared.algo.Algo.TheVariants.{Blake2b}
 use Rattle.digest_kinds.specs.declared.algo.Algos.{Algos}
 use Rattle.digest_kinds.specs.declared.algo.Algos.TheVariants.{One}
-use Rattle.sum_lines.specs.refinement.Beginnings.{EndsAt, EndsDigits, ByTag}
+use Rattle.sum_lines.specs.declared.beginnings.Beginning.TheVariants as beginnings
+use Rattle.sum_lines.specs.refinement.Beginnings.{EndsAt, EndsDigits, LeadsTo}
 use Rattle.sum_lines.proofs.PrefixLemmas.{none_of}
 use Rattle.sum_lines.proofs.TaggedLemmas.{hex-no_blank, tag_in-some}
 use Rattle.sum_lines.proofs.BitsLemmas.{has_len-range}
+use Rattle.digest_kinds.specs.Digits.{IsDigits}
 
 -- a cut has two digits for each byte of its digest, and so few that the search meets its blank
 pub cut-size : {a : Algo} {e : Bool} {s : List ℕ} {p : Parts} → Cut a e s p
@@ -36,40 +38,6 @@ cut-size {a} {e} {s} {p} cut =
     let len = length-take (position_or_len is_blank s) s in
     (omega (arith, within, size, len), (has_len-range a (length p.digest) cut.has).1)
 
--- a search that finds none
-pub searched-none : {a : Algo} {e : Bool} {s : List ℕ} {p : Parts} {n : ℕ} → n ≡ min (length s) 129
-    → IsFirstByte (is_byte2 32 9) (take n s) None → Cut a e s p → ⊥
-searched-none {s = s} {n = n} is none cut =
-    let at : ℕ = position_or_len is_blank s in
-    let within = cut-within cut in
-    let size = cut-size cut in
-    let digits = size.0 in
-    let few = size.1 in
-    let less : at < n = omega (arith, is, within, digits, few) in
-    let len = length-take n s in
-    none at (omega arith) (omega (arith, len, less, is))
-    (rw (get_or-take n s at 0 less) (passes_at_first is_blank s 0 within))
-
--- one that finds the first blank
-pub searched-some : (s : List ℕ) {n i : ℕ} → n ≡ min (length s) 129 → IsFirstByte (is_byte2 32 9) (take n s) (Some i)
-    → (i ≡ position_or_len is_blank s) × (i < length s)
-searched-some s {n} {i} is first =
-    let len = length-take n s in
-    let high = first.0.high in
-    let less : i < n = omega (arith, len, high) in
-    let within : i < length s = omega (arith, len, high) in
-    let before : (k : ℕ) → k < i → is_blank (get_or s k 0) ≡ false =
-    λ k low. elim (cases_Bool (is_blank (get_or s k 0))) [
-      | inl here ↦
-          let same = get_or-take n s k 0 (omega (arith, low, less)) in
-          absurd (first.0.before k (omega arith) low (rw same here))
-      | inr other ↦ other
-    ] in (
-      sym (position_or_len_is is_blank s i 0 (omega (arith, within)) before
-          (λ _. rw (get_or-take n s i 0 less) at first.1)),
-      within,
-    )
-
 -- a line's mark and what stands behind it
 abbrev pub text : List ℕ → Bool × List ℕ
 text line = mark_and_rest (after_while is_blank line)
@@ -77,22 +45,22 @@ text line = mark_and_rest (after_while is_blank line)
 -- ---- the tag
 
 -- a line that begins with a tag is read behind it, and isn't plain
-pub by-tag : (algos : Algos) (line : List ℕ) (a : Algo) → tag_in algos (text line).1 ≡ Some a → ByTag algos line a
+pub by-tag : (algos : Algos) (line : List ℕ) (a : Algo) → tag_in algos (text line).1 ≡ Some a
+    → LeadsTo algos line (beginnings.Tag a)
 unfolding tagged_parts
 by-tag algos line a h =
     let s : List ℕ = (text line).1 in
     let found = tag_in-some {algos = algos} {s = s} {a = a} h in
     let begins : tag_in (One a) s ≡ Some a =
-    rw ((starts_is Decides-eqb s (tag a) (starts_with ◌==◌ s (tag a)) refl).1 _ found.is) refl in
-    record {
-      begins = begins;
-      tagged = rw (h, begins) refl;
-      plain = none_of (plain_parts algos line) (λ p plain.
+    rw ((starts_is Decides-eqb s (tag a) (starts_with ◌==◌ s (tag a)) refl).1 _ found.is) refl in (
+      begins,
+      rw (h, begins) refl,
+      none_of (plain_parts algos line) (λ p plain.
           let is = read_is_plain plain in
           let digits = plain-digits is in
           let same : s ≡ is.digits ++ (is.blank ∷ p.text) = ap (λ (x : Bool × List ℕ). x.1) (plain-prefix is) in
-          no_prefix a is.digits (is.blank ∷ p.text) _ digits.are digits.two (sym same ∙ found.is));
-    }
+          no_prefix a is.digits (is.blank ∷ p.text) _ digits.are digits.two (sym same ∙ found.is)),
+    )
 
 -- a line without a tag isn't tagged
 pub untagged : (algos : Algos) (line : List ℕ) → tag_in algos (text line).1 ≡ None → None ≡ tagged_parts algos line
@@ -116,8 +84,7 @@ tag-parts {s = s} {front = front} line o is tag_is found parts =
 
 -- an algorithm other than BLAKE2b has digests of one length
 has_len-fixed : (a : Algo) (n : ℕ) → (a ≡ Blake2b → ⊥) → has_len a n ≡ true → n ≡ full_len a
-has_len-fixed Blake2b n other h = absurd (other refl)
-has_len-fixed a n other h = eqb-true n (full_len a) h
+has_len-fixed a n other h = grind arith
 
 -- so its digits are as many
 pub fixed-len : (a : Algo) (s : List ℕ) (n : ℕ) → (a ≡ Blake2b → ⊥) → n ≡ 2 * full_len a → EndsAt a s n
@@ -130,14 +97,26 @@ fixed-len a s n other is e p h =
 -- where no blank is found among the first bytes, no line is plain
 pub search-none : (a : Algo) (s : List ℕ) {n : ℕ} (r : Option ℕ) → n ≡ min (length s) 129
     → IsFirstByte (is_byte2 32 9) (take n s) r → IfNone r ((e : Bool) → None ≡ plain_as a e s)
-search-none a s None is none = λ e. none_of (plain_as a e s) (λ p h. searched-none is none (plain_as-some h))
+search-none a s {n} None is none = λ e. none_of (plain_as a e s) (λ p h.
+    let cut = plain_as-some h in
+    let at : ℕ = position_or_len is_blank s in
+    let within = cut-within cut in
+    let size = cut-size cut in
+    let less : at < n = omega (arith, is, within, size.0, size.1) in
+    none at (omega arith) (omega (arith, length-take n s, less, is))
+    (rw (get_or-take n s at 0 less) (passes_at_first is_blank s 0 within)))
 search-none a s (Some i) is first = tt
 
 -- the one that is found is the first
 pub search-some : (a : Algo) (s : List ℕ) {n : ℕ} (r : Option ℕ) → n ≡ min (length s) 129
     → IsFirstByte (is_byte2 32 9) (take n s) r → IfSome r (EndsAt a s)
 search-some a s None is none = tt
-search-some a s (Some i) is first = λ e p h. (searched-some s is first).0
+search-some a s {n} (Some i) is first =
+    let less : i < n = omega (arith, length-take n s, first.0.high) in
+    λ e p h. sym (position_or_len_is is_blank s i 0 (omega (arith, is, less))
+    (λ k low. false_from_ne_true _ (λ here.
+    first.0.before k (omega arith) low (rw (get_or-take n s k 0 (omega (arith, low, less))) here)))
+    (λ _. rw (get_or-take n s i 0 less) at first.1))
 
 -- a blank ends the digits of a plain line, and something stands behind it
 pub end-none : (a : Algo) (s : List ℕ) (at : ℕ) → EndsAt a s at
@@ -163,17 +142,22 @@ first-blank s d at within blank spelled =
 
 -- ---- a plain line with such digits
 
--- what it holds
-pub record Spelled (a : Algo) (s : List ℕ) (at : ℕ) (p : Parts) : Type 0 where
-  pub spelled : decode_of (take at s) ≡ Ok p.digest
-  pub has : has_len a (length p.digest) ≡ true
-  pub size : at ≡ 2 * length p.digest
-
-pub plain-spelled : {a : Algo} {s : List ℕ} {at : ℕ} (e : Bool) (p : Parts) → EndsDigits a s at
-    → plain_as a e s ≡ Some p → Spelled a s at p
-plain-spelled e p ends h =
+-- no digest is as long as such digits say
+pub kind-none : (a : Algo) (e : Bool) (s : List ℕ) {at : ℕ} → EndsDigits a s at
+    → ◌≡◌ {A = Option KindValue} None (cond (has_len a (at / 2)) (Some (record { algo = a; len = at / 2 })) None)
+    → None ≡ plain_as a e s
+kind-none a e s {at} ends none = none_of (plain_as a e s) (λ p h.
     let cut = plain_as-some h in
-    rw (ends.place e p h) (record { spelled = cut.spelled; has = cut.has; size = (cut-size cut).0 })
+    let half : at / 2 ≡ length p.digest = omega (arith, ends.place e p h, (cut-size cut).0) in
+    let bad = rw (half, cut.has) at none in cc)
+
+-- or they are none
+pub digits-none : (a : Algo) (e : Bool) (s : List ℕ) {at : ℕ} → EndsDigits a s at → (IsDigits (take at s) → ⊥)
+    → None ≡ plain_as a e s
+digits-none a e s ends none = none_of (plain_as a e s) (λ p h.
+    let cut = plain_as-some h in
+    let range = has_len-range a (length p.digest) cut.has in
+    none (rw (ends.place e p h) (decoded-digits _ p.digest cut.spelled range.0 range.1)))
 
 -- what is found so is read as the line's parts
 pub plain-read : (a : Algo) (e : Bool) (s : List ℕ) {d : List ℕ} {at : ℕ} (k : KindValue)

@@ -1,59 +1,43 @@
 -- The bits that a BLAKE2b tag may carry: the digits that the code takes are those of `decimal`.
-use Rattle.std.proofs.Common.{ℕ, zero, suc, ◌≡◌, ◌≢◌, ◌+◌, ◌*◌, ◌/◌, ◌%◌, ◌<◌, ◌≤◌, not, ◌&&◌, Bool, true, false, ◌==◌, List, [], ◌∷◌, length, get_or, None, Some, refl, ap, sym, ◌∙◌, arith, inl, inr, nat_le}
+use Rattle.std.proofs.Common.{ℕ, zero, suc, ◌≡◌, ◌≢◌, ◌+◌, ◌*◌, ◌/◌, ◌%◌, ◌<◌, ◌≤◌, not, ◌&&◌, Bool, true, ◌==◌, List, [], ◌∷◌, length, get_or, None, Some, refl, ap, sym, ◌∙◌, arith, Option}
 use Rattle.std.specs.Prelude.{bytes_eq, nat_lt}
 use Rattle.std.specs.Char.{is_ascii_digit}
 use Rattle.std.specs.Fmt.{decimal}
 use Rattle.std.specs.List.{AllPass, find, range_with_len}
 use Rattle.std.specs.Option.{option_map}
 use Rattle.std.specs.Result.{result_ok}
-use Rattle.std.proofs.lemmas.Bool.{and_parts, and_from, cases_Bool, cases_lt, eqb-false, leb-true, le-leb, le-ltb, lt-ltb, ltb-true, ne_eqb, not-true, eqb-true}
-use Rattle.std.proofs.lemmas.Bool.Decides.{eqb_tells}
+use Rattle.std.proofs.lemmas.Bool.{and_parts, and_from, eqb-false, leb-true, le-leb, ltb-true, not-true}
 use Rattle.std.proofs.lemmas.Fmt.{decimal_digit, decimal_injective, decimal-digits_value, digits_decimal, first_decimal, length-decimal-le}
 use Rattle.std.proofs.lemmas.List.Elements.{All-cons, All-head, All-tail, All-nil}
-use Rattle.std.proofs.lemmas.Option.{cond_some, same_Some}
+use Rattle.std.proofs.lemmas.Option.{cond_some}
 use Rattle.std.proofs.lemmas.Slice.Eq.{bytes_eq-Decides}
-use Rattle.std.proofs.lemmas.Str.Parse.{IsDigitsTest, IsNumeralModel, digits_value_short, numerals_by_fold}
-use Rattle.digest_kinds.specs.Kinds.{KindValue, blake2b_kind, has_len, full_len}
+use Rattle.std.proofs.lemmas.Str.Parse.{IsDigitsTest, IsNumeralModel, digits_value_short, numerals_by_value}
+use Rattle.digest_kinds.specs.Kinds.{KindValue, blake2b_kind, has_len}
 use Rattle.digest_kinds.specs.Lengths.{blake2b_of_bits}
 use Rattle.sum_lines.specs.PartsOfLines.{kind_at}
-use Rattle.sum_lines.specs.refinement.Found.{number_after, number_of}
+use Rattle.sum_lines.specs.refinement.Found.{number_of}
 use Rattle.sum_lines.proofs.PrefixLemmas.{map_some, none_of}
 use Rattle.digest_kinds.specs.declared.algo.Algo.{Algo}
-use Rattle.digest_kinds.specs.declared.algo.Algo.TheVariants.{Blake2b}
+use Rattle.std.specs.Str.Parse.{digits_value}
 
 -- ---- lengths
 
 -- each digest has 1 to 64 bytes
 pub has_len-range : (a : Algo) (n : ℕ) → has_len a n ≡ true → (0 < n) × (n ≤ 64)
-has_len-range Blake2b n h = let range = and_parts (nat_le 1 n) (nat_le n 64) h in
-    (leb-true 1 n range.0, leb-true n 64 range.1)
-has_len-range a n h = let e : n ≡ full_len a = eqb-true n (full_len a) h in (omega arith, omega arith)
+has_len-range a n h = grind arith
 
 -- ---- the one number in a range that passes
 
 -- what is found passes
 found-range : (p : ℕ → Bool) (a n i : ℕ) → find p (range_with_len a n) ≡ Some i → (a ≤ i) × (i < a + n) × (p i ≡ true)
 found-range p a zero i h = cc
-found-range p a (suc n) i h = elim (cases_Bool (p a)) [
-  | inl here ↦
-      let same : a ≡ i = same_Some a i (rw here at h) in
-      rw (← same) (omega arith, omega arith, here)
-  | inr other ↦
-      let more = found-range p (a + 1) n i (rw other at h) in
-      (omega (arith, more.0), omega (arith, more.1), more.2)
-]
+found-range p a (suc n) i h = grind (arith, found-range p (a + 1) n i)
 
 -- and where no other passes, it is found
 range-found : (p : ℕ → Bool) (a n i : ℕ) → a ≤ i → i < a + n → p i ≡ true
     → ((k : ℕ) → k < a + n → p k ≡ true → k ≡ i) → find p (range_with_len a n) ≡ Some i
 range-found p a zero i low high pass one = absurd (omega (arith, low, high))
-range-found p a (suc n) i low high pass one = elim (cases_Bool (p a)) [
-  | inl here ↦ rw here (ap Some (one a (omega arith) here))
-  | inr other ↦
-      let differs : a ≢ i = λ same. let bad = sym (rw same at other) ∙ pass in cc in
-      rw other (range-found p (a + 1) n i (omega (arith, differs, low)) (omega (arith, high)) pass
-      (λ k less. one k (omega (arith, less))))
-]
+range-found p a (suc n) i low high pass one = grind (arith, range-found p (a + 1) n i, one)
 
 -- ---- digits and the kind that they give
 
@@ -112,8 +96,8 @@ digits-test = record {
 }
 
 -- and the number that they write
-numerals : IsNumeralModel (AllPass is_ascii_digit) (number_after 0)
-numerals = numerals_by_fold _ digits-test number_after (record { empty = λ n. refl; more = λ n c cs range. refl })
+numerals : IsNumeralModel (AllPass is_ascii_digit) (digits_value 10)
+numerals = numerals_by_value _ digits-test
 
 -- what `decimal` writes are digits
 pub decimal-digits : (len : ℕ) → len ≤ 64 → AllPass is_ascii_digit (decimal (8 * len))
@@ -124,51 +108,51 @@ no_bits : (v : ℕ) → v < 1000 → ((len : ℕ) → len ≤ 64 → v ≡ 8 * l
 no_bits v few none = kind_at-none (decimal v)
     (λ len some most h. none len most (decimal_injective v (8 * len) (omega (arith, few)) (omega (arith, most)) h))
 
--- the code's test of a number is the one of its digits
+-- the numbers of bits that the code takes, and the kind that it makes of one
+bits-taken : (v : ℕ) (k : KindValue) → 0 < v → result_ok (blake2b_of_bits v) ≡ Some k
+    → (v % 8 ≡ 0) × (v ≤ 512) × (k ≡ blake2b_kind (v / 8))
+bits-taken v k some h = grind arith
+
+-- those that it takes none of
+bits-refused : (v : ℕ) → 0 < v → result_ok (blake2b_of_bits v) ≡ None → v % 8 ≡ 0 → v ≤ 512 → ⊥
+bits-refused v some h whole few = grind arith
+
+-- so its test of a number is the one of its digits
 bits-kind : (v : ℕ) → 0 < v → v < 1000 → result_ok (blake2b_of_bits v) ≡ kind_at (decimal v)
-bits-kind v some few =
-    let zero : (v == 0) ≡ false = ne_eqb v 0 (λ e. omega (arith, some, e)) in
-    elim (cases_lt 512 v) [
-      | inl long ↦ rw (lt-ltb 512 v long) (no_bits v few (λ len most e. omega (arith, long, most, e)))
-      | inr fits ↦ elim (eqb_tells (v % 8) 0) [
-        | inl whole ↦
-            let rest = whole.1 in
-            let eight : v ≡ 8 * (v / 8) = omega (arith, rest) in
-            rw (le-ltb 512 v fits, zero, whole.0)
-            (sym (ap (λ n. kind_at (decimal n)) eight
-            ∙ kind_at-bits (v / 8) (omega (arith, some, rest)) (omega (arith, fits))))
-        | inr part ↦
-            let rest = part.1 in
-            rw (le-ltb 512 v fits, zero, part.0) (no_bits v few (λ len most e. rest (omega (arith, e))))
-      ]
-    ]
+bits-kind v some few = go (result_ok (blake2b_of_bits v)) refl
+  where
+    go : (o : Option KindValue) → result_ok (blake2b_of_bits v) ≡ o → o ≡ kind_at (decimal v)
+    go None h = no_bits v few (λ len most e. bits-refused v some h (omega (arith, e)) (omega (arith, most, e)))
+    go (Some k) h =
+        let is = bits-taken v k some h in
+        let eight : v ≡ 8 * (v / 8) = omega (arith, is.0) in
+        rw is.2 (sym (ap (λ n. kind_at (decimal n)) eight
+        ∙ kind_at-bits (v / 8) (omega (arith, some, is.0)) (omega (arith, is.1))))
 
 -- a number that the code makes of digits is the one that they write
-pub number-kind : (ds : List ℕ) (v : ℕ) → AllPass is_ascii_digit ds → number_of ds ≡ Some v
+pub number_kind : (ds : List ℕ) (v : ℕ) → AllPass is_ascii_digit ds → number_of ds ≡ Some v
     → result_ok (blake2b_of_bits v) ≡ kind_at ds
-number-kind [] v all h = cc
-number-kind (d ∷ ds) v all h =
-    let is = cond_some (not (d == 48) && nat_lt (length ds) 3) (number_after 0 (d ∷ ds)) v h in
+number_kind [] v all h = cc
+number_kind (d ∷ ds) v all h =
+    let is = cond_some (not (d == 48) && nat_lt (length ds) 3) (digits_value 10 (d ∷ ds)) v h in
     let fits = and_parts (not (d == 48)) (nat_lt (length ds) 3) is.0 in
     let lead = eqb-false d 48 (not-true (d == 48) fits.0) in
     let few = ltb-true (length ds) 3 fits.1 in
     let most = digits_value_short numerals (d ∷ ds) 3 all (omega (arith, few)) in
-    let text : decimal (number_after 0 (d ∷ ds)) ≡ d ∷ ds =
+    let text : decimal (digits_value 10 (d ∷ ds)) ≡ d ∷ ds =
     decimal-digits_value numerals (d ∷ ds) all (omega arith) (λ z. absurd (lead z)) (omega (arith, most)) in
-    let some : number_after 0 (d ∷ ds) ≢ 0 = λ none.
+    let some : digits_value 10 (d ∷ ds) ≢ 0 = λ none.
     let zero : 48 ∷ [] ≡ d ∷ ds = sym (decimal_digit 0 (omega arith)) ∙ ap decimal (sym none) ∙ text in
     lead (sym (ap (λ l. get_or l 0 0) zero)) in
-    rw (← is.1) (bits-kind (number_after 0 (d ∷ ds)) (omega (arith, some)) (omega (arith, most)) ∙ ap kind_at text)
+    rw (← is.1) (bits-kind (digits_value 10 (d ∷ ds)) (omega (arith, some)) (omega (arith, most)) ∙ ap kind_at text)
 
 -- and where it makes none, no number of bits is written so
 number-there : (ds : List ℕ) → 48 < get_or ds 0 0 → length ds ≤ 3 → number_of ds ≡ None → ⊥
-number-there [] lead few h = absurd (omega (arith, lead))
-number-there (d ∷ ds) lead few h =
-    let bad = rw (ne_eqb d 48 (λ e. omega (arith, lead, e)), lt-ltb (length ds) 3 (omega (arith, few))) at h in cc
+number-there ds lead few h = grind arith
 
 -- so its digits give no kind
-pub number-none : (ds : List ℕ) → number_of ds ≡ None → None ≡ kind_at ds
-number-none ds h = kind_at-none ds (λ len some few is.
+pub number_none : (ds : List ℕ) → number_of ds ≡ None → None ≡ kind_at ds
+number_none ds h = kind_at-none ds (λ len some few is.
     let bits : 8 * len < 1000 = omega (arith, few) in
     number-there (decimal (8 * len)) (first_decimal (8 * len) (omega (arith, some)) (omega (arith, bits)))
     (length-decimal-le 3 (8 * len) (omega arith) bits (omega (arith, bits))) (rw is at h))

@@ -1,26 +1,15 @@
 -- What a buffer over a sink does to what was taken, by what the sink below answers.
-use Rattle.std.proofs.Common.{ℕ, ◌≡◌, List, [], ◌++◌, Option, None, Some, Result, Ok, Err, ap, sym, ◌∙◌, append_assoc, append-nil}
-use Rattle.std.specs.Io.KnownBytes.{Appends, append_known}
+use Rattle.std.proofs.Common.{ℕ, ◌≡◌, List, [], Result, Ok, Err, ◌∙◌, append_assoc, append-nil, arith}
 use Rattle.sum_lines.specs.Sinks.{SinkState, Wrote, Flushes, Writes}
 use Rattle.sum_lines.specs.Buffers.{behind}
-use Rattle.sum_lines.specs.refinement.Emptying.{Empties}
+use Rattle.sum_lines.specs.refinement.Growing.{Empties}
 use Rattle.sum_lines.proofs.SinkLemmas.{Flushes-behind}
-
--- the buffer's bytes were written to the sink below
-taken_below : (a b : Option (List ℕ)) (held_before held_after own : List ℕ)
-    → Appends (append_known a held_before) (append_known b held_after) own
-    → Appends (append_known a (held_before ++ own)) (append_known b (held_after ++ [])) []
-taken_below None b held_before held_after own h = tt
-taken_below (Some x) None held_before held_after own h = absurd h
-taken_below (Some x) (Some y) held_before held_after own h =
-    ap (λ l. y ++ l) (append-nil held_after) ∙ h ∙ append_assoc x held_before own
-    ∙ sym (append-nil (x ++ (held_before ++ own)))
 
 -- the buffer was emptied into the sink below
 pub Emptied : {E : Type 0} (a b : SinkState) (own : List ℕ) (r : Result (Unit {0}) E) → Writes a b own r
     → Empties (behind a own) (behind b []) r
 Emptied a b own (Ok u) h = record {
-  taken = taken_below a.written b.written a.held b.held own h.taken;
+  taken = let taken = h.taken in grind (arith, append_assoc, append-nil);
   grows = h.grows;
   kept = h.kept;
 }

@@ -1,5 +1,5 @@
 -- The parts of entries, and the one form of a list of lines.
-use Rattle.std.proofs.Common.{ℕ, ◌≡◌, Bool, true, false, cond, List, [], ◌∷◌, ◌++◌, Option, None, Some, refl, ap, sym, ◌∙◌, ◌⊎◌, inl, inr}
+use Rattle.std.proofs.Common.{ℕ, ◌≡◌, Bool, true, false, cond, List, [], ◌∷◌, ◌++◌, Option, None, Some, refl, ap, sym, ◌∙◌, ◌⊎◌, inl, inr, arith}
 use Rattle.std.specs.List.{AllPass, cons_option, filter_map, slice_get}
 use Rattle.std.proofs.lemmas.List.Elements.{All-head}
 use Rattle.digest_kinds.specs.Kinds.{KindValue, tag}
@@ -30,8 +30,7 @@ tail_parts {s = s} by = record { escaped = by.escaped; kind = kind_of s; digest 
 
 -- a form that a plain line gives stays
 keeps : (b : Bool) (g : Form) → form_then (cond b Standard Reversed) g ≡ cond b Standard Reversed
-keeps true g = refl
-keeps false g = refl
+keeps b g = grind arith
 
 -- the first line's form, or else that of the later ones
 pub form-step : (algos : Algos) (line : List ℕ) (later : List (List ℕ))
@@ -99,8 +98,8 @@ decides-or algos line = go (plain_parts algos line) refl
     })
 
 -- an ignored line is not plain, and has no form
-pub ignored-mute : (algos : Algos) (line : List ℕ) → is_ignored line ≡ true → line_form algos line ≡ Undecided
-ignored-mute algos line ignored = ap form_by (sym (none_of (plain_parts algos line) (λ p h.
+pub ignored_mute : (algos : Algos) (line : List ℕ) → is_ignored line ≡ true → line_form algos line ≡ Undecided
+ignored_mute algos line ignored = ap form_by (sym (none_of (plain_parts algos line) (λ p h.
     let bad = sym ignored ∙ plain-speaks (read_is_plain h) in cc)))
 
 -- the computed form is one that the list has, and it has no other
@@ -129,13 +128,11 @@ one_form algos lines f = (form-is algos lines f, λ e. rw e (is-form algos lines
 
 -- nothing behind a line changes the form
 pub form_then-last : (f : Form) → form_then f Undecided ≡ f
-form_then-last Undecided = refl
-form_then-last f = refl
+form_then-last f = grind arith
 
 -- the form so far, then a line's, then that of the rest
 pub form_on : (f x g : Form) → form_then f (form_then x g) ≡ form_then (form_then f x) g
-form_on Undecided x g = refl
-form_on f x g = refl
+form_on f x g = grind arith
 
 -- the form of two lists, one behind the other
 form-append : (algos : Algos) (before after : List (List ℕ))

@@ -1,9 +1,9 @@
 -- What comes behind a line has no part in what it says.
-use Rattle.std.proofs.Common.{◌≡◌, ℕ, Bool, true, cond, List, ◌∷◌, ◌++◌, Option, None, Some, refl, ap, sym, ◌∙◌}
+use Rattle.std.proofs.Common.{◌≡◌, ℕ, Bool, cond, List, ◌∷◌, ◌++◌, Option, None, Some, refl, ap, sym, ◌∙◌, arith}
 use Rattle.std.specs.Option.{option_map_or}
 use Rattle.digest_kinds.specs.declared.algo.Algos.{Algos}
 use Rattle.sum_lines.specs.declared.line_reading.Form.{Form}
-use Rattle.sum_lines.specs.declared.line_reading.Form.TheVariants.{Undecided, Standard, Reversed}
+use Rattle.sum_lines.specs.declared.line_reading.Form.TheVariants.{Standard, Reversed}
 use Rattle.sum_lines.specs.Profiles.{Profile}
 use Rattle.sum_lines.specs.Entries.{form, form_by, form_then, line_form, form_of_tail, is_ignored_by, begins_standard}
 use Rattle.sum_lines.specs.PartsOfLines.{◌>>=◌, Parts, tagged_parts, plain_parts}
@@ -17,8 +17,7 @@ use Rattle.sum_lines.proofs.ParsedLineLemmas.{entry_by}
 -- what is decided stays
 pub decided : (f : Form) (b : Bool) (g : Form)
     → form_then (form_then f (cond b Standard Reversed)) g ≡ form_then f (cond b Standard Reversed)
-decided Undecided true g = refl
-decided f b g = refl
+decided f b g = grind arith
 
 -- so later lines leave the entry as it is
 entry_stays : (p : Profile) (f g : Form) (t q : Option Parts)

@@ -1,6 +1,5 @@
 -- What was offered of a text, piece after piece, while it was handed on.
-use Rattle.std.proofs.Common.{ℕ, ◌≡◌, ◌<◌, ◌≤◌, List, [], ◌∷◌, ◌++◌, length, take, drop, Option, None, Some, refl, ap, sym, ◌∙◌, append_assoc, take-append-drop, length-append, length-take, arith}
-use Rattle.std.specs.Prelude.{option_map}
+use Rattle.std.proofs.Common.{ℕ, ◌≡◌, ◌<◌, ◌≤◌, List, [], ◌∷◌, ◌++◌, length, take, drop, Option, refl, sym, ◌∙◌, append_assoc, take-append-drop, length-append, length-take, arith}
 use Rattle.sum_lines.specs.Sinks.{Offers, IsRest, AreRests, InOnePiece, HandsOn}
 
 -- the pieces were offered one after another, each as what was left of the one before, and this rest is left of the last
@@ -51,9 +50,7 @@ Leaves-last text (piece ∷ more) rest h some =
 -- offers behind offers
 pub Offers-trans : (a b c : Option (List (List ℕ))) (xs ys : List (List ℕ)) → Offers a b xs → Offers b c ys
     → Offers a c (xs ++ ys)
-Offers-trans None b c xs ys p q = tt
-Offers-trans (Some x) None c xs ys p q = cc
-Offers-trans (Some x) (Some y) c xs ys p q = q ∙ ap (option_map (λ l. l ++ ys)) p ∙ ap Some (append_assoc x xs ys)
+Offers-trans a b c xs ys p q = grind (arith, append_assoc)
 
 -- of this text these pieces were offered, and the rest is left
 pub record Offered (a b : Option (List (List ℕ))) (text rest : List ℕ) : Type 0 where

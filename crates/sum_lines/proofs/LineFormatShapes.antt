@@ -5,7 +5,7 @@ use Rattle.std.specs.List.{All, AllPass, list_all}
 use Rattle.std.proofs.lemmas.List.Folds.{list_all-append}
 use Rattle.std.proofs.lemmas.List.Sums.{AllPass-from_list_all, list_all-from_AllPass}
 use Rattle.std.specs.Fmt.{decimal}
-use Rattle.std.proofs.lemmas.Bool.{eqb-true, cases_Bool}
+use Rattle.std.proofs.lemmas.Bool.{eqb-true}
 use Rattle.std.proofs.lemmas.Bool.Decides.{eqb_tells}
 use Rattle.std.proofs.lemmas.List.Elements.{All-weaker, All-cons, All-nil}
 use Rattle.digest_kinds.specs.Kinds.{KindValue, tag, full_len, has_len}
@@ -17,7 +17,6 @@ use Rattle.sum_lines.specs.Shapes.{mark, Width, is_blank, Allows, Plain, Tagged}
 use Rattle.std.specs.Char.{is_ascii_digit}
 use Rattle.sum_lines.proofs.BitsLemmas.{decimal-digits, has_len-range}
 use Rattle.sum_lines.proofs.TaggedLemmas.{passes-other}
-use Rattle.std.specs.Str.{bytes_eq}
 use Rattle.std.proofs.lemmas.Slice.Eq.{bytes_eq-Decides}
 use Rattle.hex.specs.Hex.{encode_lower, is_hex_digit}
 use Rattle.hex.proofs.HexLemmas.{decode_of-encode_lower}
@@ -30,6 +29,7 @@ use Rattle.sum_lines.specs.Entries.{begins_standard, form_by, line_form, Spells,
 use Rattle.sum_lines.specs.Laws.{Writable}
 use Rattle.sum_lines.proofs.PlainLemmas.{Digits, digits-of, plain_is_read}
 use Rattle.sum_lines.proofs.EntryLemmas.{plain-speaks, tagged-speaks}
+use Rattle.sum_lines.proofs.EscapeLemmas.{length-escape}
 
 -- a byte that may stand within a line
 abbrev pub Inline : ℕ → Type 0
@@ -69,45 +69,15 @@ inline-width kind w (inr bits) =
     let digits = decimal-digits kind.len (has_len-range Blake2b kind.len bits.2).1 in
     rw bits.0 (inline-all is_ascii_digit (decimal (8 * kind.len)) refl refl digits)
 
--- an escaped byte is at least one
-record Escaped (xs : List ℕ) : Type 0 where
-  first : ℕ
-  more : List ℕ
-  are : xs ≡ first ∷ more
-  one_line : list_all inline xs ≡ true
-
 -- each byte's escape
-escape_of-some : (x : ℕ) → Escaped (escape_of present x)
-escape_of-some x = elim (eqb_tells x 92) [
-  | inl same ↦ rw same.1 (record { first = 92; more = 92 ∷ []; are = refl; one_line = refl })
-  | inr back ↦ elim (eqb_tells x 10) [
-    | inl same ↦ rw same.1 (record { first = 92; more = 110 ∷ []; are = refl; one_line = refl })
-    | inr new ↦ elim (eqb_tells x 13) [
-      | inl same ↦ rw same.1 (record { first = 92; more = 114 ∷ []; are = refl; one_line = refl })
-      | inr other ↦ rw (back.0, new.0, other.0)
-          (record { first = x; more = []; are = refl; one_line = rw (new.0, other.0) refl })
-    ]
-  ]
-]
+escape_of-inline : (x : ℕ) → list_all inline (escape_of present x) ≡ true
+escape_of-inline x = grind arith
 
--- so an escaped name holds none, and is empty only if the name is
+-- so an escaped name holds none
 pub inline-escape : (name : List ℕ) → list_all inline (escape name) ≡ true
 inline-escape [] = refl
 inline-escape (x ∷ xs) =
-    let e = escape_of-some x in
-    rw (list_all-append inline (escape_of present x) (escape xs), e.one_line) (inline-escape xs)
-
--- bytes of which there is one
-pub record NonEmpty (xs : List ℕ) : Type 0 where
-  pub first : ℕ
-  pub more : List ℕ
-  pub are : xs ≡ first ∷ more
-
--- the escape of a name that isn't empty isn't, either
-pub escape-some : (name : List ℕ) → 0 < length name → NonEmpty (escape name)
-escape-some [] h = absurd (omega arith)
-escape-some (x ∷ xs) h = let e = escape_of-some x in
-    record { first = e.first; more = e.more ++ escape xs; are = ap (λ l. l ++ escape xs) e.are }
+    rw (list_all-append inline (escape_of present x) (escape xs), escape_of-inline x) (inline-escape xs)
 
 -- ---- the tag
 
@@ -146,15 +116,12 @@ is_space_or_star x = x == 32 || x == 42
 
 -- what is written of a name is its escape or, where that is no other, the name
 name-written : (name : List ℕ) → escape name ≡ cond (escape_differs name) (escape name) name
-name-written name = elim (cases_Bool (bytes_eq (escape name) name)) [
-  | inl same ↦ rw same ((bytes_eq-Decides (escape name) name).0 same)
-  | inr other ↦ rw other refl
-]
+name-written name = grind (arith, bytes_eq-Decides)
 
 -- a tail that begins with that byte says that the list is Standard
 standard : (x : ℕ) (name : List ℕ) → 0 < length name → is_space_or_star x ≡ true
     → begins_standard (x ∷ escape name) ≡ true
-standard x name lt star = let escaped = escape-some name lt in rw escaped.are star
+standard x name lt star = let some : 0 < length (escape name) = omega (arith, lt, length-escape name) in grind arith
 
 module _ {kind : KindValue} {name digest : List ℕ} (w : Writable kind name digest) where
   -- what is written spells the name
@@ -214,7 +181,6 @@ module _ {kind : KindValue} {name digest : List ℕ} (w : Writable kind name dig
   tagged-written algos width allowed is_width =
       let space : AllPass is_blank (32 ∷ []) =
       All-cons (λ b. is_blank b ≡ true) 32 [] refl (All-nil (λ b. is_blank b ≡ true)) in
-      let escaped = escape-some name w.some in
       record {
         blanks = [];
         width = width;
@@ -225,7 +191,7 @@ module _ {kind : KindValue} {name digest : List ℕ} (w : Writable kind name dig
         allowed = allowed;
         are_blanks = All-nil (λ b. is_blank b ≡ true);
         is_width = is_width;
-        some = rw escaped.are (omega arith);
+        some = omega (arith, w.some, length-escape name);
         before_blanks = space;
         after_blanks = space;
         spelled = decode_of-encode_lower digest w.bytes;

@@ -1,10 +1,10 @@
 -- The name that is left in place of a raw name, and the raw name in a tail.
-use Rattle.std.proofs.Common.{ℕ, zero, suc, ◌≡◌, ◌+◌, ◌-◌, ◌<◌, ◌≤◌, ◌↔◌, Bool, true, false, not, cond, List, ◌∷◌, ◌++◌, length, take, drop, get_or, slice_range, Option, None, Some, refl, ap, sym, ◌∙◌, arith}
+use Rattle.std.proofs.Common.{ℕ, ◌≡◌, ◌+◌, ◌-◌, ◌<◌, ◌≤◌, ◌↔◌, Bool, true, false, not, cond, List, ◌++◌, length, take, drop, get_or, slice_range, Option, None, Some, refl, ap, sym, ◌∙◌, arith}
 use Rattle.std.specs.Prelude.{nat_lt}
 use Rattle.std.specs.List.{list_all}
 use Rattle.std.specs.Option.{is_some}
 use Rattle.std.proofs.lemmas.Bool.{eqb-true}
-use Rattle.std.proofs.lemmas.List.{drop-drop, drop-take, length-take, take-append-drop}
+use Rattle.std.proofs.lemmas.List.{drop-drop, drop-take, length-take}
 use Rattle.std.proofs.lemmas.List.Elements.{All-from_get_or}
 use Rattle.std.proofs.lemmas.List.Folds.{list_all_at}
 use Rattle.memchr.specs.Find.{IsFirstByte, is_byte}
@@ -14,9 +14,10 @@ use Rattle.sum_lines.specs.Profiles.{present}
 use Rattle.sum_lines.specs.Escape.{escape}
 use Rattle.sum_lines.specs.Entries.{begins_standard}
 use Rattle.sum_lines.specs.ParsedLines.{unescape, with_raw}
-use Rattle.sum_lines.specs.refinement.Found.{line_parts, text_of}
+use Rattle.sum_lines.specs.refinement.Found.{line_parts}
 use Rattle.sum_lines.proofs.PrefixLemmas.{none_of}
 use Rattle.sum_lines.proofs.UnescapeLemmas.{all-of, unescape-escape, escape-unescape}
+use Rattle.std.proofs.lemmas.Grind.{common_steps}
 
 -- a part of a vector that was cut behind it
 pub part_of : (xs : List ℕ) (i j : ℕ) → i ≤ j → drop i (take j xs) ≡ slice_range xs i j
@@ -28,16 +29,14 @@ pub unescaped : (from : ℕ) (old new : List ℕ) (r : Bool)
     → ((n : List ℕ) → (drop from old ≡ escape n) ↔ ((r ≡ true) × (new ≡ take from old ++ n)))
     → take from new ≡ take from old → cond r (Some (drop from new)) None ≡ unescape present (drop from old)
 unescaped from old new true h before =
-    let whole : new ≡ take from old ++ drop from new =
-    sym (take-append-drop from new) ∙ ap (λ l. l ++ drop from new) before in
+    let whole : new ≡ take from old ++ drop from new = grind (arith, common_steps) in
     sym (ap (unescape present) ((h (drop from new)).1 (refl, whole)) ∙ unescape-escape present (drop from new))
 unescaped from old new false h before = none_of (unescape present (drop from old)) (λ n is.
     let bad = ((h n).0 (escape-unescape present (drop from old) n is)).0 in cc)
 
 -- a byte that isn't NUL is above zero
 above_zero : (x : ℕ) → (is_byte 0 x ≡ true → ⊥) → 0 < x
-above_zero zero h = absurd (h refl)
-above_zero (suc x) h = omega arith
+above_zero x h = grind arith
 
 -- a search for NUL tells whether all bytes are above zero
 pub no_nul : (xs : List ℕ) (r : Option ℕ) → IsFirstByte (is_byte 0) xs r → not (is_some r) ≡ list_all (nat_lt 0) xs
@@ -57,13 +56,12 @@ range-more xs i j lt =
 
 -- a tail that begins with a space or a star and goes on has two bytes at least
 standard-two : (tail : List ℕ) → begins_standard tail ≡ true → 2 ≤ length tail
-standard-two (a ∷ b ∷ bs) h = omega arith
-standard-two tail h = cc
+standard-two tail h = grind arith
 
 -- so its raw name stands one place further on
-pub raw-standard : (line : List ℕ) (p : LineParts) → begins_standard (text_of line p) ≡ true
+pub raw_standard : (line : List ℕ) (p : LineParts) → begins_standard (line_parts line p).text ≡ true
     → with_raw Standard (line_parts line p) ≡ Some (line_parts line (record p { start = p.start + 1 }))
-raw-standard line p h =
-    let two = standard-two (text_of line p) h in
+raw_standard line p h =
+    let two = standard-two (line_parts line p).text h in
     let size = length-take (p.stop - p.start) (drop p.start line) in
     rw (h, range-more line p.start p.stop (omega arith)) refl

@@ -1,6 +1,6 @@
 -- What is computed of a line's entry is what the relation Entry allows.
-use Rattle.std.proofs.Common.{◌≡◌, ℕ, Bool, true, false, List, [], ◌∷◌, drop, Option, None, Some, refl, ap, sym, ◌∙◌, inl, inr}
-use Rattle.std.specs.Option.{option_or}
+use Rattle.std.proofs.Common.{◌≡◌, ℕ, Bool, true, false, List, [], ◌∷◌, drop, Option, None, Some, refl, ap, sym, ◌∙◌, inl, inr, cond, arith}
+use Rattle.std.specs.Option.{option_or, option_map_or}
 use Rattle.std.proofs.lemmas.Option.{cond_some, same_Some}
 use Rattle.digest_kinds.specs.Kinds.{KindValue}
 use Rattle.digest_kinds.specs.declared.algo.Algos.{Algos}
@@ -11,8 +11,8 @@ use Rattle.sum_lines.specs.Escape.{escape_by}
 use Rattle.sum_lines.specs.Shapes.{Plain}
 use Rattle.sum_lines.specs.Entries.{Spelled, Entry, RawOf, begins_standard, is_ignored_by}
 use Rattle.sum_lines.specs.PartsOfLines.{◌>>=◌, Parts, tagged_parts, plain_parts}
-use Rattle.sum_lines.specs.ParsedLines.{with_raw, entry_of_parts, entry_of}
-use Rattle.sum_lines.specs.Laws.{OneEntry, SaysOf, SaysIs}
+use Rattle.sum_lines.specs.ParsedLines.{with_raw, entry_of_parts, entry_of, Nothing, Improper, WithEntry}
+use Rattle.sum_lines.specs.Laws.{OneEntry, SaysIs}
 use Rattle.sum_lines.proofs.PrefixLemmas.{bind_some, none_of}
 use Rattle.sum_lines.proofs.PlainLemmas.{apart, plain_is_read, read_is_plain}
 use Rattle.sum_lines.proofs.TaggedLemmas.{tagged_is_read, read_is_tagged}
@@ -120,33 +120,35 @@ one_entry algos f line s t p q =
 
 -- ---- what a line says
 
--- an ignored line says nothing, one without an entry is improper, and any other says its entry
-says-by : (p : Profile) (algos : Algos) (f : Form) (line : List ℕ) (ignored : Bool) (o : Option Spelled)
-    → is_ignored_by p line ≡ ignored → entry_of p algos f line ≡ o → SaysOf p algos f line
-says-by p algos f line true o i e = record {
-  nothing = (λ h. i, λ h. rw i refl);
-  spells = λ s. (λ h. let bad = rw i at h in cc, λ h. let bad = sym i ∙ h.0 in cc);
-  improper = (λ h. let bad = rw i at h in cc, λ h. let bad = sym i ∙ h.0 in cc);
-}
-says-by p algos f line false None i e =
-    let none : (s : Spelled) → Entry (escape_by p) algos f line s → ⊥ =
-    λ s h. let bad = sym e ∙ entry_value p algos f line s h in cc in
-    record {
-      nothing = (λ h. let bad = rw (i, e) at h in cc, λ h. let bad = sym i ∙ h in cc);
-      spells = λ s. (λ h. let bad = rw (i, e) at h in cc, λ h. absurd (none s h.1));
-      improper = (λ h. (i, none), λ h. rw (i, e) refl);
-    }
-says-by p algos f line false (Some t) i e =
-    let entry = value_entry p algos f line t e in
-    record {
-      nothing = (λ h. let bad = rw (i, e) at h in cc, λ h. let bad = sym i ∙ h in cc);
-      spells = λ s. (
-        λ h. let says = rw (i, e) at h in let same : t ≡ s = cc in (i, rw (← same) entry),
-        λ h. rw (i, entry_value p algos f line s h.1) refl,
-      );
-      improper = (λ h. let bad = rw (i, e) at h in cc, λ h. absurd (h.1 t entry));
-    }
+-- what is said of a line, by whether it is ignored and its entry: nothing
+said-nothing : (ignored : Bool) (o : Option Spelled)
+    → cond ignored Nothing (option_map_or WithEntry o Improper) ≡ Nothing → ignored ≡ true
+said-nothing ignored o h = grind arith
+
+-- its entry
+said-entry : (ignored : Bool) (o : Option Spelled) (s : Spelled)
+    → cond ignored Nothing (option_map_or WithEntry o Improper) ≡ WithEntry s → (ignored ≡ false) × (o ≡ Some s)
+said-entry ignored o s h = grind arith
+
+-- or that it is improper
+said-improper : (ignored : Bool) (o : Option Spelled)
+    → cond ignored Nothing (option_map_or WithEntry o Improper) ≡ Improper → (ignored ≡ false) × (o ≡ None)
+said-improper ignored o h = grind arith
 
 -- what a line says is computed, whichever the profile
 pub says_is : SaysIs
-says_is p algos f line = says-by p algos f line (is_ignored_by p line) (entry_of p algos f line) refl refl
+says_is p algos f line =
+    let ignored = is_ignored_by p line in
+    let entry = entry_of p algos f line in
+    record {
+      nothing = (said-nothing ignored entry, λ h. rw h refl);
+      spells = λ s. (
+        λ h. let said = said-entry ignored entry s h in (said.0, value_entry p algos f line s said.1),
+        λ h. rw (h.0, entry_value p algos f line s h.1) refl,
+      );
+      improper = (
+        λ h. let said = said-improper ignored entry h in
+            (said.0, λ s e. let bad = sym said.1 ∙ entry_value p algos f line s e in cc),
+        λ h. rw (h.0, ← none_of entry (λ s e. h.1 s (value_entry p algos f line s e))) refl,
+      );
+    }

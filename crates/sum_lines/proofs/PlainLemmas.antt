@@ -13,12 +13,11 @@ use Rattle.hex.specs.Hex.{decode_of, is_hex_digit}
 use Rattle.hex.proofs.HexLemmas.{decode_of-ok}
 use Rattle.digest_kinds.specs.Kinds.{KindValue, has_len, tag}
 use Rattle.digest_kinds.specs.declared.algo.Algo.{Algo}
-use Rattle.digest_kinds.specs.declared.algo.Algo.TheVariants.{Md5, Blake2b}
 use Rattle.digest_kinds.specs.declared.algo.Algos.{Algos}
 use Rattle.digest_kinds.specs.declared.algo.Algos.TheVariants.{One, Any}
 use Rattle.sum_lines.specs.Shapes.{is_blank, Plain, Tagged}
 use Rattle.sum_lines.specs.PartsOfLines.{Parts, after_while, mark_and_rest, plain_as, plain_parts}
-use Rattle.sum_lines.proofs.PrefixLemmas.{bind_some, ok_some, prefix-passes, prefix-and-rest, prefix_len-stop, rest-seam, mark_and_rest-is}
+use Rattle.sum_lines.proofs.PrefixLemmas.{bind_some, ok_some, prefix_passes, prefix-and-rest, prefix_len-stop, rest-seam, mark_and_rest-is}
 use Rattle.sum_lines.proofs.TaggedLemmas.{Begins, begins-by, passes-other, behind_tag, hex-no_blank, tagged-prefix, mark_and_rest-prefix}
 use Rattle.sum_lines.proofs.BitsLemmas.{has_len-range}
 
@@ -73,7 +72,7 @@ read_is_plain {algos = One a} {line} {p} h =
       blank = get_or s (position_or_len is_blank s) 0;
       one = refl;
       has = cut.has;
-      are_blanks = prefix-passes is_blank line;
+      are_blanks = prefix_passes is_blank line;
       spelled = cut.spelled;
       size = refl;
       is_one_blank = passes_at_first is_blank s 0 within;
@@ -148,9 +147,7 @@ plain_is_read p t =
 -- no two digits begin a tag
 no_digits : (a : Algo) (x y : ℕ) (xs rest : List ℕ) → is_hex_digit x ≡ true → is_hex_digit y ≡ true
     → x ∷ y ∷ xs ≡ tag a ++ rest → ⊥
-no_digits Md5 x y xs rest h k e = let same : x ≡ 77 = cc in let bad = rw same at h in cc
-no_digits Blake2b x y xs rest h k e = let same : y ≡ 76 = cc in let bad = rw same at k in cc
-no_digits sha x y xs rest h k e = let same : x ≡ 83 = cc in let bad = rw same at h in cc
+no_digits a x y xs rest h k e = grind arith
 
 -- so a plain line's digits begin none
 pub no_prefix : (a : Algo) (ds s rest : List ℕ) → AllPass is_hex_digit ds → 2 ≤ length ds → ds ++ s ≡ tag a ++ rest → ⊥

@@ -1,19 +1,20 @@
 -- The longest prefix that passes, and what stands behind a text or a byte.
-use Rattle.std.proofs.Common.{ℕ, zero, suc, ◌≡◌, ◌≢◌, ◌+◌, ◌-◌, ◌<◌, ◌≤◌, Bool, true, false, eq-eqb, ◌==◌, List, [], ◌∷◌, ◌++◌, length, take, drop, get_or, Option, None, Some, Result, Ok, Err, refl, ap, sym, ◌∙◌, arith, inl, inr, append_assoc, length-append}
+use Rattle.std.proofs.Common.{ℕ, zero, suc, ◌≡◌, ◌≢◌, ◌+◌, ◌<◌, ◌≤◌, Bool, true, false, ◌==◌, List, [], ◌∷◌, ◌++◌, length, take, drop, get_or, Option, None, Some, Result, Ok, Err, refl, ap, sym, ◌∙◌, arith, inl, inr, length-append}
 use Rattle.std.specs.List.{All, AllPass, prefix_len, starts_with, take_while}
 use Rattle.std.specs.Option.{option_map, option_or}
 use Rattle.std.specs.Result.{result_ok}
 use Rattle.std.specs.Path.{rsplit_once, rfind_below}
 use Rattle.std.proofs.Math.Seq.{get_or-append_seam}
 use Rattle.std.proofs.lemmas.Bool.{cases_Bool, ne_eqb}
-use Rattle.std.proofs.lemmas.Bool.Decides.{Decides-eqb, eqb_tells}
-use Rattle.std.proofs.lemmas.List.{take-append-drop, take_at, drop_at, drop_more, get_or-append-add}
+use Rattle.std.proofs.lemmas.Bool.Decides.{Decides-eqb}
+use Rattle.std.proofs.lemmas.List.{take-append-drop, take_at, drop_at, get_or-append_right}
 use Rattle.std.proofs.lemmas.List.Sums.{take_while-cons}
 use Rattle.std.proofs.lemmas.List.Elements.{All-cons, All-get_or, All-head, All-tail, All-nil}
 use Rattle.std.proofs.lemmas.Option.{cond_some, same_Some}
 use Rattle.std.proofs.lemmas.Slice.Eq.{starts_is}
 use Rattle.sum_lines.specs.PartsOfLines.{◌>>=◌, after_while, strip_prefix, mark_and_rest}
 use Rattle.sum_lines.specs.Shapes.{mark, optional}
+use Rattle.std.proofs.lemmas.Grind.{common_steps}
 
 -- a step that gives something had something to go on with
 pub bind_some : {A B : Type 0} {y : B} (o : Option A) (f : A → Option B) → (o >>= f) ≡ Some y
@@ -45,11 +46,11 @@ none_of (Some x) h = absurd (h x refl)
 -- ---- the longest prefix that passes
 
 -- its bytes pass
-pub prefix-passes : (p : ℕ → Bool) (xs : List ℕ) → AllPass p (take_while p xs)
-prefix-passes p [] = All-nil (λ x. p x ≡ true)
-prefix-passes p (x ∷ xs) = elim (cases_Bool (p x)) [
+pub prefix_passes : (p : ℕ → Bool) (xs : List ℕ) → AllPass p (take_while p xs)
+prefix_passes p [] = All-nil (λ x. p x ≡ true)
+prefix_passes p (x ∷ xs) = elim (cases_Bool (p x)) [
   | inl pass ↦ rw (take_while-cons p x xs, pass)
-      (All-cons (λ x. p x ≡ true) x (take_while p xs) pass (prefix-passes p xs))
+      (All-cons (λ x. p x ≡ true) x (take_while p xs) pass (prefix_passes p xs))
   | inr stop ↦ rw (take_while-cons p x xs, stop) (All-nil (λ x. p x ≡ true))
 ]
 
@@ -84,11 +85,7 @@ parts-at p xs y ys all stop =
 
 -- a line's text is its backslash, where it has one, and what stands behind that
 pub mark_and_rest-is : (xs : List ℕ) → xs ≡ mark (mark_and_rest xs).0 ++ (mark_and_rest xs).1
-mark_and_rest-is [] = refl
-mark_and_rest-is (x ∷ xs) = elim (eqb_tells x 92) [
-  | inl same ↦ rw same.1 refl
-  | inr other ↦ rw other.0 refl
-]
+mark_and_rest-is xs = grind arith
 
 -- what was passed over stood in front
 pub strip_prefix-some : (xs ys zs : List ℕ) → strip_prefix xs ys ≡ Some zs → ys ≡ xs ++ zs
@@ -126,30 +123,19 @@ opened-at false inner = refl
 pub rfind-none : (c : ℕ) (s : List ℕ) (n : ℕ) → ((i : ℕ) → i < n → (get_or s i 0 == c) ≡ false)
     → rfind_below c s n ≡ None
 rfind-none c s zero other = refl
-rfind-none c s (suc n) other =
-    rw (other n (omega arith)) (rfind-none c s n (λ i less. other i (omega (arith, less))))
+rfind-none c s (suc n) other = grind (arith, rfind-none c s n)
 
 -- it stops at the first such byte that it meets
-pub rfind-at : (c : ℕ) (s : List ℕ) (k j : ℕ) → get_or s k 0 ≡ c
-    → ((i : ℕ) → k < i → i < k + 1 + j → (get_or s i 0 == c) ≡ false) → rfind_below c s (k + 1 + j) ≡ Some k
-rfind-at c s k zero here other =
-    let n : k + 1 + 0 ≡ suc k = omega arith in
-    ap (rfind_below c s) n ∙ rw (eq-eqb (get_or s k 0) c here) refl
-rfind-at c s k (suc j) here other =
-    let n : k + 1 + suc j ≡ suc (k + 1 + j) = omega arith in
-    ap (rfind_below c s) n ∙ rw (other (k + 1 + j) (omega arith) (omega arith))
-    (rfind-at c s k j here (λ i more less. other i more (omega (arith, less))))
+pub rfind-at : (c : ℕ) (s : List ℕ) (k n : ℕ) → k < n → get_or s k 0 ≡ c
+    → ((i : ℕ) → k < i → i < n → (get_or s i 0 == c) ≡ false) → rfind_below c s n ≡ Some k
+rfind-at c s k zero less here other = absurd (omega arith)
+rfind-at c s k (suc n) less here other = grind (arith, rfind-at c s k n)
 
 -- and nowhere else
 rfind-some : (c : ℕ) (s : List ℕ) (n k : ℕ) → n ≤ length s → rfind_below c s n ≡ Some k
     → (k < length s) × (get_or s k 0 ≡ c)
 rfind-some c s zero k le h = cc
-rfind-some c s (suc n) k le h = elim (eqb_tells (get_or s n 0) c) [
-  | inl here ↦
-      let same : n ≡ k = same_Some n k (rw here.0 at h) in
-      (omega (arith, le, same), rw (← same) here.1)
-  | inr other ↦ rfind-some c s n k (omega (arith, le)) (rw other.0 at h)
-]
+rfind-some c s (suc n) k le h = grind (arith, rfind-some c s n k)
 
 -- what is split joins again, with that byte between
 pub rsplit-some : (c : ℕ) (s : List ℕ) (p : List ℕ × List ℕ) → rsplit_once c s ≡ Some p → s ≡ p.0 ++ (c ∷ p.1)
@@ -161,25 +147,23 @@ rsplit-some c s p h = go (rfind_below c s (length s)) refl h
     go None e k = cc
     go (Some i) e k =
         let at = rfind-some c s (length s) i (omega arith) e in
-        rw (← same_Some (take i s, drop (i + 1) s) p k) (sym (take-append-drop i s)
-        ∙ ap (λ l. take i s ++ l) (drop_more s i 0 at.0 ∙ ap (λ x. x ∷ drop (i + 1) s) at.1))
+        rw (← same_Some (take i s, drop (i + 1) s) p k) (grind (arith, common_steps))
 
 -- what stands behind a byte
 pub rest-seam : (xs : List ℕ) (b : ℕ) (ys : List ℕ) → drop (length xs + 1) (xs ++ (b ∷ ys)) ≡ ys
-rest-seam xs b ys =
-    ap (drop (length xs + 1)) (sym (append_assoc xs (b ∷ []) ys))
-    ∙ drop_at (xs ++ (b ∷ [])) ys (length xs + 1) (length-append xs (b ∷ []))
+rest-seam [] b ys = refl
+rest-seam (x ∷ xs) b ys = grind (arith, rest-seam xs b ys)
+
+-- behind a byte stands what follows it
+behind_seam : (xs : List ℕ) (c : ℕ) (ys : List ℕ) → All (λ x. x ≢ c) ys → (i : ℕ) → length xs < i
+    → i < length (xs ++ (c ∷ ys)) → get_or (xs ++ (c ∷ ys)) i 0 ≢ c
+behind_seam xs c ys all i more less = grind (arith, get_or-append_right, All-get_or, length-append)
 
 -- where what follows a byte has none of it, the split is there
 pub rsplit-at : (c : ℕ) (xs ys : List ℕ) → All (λ x. x ≢ c) ys → rsplit_once c (xs ++ (c ∷ ys)) ≡ Some (xs, ys)
 unfolding rsplit_once
 rsplit-at c xs ys all =
-    let s : List ℕ = xs ++ (c ∷ ys) in
-    let n : length s ≡ length xs + 1 + length ys = length-append xs (c ∷ ys) ∙ omega arith in
-    let other : (i : ℕ) → length xs < i → i < length xs + 1 + length ys → (get_or s i 0 == c) ≡ false =
-    λ i more less. let at : get_or s i 0 ≡ get_or ys (i - (length xs + 1)) 0 =
-    ap (λ k. get_or s k 0) (omega (arith, more)) ∙ get_or-append-add xs (c ∷ ys) (suc (i - (length xs + 1))) 0 in
-    rw at (ne_eqb _ c
-    (All-get_or (λ x. x ≢ c) ys (i - (length xs + 1)) 0 (omega (arith, more, less)) all)) in
-    let found = ap (rfind_below c s) n ∙ rfind-at c s (length xs) (length ys) (get_or-append_seam xs c ys 0) other in
+    let found : rfind_below c (xs ++ (c ∷ ys)) (length (xs ++ (c ∷ ys))) ≡ Some (length xs) =
+    rfind-at c _ (length xs) _ (omega (arith, length-append xs (c ∷ ys))) (get_or-append_seam xs c ys 0)
+    (λ i more less. ne_eqb _ c (behind_seam xs c ys all i more less)) in
     rw (found, take_at xs (c ∷ ys) (length xs) refl, rest-seam xs c ys) refl

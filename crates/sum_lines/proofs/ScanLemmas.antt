@@ -1,11 +1,10 @@
 -- What the scanning functions answer, step by step.
-use Rattle.std.proofs.Common.{ℕ, ◌≡◌, ◌≢◌, ◌+◌, ◌-◌, ◌*◌, ◌<◌, ◌≤◌, Bool, true, false, eq-eqb, ◌==◌, List, [], ◌∷◌, ◌++◌, length, take, drop, get_or, slice_range, Option, None, Some, MatchOption, Ok, Bor, refl, ap, sym, ◌∙◌, arith, inl, inr, append_assoc, length-append}
+use Rattle.std.proofs.Common.{ℕ, ◌≡◌, ◌≢◌, ◌+◌, ◌-◌, ◌*◌, ◌<◌, ◌≤◌, Bool, eq-eqb, List, [], ◌∷◌, ◌++◌, length, take, drop, get_or, slice_range, Option, None, Some, MatchOption, Ok, Bor, refl, sym, arith, append_assoc}
 use Rattle.std.specs.List.{take_while}
 use Rattle.std.specs.Option.{option_copied, option_or}
-use Rattle.std.specs.Path.{rsplit_once, rfind_below}
+use Rattle.std.specs.Path.{rsplit_once}
 use Rattle.std.specs.Result.{result_ok}
-use Rattle.std.proofs.lemmas.Bool.{cases_Bool, eqb-true, lt-ltb, ne_eqb}
-use Rattle.std.proofs.lemmas.List.{append-nil, drop_at, take_at}
+use Rattle.std.proofs.lemmas.Bool.{eqb-true, lt-ltb, ne_eqb, false_from_ne_true}
 use Rattle.memchr.specs.Find.{Nowhere, Passes, IsLastByte, is_byte}
 use Rattle.hex.specs.Hex.{decode_of}
 use Rattle.hex.proofs.HexLemmas.{decode_of-ok}
@@ -17,6 +16,7 @@ use Rattle.sum_lines.specs.PartsOfLines.{after_while, strip_prefix, mark_and_res
 use Rattle.sum_lines.specs.refinement.Found.{EndsIn}
 use Rattle.sum_lines.proofs.PrefixLemmas.{bind_none, none_of, ok_some, strip_prefix-some, strip_prefix-append, prefix-and-rest, opened-some, rfind-at, rfind-none, mark_and_rest-is}
 use Rattle.sum_lines.proofs.TaggedLemmas.{width_at-some}
+use Rattle.std.proofs.lemmas.Grind.{common_steps}
 
 -- ---- a text in front
 
@@ -28,31 +28,19 @@ behind_is xs ys (Some x) is = rw is (sym (strip_prefix-append xs x.now))
 
 -- ---- the last such byte
 
--- a byte that a search passes over is another
-other_byte : (c x : ℕ) → (is_byte c x ≡ true → ⊥) → (x == c) ≡ false
-other_byte c x none = elim (cases_Bool (x == c)) [
-  | inl here ↦ absurd (none here)
-  | inr other ↦ other
-]
-
 -- a search from the end that finds none
 pub last_none : (c : ℕ) (s : List ℕ) → Nowhere (Passes (is_byte c) s) 0 (length s) → rsplit_once c s ≡ None
 unfolding rsplit_once
 last_none c s none =
-    let other = λ (i : ℕ) (less : i < length s). other_byte c (get_or s i 0) (none i (omega arith) less) in
-    rw (rfind-none c s (length s) other) refl
+    rw (rfind-none c s (length s) (λ i less. false_from_ne_true _ (none i (omega arith) less))) refl
 
 -- one that finds the byte at that place
 pub last_some : (c k : ℕ) (s : List ℕ) → IsLastByte (is_byte c) s (Some k)
     → rsplit_once c s ≡ Some (take k s, drop (k + 1) s)
 unfolding rsplit_once
 last_some c k s last =
-    let high = last.0.high in
-    let n : k + 1 + (length s - (k + 1)) ≡ length s = omega (arith, high) in
-    let found : rfind_below c s (length s) ≡ Some k =
-    ap (rfind_below c s) (sym n) ∙ rfind-at c s k (length s - (k + 1)) (eqb-true (get_or s k 0) c last.1)
-    (λ i more less. other_byte c (get_or s i 0) (last.0.after i (omega (arith, more)) (omega (arith, less, high)))) in
-    rw found refl
+    rw (rfind-at c s k (length s) last.0.high (eqb-true (get_or s k 0) c last.1)
+    (λ i more less. false_from_ne_true _ (last.0.after i (omega (arith, more)) less))) refl
 
 -- ---- digits that spell no digest of that length
 
@@ -78,19 +66,16 @@ digest_none s d n some few none spelled same =
 -- ---- where the parts stand in the line
 
 -- behind its blanks and its mark the line ends in its text
-pub text-ends : (line : List ℕ) (text : Bool × List ℕ) → text ≡ mark_and_rest (after_while is_blank line)
+pub text_ends : (line : List ℕ) (text : Bool × List ℕ) → text ≡ mark_and_rest (after_while is_blank line)
     → EndsIn line text.1
-text-ends line text is = (
-  take_while is_blank line ++ mark text.0,
-  prefix-and-rest is_blank line ∙ ap (λ l. take_while is_blank line ++ l) (mark_and_rest-is (after_while is_blank line)
-      ∙ ap (λ (x : Bool × List ℕ). mark x.0 ++ x.1) (sym is))
-      ∙ sym (append_assoc (take_while is_blank line) (mark text.0) text.1),
-)
+text_ends line text is =
+    let whole = prefix-and-rest is_blank line in
+    let marked = mark_and_rest-is (after_while is_blank line) in
+    (take_while is_blank line ++ mark text.0, grind (arith, append_assoc))
 
 -- and so in what stands behind any part of that
 pub ends-behind : {line s : List ℕ} (xs rest : List ℕ) → EndsIn line s → s ≡ xs ++ rest → EndsIn line rest
-ends-behind xs rest ends is =
-    (ends.0 ++ xs, ends.1 ∙ ap (λ l. ends.0 ++ l) is ∙ sym (append_assoc ends.0 xs rest))
+ends-behind xs rest ends is = (ends.0 ++ xs, grind (arith, append_assoc))
 
 -- and what stands behind the parenthesis
 pub inner-ends : {line s inner : List ℕ} (a : Algo) (w : KindValue × List ℕ) → EndsIn line s → Some w ≡ width_at a s
@@ -106,25 +91,12 @@ inner-ends {s = s} {inner = inner} a w ends wide opened =
 pub place : {line s : List ℕ} (raw rest : List ℕ) → EndsIn line s → s ≡ raw ++ rest
     → (length s ≤ length line) × (length line - length s + length raw ≤ length line)
     × (slice_range line (length line - length s) (length line - length s + length raw) ≡ raw)
-place {line} {s} raw rest ends is =
-    let sum : length line ≡ length ends.0 + length s = ap length ends.1 ∙ length-append ends.0 s in
-    let part : length s ≡ length raw + length rest = ap length is ∙ length-append raw rest in
-    let start : length line - length s ≡ length ends.0 = omega (arith, sum) in
-    let rests : drop (length ends.0) line ≡ raw ++ rest =
-    ap (drop (length ends.0)) ends.1 ∙ drop_at ends.0 s (length ends.0) refl ∙ is in
-    let len : (length ends.0 + length raw) - length ends.0 ≡ length raw = omega arith in (
-      omega (arith, sum),
-      omega (arith, sum, part),
-      rw (start, len, rests) (take_at raw rest (length raw) refl),
-    )
+place raw rest ends is = grind (arith, common_steps)
 
 -- the end has its place in the line
 pub tail-place : {line tail : List ℕ} → EndsIn line tail
     → slice_range line (length line - length tail) (length line) ≡ tail
-tail-place {line} {tail} ends =
-    let at = place tail [] ends (sym (append-nil tail)) in
-    let stop : length line - length tail + length tail ≡ length line = omega (arith, at.0) in
-    ap (slice_range line (length line - length tail)) (sym stop) ∙ at.2
+tail-place ends = grind (arith, common_steps)
 
 -- what was read step by step behind the tag is read as the line's parts
 pub tagged-read : {w : KindValue × List ℕ} {inner digits d : List ℕ} {name : List ℕ × List ℕ}

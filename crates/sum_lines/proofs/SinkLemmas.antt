@@ -31,65 +31,32 @@ Wrote-trans {a} {b} {c} xs ys first second = record {
   kept = second.kept ∙ first.kept;
 }
 
--- what was handed on of a text that was taken, and what is held of it still, are what was held and the text
-moved : (old new more held_before held_after text : List ℕ) → new ≡ old ++ more
-    → new ++ held_after ≡ (old ++ held_before) ++ text → more ++ held_after ≡ held_before ++ text
-moved old new more held_before held_after text grown taken = append_cancel_left old _ _
-    (sym (append_assoc old more held_after) ∙ ap (λ l. l ++ held_after) (sym grown) ∙ taken
-    ∙ append_assoc old held_before text)
-
--- a text was taken, and then all that was held was handed on
-handed_all : (a b c : Option (List ℕ)) (held_before held_after text : List ℕ)
-    → Appends (append_known a held_before) (append_known b held_after) text → Appends b c held_after
-    → Appends a c (held_before ++ text)
-handed_all None b c held_before held_after text taken handed = tt
-handed_all (Some x) None c held_before held_after text taken handed = absurd taken
-handed_all (Some x) (Some y) None held_before held_after text taken handed = absurd handed
-handed_all (Some x) (Some y) (Some z) held_before held_after text taken handed =
-    handed ∙ taken ∙ append_assoc x held_before text
-
 -- a text was taken, and then a prefix of what was held was handed on
 handed_some : (a b c : Option (List ℕ)) (held_before held_after text : List ℕ) → Grows a b
     → Appends (append_known a held_before) (append_known b held_after) text → AppendsPrefix b c held_after
     → AppendsPrefix a c (held_before ++ text)
 handed_some None b c held_before held_after text grows taken handed = ([], (held_before ++ text, refl), tt)
-handed_some (Some x) None c held_before held_after text grows taken handed = absurd grows.1
-handed_some (Some x) (Some y) None held_before held_after text grows taken handed = absurd handed.2
-handed_some (Some x) (Some y) (Some z) held_before held_after text grows taken handed =
-    let all = moved x y grows.0 held_before held_after text grows.1 taken in
-    let cut = sym all ∙ ap (λ l. grows.0 ++ l) handed.1.1 ∙ sym (append_assoc grows.0 handed.0 handed.1.0) in
-    let end = handed.2 ∙ ap (λ l. l ++ handed.0) grows.1 ∙ append_assoc x grows.0 handed.0 in
-    (grows.0 ++ handed.0, (handed.1.0, cut), end)
+handed_some (Some x) b c held_before held_after text grows taken handed =
+    let grown = grows.1 in
+    let cut = handed.1.1 in
+    let end = handed.2 in
+    (grows.0 ++ handed.0, (handed.1.0, grind (arith, append_assoc, append_cancel_left)), grind (arith, append_assoc))
 
 -- a text was taken, and then a proper prefix of what was held and of one more piece was handed on
 handed_part : (a b c : Option (List ℕ)) (held_before held_after text piece later : List ℕ) → Grows a b
     → Appends (append_known a held_before) (append_known b held_after) text → 0 < length piece
     → AppendsPart b c (held_after ++ piece) → AppendsPart a c (held_before ++ (text ++ (piece ++ later)))
-handed_part None b c held_before held_after text piece later grows taken some handed = (
-  held_before ++ text,
-  piece ++ later,
-  sym (append_assoc held_before text (piece ++ later)),
-  omega (arith, length-append piece later),
-  tt,
-)
-handed_part (Some x) None c held_before held_after text piece later grows taken some handed = absurd grows.1
-handed_part (Some x) (Some y) None held_before held_after text piece later grows taken some handed = absurd handed.4
-handed_part (Some x) (Some y) (Some z) held_before held_after text piece later grows taken some handed =
-    let all = moved x y grows.0 held_before held_after text grows.1 taken in
-    let prefix = handed.0 in
-    let left = handed.1 in
-    let cut : held_before ++ (text ++ (piece ++ later)) ≡ (grows.0 ++ prefix) ++ (left ++ later) =
-    sym (append_assoc held_before text (piece ++ later)) ∙ ap (λ l. l ++ (piece ++ later)) (sym all)
-    ∙ append_assoc grows.0 held_after (piece ++ later)
-    ∙ ap (λ l. grows.0 ++ l) (sym (append_assoc held_after piece later))
-    ∙ ap (λ l. grows.0 ++ (l ++ later)) handed.2
-    ∙ ap (λ l. grows.0 ++ l) (append_assoc prefix left later)
-    ∙ sym (append_assoc grows.0 prefix (left ++ later)) in (
-      grows.0 ++ prefix,
-      left ++ later,
-      cut,
-      omega (arith, handed.3, length-append left later),
-      handed.4 ∙ ap (λ l. l ++ prefix) grows.1 ∙ append_assoc x grows.0 prefix,
+handed_part None b c held_before held_after text piece later grows taken some handed =
+    ([], held_before ++ (text ++ (piece ++ later)), refl, grind (arith, length-append), tt)
+handed_part (Some x) b c held_before held_after text piece later grows taken some handed =
+    let grown = grows.1 in
+    let cut = handed.2 in
+    let end = handed.4 in (
+      grows.0 ++ handed.0,
+      handed.1 ++ later,
+      grind (arith, append_assoc, append_cancel_left),
+      omega (arith, handed.3, length-append handed.1 later),
+      grind (arith, append_assoc),
     )
 
 -- a text was written, and a call without a text failed behind it: of what was held before and of the text a prefix was
@@ -102,7 +69,7 @@ Wrote-dropped {a} {b} {c} text wrote dropped =
 -- a text was written, and then all that was held was handed on
 pub Wrote-flushed : {a b : SinkState} (c : Option (List ℕ)) (text : List ℕ) → Wrote a b text
     → Appends b.written c b.held → Appends a.written c (a.held ++ text)
-Wrote-flushed {a} {b} c text wrote handed = handed_all a.written b.written c a.held b.held text wrote.taken handed
+Wrote-flushed c text wrote handed = let taken = wrote.taken in grind (arith, append_assoc)
 
 -- nothing was written, and then a flush came
 pub Flushes-behind : {E : Type 0} {a : SinkState} (b c : SinkState) (r : Result (Unit {0}) E) → Wrote a b []
@@ -120,15 +87,11 @@ pub Dropped-broke : {a b : SinkState} {text : List ℕ} → Dropped a b → 0 < 
 Dropped-broke {text = text} dropped some =
     let prefix = dropped.handed.0 in
     let rest = dropped.handed.1.0 in
+    let cut = dropped.handed.1.1 in
+    let longer : 0 < length (rest ++ text) = omega (arith, some, length-append rest text) in
     record {
       some = some;
-      handed = (
-        prefix,
-        rest ++ text,
-        ap (λ l. l ++ text) dropped.handed.1.1 ∙ append_assoc prefix rest text,
-        omega (arith, some, length-append rest text),
-        dropped.handed.2,
-      );
+      handed = (prefix, rest ++ text, grind (arith, append_assoc), longer, dropped.handed.2);
       none = dropped.none;
       failed = dropped.failed;
     }
@@ -138,7 +101,7 @@ pub Wrote-told : (old new piece : List ℕ) (failures : ℕ) → new ≡ old ++ 
     → Wrote (record { written = Some old; held = []; failures = failures })
     (record { written = Some new; held = []; failures = failures }) piece
 Wrote-told old new piece failures is = record {
-  taken = append-nil new ∙ is ∙ ap (λ l. l ++ piece) (sym (append-nil old));
+  taken = grind (arith, append-nil);
   grows = (piece, is);
   kept = refl;
 }

@@ -1,6 +1,6 @@
 -- What is read of a tagged line joins to the line, and a line that joins from the parts of a tagged line is read as these
 -- parts.
-use Rattle.std.proofs.Common.{ℕ, ◌≡◌, Bool, true, ◌==◌, ◌&&◌, List, [], ◌∷◌, ◌++◌, length, drop, Some, refl, ap, inl, inr, ◌≢◌, ◌*◌, false, eq-eqb, sym, ◌∙◌, arith}
+use Rattle.std.proofs.Common.{ℕ, ◌≡◌, Bool, true, ◌==◌, ◌&&◌, List, [], ◌∷◌, ◌++◌, length, drop, Some, refl, ap, inl, inr, ◌≢◌, ◌*◌, false, eq-eqb, ◌∙◌, arith}
 use Rattle.std.specs.Prelude.{nat_lt}
 use Rattle.std.specs.Char.{is_ascii_digit}
 use Rattle.std.specs.List.{starts_with, take_while, All, AllPass, prefix_len}
@@ -21,7 +21,7 @@ use Rattle.digest_kinds.specs.declared.algo.Algos.{Algos}
 use Rattle.digest_kinds.specs.declared.algo.Algos.TheVariants.{One, Any}
 use Rattle.sum_lines.specs.Shapes.{is_blank, Width, Allows, Tagged, mark, optional}
 use Rattle.sum_lines.specs.PartsOfLines.{Parts, after_while, strip_prefix, mark_and_rest, tag_in, kind_at, width_at, tagged_as, tagged_parts}
-use Rattle.sum_lines.proofs.PrefixLemmas.{bind_some, map_some, ok_some, prefix-passes, prefix-and-rest, mark_and_rest-is, strip_prefix-some, opened-some, rsplit-some, parts-at, prefix_len-all, starts-append, opened-at, rsplit-at}
+use Rattle.sum_lines.proofs.PrefixLemmas.{bind_some, map_some, ok_some, prefix_passes, prefix-and-rest, mark_and_rest-is, strip_prefix-some, opened-some, rsplit-some, parts-at, prefix_len-all, starts-append, opened-at, rsplit-at}
 use Rattle.sum_lines.proofs.BitsLemmas.{kind_at-some, kind_at-bits, decimal-digits, has_len-range}
 use Rattle.std.proofs.lemmas.List.{append-nil, drop_all, drop_at}
 use Rattle.std.specs.Fmt.{decimal}
@@ -116,11 +116,11 @@ read_is_tagged {algos} {line} {p} h =
       after = take_while is_blank digits.0;
       digits = after_while is_blank digits.0;
       allowed = rw wide.is_algo found.allowed;
-      are_blanks = prefix-passes is_blank line;
+      are_blanks = prefix_passes is_blank line;
       is_width = wide.is_width;
       some = ltb-true 0 (length name.0.0) fits.1;
-      before_blanks = prefix-passes is_blank name.0.1;
-      after_blanks = prefix-passes is_blank digits.0;
+      before_blanks = prefix_passes is_blank name.0.1;
+      after_blanks = prefix_passes is_blank digits.0;
       spelled = ok_some _ digest.0 digest.1;
       size = eqb-true (length digest.0) width.0.0.len fits.0;
       whole = rw (
@@ -169,10 +169,7 @@ mark_and_rest-prefix blanks false xs rest are b =
 
 -- a byte that passes a test isn't one that doesn't
 pub passes-other : (test : ℕ → Bool) (c x : ℕ) → test x ≡ true → test c ≡ false → (x == c) ≡ false
-passes-other test c x pass stop = elim (eqb_tells x c) [
-  | inl same ↦ let bad = sym (rw same.1 at pass) ∙ stop in cc
-  | inr other ↦ other.0
-]
+passes-other test c x pass stop = grind arith
 
 -- a digit is no blank
 pub hex-no_blank : (x : ℕ) → is_hex_digit x ≡ true → is_blank x ≡ false

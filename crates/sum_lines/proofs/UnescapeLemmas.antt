@@ -1,10 +1,9 @@
 -- What is escaped can be read back: the name whose escape some bytes are, as it is computed, and as the code finds it.
-use Rattle.std.proofs.Common.{◌≡◌, ℕ, ◌<◌, ◌==◌, ◌&&◌, Bool, true, false, cond, List, [], ◌∷◌, ◌++◌, Some, refl, ap, sym, ◌∙◌, inl, inr, ◌≢◌, ◌+◌, ◌-◌, ◌≤◌, length, take, drop, set, append_assoc, arith, length-set, length-drop}
+use Rattle.std.proofs.Common.{◌≡◌, ℕ, ◌<◌, ◌==◌, Bool, true, false, cond, List, [], ◌∷◌, ◌++◌, Some, refl, ap, sym, ◌∙◌, ◌≢◌, ◌+◌, ◌-◌, ◌≤◌, length, take, drop, set, append_assoc, arith, length-set, length-drop}
 use Rattle.std.specs.List.{All, list_all}
 use Rattle.std.specs.Prelude.{nat_lt, bytes_eq}
-use Rattle.std.proofs.lemmas.Bool.{lt-ltb, ltb-true, and_parts, eqb-true, cases_Bool}
-use Rattle.std.proofs.lemmas.Bool.Decides.{eqb_tells}
-use Rattle.std.proofs.lemmas.List.{append-nil, append_cancel_left, take_rest, length-take-le, drop-drop, take-take, take-append-le, take_more_set, drop-set-lt}
+use Rattle.std.proofs.lemmas.Bool.{lt-ltb, ltb-true}
+use Rattle.std.proofs.lemmas.List.{append-nil, append_cancel_left, length-take-le, drop-drop, take-take, take-append-le, take_more_set, drop-set-lt}
 use Rattle.std.proofs.lemmas.Option.{cond_some}
 use Rattle.std.proofs.lemmas.List.Elements.{All-weaker}
 use Rattle.std.proofs.lemmas.List.Sums.{AllPass-from_list_all, list_all-from_AllPass}
@@ -15,33 +14,18 @@ use Rattle.sum_lines.specs.Entries.{Spells, Spelled}
 use Rattle.sum_lines.specs.ParsedLines.{unescaped_bytes, unescape, entry_of_parts}
 use Rattle.sum_lines.specs.PartsOfLines.{Parts}
 use Rattle.sum_lines.proofs.PrefixLemmas.{bind_some}
-use Rattle.std.proofs.lemmas.Grind.{flat_map-append}
+use Rattle.std.proofs.lemmas.Grind.{flat_map-append, common_steps}
 use Rattle.std.proofs.Math.Seq.{take-append-add}
 
 -- a byte that stands for itself
 plain-first : (b : ℕ) (rest : List ℕ) → (b == 92) ≡ false → unescaped_bytes (b ∷ rest) ≡ b ∷ unescaped_bytes rest
-plain-first b [] h = refl
-plain-first b (c ∷ cs) h = rw h refl
+plain-first b rest h = grind arith
 
 -- unescaping what is escaped gives the name, and goes on behind it
 pub unescaped_bytes-behind : (p : Profile) (n rest : List ℕ)
     → unescaped_bytes (escape_by p n ++ rest) ≡ n ++ unescaped_bytes rest
 unescaped_bytes-behind p [] rest = refl
-unescaped_bytes-behind p (b ∷ bs) rest = let more = unescaped_bytes-behind p bs rest in elim (eqb_tells b 92) [
-  | inl same ↦ rw same.1 (ap (λ l. 92 ∷ l) more)
-  | inr backslash ↦ elim (eqb_tells b 10) [
-    | inl same ↦ rw same.1 (ap (λ l. 10 ∷ l) more)
-    | inr newline ↦ elim (cases_Bool (p.escapes_return && (b == 13))) [
-      | inl return ↦
-          let is : b ≡ 13 = eqb-true b 13 (and_parts p.escapes_return (b == 13) return).1 in
-          let one : escape_of p b ≡ 92 ∷ 114 ∷ [] = rw (backslash.0, newline.0, return) refl in
-          rw (one, is) (ap (λ l. 13 ∷ l) more)
-      | inr return ↦
-          let one : escape_of p b ≡ b ∷ [] = rw (backslash.0, newline.0, return) refl in
-          rw (one, plain-first b (escape_by p bs ++ rest) backslash.0) (ap (λ l. b ∷ l) more)
-    ]
-  ]
-]
+unescaped_bytes-behind p (b ∷ bs) rest = grind (arith, append_assoc, unescaped_bytes-behind p bs rest, plain-first)
 
 -- up to its end
 pub unescaped_bytes-escape : (p : Profile) (n : List ℕ) → unescaped_bytes (escape_by p n) ≡ n
@@ -129,26 +113,14 @@ pub Half-more : {start bytes : List ℕ} {read write : ℕ} (b width : ℕ) → 
     → width ≤ length (drop read bytes)
     → Half start (set bytes write b) (read + width) (write + 1)
 Half-more {bytes = bytes} {read = read} {write = write} b width h here some fits =
-    let next = read + width in
-    let rest = drop next bytes in
-    let within : next ≤ length bytes = omega (arith, fits, h.within, length-drop read bytes) in
-    let follows : drop width (drop read bytes) ≡ rest =
-    drop-drop width read bytes ∙ ap (λ n. drop n bytes) (omega arith) in
-    let now : take (write + 1) (set bytes write b) ≡ take write bytes ++ b ∷ [] =
-    take_more_set bytes write b (omega (arith, h.behind)) in
-    let after : drop next (set bytes write b) ≡ rest = drop-set-lt next bytes write b (omega (arith, h.behind)) in
-    let written : escape (take write bytes ++ b ∷ []) ≡ escape (take write bytes) ++ escape_of present b =
-    flat_map-append (escape_of present) (take write bytes) (b ∷ [])
-    ∙ ap (λ l. escape (take write bytes) ++ l) (append-nil (escape_of present b)) in
+    let low = h.behind in
+    let high = h.within in
+    let before = h.whole in
     record {
-      behind = omega (arith, h.behind);
-      within = omega (arith, length-set bytes write b);
+      behind = omega (arith, low);
+      within = omega (arith, fits, high, length-drop read bytes, length-set bytes write b);
       size = length-set bytes write b ∙ h.size;
-      whole = ap (λ l. escape l ++ drop next (set bytes write b)) now
-          ∙ ap (λ l. escape (take write bytes ++ b ∷ []) ++ l) after
-          ∙ ap (λ l. l ++ rest) written ∙ append_assoc (escape (take write bytes)) (escape_of present b) rest
-          ∙ ap (λ l. escape (take write bytes) ++ l) (sym (here ∙ ap (λ l. escape_of present b ++ l) follows))
-          ∙ h.whole;
+      whole = grind (arith, common_steps, take_more_set, drop-set-lt, flat_map-append, drop-drop);
     }
 
 -- what was read is within the bytes
@@ -176,6 +148,11 @@ in_place line new from name e is n = (
   λ h. e ∙ ap escape (append_cancel_left (take from line) name n (sym is ∙ h.1)),
 )
 
+-- a list cut within the second of its parts
+cut : (front : List ℕ) (len n : ℕ) (part post more : List ℕ) → length front + n ≤ len → n ≤ length part
+    → take (length front + n) (take len (front ++ (part ++ post) ++ more)) ≡ front ++ take n part
+cut front len n part post more fits le = grind (arith, take-take, take-append-le, append_assoc, take-append-add)
+
 -- a list cut at a place behind the part that was written into it
 pub cut_behind : {line d : List ℕ} (len from n : ℕ) (part post more : List ℕ) → d ≡ line → from + n ≤ len
     → from ≤ length line → n ≤ length part
@@ -183,12 +160,9 @@ pub cut_behind : {line d : List ℕ} (len from n : ℕ) (part post more : List �
 cut_behind {d = d} len from n part post more e fits low le =
     let f : List ℕ = take from d in
     let size : length f ≡ from = length-take-le from d (rw e low) in
-    take-take (from + n) len (f ++ (part ++ post) ++ more) fits
-    ∙ ap (λ k. take (k + n) (f ++ (part ++ post) ++ more)) (sym size)
-    ∙ ap (take (length f + n)) (append_assoc f (part ++ post) more) ∙ take-append-add f ((part ++ post) ++ more) n
-    ∙ ap (λ l. f ++ take n l) (append_assoc part post more) ∙ ap (λ l. f ++ l) (take-append-le n part (post ++ more) le)
-    ∙ ap (λ l. take from l ++ take n part) e
+    ap (λ k. take (k + n) (take len (f ++ (part ++ post) ++ more))) (sym size)
+    ∙ cut f len n part post more (omega (arith, size, fits)) le ∙ ap (λ l. take from l ++ take n part) e
 
 -- the rest of a list from a place on
 pub whole_behind : (line d : List ℕ) (from : ℕ) → d ≡ line → take (length d - from) (drop from d) ≡ drop from line
-whole_behind line d from e = take_rest d from ∙ ap (drop from) e
+whole_behind line d from e = grind (arith, common_steps)

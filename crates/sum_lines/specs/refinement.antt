@@ -4,5 +4,4 @@ pub mod PartTexts
 pub mod Found
 pub mod Beginnings
 pub mod ToldSinks
-pub mod Emptying
 pub mod Growing

@@ -33,6 +33,7 @@ pub fn put_escaped<S: Sink>(sink: &mut S, name: &[u8]) -> Result<(), SinkFault>
 }
 
 // The place of the first byte that its escape changes.
+#[tactic(auto, using(crate::proofs::EscapeLemmas::escape_cut, crate::proofs::EscapeLemmas::differs_by))]
 fn next_special(name: &[u8]) -> Option<usize>
     ensures within { IfSome result (λ at. at < length name.now) }
     ensures differs { is_some result ≡ escape_differs name.now }

@@ -10,6 +10,7 @@ pub fn one_entry()
 {}
 
 /// A list of lines has one form.
+#[tactic(auto, using(crate::proofs::EntryLemmas::one_form))]
 pub fn one_form()
     ensures { OneForm }
 {}
@@ -21,6 +22,7 @@ pub fn says_is()
 {}
 
 /// What comes behind a line has no part in what it says nor, where the line is plain, in the form.
+#[tactic(auto, using(crate::proofs::FormLemmas::same_said))]
 pub fn same_said()
     ensures says { SameSaid }
     ensures form { SameForm }
@@ -29,6 +31,7 @@ pub fn same_said()
 /// A line that was written, not in zero style, for a name that isn't empty and holds no NUL, is read back by its own
 /// algorithm's tool and, where it is tagged, by the one that takes any algorithm, where no line before it makes the
 /// manifest `Reversed`. It spells the kind, the digest and the name that it was written for.
+#[tactic(auto, using(crate::proofs::LineFormatLemmas::read_back))]
 pub fn read_back()
     ensures { ReadBack }
 {}

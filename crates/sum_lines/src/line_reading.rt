@@ -9,7 +9,7 @@ ghost use Rattle.sum_lines.specs.ParsedLines.{with_raw};
 ghost use Rattle.sum_lines.specs.Profiles.{present};
 ghost use Rattle.sum_lines.specs.Readings.{Within, parsed_line_by};
 ghost use Rattle.sum_lines.specs.refinement.Beginnings.{LeadsTo};
-ghost use Rattle.sum_lines.specs.refinement.Found.{line_parts, text_of};
+ghost use Rattle.sum_lines.specs.refinement.Found.{line_parts};
 
 use crate::beginnings::{Beginning, find_beginning};
 use crate::escape::unescape_in;
@@ -64,6 +64,7 @@ pub enum Reading {
 ///
 /// The digits are hexadecimal, in either case, and as many as the algorithm has, or the tag says. A name holds no NUL
 /// and isn't empty. Any other line is bad.
+#[tactic(auto, using(crate::proofs::EntryLemmas::ignored_mute))]
 pub fn read_line<A: Allocator>(algos: Algos, form: Form, line: &mut Vec<u8, A>) -> (Reading, Form)
     ensures form { result.1 ≡ form_then form (line_form algos line.old.items) }
     ensures says { parsed_line_by line.new.items result.0 ≡ parse_line present algos result.1 line.old.items }
@@ -83,6 +84,7 @@ pub fn read_line<A: Allocator>(algos: Algos, form: Form, line: &mut Vec<u8, A>) 
 // Reads a line that isn't ignored and begins so, which most bad ones don't. A call of its own, since it clears room for
 // all that an entry holds.
 #[inline(never)]
+#[tactic(auto, unfolding(crate::specs::ParsedLines::entry_of))]
 fn read_begun<A: Allocator>(
     algos: Algos,
     form: Form,
@@ -118,11 +120,12 @@ fn is_ignored(line: &[u8]) -> bool
 }
 
 // Reads a plain line's tail. The first plain line of a manifest decides the form, whether it is bad or not.
+#[tactic(auto, using(crate::proofs::NameLemmas::raw_standard))]
 fn read_tail<A: Allocator>(form: Form, line: &mut Vec<u8, A>, found: LineParts) -> (Reading, Form)
     requires size { length found.digest ≡ found.kind.len }
     requires ordered { found.start ≤ found.stop }
     requires within { found.stop ≤ length line.old.items }
-    ensures form { result.1 ≡ form_then form (form_of_tail (text_of line.old.items found)) }
+    ensures form { result.1 ≡ form_then form (form_of_tail (line_parts line.old.items found).text) }
     ensures says { parsed_line_by line.new.items result.0 ≡ option_map_or WithEntry
         (option_and_then (entry_of_parts present) (with_raw result.1 (line_parts line.old.items found))) Improper }
     ensures within { Within line.new.items result.0 }
@@ -183,6 +186,7 @@ fn read_name<A: Allocator>(line: &mut Vec<u8, A>, found: LineParts) -> Reading
 
 // Leaves the name that the bytes from that place on spell: what they are the escape of, behind a backslash, or else they
 // themselves. False where they are no escape.
+#[tactic(auto, using(crate::proofs::NameLemmas::unescaped))]
 fn unspell<A: Allocator>(line: &mut Vec<u8, A>, escaped: bool, start: usize) -> bool
     requires { start ≤ length line.old.items }
     ensures name { (if result then Some (drop start line.new.items) else None)
@@ -193,6 +197,7 @@ fn unspell<A: Allocator>(line: &mut Vec<u8, A>, escaped: bool, start: usize) -> 
     !escaped || unescape_in(line, start)
 }
 
+#[tactic(auto, using(crate::proofs::NameLemmas::no_nul))]
 fn has_nul(bytes: &[u8]) -> bool
     ensures { not result ≡ list_all (nat_lt 0) bytes.now }
 {

@@ -97,6 +97,7 @@ fn is_digit(byte: u8) -> bool
     matches!(byte, b'0'..=b'9')
 }
 
+#[tactic(auto, using(crate::proofs::PrefixLemmas::prefix_passes))]
 fn split_digits(s: &[u8]) -> (&[u8], &[u8])
     ensures digits { result.0.now ≡ take_while is_digit s.now }
     ensures rest { result.1.now ≡ after_while is_digit s.now }
@@ -113,6 +114,7 @@ fn digits(s: &[u8]) -> usize
 }
 
 // BLAKE2b with as many bits as the digits write, a multiple of 8 up to 512.
+#[tactic(auto, using(crate::proofs::BitsLemmas::number_kind, crate::proofs::BitsLemmas::number_none))]
 fn kind_of_bits(digits: &[u8]) -> Option<Kind>
     requires { AllPass is_digit digits.now }
     ensures { result ≡ kind_at digits.now }

@@ -19,19 +19,9 @@ pub record EndsDigits (a : Algo) (s : List ℕ) (at : ℕ) : Type 0 where
   pub blank : is_blank (get_or s at 0) ≡ true
   pub place : EndsAt a s at
 
--- the algorithm's tag begins the line's text: it is read as tagged, and isn't plain
-pub record ByTag (algos : Algos) (line : List ℕ) (a : Algo) : Type 0 where
-  pub begins : tag_in (One a) (mark_and_rest (after_while is_blank line)).1 ≡ Some a
-  pub tagged : tagged_parts algos line ≡ tagged_parts (One a) line
-  pub plain : None ≡ plain_parts algos line
-
--- the algorithm's digits would end at that place: it is read as plain, and isn't tagged
-pub record ByDigits (algos : Algos) (line : List ℕ) (a : Algo) (at : ℕ) : Type 0 where
-  pub ends : EndsDigits a (mark_and_rest (after_while is_blank line)).1 at
-  pub tagged : None ≡ tagged_parts algos line
-  pub plain : plain_parts algos line ≡ plain_parts (One a) line
-
--- what is to be read of a line that begins so
+-- what a line that begins so is read as: as tagged behind that tag, and not as plain; or as plain, and not as tagged
 abbrev pub LeadsTo : Algos → List ℕ → Beginning → Type 0
-LeadsTo algos line (beginnings.Tag a) = ByTag algos line a
-LeadsTo algos line (beginnings.Digits a at) = ByDigits algos line a at
+LeadsTo algos line (beginnings.Tag a) = (tag_in (One a) (mark_and_rest (after_while is_blank line)).1 ≡ Some a)
+    × (tagged_parts algos line ≡ tagged_parts (One a) line) × (None ≡ plain_parts algos line)
+LeadsTo algos line (beginnings.Digits a at) = EndsDigits a (mark_and_rest (after_while is_blank line)).1 at
+    × (None ≡ tagged_parts algos line) × (plain_parts algos line ≡ plain_parts (One a) line)

@@ -1,23 +1,18 @@
 -- Joins what the scanning functions answer to what a line was found to hold.
-use Rattle.std.specs.Prelude.{ℕ, ◌≡◌, ◌+◌, ◌-◌, ◌*◌, ◌==◌, ◌&&◌, nat_lt, not, List, [], ◌∷◌, ◌++◌, length, slice_range, Option, None, Some, if◌then◌else◌}
+use Rattle.std.specs.Prelude.{ℕ, ◌≡◌, ◌==◌, ◌&&◌, nat_lt, not, List, [], ◌∷◌, ◌++◌, length, slice_range, Option, None, Some, if◌then◌else◌}
+use Rattle.std.specs.Str.Parse.{digits_value}
 use Rattle.sum_lines.specs.declared.scanning.LineParts.{LineParts}
 use Rattle.sum_lines.specs.PartsOfLines.{Parts}
 
 -- the parts of a line that these places stand for
-abbrev pub text_of : List ℕ → LineParts → List ℕ
-text_of line p = slice_range line p.start p.stop
-
 abbrev pub line_parts : List ℕ → LineParts → Parts
-line_parts line p = record { escaped = p.escaped; kind = p.kind; digest = p.digest; text = text_of line p }
+line_parts line p =
+    record { escaped = p.escaped; kind = p.kind; digest = p.digest; text = slice_range line p.start p.stop }
 
--- the number that digits write behind others, and the one of one to three digits without a leading zero
-abbrev pub number_after : ℕ → List ℕ → ℕ
-number_after n [] = n
-number_after n (d ∷ ds) = number_after (n * 10 + (d - 48)) ds
-
+-- the number that one to three digits without a leading zero write
 abbrev pub number_of : List ℕ → Option ℕ
 number_of [] = None
-number_of (d ∷ ds) = if not (d == 48) && nat_lt (length ds) 3 then Some (number_after 0 (d ∷ ds)) else None
+number_of (d ∷ ds) = if not (d == 48) && nat_lt (length ds) 3 then Some (digits_value 10 (d ∷ ds)) else None
 
 -- the bytes stand at the line's end
 abbrev pub EndsIn : List ℕ → List ℕ → Type 0

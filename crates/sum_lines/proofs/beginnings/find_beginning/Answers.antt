@@ -18,11 +18,8 @@ returns-in_err-digits_end-in-One-clause-tagged c =
 pub returns-in_ok-digits_end-in-One-clause-leads : goal.returns-in_ok-digits_end-in-One-clause-leads
 returns-in_ok-digits_end-in-One-clause-leads c =
     let text = ap (λ (x : Bool × List ℕ). x.1) c.text_in.ensures.text in
-    record {
-      ends = rw text at c.in_ok-digits_end-in-One.ensures.some;
-      tagged = untagged c.args.algos c.args.line.now (rw text at (sym c.in_default.ensures));
-      plain = rw c.in-One.is refl;
-    }
+    let tagged = untagged c.args.algos c.args.line.now (rw text at (sym c.in_default.ensures)) in
+    (rw text at c.in_ok-digits_end-in-One.ensures.some, tagged, rw c.in-One.is refl)
 
 -- no tag stands in front, and no line is plain
 pub returns-in-Any-clause-tagged : goal.returns-in-Any-clause-tagged

@@ -1,15 +1,7 @@
-use Rattle.std.proofs.Common.{◌≡◌, true, false, refl, sym, ◌∙◌}
+use Rattle.std.proofs.Common.{◌≡◌, false, refl, sym, ◌∙◌}
 use Rattle.sum_lines.specs.Entries.{is_ignored}
 use Rattle.sum_lines.specs.ParsedLines.{entry_of}
-use Rattle.sum_lines.proofs.EntryLemmas.{form_then-last, ignored-mute}
 use Rattle.sum_lines.proofs.line_reading.read_line.Goals as goal
-
--- an ignored line leaves the form as it was
-pub returns-then-is_ignored-clause-form : goal.returns-then-is_ignored-clause-form
-returns-then-is_ignored-clause-form g c =
-    let mute : is_ignored c.args.line.now.items ≡ true =
-    rw c.deref.ensures.value at (sym c.is_ignored.ensures ∙ c.if-is_ignored.true) in
-    rw (ignored-mute c.args.algos c.args.line.now.items mute, form_then-last c.args.form) refl
 
 -- what neither a tag nor digits begin is a bad line
 pub returns-in-None-clause-says : goal.returns-in-None-clause-says
