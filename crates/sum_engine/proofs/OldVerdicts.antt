@@ -55,12 +55,10 @@ ended_clean e (p ∷ ps) tail free =
 -- so no line of a content has one
 pieces_clean : (c : Content) → NoReturn c.bytes → All NoReturn (pieces c)
 pieces_clean c free =
-    let cuts = (cut c.bytes).2 in
-    let ended = (cut c.bytes).0 in
-    let tail = (cut c.bytes).1 in
-    subst (λ (bytes : List ℕ). All NoReturn (pieces (record { bytes = bytes; ending = c.ending }))) (sym cuts.bytes_are)
-    (subst (All NoReturn) (sym (pieces-joined c.ending ended tail cuts.pieces_plain cuts.tail_plain))
-    (ended_clean c.ending ended tail (subst NoReturn cuts.bytes_are free)))
+    let all = cut c.bytes in
+    subst (λ (bytes : List ℕ). All NoReturn (pieces (record { bytes = bytes; ending = c.ending }))) (sym all.2)
+    (subst (All NoReturn) (sym (pieces-joined c.ending all.0 all.1 all.3 all.4))
+    (ended_clean c.ending all.0 all.1 (subst NoReturn all.2 free)))
 
 -- so the lines are the same
 lines_same : (c : Content) → NoReturn c.bytes → lines_by older c ≡ lines_by present c
