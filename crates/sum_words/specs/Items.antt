@@ -47,7 +47,7 @@ full_name flag = (row_of flag).1
 abbrev pub takes_value : Flag → Bool
 takes_value flag = sameb flag_type flag flags.Length
 
--- a tool's options, in the order of help; b2sum alone has the one that takes a value
+-- a tool's options, in the order of help; b2sum alone has the one that takes a value (`sameb` answers as `==` does)
 abbrev pub flags_of : Tool → List Flag
 flags_of t = filter (λ flag. not (takes_value flag) || sameb tool_type t tools.B2sum)
     (flags.Binary ∷ flags.Check ∷ flags.Length ∷ flags.Tag ∷ flags.Text ∷ flags.Zero ∷ flags.IgnoreMissing ∷

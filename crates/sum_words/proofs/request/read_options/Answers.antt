@@ -1,9 +1,13 @@
-use Rattle.std.proofs.Common.{◌≡◌, sym, ◌∙◌, ap, ◌∷◌}
+use Rattle.std.proofs.Common.{rules, ◌≡◌, sym, ◌∙◌, ap, ◌∷◌}
 use Rattle.sum_words.specs.Items.{a_word, items_from, option}
 use Rattle.sum_words.specs.refinement.ItemIterator.{item_of}
 use Rattle.sum_words.specs.Request.{early_answer}
 use Rattle.sum_words.proofs.RequestLemmas.{ending_not}
 use Rattle.sum_words.proofs.request.read_options.Goals as goal
+
+-- before the first item nothing was chosen
+pub loop-item-init : goal.loop-item-init
+loop-item-init g c = rw c.new-items.ensures (search rules)
 
 -- an option that isn't help or version is kept, and doesn't end the matter
 pub loop-item-preserved-in_default-flag : goal.loop-item-preserved-in_default-flag
