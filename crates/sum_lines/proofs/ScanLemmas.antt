@@ -14,7 +14,7 @@ use Rattle.digest_kinds.specs.declared.algo.Algo.{Algo}
 use Rattle.sum_lines.specs.Shapes.{is_blank, mark, optional}
 use Rattle.sum_lines.specs.PartsOfLines.{after_while, strip_prefix, mark_and_rest, width_at, tagged_as}
 use Rattle.sum_lines.specs.refinement.Found.{EndsIn}
-use Rattle.sum_lines.proofs.PrefixLemmas.{bind_none, none_of, ok_some, strip_prefix-some, strip_prefix-append, prefix-and-rest, opened-some, rfind-at, rfind-none, mark_and_rest-is}
+use Rattle.sum_lines.proofs.PrefixLemmas.{bind_none, none_of, ok_some, strip_prefix-some, strip_prefix-append, prefix-and-rest, opened-some, rfind-at, rfind-none, mark_and_rest-is, rsplit-some}
 use Rattle.sum_lines.proofs.TaggedLemmas.{width_at-some}
 use Rattle.std.proofs.lemmas.Grind.{common_steps}
 
@@ -77,21 +77,24 @@ text_ends line text is =
 pub ends-behind : {line s : List ℕ} (xs rest : List ℕ) → EndsIn line s → s ≡ xs ++ rest → EndsIn line rest
 ends-behind xs rest ends is = (ends.0 ++ xs, grind (arith, append_assoc))
 
--- and what stands behind the parenthesis
-pub inner-ends : {line s inner : List ℕ} (a : Algo) (w : KindValue × List ℕ) → EndsIn line s → Some w ≡ width_at a s
-    → Some inner ≡ option_or (strip_prefix (32 ∷ 40 ∷ []) w.1) (strip_prefix (40 ∷ []) w.1) → EndsIn line inner
-inner-ends {s = s} {inner = inner} a w ends wide opened =
-    let width = width_at-some a s w (sym wide) in
-    let gap = opened-some w.1 inner (sym opened) in
-    let space : List ℕ = optional gap.0 (32 ∷ []) in
-    let behind_width = ends-behind width.width w.1 ends width.whole in
-    ends-behind (40 ∷ []) inner (ends-behind space (40 ∷ inner) behind_width gap.1) refl
-
 -- bytes that the end of the line begins with have their place in it
-pub place : {line s : List ℕ} (raw rest : List ℕ) → EndsIn line s → s ≡ raw ++ rest
+place : {line s : List ℕ} (raw rest : List ℕ) → EndsIn line s → s ≡ raw ++ rest
     → (length s ≤ length line) × (length line - length s + length raw ≤ length line)
     × (slice_range line (length line - length s) (length line - length s + length raw) ≡ raw)
 place raw rest ends is = grind (arith, common_steps)
+
+-- so has the name behind the parenthesis
+pub name_place : {line s inner : List ℕ} {name : List ℕ × List ℕ} (a : Algo) (w : KindValue × List ℕ) → EndsIn line s
+    → Some w ≡ width_at a s → Some inner ≡ option_or (strip_prefix (32 ∷ 40 ∷ []) w.1) (strip_prefix (40 ∷ []) w.1)
+    → Some name ≡ rsplit_once 41 inner
+    → (length inner ≤ length line) × (length line - length inner + length name.0 ≤ length line)
+    × (slice_range line (length line - length inner) (length line - length inner + length name.0) ≡ name.0)
+name_place {s = s} {inner = inner} {name = name} a w ends wide opened split =
+    let width = width_at-some a s w (sym wide) in
+    let gap = opened-some w.1 inner (sym opened) in
+    let behind_width = ends-behind width.width w.1 ends width.whole in
+    let behind_gap = ends-behind (optional gap.0 (32 ∷ [])) (40 ∷ inner) behind_width gap.1 in
+    place name.0 _ (ends-behind (40 ∷ []) inner behind_gap refl) (rsplit-some 41 inner name (sym split))
 
 -- the end has its place in the line
 pub tail-place : {line tail : List ℕ} → EndsIn line tail

@@ -165,7 +165,8 @@ mark_and_rest-prefix blanks true xs rest are b = ap mark_and_rest (parts-at is_b
 mark_and_rest-prefix blanks false xs rest are b =
     let behind : after_while is_blank (blanks ++ (b.first ∷ (b.more ++ rest))) ≡ b.first ∷ (b.more ++ rest) =
     (parts-at is_blank blanks b.first (b.more ++ rest) are b.no_blank).1 in
-    rw (b.are, behind, b.no_mark) refl
+    let no_mark = b.no_mark in
+    rw (b.are, behind) (grind arith)
 
 -- a byte that passes a test isn't one that doesn't
 pub passes-other : (test : ℕ → Bool) (c x : ℕ) → test x ≡ true → test c ≡ false → (x == c) ≡ false

@@ -1,5 +1,5 @@
 -- What a line of either shape holds, computed; it need not be believed: the law `says_is` ties it to the relations.
-use Rattle.std.specs.Prelude.{ℕ, ◌*◌, ◌==◌, ◌&&◌, nat_lt, Bool, true, false, List, [], ◌∷◌, length, drop, bytes_eq, codes, decimal, Option, None, Some, option_map, if◌then◌else◌}
+use Rattle.std.specs.Prelude.{ℕ, ◌*◌, ◌==◌, ◌&&◌, nat_lt, Bool, true, false, List, ◌∷◌, length, drop, bytes_eq, codes, decimal, Option, None, Some, option_map, if◌then◌else◌}
 use Rattle.std.specs.Char.{is_ascii_digit}
 use Rattle.std.specs.Option.{option_or, option_and_then}
 use Rattle.std.specs.Result.{result_ok}
@@ -30,8 +30,7 @@ after_while p xs = drop (prefix_len p xs) xs
 
 -- whether a backslash stands in front, and what stands behind it
 abbrev pub mark_and_rest : List ℕ → Bool × List ℕ
-mark_and_rest [] = (false, [])
-mark_and_rest (b ∷ bs) = if b == 92 then (true, bs) else (false, b ∷ bs)
+mark_and_rest s = if starts_with ◌==◌ s (codes "\\") then (true, drop 1 s) else (false, s)
 
 -- a plain line, without its blanks and its backslash: the digits up to its first blank, and its tail behind that
 unfoldable pub plain_as : Algo → Bool → List ℕ → Option Parts

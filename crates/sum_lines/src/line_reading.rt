@@ -160,8 +160,8 @@ fn begins_standard(tail: &[u8]) -> bool
     matches!(tail, [b' ' | b'*', _, ..])
 }
 
-// The entry of the parts, where their text is a raw name that spells a name: it isn't the escape of none, though a
-// backslash stood in front, and the name holds no NUL.
+// The entry of the parts, where their text spells a name without a NUL: behind a backslash the name whose escape it is,
+// or else the text itself.
 fn read_name<A: Allocator>(line: &mut Vec<u8, A>, found: LineParts) -> Reading
     requires size { length found.digest ≡ found.kind.len }
     requires ordered { found.start ≤ found.stop }
@@ -184,8 +184,8 @@ fn read_name<A: Allocator>(line: &mut Vec<u8, A>, found: LineParts) -> Reading
     }
 }
 
-// Leaves the name that the bytes from that place on spell: what they are the escape of, behind a backslash, or else they
-// themselves. False where they are no escape.
+// Leaves the name that the bytes from that place on spell. False where they are no escape, though a backslash stood in
+// front.
 #[tactic(auto, using(crate::proofs::NameLemmas::unescaped))]
 fn unspell<A: Allocator>(line: &mut Vec<u8, A>, escaped: bool, start: usize) -> bool
     requires { start ≤ length line.old.items }

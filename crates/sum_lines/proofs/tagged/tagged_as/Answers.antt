@@ -1,7 +1,6 @@
 use Rattle.std.proofs.Common.{sym, arith, length, ◌∙◌}
 use Rattle.std.proofs.lemmas.Bool.{eqb-false}
-use Rattle.sum_lines.proofs.PrefixLemmas.{rsplit-some}
-use Rattle.sum_lines.proofs.ScanLemmas.{decoded-size, digest_none, digest_other, inner-ends, place, tagged-none, tagged-read}
+use Rattle.sum_lines.proofs.ScanLemmas.{decoded-size, digest_none, digest_other, name_place, tagged-none, tagged-read}
 use Rattle.sum_lines.proofs.tagged.tagged_as.Goals as goal
 
 -- another number of digits than the kind's digests have
@@ -25,14 +24,12 @@ returns-in_err-digest-clause-parts c =
 -- the name stands within the line
 pub overflow_sub-start : goal.overflow_sub-start
 overflow_sub-start c =
-    let ends = inner-ends c.args.algo _ c.requires c.in-Some.ensures c.in_ok-inner.ensures in
-    (place c.in_ok-raw.raw.now _ ends (rsplit-some 41 c.in_ok-inner.inner.now _ (sym c.in_ok-raw.ensures))).0
+    (name_place c.args.algo _ c.requires c.in-Some.ensures c.in_ok-inner.ensures c.in_ok-raw.ensures).0
 
 pub returns-clause-range : goal.returns-clause-range
 returns-clause-range c =
-    let ends = inner-ends c.args.algo _ c.requires c.in-Some.ensures c.in_ok-inner.ensures in
-    let range = place c.in_ok-raw.raw.now _ ends (rsplit-some 41 c.in_ok-inner.inner.now _ (sym c.in_ok-raw.ensures)) in
-    (omega arith, range.1)
+    let place = name_place c.args.algo _ c.requires c.in-Some.ensures c.in_ok-inner.ensures c.in_ok-raw.ensures in
+    (omega arith, place.1)
 
 -- the digest is as long as its digits say
 pub returns-clause-size : goal.returns-clause-size
@@ -44,10 +41,9 @@ returns-clause-size c =
 -- the parts that were found are the line's
 pub returns-clause-parts : goal.returns-clause-parts
 returns-clause-parts c =
-    let ends = inner-ends c.args.algo _ c.requires c.in-Some.ensures c.in_ok-inner.ensures in
-    let range = place c.in_ok-raw.raw.now _ ends (rsplit-some 41 c.in_ok-inner.inner.now _ (sym c.in_ok-raw.ensures)) in
+    let place = name_place c.args.algo _ c.requires c.in-Some.ensures c.in_ok-inner.ensures c.in_ok-raw.ensures in
     let sign = rw c.skip_blanks.ensures at c.in_ok-past_text.ensures in
     let spelled = rw c.skip_blanks-digits.ensures at c.in_ok-digest.ensures.value in
     let some = eqb-false (length c.in_ok-raw.raw.now) 0 (sym c.is_empty.ensures ∙ c.if-is_empty.false) in
-    rw range.2 (tagged-read c.args.algo c.args.escaped c.args.behind_tag.now c.in-Some.ensures c.in_ok-inner.ensures
+    rw place.2 (tagged-read c.args.algo c.args.escaped c.args.behind_tag.now c.in-Some.ensures c.in_ok-inner.ensures
     c.in_ok-raw.ensures sign spelled (returns-clause-size c) (omega (arith, some)))
