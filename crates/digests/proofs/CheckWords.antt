@@ -81,7 +81,7 @@ asked t xs = unwrap_or (early_answer xs) (result_map_both (λ job. Work job (ope
     (job_or_fault (algos_of t) (kind_asked (values_of xs)) (options_of xs)))
 
 abbrev settings : Tool → Report → Bool → Bool → CheckSettings
-settings t r s i = record { algo = algos_of t; report = r; strict = s; ignore_missing = i }
+settings t r s i = record { algos = algos_of t; report = r; strict = s; ignore_missing = i }
 
 -- no option of a check takes a value, and what they ask for is the check
 checked : (t : Tool) (m : Text) (r : Report) (s i : Bool)
@@ -111,4 +111,4 @@ pub request-check_words : (t : Tool) (check : CheckSettings) (manifest : Text) �
 request-check_words t check manifest h =
     let is = checked t manifest check.report check.strict check.ignore_missing in
     ap (asked t) (items-are t check manifest is.0 h.operand) ∙ is.1
-    ∙ ap (λ a. Ok (Work (Check (record check { algo = a })) (manifest ∷ []))) (sym h.algo)
+    ∙ ap (λ a. Ok (Work (Check (record check { algos = a })) (manifest ∷ []))) (sym h.algo)

@@ -78,13 +78,13 @@ pub record Accepts (t : Tool) (check : CheckSettings) (v : World) (manifest : Te
 
 -- the settings are some of that tool's, and the manifest's name is taken for an operand
 pub record ChecksBy (t : Tool) (check : CheckSettings) (manifest : Text) : Type 0 where
-  pub algo : check.algo ≡ algos_of t
+  pub algo : check.algos ≡ algos_of t
   pub operand : is_plain manifest ≡ true
 
 -- what generation wrote for one name or more is good as a manifest, where it isn't too long
 abbrev pub WrittenIsGood : Type 0
 WrittenIsGood = (t : Tool) (check : CheckSettings) (manifest : Text) (w v : World) (g : GenerationRun)
-    → ChecksBy t check manifest → Checkable check.algo w v g → 0 < length g.names
+    → ChecksBy t check manifest → Checkable check.algos w v g → 0 < length g.names
     → length (generation_output w g) < limit
     → reply v manifest ≡ Given (record { bytes = generation_output w g; ending = Whole })
     → Accepts t check v manifest g.names
@@ -92,7 +92,7 @@ WrittenIsGood = (t : Tool) (check : CheckSettings) (manifest : Text) (w v : Worl
 -- so is what several runs wrote, one behind the other
 abbrev pub JoinedIsGood : Type 0
 JoinedIsGood = (t : Tool) (check : CheckSettings) (manifest : Text) (w v : World) (gs : List GenerationRun)
-    → ChecksBy t check manifest → All (Checkable check.algo w v) gs → 0 < length (flat_map names_of gs)
+    → ChecksBy t check manifest → All (Checkable check.algos w v) gs → 0 < length (flat_map names_of gs)
     → length (flat_map (generation_output w) gs) < limit
     → reply v manifest ≡ Given (record { bytes = flat_map (generation_output w) gs; ending = Whole })
     → Accepts t check v manifest (flat_map names_of gs)

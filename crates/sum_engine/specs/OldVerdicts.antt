@@ -45,7 +45,7 @@ NoEscapedReturn algos line = (kind : KindValue) (digest name : List ℕ)
 pub record Old (r : Rules) (c : Content) : Type 0 where
   pub own_name : NoReturn r.shown
   pub no_byte : NoReturn c.bytes
-  pub no_escape : All (NoEscapedReturn r.settings.algo) (pieces c)
+  pub no_escape : All (NoEscapedReturn r.settings.algos) (pieces c)
   pub no_empty : All (λ line. 0 < length line) (pieces c)
 
 -- two kinds of rules find the same verdicts in a manifest, write the same of each of its lines and of its end, and

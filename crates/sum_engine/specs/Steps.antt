@@ -47,14 +47,14 @@ at_start c s = record { rest = c; number = 0; used = 0; form = Undecided; counts
 -- the next line's verdict
 abbrev pub next_judged : Rules → Now → List ℕ → Judged
 next_judged r a l =
-    let f = form_then a.form (line_form r.settings.algo l) in
-    judge r a.run_state.world (a.number + 1) (parse_line r.profile r.settings.algo f l)
+    let f = form_then a.form (line_form r.settings.algos l) in
+    judge r a.run_state.world (a.number + 1) (parse_line r.profile r.settings.algos f l)
 
 -- the verdicts that are still to be found
 abbrev pub rest_verdicts : Rules → Now → List Judged
 rest_verdicts r a =
     let ls = lines_by r.profile a.rest in
-    verdicts r (form_then a.form (form r.settings.algo ls)) a.run_state.world a.number ls
+    verdicts r (form_then a.form (form r.settings.algos ls)) a.run_state.world a.number ls
 
 -- the run that is still to come
 abbrev pub to_come : Rules → Now → Run
@@ -102,7 +102,7 @@ pub record Moves (r : Rules) (a b : Now) (vector : List ℕ) : Type 0 where
   pub rest : b.rest ≡ past_line a.rest
   pub used : b.used + length b.rest.bytes ≡ a.used + length a.rest.bytes
   pub number : b.number ≡ a.number + 1
-  pub form : b.form ≡ form_then a.form (line_form r.settings.algo line)
+  pub form : b.form ≡ form_then a.form (line_form r.settings.algos line)
   pub counts : b.counts ≡ counts_with a.counts (next_judged r a line).verdict
   pub held : length vector ≤ length line
 

@@ -143,7 +143,7 @@ fn put_err<E: Sink>(
 fn put_bad_line<E: Sink>(err: &mut E, listing: &Listing, number: u64) -> Result<(), SinkFault>
     ensures { HandsOn (E.state err.old) (E.state err.new) (bad_line (rules_in listing.now) number) result }
 {
-    let word = tag_word(listing.settings.algo);
+    let word = tag_word(listing.settings.algos);
     tell(
         err,
         &[

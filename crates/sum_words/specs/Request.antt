@@ -89,7 +89,7 @@ generation_job (One algo) kind given = Ok (Generate (record {
 abbrev pub job_of : Algos → Option KindValue → List Flag → Result Job Fault
 job_of algos kind given =
     if has flags.Check given then Ok (Check (record {
-      algo = algos;
+      algos = algos;
       report = report_of given;
       strict = has flags.Strict given;
       ignore_missing = has flags.IgnoreMissing given;

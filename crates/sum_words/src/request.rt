@@ -241,7 +241,7 @@ fn asked_job(
     }
     if chosen.check {
         return Ok(Job::Check(CheckSettings {
-            algo: algos,
+            algos,
             report: chosen.report,
             strict: chosen.strict,
             ignore_missing: chosen.ignore_missing,

@@ -14,12 +14,12 @@ use Rattle.sum_engine.specs.LineVerdicts.{judged_in}
 -- what a line says that was read at a place
 abbrev pub parsed_at : {I : Type 0} → Place I → List ℕ → ParsedLine
 parsed_at p line =
-    let algos = p.rules.settings.algo in
+    let algos = p.rules.settings.algos in
     parse_line p.rules.profile algos (form_then p.form (line_form algos line)) line
 
 -- from place a to b the line's form was taken over, and the rules and the reader stayed
 pub record TakesLine {I : Type 0} (a b : Place I) (line : List ℕ) : Type 0 where
-  pub form : b.form ≡ form_then a.form (line_form a.rules.settings.algo line)
+  pub form : b.form ≡ form_then a.form (line_form a.rules.settings.algos line)
   pub reader : b.reader ≡ a.reader
   pub rules : b.rules ≡ a.rules
 

@@ -11,7 +11,7 @@ pub returns-in-Some-clause-gives : goal.returns-in-Some-clause-gives
 returns-in-Some-clause-gives g c =
     let old = c.args.self.now in
     let line = c.args.line.now.items in
-    let algos = old.listing.settings.algo in
+    let algos = old.listing.settings.algos in
     let vector = c.read_line-reading.new.line.items in
     let entry = c.in-Entry in
     let s : Spelled = record {
