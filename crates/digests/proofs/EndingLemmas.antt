@@ -1,5 +1,5 @@
 -- The end of a program: a run that answered, both outputs flushed once more, and the line for a stop.
-use Rattle.std.proofs.Common.{◌≡◌, ℕ, [], ◌∷◌, ◌++◌, Option, None, Some, Result, Ok, Err, refl, ap, ◌∙◌, inl, inr, append-nil}
+use Rattle.std.proofs.Common.{rules, ◌≡◌, ℕ, [], ◌∷◌, ◌++◌, Option, None, Some, Result, Ok, Err, refl, ap, ◌∙◌, inl, inr, append-nil}
 use Rattle.std.specs.Io.KnownBytes.{Keeps, Appends}
 use Rattle.sum_lines.specs.Sinks.{SinkState, Dropped}
 use Rattle.sum_engine.specs.declared.stop.Stop.{Stop}
@@ -36,8 +36,5 @@ pub closes-stop : {E : Type 0} (line : Stop → Text) (answer : Result ℕ Stop)
     (r : Result (Unit {0}) E) → Settles a b c e answer (Err stop) → Keeps a.written b.written
     → Keeps c.written e.written → e.held ≡ [] → HandsOn e d (line stop) r → Closes line answer a b c d 1
 closes-stop line (Ok x) Memory a b c e d r settled kept still none told = absurd settled
-closes-stop line (Ok x) Write a b c e d r settled kept still none told =
-    inr (e, kept, still, settled, refl, tells-stop (line Write) e d r none told)
-closes-stop line (Err s) stop a b c e d r settled kept still none told =
-    let is : stop ≡ s = cc in
-    (settled.1, refl, rw (← is, ← settled.2) (tells-stop (line stop) e d r none told))
+closes-stop line (Ok x) Write a b c e d r settled kept still none told = search rules
+closes-stop line (Err s) stop a b c e d r settled kept still none told = search rules

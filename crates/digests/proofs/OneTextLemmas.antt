@@ -1,5 +1,5 @@
 -- Runs that write one text and nothing else: a fault, the help, the version.
-use Rattle.std.proofs.Common.{◌≡◌, ℕ, true, false, [], Result, Ok, Err, refl, inl, inr, append-nil}
+use Rattle.std.proofs.Common.{rules, ◌≡◌, ℕ, true, false, [], Result, Ok, Err, refl, inl, inr, append-nil}
 use Rattle.std.proofs.KnownBytes.{Appends-nil}
 use Rattle.sum_sources.specs.Sources.{SourceState}
 use Rattle.sum_lines.specs.Sinks.{SinkState}
@@ -41,15 +41,11 @@ told_on_err state a err text (Err e) none h = where_known state a (record a { er
 pub accounts_on_out : {S E : Type 0} (state : S → SourceState) (Changes : ℕ → ℕ → Type 0) (a : Moment S)
     (out : SinkState) (text : Text) (status : ℕ) (r : Result (Unit {0}) E) → HandsOn a.out out text r
     → Accounts state Changes a (record a { out = out }) (once_told r status)
-accounts_on_out state Changes a out text status (Ok u) h =
-    record { none = λ hold. ((h.1 hold.0).0, hold.1); refusals = refl; failures = (h.0, refl) }
-accounts_on_out state Changes a out text status (Err e) h =
-    record { none = λ hold. ((h.1 hold.0).0, hold.1); refusals = refl; failures = inl (h.0, refl) }
+accounts_on_out state Changes a out text status (Ok u) h = search rules
+accounts_on_out state Changes a out text status (Err e) h = search rules
 
 pub accounts_on_err : {S E : Type 0} (state : S → SourceState) (Changes : ℕ → ℕ → Type 0) (a : Moment S)
     (err : SinkState) (text : Text) (status : ℕ) (r : Result (Unit {0}) E) → HandsOn a.err err text r
     → Accounts state Changes a (record a { err = err }) (once_told r status)
-accounts_on_err state Changes a err text status (Ok u) h =
-    record { none = λ hold. (hold.0, (h.1 hold.1).0); refusals = refl; failures = (refl, h.0) }
-accounts_on_err state Changes a err text status (Err e) h =
-    record { none = λ hold. (hold.0, (h.1 hold.1).0); refusals = refl; failures = inr (refl, h.0) }
+accounts_on_err state Changes a err text status (Ok u) h = search rules
+accounts_on_err state Changes a err text status (Err e) h = search rules

@@ -1,5 +1,5 @@
 -- Operands, one after another: what those before came to, joined to what the rest comes to, is the whole.
-use Rattle.std.proofs.Common.{◌≡◌, ℕ, Bool, true, List, [], ◌∷◌, Option, Ok, Err, None, Some, refl, ap, sym, ◌∙◌, inl, inr, subst, append_assoc}
+use Rattle.std.proofs.Common.{rules, ◌≡◌, ℕ, Bool, true, List, [], ◌∷◌, Option, Ok, Err, None, Some, refl, ap, sym, ◌∙◌, inl, inr, subst, append_assoc}
 use Rattle.std.specs.Prelude.{◌&&◌}
 use Rattle.std.proofs.Math.Bool.{and_assoc, and-true}
 use Rattle.std.proofs.lemmas.List.{append-nil}
@@ -69,10 +69,7 @@ reached_step state o good this name rest x y z h k =
 pub reached_end : {S : Type 0} (state : S → SourceState) (o : Operands) (good : Bool) (x y : Moment S)
     → HasReached state o.one o.names [] x y good
     → Runs state (λ w. all_of o.one w o.names) status_of x y (Ok (status_of good))
-reached_end state o good x y h =
-    WhereTold-map (run_state state x) (run_state state y) (λ a b (p : Reached o.one o.names [] a b good).
-    let whole : all_of o.one a.world o.names ≡ p.done = p.total ∙ run_then-nothing p.done in
-    rw whole (ap status_of p.is, p.did)) h
+reached_end state o good x y h = search rules
 
 -- the next operand stopped the run
 pub reached_stop : {S : Type 0} (state : S → SourceState) (o : Operands) (stop : Stop) (good : Bool) (name : Text)

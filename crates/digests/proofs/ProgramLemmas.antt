@@ -1,5 +1,5 @@
 -- A run and its end, joined: what the whole program does.
-use Rattle.std.proofs.Common.{◌≡◌, ℕ, List, [], Option, None, Some, Result, Ok, Err, ap, sym, ◌∙◌, inl, inr, refl, ◌⊎◌, subst, append-nil}
+use Rattle.std.proofs.Common.{rules, ◌≡◌, ℕ, List, [], Option, None, Some, Result, Ok, Err, ap, sym, ◌∙◌, inl, inr, refl, ◌⊎◌, subst, append-nil}
 use Rattle.std.specs.Prelude.{IfSome}
 use Rattle.std.specs.Io.KnownBytes.{Keeps}
 use Rattle.std.proofs.KnownBytes.{Appends-kept}
@@ -34,29 +34,14 @@ failed_since a b out err x y h (inr k) = inr (k.0 ∙ h.0, k.1 ∙ ap one_more h
 -- nothing more was done
 did_kept : {a b : RunState} (es : List Event) (out err : SinkState) → Did a b es → Keeps b.out.written out.written
     → Keeps b.err.written err.written → Did a (record b { out = out; err = err }) es
-did_kept {a} {b} es out err h o e = record {
-  world = h.world;
-  taken = h.taken;
-  err = Appends-kept a.err.written b.err.written err.written _ h.err e;
-  out = Appends-kept a.out.written b.out.written out.written _ h.out o;
-  refusals = h.refusals;
-}
+did_kept {a} {b} es out err h o e = search rules
 
 -- so a run that answered is still done, once both outputs were flushed; or that failed behind all events
 runs-kept : {S : Type 0} (state : S → SourceState) (run : World → Run) (a b : Moment S) (out err : SinkState) (x : ℕ)
     → Runs state run status_of a b (Ok x) → Keeps b.out.written out.written → Keeps b.err.written err.written
     → Runs state run status_of a (record b { out = out; err = err }) (Ok x)
     × Runs state run status_of a (record b { out = out; err = err }) (Err Write)
-runs-kept state run a b out err x ran o e =
-    let worlds = known_worlds state a b _ ran in
-    let last = record b { out = out; err = err } in (
-      where_known state a last _ worlds (λ w v h. (h.0, did_kept (events (run w).steps) out err h.1 o e)),
-      where_known state a last _ worlds (λ w v h. (
-        events (run w).steps,
-        ([], sym (append-nil (events (run w).steps))),
-        did_kept (events (run w).steps) out err h.1 o e,
-      )),
-    )
+runs-kept state run a b out err x ran o e = search rules
 
 -- by the run's answer
 ends : {S : Type 0} (state : S → SourceState) (status : ℕ) (line : Option Call) (a b : Moment S) (out err : SinkState)

@@ -1,5 +1,5 @@
 -- What generation writes is good under checking.
-use Rattle.std.proofs.Common.{◌≡◌, ℕ, ◌<◌, false, List, [], ◌∷◌, length, map, refl, ap, sym, ◌∙◌, append-nil, Ok}
+use Rattle.std.proofs.Common.{rules, ◌≡◌, ℕ, ◌<◌, false, List, [], ◌∷◌, length, map, refl, ap, sym, ◌∙◌, append-nil, Ok}
 use Rattle.std.specs.Prelude.{flat_map}
 use Rattle.std.specs.List.{All, Contains}
 use Rattle.std.proofs.lemmas.List.{length-map, map-append}
@@ -45,10 +45,7 @@ items answer g = map (item answer g.settings) g.names
 -- a file that can be listed is read to its end
 read-is : (w : World) (s : Settings) (name : Text) → Listable w.answer name
     → digest_or_fault s.kind (reply w name) ≡ Ok (digest s.kind (bytes_of (w.answer name)))
-read-is w s name h =
-    let c : Content = record { bytes = h.bytes; ending = Whole } in
-    let short = clip-short c (rw limit-value at h.fits) in
-    rw (h.no_dash, h.content, short) refl
+read-is w s name h = search rules
 
 -- so one line is written for it
 line-is : (w : World) (s : Settings) (tool name : Text) → s.style.zero ≡ false → Listable w.answer name
@@ -73,17 +70,7 @@ lines-are s tool (name ∷ names) w newlines all =
 item-listed : (algos : Algos) (w v : World) (g : GenerationRun) (name : Text)
     → Checkable algos w v g → Listable w.answer name → v.answer name ≡ w.answer name
     → Listed algos v.answer (item w.answer g.settings name)
-item-listed algos w v g name c h same =
-    let bytes : bytes_of (w.answer name) ≡ h.bytes = ap bytes_of h.content in
-    record {
-      read_by = c.read_by;
-      has = c.has;
-      some = h.some;
-      no_nul = h.no_nul;
-      no_dash = h.no_dash;
-      content = rw bytes (same ∙ h.content);
-      fits = rw bytes h.fits;
-    }
+item-listed algos w v g name c h same = search rules
 
 -- all lines of a run
 run-listed : (algos : Algos) (w v : World) (g : GenerationRun) → Checkable algos w v g

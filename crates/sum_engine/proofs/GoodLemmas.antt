@@ -150,7 +150,7 @@ all-right r w is all = rw (lines-are r.settings.algos w.answer is all) (right-ve
 
 -- what checking it comes to, by these verdicts
 check_run-is : (check : CheckSettings) (tool manifest : List ℕ) (w : World) (is : List Item)
-    → All (Listed check.algo w.answer) is → length (flat_map written_text is) < limit
+    → All (Listed check.algos w.answer) is → length (flat_map written_text is) < limit
     → reply w manifest ≡ Given (whole is)
     → check_run check tool w manifest
     ≡ step_then (opening manifest) (content_run (rules_of check tool manifest) (whole is) (rights 0 is))
@@ -162,7 +162,7 @@ check_run-is check tool manifest w is all fits given =
 
 -- a manifest with at least one line is good, and each of its names is reported as right
 pub manifest_good : (check : CheckSettings) (tool manifest : List ℕ) (w : World) (is : List Item)
-    → All (Listed check.algo w.answer) is → 0 < length is → length (flat_map written_text is) < limit
+    → All (Listed check.algos w.answer) is → 0 < length is → length (flat_map written_text is) < limit
     → reply w manifest ≡ Given (whole is) → Found check tool w manifest is
 manifest_good check tool manifest w [] all some fits given = absurd (omega arith)
 manifest_good check tool manifest w (i ∷ is) all some fits given =
