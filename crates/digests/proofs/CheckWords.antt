@@ -17,7 +17,7 @@ use Rattle.sum_words.specs.declared.request.Request.{Request}
 use Rattle.sum_words.specs.declared.request.Request.TheVariants.{Work}
 use Rattle.sum_words.specs.declared.request.Job.TheVariants.{Check}
 use Rattle.sum_words.specs.Tools.{algos_of}
-use Rattle.sum_words.specs.Faults.{Fault}
+use Rattle.sum_words.specs.WordFaults.{Fault}
 use Rattle.sum_words.specs.Items.{Text, Item, option, operand, a_word, items_from, full_name, flags_of, takes_value, name_part, value_part, name_or_fault, options_of, values_of, operands_of}
 use Rattle.sum_words.specs.Request.{request, early_answer, job_or_fault, kind_asked}
 use Rattle.sum_words.specs.PlainWords.{is_plain}

@@ -6,7 +6,7 @@ use Rattle.digest_kinds.specs.declared.algo.Algos.{Algos}
 use Rattle.sum_sources.specs.declared.fault.Ending.TheVariants.{Whole}
 use Rattle.sum_sources.specs.Contents.{limit}
 use Rattle.sum_sources.specs.Sources.{Reply, Given}
-use Rattle.sum_lines.specs.Laws.{ReadBy}
+use Rattle.sum_lines.specs.LineLaws.{ReadBy}
 use Rattle.sum_engine.specs.declared.settings.Settings.{Settings}
 use Rattle.sum_engine.specs.declared.settings.CheckSettings.{CheckSettings}
 use Rattle.sum_engine.specs.declared.settings.Report.{Report}

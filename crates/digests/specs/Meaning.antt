@@ -11,7 +11,7 @@ use Rattle.sum_words.specs.declared.request.Request.TheVariants.{Work, Help, Ver
 use Rattle.sum_words.specs.declared.request.Job.{Job}
 use Rattle.sum_words.specs.declared.request.Job.TheVariants.{Generate, Check}
 use Rattle.sum_words.specs.Tools.{name_of}
-use Rattle.sum_words.specs.Faults.{Fault}
+use Rattle.sum_words.specs.WordFaults.{Fault}
 use Rattle.sum_words.specs.Items.{Text}
 use Rattle.sum_words.specs.Request.{request}
 use Rattle.sum_words.specs.Texts.{fault_lines, help, version}

@@ -5,7 +5,7 @@ use Rattle.sum_words.specs.declared.request.Job.{Job}
 use Rattle.sum_words.specs.declared.request.Job.TheVariants as jobs
 use Rattle.sum_words.specs.declared.request.Request.{Request}
 use Rattle.sum_words.specs.declared.request.Request.TheVariants as requests
-use Rattle.sum_words.specs.Faults.{Fault}
+use Rattle.sum_words.specs.WordFaults.{Fault}
 
 -- in generation it is one more; in checking it may be, or it was a line that wanted memory
 abbrev pub RefusalsOfJob : Job → ℕ → ℕ → Type 0

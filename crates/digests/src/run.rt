@@ -3,7 +3,7 @@ ghost use Rattle.std.specs.Prelude.{◌≡◌, ◌∷◌};
 ghost use Rattle.sum_engine.specs.Moments.{HoldNothing, Failures, Refusals, Accounts};
 ghost use Rattle.sum_engine.specs.RunStates.{RunsTo};
 ghost use Rattle.sum_words.specs.Tools.{name_of};
-ghost use Rattle.sum_words.specs.refinement.Request.{result_of};
+ghost use Rattle.sum_words.specs.refinement.RequestReading.{result_of};
 ghost use Rattle.sum_words.specs.Request.{request};
 ghost use Rattle.digests.specs.Meaning.{all_of, answer_run, one_of, or_dash, meaning, status_of};
 ghost use Rattle.digests.specs.Refusals.{RefusalsOfJob, RefusalsOf};

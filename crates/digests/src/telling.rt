@@ -21,7 +21,7 @@ pub(crate) enum Text<'a> {
     Stop(Tool, Stop),
 }
 
-ghost use Rattle.digests.specs.refinement.Texts.{text_of};
+ghost use Rattle.digests.specs.refinement.WholeTexts.{text_of};
 
 /// Writes a text, and hands it on. A fault where that failed; a prefix of the text is then handed on.
 pub(crate) fn tell<S: Sink>(sink: &mut S, text: Text) -> Result<(), SinkFault>

@@ -13,7 +13,7 @@ use Rattle.sum_engine.specs.Verdicts.{lines_by}
 use Rattle.sum_engine.specs.Verdicts.{Rules, verdicts}
 use Rattle.sum_engine.specs.Steps.{Now, rest_verdicts}
 use Rattle.sum_engine.specs.LineVerdicts.{FindsNone, FindOf}
-use Rattle.sum_engine.specs.Laws.{ended_by}
+use Rattle.sum_engine.specs.CheckingLaws.{ended_by}
 
 -- without bytes there is no line under any profile
 no_lines : (drops : Bool) (e : Ending)

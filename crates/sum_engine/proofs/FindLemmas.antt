@@ -23,8 +23,7 @@ use Rattle.sum_engine.specs.LineVerdicts.{OnlyRefused}
 use Rattle.sum_engine.specs.Checkers.{Place, now_of}
 use Rattle.sum_engine.specs.Steps.{Now, next_judged}
 use Rattle.sum_engine.specs.LineVerdicts.{judged_in, FindGives}
-use Rattle.sum_engine.specs.refinement.Judging.{IsJudged, name_said}
-use Rattle.sum_engine.specs.refinement.Finding.{TakesLine, JudgeLineGives, parsed_at}
+use Rattle.sum_engine.specs.refinement.Judging.{IsJudged, name_said, TakesLine, JudgeLineGives, parsed_at}
 use Rattle.sum_engine.proofs.RunStateLemmas.{events_by, where_known, names-by, did_by}
 use Rattle.sum_engine.proofs.RestLemmas.{rest_on}
 use Rattle.sum_engine.proofs.StepLemmas.{now_at, now-told, ReadsLine, read_line, moves_by}

@@ -15,7 +15,7 @@ use Rattle.sum_lines.specs.declared.line_format.Mode.{Mode}
 use Rattle.sum_lines.specs.Escape.{escape}
 use Rattle.sum_lines.specs.Lines.{line}
 use Rattle.sum_lines.specs.Entries.{Spelled, Entry, form}
-use Rattle.sum_lines.specs.Laws.{ReadBy, Writable}
+use Rattle.sum_lines.specs.LineLaws.{ReadBy, Writable}
 use Rattle.sum_lines.proofs.LineFormatLemmas.{prefix_of, read_back}
 use Rattle.sum_sources.specs.declared.fault.Ending.TheVariants.{Whole}
 use Rattle.sum_sources.specs.Contents.{Content, limit}

@@ -10,7 +10,7 @@ use Rattle.std.specs.Prelude.{IfSome}
 use Rattle.sum_sources.specs.Contents.{Content, InputState, WhereTold, clip}
 use Rattle.sum_lines.specs.Sinks.{SinkState}
 use Rattle.sum_sources.proofs.ToldLemmas.{WhereTold-map}
-use Rattle.sum_sources.specs.Sources.{SourceState, Reply, Refused, Given, Telling, Opens}
+use Rattle.sum_sources.specs.Sources.{SourceState, Reply, Refused, Given, Telling, OpenOf}
 use Rattle.digest_kinds.specs.Limits.{one_more}
 use Rattle.sum_sources.specs.Standard.{empty_content}
 use Rattle.sum_lines.specs.declared.line_reading.Form.TheVariants.{Undecided}
@@ -201,7 +201,7 @@ given None r h = cc
 given (Some c) r h = (c, cc, refl)
 
 opens_in : {F : Type 0} (content : F → InputState) (name : List ℕ) (s t : Telling) (i : Content)
-    (x : Result F OpenFault) → Opens content s t name x
+    (x : Result F OpenFault) → OpenOf content s t name x
     → OpensIn content name x (record { answer = s.answer; asked = s.asked; input = i })
     (record { answer = t.answer; asked = t.asked; input = i })
 opens_in content name s t i (Ok file) h = search rules
@@ -210,7 +210,7 @@ opens_in content name s t i (Err open_faults.Memory) h = rw h refl
 
 -- where source and standard input tell
 opens : {F : Type 0} (content : F → InputState) (name : List ℕ) (s t : Option Telling) (input : Option Content)
-    (x : Result F OpenFault) → WhereTold s t (λ s t. Opens content s t name x)
+    (x : Result F OpenFault) → WhereTold s t (λ s t. OpenOf content s t name x)
     → WhereTold (world_by s input) (world_by t input) (OpensIn content name x)
 opens content name None t input x h = tt
 opens content name (Some s) t None x h = tt
@@ -220,7 +220,7 @@ opens content name (Some s) (Some t) (Some i) x h = opens_in content name s t i 
 -- the manifest is a file
 file_opened : {F S : Type 0} (content : F → InputState) (state : S → SourceState) (name : List ℕ) (a : Moment S)
     (source : S) (file : F) → is_dash name ≡ false
-    → WhereTold (state a.source).told (state source).told (λ s t. Opens content s t name (Ok file))
+    → WhereTold (state a.source).told (state source).told (λ s t. OpenOf content s t name (Ok file))
     → (state source).refusals ≡ (state a.source).refusals
     → WhereKnown state a (record a { source = source }) (IsOpened name (content file).content)
 file_opened content state name a source file dash h refusals = search rules
@@ -228,7 +228,7 @@ file_opened content state name a source file dash h refusals = search rules
 -- so what the checker does with it is what the call does
 pub check_file : {F S : Type 0} (content : F → InputState) (state : S → SourceState) (k : Call) (a b : Moment S)
     (source : S) (file : F) (x : Result Bool Stop) → is_dash k.name ≡ false
-    → WhereTold (state a.source).told (state source).told (λ s t. Opens content s t k.name (Ok file))
+    → WhereTold (state a.source).told (state source).told (λ s t. OpenOf content s t k.name (Ok file))
     → (state source).refusals ≡ (state a.source).refusals
     → Checks state (rules_where k false) (option_map clip (content file).content)
     (record a { source = source }) b x → CheckGives state k a b x
@@ -240,7 +240,7 @@ check_file {S = S} content state k a b source file x dash h refusals run =
 -- the manifest could not be opened, and the line of its fault was handed on, or a prefix of it
 pub refused : {F S : Type 0} (content : F → InputState) (state : S → SourceState) (k : Call) (a : Moment S)
     (source : S) (f : Fault) (err : SinkState) (x : Writing) → is_dash k.name ≡ false
-    → WhereTold (state a.source).told (state source).told (λ s t. Opens content s t k.name (Err (open_faults.Fault f)))
+    → WhereTold (state a.source).told (state source).told (λ s t. OpenOf content s t k.name (Err (open_faults.Fault f)))
     → (state source).refusals ≡ (state a.source).refusals
     → Hands a.err.written err.written (fault_line present k.tool k.name f) x
     → CheckGives state k a (record a { source = source; err = err }) (answered x false)
@@ -267,7 +267,7 @@ begins r name w (Given c) = (opening name, _, refl)
 -- the source had no memory to open it
 pub no_room : {F S : Type 0} (content : F → InputState) (state : S → SourceState) (k : Call) (a : Moment S)
     (source : S)
-    → WhereTold (state a.source).told (state source).told (λ s t. Opens content s t k.name (Err open_faults.Memory))
+    → WhereTold (state a.source).told (state source).told (λ s t. OpenOf content s t k.name (Err open_faults.Memory))
     → (state source).refusals ≡ one_more (state a.source).refusals
     → CheckGives state k a (record a { source = source }) (Err Memory)
 no_room {S = S} content state k a source h refused =

@@ -3,8 +3,7 @@ use Rattle.std.proofs.Common.{rules, ◌≡◌, ℕ, zero, suc, ◌+◌, List, [
 use Rattle.sum_sources.specs.Contents.{Content}
 use Rattle.sum_sources.specs.ManifestLines.{past_line}
 use Rattle.sum_lines.specs.Entries.{form, form_then, line_form}
-use Rattle.sum_lines.proofs.EntryLemmas.{form-step}
-use Rattle.sum_lines.proofs.FormLemmas.{form_on, said_stays}
+use Rattle.sum_lines.proofs.FormLemmas.{form_next, said_stays}
 use Rattle.sum_engine.specs.Worlds.{after}
 use Rattle.sum_engine.specs.Verdicts.{lines_by}
 use Rattle.sum_lines.specs.ParsedLines.{parse_line}
@@ -23,8 +22,7 @@ parse_line_now : (r : Rules) (a : Now) (l : List ℕ) (ls : List (List ℕ)) →
     ≡ parse_line r.profile r.settings.algos (form_then a.form (line_form r.settings.algos l)) l
 parse_line_now r a l ls =
     let algo = r.settings.algos in
-    ap (λ g. parse_line r.profile algo (form_then a.form g) l) (form-step algo l ls)
-    ∙ ap (λ g. parse_line r.profile algo g l) (form_on a.form (line_form algo l) (form algo ls))
+    ap (λ g. parse_line r.profile algo g l) (form_next algo a.form l ls)
     ∙ said_stays r.profile algo a.form (form algo ls) l
 
 -- the first of what is left
@@ -38,7 +36,7 @@ pub rest_on : (r : Rules) (a b : Now) (v : List ℕ) (h : Moves r a b v)
     → b.run_state.world ≡ after a.run_state.world (asks_of (next_judged r a h.line))
     → rest_verdicts r a ≡ next_judged r a h.line ∷ rest_verdicts r b
 rest_on r a b v h world =
-    rest_head r a h.line (lines_by r.profile b.rest) h.lines ∙ rw (h.form, world, h.number, form-step, form_on) refl
+    rest_head r a h.line (lines_by r.profile b.rest) h.lines ∙ rw (h.form, world, h.number, form_next) refl
 
 -- ---- the run that is to come
 

@@ -7,9 +7,8 @@ use Rattle.sum_engine.specs.Worlds.{World, after}
 use Rattle.sum_lines.specs.Profiles.{Profile}
 use Rattle.sum_lines.specs.ParsedLines.{ParsedLine, Nothing, Improper, WithEntry, parse_line}
 use Rattle.sum_engine.specs.Verdicts.{Rules, Judged, judge, asks_of, verdicts}
-use Rattle.sum_engine.specs.Laws.{SameVerdicts}
-use Rattle.sum_lines.proofs.EntryLemmas.{form-step}
-use Rattle.sum_lines.proofs.FormLemmas.{form_on, said_stays}
+use Rattle.sum_engine.specs.CheckingLaws.{SameVerdicts}
+use Rattle.sum_lines.proofs.FormLemmas.{form_next, said_stays}
 
 -- the verdicts of the first lines, by the form so far
 abbrev running : Rules → World → ℕ → Form → List (List ℕ) → List Judged
@@ -28,8 +27,7 @@ prefix_verdicts r w n f (l ∷ ls) later =
     let algo = r.settings.algos in
     let here = form_then f (line_form algo l) in
     let rest = form algo (ls ++ later) in
-    let all : form_then f (form algo (l ∷ (ls ++ later))) ≡ form_then here rest =
-    ap (form_then f) (form-step algo l (ls ++ later)) ∙ form_on f (line_form algo l) rest in
+    let all : form_then f (form algo (l ∷ (ls ++ later))) ≡ form_then here rest = form_next algo f l (ls ++ later) in
     let j = judge r w (n + 1) (parse_line r.profile algo here l) in
     ap (λ g. take (suc (length ls)) (verdicts r g w n (l ∷ (ls ++ later)))) all
     ∙ ap (λ x. judge r w (n + 1) x ∷ take (length ls) (verdicts r (form_then here rest)

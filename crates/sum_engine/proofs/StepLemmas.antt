@@ -28,7 +28,7 @@ use Rattle.sum_engine.specs.Moments.{Moment, RunState, HoldNothing, run_state}
 use Rattle.sum_engine.specs.Steps.{Now, now_by, step_then, Moves, StepOf, StepGives, next_judged, rest_verdicts, to_come}
 use Rattle.sum_engine.specs.LineVerdicts.{judged_in, FindGives, FindsNone}
 use Rattle.sum_engine.specs.refinement.Asking.{world_of}
-use Rattle.sum_engine.specs.refinement.Finding.{TakesLine}
+use Rattle.sum_engine.specs.refinement.Judging.{TakesLine}
 use Rattle.sum_engine.specs.refinement.Telling.{HandsOn, out_by, HandsBoth}
 use Rattle.sum_engine.proofs.RunStateLemmas.{Asks, Writing, Came, known, run_state-known, asks_by, asks_none, came_by, err_alone}
 use Rattle.sum_engine.proofs.RunLemmas.{answered}

@@ -10,6 +10,6 @@ pub mod Steps
 pub mod Checkers
 pub mod LineVerdicts
 pub mod Manifests
-pub mod Laws
+pub mod CheckingLaws
 pub mod OldVerdicts
 pub mod refinement

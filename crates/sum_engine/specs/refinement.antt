@@ -3,6 +3,4 @@
 pub mod Asking
 pub mod Telling
 pub mod Judging
-pub mod Listings
 pub mod Positions
-pub mod Finding

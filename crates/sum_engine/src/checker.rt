@@ -40,7 +40,7 @@ impl<'a, I: Input> Checker<'a, I> {
     ghost use Rattle.sum_sources.specs.LineReaders.{coming};
     ghost use Rattle.sum_engine.specs.Moments.{HoldNothing, Failures, Untouched};
     ghost use Rattle.sum_engine.specs.Checkers.{Begins, again_after, StepsTo, Reads};
-    ghost use Rattle.sum_engine.specs.refinement.Listings.{rules_in};
+    ghost use Rattle.sum_engine.specs.refinement.Positions.{rules_in};
 
     /// A checker of the manifest that `input` gives. Its diagnostics begin with `tool`, as with `md5sum`, and call the
     /// manifest `shown`; `from_stdin` says whether it came from standard input, where a line that names `-` is

@@ -7,7 +7,7 @@ ghost use Rattle.digest_kinds.specs.Limits.{one_more};
 ghost use Rattle.sum_engine.specs.Moments.{HoldNothing, Failures, Refusals, Accounts};
 ghost use Rattle.sum_engine.specs.RunStates.{RunsTo};
 ghost use Rattle.sum_engine.specs.Manifests.{ManifestGives};
-ghost use Rattle.sum_engine.specs.refinement.Listings.{rules_in};
+ghost use Rattle.sum_engine.specs.refinement.Positions.{rules_in};
 
 use crate::asking::is_dash;
 use crate::checker::Checker;

@@ -40,8 +40,8 @@ impl<'a, I: Input> Position<'a, I> {
     ghost use Rattle.sum_engine.specs.Verdicts.{asks_of};
     ghost use Rattle.sum_engine.specs.refinement.Asking.{RefusedUnless, world_of};
     ghost use Rattle.sum_engine.specs.LineVerdicts.{judged_in, Names, FindGives, progress_of, asking};
-    ghost use Rattle.sum_engine.specs.refinement.Finding.{TakesLine, JudgeLineGives};
-    ghost use Rattle.sum_engine.specs.refinement.Listings.{rules_in};
+    ghost use Rattle.sum_engine.specs.refinement.Judging.{TakesLine, JudgeLineGives};
+    ghost use Rattle.sum_engine.specs.refinement.Positions.{rules_in};
     ghost use Rattle.sum_engine.specs.refinement.Positions.{place_of};
 
     /// In front of the first line of the manifest that `input` gives.

@@ -6,7 +6,7 @@ ghost use Rattle.sum_lines.specs.Shapes.{mark};
 ghost use Rattle.sum_lines.specs.Profiles.{present};
 ghost use Rattle.sum_engine.specs.Generation.{tool_line, fault_line};
 ghost use Rattle.sum_engine.specs.Reports.{verdict_line, bad_line, err_by};
-ghost use Rattle.sum_engine.specs.refinement.Listings.{rules_in};
+ghost use Rattle.sum_engine.specs.refinement.Positions.{rules_in};
 ghost use Rattle.sum_engine.specs.refinement.Telling.{out_by, HandsOn, HandsBoth, NoneFailed, OneFailed};
 
 use crate::listing::Listing;

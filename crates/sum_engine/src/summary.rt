@@ -20,7 +20,7 @@ pub(crate) struct Counts {
 
 ghost use Rattle.sum_engine.specs.Reports.{warning, warnings, unverified_line, summary, good};
 ghost use Rattle.sum_engine.specs.Reports.{entries, total, counts_with, no_counts};
-ghost use Rattle.sum_engine.specs.refinement.Listings.{rules_in};
+ghost use Rattle.sum_engine.specs.refinement.Positions.{rules_in};
 ghost use Rattle.sum_engine.specs.refinement.Telling.{HandsOn};
 ghost use Rattle.sum_sources.specs.declared.fault.Ending.TheVariants.{Whole};
 

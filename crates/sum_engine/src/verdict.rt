@@ -39,7 +39,7 @@ pub struct LineVerdict {
     pub stop: usize,
 }
 
-ghost use Rattle.sum_engine.specs.refinement.Listings.{rules_in};
+ghost use Rattle.sum_engine.specs.refinement.Positions.{rules_in};
 ghost use Rattle.sum_engine.specs.refinement.Judging.{JudgeGives, compared, spelled_by};
 
 /// An entry of a manifest: the digest of a file, with its kind, and the file's name.

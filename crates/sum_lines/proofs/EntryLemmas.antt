@@ -9,7 +9,7 @@ use Rattle.sum_lines.specs.declared.line_reading.Form.TheVariants.{Undecided, St
 use Rattle.sum_lines.specs.Shapes.{is_blank, mark, Plain, Tagged}
 use Rattle.sum_lines.specs.PartsOfLines.{Parts, plain_parts}
 use Rattle.sum_lines.specs.Entries.{is_ignored, begins_standard, form_of_tail, Decides, IsForm, Spelled, kind_of, ByTag, ByTail, form_by, form_then, line_form, form}
-use Rattle.sum_lines.specs.Laws.{OneForm}
+use Rattle.sum_lines.specs.LineLaws.{OneForm}
 use Rattle.sum_lines.proofs.PrefixLemmas.{none_of}
 use Rattle.sum_lines.proofs.TaggedLemmas.{Begins, tag-begins, passes-other}
 use Rattle.sum_lines.proofs.PlainLemmas.{plain-digits, plain_is_read, read_is_plain}

@@ -8,7 +8,7 @@ use Rattle.sum_lines.specs.Profiles.{Profile}
 use Rattle.sum_lines.specs.Entries.{form, form_by, form_then, line_form, form_of_tail, is_ignored_by, begins_standard}
 use Rattle.sum_lines.specs.PartsOfLines.{◌>>=◌, Parts, tagged_parts, plain_parts}
 use Rattle.sum_lines.specs.ParsedLines.{with_raw, entry_of_parts, entry_of, Nothing, Improper, WithEntry, parse_line}
-use Rattle.sum_lines.specs.Laws.{SameSaid, SameForm}
+use Rattle.sum_lines.specs.LineLaws.{SameSaid, SameForm}
 use Rattle.sum_lines.proofs.PlainLemmas.{plain_is_read}
 use Rattle.sum_lines.proofs.EntryLemmas.{form_at}
 pub use Rattle.sum_lines.proofs.EntryLemmas.{form_next, form_on}

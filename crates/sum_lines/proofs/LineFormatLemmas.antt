@@ -16,7 +16,7 @@ use Rattle.sum_lines.specs.Lines as lines
 use Rattle.sum_lines.specs.Shapes.{mark, Width, Allows, Tagged}
 use Rattle.sum_lines.specs.PartsOfLines.{plain_parts}
 use Rattle.sum_lines.specs.Entries.{Spelled, Entry, form_by, line_form, form}
-use Rattle.sum_lines.specs.Laws.{ReadBy, Writable, SpellsBack, ReadBack}
+use Rattle.sum_lines.specs.LineLaws.{ReadBy, Writable, SpellsBack, ReadBack}
 use Rattle.sum_lines.proofs.PlainLemmas.{apart, read_is_plain}
 use Rattle.sum_lines.proofs.PrefixLemmas.{none_of}
 use Rattle.sum_lines.proofs.EntryLemmas.{form_at}

@@ -26,7 +26,7 @@ use Rattle.sum_lines.specs.declared.line_reading.Form.{Form}
 use Rattle.sum_lines.specs.declared.line_reading.Form.TheVariants.{Standard}
 use Rattle.sum_lines.specs.PartsOfLines.{Parts}
 use Rattle.sum_lines.specs.Entries.{begins_standard, form_by, line_form, Spells, Spelled, Entry}
-use Rattle.sum_lines.specs.Laws.{Writable}
+use Rattle.sum_lines.specs.LineLaws.{Writable}
 use Rattle.sum_lines.proofs.PlainLemmas.{Digits, digits-of, plain_is_read}
 use Rattle.sum_lines.proofs.EntryLemmas.{plain-speaks, tagged-speaks}
 use Rattle.sum_lines.proofs.EscapeLemmas.{length-escape}

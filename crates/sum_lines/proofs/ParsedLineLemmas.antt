@@ -12,7 +12,7 @@ use Rattle.sum_lines.specs.Shapes.{Plain}
 use Rattle.sum_lines.specs.Entries.{Spelled, Entry, RawOf, begins_standard, is_ignored_by}
 use Rattle.sum_lines.specs.PartsOfLines.{◌>>=◌, Parts, tagged_parts, plain_parts}
 use Rattle.sum_lines.specs.ParsedLines.{with_raw, entry_of_parts, entry_of, Nothing, Improper, WithEntry}
-use Rattle.sum_lines.specs.Laws.{OneEntry, SaysIs}
+use Rattle.sum_lines.specs.LineLaws.{OneEntry, SaysIs}
 use Rattle.sum_lines.proofs.PrefixLemmas.{bind_some, none_of}
 use Rattle.sum_lines.proofs.PlainLemmas.{apart, plain_is_read, read_is_plain}
 use Rattle.sum_lines.proofs.TaggedLemmas.{tagged_is_read, read_is_tagged}

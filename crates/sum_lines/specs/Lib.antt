@@ -4,7 +4,7 @@ pub mod Shapes
 pub mod Entries
 pub mod PartsOfLines
 pub mod ParsedLines
-pub mod Laws
+pub mod LineLaws
 pub mod Sinks
 pub mod Buffers
 pub mod Lines

@@ -1,6 +1,6 @@
 //! Laws of the line grammar: what holds of its definitions, whatever the code does.
 
-ghost use Rattle.sum_lines.specs.Laws.{Apart, OneEntry, OneForm, ReadBack, SameForm, SameSaid, SaysIs};
+ghost use Rattle.sum_lines.specs.LineLaws.{Apart, OneEntry, OneForm, ReadBack, SameForm, SameSaid, SaysIs};
 
 /// For given algorithms and a given form a line spells at most one entry; and no line is both plain and tagged,
 /// whichever algorithms these are.

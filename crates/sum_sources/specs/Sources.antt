@@ -32,7 +32,7 @@ abbrev pub AsksName : Telling → Telling → List ℕ → Option Reply → Type
 AsksName s t name reply = (t ≡ record s { asked = s.asked ++ name ∷ [] }) × (reply ≡ Some (s.answer name))
 
 -- opening a name: the same is told for want of memory; else it was asked, and its reply is the file's content or fault
-abbrev pub Opens : {F : Type 0} → (F → InputState) → Telling → Telling → List ℕ → Result F OpenFault → Type 0
-Opens state s t name (Ok file) = AsksName s t name (option_map Given (state file).content)
-Opens state s t name (Err (faults.Fault f)) = AsksName s t name (Some (Refused f))
-Opens state s t name (Err faults.Memory) = t ≡ s
+abbrev pub OpenOf : {F : Type 0} → (F → InputState) → Telling → Telling → List ℕ → Result F OpenFault → Type 0
+OpenOf state s t name (Ok file) = AsksName s t name (option_map Given (state file).content)
+OpenOf state s t name (Err (faults.Fault f)) = AsksName s t name (Some (Refused f))
+OpenOf state s t name (Err faults.Memory) = t ≡ s

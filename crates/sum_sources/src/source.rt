@@ -1,7 +1,7 @@
 //! Where files are opened.
 ghost use Rattle.std.specs.Prelude.{◌≡◌};
 ghost use Rattle.sum_sources.specs.Contents.{WhereTold};
-ghost use Rattle.sum_sources.specs.Sources.{SourceState, Opens, refusals_after};
+ghost use Rattle.sum_sources.specs.Sources.{SourceState, OpenOf, refusals_after};
 
 use crate::{Fault, Input};
 use thiserror::Error;
@@ -28,6 +28,6 @@ pub trait Source {
     /// memory was refused; then the name doesn't count as asked.
     fn open_file(&mut self, name: &[u8]) -> Result<Self::File, OpenFault>
         ensures answer { WhereTold (state self.old).told (state self.new).told (λ s t.
-            Opens Self.File.state s t name.now result) }
+            OpenOf Self.File.state s t name.now result) }
         ensures refusals { (state self.new).refusals ≡ refusals_after (state self.old).refusals result };
 }

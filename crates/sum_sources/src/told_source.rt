@@ -2,7 +2,7 @@
 ghost use Rattle.std.specs.Prelude.{◌≡◌, ◌++◌, ◌∷◌, [], OnOk, OnErr, IfOk, map, max, slice_get};
 ghost use Rattle.std.specs.Option.{option_map};
 ghost use Rattle.sum_sources.specs.InMemory.{first_reply, telling_of};
-ghost use Rattle.sum_sources.specs.Sources.{Opens, refusals_after};
+ghost use Rattle.sum_sources.specs.Sources.{OpenOf, refusals_after};
 ghost use Rattle.digest_kinds.specs.Limits.{one_more};
 ghost use Rattle.sum_sources.specs.refinement.ToldPairs.{pair_of, reply_of};
 
@@ -129,7 +129,7 @@ impl<'a, A: Allocator + Copy> Source for ToldSource<'a, A> {
     ghost state = { λ s. record { told = Some (telling_of s); refusals = s.refusals } };
 
     fn open_file(&mut self, name: &[u8]) -> Result<Told<'a>, OpenFault>
-        ensures answer { Opens ⟦<Told<'a> as Input>⟧.state
+        ensures answer { OpenOf ⟦<Told<'a> as Input>⟧.state
             (telling_of self.old) (telling_of self.new) name.now result }
         ensures refusals { self.new.refusals ≡ refusals_after self.old.refusals result }
         ensures piece { IfOk result (λ file. file.piece ≡ max self.old.piece 1) }

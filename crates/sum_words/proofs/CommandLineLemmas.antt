@@ -14,7 +14,7 @@ use Rattle.sum_words.specs.Items.{Text, is_readable}
 use Rattle.sum_words.specs.Tools.{tool_called}
 use Rattle.memchr.specs.Find.{Passes, Nowhere, is_byte}
 use Rattle.sum_words.specs.CommandLines.{last_part}
-use Rattle.sum_words.specs.refinement.Arguments.{ArgumentIs, IsFirstWord, WordsUpTo, WordsAre, IsThere, IsLonger, MayBeUnread}
+use Rattle.sum_words.specs.refinement.Arguments.{ArgumentIs, IsFirstWord, WordsUpTo, WordsAre, HasArgument, IsLonger, MayBeUnread}
 
 -- ---- the last part of a path
 
@@ -46,7 +46,7 @@ drop_at_some {x = x} xs p h =
 
 -- there is an argument at each place up to one where an argument stands
 pub there_is : (told : Option (List Text)) (first place : ℕ) (word : Text)
-    → ArgumentIs told place (Some word) → first ≤ place → IsThere told first
+    → ArgumentIs told place (Some word) → first ≤ place → HasArgument told first
 there_is told first place word h le =
     IfSome_then told h (λ all at. omega (arith, slice_get_within all place word at, le))
 

@@ -10,7 +10,7 @@ use Rattle.sum_words.specs.declared.options.Flag.{Flag}
 use Rattle.sum_words.specs.declared.options.Flag.TheVariants as flags
 use Rattle.sum_words.specs.Items.{Text, Item, option}
 use Rattle.sum_words.specs.Request.{early_answer}
-use Rattle.sum_words.specs.refinement.Request.{IsNumberOf}
+use Rattle.sum_words.specs.refinement.RequestReading.{IsNumberOf}
 
 -- an option that doesn't end the matter
 pub ending_not : (flag : Flag) (rest : List Item) → flag ≢ flags.Help → flag ≢ flags.Version

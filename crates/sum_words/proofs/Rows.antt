@@ -18,7 +18,7 @@ use Rattle.sum_words.specs.declared.tool.Tool.TheVariants.{Md5sum, Sha256sum, B2
 use Rattle.sum_words.specs.declared.request.Request.{Request}
 use Rattle.sum_words.specs.declared.request.Request.TheVariants.{Work, Help, Version}
 use Rattle.sum_words.specs.declared.request.Job.TheVariants.{Generate, Check}
-use Rattle.sum_words.specs.Faults.{Fault, unknown_long, ambiguous_long, value_not_allowed, value_missing, unknown_short, length_invalid, length_not_bytes, tag_with_text, zero_with_check, tag_with_check, mode_with_check, without_check, check_needed}
+use Rattle.sum_words.specs.WordFaults.{Fault, unknown_long, ambiguous_long, value_not_allowed, value_missing, unknown_short, length_invalid, length_not_bytes, tag_with_text, zero_with_check, tag_with_check, mode_with_check, without_check, check_needed}
 use Rattle.sum_words.specs.Items.{Text, name_or_fault, option_of_letter}
 use Rattle.sum_words.specs.Request.{request}
 use Rattle.sum_words.specs.CommandLines.{unknown, call, last_part, command_line, NeedsMemory, MayNotRead}

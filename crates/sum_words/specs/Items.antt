@@ -12,7 +12,7 @@ use Rattle.sum_words.specs.contracts.tool.Tool.{the_type as tool_type}
 use Rattle.sum_words.specs.contracts.options.Flag.{the_type as flag_type}
 use Rattle.sum_words.specs.declared.options.Spelling.{Spelling}
 use Rattle.sum_words.specs.declared.options.Spelling.TheVariants.{Long, Short}
-use Rattle.sum_words.specs.Faults.{Fault, unknown_long, ambiguous_long, value_not_allowed, value_missing, unknown_short}
+use Rattle.sum_words.specs.WordFaults.{Fault, unknown_long, ambiguous_long, value_not_allowed, value_missing, unknown_short}
 
 -- a list of bytes
 abbrev pub Text : Type 0

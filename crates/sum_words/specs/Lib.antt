@@ -1,5 +1,5 @@
 pub mod Tools
-pub mod Faults
+pub mod WordFaults
 pub mod Items
 pub mod Request
 pub mod Texts

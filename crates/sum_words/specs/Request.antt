@@ -25,7 +25,7 @@ use Rattle.sum_words.specs.declared.request.Request.TheVariants.{Work, Help, Ver
 use Rattle.sum_words.specs.declared.request.Job.{Job}
 use Rattle.sum_words.specs.declared.request.Job.TheVariants.{Generate, Check}
 use Rattle.sum_words.specs.Tools.{algos_of}
-use Rattle.sum_words.specs.Faults.{Fault, length_invalid, length_not_bytes, tag_with_text, zero_with_check, tag_with_check, mode_with_check, without_check, check_needed}
+use Rattle.sum_words.specs.WordFaults.{Fault, length_invalid, length_not_bytes, tag_with_text, zero_with_check, tag_with_check, mode_with_check, without_check, check_needed}
 use Rattle.sum_words.specs.Items.{Text, Item, option, fault, a_word, items_from, options_of, values_of, operands_of}
 
 -- whether an option is among these (by `sameb`, as `==` answers), and whether it is the last of its kind among them

@@ -2,7 +2,7 @@
 ghost use Rattle.std.specs.Prelude.{◌≡◌, ◌≤◌, ◌<◌, ◌*◌, vec_len, take, IfOk, IfSome, OnOk, OnErr};
 ghost use Rattle.std.specs.Option.{option_map};
 ghost use Rattle.sum_words.specs.refinement.Arguments.{ArgumentIs, WordsAre, IsNameOf, IsFirstWord, CallIs, call_of};
-ghost use Rattle.sum_words.specs.refinement.Arguments.{IsLonger, IsThere, MayBeUnread};
+ghost use Rattle.sum_words.specs.refinement.Arguments.{IsLonger, HasArgument, MayBeUnread};
 ghost use Rattle.sum_words.specs.CommandLines.{last_part};
 
 use crate::arguments::Arguments;
@@ -171,7 +171,7 @@ fn words_from<A: Allocator + Copy, G: Arguments>(
 ) -> Result<Words<A>, NotRead>
     requires { first < usize.MAX }
     ensures words { IfOk result (λ words. WordsAre (G.told arguments.now) first words) }
-    ensures not_read { OnErr result (IsThere (G.told arguments.now) first) }
+    ensures not_read { OnErr result (HasArgument (G.told arguments.now) first) }
 {
     let mut words = Words::new(alloc);
     'places: for place in first..usize::MAX {

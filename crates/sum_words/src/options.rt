@@ -5,7 +5,7 @@ ghost use Rattle.std.specs.Str.{bytes_eq};
 ghost use Rattle.sum_words.specs.Items.{row_of, full_name, flags_of, takes_value};
 ghost use Rattle.sum_words.specs.Items.{option_of_letter, the_one, name_or_fault};
 ghost use Rattle.sum_words.specs.refinement.ItemIterator.{letter_text};
-ghost use Rattle.sum_words.specs.refinement.Request.{result_of};
+ghost use Rattle.sum_words.specs.refinement.RequestReading.{result_of};
 
 use crate::faults::WordFault;
 use crate::tool::Tool;

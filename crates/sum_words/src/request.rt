@@ -5,7 +5,7 @@ ghost use Rattle.std.specs.Str.{all_ascii_digits};
 ghost use Rattle.sum_words.specs.Items.{Item as ItemSaid, a_word, items_from, option, options_of};
 ghost use Rattle.sum_words.specs.refinement.ItemIterator.{fault_of};
 ghost use Rattle.sum_words.specs.Request.{length_kind, mode_of, first_fault, job_or_fault, request};
-ghost use Rattle.sum_words.specs.refinement.Request.{IsChosenBy, IsReadingOf, result_of, IsNumberOf};
+ghost use Rattle.sum_words.specs.refinement.RequestReading.{IsChosenBy, IsReadingOf, result_of, IsNumberOf};
 
 use crate::faults::WordFault;
 use crate::items::{Item, Items, Operands};

@@ -27,8 +27,8 @@ abbrev pub IsLonger : Option (List Text) → ℕ → ℕ → Type 0
 IsLonger told place n = IfSome told (λ all. IsSomeAnd (slice_get all place) (λ a. n < length a))
 
 -- there is an argument at a place
-abbrev pub IsThere : Option (List Text) → ℕ → Type 0
-IsThere told place = IfSome told (λ all. place < length all)
+abbrev pub HasArgument : Option (List Text) → ℕ → Type 0
+HasArgument told place = IfSome told (λ all. place < length all)
 
 -- the tool by the name that the program was called by
 abbrev pub IsNameOf : Option (List Text) → Option Tool → Type 0

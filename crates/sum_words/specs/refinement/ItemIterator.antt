@@ -6,7 +6,7 @@ use Rattle.std.specs.Str.{chars}
 use Rattle.sum_words.specs.declared.tool.Tool.{Tool}
 use Rattle.sum_words.specs.declared.faults.WordFault.{WordFault}
 use Rattle.sum_words.specs.declared.faults.WordFault.TheVariants as words
-use Rattle.sum_words.specs.Faults.{Fault, unknown_long, ambiguous_long, value_not_allowed, value_missing, unknown_short, length_invalid, length_not_bytes, tag_with_text, zero_with_check, tag_with_check, mode_with_check, without_check, check_needed}
+use Rattle.sum_words.specs.WordFaults.{Fault, unknown_long, ambiguous_long, value_not_allowed, value_missing, unknown_short, length_invalid, length_not_bytes, tag_with_text, zero_with_check, tag_with_check, mode_with_check, without_check, check_needed}
 use Rattle.sum_words.specs.declared.items.Item.{Item as WordItem}
 use Rattle.sum_words.specs.declared.items.Item.TheVariants as says
 use Rattle.sum_words.specs.declared.items.State.{State}

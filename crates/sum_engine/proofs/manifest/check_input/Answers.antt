@@ -1,5 +1,5 @@
 use Rattle.std.proofs.Common.{Ok, Err, ◌∙◌, rules}
-use Rattle.sum_engine.specs.refinement.Listings.{rules_in}
+use Rattle.sum_engine.specs.refinement.Positions.{rules_in}
 use Rattle.sum_engine.proofs.ManifestLemmas.{comes_none, comes_more, comes_last}
 use Rattle.sum_engine.proofs.manifest.check_input.Goals as goal
 

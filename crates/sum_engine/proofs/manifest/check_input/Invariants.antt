@@ -4,7 +4,7 @@ use Rattle.std.specs.Option.{option_map}
 use Rattle.sum_sources.specs.Contents.{clip}
 use Rattle.sum_engine.specs.Moments.{run_state, HoldNothing, Accounts}
 use Rattle.sum_engine.specs.Checkers.{now_of}
-use Rattle.sum_engine.specs.refinement.Listings.{rules_in}
+use Rattle.sum_engine.specs.refinement.Positions.{rules_in}
 use Rattle.sum_engine.proofs.ManifestLemmas.{Comes}
 use Rattle.sum_engine.proofs.manifest.check_input.Given as goal
 

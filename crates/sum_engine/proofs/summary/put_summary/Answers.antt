@@ -6,7 +6,7 @@ use Rattle.sum_engine.specs.declared.settings.Report.TheVariants.{Status}
 use Rattle.sum_engine.specs.declared.settings.Report.TheVariants as reports
 use Rattle.sum_engine.specs.Verdicts.{Rules}
 use Rattle.sum_engine.specs.Reports.{entries, unless_status, warnings, summary}
-use Rattle.sum_engine.specs.refinement.Listings.{rules_in}
+use Rattle.sum_engine.specs.refinement.Positions.{rules_in}
 use Rattle.sum_engine.proofs.summary.put_summary.Goals as goal
 
 -- warnings that aren't left out

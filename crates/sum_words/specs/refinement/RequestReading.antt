@@ -13,7 +13,7 @@ use Rattle.sum_words.specs.declared.faults.WordFault.{WordFault}
 use Rattle.sum_words.specs.declared.request.Chosen.{Chosen}
 use Rattle.sum_words.specs.declared.request.Reading.{Reading}
 use Rattle.sum_words.specs.declared.request.Reading.TheVariants.{Options, Answer}
-use Rattle.sum_words.specs.Faults.{Fault}
+use Rattle.sum_words.specs.WordFaults.{Fault}
 use Rattle.sum_words.specs.Items.{Text, Item, options_of, values_of}
 use Rattle.sum_words.specs.refinement.ItemIterator.{fault_of}
 use Rattle.sum_words.specs.Request.{early_answer, has, mode_flags, report_flags, is_number}
