@@ -1,5 +1,5 @@
 -- The words of a check ask for that check.
-use Rattle.std.proofs.Common.{◌≡◌, Bool, true, false, not, List, [], ◌∷◌, ◌++◌, map, find, codes, Option, None, Some, Result, Ok, refl, ap, sym, ◌∙◌}
+use Rattle.std.proofs.Common.{◌≡◌, Bool, true, false, not, List, [], ◌∷◌, ◌++◌, map, find, codes, None, Some, Result, Ok, refl, ap, sym, ◌∙◌}
 use Rattle.std.proofs.Common.{unwrap_or}
 use Rattle.std.specs.Str.{bytes_eq}
 use Rattle.std.specs.Result.{result_map_both}

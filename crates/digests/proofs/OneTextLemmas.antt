@@ -1,5 +1,5 @@
 -- Runs that write one text and nothing else: a fault, the help, the version.
-use Rattle.std.proofs.Common.{rules, ◌≡◌, ℕ, true, false, [], Result, Ok, Err, refl, inl, inr, append-nil}
+use Rattle.std.proofs.Common.{rules, ◌≡◌, ℕ, true, false, [], Result, Ok, Err, refl, append-nil}
 use Rattle.std.proofs.KnownBytes.{Appends-nil}
 use Rattle.sum_sources.specs.Sources.{SourceState}
 use Rattle.sum_lines.specs.Sinks.{SinkState}

@@ -1,8 +1,7 @@
 -- A run and its end, joined: what the whole program does.
-use Rattle.std.proofs.Common.{rules, ◌≡◌, ℕ, List, [], Option, None, Some, Result, Ok, Err, ap, sym, ◌∙◌, inl, inr, refl, ◌⊎◌, subst, append-nil}
+use Rattle.std.proofs.Common.{rules, ◌≡◌, ℕ, List, [], Option, None, Some, Result, Ok, Err, ap, sym, ◌∙◌, inl, inr, refl, ◌⊎◌, subst}
 use Rattle.std.specs.Prelude.{IfSome}
 use Rattle.std.specs.Io.KnownBytes.{Keeps}
-use Rattle.std.proofs.KnownBytes.{Appends-kept}
 use Rattle.sum_sources.specs.Sources.{SourceState}
 use Rattle.sum_lines.specs.Sinks.{SinkState}
 use Rattle.digest_kinds.specs.Limits.{one_more}
@@ -10,10 +9,10 @@ use Rattle.sum_engine.specs.declared.stop.Stop.{Stop}
 use Rattle.sum_engine.specs.declared.stop.Stop.TheVariants.{Write}
 use Rattle.sum_engine.specs.Worlds.{World}
 use Rattle.sum_engine.specs.Moments.{Moment, RunState, HoldNothing, Failures}
-use Rattle.sum_engine.specs.Runs.{Event, Run, events}
-use Rattle.sum_engine.specs.RunStates.{Did, RunOf}
+use Rattle.sum_engine.specs.Runs.{Event, Run}
+use Rattle.sum_engine.specs.RunStates.{Did}
 use Rattle.sum_engine.specs.refinement.Telling.{OneFailed, HandsOn}
-use Rattle.sum_engine.proofs.RunStateLemmas.{Runs, where_known, known_worlds}
+use Rattle.sum_engine.proofs.RunStateLemmas.{Runs}
 use Rattle.sum_words.specs.Items.{Text}
 use Rattle.sum_words.specs.CommandLines.{Call, command_line, NeedsMemory}
 use Rattle.sum_words.specs.refinement.Arguments.{CallIs, MayBeUnread}

@@ -9,9 +9,8 @@ use Rattle.std.proofs.lemmas.List.Elements.{All-nil, All-head, All-tail, All-app
 use Rattle.digest_kinds.specs.Digests.{digest}
 use Rattle.digest_kinds.specs.declared.algo.Algos.{Algos}
 use Rattle.sum_sources.specs.declared.fault.Ending.TheVariants.{Whole}
-use Rattle.sum_sources.specs.Contents.{Content, limit}
+use Rattle.sum_sources.specs.Contents.{limit}
 use Rattle.sum_sources.specs.Sources.{Reply, Refused, Given}
-use Rattle.sum_sources.proofs.ContentLemmas.{limit-value, clip-short}
 use Rattle.sum_engine.specs.declared.settings.Settings.{Settings}
 use Rattle.sum_engine.specs.declared.settings.CheckSettings.{CheckSettings}
 use Rattle.sum_engine.specs.Worlds.{World, reply, after, digest_or_fault}

@@ -1,10 +1,9 @@
 -- What is answered behind the end of a manifest's verdicts.
 use Rattle.std.proofs.Common.{rules, ◌≡◌, ℕ, Bool, true, false, List, [], length, Option, None, Some, Result, Ok, Err}
-use Rattle.std.proofs.Common.{ap, sym, ◌∙◌, arith, if◌then◌else◌}
+use Rattle.std.proofs.Common.{ap, sym, arith, if◌then◌else◌}
 use Rattle.sum_sources.specs.declared.fault.Ending.{Ending}
 use Rattle.sum_sources.specs.declared.lines.LineStop.{LineStop}
 use Rattle.sum_sources.specs.declared.lines.LineStop.TheVariants.{Fault, Memory}
-use Rattle.sum_sources.specs.Contents.{Content}
 use Rattle.sum_sources.specs.ManifestLines.{lines, pieces}
 use Rattle.sum_sources.proofs.LineLemmas.{pieces-nil, lines-nil}
 use Rattle.sum_lines.specs.Entries.{form, form_then}

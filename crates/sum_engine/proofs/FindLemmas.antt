@@ -7,7 +7,6 @@ use Rattle.sum_sources.specs.Contents.{InputState, WhereTold}
 use Rattle.sum_sources.specs.Sources.{SourceState}
 use Rattle.sum_sources.specs.declared.lines.LineReader.{LineReader}
 use Rattle.sum_sources.proofs.LineLemmas.{line-some}
-use Rattle.sum_sources.proofs.ToldLemmas.{WhereTold-map}
 use Rattle.sum_lines.specs.ParsedLines.{ParsedLine}
 use Rattle.sum_engine.specs.declared.summary.Counts.{Counts}
 use Rattle.sum_engine.specs.declared.verdict.LineVerdict.{LineVerdict}

@@ -1,5 +1,5 @@
 -- A manifest of lines that were written for whole files is good.
-use Rattle.std.proofs.Common.{rules, ◌≡◌, ◌==◌, ℕ, suc, ◌+◌, ◌<◌, true, false, List, [], ◌∷◌, ◌++◌, length, map, refl, ap, ◌∙◌, append_assoc, arith, inl, append-nil, sym}
+use Rattle.std.proofs.Common.{rules, ◌≡◌, ℕ, suc, ◌+◌, ◌<◌, true, List, [], ◌∷◌, ◌++◌, length, map, refl, ap, ◌∙◌, append_assoc, arith, inl, append-nil, sym}
 use Rattle.std.specs.Prelude.{flat_map}
 use Rattle.std.specs.List.{All}
 use Rattle.std.proofs.lemmas.Bool.{ne_eqb}
@@ -27,7 +27,7 @@ use Rattle.sum_engine.specs.Runs.{Run, outs, errs}
 use Rattle.sum_lines.specs.Profiles.{present}
 use Rattle.sum_lines.specs.ParsedLines.{parse_line}
 use Rattle.sum_engine.specs.Verdicts.{Rules, Judged, digest_verdict, verdict_of, judge, verdicts, all_verdicts}
-use Rattle.sum_engine.specs.Reports.{no_counts, out_of, err_of, right_line, counts, entries, unless_status, summary, good}
+use Rattle.sum_engine.specs.Reports.{no_counts, out_of, err_of, right_line, counts, unless_status, summary, good}
 use Rattle.sum_sources.specs.ManifestLines.{past_line}
 use Rattle.sum_engine.specs.Checking.{line_steps, rules_of, content_run, check_run_by, check_run}
 use Rattle.sum_lines.proofs.ParsedLineLemmas.{says_is}

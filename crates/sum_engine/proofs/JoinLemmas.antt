@@ -1,5 +1,5 @@
 -- Steps of a new checker, one after another.
-use Rattle.std.proofs.Common.{rules, ◌≡◌, ℕ, zero, suc, ◌+◌, ◌≤◌, true, List, [], ◌∷◌, ◌++◌, length, take, drop, refl, ap, sym, ◌∙◌, ◌-◌, arith, zero-add, length-drop}
+use Rattle.std.proofs.Common.{rules, ◌≡◌, ℕ, zero, suc, ◌+◌, ◌≤◌, true, List, [], ◌∷◌, ◌++◌, length, take, drop, refl, ap, sym, ◌∙◌, ◌-◌, arith, length-drop}
 use Rattle.std.specs.List.{flat_map}
 use Rattle.std.proofs.lemmas.List.{take-append-drop}
 use Rattle.sum_sources.specs.Contents.{Content}
@@ -16,7 +16,6 @@ use Rattle.sum_engine.specs.Checking.{line_steps, content_run}
 use Rattle.sum_engine.specs.Moments.{RunState}
 use Rattle.sum_engine.specs.Steps.{Now, Moves, GoesOn, to_come, at_start}
 use Rattle.sum_engine.specs.Manifests.{HandledTimes, StepsJoin, StepsEnd, StepsCut, StepsReport, Joined}
-use Rattle.sum_engine.proofs.RunStateLemmas.{did_nothing}
 use Rattle.sum_engine.proofs.RestLemmas.{past_next}
 use Rattle.sum_engine.proofs.RunLemmas.{Along, steps_more, along_end, along_breaks}
 

@@ -1,8 +1,7 @@
 -- A new checker that runs to its end, and one manifest that is asked and checked.
-use Rattle.std.proofs.Common.{rules, ◌++◌, ◌≡◌, ℕ, ◌||◌, Bool, true, false, List, [], ◌∷◌, Option, None, Some, Result, Ok, Err, cond, refl, ap, sym, ◌∙◌, subst, codes}
+use Rattle.std.proofs.Common.{rules, ◌++◌, ◌≡◌, ℕ, ◌||◌, Bool, true, false, List, [], ◌∷◌, Option, None, Some, Result, Ok, Err, cond, refl, sym, ◌∙◌, subst, codes}
 use Rattle.std.specs.Option.{option_map}
-use Rattle.std.proofs.KnownBytes.{Appends-nil}
-use Rattle.std.proofs.Math.Bool.{or-false, or-true}
+use Rattle.std.proofs.Math.Bool.{or-false}
 use Rattle.sum_sources.specs.declared.fault.Fault.{Fault}
 use Rattle.sum_sources.specs.declared.source.OpenFault.{OpenFault}
 use Rattle.sum_sources.specs.declared.source.OpenFault.TheVariants as open_faults
@@ -33,7 +32,7 @@ use Rattle.sum_engine.specs.RunStates.{Did, RunOf}
 use Rattle.sum_engine.specs.Steps.{Now, now_by, StepGives, to_come}
 use Rattle.sum_engine.specs.Checkers.{Place, now_of}
 use Rattle.sum_engine.proofs.WorldLemmas.{dash_asked}
-use Rattle.sum_engine.proofs.RunStateLemmas.{Runs, Writing, where_known, known_refused, names-by, did_by, err_alone}
+use Rattle.sum_engine.proofs.RunStateLemmas.{Runs, Writing, known_refused, names-by, err_alone}
 use Rattle.sum_engine.proofs.StepLemmas.{now-run_state}
 use Rattle.sum_engine.proofs.RunLemmas.{answered, once, unasked, Along, along_none, along_more, along_end, along_breaks, along_waits, behind_step}
 

@@ -1,5 +1,5 @@
 -- The verdicts and the run that are left, after one line and the next.
-use Rattle.std.proofs.Common.{rules, ◌≡◌, ℕ, zero, suc, ◌+◌, List, [], ◌∷◌, length, refl, ap, sym, ◌∙◌}
+use Rattle.std.proofs.Common.{rules, ◌≡◌, ℕ, zero, suc, ◌+◌, List, [], ◌∷◌, length, refl, ap, ◌∙◌}
 use Rattle.sum_sources.specs.Contents.{Content}
 use Rattle.sum_sources.specs.ManifestLines.{past_line}
 use Rattle.sum_lines.specs.Entries.{form, form_then, line_form}

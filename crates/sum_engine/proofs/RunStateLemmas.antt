@@ -1,11 +1,11 @@
 -- What happened at a run state, one thing after another; and moments whose run states tell or don't.
-use Rattle.std.proofs.Common.{rules, ◌≡◌, ℕ, ◌||◌, Bool, List, [], ◌∷◌, ◌++◌, map, Option, None, Some, Result, Ok, Err, refl, ap, sym, ◌∙◌, inl, inr, append_assoc, append-nil}
+use Rattle.std.proofs.Common.{rules, ◌≡◌, ℕ, ◌||◌, Bool, List, [], ◌∷◌, ◌++◌, map, Option, None, Some, Result, Ok, Err, refl, ap, ◌∙◌, inl, inr, append_assoc, append-nil}
 use Rattle.std.specs.Prelude.{filter_map}
 use Rattle.std.specs.List.{list_any}
 use Rattle.std.specs.Option.{option_map}
 use Rattle.std.specs.Io.KnownBytes.{Appends}
 use Rattle.std.proofs.KnownBytes.{Appends-nil, Appends-trans}
-use Rattle.std.proofs.Math.Bool.{or-false, or_assoc}
+use Rattle.std.proofs.Math.Bool.{or_assoc}
 use Rattle.std.proofs.lemmas.List.{map-append}
 use Rattle.std.proofs.lemmas.List.Elements.{filter_map-append}
 use Rattle.std.proofs.lemmas.List.Folds.{list_any-append}
@@ -24,7 +24,7 @@ use Rattle.sum_engine.specs.refinement.Asking.{world_by, world_of}
 use Rattle.sum_engine.specs.declared.stop.Stop.{Stop}
 use Rattle.sum_engine.specs.RunStates.{Did, DidPrefix, RunOf}
 use Rattle.sum_engine.specs.LineVerdicts.{OnlyRefused}
-use Rattle.sum_engine.proofs.WorldLemmas.{after-none, after-append}
+use Rattle.sum_engine.proofs.WorldLemmas.{after-append}
 
 -- ---- what of a step's events is of each kind
 

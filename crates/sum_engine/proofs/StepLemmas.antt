@@ -9,7 +9,6 @@ use Rattle.sum_sources.specs.Contents.{Content, InputState, WhereTold}
 use Rattle.sum_sources.specs.Sources.{SourceState}
 use Rattle.sum_sources.specs.ManifestLines.{LineOf, lines}
 use Rattle.sum_sources.specs.LineReaders.{coming, used}
-use Rattle.sum_sources.proofs.ToldLemmas.{WhereTold-both}
 use Rattle.sum_lines.specs.Sinks.{SinkState}
 use Rattle.sum_lines.specs.Profiles.{Profile, present}
 use Rattle.sum_engine.specs.declared.settings.Report.{Report}
@@ -27,10 +26,9 @@ use Rattle.sum_engine.specs.Reports.{err_by, end_text, good, counts_with}
 use Rattle.sum_engine.specs.Moments.{Moment, RunState, HoldNothing, run_state}
 use Rattle.sum_engine.specs.Steps.{Now, now_by, step_then, Moves, StepOf, StepGives, next_judged, rest_verdicts, to_come}
 use Rattle.sum_engine.specs.LineVerdicts.{judged_in, FindGives, FindsNone}
-use Rattle.sum_engine.specs.refinement.Asking.{world_of}
 use Rattle.sum_engine.specs.refinement.Judging.{TakesLine}
 use Rattle.sum_engine.specs.refinement.Telling.{HandsOn, out_by, HandsBoth}
-use Rattle.sum_engine.proofs.RunStateLemmas.{Asks, Writing, Came, known, run_state-known, asks_by, asks_none, came_by, err_alone}
+use Rattle.sum_engine.proofs.RunStateLemmas.{Asks, Writing, Came, known, asks_by, asks_none, came_by, err_alone}
 use Rattle.sum_engine.proofs.RunLemmas.{answered}
 use Rattle.sum_engine.proofs.RestLemmas.{line_step, run_by, first_step, found_first}
 

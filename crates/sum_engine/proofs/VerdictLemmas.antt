@@ -14,7 +14,6 @@ use Rattle.sum_engine.specs.declared.verdict.Verdict.TheVariants.{Right, Wrong, 
 use Rattle.sum_engine.specs.Worlds.{World, is_dash, reply, digest_or_fault}
 use Rattle.sum_lines.specs.ParsedLines.{WithEntry}
 use Rattle.sum_engine.specs.Verdicts.{Rules, verdict_of, not_found, digest_verdict, asks_by}
-use Rattle.sum_sources.proofs.ToldLemmas.{WhereTold-map}
 use Rattle.sum_engine.specs.refinement.Asking.{AskGives, IsAsked}
 use Rattle.sum_engine.specs.refinement.Judging.{IsJudged, compared}
 

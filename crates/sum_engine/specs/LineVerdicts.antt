@@ -20,7 +20,6 @@ use Rattle.sum_engine.specs.Verdicts.{Rules, Judged, asks_of}
 use Rattle.sum_engine.specs.Reports.{counts_with}
 use Rattle.sum_engine.specs.RunStates.{Did}
 use Rattle.sum_engine.specs.Steps.{Now, Moves, rest_verdicts}
-use Rattle.sum_engine.specs.Checkers.{Place}
 
 -- what is answered where the next verdict is asked for
 abbrev pub Found : Type 0

@@ -1,4 +1,4 @@
-use Rattle.std.proofs.Common.{◌≡◌, Some, None, sym, subst}
+use Rattle.std.proofs.Common.{Some, None, sym, subst}
 use Rattle.sum_engine.proofs.RunStateLemmas.{Runs}
 use Rattle.sum_engine.specs.Moments.{Moment, HoldNothing, Failures}
 use Rattle.sum_words.specs.CommandLines.{call, unknown}
