@@ -8,24 +8,20 @@ abbrev pub all_algos : List Algo
 all_algos = Md5 ∷ Sha1 ∷ Sha224 ∷ Sha256 ∷ Sha384 ∷ Sha512 ∷ Blake2b ∷ []
 
 -- an algorithm: the bytes of its full digest, and the tag by which a line names it
-pub record Known : Type 0 where
-  pub full : ℕ
-  pub tag : List ℕ
-
-abbrev pub about : Algo → Known
-about Md5 = record { full = 16; tag = codes "MD5" }
-about Sha1 = record { full = 20; tag = codes "SHA1" }
-about Sha224 = record { full = 28; tag = codes "SHA224" }
-about Sha256 = record { full = 32; tag = codes "SHA256" }
-about Sha384 = record { full = 48; tag = codes "SHA384" }
-about Sha512 = record { full = 64; tag = codes "SHA512" }
-about Blake2b = record { full = 64; tag = codes "BLAKE2b" }
+abbrev pub about : Algo → ℕ × List ℕ
+about Md5 = (16, codes "MD5")
+about Sha1 = (20, codes "SHA1")
+about Sha224 = (28, codes "SHA224")
+about Sha256 = (32, codes "SHA256")
+about Sha384 = (48, codes "SHA384")
+about Sha512 = (64, codes "SHA512")
+about Blake2b = (64, codes "BLAKE2b")
 
 abbrev pub full_len : Algo → ℕ
-full_len a = (about a).full
+full_len a = (about a).0
 
 abbrev pub tag : Algo → List ℕ
-tag a = (about a).tag
+tag a = (about a).1
 
 -- whether the algorithm has digests of n bytes: BLAKE2b has those of 1 to 64 (RFC 7693, 2.1), any other its full one
 abbrev pub has_len : Algo → ℕ → Bool

@@ -13,7 +13,7 @@ use Rattle.sum_sources.specs.declared.fault.Fault.TheVariants.{NotFound, Other}
 use Rattle.sum_sources.specs.declared.fault.Ending.TheVariants.{Whole, Broken}
 use Rattle.std.specs.Fmt.{digits}
 use Rattle.hex.specs.Hex.{encode_with, decode_pairs}
-use Rattle.sum_lines.specs.PartsOfLines.{plain_as, tagged_as, tagged_parts}
+use Rattle.sum_lines.specs.PartsOfLines.{plain_parts, tagged_parts}
 use Rattle.sum_sources.specs.ManifestLines.{pieces}
 use Rattle.sum_lines.specs.ParsedLines.{entry_of}
 use Rattle.sum_sources.specs.Contents.{Content, limit}
@@ -27,7 +27,7 @@ use Rattle.digests.specs.Meaning.{meaning}
 
 -- what a row unfolds, so that its texts are computed
 unfoldable meaning_on_literals : ⊤
-unfolding chars encode name_or_fault option_of_letter limit pieces entry_of plain_as tagged_as tagged_parts rsplit_once
+unfolding chars encode name_or_fault option_of_letter limit pieces entry_of plain_parts tagged_parts rsplit_once
     encode_with decode_pairs digits md5_words md5_rounds md5_compress md5_after md5_bytes md5
     mix round start compress blocks blake2b
 meaning_on_literals = tt

@@ -15,14 +15,14 @@ use Rattle.sum_engine.specs.Worlds.{World, is_dash}
 use Rattle.sum_engine.specs.Runs.{Opens}
 use Rattle.sum_engine.specs.Verdicts.{Judged, judge, asks_of}
 use Rattle.sum_engine.specs.Reports.{counts_with}
-use Rattle.sum_engine.specs.Moments.{Moment, WhereKnown, run_state}
+use Rattle.sum_engine.specs.Moments.{Moment, run_state}
 use Rattle.sum_engine.specs.refinement.Asking.{world_of}
 use Rattle.sum_engine.specs.RunStates.{Did}
 use Rattle.sum_engine.specs.LineVerdicts.{OnlyRefused}
 use Rattle.sum_engine.specs.Checkers.{Place, now_of}
 use Rattle.sum_engine.specs.Steps.{Now, next_judged}
 use Rattle.sum_engine.specs.LineVerdicts.{judged_in, FindGives}
-use Rattle.sum_engine.specs.refinement.Judging.{IsJudged, name_said, TakesLine, JudgeLineGives, parsed_at}
+use Rattle.sum_engine.specs.refinement.Judging.{IsJudged, name_said, TakesLine, JudgeLineOf, parsed_at}
 use Rattle.sum_engine.proofs.RunStateLemmas.{events_by, where_known, names-by, did_by}
 use Rattle.sum_engine.proofs.RestLemmas.{rest_on}
 use Rattle.sum_engine.proofs.StepLemmas.{now_at, now-told, ReadsLine, read_line, moves_by}
@@ -32,15 +32,16 @@ pub line_found : {I : Type 0} (p : Place I) (line : List ℕ) (said : ParsedLine
     (w v : Option World) (verdict : Verdict) (start stop : ℕ) → parsed_at p line ≡ said
     → WhereTold w v (λ w v. IsJudged p.rules w v said verdict) → d ≡ counts_with p.counts verdict
     → slice_range vector start stop ≡ name_said said → k ≡ p.reader.lines
-    → JudgeLineGives p line d vector w v
-    (Some (record { number = k; verdict = verdict; start = start; stop = stop }))
+    → WhereTold w v (λ w v. JudgeLineOf p line d vector w v
+    (Some (record { number = k; verdict = verdict; start = start; stop = stop })))
 line_found p line said k d vector w v verdict start stop is h count place number = search rules
 
 -- it is the first of those that were to come; q is the place then
 pub find_line : {I S : Type 0} (input : I → InputState) (state : S → SourceState) (p q : Place I)
     (reader : LineReader I) (a b : Moment S) (line vector : List ℕ) (v : LineVerdict)
     → ReadsLine input p reader line → TakesLine (record p { reader = reader }) q line → length vector ≤ length line
-    → JudgeLineGives (record p { reader = reader }) line q.counts vector (world_of state a) (world_of state b) (Some v)
+    → WhereTold (world_of state a) (world_of state b)
+    (λ w w'. JudgeLineOf (record p { reader = reader }) line q.counts vector w w' (Some v))
     → b.taken ≡ a.taken || list_any is_dash (asks_of (judged_in vector v)) → b.err ≡ a.err → b.out ≡ a.out
     → (state b.source).refusals ≡ (state a.source).refusals
     → FindGives p.rules vector (now_of input p (run_state state a)) (now_of input q (run_state state b)) (Ok (Some v))
@@ -75,7 +76,7 @@ find_line {I} input state p q reader a b line vector v reads takes few h taken e
 -- memory to open a line's file was refused: nothing happened, and the line was to come
 pub find_refused : {I S : Type 0} (input : I → InputState) (state : S → SourceState) (p q : Place I)
     (reader : LineReader I) (a b : Moment S) (line vector : List ℕ) → ReadsLine input p reader line
-    → q.reader ≡ reader → WhereKnown state a b OnlyRefused
+    → q.reader ≡ reader → WhereTold (run_state state a) (run_state state b) OnlyRefused
     → FindGives p.rules vector (now_of input p (run_state state a)) (now_of input q (run_state state b)) (Err Memory)
 find_refused {I} input state p q reader a b line vector reads is refused =
     let then : Place I = record q { reader = reader } in

@@ -8,10 +8,9 @@ use Rattle.std.proofs.lemmas.List.Elements.{All-head, All-tail}
 use Rattle.std.proofs.lemmas.Slice.Eq.{bytes_eq-Decides}
 use Rattle.digest_kinds.specs.Digests.{digest}
 use Rattle.digest_kinds.specs.declared.algo.Algos.{Algos}
-use Rattle.digest_kinds.proofs.DigestLemmas.{length-digest}
 use Rattle.sum_lines.specs.declared.line_reading.Form.{Form}
-use Rattle.sum_lines.specs.Escape.{escape}
-use Rattle.sum_lines.specs.Entries.{kind_of, Entry, form}
+use Rattle.sum_lines.specs.Escape.{present, escape}
+use Rattle.sum_lines.specs.Entries.{Entry, form}
 use Rattle.sum_sources.specs.declared.fault.Ending.TheVariants.{Whole}
 use Rattle.sum_sources.specs.Contents.{Content, limit}
 use Rattle.sum_sources.specs.Sources.{Reply, Given}
@@ -24,10 +23,9 @@ use Rattle.sum_engine.specs.declared.verdict.Verdict.TheVariants.{Right}
 use Rattle.sum_engine.specs.Worlds.{World, reply, after, digest_or_fault}
 use Rattle.sum_engine.specs.Steps.{step_then}
 use Rattle.sum_engine.specs.Runs.{Run, outs, errs}
-use Rattle.sum_lines.specs.Profiles.{present}
 use Rattle.sum_lines.specs.ParsedLines.{parse_line}
 use Rattle.sum_engine.specs.Verdicts.{Rules, Judged, digest_verdict, verdict_of, judge, verdicts, all_verdicts}
-use Rattle.sum_engine.specs.Reports.{no_counts, out_of, err_of, right_line, counts, unless_status, summary, good}
+use Rattle.sum_engine.specs.Reports.{no_counts, out_of, err_of, right_line, counts, unless_status, end_text, good}
 use Rattle.sum_sources.specs.ManifestLines.{past_line}
 use Rattle.sum_engine.specs.Checking.{line_steps, rules_of, content_run, check_run_by, check_run}
 use Rattle.sum_lines.proofs.ParsedLineLemmas.{says_is}
@@ -43,11 +41,11 @@ now r = record r { profile = present }
 -- the digest of the item's file, read by the kind that its line spells, is right against itself
 digest_verdict-right : (algos : Algos) (answer : List ℕ → Reply) (i : Item) → Listed algos answer i
     → let file = Given (record { bytes = i.bytes; ending = Whole }) in
-    digest_verdict (digest i.kind i.bytes) (digest_or_fault (kind_of (spelled_for i)) file) ≡ Right
+    digest_verdict (digest i.kind i.bytes) (digest_or_fault i.kind file) ≡ Right
 digest_verdict-right algos answer i h =
     let d : List ℕ = digest i.kind i.bytes in
     let short = clip-short (record { bytes = i.bytes; ending = Whole }) (rw limit-value at h.fits) in
-    rw (short, length-digest i.kind i.bytes h.has, (bytes_eq-Decides d d).1 refl) refl
+    rw (short, (bytes_eq-Decides d d).1 refl) refl
 
 -- so the verdict is Right
 verdict-right : (r : Rules) (w : World) (i : Item) → Listed r.settings.algos w.answer i
@@ -128,7 +126,7 @@ silent reports.Warn = refl
 silent reports.Status = refl
 
 -- the whole summary is empty
-no-summary : (r : Rules) (k : ℕ) → summary r (right_counts (suc k)) ≡ []
+no-summary : (r : Rules) (k : ℕ) → end_text r Whole (right_counts (suc k)) ≡ []
 no-summary r k = search rules
 
 -- and the list is good
@@ -171,12 +169,12 @@ manifest_good check tool manifest w (i ∷ is) all some fits given =
     let c : counts no_counts (rights 0 (i ∷ is)) ≡ right_counts (suc (length is)) =
     counts-are 0 0 (i ∷ is) ∙ ap right_counts (omega arith) in
     let js = rights 0 (i ∷ is) in
-    let end = summary r (counts no_counts js) in
+    let end = end_text r Whole (counts no_counts js) in
     record {
       good = ap (λ (q : Run). q.good) here ∙ ap (good r Whole) c ∙ is-good r (length is);
       out = ap outs here ∙ outs_of_lines r end (whole (i ∷ is)) js ∙ rights-out r 0 (i ∷ is);
       err =
           ap errs here ∙ errs_of_lines r end (whole (i ∷ is)) js
           ∙ ap (λ t. t ++ end) (rights-err r 0 (i ∷ is))
-          ∙ ap (summary r) c ∙ no-summary r (length is);
+          ∙ ap (end_text r Whole) c ∙ no-summary r (length is);
     }

@@ -55,7 +55,7 @@ prefix i = prefix_of i.mode i.kind i.name (digest i.kind i.bytes)
 
 -- what the line spells
 abbrev pub spelled_for : Item → Spelled
-spelled_for i = record { algo = i.kind.algo; digest = digest i.kind i.bytes; name = i.name }
+spelled_for i = record { kind = i.kind; digest = digest i.kind i.bytes; name = i.name }
 
 -- it can be written so that it is read back
 writable : (algos : Algos) (answer : List ℕ → Reply) (i : Item) → Listed algos answer i

@@ -13,7 +13,7 @@ use Rattle.sum_sources.specs.Sources.{SourceState, Reply, Refused, Given, Tellin
 use Rattle.digest_kinds.specs.Limits.{one_more}
 use Rattle.sum_sources.specs.Standard.{empty_content}
 use Rattle.sum_lines.specs.declared.line_reading.Form.TheVariants.{Undecided}
-use Rattle.sum_lines.specs.Profiles.{present}
+use Rattle.sum_lines.specs.Escape.{present}
 use Rattle.sum_engine.specs.declared.progress.Progress.{Progress}
 use Rattle.sum_engine.specs.declared.progress.Progress.TheVariants.{Going, Ended}
 use Rattle.sum_engine.specs.declared.settings.CheckSettings.{CheckSettings}
@@ -26,7 +26,7 @@ use Rattle.sum_engine.specs.Generation.{fault_line}
 use Rattle.sum_engine.specs.Verdicts.{Rules, all_verdicts}
 use Rattle.sum_engine.specs.Reports.{no_counts}
 use Rattle.sum_engine.specs.Checking.{rules_of, content_run, check_run_by, check_run}
-use Rattle.sum_engine.specs.Moments.{Moment, RunState, WhereKnown, run_state}
+use Rattle.sum_engine.specs.Moments.{Moment, RunState, run_state}
 use Rattle.sum_engine.specs.refinement.Asking.{world_by, world_of}
 use Rattle.sum_engine.specs.RunStates.{Did, RunOf}
 use Rattle.sum_engine.specs.Steps.{Now, now_by, StepGives, to_come}
@@ -154,7 +154,7 @@ check_gives_by k dash c (Some a) (Some asked) (Some b) x is h run =
 -- after that, what the checker does is what the call does, where source, standard input and manifest tell
 check_gives : {S : Type 0} (state : S → SourceState) (k : Call) (dash : Bool) (c : Option Content)
     (a asked b : Moment S) (x : Result Bool Stop) → is_dash k.name ≡ dash
-    → WhereKnown state a asked (IsOpened k.name c)
+    → WhereTold (run_state state a) (run_state state asked) (IsOpened k.name c)
     → Checks state (rules_where k dash) (option_map clip c) asked b x → CheckGives state k a b x
 check_gives state k dash c a asked b x is h run =
     check_gives_by k dash c (run_state state a) (run_state state asked) (run_state state b) x is h run
@@ -175,7 +175,8 @@ dash_worlds name (Some s) (Some c) dash = (dash_asked s.answer s.asked c name da
 
 -- the manifest is standard input, which is taken then
 dash_opened : {S : Type 0} (state : S → SourceState) (name : List ℕ) (a : Moment S) → is_dash name ≡ true
-    → WhereKnown state a (record a { input = Some empty_content; taken = true }) (IsOpened name a.input)
+    → WhereTold (run_state state a) (run_state state (record a { input = Some empty_content; taken = true }))
+    (IsOpened name a.input)
 dash_opened {S} state name a dash = search rules
 
 -- so what the checker does with standard input is what the call does
@@ -221,7 +222,8 @@ file_opened : {F S : Type 0} (content : F → InputState) (state : S → SourceS
     (source : S) (file : F) → is_dash name ≡ false
     → WhereTold (state a.source).told (state source).told (λ s t. OpenOf content s t name (Ok file))
     → (state source).refusals ≡ (state a.source).refusals
-    → WhereKnown state a (record a { source = source }) (IsOpened name (content file).content)
+    → WhereTold (run_state state a) (run_state state (record a { source = source }))
+    (IsOpened name (content file).content)
 file_opened content state name a source file dash h refusals = search rules
 
 -- so what the checker does with it is what the call does

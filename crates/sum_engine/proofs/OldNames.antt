@@ -8,10 +8,9 @@ use Rattle.digest_kinds.specs.Kinds.{tag}
 use Rattle.digest_kinds.specs.declared.algo.Algos.{Algos}
 use Rattle.sum_lines.specs.declared.line_reading.Form.{Form}
 use Rattle.sum_lines.specs.declared.line_reading.Form.TheVariants.{Undecided, Standard, Reversed}
-use Rattle.sum_lines.specs.Profiles.{present}
-use Rattle.sum_lines.specs.Escape.{escape, escape_of, escape_by}
+use Rattle.sum_lines.specs.Escape.{present, escape, escape_of, escape_by}
 use Rattle.sum_lines.specs.Shapes.{Plain, Tagged, mark, optional}
-use Rattle.sum_lines.specs.Entries.{Spelled, kind_of, is_ignored_by, RawOf, ByTag, ByTail, Entry}
+use Rattle.sum_lines.specs.Entries.{Spelled, is_ignored_by, RawOf, ByTag, ByTail, Entry}
 use Rattle.sum_lines.specs.Entries as entries
 use Rattle.sum_lines.specs.ParsedLines.{ParsedLine, Nothing, Improper, WithEntry, parse_line}
 use Rattle.sum_lines.proofs.ParsedLineLemmas.{says_is}
@@ -115,10 +114,10 @@ tag_clean E algos line s free none t =
     let whole = subst NoReturn t.tagged.whole free in (
       all_left NotReturn t.raw _ (all_right NotReturn (codes "(") _
           (all_right NotReturn (optional t.tagged.gap (codes " ")) _ (all_right NotReturn t.tagged.width _
-          (all_right NotReturn (tag s.algo) _ (all_right NotReturn (mark t.escaped) _
+          (all_right NotReturn (tag s.kind.algo) _ (all_right NotReturn (mark t.escaped) _
           (all_right NotReturn t.tagged.blanks _ whole)))))),
-      λ e. none (kind_of s) s.digest t.raw
-          (inl (subst (λ x. Tagged algos line x (kind_of s) s.digest t.raw) e t.tagged)),
+      λ e. none s.kind s.digest t.raw
+          (inl (subst (λ x. Tagged algos line x s.kind s.digest t.raw) e t.tagged)),
     )
 
 -- and a plain one
@@ -128,8 +127,8 @@ tail_clean E algos f line s free none t =
     let whole = subst NoReturn t.plain.whole free in raw_clean f t.escaped t.tail t.raw (
       All-tail NotReturn t.plain.blank t.tail (all_right NotReturn t.plain.digits _
           (all_right NotReturn (mark t.escaped) _ (all_right NotReturn t.plain.blanks _ whole))),
-      λ e. none (kind_of s) s.digest t.tail
-          (inr (subst (λ x. Plain algos line x (kind_of s) s.digest t.tail) e t.plain)),
+      λ e. none s.kind s.digest t.tail
+          (inr (subst (λ x. Plain algos line x s.kind s.digest t.tail) e t.plain)),
     ) t.is_raw
 
 -- ---- the entry

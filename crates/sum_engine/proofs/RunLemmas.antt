@@ -6,13 +6,14 @@ use Rattle.std.proofs.lemmas.List.Elements.{filter_map-append}
 use Rattle.sum_sources.specs.Contents.{WhereTold}
 use Rattle.sum_sources.specs.Sources.{SourceState}
 use Rattle.sum_sources.proofs.ToldLemmas.{WhereTold-map}
+use Rattle.sum_lines.specs.Sinks.{IsPrefix}
 use Rattle.sum_engine.specs.declared.stop.Stop.{Stop}
 use Rattle.sum_engine.specs.declared.stop.Stop.TheVariants.{Memory, Write}
 use Rattle.sum_engine.specs.Worlds.{World}
-use Rattle.sum_engine.specs.Moments.{Moment, RunState, WhereKnown, run_state}
+use Rattle.sum_engine.specs.Moments.{Moment, RunState, run_state}
 use Rattle.sum_engine.specs.refinement.Asking.{world_of}
 use Rattle.sum_engine.specs.Runs.{Event, Step, Run, events, events_of, at_once, name_in, err_in, out_in}
-use Rattle.sum_engine.specs.RunStates.{Did, DidPrefix, RunOf}
+use Rattle.sum_engine.specs.RunStates.{Did, RunOf}
 use Rattle.sum_engine.specs.LineVerdicts.{OnlyRefused}
 use Rattle.sum_engine.specs.Steps.{GoesOn, Finishes, Breaks, Lacks}
 use Rattle.sum_engine.specs.Manifests.{EventsExtend}
@@ -57,7 +58,7 @@ along_end h k =
 
 -- a step of which a prefix happened
 pub along_breaks : {a b c : RunState} {whole left : Run} → Along whole left a b → Breaks left b c
-    → DidPrefix a c (events whole.steps)
+    → (prefix : List Event) × IsPrefix prefix (events whole.steps) × Did a c prefix
 along_breaks {whole = whole} h k =
     let steps : whole.steps ≡ h.done ++ k.step ∷ k.rest.steps = h.steps ∙ ap (λ r. h.done ++ r.steps) k.is in
     let all : events whole.steps ≡ events h.done ++ (events_of k.step ++ events k.rest.steps) =
@@ -144,7 +145,8 @@ once state run names err out good answer a b (Err e) h is told = where_known sta
 
 -- the source had no memory to open the first step's name
 pub unasked : {S A : Type 0} (state : S → SourceState) (run : World → Run) (answer : Bool → A) (a b : Moment S)
-    → ((w : World) → (s : Step) × (rest : List Step) × ((run w).steps ≡ s ∷ rest)) → WhereKnown state a b OnlyRefused
+    → ((w : World) → (s : Step) × (rest : List Step) × ((run w).steps ≡ s ∷ rest))
+    → WhereTold (run_state state a) (run_state state b) OnlyRefused
     → Runs state run answer a b (Err Memory)
 unasked state run answer a b first h = WhereTold-map (run_state state a) (run_state state b) (λ s t refused.
     let next = first s.world in

@@ -12,17 +12,17 @@ use Rattle.std.proofs.lemmas.List.Folds.{list_any-append}
 use Rattle.sum_sources.specs.Contents.{WhereTold}
 use Rattle.sum_sources.specs.Sources.{SourceState, Telling}
 use Rattle.digest_kinds.specs.Limits.{one_more}
-use Rattle.sum_lines.specs.Sinks.{SinkState}
-use Rattle.sum_lines.specs.refinement.Growing.{AppendsPrefix}
+use Rattle.sum_lines.specs.Sinks.{SinkState, IsPrefix}
+use Rattle.sum_lines.specs.refinement.GrowingSinks.{AppendsPrefix}
 use Rattle.sum_engine.specs.Worlds.{World, is_dash, after}
 use Rattle.sum_engine.specs.Runs.{Run, Event, Opens, Tells, Puts, name_in, err_in, out_in}
 use Rattle.sum_engine.specs.refinement.Telling.{Hands, HandsBoth}
 use Rattle.sum_lines.specs.PartsOfLines.{◌>>=◌}
 use Rattle.sum_sources.specs.Contents.{Content}
-use Rattle.sum_engine.specs.Moments.{Moment, RunState, WhereKnown, run_state}
+use Rattle.sum_engine.specs.Moments.{Moment, RunState, run_state}
 use Rattle.sum_engine.specs.refinement.Asking.{world_by, world_of}
 use Rattle.sum_engine.specs.declared.stop.Stop.{Stop}
-use Rattle.sum_engine.specs.RunStates.{Did, DidPrefix, RunOf}
+use Rattle.sum_engine.specs.RunStates.{Did, RunOf}
 use Rattle.sum_engine.specs.LineVerdicts.{OnlyRefused}
 use Rattle.sum_engine.proofs.WorldLemmas.{after-append}
 
@@ -127,7 +127,7 @@ did_both {a} {b} {c} p q h k = record {
 -- the names were asked, and of the text on standard error a prefix was handed on
 pub prefix_err : {a b : RunState} (names : List (List ℕ)) (err out : List ℕ) → Asks a b names
     → AppendsPrefix a.err.written b.err.written err → b.out.written ≡ a.out.written
-    → DidPrefix a b (events_by names err out)
+    → (prefix : List Event) × IsPrefix prefix (events_by names err out) × Did a b prefix
 prefix_err {a} {b} names err out asked h same = (
   events_by names h.0 [],
   (
@@ -140,7 +140,7 @@ prefix_err {a} {b} names err out asked h same = (
 -- all of it was, and a prefix of the text on standard output
 pub prefix_out : {a b : RunState} (names : List (List ℕ)) (err out : List ℕ) → Asks a b names
     → Appends a.err.written b.err.written err → AppendsPrefix a.out.written b.out.written out
-    → DidPrefix a b (events_by names err out)
+    → (prefix : List Event) × IsPrefix prefix (events_by names err out) × Did a b prefix
 prefix_out {a} {b} names err out asked all h = (
   events_by names err h.0,
   (map Puts h.1.0, rw (h.1.1) (simp (map-append, append_assoc))),
@@ -154,7 +154,7 @@ Writing = Result (Unit {0}) (Unit {0})
 -- what it wrote happened, or a prefix of it where it failed
 abbrev pub Came : Writing → RunState → RunState → List Event → Type 0
 Came (Ok u) a b es = Did a b es
-Came (Err e) a b es = DidPrefix a b es
+Came (Err e) a b es = (prefix : List Event) × IsPrefix prefix es × Did a b prefix
 
 -- the names were asked, and the two texts handed on or a prefix of them
 pub came_by : (a b : RunState) (names : List (List ℕ)) (err out : List ℕ) (x : Writing) → Asks a b names
@@ -170,8 +170,9 @@ err_alone a b out text (Ok u) h = (h, Appends-nil out.written)
 err_alone a b out text (Err e) h = inl (h, refl)
 
 -- a prefix of what comes next, behind what happened
-pub prefix_behind : {a b c : RunState} (p es more : List Event) → Did a b p → DidPrefix b c es
-    → DidPrefix a c (p ++ (es ++ more))
+pub prefix_behind : {a b c : RunState} (p es more : List Event) → Did a b p
+    → ((prefix : List Event) × IsPrefix prefix es × Did b c prefix)
+    → (prefix : List Event) × IsPrefix prefix (p ++ (es ++ more)) × Did a c prefix
 prefix_behind p es more done h = (
   p ++ h.0,
   (h.1.0 ++ more, rw (h.1.1) (simp append_assoc)),
@@ -212,7 +213,8 @@ run_state-known state m = by_world (known state m) (state m.source).told m.input
 -- what follows of two moments from what holds of their worlds, where these tell
 pub where_known : {S : Type 0} (state : S → SourceState) (a b : Moment S) {P : World → World → Type 0}
     (R : RunState → RunState → Type 0) → WhereTold (world_of state a) (world_of state b) P
-    → ((w v : World) → P w v → R (known state a w) (known state b v)) → WhereKnown state a b R
+    → ((w v : World) → P w v → R (known state a w) (known state b v))
+    → WhereTold (run_state state a) (run_state state b) R
 where_known state a b R h f = search rules
 
 -- and what holds of their worlds from what holds of the moments
@@ -223,7 +225,7 @@ told-of (Some a) None f g R h = h
 told-of (Some a) (Some b) f g R h = h
 
 pub known_worlds : {S : Type 0} (state : S → SourceState) (a b : Moment S) (R : RunState → RunState → Type 0)
-    → WhereKnown state a b R
+    → WhereTold (run_state state a) (run_state state b) R
     → WhereTold (world_of state a) (world_of state b) (λ w v. R (known state a w) (known state b v))
 known_worlds state a b R h = search rules
 
@@ -236,13 +238,14 @@ same_told (Some a) = refl
 pub known_refused : {S : Type 0} (state : S → SourceState) (a b : Moment S)
     → WhereTold (world_of state a) (world_of state b) (λ w v. v ≡ w) → b.taken ≡ a.taken → b.err ≡ a.err
     → b.out ≡ a.out → (state b.source).refusals ≡ one_more (state a.source).refusals
-    → WhereKnown state a b OnlyRefused
+    → WhereTold (run_state state a) (run_state state b) OnlyRefused
 known_refused state a b world taken err out refused = search rules
 
 -- standard error handed on a text or a prefix of it, and nothing else was done
 pub err_came : {S : Type 0} (state : S → SourceState) (a : Moment S) (err : SinkState) (text : List ℕ) (x : Writing)
     → Hands a.err.written err.written text x
-    → WhereKnown state a (record a { err = err }) (λ s t. Came x s t (events_by [] text []))
+    → WhereTold (run_state state a) (run_state state (record a { err = err }))
+    (λ s t. Came x s t (events_by [] text []))
 err_came state a err text x h = where_known state a (record a { err = err }) _ (same_told (world_of state a))
     (λ w v same. came_by _ _ [] text [] x (asks_none same refl refl) (err_alone a.err err a.out text x h))
 
@@ -250,4 +253,5 @@ err_came state a err text x h = where_known state a (record a { err = err }) _ (
 abbrev pub Runs : {S A : Type 0} → (S → SourceState) → (World → Run) → (Bool → A) → Moment S → Moment S
     → Result A Stop → Type 0
 Runs state run answer a b r =
-    WhereKnown state a b (λ s t. RunOf (run s.world).steps (answer (run s.world).good) s t r)
+    WhereTold (run_state state a) (run_state state b)
+    (λ s t. RunOf (run s.world).steps (answer (run s.world).good) s t r)

@@ -4,7 +4,7 @@ use Rattle.sum_lines.specs.declared.line_reading.Form.{Form}
 use Rattle.sum_lines.specs.declared.line_reading.Form.TheVariants.{Undecided}
 use Rattle.sum_lines.specs.Entries.{form, form_then, line_form}
 use Rattle.sum_engine.specs.Worlds.{World, after}
-use Rattle.sum_lines.specs.Profiles.{Profile}
+use Rattle.sum_lines.specs.Escape.{Profile}
 use Rattle.sum_lines.specs.ParsedLines.{ParsedLine, Nothing, Improper, WithEntry, parse_line}
 use Rattle.sum_engine.specs.Verdicts.{Rules, Judged, judge, asks_of, verdicts}
 use Rattle.sum_engine.specs.CheckingLaws.{SameVerdicts}

@@ -10,7 +10,7 @@ use Rattle.sum_sources.specs.Sources.{SourceState}
 use Rattle.sum_sources.specs.ManifestLines.{LineOf, lines}
 use Rattle.sum_sources.specs.LineReaders.{coming, used}
 use Rattle.sum_lines.specs.Sinks.{SinkState}
-use Rattle.sum_lines.specs.Profiles.{Profile, present}
+use Rattle.sum_lines.specs.Escape.{Profile, present}
 use Rattle.sum_engine.specs.declared.settings.Report.{Report}
 use Rattle.sum_engine.specs.declared.settings.Report.TheVariants as reports
 use Rattle.sum_engine.specs.declared.verdict.Verdict.TheVariants.{Ignored}

@@ -4,7 +4,7 @@ use Rattle.std.specs.Io.KnownBytes.{Appends}
 use Rattle.std.proofs.KnownBytes.{Appends-trans}
 use Rattle.sum_lines.specs.Sinks.{SinkState, Wrote, Broke, Flushes}
 use Rattle.digest_kinds.specs.Limits.{one_more}
-use Rattle.sum_lines.specs.refinement.Growing.{AppendsPrefix}
+use Rattle.sum_lines.specs.refinement.GrowingSinks.{AppendsPrefix}
 use Rattle.sum_lines.proofs.SinkLemmas.{Wrote-dropped}
 use Rattle.sum_engine.specs.refinement.Telling.{HandsOn}
 

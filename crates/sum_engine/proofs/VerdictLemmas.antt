@@ -6,7 +6,7 @@ use Rattle.digest_kinds.specs.Kinds.{KindValue}
 use Rattle.sum_sources.specs.declared.fault.Fault.TheVariants.{NotFound}
 use Rattle.sum_sources.specs.Contents.{WhereTold}
 use Rattle.sum_sources.specs.Sources.{Reply}
-use Rattle.sum_lines.specs.Entries.{Spelled, kind_of}
+use Rattle.sum_lines.specs.Entries.{Spelled}
 use Rattle.sum_engine.specs.declared.asking.Asked.{Asked}
 use Rattle.sum_engine.specs.declared.asking.Asked.TheVariants as asked
 use Rattle.sum_engine.specs.declared.verdict.Verdict.{Verdict}
@@ -44,12 +44,12 @@ asks_compared ignore d a name = refl
 
 -- so is the verdict of an entry
 verdict_is : (r : Rules) (w : World) (s : Spelled) (a : Asked) → r.from_stdin && is_dash s.name ≡ false
-    → IsAsked (kind_of s) (reply w s.name) a → verdict_of r w s ≡ compared r.settings.ignore_missing s.digest a
+    → IsAsked s.kind (reply w s.name) a → verdict_of r w s ≡ compared r.settings.ignore_missing s.digest a
 verdict_is r w s a dash h = search rules
 
 -- an entry's verdict, by what came of asking its name
 pub judged_entry : (r : Rules) (w v : Option World) (s : Spelled) (a : Asked) (verdict : Verdict)
-    → r.from_stdin && is_dash s.name ≡ false → AskGives (kind_of s) w v s.name (Some a)
+    → r.from_stdin && is_dash s.name ≡ false → AskGives s.kind w v s.name (Some a)
     → verdict ≡ compared r.settings.ignore_missing s.digest a
     → WhereTold w v (λ w v. IsJudged r w v (WithEntry s) verdict)
 judged_entry r w v s a verdict dash h is = search rules

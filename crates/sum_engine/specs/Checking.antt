@@ -6,19 +6,15 @@ use Rattle.sum_sources.specs.ManifestLines.{past_line}
 use Rattle.sum_engine.specs.declared.settings.CheckSettings.{CheckSettings}
 use Rattle.sum_engine.specs.Worlds.{World, is_dash, reply, after}
 use Rattle.sum_engine.specs.Runs.{run_then, Step, Run, at_once}
-use Rattle.sum_lines.specs.Profiles.{present}
+use Rattle.sum_lines.specs.Escape.{present}
 use Rattle.sum_engine.specs.Generation.{fault_line}
 use Rattle.sum_engine.specs.Verdicts.{Rules, Judged, asks_of, all_verdicts}
 use Rattle.sum_engine.specs.Reports.{no_counts, out_of, err_of, counts, end_text, good}
 
 abbrev pub rules_of : CheckSettings → List ℕ → List ℕ → Rules
-rules_of settings tool name = record {
-  profile = present;
-  settings = settings;
-  tool = tool;
-  shown = if is_dash name then codes "standard input" else name;
-  from_stdin = is_dash name;
-}
+rules_of settings tool name =
+    let shown = if is_dash name then codes "standard input" else name in
+    record { profile = present; settings = settings; tool = tool; shown = shown; from_stdin = is_dash name }
 
 -- a step for each line of the content, by these verdicts, one after another, and one for the end, which has that text
 abbrev pub line_steps : Rules → List ℕ → Content → List Judged → List Step

@@ -7,8 +7,7 @@ use Rattle.sum_lines.specs.Lines.{line}
 use Rattle.sum_engine.specs.declared.settings.Settings.{Settings}
 use Rattle.sum_engine.specs.Worlds.{World, reply, digest_or_fault}
 use Rattle.sum_engine.specs.Runs.{Run, at_once}
-use Rattle.sum_lines.specs.Profiles.{Profile, present}
-use Rattle.sum_lines.specs.Escape.{escape_by}
+use Rattle.sum_lines.specs.Escape.{Profile, present, escape_by}
 
 -- TOOL: NAME: TEXT
 abbrev pub tool_line : Profile → List ℕ → List ℕ → List ℕ → List ℕ

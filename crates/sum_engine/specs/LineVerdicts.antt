@@ -29,13 +29,7 @@ Found = Result (Option LineVerdict) LineStop
 abbrev pub asking : {I S : Type 0} → (I → InputState) → Option I → S → Moment S
 asking state stdin source =
     let silent : SinkState = record { written = None; held = []; failures = 0 } in
-    record {
-      source = source;
-      input = (left_in state stdin).content;
-      taken = is_none stdin;
-      err = silent;
-      out = silent;
-    }
+    record { source = source; input = (left_in state stdin).content; taken = is_none stdin; err = silent; out = silent }
 
 -- the judged line: its name stands in the vector
 abbrev pub judged_in : List ℕ → LineVerdict → Judged

@@ -1,25 +1,26 @@
 -- What a checker's steps come to: a whole manifest.
 use Rattle.std.specs.Prelude.{ℕ, zero, suc, ◌≡◌, ◌+◌, ◌≤◌, Bool, true, List, take, drop, length, flat_map, Option, Result, IfSome}
 use Rattle.std.specs.Io.KnownBytes.{Appends}
-use Rattle.sum_sources.specs.Contents.{Content}
+use Rattle.sum_sources.specs.Contents.{Content, WhereTold}
 use Rattle.sum_sources.specs.Sources.{SourceState}
 use Rattle.sum_sources.specs.ManifestLines.{past_lines}
+use Rattle.sum_lines.specs.Sinks.{IsPrefix}
 use Rattle.sum_engine.specs.declared.stop.Stop.{Stop}
 use Rattle.sum_engine.specs.Worlds.{after}
 use Rattle.sum_engine.specs.Verdicts.{lines_by}
-use Rattle.sum_engine.specs.Runs.{Run, events, outs, errs, asks}
+use Rattle.sum_engine.specs.Runs.{Event, Run, events, outs, errs, asks}
 use Rattle.sum_engine.specs.Verdicts.{Rules, Judged, asks_of, all_verdicts}
 use Rattle.sum_engine.specs.Reports.{out_of, err_of}
 use Rattle.sum_engine.specs.Checking.{line_steps, content_run}
-use Rattle.sum_engine.specs.Moments.{Moment, HoldNothing, RunState, WhereKnown}
-use Rattle.sum_engine.specs.RunStates.{Did, DidPrefix, RunOf}
+use Rattle.sum_engine.specs.Moments.{Moment, HoldNothing, RunState, run_state}
+use Rattle.sum_engine.specs.RunStates.{Did, RunOf}
 use Rattle.sum_engine.specs.Steps.{Now, Moves, GoesOn, Finishes, Breaks, to_come, at_start}
 
 -- a new checker that was run to its end, from outputs that held nothing
 abbrev pub ManifestGives :
     {S : Type 0} → (S → SourceState) → Rules → Option Content → Moment S → Moment S → Result Bool Stop → Type 0
-ManifestGives state r c a b x = HoldNothing a → IfSome c (λ c. WhereKnown state a b (λ s t.
-    let run = content_run r c (all_verdicts r s.world c) in RunOf run.steps run.good s t x))
+ManifestGives state r c a b x = HoldNothing a → IfSome c (λ c. WhereTold (run_state state a) (run_state state b)
+    (λ s t. let run = content_run r c (all_verdicts r s.world c) in RunOf run.steps run.good s t x))
 
 -- ---- the laws
 
@@ -68,5 +69,7 @@ StepsEnd = (r : Rules) (c : Content) (s : RunState) (b : Now) (z : RunState) (k 
 
 -- after a step that a write fault cut off one prefix of all events happened
 abbrev pub StepsCut : Type 0
-StepsCut = (r : Rules) (c : Content) (s : RunState) (b : Now) (z : RunState) (k : ℕ) → HandledTimes r (at_start c s) b k
-    → Breaks (to_come r b) b.run_state z → DidPrefix s z (events (content_run r c (all_verdicts r s.world c)).steps)
+StepsCut = (r : Rules) (c : Content) (s : RunState) (b : Now) (z : RunState) (k : ℕ)
+    → HandledTimes r (at_start c s) b k → Breaks (to_come r b) b.run_state z
+    → (let es = events (content_run r c (all_verdicts r s.world c)).steps in
+    (prefix : List Event) × IsPrefix prefix es × Did s z prefix)

@@ -1,6 +1,6 @@
 -- How the streams of a run stand at one moment: all that a contract sees of them.
 use Rattle.std.specs.Prelude.{ℕ, ◌≡◌, ◌⊎◌, Bool, [], Option, Some, Result, Err}
-use Rattle.sum_sources.specs.Contents.{Content, WhereTold}
+use Rattle.sum_sources.specs.Contents.{Content}
 use Rattle.sum_sources.specs.Sources.{SourceState}
 use Rattle.sum_lines.specs.Sinks.{SinkState}
 use Rattle.sum_lines.specs.PartsOfLines.{◌>>=◌}
@@ -57,14 +57,5 @@ abbrev pub run_state : {S : Type 0} → (S → SourceState) → Moment S → Opt
 run_state state m = do
   told ← (state m.source).told
   input ← m.input
-  Some (record {
-    world = record { answer = told.answer; asked = told.asked; input = input };
-    refusals = (state m.source).refusals;
-    taken = m.taken;
-    err = m.err;
-    out = m.out;
-  })
-
--- what holds between the run states of two moments, where these tell
-abbrev pub WhereKnown : {S : Type 0} → (S → SourceState) → Moment S → Moment S → (RunState → RunState → Type 0) → Type 0
-WhereKnown state a b P = WhereTold (run_state state a) (run_state state b) P
+  let world : World = record { answer = told.answer; asked = told.asked; input = input }
+  Some (record { world = world; refusals = (state m.source).refusals; taken = m.taken; err = m.err; out = m.out })

@@ -1,7 +1,6 @@
 -- What checking writes: the reports of the lines, and the end of a manifest.
 use Rattle.std.specs.Prelude.{ℕ, ◌+◌, ◌==◌, ◌&&◌, ◌||◌, Bool, true, false, not, List, [], ◌∷◌, ◌++◌, decimal, codes, fold, if◌then◌else◌}
 use Rattle.std.specs.List.{concat}
-use Rattle.std.specs.Str.{bytes_eq}
 use Rattle.digest_kinds.specs.declared.algo.Algos.{Algos}
 use Rattle.digest_kinds.specs.declared.algo.Algos.TheVariants.{One, Any}
 use Rattle.digest_kinds.specs.Kinds.{tag}
@@ -13,16 +12,14 @@ use Rattle.sum_engine.specs.declared.settings.Report.TheVariants.{Quiet, Warn, S
 use Rattle.sum_engine.specs.declared.summary.Counts.{Counts}
 use Rattle.sum_engine.specs.declared.verdict.Verdict.{Verdict}
 use Rattle.sum_engine.specs.declared.verdict.Verdict.TheVariants.{Ignored, Bad, Right, Wrong, Missing, Unread}
-use Rattle.sum_lines.specs.Profiles.{Profile, present}
-use Rattle.sum_lines.specs.Escape.{escape_by}
+use Rattle.sum_lines.specs.Escape.{Profile, present, escape_by, escape_differs}
 use Rattle.sum_engine.specs.Generation.{tool_line, fault_line}
 use Rattle.sum_engine.specs.Verdicts.{Rules, Judged}
 
 -- NAME: TEXT, where a backslash stands before a name that its escape changes
 abbrev pub name_line : Profile → List ℕ → List ℕ → List ℕ
 name_line p name text =
-    let escaped = escape_by p name in
-    concat (mark (not (bytes_eq escaped name)) ∷ escaped ∷ codes ": " ∷ text ∷ codes "\n" ∷ [])
+    concat (mark (escape_differs p name) ∷ escape_by p name ∷ codes ": " ∷ text ∷ codes "\n" ∷ [])
 
 abbrev pub verdict_line : Profile → Verdict → List ℕ → List ℕ
 verdict_line p Right name = name_line p name (codes "OK")
@@ -109,15 +106,11 @@ abbrev pub unless_status : Report → List ℕ → List ℕ
 unless_status Status text = []
 unless_status report text = text
 
--- the end of a manifest that was read whole
-abbrev pub summary : Rules → Counts → List ℕ
-summary r c =
-    if entries c == 0 then tool_line r.profile r.tool r.shown (codes "no properly formatted checksum lines found")
-    else unless_status r.settings.report (warnings r c)
-
 -- the end of a manifest on standard error
 abbrev pub end_text : Rules → Ending → Counts → List ℕ
-end_text r Whole c = summary r c
+end_text r Whole c =
+    if entries c == 0 then tool_line r.profile r.tool r.shown (codes "no properly formatted checksum lines found")
+    else unless_status r.settings.report (warnings r c)
 end_text r (Broken f) c = fault_line r.profile r.tool r.shown f
 
 -- good: it was read whole, a line is Right, none is Wrong or Unread, and under the strict setting none is Bad

@@ -2,12 +2,13 @@
 use Rattle.std.specs.Prelude.{◌≡◌, ◌<◌, ◌⊎◌, ◌||◌, Bool, List, ◌∷◌, ◌++◌, filter_map, Result, Ok, Err}
 use Rattle.std.specs.List.{list_any}
 use Rattle.std.specs.Io.KnownBytes.{Appends}
+use Rattle.sum_sources.specs.Contents.{WhereTold}
 use Rattle.sum_sources.specs.Sources.{SourceState}
 use Rattle.digest_kinds.specs.Limits.{one_more}
 use Rattle.sum_lines.specs.Sinks.{IsPrefix}
 use Rattle.sum_engine.specs.declared.stop.Stop.{Stop}
 use Rattle.sum_engine.specs.declared.stop.Stop.TheVariants.{Memory, Write}
-use Rattle.sum_engine.specs.Moments.{Moment, HoldNothing, RunState, WhereKnown}
+use Rattle.sum_engine.specs.Moments.{Moment, HoldNothing, RunState, run_state}
 use Rattle.sum_engine.specs.Worlds.{World, is_dash, after}
 use Rattle.sum_engine.specs.Runs.{Event, Step, Run, events, name_in, err_in, out_in}
 
@@ -19,10 +20,6 @@ pub record Did (a b : RunState) (es : List Event) : Type 0 where
   pub out : Appends a.out.written b.out.written (filter_map out_in es)
   pub refusals : b.refusals ≡ a.refusals
 
--- a prefix of these events happened
-abbrev pub DidPrefix : RunState → RunState → List Event → Type 0
-DidPrefix a b es = (p : List Event) × IsPrefix p es × Did a b p
-
 -- memory was wanted at a step, of which nothing happened: the source was refused it, or bytes of the manifest were
 -- still to come
 abbrev pub Wants : Step → RunState → RunState → Type 0
@@ -32,7 +29,7 @@ Wants s a b = (b ≡ record a { refusals = one_more a.refusals }) ⊎ ((b ≡ a)
 -- failed, and one prefix of the events happened; or memory was wanted at a step, and just the steps before it did
 abbrev pub RunOf : {A : Type 0} → List Step → A → RunState → RunState → Result A Stop → Type 0
 RunOf steps x a b (Ok answer) = (answer ≡ x) × Did a b (events steps)
-RunOf steps x a b (Err Write) = DidPrefix a b (events steps)
+RunOf steps x a b (Err Write) = (prefix : List Event) × IsPrefix prefix (events steps) × Did a b prefix
 RunOf steps x a b (Err Memory) = (done : List Step) × (next : Step) × (rest : List Step) × (between : RunState)
     × (steps ≡ done ++ next ∷ rest) × Did a between (events done) × Wants next between b
 
@@ -40,5 +37,5 @@ RunOf steps x a b (Err Memory) = (done : List Step) × (next : Step) × (rest : 
 -- that is told; its answer goes by whether all is good
 abbrev pub RunsTo : {S A : Type 0} → (S → SourceState) → (World → Run) → (Bool → A) → Moment S → Moment S
     → Result A Stop → Type 0
-RunsTo state run answer a b r = HoldNothing a
-    → WhereKnown state a b (λ s t. RunOf (run s.world).steps (answer (run s.world).good) s t r)
+RunsTo state run answer a b r = HoldNothing a → WhereTold (run_state state a) (run_state state b)
+    (λ s t. RunOf (run s.world).steps (answer (run s.world).good) s t r)

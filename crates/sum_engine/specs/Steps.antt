@@ -7,6 +7,7 @@ use Rattle.sum_sources.specs.ManifestLines.{past_line}
 use Rattle.sum_lines.specs.declared.line_reading.Form.{Form}
 use Rattle.sum_lines.specs.declared.line_reading.Form.TheVariants.{Undecided}
 use Rattle.sum_lines.specs.Entries.{form_then, line_form, form}
+use Rattle.sum_lines.specs.Sinks.{IsPrefix}
 use Rattle.sum_engine.specs.declared.progress.Progress.{Progress}
 use Rattle.sum_engine.specs.declared.progress.Progress.TheVariants.{Going, Ended}
 use Rattle.sum_engine.specs.declared.stop.Stop.{Stop}
@@ -14,12 +15,12 @@ use Rattle.sum_engine.specs.declared.stop.Stop.TheVariants.{Memory, Write}
 use Rattle.sum_engine.specs.declared.summary.Counts.{Counts}
 use Rattle.sum_engine.specs.Verdicts.{lines_by}
 use Rattle.sum_lines.specs.ParsedLines.{parse_line}
-use Rattle.sum_engine.specs.Runs.{Step, Run, events_of}
+use Rattle.sum_engine.specs.Runs.{Event, Step, Run, events_of}
 use Rattle.sum_engine.specs.Verdicts.{Rules, Judged, judge, verdicts}
 use Rattle.sum_engine.specs.Reports.{counts, end_text, good, counts_with, no_counts}
 use Rattle.sum_engine.specs.Checking.{line_steps}
 use Rattle.sum_engine.specs.Moments.{RunState}
-use Rattle.sum_engine.specs.RunStates.{Did, DidPrefix, Wants}
+use Rattle.sum_engine.specs.RunStates.{Did, Wants}
 
 -- what is still to come of the manifest, the lines handled and the bytes that they used, the form and the counts
 -- so far, and the run state
@@ -86,7 +87,7 @@ pub record Breaks (r : Run) (a b : RunState) : Type 0 where
   pub step : Step
   pub rest : Run
   pub is : r ≡ step_then step rest
-  pub did : DidPrefix a b (events_of step)
+  pub did : (prefix : List Event) × IsPrefix prefix (events_of step) × Did a b prefix
 
 -- memory was wanted: nothing of the step happened
 pub record Lacks (r : Run) (a b : RunState) : Type 0 where

@@ -7,11 +7,11 @@ use Rattle.sum_sources.specs.Contents.{Content}
 use Rattle.sum_sources.specs.ManifestLines.{lines, pieces}
 use Rattle.sum_sources.specs.Sources.{Reply, Refused}
 use Rattle.sum_lines.specs.declared.line_reading.Form.{Form}
-use Rattle.sum_lines.specs.Entries.{Spelled, kind_of, form}
+use Rattle.sum_lines.specs.Entries.{Spelled, form}
 use Rattle.sum_engine.specs.declared.settings.CheckSettings.{CheckSettings}
 use Rattle.sum_engine.specs.declared.verdict.Verdict.{Verdict}
 use Rattle.sum_engine.specs.declared.verdict.Verdict.TheVariants.{Ignored, Bad, Right, Wrong, Missing, Unread}
-use Rattle.sum_lines.specs.Profiles.{Profile}
+use Rattle.sum_lines.specs.Escape.{Profile}
 use Rattle.sum_lines.specs.ParsedLines.{ParsedLine, Nothing, Improper, WithEntry, parse_line}
 use Rattle.sum_engine.specs.Worlds.{World, is_dash, reply, after, digest_or_fault}
 
@@ -43,7 +43,7 @@ abbrev pub verdict_of : Rules → World → Spelled → Verdict
 verdict_of r w s =
     if r.from_stdin && is_dash s.name then Bad
     else if r.settings.ignore_missing && not_found (reply w s.name) then Missing
-    else digest_verdict s.digest (digest_or_fault (kind_of s) (reply w s.name))
+    else digest_verdict s.digest (digest_or_fault s.kind (reply w s.name))
 
 -- line n, which says this
 abbrev pub judge : Rules → World → ℕ → ParsedLine → Judged

@@ -1,6 +1,6 @@
 //! Checking a manifest, a line at a time.
 ghost use Rattle.std.specs.Prelude.{◌≡◌, ◌≤◌, [], None, Some, Err, Ok, Option, IfSome};
-ghost use Rattle.sum_lines.specs.Profiles.{present};
+ghost use Rattle.sum_lines.specs.Escape.{present};
 ghost use Rattle.sum_engine.specs.Steps.{WantsMemory};
 
 use crate::listing::Listing;

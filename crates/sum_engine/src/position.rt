@@ -29,6 +29,7 @@ pub(crate) struct Position<'a, I> {
 }
 
 impl<'a, I: Input> Position<'a, I> {
+    ghost use Rattle.sum_sources.specs.Contents.{WhereTold};
     ghost use Rattle.sum_sources.specs.LineReaders.{coming};
     ghost use Rattle.sum_engine.specs.Moments.{run_state, HoldNothing, Failures, Untouched};
     ghost use Rattle.sum_engine.specs.Steps.{WantsMemory};
@@ -40,7 +41,7 @@ impl<'a, I: Input> Position<'a, I> {
     ghost use Rattle.sum_engine.specs.Verdicts.{asks_of};
     ghost use Rattle.sum_engine.specs.refinement.Asking.{RefusedUnless, world_of};
     ghost use Rattle.sum_engine.specs.LineVerdicts.{judged_in, Names, FindGives, progress_of, asking};
-    ghost use Rattle.sum_engine.specs.refinement.Judging.{TakesLine, JudgeLineGives};
+    ghost use Rattle.sum_engine.specs.refinement.Judging.{TakesLine, JudgeLineOf};
     ghost use Rattle.sum_engine.specs.refinement.Positions.{rules_in};
     ghost use Rattle.sum_engine.specs.refinement.Positions.{place_of};
 
@@ -154,9 +155,9 @@ impl<'a, I: Input> Position<'a, I> {
     ) -> Option<LineVerdict>
         requires room { total self.old.counts < self.old.reader.lines }
         requires few { self.old.reader.lines ≤ LIMIT }
-        ensures gives { JudgeLineGives (place_of self.old) line.old.items self.new.counts line.new.items
-            (world_of S.state (asking J.state stdin.old source.old))
-            (world_of S.state (asking J.state stdin.new source.new)) result }
+        ensures gives { WhereTold (world_of S.state (asking J.state stdin.old source.old))
+            (world_of S.state (asking J.state stdin.new source.new))
+            (λ w v. JudgeLineOf (place_of self.old) line.old.items self.new.counts line.new.items w v result) }
         ensures taken { MatchOption result (stdin.new ≡ stdin.old) (λ v. is_none stdin.new
             ≡ is_none stdin.old || list_any is_dash (asks_of (judged_in line.new.items v))) }
         ensures names { IfSome result (λ v. Names line.new.items v) }

@@ -1,9 +1,8 @@
 //! The lines that checking writes about a manifest's lines.
 ghost use Rattle.std.specs.Prelude.{◌≡◌, [], ◌∷◌, MatchResult};
 ghost use Rattle.std.specs.List.{concat};
-ghost use Rattle.sum_lines.specs.Escape.{escape, escape_differs};
+ghost use Rattle.sum_lines.specs.Escape.{present, escape, escape_differs};
 ghost use Rattle.sum_lines.specs.Shapes.{mark};
-ghost use Rattle.sum_lines.specs.Profiles.{present};
 ghost use Rattle.sum_engine.specs.Generation.{tool_line, fault_line};
 ghost use Rattle.sum_engine.specs.Reports.{verdict_line, bad_line, err_by};
 ghost use Rattle.sum_engine.specs.refinement.Positions.{rules_in};
@@ -109,7 +108,7 @@ fn put_said<O: Sink>(out: &mut O, verdict: Verdict, name: &[u8]) -> Result<(), S
 // Writes the name and what stands behind it. Most names hold nothing to escape, and are then searched once.
 fn put_name_line<'a, O: Sink>(out: &mut O, name: &'a [u8], rest: &'a [u8]) -> Result<(), SinkFault>
     ensures { HandsOn (O.state out.old) (O.state out.new)
-        (concat (mark (escape_differs name.now) ∷ escape name.now ∷ rest.now ∷ [])) result }
+        (concat (mark (escape_differs present name.now) ∷ escape name.now ∷ rest.now ∷ [])) result }
 {
     if needs_escape(name) {
         return tell(

@@ -18,7 +18,7 @@ pub(crate) struct Counts {
     pub bad: u64,
 }
 
-ghost use Rattle.sum_engine.specs.Reports.{warning, warnings, unverified_line, summary, good};
+ghost use Rattle.sum_engine.specs.Reports.{warning, warnings, unverified_line, end_text, good};
 ghost use Rattle.sum_engine.specs.Reports.{entries, total, counts_with, no_counts};
 ghost use Rattle.sum_engine.specs.refinement.Positions.{rules_in};
 ghost use Rattle.sum_engine.specs.refinement.Telling.{HandsOn};
@@ -76,7 +76,7 @@ pub(crate) fn put_summary<E: Sink>(
     counts: Counts,
 ) -> Result<(), SinkFault>
     requires { total counts < 2 ^ 63 }
-    ensures { HandsOn (E.state err.old) (E.state err.new) (summary (rules_in listing.now) counts) result }
+    ensures { HandsOn (E.state err.old) (E.state err.new) (end_text (rules_in listing.now) Whole counts) result }
 {
     if counts.entries() == 0 {
         let text = b"no properly formatted checksum lines found";

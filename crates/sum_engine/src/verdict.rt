@@ -1,5 +1,5 @@
 //! The verdict of a line.
-ghost use Rattle.std.specs.Prelude.{◌≡◌, ◌||◌, length, MatchOption, is_none};
+ghost use Rattle.std.specs.Prelude.{◌≡◌, ◌||◌, MatchOption, is_none};
 ghost use Rattle.std.specs.List.{list_any};
 ghost use Rattle.sum_engine.specs.Worlds.{is_dash};
 ghost use Rattle.sum_engine.specs.Verdicts.{asks_by};
@@ -40,7 +40,8 @@ pub struct LineVerdict {
 }
 
 ghost use Rattle.sum_engine.specs.refinement.Positions.{rules_in};
-ghost use Rattle.sum_engine.specs.refinement.Judging.{JudgeGives, compared, spelled_by};
+ghost use Rattle.sum_sources.specs.Contents.{WhereTold};
+ghost use Rattle.sum_engine.specs.refinement.Judging.{JudgeOf, compared, spelled_by};
 
 /// An entry of a manifest: the digest of a file, with its kind, and the file's name.
 #[derive(Clone, Copy)]
@@ -58,9 +59,9 @@ pub(crate) fn judge<I: Input + Drop, S: Source>(
     source: &mut S,
     buffer: &mut [u8; PIECE],
 ) -> Option<Verdict>
-    requires { length listed.now.digest.now ≡ listed.now.kind.len }
-    ensures gives { JudgeGives (rules_in listing.now) (world_of S.state (asking I.state stdin.old source.old))
-        (world_of S.state (asking I.state stdin.new source.new)) (WithEntry (spelled_by listed.now)) result }
+    ensures gives { WhereTold (world_of S.state (asking I.state stdin.old source.old))
+        (world_of S.state (asking I.state stdin.new source.new))
+        (λ w v. JudgeOf (rules_in listing.now) w v (WithEntry (spelled_by listed.now)) result) }
     ensures taken { MatchOption result (stdin.new ≡ stdin.old)
         (λ v. is_none stdin.new ≡ is_none stdin.old || list_any is_dash (asks_by v listed.now.name.now)) }
     ensures refusals { RefusedUnless (S.state source.old) (S.state source.new) result }

@@ -1,7 +1,7 @@
 //! The verdicts of a manifest, without any text.
 ghost use Rattle.std.specs.Prelude.{◌≡◌, ◌≤◌, ◌&&◌, [], None, IfOk, IfSome};
 ghost use Rattle.std.specs.Option.{option_and_then};
-ghost use Rattle.sum_lines.specs.Profiles.{present};
+ghost use Rattle.sum_lines.specs.Escape.{present};
 ghost use Rattle.sum_engine.specs.LineVerdicts.{again_found};
 ghost use Rattle.sum_engine.specs.Steps.{WantsMemory};
 

@@ -2,7 +2,7 @@
 use Rattle.std.proofs.Common.{ℕ, ◌≡◌, List, [], Result, Ok, Err, ◌∙◌, append_assoc, append-nil, arith}
 use Rattle.sum_lines.specs.Sinks.{SinkState, Wrote, Flushes, Writes}
 use Rattle.sum_lines.specs.Buffers.{behind}
-use Rattle.sum_lines.specs.refinement.Growing.{Empties}
+use Rattle.sum_lines.specs.refinement.GrowingSinks.{Empties}
 use Rattle.sum_lines.proofs.SinkLemmas.{Flushes-behind}
 
 -- the buffer was emptied into the sink below

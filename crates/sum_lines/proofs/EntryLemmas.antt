@@ -1,6 +1,6 @@
 -- The parts of entries, and the one form of a list of lines.
 use Rattle.std.proofs.Common.{ℕ, ◌≡◌, Bool, true, false, cond, List, [], ◌∷◌, ◌++◌, Option, None, Some, refl, ap, sym, ◌∙◌, ◌⊎◌, inl, inr, arith}
-use Rattle.std.specs.List.{AllPass, cons_option, filter_map, slice_get}
+use Rattle.std.specs.List.{AllPass}
 use Rattle.std.proofs.lemmas.List.Elements.{All-head}
 use Rattle.digest_kinds.specs.Kinds.{KindValue, tag}
 use Rattle.digest_kinds.specs.declared.algo.Algos.{Algos}
@@ -8,7 +8,7 @@ use Rattle.sum_lines.specs.declared.line_reading.Form.{Form}
 use Rattle.sum_lines.specs.declared.line_reading.Form.TheVariants.{Undecided, Standard, Reversed}
 use Rattle.sum_lines.specs.Shapes.{is_blank, mark, Plain, Tagged}
 use Rattle.sum_lines.specs.PartsOfLines.{Parts, plain_parts}
-use Rattle.sum_lines.specs.Entries.{is_ignored, begins_standard, form_of_tail, Decides, IsForm, Spelled, kind_of, ByTag, ByTail, form_by, form_then, line_form, form}
+use Rattle.sum_lines.specs.Entries.{is_ignored, begins_standard, form_of_tail, Decides, IsForm, Spelled, ByTag, ByTail, form_then, line_form, form}
 use Rattle.sum_lines.specs.LineLaws.{OneForm}
 use Rattle.sum_lines.proofs.PrefixLemmas.{none_of}
 use Rattle.sum_lines.proofs.TaggedLemmas.{Begins, tag-begins, passes-other}
@@ -19,28 +19,18 @@ use Rattle.sum_lines.proofs.PlainLemmas.{plain-digits, plain_is_read, read_is_pl
 -- the parts of an entry's line, tagged or plain
 abbrev pub tag_parts : {escaped : List ℕ → List ℕ} {algos : Algos} {line : List ℕ} {s : Spelled}
     → ByTag escaped algos line s → Parts
-tag_parts {s = s} by = record { escaped = by.escaped; kind = kind_of s; digest = s.digest; text = by.raw }
+tag_parts {s = s} by = record { escaped = by.escaped; kind = s.kind; digest = s.digest; text = by.raw }
 
 -- those of a plain line
 abbrev pub tail_parts : {escaped : List ℕ → List ℕ} {algos : Algos} {f : Form} {line : List ℕ} {s : Spelled}
     → ByTail escaped algos f line s → Parts
-tail_parts {s = s} by = record { escaped = by.escaped; kind = kind_of s; digest = s.digest; text = by.tail }
+tail_parts {s = s} by = record { escaped = by.escaped; kind = s.kind; digest = s.digest; text = by.tail }
 
 -- ---- one form
 
 -- a form that a plain line gives stays
 keeps : (b : Bool) (g : Form) → form_then (cond b Standard Reversed) g ≡ cond b Standard Reversed
 keeps b g = grind arith
-
--- the first line's form, or else that of the later ones
-pub form-step : (algos : Algos) (line : List ℕ) (later : List (List ℕ))
-    → form algos (line ∷ later) ≡ form_then (line_form algos line) (form algos later)
-form-step algos line later = go (plain_parts algos line)
-  where
-    go : (o : Option Parts) → form_by (slice_get (cons_option o (filter_map (plain_parts algos) later)) 0)
-        ≡ form_then (form_by o) (form algos later)
-    go None = refl
-    go (Some p) = sym (keeps (begins_standard p.text) (form algos later))
 
 -- the parts of a line that decides
 abbrev decided_parts : {algos : Algos} {line : List ℕ} {f : Form} → Decides algos line f → Parts
@@ -50,8 +40,7 @@ decided_parts d = record { escaped = d.escaped; kind = d.kind; digest = d.digest
 pub decides-form : {algos : Algos} {line : List ℕ} {f : Form} → Decides algos line f
     → (line_form algos line ≡ f) × ((g : Form) → form_then f g ≡ f)
 decides-form {algos} {line} d =
-    let here : line_form algos line ≡ form_of_tail d.tail =
-    ap form_by (plain_is_read (decided_parts d) d.plain) in
+    let here : line_form algos line ≡ form_of_tail d.tail = rw (plain_is_read (decided_parts d) d.plain) refl in
     (here ∙ sym d.is, λ g. rw d.is (keeps (begins_standard d.tail) g))
 
 -- a line of either shape isn't ignored
@@ -85,8 +74,9 @@ decides-or : (algos : Algos) (line : List ℕ) → Decides algos line (line_form
 decides-or algos line = go (plain_parts algos line) refl
   where
     go : (o : Option Parts) → plain_parts algos line ≡ o
-        → Decides algos line (form_by o) ⊎ ((form_by o ≡ Undecided) × ((f : Form) → Decides algos line f → ⊥))
-    go None h = inr (refl, λ f d. let bad = sym h ∙ plain_is_read (decided_parts d) d.plain in cc)
+        → Decides algos line (line_form algos line)
+        ⊎ ((line_form algos line ≡ Undecided) × ((f : Form) → Decides algos line f → ⊥))
+    go None h = inr (rw h refl, λ f d. let bad = sym h ∙ plain_is_read (decided_parts d) d.plain in cc)
     go (Some p) h = let plain = read_is_plain h in inl (record {
       escaped = p.escaped;
       kind = p.kind;
@@ -94,30 +84,30 @@ decides-or algos line = go (plain_parts algos line) refl
       tail = p.text;
       speaks = plain-speaks plain;
       plain = plain;
-      is = refl;
+      is = rw h refl;
     })
 
 -- an ignored line is not plain, and has no form
 pub ignored_mute : (algos : Algos) (line : List ℕ) → is_ignored line ≡ true → line_form algos line ≡ Undecided
-ignored_mute algos line ignored = ap form_by (sym (none_of (plain_parts algos line) (λ p h.
-    let bad = sym ignored ∙ plain-speaks (read_is_plain h) in cc)))
+ignored_mute algos line ignored = rw (← none_of (plain_parts algos line) (λ p h.
+    let bad = sym ignored ∙ plain-speaks (read_is_plain h) in cc)) refl
 
 -- the computed form is one that the list has, and it has no other
 is-form : (algos : Algos) (lines : List (List ℕ)) → IsForm algos lines (form algos lines)
 is-form algos [] = refl
 is-form algos (line ∷ later) = elim (decides-or algos line) [
-  | inl d ↦ let own = decides-form d in rw (form-step algos line later, own.1 (form algos later)) (inl d)
-  | inr none ↦ rw (form-step algos line later, none.0) (inr (none.1, is-form algos later))
+  | inl d ↦ let own = decides-form d in rw (own.1 (form algos later)) (inl d)
+  | inr none ↦ rw none.0 (inr (none.1, is-form algos later))
 ]
 
 -- a list's form is the one that is computed
 form-is : (algos : Algos) (lines : List (List ℕ)) (f : Form) → IsForm algos lines f → f ≡ form algos lines
 form-is algos [] f h = h
 form-is algos (line ∷ later) f (inl d) =
-    let own = decides-form d in rw (form-step algos line later, own.0) (sym (own.1 (form algos later)))
+    let own = decides-form d in rw own.0 (sym (own.1 (form algos later)))
 form-is algos (line ∷ later) f (inr none) = elim (decides-or algos line) [
   | inl d ↦ absurd (none.0 (line_form algos line) d)
-  | inr mute ↦ rw (form-step algos line later, mute.0) (form-is algos later f none.1)
+  | inr mute ↦ rw mute.0 (form-is algos later f none.1)
 ]
 
 -- a list of lines has the computed form, and no other
@@ -139,15 +129,13 @@ form-append : (algos : Algos) (before after : List (List ℕ))
     → form algos (before ++ after) ≡ form_then (form algos before) (form algos after)
 form-append algos [] after = refl
 form-append algos (line ∷ before) after =
-    form-step algos line (before ++ after) ∙ ap (form_then (line_form algos line)) (form-append algos before after)
+    ap (form_then (line_form algos line)) (form-append algos before after)
     ∙ form_on (line_form algos line) (form algos before) (form algos after)
-    ∙ ap (λ f. form_then f (form algos after)) (sym (form-step algos line before))
 
 -- the form so far, and that of more lines
 pub form_next : (algos : Algos) (f : Form) (line : List ℕ) (later : List (List ℕ))
     → form_then f (form algos (line ∷ later)) ≡ form_then (form_then f (line_form algos line)) (form algos later)
-form_next algos f line later =
-    ap (form_then f) (form-step algos line later) ∙ form_on f (line_form algos line) (form algos later)
+form_next algos f line later = form_on f (line_form algos line) (form algos later)
 
 -- the form of all lines, at a line
 pub form_at : (algos : Algos) (before later : List (List ℕ)) (line : List ℕ) → form algos (before ++ (line ∷ later))

@@ -6,8 +6,7 @@ use Rattle.std.proofs.lemmas.Grind.{flat_map-append, common_steps}
 use Rattle.std.proofs.lemmas.Slice.Eq.{bytes_eq-Decides}
 use Rattle.std.proofs.Math.Seq.{take-length}
 use Rattle.memchr.specs.Find.{Nowhere, Passes, IsFirstByte, is_byte3}
-use Rattle.sum_lines.specs.Profiles.{present}
-use Rattle.sum_lines.specs.Escape.{escape, escape_of, escape_differs}
+use Rattle.sum_lines.specs.Escape.{present, escape, escape_of, escape_differs}
 
 -- a byte that isn't special is its own escape
 escape_of-plain : (b : ℕ) → (is_byte3 92 10 13 b ≡ true → ⊥) → escape_of present b ≡ b ∷ []
@@ -62,7 +61,8 @@ length-escape [] = omega arith
 length-escape (x ∷ xs) = grind (arith, length-append, length-escape xs)
 
 -- a name without a special byte is its own escape, and any other name is shorter than its escape
-pub differs_by : (xs : List ℕ) (r : Option ℕ) → IsFirstByte (is_byte3 92 10 13) xs r → is_some r ≡ escape_differs xs
+pub differs_by : (xs : List ℕ) (r : Option ℕ) → IsFirstByte (is_byte3 92 10 13) xs r
+    → is_some r ≡ escape_differs present xs
 differs_by xs None none = ap not (sym ((bytes_eq-Decides (escape xs) xs).1 (escape-none xs none)))
 differs_by xs (Some k) first =
     let rest : List ℕ = drop (k + 1) xs in

@@ -3,9 +3,9 @@ use Rattle.std.proofs.Common.{◌≡◌, ℕ, Bool, cond, List, ◌∷◌, ◌++
 use Rattle.std.specs.Option.{option_map_or}
 use Rattle.digest_kinds.specs.declared.algo.Algos.{Algos}
 use Rattle.sum_lines.specs.declared.line_reading.Form.{Form}
-use Rattle.sum_lines.specs.declared.line_reading.Form.TheVariants.{Standard, Reversed}
-use Rattle.sum_lines.specs.Profiles.{Profile}
-use Rattle.sum_lines.specs.Entries.{form, form_by, form_then, line_form, form_of_tail, is_ignored_by, begins_standard}
+use Rattle.sum_lines.specs.declared.line_reading.Form.TheVariants.{Undecided, Standard, Reversed}
+use Rattle.sum_lines.specs.Escape.{Profile}
+use Rattle.sum_lines.specs.Entries.{form, form_then, line_form, form_of_tail, is_ignored_by, begins_standard}
 use Rattle.sum_lines.specs.PartsOfLines.{◌>>=◌, Parts, tagged_parts, plain_parts}
 use Rattle.sum_lines.specs.ParsedLines.{with_raw, entry_of_parts, entry_of, Nothing, Improper, WithEntry, parse_line}
 use Rattle.sum_lines.specs.LineLaws.{SameSaid, SameForm}
@@ -21,7 +21,8 @@ decided f b g = grind arith
 
 -- so later lines leave the entry as it is
 entry_stays : (p : Profile) (f g : Form) (t q : Option Parts)
-    → entry_by p (form_then (form_then f (form_by q)) g) t q ≡ entry_by p (form_then f (form_by q)) t q
+    → let x = option_map_or (λ (q : Parts). form_of_tail q.text) q Undecided in
+    entry_by p (form_then (form_then f x) g) t q ≡ entry_by p (form_then f x) t q
 entry_stays p f g None (Some q) = ap (λ x. with_raw x q >>= entry_of_parts p) (decided f (begins_standard q.text) g)
 entry_stays p f g t q = refl
 
@@ -60,5 +61,5 @@ form_alone algos before later line tail own =
 pub same_form : SameForm
 same_form algos before later others line e kind d tail plain =
     let p : Parts = record { escaped = e; kind = kind; digest = d; text = tail } in
-    let own : line_form algos line ≡ form_of_tail tail = ap form_by (plain_is_read p plain) in
+    let own : line_form algos line ≡ form_of_tail tail = rw (plain_is_read p plain) refl in
     form_alone algos before later line tail own ∙ sym (form_alone algos before others line tail own)

@@ -11,11 +11,11 @@ use Rattle.sum_lines.specs.declared.line_reading.Form.{Form}
 use Rattle.sum_lines.specs.declared.line_reading.Form.TheVariants.{Undecided, Standard}
 use Rattle.sum_lines.specs.declared.line_format.Mode.{Mode}
 use Rattle.sum_lines.specs.declared.line_format.Mode.TheVariants as modes
-use Rattle.sum_lines.specs.Escape.{escape, escape_differs}
+use Rattle.sum_lines.specs.Escape.{present, escape, escape_differs}
 use Rattle.sum_lines.specs.Lines as lines
 use Rattle.sum_lines.specs.Shapes.{mark, Width, Allows, Tagged}
 use Rattle.sum_lines.specs.PartsOfLines.{plain_parts}
-use Rattle.sum_lines.specs.Entries.{Spelled, Entry, form_by, line_form, form}
+use Rattle.sum_lines.specs.Entries.{Spelled, Entry, line_form, form}
 use Rattle.sum_lines.specs.LineLaws.{ReadBy, Writable, SpellsBack, ReadBack}
 use Rattle.sum_lines.proofs.PlainLemmas.{apart, read_is_plain}
 use Rattle.sum_lines.proofs.PrefixLemmas.{none_of}
@@ -26,7 +26,7 @@ use Rattle.sum_lines.proofs.LineFormatShapes.{Inline, inline, line_width, width-
 -- a line that ends with a newline, without it
 abbrev pub prefix_of : Mode → KindValue → List ℕ → List ℕ → List ℕ
 prefix_of mode kind name digest =
-    mark (escape_differs name) ++ lines.layout mode kind (escape name) (encode_lower digest)
+    mark (escape_differs present name) ++ lines.layout mode kind (escape name) (encode_lower digest)
 
 -- ---- the form behind a written line
 
@@ -51,7 +51,7 @@ form-kept algos before line h (inr standard) = inr (rw (form_at algos before [] 
 tagged-mute : {algos : Algos} {line : List ℕ} {e : Bool} {kind : KindValue} {d raw : List ℕ}
     → Tagged algos line e kind d raw → line_form algos line ≡ Undecided
 tagged-mute {algos} {line} tagged =
-    ap form_by (sym (none_of (plain_parts algos line) (λ p h. apart (read_is_plain h) tagged)))
+    rw (← none_of (plain_parts algos line) (λ p h. apart (read_is_plain h) tagged)) refl
 
 -- ---- the law
 

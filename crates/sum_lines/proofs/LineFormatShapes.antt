@@ -1,6 +1,6 @@
 -- The lines that are written, as they are put together: each has its shape, spells the name and the digest that it was
 -- written for, and holds no newline and no carriage return before its end.
-use Rattle.std.proofs.Common.{ℕ, ◌≡◌, ◌≢◌, ◌*◌, ◌<◌, not, Bool, true, false, ◌==◌, ◌||◌, List, [], ◌∷◌, ◌++◌, length, refl, ap, arith, inl, inr, cond, ◌∙◌}
+use Rattle.std.proofs.Common.{ℕ, ◌≡◌, ◌≢◌, ◌*◌, ◌<◌, not, Bool, true, false, ◌==◌, ◌||◌, List, [], ◌∷◌, ◌++◌, length, refl, arith, inl, inr, cond}
 use Rattle.std.specs.List.{All, AllPass, list_all}
 use Rattle.std.proofs.lemmas.List.Folds.{list_all-append}
 use Rattle.std.proofs.lemmas.List.Sums.{AllPass-from_list_all, list_all-from_AllPass}
@@ -11,8 +11,7 @@ use Rattle.std.proofs.lemmas.List.Elements.{All-weaker, All-cons, All-nil}
 use Rattle.digest_kinds.specs.Kinds.{KindValue, tag, full_len, has_len}
 use Rattle.digest_kinds.specs.declared.algo.Algo.{Algo}
 use Rattle.digest_kinds.specs.declared.algo.Algo.TheVariants.{Md5, Blake2b}
-use Rattle.sum_lines.specs.Profiles.{present}
-use Rattle.sum_lines.specs.Escape.{escape, escape_of, escape_differs}
+use Rattle.sum_lines.specs.Escape.{present, escape, escape_of, escape_differs}
 use Rattle.sum_lines.specs.Shapes.{mark, Width, is_blank, Allows, Plain, Tagged}
 use Rattle.std.specs.Char.{is_ascii_digit}
 use Rattle.sum_lines.proofs.BitsLemmas.{decimal-digits, has_len-range}
@@ -25,7 +24,7 @@ use Rattle.digest_kinds.specs.declared.algo.Algos.TheVariants.{One}
 use Rattle.sum_lines.specs.declared.line_reading.Form.{Form}
 use Rattle.sum_lines.specs.declared.line_reading.Form.TheVariants.{Standard}
 use Rattle.sum_lines.specs.PartsOfLines.{Parts}
-use Rattle.sum_lines.specs.Entries.{begins_standard, form_by, line_form, Spells, Spelled, Entry}
+use Rattle.sum_lines.specs.Entries.{begins_standard, line_form, Spells, Spelled, Entry}
 use Rattle.sum_lines.specs.LineLaws.{Writable}
 use Rattle.sum_lines.proofs.PlainLemmas.{Digits, digits-of, plain_is_read}
 use Rattle.sum_lines.proofs.EntryLemmas.{plain-speaks, tagged-speaks}
@@ -98,24 +97,24 @@ width-is a n has = rw has (inl (refl, eqb-true n (full_len a) has))
 
 -- a plain line: x is the byte before the name, a space or a star
 abbrev pub plain_line : ℕ → List ℕ → List ℕ → List ℕ
-plain_line x name digest = mark (escape_differs name) ++ (encode_lower digest ++ (32 ∷ x ∷ escape name))
+plain_line x name digest = mark (escape_differs present name) ++ (encode_lower digest ++ (32 ∷ x ∷ escape name))
 
 -- a tagged line, without its end
 abbrev pub tagged_line : KindValue → List ℕ → List ℕ → List ℕ → List ℕ
 tagged_line kind width name digest =
-    mark (escape_differs name)
+    mark (escape_differs present name)
     ++ (tag kind.algo ++ (width ++ (32 ∷ 40 ∷ (escape name ++ (41 ∷ 32 ∷ 61 ∷ 32 ∷ encode_lower digest)))))
 
 -- the entry that either spells
 abbrev pub written_for : KindValue → List ℕ → List ℕ → Spelled
-written_for kind name digest = record { algo = kind.algo; digest = digest; name = name }
+written_for kind name digest = record { kind = kind; digest = digest; name = name }
 
 -- the byte before the name makes the list Standard
 abbrev pub is_space_or_star : ℕ → Bool
 is_space_or_star x = x == 32 || x == 42
 
 -- what is written of a name is its escape or, where that is no other, the name
-name-written : (name : List ℕ) → escape name ≡ cond (escape_differs name) (escape name) name
+name-written : (name : List ℕ) → escape name ≡ cond (escape_differs present name) (escape name) name
 name-written name = grind (arith, bytes_eq-Decides)
 
 -- a tail that begins with that byte says that the list is Standard
@@ -125,7 +124,7 @@ standard x name lt star = let some : 0 < length (escape name) = omega (arith, lt
 
 module _ {kind : KindValue} {name digest : List ℕ} (w : Writable kind name digest) where
   -- what is written spells the name
-  name-spelled : Spells escape (escape_differs name) (escape name) name
+  name-spelled : Spells escape (escape_differs present name) (escape name) name
   name-spelled = record { no_nul = w.no_nul; is = name-written name }
 
   -- the digest's digits are read back
@@ -137,7 +136,7 @@ module _ {kind : KindValue} {name digest : List ℕ} (w : Writable kind name dig
 
   -- a plain line has that shape
   plain-written : (x : ℕ)
-      → Plain (One kind.algo) (plain_line x name digest) (escape_differs name) kind digest (x ∷ escape name)
+      → Plain (One kind.algo) (plain_line x name digest) (escape_differs present name) kind digest (x ∷ escape name)
   plain-written x = record {
     blanks = [];
     digits = encode_lower digest;
@@ -157,8 +156,8 @@ module _ {kind : KindValue} {name digest : List ℕ} (w : Writable kind name dig
       → line_form (One kind.algo) (plain_line x name digest) ≡ Standard
   plain-form x star =
       let p : Parts =
-      record { escaped = escape_differs name; kind = kind; digest = digest; text = x ∷ escape name } in
-      ap form_by (plain_is_read p (plain-written x)) ∙ rw (standard x name w.some star) refl
+      record { escaped = escape_differs present name; kind = kind; digest = digest; text = x ∷ escape name } in
+      rw (plain_is_read p (plain-written x), standard x name w.some star) refl
 
   -- in a Standard list it spells what it was written for
   pub plain-entry : (x : ℕ) (f : Form) → is_space_or_star x ≡ true → f ≡ Standard
@@ -166,10 +165,10 @@ module _ {kind : KindValue} {name digest : List ℕ} (w : Writable kind name dig
   plain-entry x f star is = rw is (
     plain-speaks (plain-written x),
     inr (record {
-      escaped = escape_differs name;
+      escaped = escape_differs present name;
       tail = x ∷ escape name;
       raw = escape name;
-      plain = rw w.size (plain-written x);
+      plain = plain-written x;
       is_raw = (standard x name w.some star, x, refl);
       spells = name-spelled;
     }),
@@ -177,7 +176,7 @@ module _ {kind : KindValue} {name digest : List ℕ} (w : Writable kind name dig
 
   -- a tagged line has that shape
   pub tagged-written : (algos : Algos) (width : List ℕ) → Allows algos kind.algo → Width kind width
-      → Tagged algos (tagged_line kind width name digest) (escape_differs name) kind digest (escape name)
+      → Tagged algos (tagged_line kind width name digest) (escape_differs present name) kind digest (escape name)
   tagged-written algos width allowed is_width =
       let space : AllPass is_blank (32 ∷ []) =
       All-cons (λ b. is_blank b ≡ true) 32 [] refl (All-nil (λ b. is_blank b ≡ true)) in
@@ -205,12 +204,7 @@ module _ {kind : KindValue} {name digest : List ℕ} (w : Writable kind name dig
   tagged-entry algos width f allowed is_width =
       let tagged = tagged-written algos width allowed is_width in (
         tagged-speaks tagged,
-        inl (record {
-          escaped = escape_differs name;
-          raw = escape name;
-          tagged = rw w.size tagged;
-          spells = name-spelled;
-        }),
+        inl (record { escaped = _; raw = escape name; tagged = tagged; spells = name-spelled }),
       )
 
   -- neither line holds a newline or a carriage return
@@ -221,7 +215,7 @@ module _ {kind : KindValue} {name digest : List ℕ} (w : Writable kind name dig
   pub Inline-plain : (x : ℕ) → inline x ≡ true → All Inline (plain_line x name digest)
   Inline-plain x h = Inline-by_test _ (simp (
     list_all-append inline,
-    inline-mark (escape_differs name),
+    inline-mark (escape_differs present name),
     inline-digits,
     inline-escape name,
     h,
@@ -231,7 +225,7 @@ module _ {kind : KindValue} {name digest : List ℕ} (w : Writable kind name dig
   pub Inline-tagged : (width : List ℕ) → Width kind width → All Inline (tagged_line kind width name digest)
   Inline-tagged width is_width = Inline-by_test _ (simp (
     list_all-append inline,
-    inline-mark (escape_differs name),
+    inline-mark (escape_differs present name),
     inline-tag kind.algo,
     inline-width kind width is_width,
     inline-escape name,

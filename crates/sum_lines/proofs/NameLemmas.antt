@@ -10,8 +10,7 @@ use Rattle.std.proofs.lemmas.List.Folds.{list_all_at}
 use Rattle.memchr.specs.Find.{IsFirstByte, is_byte}
 use Rattle.sum_lines.specs.declared.line_reading.Form.TheVariants.{Standard}
 use Rattle.sum_lines.specs.declared.scanning.LineParts.{LineParts}
-use Rattle.sum_lines.specs.Profiles.{present}
-use Rattle.sum_lines.specs.Escape.{escape}
+use Rattle.sum_lines.specs.Escape.{present, escape}
 use Rattle.sum_lines.specs.Entries.{begins_standard}
 use Rattle.sum_lines.specs.ParsedLines.{unescape, with_raw}
 use Rattle.sum_lines.specs.refinement.Found.{line_parts}

@@ -6,8 +6,7 @@ use Rattle.digest_kinds.specs.Kinds.{KindValue}
 use Rattle.digest_kinds.specs.declared.algo.Algos.{Algos}
 use Rattle.sum_lines.specs.declared.line_reading.Form.{Form}
 use Rattle.sum_lines.specs.declared.line_reading.Form.TheVariants.{Undecided, Standard, Reversed}
-use Rattle.sum_lines.specs.Profiles.{Profile, present}
-use Rattle.sum_lines.specs.Escape.{escape_by}
+use Rattle.sum_lines.specs.Escape.{Profile, present, escape_by}
 use Rattle.sum_lines.specs.Shapes.{Plain}
 use Rattle.sum_lines.specs.Entries.{Spelled, Entry, RawOf, begins_standard, is_ignored_by}
 use Rattle.sum_lines.specs.PartsOfLines.{◌>>=◌, Parts, tagged_parts, plain_parts}
@@ -75,10 +74,8 @@ module _ (p : Profile) (algos : Algos) (f : Form) (line : List ℕ) where
   by-tag s t found h =
       let name = is-spelled p t s h in
       let tagged = read_is_tagged found in
-      rw (← name.2) (
-        tagged-speaks tagged,
-        inl (record { escaped = t.escaped; raw = t.text; tagged = rw tagged.size tagged; spells = name.1 }),
-      )
+      rw (← name.2)
+      (tagged-speaks tagged, inl (record { escaped = t.escaped; raw = t.text; tagged = tagged; spells = name.1 }))
 
   -- what a plain line's spell, with the raw name of its tail
   by-tail : (s : Spelled) (t : Parts) (raw : List ℕ) → plain_parts algos line ≡ Some t → RawOf f t.text raw
@@ -88,14 +85,7 @@ module _ (p : Profile) (algos : Algos) (f : Form) (line : List ℕ) where
       let plain = read_is_plain found in
       rw (← name.2) (
         plain-speaks plain,
-        inr (record {
-          escaped = t.escaped;
-          tail = t.text;
-          raw = raw;
-          plain = rw plain.size plain;
-          is_raw = is;
-          spells = name.1;
-        }),
+        inr (record { escaped = t.escaped; tail = t.text; raw = raw; plain = plain; is_raw = is; spells = name.1 }),
       )
 
   -- either of them, as a line is found to be tagged or only plain

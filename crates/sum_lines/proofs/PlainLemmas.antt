@@ -1,6 +1,6 @@
 -- A line that joins from the parts of a plain line is read as these parts, and no other line is read. No line is both
 -- plain and tagged.
-use Rattle.std.proofs.Common.{ℕ, ◌≡◌, ◌+◌, ◌*◌, ◌<◌, ◌≤◌, not, Bool, true, ◌&&◌, List, [], ◌∷◌, ◌++◌, length, get_or, Some, Ok, refl, ap, sym, ◌∙◌, arith, length-drop}
+use Rattle.std.proofs.Common.{ℕ, ◌≡◌, ◌+◌, ◌*◌, ◌<◌, ◌≤◌, not, Bool, true, ◌&&◌, List, [], ◌∷◌, ◌++◌, length, get_or, None, Some, Ok, refl, ap, sym, ◌∙◌, arith, length-drop}
 use Rattle.std.specs.Prelude.{nat_lt}
 use Rattle.std.specs.List.{AllPass, take_while, before_first, after_first, position_or_len}
 use Rattle.std.specs.Result.{result_ok}
@@ -16,8 +16,9 @@ use Rattle.digest_kinds.specs.declared.algo.Algo.{Algo}
 use Rattle.digest_kinds.specs.declared.algo.Algos.{Algos}
 use Rattle.digest_kinds.specs.declared.algo.Algos.TheVariants.{One, Any}
 use Rattle.sum_lines.specs.Shapes.{is_blank, Plain, Tagged}
-use Rattle.sum_lines.specs.PartsOfLines.{Parts, after_while, mark_and_rest, plain_as, plain_parts}
-use Rattle.sum_lines.proofs.PrefixLemmas.{bind_some, ok_some, prefix_passes, prefix-and-rest, prefix_len-stop, rest-seam, mark_and_rest-is}
+use Rattle.sum_lines.specs.PartsOfLines.{Parts, after_while, mark_and_rest, plain_parts}
+use Rattle.sum_lines.specs.refinement.Beginnings.{Cut}
+use Rattle.sum_lines.proofs.PrefixLemmas.{bind_some, none_of, ok_some, prefix_passes, prefix-and-rest, prefix_len-stop, rest-seam, mark_and_rest-is}
 use Rattle.sum_lines.proofs.TaggedLemmas.{Begins, begins-by, passes-other, behind_tag, hex-no_blank, tagged-prefix, mark_and_rest-prefix}
 use Rattle.sum_lines.proofs.BitsLemmas.{has_len-range}
 
@@ -27,34 +28,28 @@ IsPlain algos line p = Plain algos line p.escaped p.kind p.digest p.text
 
 -- ---- what is read joins to the line
 
--- what was read of a text: a digest, spelled up to the first blank, and a tail behind that
-pub record Cut (a : Algo) (e : Bool) (s : List ℕ) (p : Parts) : Type 0 where
-  pub spelled : decode_of (before_first is_blank s) ≡ Ok p.digest
-  pub has : has_len a (length p.digest) ≡ true
-  pub some : 0 < length (after_first is_blank s)
-  pub is : record {
-    escaped = e;
-    kind = record { algo = a; len = length p.digest };
-    digest = p.digest;
-    text = after_first is_blank s;
-  } ≡ p
-
 -- what is read is such a cut
-pub plain_as-some : {a : Algo} {e : Bool} {s : List ℕ} {p : Parts} → plain_as a e s ≡ Some p → Cut a e s p
-unfolding plain_as
-plain_as-some {a} {e} {s} {p} h =
-    let digest = bind_some (result_ok (decode_of (before_first is_blank s))) _ h in
-    let is = cond_some (has_len a (length digest.0) && nat_lt 0 (length (after_first is_blank s))) _ p digest.2 in
-    let both = and_parts (has_len a (length digest.0)) (nat_lt 0 (length (after_first is_blank s))) is.0 in
-    rw (← is.1) (record {
-      spelled = ok_some _ digest.0 digest.1;
-      has = both.0;
-      some = ltb-true 0 (length (after_first is_blank s)) both.1;
-      is = refl;
-    })
+plain_parts-some : {a : Algo} (line : List ℕ) {p : Parts} → plain_parts (One a) line ≡ Some p
+    → let t = mark_and_rest (after_while is_blank line) in let tail = after_first is_blank t.1 in
+    (d : List ℕ) × Cut a t.1 d
+    × (record { escaped = t.0; kind = record { algo = a; len = length d }; digest = d; text = tail } ≡ p)
+unfolding plain_parts
+plain_parts-some {a} line {p} h =
+    let s : List ℕ = (mark_and_rest (after_while is_blank line)).1 in
+    let d = bind_some (result_ok (decode_of (before_first is_blank s))) _ h in
+    let is = cond_some (has_len a (length d.0) && nat_lt 0 (length (after_first is_blank s))) _ p d.2 in
+    let both = and_parts (has_len a (length d.0)) (nat_lt 0 (length (after_first is_blank s))) is.0 in
+    let some = ltb-true 0 (length (after_first is_blank s)) both.1 in
+    (d.0, record { spelled = ok_some _ d.0 d.1; has = both.0; some = some }, is.1)
 
--- so the text has a blank
-pub cut-within : {a : Algo} {e : Bool} {s : List ℕ} {p : Parts} → Cut a e s p → position_or_len is_blank s < length s
+-- without a cut no line is plain
+pub uncut : {a : Algo} (line : List ℕ) → ((d : List ℕ) → ¬ Cut a (mark_and_rest (after_while is_blank line)).1 d)
+    → None ≡ plain_parts (One a) line
+uncut {a} line none =
+    none_of (plain_parts (One a) line) (λ p h. let cut = plain_parts-some line h in none cut.0 cut.1)
+
+-- such a text has a blank
+pub cut-within : {a : Algo} {s d : List ℕ} → Cut a s d → position_or_len is_blank s < length s
 cut-within {s = s} cut =
     let some = cut.some in
     let rest = length-drop (position_or_len is_blank s + 1) s in
@@ -62,11 +57,13 @@ cut-within {s = s} cut =
 
 -- a line that is read as plain is plain
 pub read_is_plain : {algos : Algos} {line : List ℕ} {p : Parts} → plain_parts algos line ≡ Some p → IsPlain algos line p
+unfolding plain_parts
 read_is_plain {algos = One a} {line} {p} h =
     let s : List ℕ = (mark_and_rest (after_while is_blank line)).1 in
-    let cut = plain_as-some h in
+    let read = plain_parts-some line h in
+    let cut = read.1 in
     let within = cut-within cut in
-    rw (← cut.is) (record {
+    rw (← read.2) (record {
       blanks = take_while is_blank line;
       digits = before_first is_blank s;
       blank = get_or s (position_or_len is_blank s) 0;
@@ -134,7 +131,7 @@ module _ {algos : Algos} {line : List ℕ} {e : Bool} {kind : KindValue} {d tail
 
 -- so the line is read as its parts
 pub plain_is_read : {algos : Algos} {line : List ℕ} (p : Parts) → IsPlain algos line p → plain_parts algos line ≡ Some p
-unfolding plain_as
+unfolding plain_parts
 plain_is_read p t =
     let digits = plain-digits t in
     let no_blanks : AllPass (λ x. not (is_blank x)) t.digits =

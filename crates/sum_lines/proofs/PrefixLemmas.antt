@@ -23,7 +23,8 @@ bind_some None f h = cc
 bind_some (Some x) f h = (x, refl, h)
 
 -- where each step that may come gives nothing, nothing comes
-pub bind_none : {A B : Type 0} (o : Option A) (f : A → Option B) → ((x : A) → o ≡ Some x → f x ≡ None) → None ≡ (o >>= f)
+pub bind_none : {A B : Type 0} (o : Option A) (f : A → Option B) → ((x : A) → o ≡ Some x → f x ≡ None)
+    → None ≡ (o >>= f)
 bind_none None f h = refl
 bind_none (Some x) f h = sym (h x refl)
 

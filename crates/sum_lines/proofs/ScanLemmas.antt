@@ -1,5 +1,5 @@
 -- What the scanning functions answer, step by step.
-use Rattle.std.proofs.Common.{ℕ, ◌≡◌, ◌≢◌, ◌+◌, ◌-◌, ◌*◌, ◌<◌, ◌≤◌, Bool, eq-eqb, List, [], ◌∷◌, ◌++◌, length, take, drop, get_or, slice_range, Option, None, Some, MatchOption, Ok, Bor, refl, sym, arith, append_assoc}
+use Rattle.std.proofs.Common.{ℕ, ◌≡◌, ◌≢◌, ◌+◌, ◌-◌, ◌*◌, ◌<◌, ◌≤◌, eq-eqb, List, [], ◌∷◌, ◌++◌, length, take, drop, get_or, slice_range, Option, None, Some, MatchOption, Ok, Bor, refl, sym, arith, append_assoc}
 use Rattle.std.specs.List.{take_while}
 use Rattle.std.specs.Option.{option_copied, option_or}
 use Rattle.std.specs.Path.{rsplit_once}
@@ -8,11 +8,13 @@ use Rattle.std.proofs.lemmas.Bool.{eqb-true, lt-ltb, ne_eqb, false_from_ne_true}
 use Rattle.memchr.specs.Find.{Nowhere, Passes, IsLastByte, is_byte}
 use Rattle.hex.specs.Hex.{decode_of}
 use Rattle.hex.proofs.HexLemmas.{decode_of-ok}
-use Rattle.digest_kinds.specs.Kinds.{KindValue}
+use Rattle.digest_kinds.specs.Kinds.{KindValue, tag}
 use Rattle.digest_kinds.specs.Digits.{IsDigits}
 use Rattle.digest_kinds.specs.declared.algo.Algo.{Algo}
+use Rattle.digest_kinds.specs.declared.algo.Algos.TheVariants.{One}
+use Rattle.std.proofs.lemmas.List.{take-append-drop}
 use Rattle.sum_lines.specs.Shapes.{is_blank, mark, optional}
-use Rattle.sum_lines.specs.PartsOfLines.{after_while, strip_prefix, mark_and_rest, width_at, tagged_as}
+use Rattle.sum_lines.specs.PartsOfLines.{after_while, strip_prefix, mark_and_rest, tag_in, width_at, tagged_parts}
 use Rattle.sum_lines.specs.refinement.Found.{EndsIn}
 use Rattle.sum_lines.proofs.PrefixLemmas.{bind_none, none_of, ok_some, strip_prefix-some, strip_prefix-append, prefix-and-rest, opened-some, rfind-at, rfind-none, mark_and_rest-is, rsplit-some}
 use Rattle.sum_lines.proofs.TaggedLemmas.{width_at-some}
@@ -66,12 +68,11 @@ digest_none s d n some few none spelled same =
 -- ---- where the parts stand in the line
 
 -- behind its blanks and its mark the line ends in its text
-pub text_ends : (line : List ℕ) (text : Bool × List ℕ) → text ≡ mark_and_rest (after_while is_blank line)
-    → EndsIn line text.1
-text_ends line text is =
+pub text_ends : (line : List ℕ) → EndsIn line (mark_and_rest (after_while is_blank line)).1
+text_ends line =
     let whole = prefix-and-rest is_blank line in
     let marked = mark_and_rest-is (after_while is_blank line) in
-    (take_while is_blank line ++ mark text.0, grind (arith, append_assoc))
+    (take_while is_blank line ++ mark (mark_and_rest (after_while is_blank line)).0, grind (arith, append_assoc))
 
 -- and so in what stands behind any part of that
 pub ends-behind : {line s : List ℕ} (xs rest : List ℕ) → EndsIn line s → s ≡ xs ++ rest → EndsIn line rest
@@ -85,14 +86,17 @@ place raw rest ends is = grind (arith, common_steps)
 
 -- so has the name behind the parenthesis
 pub name_place : {line s inner : List ℕ} {name : List ℕ × List ℕ} (a : Algo) (w : KindValue × List ℕ) → EndsIn line s
-    → Some w ≡ width_at a s → Some inner ≡ option_or (strip_prefix (32 ∷ 40 ∷ []) w.1) (strip_prefix (40 ∷ []) w.1)
+    → Some w ≡ width_at a (drop (length (tag a)) s)
+    → Some inner ≡ option_or (strip_prefix (32 ∷ 40 ∷ []) w.1) (strip_prefix (40 ∷ []) w.1)
     → Some name ≡ rsplit_once 41 inner
     → (length inner ≤ length line) × (length line - length inner + length name.0 ≤ length line)
     × (slice_range line (length line - length inner) (length line - length inner + length name.0) ≡ name.0)
 name_place {s = s} {inner = inner} {name = name} a w ends wide opened split =
-    let width = width_at-some a s w (sym wide) in
+    let tag_len : ℕ = length (tag a) in
+    let behind_tag = ends-behind (take tag_len s) (drop tag_len s) ends (sym (take-append-drop tag_len s)) in
+    let width = width_at-some a (drop tag_len s) w (sym wide) in
     let gap = opened-some w.1 inner (sym opened) in
-    let behind_width = ends-behind width.width w.1 ends width.whole in
+    let behind_width = ends-behind width.width w.1 behind_tag width.whole in
     let behind_gap = ends-behind (optional gap.0 (32 ∷ [])) (40 ∷ inner) behind_width gap.1 in
     place name.0 _ (ends-behind (40 ∷ []) inner behind_gap refl) (rsplit-some 41 inner name (sym split))
 
@@ -103,13 +107,15 @@ tail-place ends = grind (arith, common_steps)
 
 -- what was read step by step behind the tag is read as the line's parts
 pub tagged-read : {w : KindValue × List ℕ} {inner digits d : List ℕ} {name : List ℕ × List ℕ}
-    (a : Algo) (e : Bool) (s : List ℕ) → Some w ≡ width_at a s
+    (a : Algo) (line : List ℕ) → let text = mark_and_rest (after_while is_blank line) in
+    tag_in (One a) text.1 ≡ Some a → Some w ≡ width_at a (drop (length (tag a)) text.1)
     → Some inner ≡ option_or (strip_prefix (32 ∷ 40 ∷ []) w.1) (strip_prefix (40 ∷ []) w.1)
     → Some name ≡ rsplit_once 41 inner → Some digits ≡ strip_prefix (61 ∷ []) (after_while is_blank name.1)
     → decode_of (after_while is_blank digits) ≡ Ok d → length d ≡ w.0.len → 0 < length name.0
-    → Some (record { escaped = e; kind = w.0; digest = d; text = name.0 }) ≡ tagged_as a e s
-unfolding tagged_as
-tagged-read {w = w} {d = d} {name = name} a e s width opened split sign spelled size some = rw (
+    → Some (record { escaped = text.0; kind = w.0; digest = d; text = name.0 }) ≡ tagged_parts (One a) line
+unfolding tagged_parts
+tagged-read {w = w} {d = d} {name = name} a line found width opened split sign spelled size some = rw (
+  found,
   ← width,
   ← opened,
   ← split,
@@ -121,11 +127,14 @@ tagged-read {w = w} {d = d} {name = name} a e s width opened split sign spelled 
 
 -- digits that spell no digest of the kind's length give no parts
 pub tagged-none : {w : KindValue × List ℕ} {inner digits : List ℕ} {name : List ℕ × List ℕ}
-    (a : Algo) (e : Bool) (s : List ℕ) → Some w ≡ width_at a s
+    (a : Algo) (line : List ℕ) → let text = mark_and_rest (after_while is_blank line) in
+    tag_in (One a) text.1 ≡ Some a → Some w ≡ width_at a (drop (length (tag a)) text.1)
     → Some inner ≡ option_or (strip_prefix (32 ∷ 40 ∷ []) w.1) (strip_prefix (40 ∷ []) w.1)
     → Some name ≡ rsplit_once 41 inner → Some digits ≡ strip_prefix (61 ∷ []) (after_while is_blank name.1)
-    → ((d : List ℕ) → decode_of (after_while is_blank digits) ≡ Ok d → length d ≢ w.0.len) → None ≡ tagged_as a e s
-unfolding tagged_as
-tagged-none {w = w} {digits = digits} a e s width opened split sign none = rw (← width, ← opened, ← split, ← sign)
+    → ((d : List ℕ) → decode_of (after_while is_blank digits) ≡ Ok d → length d ≢ w.0.len)
+    → None ≡ tagged_parts (One a) line
+unfolding tagged_parts
+tagged-none {w = w} {digits = digits} a line found width opened split sign none =
+    rw (found, ← width, ← opened, ← split, ← sign)
     (bind_none (result_ok (decode_of (after_while is_blank digits))) _
     (λ d h. rw (ne_eqb (length d) w.0.len (none d (ok_some _ d h))) refl))

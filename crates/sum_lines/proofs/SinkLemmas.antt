@@ -6,7 +6,7 @@ use Rattle.std.specs.Io.KnownBytes.{Appends, append_known}
 use Rattle.std.proofs.KnownBytes.{Appends-nil, Appends-trans}
 use Rattle.sum_lines.specs.Sinks.{AppendsPart, SinkState, Wrote, Broke, Dropped, Writes, Flushes}
 use Rattle.digest_kinds.specs.Limits.{one_more}
-use Rattle.sum_lines.specs.refinement.Growing.{Grows, AppendsPrefix}
+use Rattle.sum_lines.specs.refinement.GrowingSinks.{Grows, AppendsPrefix}
 
 -- ---- two calls, one behind the other
 

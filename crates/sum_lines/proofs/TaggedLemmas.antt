@@ -1,5 +1,5 @@
--- What is read of a tagged line joins to the line, and a line that joins from the parts of a tagged line is read as these
--- parts.
+-- What is read of a tagged line joins to the line, and a line that joins from the parts of a tagged line is read as
+-- these parts.
 use Rattle.std.proofs.Common.{ℕ, ◌≡◌, Bool, true, ◌==◌, ◌&&◌, List, [], ◌∷◌, ◌++◌, length, drop, Some, refl, ap, inl, inr, ◌≢◌, ◌*◌, false, eq-eqb, ◌∙◌, arith}
 use Rattle.std.specs.Prelude.{nat_lt}
 use Rattle.std.specs.Char.{is_ascii_digit}
@@ -20,7 +20,7 @@ use Rattle.digest_kinds.specs.declared.algo.Algo.TheVariants.{Blake2b, Md5}
 use Rattle.digest_kinds.specs.declared.algo.Algos.{Algos}
 use Rattle.digest_kinds.specs.declared.algo.Algos.TheVariants.{One, Any}
 use Rattle.sum_lines.specs.Shapes.{is_blank, Width, Allows, Tagged, mark, optional}
-use Rattle.sum_lines.specs.PartsOfLines.{Parts, after_while, strip_prefix, mark_and_rest, tag_in, kind_at, width_at, tagged_as, tagged_parts}
+use Rattle.sum_lines.specs.PartsOfLines.{Parts, after_while, strip_prefix, mark_and_rest, tag_in, kind_at, width_at, tagged_parts}
 use Rattle.sum_lines.proofs.PrefixLemmas.{bind_some, map_some, ok_some, prefix_passes, prefix-and-rest, mark_and_rest-is, strip_prefix-some, opened-some, rsplit-some, parts-at, prefix_len-all, starts-append, opened-at, rsplit-at}
 use Rattle.sum_lines.proofs.BitsLemmas.{kind_at-some, kind_at-bits, decimal-digits, has_len-range}
 use Rattle.std.proofs.lemmas.List.{append-nil, drop_all, drop_at}
@@ -92,7 +92,7 @@ IsTagged algos line p = Tagged algos line p.escaped p.kind p.digest p.text
 -- a line that is read as tagged is tagged
 pub read_is_tagged : {algos : Algos} {line : List ℕ} {p : Parts} → tagged_parts algos line ≡ Some p
     → IsTagged algos line p
-unfolding tagged_parts tagged_as
+unfolding tagged_parts
 read_is_tagged {algos} {line} {p} h =
     let text : Bool × List ℕ = mark_and_rest (after_while is_blank line) in
     let algo = bind_some (tag_in algos text.1) _ h in
@@ -284,7 +284,7 @@ module _ {algos : Algos} {line : List ℕ} (p : Parts) (t : IsTagged algos line 
 
   -- so the line is read as these parts
   pub tagged_is_read : tagged_parts algos line ≡ Some p
-  unfolding tagged_parts tagged_as
+  unfolding tagged_parts
   tagged_is_read = rw (
     tagged-prefix t,
     tag_in-tag algos p.kind.algo (behind_tag t) t.allowed,

@@ -8,8 +8,7 @@ use Rattle.std.proofs.lemmas.Option.{cond_some}
 use Rattle.std.proofs.lemmas.List.Elements.{All-weaker}
 use Rattle.std.proofs.lemmas.List.Sums.{AllPass-from_list_all, list_all-from_AllPass}
 use Rattle.std.proofs.lemmas.Slice.Eq.{bytes_eq-Decides}
-use Rattle.sum_lines.specs.Profiles.{Profile, present}
-use Rattle.sum_lines.specs.Escape.{escape_of, escape_by, escape, IsEscaped}
+use Rattle.sum_lines.specs.Escape.{Profile, present, escape_of, escape_by, escape, IsEscaped}
 use Rattle.sum_lines.specs.Entries.{Spells, Spelled}
 use Rattle.sum_lines.specs.ParsedLines.{unescaped_bytes, unescape, entry_of_parts}
 use Rattle.sum_lines.specs.PartsOfLines.{Parts}
@@ -72,7 +71,7 @@ escape-if p false raw n h = cc
 
 -- the entry of such parts
 abbrev pub entry : Parts → List ℕ → Spelled
-entry t n = record { algo = t.kind.algo; digest = t.digest; name = n }
+entry t n = record { kind = t.kind; digest = t.digest; name = n }
 
 -- so parts whose raw name spells a name spell an entry, and only such parts do
 pub spelled-is : (p : Profile) (t : Parts) (n : List ℕ) → Spells (escape_by p) t.escaped t.text n

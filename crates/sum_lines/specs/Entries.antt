@@ -1,13 +1,12 @@
 -- What a manifest's line says: the form that plain lines give the whole list, and the entry that a line spells.
-use Rattle.std.specs.Prelude.{ℕ, ◌≡◌, ◌<◌, ◌⊎◌, ◌==◌, ◌||◌, Bool, false, List, [], ◌∷◌, length, IsTrue, Option, if◌then◌else◌}
-use Rattle.std.specs.List.{All, filter_map, slice_get}
+use Rattle.std.specs.Prelude.{ℕ, ◌≡◌, ◌<◌, ◌⊎◌, ◌==◌, ◌||◌, Bool, false, List, [], ◌∷◌, IsTrue, if◌then◌else◌}
+use Rattle.std.specs.List.{All}
 use Rattle.std.specs.Option.{option_map_or}
 use Rattle.digest_kinds.specs.Kinds.{KindValue}
-use Rattle.digest_kinds.specs.declared.algo.Algo.{Algo}
 use Rattle.digest_kinds.specs.declared.algo.Algos.{Algos}
-use Rattle.sum_lines.specs.Profiles.{Profile, present}
+use Rattle.sum_lines.specs.Escape.{Profile, present}
 use Rattle.sum_lines.specs.Shapes.{Plain, Tagged}
-use Rattle.sum_lines.specs.PartsOfLines.{Parts, plain_parts}
+use Rattle.sum_lines.specs.PartsOfLines.{plain_parts}
 use Rattle.sum_lines.specs.declared.line_reading.Form.{Form}
 use Rattle.sum_lines.specs.declared.line_reading.Form.TheVariants.{Undecided, Standard, Reversed}
 
@@ -55,26 +54,23 @@ RawOf Undecided tail raw = ⊥
 RawOf Reversed tail raw = raw ≡ tail
 RawOf Standard tail raw = IsTrue (begins_standard tail) × (b : ℕ) × (tail ≡ b ∷ raw)
 
--- what an entry spells; its kind is the algorithm with the digest's length
+-- what an entry spells
 pub record Spelled : Type 0 where
-  pub algo : Algo
+  pub kind : KindValue
   pub digest : List ℕ
   pub name : List ℕ
-
-abbrev pub kind_of : Spelled → KindValue
-kind_of s = record { algo = s.algo; len = length s.digest }
 
 pub record ByTag (escape : List ℕ → List ℕ) (algos : Algos) (line : List ℕ) (s : Spelled) : Type 0 where
   pub escaped : Bool
   pub raw : List ℕ
-  pub tagged : Tagged algos line escaped (kind_of s) s.digest raw
+  pub tagged : Tagged algos line escaped s.kind s.digest raw
   pub spells : Spells escape escaped raw s.name
 
 pub record ByTail (escape : List ℕ → List ℕ) (algos : Algos) (form : Form) (line : List ℕ) (s : Spelled) : Type 0 where
   pub escaped : Bool
   pub tail : List ℕ
   pub raw : List ℕ
-  pub plain : Plain algos line escaped (kind_of s) s.digest tail
+  pub plain : Plain algos line escaped s.kind s.digest tail
   pub is_raw : RawOf form tail raw
   pub spells : Spells escape escaped raw s.name
 
@@ -83,17 +79,16 @@ abbrev pub Entry : (List ℕ → List ℕ) → Algos → Form → List ℕ → S
 Entry escape algos form line s = (is_ignored line ≡ false)
     × (ByTag escape algos line s ⊎ ByTail escape algos form line s)
 
--- The form, computed: the first plain line decides it. It need not be believed: by the law `one_form` it is the list's.
-abbrev pub form_by : Option Parts → Form
-form_by found = option_map_or (λ p. form_of_tail p.text) found Undecided
-
-abbrev pub form : Algos → List (List ℕ) → Form
-form algos lines = form_by (slice_get (filter_map (plain_parts algos) lines) 0)
-
--- the form of one line, and one form after another, as lines are read one by one
+-- The form, computed. It need not be believed: by the law `one_form` it is the list's. First that of one line, and one
+-- form after another, as lines are read one by one.
 abbrev pub line_form : Algos → List ℕ → Form
-line_form algos line = form_by (plain_parts algos line)
+line_form algos line = option_map_or (λ p. form_of_tail p.text) (plain_parts algos line) Undecided
 
 abbrev pub form_then : Form → Form → Form
 form_then Undecided later = later
 form_then decided later = decided
+
+-- that of the list: the first plain line decides it
+abbrev pub form : Algos → List (List ℕ) → Form
+form algos [] = Undecided
+form algos (line ∷ later) = form_then (line_form algos line) (form algos later)

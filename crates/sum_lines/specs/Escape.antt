@@ -1,6 +1,15 @@
--- The escape of a name: each byte by itself.
-use Rattle.std.specs.Prelude.{◌≡◌, ℕ, ◌==◌, ◌&&◌, Bool, not, List, [], ◌∷◌, flat_map, bytes_eq, codes, if◌then◌else◌}
-use Rattle.sum_lines.specs.Profiles.{Profile, present}
+-- What versions of the tools make of a name's escape and of a manifest's lines, and the escape itself, byte by byte.
+use Rattle.std.specs.Prelude.{◌≡◌, ℕ, ◌==◌, ◌&&◌, Bool, true, not, List, [], ◌∷◌, flat_map, bytes_eq, codes, if◌then◌else◌}
+
+-- whether a name's carriage return is escaped, one at a line's end is left out, and an empty line says nothing
+pub record Profile : Type 0 where
+  pub escapes_return : Bool
+  pub drops_return : Bool
+  pub ignores_empty : Bool
+
+-- the profile of the tools here
+abbrev pub present : Profile
+present = record { escapes_return = true; drops_return = true; ignores_empty = true }
 
 -- a backslash (92) becomes `\\`, a newline (10) `\n`, a carriage return (13) `\r` if the profile says so; others stay
 abbrev pub escape_of : Profile → ℕ → List ℕ
@@ -14,8 +23,8 @@ escape_by p name = flat_map (escape_of p) name
 abbrev pub escape : List ℕ → List ℕ
 escape name = escape_by present name
 
-abbrev pub escape_differs : List ℕ → Bool
-escape_differs name = not (bytes_eq (escape name) name)
+abbrev pub escape_differs : Profile → List ℕ → Bool
+escape_differs p name = not (bytes_eq (escape_by p name) name)
 
 -- the bytes are the escape of some name
 abbrev pub IsEscaped : List ℕ → Type 0

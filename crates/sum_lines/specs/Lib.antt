@@ -1,4 +1,3 @@
-pub mod Profiles
 pub mod Escape
 pub mod Shapes
 pub mod Entries
@@ -8,5 +7,4 @@ pub mod LineLaws
 pub mod Sinks
 pub mod Buffers
 pub mod Lines
-pub mod Readings
 pub mod refinement

@@ -10,8 +10,7 @@ use Rattle.sum_lines.specs.declared.line_reading.Form.{Form}
 use Rattle.sum_lines.specs.declared.line_reading.Form.TheVariants.{Undecided, Standard}
 use Rattle.sum_lines.specs.declared.line_format.Mode.{Mode}
 use Rattle.sum_lines.specs.declared.line_format.Mode.TheVariants.{Tag}
-use Rattle.sum_lines.specs.Profiles.{Profile}
-use Rattle.sum_lines.specs.Escape.{escape, escape_by}
+use Rattle.sum_lines.specs.Escape.{Profile, escape, escape_by}
 use Rattle.sum_lines.specs.Lines.{line}
 use Rattle.sum_lines.specs.Shapes.{Plain, Tagged}
 use Rattle.sum_lines.specs.Entries.{Spelled, Entry, IsForm, is_ignored_by, form}
@@ -75,7 +74,7 @@ pub record SpellsBack (algos : Algos) (before later : List (List ℕ)) (text : L
   pub whole : text ≡ prefix ++ codes "\n"
   pub one_line : All (λ b. (b ≢ 10) × (b ≢ 13)) prefix
   pub spells : (s : Spelled) → Entry escape algos (form algos (before ++ (prefix ∷ later))) prefix s
-      ↔ (s ≡ record { algo = kind.algo; digest = digest; name = name })
+      ↔ (s ≡ record { kind = kind; digest = digest; name = name })
   pub keeps : (form algos (before ++ (prefix ∷ [])) ≡ Undecided) ⊎ (form algos (before ++ (prefix ∷ [])) ≡ Standard)
 
 -- a line that is written without zero is read back, in a list whose form is Undecided or Standard before it

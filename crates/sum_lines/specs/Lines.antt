@@ -6,7 +6,7 @@ use Rattle.digest_kinds.specs.Kinds.{KindValue, full_len, tag}
 use Rattle.sum_lines.specs.declared.line_format.Style.{Style}
 use Rattle.sum_lines.specs.declared.line_format.Mode.{Mode}
 use Rattle.sum_lines.specs.declared.line_format.Mode.TheVariants.{Text, Binary, Tag}
-use Rattle.sum_lines.specs.Escape.{escape, escape_differs}
+use Rattle.sum_lines.specs.Escape.{present, escape, escape_differs}
 use Rattle.sum_lines.specs.Shapes.{mark}
 
 -- the tag, for a BLAKE2b digest that isn't full with its bits, as `BLAKE2b-256`
@@ -24,4 +24,4 @@ abbrev pub line : Style → KindValue → List ℕ → List ℕ → List ℕ
 line style kind name digest =
     let digits = encode_lower digest in
     if style.zero then layout style.mode kind name digits ++ codes "\0"
-    else mark (escape_differs name) ++ layout style.mode kind (escape name) digits ++ codes "\n"
+    else mark (escape_differs present name) ++ layout style.mode kind (escape name) digits ++ codes "\n"

@@ -1,12 +1,15 @@
--- What a line says, computed; it need not be believed: the law `says_is` ties it to the relation `Entry`.
-use Rattle.std.specs.Prelude.{ℕ, ◌==◌, List, ◌∷◌, drop, nat_lt, bytes_eq, Option, None, Some, if◌then◌else◌}
+-- What a line says, computed, and what reading it answers. The first need not be believed: the law `says_is` ties it to
+-- the relation `Entry`.
+use Rattle.std.specs.Prelude.{ℕ, ◌≡◌, ◌≤◌, ◌==◌, List, ◌∷◌, length, drop, slice_range, nat_lt, bytes_eq, ⊤}
+use Rattle.std.specs.Prelude.{Option, None, Some, if◌then◌else◌}
 use Rattle.std.specs.Option.{option_or, option_map_or}
 use Rattle.std.specs.List.{list_all}
 use Rattle.digest_kinds.specs.declared.algo.Algos.{Algos}
 use Rattle.sum_lines.specs.declared.line_reading.Form.{Form}
 use Rattle.sum_lines.specs.declared.line_reading.Form.TheVariants.{Undecided, Standard, Reversed}
-use Rattle.sum_lines.specs.Profiles.{Profile}
-use Rattle.sum_lines.specs.Escape.{escape_by}
+use Rattle.sum_lines.specs.declared.line_reading.Reading.{Reading}
+use Rattle.sum_lines.specs.declared.line_reading.Reading.TheVariants as readings
+use Rattle.sum_lines.specs.Escape.{Profile, escape_by}
 use Rattle.sum_lines.specs.Entries.{Spelled, begins_standard, is_ignored_by}
 use Rattle.sum_lines.specs.PartsOfLines.{◌>>=◌, Parts, tagged_parts, plain_parts}
 
@@ -31,10 +34,11 @@ with_raw Undecided q = None
 abbrev pub entry_of_parts : Profile → Parts → Option Spelled
 entry_of_parts p t = do
   name ← if t.escaped then unescape p t.text else Some t.text
-  if list_all (nat_lt 0) name then Some (record { algo = t.kind.algo; digest = t.digest; name = name }) else None
+  if list_all (nat_lt 0) name then Some (record { kind = t.kind; digest = t.digest; name = name }) else None
 
 unfoldable pub entry_of : Profile → Algos → Form → List ℕ → Option Spelled
-entry_of p algos f line = option_or (tagged_parts algos line) (plain_parts algos line >>= with_raw f) >>= entry_of_parts p
+entry_of p algos f line =
+    option_or (tagged_parts algos line) (plain_parts algos line >>= with_raw f) >>= entry_of_parts p
 
 -- what a line says: nothing, an entry, or something improper
 pub data ParsedLine : Type 0 where
@@ -45,3 +49,16 @@ pub data ParsedLine : Type 0 where
 abbrev pub parse_line : Profile → Algos → Form → List ℕ → ParsedLine
 parse_line p algos f line =
     if is_ignored_by p line then Nothing else option_map_or WithEntry (entry_of p algos f line) Improper
+
+-- what a reading says, whose name stands in the line's vector
+abbrev pub parsed_line_by : List ℕ → Reading → ParsedLine
+parsed_line_by line readings.Ignored = Nothing
+parsed_line_by line readings.Bad = Improper
+parsed_line_by line (readings.Entry kind digest start stop) =
+    WithEntry (record { kind = kind; digest = digest; name = slice_range line start stop })
+
+-- the name stands in the line, and the digest is as long as the kind's
+abbrev pub Within : List ℕ → Reading → Type 0
+Within line readings.Ignored = ⊤
+Within line readings.Bad = ⊤
+Within line (readings.Entry kind digest start stop) = (start ≤ stop) × (stop ≤ length line) × (length digest ≡ kind.len)

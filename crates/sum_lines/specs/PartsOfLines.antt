@@ -32,17 +32,14 @@ after_while p xs = drop (prefix_len p xs) xs
 abbrev pub mark_and_rest : List ℕ → Bool × List ℕ
 mark_and_rest s = if starts_with ◌==◌ s (codes "\\") then (true, drop 1 s) else (false, s)
 
--- a plain line, without its blanks and its backslash: the digits up to its first blank, and its tail behind that
-unfoldable pub plain_as : Algo → Bool → List ℕ → Option Parts
-plain_as a e s = do
-  d ← result_ok (decode_of (before_first is_blank s))
-  let tail = after_first is_blank s
-  if has_len a (length d) && nat_lt 0 (length tail)
-      then Some (record { escaped = e; kind = record { algo = a; len = length d }; digest = d; text = tail }) else None
-
-abbrev pub plain_parts : Algos → List ℕ → Option Parts
-plain_parts (One a) line = let text = mark_and_rest (after_while is_blank line) in plain_as a text.0 text.1
+-- a plain line's parts: digits up to the first blank of its text, and the tail behind that
+unfoldable pub plain_parts : Algos → List ℕ → Option Parts
 plain_parts Any line = None
+plain_parts (One a) line = let text = mark_and_rest (after_while is_blank line) in do
+  d ← result_ok (decode_of (before_first is_blank text.1))
+  let tail = after_first is_blank text.1
+  if has_len a (length d) && nat_lt 0 (length tail) then
+      Some (record { escaped = text.0; kind = record { algo = a; len = length d }; digest = d; text = tail }) else None
 
 -- what stands behind that text, where it stands in front
 abbrev pub strip_prefix : List ℕ → List ℕ → Option (List ℕ)
@@ -64,18 +61,14 @@ width_at Blake2b (b ∷ bs) =
     else Some (full_kind Blake2b, b ∷ bs)
 width_at a s = Some (full_kind a, s)
 
--- a tagged line behind its tag; the last parenthesis ends the name
-unfoldable pub tagged_as : Algo → Bool → List ℕ → Option Parts
-tagged_as a e s = do
-  w ← width_at a s
+-- a tagged line's parts; the last parenthesis ends the name
+unfoldable pub tagged_parts : Algos → List ℕ → Option Parts
+tagged_parts algos line = let text = mark_and_rest (after_while is_blank line) in do
+  a ← tag_in algos text.1
+  w ← width_at a (drop (length (tag a)) text.1)
   inner ← option_or (strip_prefix (codes " (") w.1) (strip_prefix (codes "(") w.1)
   name ← rsplit_once 41 inner
   digits ← strip_prefix (codes "=") (after_while is_blank name.1)
   d ← result_ok (decode_of (after_while is_blank digits))
   if length d == w.0.len && nat_lt 0 (length name.0)
-      then Some (record { escaped = e; kind = w.0; digest = d; text = name.0 }) else None
-
-unfoldable pub tagged_parts : Algos → List ℕ → Option Parts
-tagged_parts algos line = let text = mark_and_rest (after_while is_blank line) in do
-  a ← tag_in algos text.1
-  tagged_as a text.0 (drop (length (tag a)) text.1)
+      then Some (record { escaped = text.0; kind = w.0; digest = d; text = name.0 }) else None

@@ -3,5 +3,4 @@
 pub mod PartTexts
 pub mod Found
 pub mod Beginnings
-pub mod ToldSinks
-pub mod Growing
+pub mod GrowingSinks

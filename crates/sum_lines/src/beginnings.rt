@@ -1,8 +1,8 @@
 //! What a line begins with. Most bad lines are told by that, and none of the rest is read.
 
-ghost use Rattle.std.specs.Prelude.{◌≡◌, Bool, IfNone, IfSome, None};
-ghost use Rattle.sum_lines.specs.PartsOfLines.{plain_as, plain_parts, tag_in, tagged_parts};
-ghost use Rattle.sum_lines.specs.refinement.Beginnings.{LeadsTo, EndsAt, EndsDigits};
+ghost use Rattle.std.specs.Prelude.{◌≡◌, ℕ, List, IfNone, IfSome, None};
+ghost use Rattle.sum_lines.specs.PartsOfLines.{plain_parts, tag_in, tagged_parts};
+ghost use Rattle.sum_lines.specs.refinement.Beginnings.{Cut, LeadsTo, EndsAt, EndsDigits};
 
 use crate::scanning::{is_blank, text_in};
 use digest_kinds::{Algo, Algos, Kind};
@@ -23,6 +23,7 @@ pub(crate) enum Beginning {
 /// What a line of these algorithms begins with. None only where it is neither tagged nor plain. A call of its own, so
 /// that an ignored line needs no room for it.
 #[inline(never)]
+#[tactic(auto, unfolding(crate::specs::PartsOfLines::plain_parts))]
 pub(crate) fn find_beginning(algos: Algos, line: &[u8]) -> Option<Beginning>
     ensures tagged { IfNone result (None ≡ tagged_parts algos line.now) }
     ensures plain { IfNone result (None ≡ plain_parts algos line.now) }
@@ -56,7 +57,7 @@ fn tag_in(algos: Algos, text: &[u8]) -> Option<Algo>
 // The place of the blank behind the digits, where something stands behind that. None only where no plain line has such
 // a text. The digits themselves aren't looked at.
 fn digits_end(algo: Algo, text: &[u8]) -> Option<usize>
-    ensures none { IfNone result ((e : Bool) → None ≡ plain_as algo e text.now) }
+    ensures none { IfNone result ((d : List ℕ) → ¬ Cut algo text.now d) }
     ensures some { IfSome result (EndsDigits algo text.now) }
 {
     let at = digits_len(algo, text)?;
@@ -68,7 +69,7 @@ fn digits_end(algo: Algo, text: &[u8]) -> Option<usize>
 
 // If the line is plain, it has so many digits.
 fn digits_len(algo: Algo, text: &[u8]) -> Option<usize>
-    ensures none { IfNone result ((e : Bool) → None ≡ plain_as algo e text.now) }
+    ensures none { IfNone result ((d : List ℕ) → ¬ Cut algo text.now d) }
     ensures some { IfSome result (EndsAt algo text.now) }
 {
     match algo {

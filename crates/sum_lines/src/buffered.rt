@@ -59,7 +59,7 @@ impl<S> Buffered<S> {
 
 impl<S: Sink> Buffered<S> {
     ghost use Rattle.sum_lines.specs.Buffers.{buffer_state, if_full, unless_full};
-    ghost use Rattle.sum_lines.specs.refinement.Growing.{Empties};
+    ghost use Rattle.sum_lines.specs.refinement.GrowingSinks.{Empties};
 
     // Hands on to the sink below what is held.
     fn empty(&mut self) -> Result<(), SinkFault>

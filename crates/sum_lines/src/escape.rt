@@ -2,8 +2,7 @@
 ghost use Rattle.std.specs.Prelude.{◌≡◌, ◌≢◌, ◌↔◌, ◌+◌, ◌<◌, ◌≤◌, ◌++◌, ℕ, List, length, vec_len, take, drop};
 ghost use Rattle.std.specs.Prelude.{slice_index, is_some, true, IfSome, IfNone, MatchOption};
 ghost use Rattle.sum_lines.specs.Sinks.{Writes};
-ghost use Rattle.sum_lines.specs.Profiles.{present};
-ghost use Rattle.sum_lines.specs.Escape.{IsEscaped, escape, escape_of, escape_differs};
+ghost use Rattle.sum_lines.specs.Escape.{present, IsEscaped, escape, escape_of, escape_differs};
 
 use crate::sink::{Sink, SinkFault, put_all};
 use memchr::memchr3;
@@ -11,7 +10,7 @@ use std::alloc::Allocator;
 
 /// Whether the escaped name differs from the name.
 pub fn needs_escape(name: &[u8]) -> bool
-    ensures { result ≡ escape_differs name.now }
+    ensures { result ≡ escape_differs present name.now }
 {
     next_special(name).is_some()
 }
@@ -36,7 +35,7 @@ pub fn put_escaped<S: Sink>(sink: &mut S, name: &[u8]) -> Result<(), SinkFault>
 #[tactic(auto, using(crate::proofs::EscapeLemmas::escape_cut, crate::proofs::EscapeLemmas::differs_by))]
 fn next_special(name: &[u8]) -> Option<usize>
     ensures within { IfSome result (λ at. at < length name.now) }
-    ensures differs { is_some result ≡ escape_differs name.now }
+    ensures differs { is_some result ≡ escape_differs present name.now }
     ensures cut { MatchOption result (escape name.now ≡ name.now) (λ at. escape name.now
         ≡ take at name.now ++ (escape_of present (slice_index name.now at) ++ escape (drop (at + 1) name.now))) }
 {

@@ -30,7 +30,7 @@ pub struct Style {
 ghost use Rattle.sum_lines.specs.Lines.{layout, line, line_tag};
 ghost use Rattle.hex.specs.Hex.{encode_lower};
 ghost use Rattle.sum_lines.specs.refinement.PartTexts.{part_text};
-ghost use Rattle.sum_lines.specs.Escape.{escape, escape_differs};
+ghost use Rattle.sum_lines.specs.Escape.{present, escape, escape_differs};
 ghost use Rattle.sum_lines.specs.Shapes.{mark};
 
 /// Writes the line of a name and its digest, which has the kind's length. A fault where a write failed; of what was
@@ -67,7 +67,7 @@ fn digits_of<'a>(digest: &Digest, buffer: &'a mut [u8; 128]) -> &'a [u8]
 
 // What stands before a line, and its name, escaped. A name that is its own escape is searched once.
 fn mark_and_name(name: &[u8]) -> (&'static [u8], Part<'_>)
-    ensures mark { result.0.now ≡ mark (escape_differs name.now) }
+    ensures mark { result.0.now ≡ mark (escape_differs present name.now) }
     ensures name { part_text result.1 ≡ escape name.now }
 {
     if needs_escape(name) {

@@ -31,7 +31,8 @@ pub(crate) fn is_blank(byte: u8) -> bool
 
 /// What stands in a line behind its blanks and the backslash there, and whether that is there.
 pub(crate) fn text_in(line: &[u8]) -> (bool, &[u8])
-    ensures text { (result.0, result.1.now) ≡ mark_and_rest (after_while is_blank line.now) }
+    ensures mark { result.0 ≡ (mark_and_rest (after_while is_blank line.now)).0 }
+    ensures text { result.1.now ≡ (mark_and_rest (after_while is_blank line.now)).1 }
     ensures ends { EndsIn line.now result.1.now }
 {
     unmark(skip_blanks(line))
@@ -53,7 +54,8 @@ fn blanks(s: &[u8]) -> usize
 
 // Whether a backslash stands in front, and what stands behind it.
 fn unmark(s: &[u8]) -> (bool, &[u8])
-    ensures { (result.0, result.1.now) ≡ mark_and_rest s.now }
+    ensures mark { result.0 ≡ (mark_and_rest s.now).0 }
+    ensures rest { result.1.now ≡ (mark_and_rest s.now).1 }
 {
     match s {
         [b'\\', rest @ ..] => (true, rest),

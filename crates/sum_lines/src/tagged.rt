@@ -1,18 +1,20 @@
 //! Tagged lines: a tag, a name in parentheses, `=`, digits.
 
-ghost use Rattle.std.specs.Prelude.{◌≡◌, ◌≤◌, codes, length, IfSome, Some};
+ghost use Rattle.std.specs.Prelude.{◌≡◌, ◌≤◌, codes, length, drop, IfSome, Some};
 ghost use Rattle.std.specs.Char.{is_ascii_digit as is_digit};
 ghost use Rattle.std.specs.List.{AllPass, prefix_len, take_while};
 ghost use Rattle.std.specs.Option.{option_copied, option_map, option_or};
+ghost use Rattle.digest_kinds.specs.Kinds.{tag};
 ghost use Rattle.sum_lines.specs.Shapes.{is_blank};
 ghost use Rattle.sum_lines.specs.PartsOfLines.{after_while, mark_and_rest, strip_prefix, tag_in};
-ghost use Rattle.sum_lines.specs.PartsOfLines.{kind_at, tagged_as, tagged_parts, width_at};
-ghost use Rattle.sum_lines.specs.refinement.Found.{line_parts, number_of, EndsIn};
+ghost use Rattle.sum_lines.specs.PartsOfLines.{kind_at, tagged_parts, width_at};
+ghost use Rattle.sum_lines.specs.refinement.Found.{line_parts, number_of};
 
 use crate::scanning::{LineParts, past_text, skip_blanks, split_at_last, text_in};
 use digest_kinds::{Algo, Algos, Digest, Kind};
 
 /// Reads a line whose text that algorithm's tag begins. None where the line isn't tagged.
+#[tactic(auto, unfolding(crate::specs::PartsOfLines::tagged_parts))]
 pub(crate) fn tagged(algo: Algo, line: &[u8]) -> Option<LineParts>
     requires { tag_in (Algos.One algo) (mark_and_rest (after_while is_blank line.now)).1 ≡ Some algo }
     ensures parts { option_map (line_parts line.now) result ≡ tagged_parts (Algos.One algo) line.now }
@@ -20,17 +22,7 @@ pub(crate) fn tagged(algo: Algo, line: &[u8]) -> Option<LineParts>
     ensures size { IfSome result (λ t. length t.digest ≡ t.kind.len) }
 {
     let (escaped, text) = text_in(line);
-    tagged_as(algo, line, escaped, &text[algo.tag().len()..])
-}
-
-#[tactic(auto, unfolding(crate::specs::PartsOfLines::tagged_as))]
-fn tagged_as(algo: Algo, line: &[u8], escaped: bool, behind_tag: &[u8]) -> Option<LineParts>
-    requires { EndsIn line.now behind_tag.now }
-    ensures parts { option_map (line_parts line.now) result ≡ tagged_as algo escaped behind_tag.now }
-    ensures range { IfSome result (λ t. (t.start ≤ t.stop) × (t.stop ≤ length line.now)) }
-    ensures size { IfSome result (λ t. length t.digest ≡ t.kind.len) }
-{
-    let Some(width) = width(algo, behind_tag) else {
+    let Some(width) = width(algo, text) else {
         return None;
     };
     let kind = width.kind;
@@ -56,21 +48,23 @@ fn tagged_as(algo: Algo, line: &[u8], escaped: bool, behind_tag: &[u8]) -> Optio
     })
 }
 
-// The kind by what follows the tag, and what stands behind that.
+// The kind by what follows the tag in front of the text, and what stands behind that.
 #[derive(Clone, Copy)]
 struct ReadWidth<'a> {
     kind: Kind,
     rest: &'a [u8],
 }
 
-fn width(algo: Algo, s: &[u8]) -> Option<ReadWidth<'_>>
-    ensures { option_map (λ w. (w.kind, w.rest.now)) result ≡ width_at algo s.now }
+fn width(algo: Algo, text: &[u8]) -> Option<ReadWidth<'_>>
+    requires { tag_in (Algos.One algo) text.now ≡ Some algo }
+    ensures { option_map (λ w. (w.kind, w.rest.now)) result ≡ width_at algo (drop (length (tag algo)) text.now) }
 {
+    let rest = &text[algo.tag().len()..];
     match algo {
-        Algo::Blake2b => blake2b_width(s),
+        Algo::Blake2b => blake2b_width(rest),
         _ => {
             let kind = Kind::of(algo);
-            Some(ReadWidth { kind, rest: s })
+            Some(ReadWidth { kind, rest })
         }
     }
 }

@@ -15,7 +15,7 @@ pub struct ToldSink<const N: usize> {
 }
 
 impl<const N: usize> ToldSink<N> {
-    ghost use Rattle.sum_lines.specs.refinement.ToldSinks.{bytes_of, room};
+    ghost use Rattle.sum_lines.specs.refinement.GrowingSinks.{bytes_of, room};
 
     /// An empty sink that takes `stop` bytes, or N where that is less, and then fails.
     pub fn new(stop: usize) -> Self
@@ -42,7 +42,7 @@ impl<const N: usize> ToldSink<N> {
 impl<const N: usize> Sink for ToldSink<N> {
     ghost use Rattle.std.specs.Prelude.{Ok};
     ghost use Rattle.sum_lines.specs.Sinks.{WritesSome, Flushes};
-    ghost use Rattle.sum_lines.specs.refinement.ToldSinks.{room, told_state};
+    ghost use Rattle.sum_lines.specs.refinement.GrowingSinks.{room, told_state};
 
     ghost state = { told_state };
 

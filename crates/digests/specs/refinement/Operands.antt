@@ -1,11 +1,12 @@
 -- Joins the calls of a run to its operands.
 use Rattle.std.specs.Prelude.{ℕ, ◌≡◌, Bool, List, Result, Ok, Err}
 use Rattle.sum_sources.specs.Sources.{SourceState}
+use Rattle.sum_sources.specs.Contents.{WhereTold}
 use Rattle.sum_engine.specs.declared.stop.Stop.{Stop}
 use Rattle.sum_engine.specs.declared.stop.Stop.TheVariants.{Write}
 use Rattle.sum_engine.specs.Worlds.{World}
 use Rattle.sum_engine.specs.Runs.{Run, run_then, events}
-use Rattle.sum_engine.specs.Moments.{Moment, RunState, WhereKnown}
+use Rattle.sum_engine.specs.Moments.{Moment, RunState, run_state}
 use Rattle.sum_engine.specs.RunStates.{Did}
 use Rattle.sum_words.specs.Items.{Text}
 use Rattle.digests.specs.Meaning.{all_of}
@@ -20,7 +21,8 @@ pub record Reached (one : World → Text → Run) (names rest : List Text) (a b 
 -- the same where it is told
 abbrev pub HasReached : {S : Type 0} → (S → SourceState) → (World → Text → Run) → List Text → List Text → Moment S
     → Moment S → Bool → Type 0
-HasReached state one names rest a b good = WhereKnown state a b (λ s t. Reached one names rest s t good)
+HasReached state one names rest a b good =
+    WhereTold (run_state state a) (run_state state b) (λ s t. Reached one names rest s t good)
 
 -- the end of a run that wrote one text
 abbrev pub once_told : {U E : Type 0} → Result U E → ℕ → Result ℕ Stop

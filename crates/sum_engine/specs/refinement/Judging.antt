@@ -2,7 +2,6 @@
 use Rattle.std.specs.Prelude.{ℕ, ◌≡◌, Bool, List, [], Option, None, Some, if◌then◌else◌}
 use Rattle.std.specs.Str.{bytes_eq}
 use Rattle.sum_sources.specs.declared.fault.Fault.TheVariants.{NotFound, Denied, Other}
-use Rattle.sum_sources.specs.Contents.{WhereTold}
 use Rattle.sum_lines.specs.Entries.{Spelled, form_then, line_form}
 use Rattle.sum_engine.specs.declared.verdict.Listed.{Listed}
 use Rattle.sum_engine.specs.declared.asking.Asked.{Asked}
@@ -20,7 +19,7 @@ use Rattle.sum_engine.specs.LineVerdicts.{judged_in}
 
 -- what an entry spells
 abbrev pub spelled_by : Listed → Spelled
-spelled_by l = record { algo = l.kind.algo; digest = l.digest.now; name = l.name.now }
+spelled_by l = record { kind = l.kind; digest = l.digest.now; name = l.name.now }
 
 -- the name in what a line says, or nothing
 abbrev pub name_said : ParsedLine → List ℕ
@@ -45,9 +44,6 @@ abbrev pub JudgeOf : Rules → World → World → ParsedLine → Option Verdict
 JudgeOf r w v x None = v ≡ w
 JudgeOf r w v x (Some verdict) = IsJudged r w v x verdict
 
-abbrev pub JudgeGives : Rules → Option World → Option World → ParsedLine → Option Verdict → Type 0
-JudgeGives r w v x j = WhereTold w v (λ w v. JudgeOf r w v x j)
-
 -- what a line says that was read at a place
 abbrev pub parsed_at : {I : Type 0} → Place I → List ℕ → ParsedLine
 parsed_at p line =
@@ -64,9 +60,6 @@ pub record TakesLine {I : Type 0} (a b : Place I) (line : List ℕ) : Type 0 whe
 abbrev pub JudgeLineOf :
     {I : Type 0} → Place I → List ℕ → Counts → List ℕ → World → World → Option LineVerdict → Type 0
 JudgeLineOf p line d vector w v None = v ≡ w
-JudgeLineOf p line d vector w v (Some found) = (judge p.rules w p.reader.lines (parsed_at p line) ≡ judged_in vector found)
+JudgeLineOf p line d vector w v (Some found) =
+    (judge p.rules w p.reader.lines (parsed_at p line) ≡ judged_in vector found)
     × (v ≡ after w (asks_of (judged_in vector found))) × (d ≡ counts_with p.counts found.verdict)
-
-abbrev pub JudgeLineGives : {I : Type 0} → Place I → List ℕ → Counts → List ℕ → Option World → Option World
-    → Option LineVerdict → Type 0
-JudgeLineGives p line d vector w v x = WhereTold w v (λ w v. JudgeLineOf p line d vector w v x)

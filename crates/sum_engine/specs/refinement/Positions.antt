@@ -1,18 +1,13 @@
 -- Joins what a manifest is listed as to its rules, and a position to the place that callers see.
 use Rattle.sum_engine.specs.declared.listing.Listing.{Listing}
 use Rattle.sum_engine.specs.declared.position.Position.{Position}
-use Rattle.sum_lines.specs.Profiles.{present}
+use Rattle.sum_lines.specs.Escape.{present}
 use Rattle.sum_engine.specs.Verdicts.{Rules}
 use Rattle.sum_engine.specs.Checkers.{Place}
 
 abbrev pub rules_in : Listing → Rules
-rules_in l = record {
-  profile = present;
-  settings = l.settings;
-  tool = l.tool.now;
-  shown = l.shown.now;
-  from_stdin = l.from_stdin;
-}
+rules_in l =
+    record { profile = present; settings = l.settings; tool = l.tool.now; shown = l.shown.now; from_stdin = l.from_stdin }
 
 abbrev pub place_of : {I : Type 0} → Position I → Place I
 place_of p = record { rules = rules_in p.listing; reader = p.reader; form = p.form; counts = p.counts }

@@ -3,8 +3,8 @@ use Rattle.std.specs.Prelude.{ℕ, ◌≡◌, ◌⊎◌, List, [], Option, Resul
 use Rattle.std.specs.Io.KnownBytes.{Appends}
 use Rattle.sum_lines.specs.Sinks.{SinkState}
 use Rattle.digest_kinds.specs.Limits.{one_more}
-use Rattle.sum_lines.specs.refinement.Growing.{AppendsPrefix}
-use Rattle.sum_lines.specs.Profiles.{Profile}
+use Rattle.sum_lines.specs.refinement.GrowingSinks.{AppendsPrefix}
+use Rattle.sum_lines.specs.Escape.{Profile}
 use Rattle.sum_engine.specs.declared.settings.Report.{Report}
 use Rattle.sum_engine.specs.declared.verdict.Verdict.{Verdict}
 use Rattle.sum_engine.specs.Reports.{is_hidden, verdict_line}

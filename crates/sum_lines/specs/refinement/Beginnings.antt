@@ -1,17 +1,25 @@
 -- This joins what a line begins with to the parts that it is read as.
-use Rattle.std.specs.Prelude.{ℕ, ◌≡◌, ◌+◌, ◌<◌, Bool, List, true, length, get_or, None, Some}
-use Rattle.std.specs.List.{position_or_len}
+use Rattle.std.specs.Prelude.{ℕ, ◌≡◌, ◌+◌, ◌<◌, List, true, length, get_or, IsTrue, None, Some, Ok}
+use Rattle.std.specs.List.{position_or_len, before_first, after_first}
+use Rattle.hex.specs.Hex.{decode_of}
+use Rattle.digest_kinds.specs.Kinds.{has_len}
 use Rattle.digest_kinds.specs.declared.algo.Algo.{Algo}
 use Rattle.digest_kinds.specs.declared.algo.Algos.{Algos}
 use Rattle.digest_kinds.specs.declared.algo.Algos.TheVariants.{One}
 use Rattle.sum_lines.specs.declared.beginnings.Beginning.{Beginning}
 use Rattle.sum_lines.specs.declared.beginnings.Beginning.TheVariants as beginnings
 use Rattle.sum_lines.specs.Shapes.{is_blank}
-use Rattle.sum_lines.specs.PartsOfLines.{Parts, after_while, mark_and_rest, plain_as, plain_parts, tag_in, tagged_parts}
+use Rattle.sum_lines.specs.PartsOfLines.{after_while, mark_and_rest, plain_parts, tag_in, tagged_parts}
 
--- a plain line with such a text has its first blank at that place
+-- a plain line's text: its digits, up to the first blank, spell that digest, and something stands behind that
+pub record Cut (a : Algo) (s digest : List ℕ) : Type 0 where
+  pub spelled : decode_of (before_first is_blank s) ≡ Ok digest
+  pub has : IsTrue (has_len a (length digest))
+  pub some : 0 < length (after_first is_blank s)
+
+-- such a text has its first blank at that place
 abbrev pub EndsAt : Algo → List ℕ → ℕ → Type 0
-EndsAt a s at = (e : Bool) (p : Parts) → plain_as a e s ≡ Some p → at ≡ position_or_len is_blank s
+EndsAt a s at = (digest : List ℕ) → Cut a s digest → at ≡ position_or_len is_blank s
 
 -- so it ends its digits there: a blank stands there, and something behind it
 pub record EndsDigits (a : Algo) (s : List ℕ) (at : ℕ) : Type 0 where

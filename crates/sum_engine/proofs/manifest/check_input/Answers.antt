@@ -34,8 +34,9 @@ lines-preserved g c =
     let so_far = c.lines.invariant in
     record {
       comes = λ hold.
-          let gone = rw c.in-Ok-Going.field-0-is at (c.in-Ok-Going.ensures.gives so_far.going (so_far.so_far.none hold)) in
-          comes_more _ (rules_in c.args.listing) _ _ _ _ c.step.new.line.items so_far.rules (so_far.comes hold) gone;
+          let gone = c.in-Ok-Going.ensures.gives so_far.going (so_far.so_far.none hold) in
+          comes_more _ (rules_in c.args.listing) _ _ _ _ c.step.new.line.items so_far.rules (so_far.comes hold)
+          (rw c.in-Ok-Going.field-0-is at gone);
       rules = (c.in-Ok-Going.ensures.reads so_far.going).rules ∙ so_far.rules;
       going = c.in-Ok-Going.ensures.answer so_far.going ∙ search rules;
       so_far = search rules;

@@ -11,13 +11,14 @@ use Rattle.sum_engine.proofs.manifest.check_input.Given as goal
 abbrev pub invariant-lines : goal.invariant-lines
 invariant-lines g l =
     let r = rules_in l.fn.listing in
+    let streams = l.fn.streams in
     record {
-      comes : HoldNothing l.fn.streams → Comes r (option_map clip (g.I.Input.state l.fn.input).content)
-          (run_state g.S.Source.state l.fn.streams)
+      comes : HoldNothing streams → Comes r (option_map clip (g.I.Input.state l.fn.input).content)
+          (run_state g.S.Source.state streams)
           (now_of g.I.Input.state l.checker.place (run_state g.S.Source.state l.streams));
       rules : l.checker.place.rules ≡ r;
       going : l.checker.answer ≡ None;
-      so_far : Accounts {A = Bool} g.S.Source.state (λ n m. (m ≡ n) ⊎ (m ≡ one_more n)) l.fn.streams l.streams (Ok true);
+      so_far : Accounts {A = Bool} g.S.Source.state (λ n m. (m ≡ n) ⊎ (m ≡ one_more n)) streams l.streams (Ok true);
     }
 
 abbrev pub decreases-lines : goal.decreases-lines

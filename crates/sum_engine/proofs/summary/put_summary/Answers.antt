@@ -1,11 +1,12 @@
 use Rattle.std.proofs.Common.{◌≡◌, ◌==◌, List, ℕ, refl, ◌∙◌}
+use Rattle.sum_sources.specs.declared.fault.Ending.TheVariants.{Whole}
 use Rattle.sum_engine.specs.declared.summary.Counts.{Counts}
 use Rattle.std.proofs.lemmas.Bool.{cond-false, ne_eqb}
 use Rattle.sum_engine.specs.declared.settings.Report.{Report}
 use Rattle.sum_engine.specs.declared.settings.Report.TheVariants.{Status}
 use Rattle.sum_engine.specs.declared.settings.Report.TheVariants as reports
 use Rattle.sum_engine.specs.Verdicts.{Rules}
-use Rattle.sum_engine.specs.Reports.{entries, unless_status, warnings, summary}
+use Rattle.sum_engine.specs.Reports.{entries, unless_status, warnings, end_text}
 use Rattle.sum_engine.specs.refinement.Positions.{rules_in}
 use Rattle.sum_engine.proofs.summary.put_summary.Goals as goal
 
@@ -18,7 +19,7 @@ unless-shown Status text h = absurd (h refl)
 
 -- where there are entries, and the setting isn't `--status`, the summary is the warnings
 summary-shown : (r : Rules) (c : Counts) → (entries c ≡ 0 → ⊥) → (r.settings.report ≡ Status → ⊥)
-    → summary r c ≡ warnings r c
+    → end_text r Whole c ≡ warnings r c
 summary-shown r c some shown = cond-false (entries c == 0) _ _ (ne_eqb (entries c) 0 some)
     ∙ unless-shown r.settings.report (warnings r c) shown
 

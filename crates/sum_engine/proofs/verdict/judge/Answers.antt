@@ -16,5 +16,4 @@ returns-clause-gives g c =
       | else-listing-via-else-listing
           w ↦ search rules
     ] in
-    judged_entry (rules_in c.args.listing.now) _ _ s c.in-Some.asked _ dash
-    (rw (← c.requires) at c.in-Some.ensures.gives) c.compare.ensures
+    judged_entry (rules_in c.args.listing.now) _ _ s c.in-Some.asked _ dash c.in-Some.ensures.gives c.compare.ensures

@@ -1,32 +1,31 @@
 use Rattle.std.proofs.Common.{◌+◌, take, drop, sym}
 use Rattle.std.proofs.lemmas.List.{take-append-drop, take_rest}
-use Rattle.sum_lines.proofs.BeginningLemmas.{digits-none, kind-none, plain-read, plain-size}
+use Rattle.sum_lines.proofs.BeginningLemmas.{digits-none, kind-none, plain-read}
+use Rattle.sum_lines.proofs.PlainLemmas.{read_is_plain, uncut}
 use Rattle.sum_lines.proofs.ScanLemmas.{ends-behind, tail-place}
 use Rattle.sum_lines.proofs.plain.plain.Goals as goal
 
 -- no digest has that length
 pub returns-in_err-kind-clause-parts : goal.returns-in_err-kind-clause-parts
 returns-in_err-kind-clause-parts c =
-    let ends = rw (← c.text_in-escaped.ensures.text) at c.requires in
-    rw (c.from_residual.ensures, ← c.text_in-escaped.ensures.text) (kind-none _ _ _ ends c.in_err-kind.ensures)
+    rw c.from_residual.ensures (uncut _ (kind-none c.requires c.in_err-kind.ensures))
 
 -- what stands before it spells no digest
 pub returns-in_err-digest-clause-parts : goal.returns-in_err-digest-clause-parts
 returns-in_err-digest-clause-parts c =
-    let ends = rw (← c.text_in-escaped.ensures.text) at c.requires in
-    rw (c.from_residual-in_err-digest.ensures, ← c.text_in-escaped.ensures.text)
-    (digits-none _ _ _ ends (λ digits. let bad = c.in_err-digest.ensures.found.1 digits in cc))
+    rw c.from_residual-in_err-digest.ensures (uncut _ (digits-none c.requires (λ digits.
+    let bad = c.in_err-digest.ensures.found.1 (rw c.text_in-escaped.ensures.text digits) in cc)))
 
 -- the parts that were found are the line's
 pub returns-clause-parts : goal.returns-clause-parts
 returns-clause-parts c =
     let s = c.text_in-escaped.result.1.now in
     let n = c.args.at + 1 in
-    let ends = rw (← c.text_in-escaped.ensures.text) at c.requires in
+    let text = c.text_in-escaped.ensures.text in
     let tail = ends-behind (take n s) (drop n s) c.text_in-escaped.ensures.ends (sym (take-append-drop n s)) in
-    rw (take_rest s n, tail-place tail, ← c.text_in-escaped.ensures.text)
-    (plain-read _ _ s c.in_ok-kind.kind ends c.in_ok-digest.ensures.value c.in_ok-kind.ensures)
+    rw (take_rest s n, tail-place tail, c.text_in-escaped.ensures.mark, text)
+    (plain-read _ _ c.in_ok-kind.kind c.requires (rw text at c.in_ok-digest.ensures.value) c.in_ok-kind.ensures)
 
 -- the digest is as long as the kind says
 pub returns-clause-size : goal.returns-clause-size
-returns-clause-size c = plain-size _ _ _ (returns-clause-parts c)
+returns-clause-size c = (read_is_plain (sym (returns-clause-parts c))).size

@@ -1,24 +1,53 @@
-use Rattle.std.proofs.Common.{length, take, drop, sym}
-use Rattle.std.proofs.lemmas.List.{take-append-drop, take_rest}
-use Rattle.sum_lines.proofs.BeginningLemmas.{tag-parts, tag-within}
-use Rattle.sum_lines.proofs.ScanLemmas.{ends-behind}
+use Rattle.std.proofs.Common.{sym, arith, length, ◌∙◌}
+use Rattle.std.proofs.lemmas.Bool.{eqb-false}
+use Rattle.sum_lines.proofs.ScanLemmas.{decoded-size, digest_none, digest_other, name_place, tagged-none, tagged-read}
 use Rattle.sum_lines.proofs.tagged.tagged.Goals as goal
 
--- the tag fits in the text
-pub slice_bounds-tagged_as-start : goal.slice_bounds-tagged_as-start
-slice_bounds-tagged_as-start c = tag-within _ c.tag.ensures (rw (← c.text_in-escaped.ensures.text) at c.requires)
+-- another number of digits than the kind's digests have
+pub returns-then-digits-len-clause-parts : goal.returns-then-digits-len-clause-parts
+returns-then-digits-len-clause-parts c =
+    let sign = rw c.skip_blanks.ensures at c.in_ok-past_text.ensures in
+    let other = rw (c.skip_blanks-digits.ensures, c.len.ensures.value) at c.if-digits-len.true in
+    let width = rw c.text_in-escaped.ensures.text at c.in-Some.ensures in
+    tagged-none _ _ c.requires width c.in_ok-inner.ensures c.in_ok-raw.ensures sign (λ d. digest_other _ d _ other)
 
-pub slice_bounds-tagged_as-count : goal.slice_bounds-tagged_as-count
-slice_bounds-tagged_as-count c = tag-within _ c.tag.ensures (rw (← c.text_in-escaped.ensures.text) at c.requires)
+-- as many that spell none
+pub returns-in_err-digest-clause-parts : goal.returns-in_err-digest-clause-parts
+returns-in_err-digest-clause-parts c =
+    let sign = rw c.skip_blanks.ensures at c.in_ok-past_text.ensures in
+    let size = rw c.len.ensures.value at c.len.ensures in
+    let width = rw c.text_in-escaped.ensures.text at c.in-Some.ensures in
+    rw c.from_residual-in_err-digest.ensures (tagged-none _ _ c.requires width c.in_ok-inner.ensures
+    c.in_ok-raw.ensures sign
+    (λ d. digest_none _ d _ size.some size.few (λ digits.
+    let bad = c.in_err-digest.ensures.found.1 (rw c.skip_blanks-digits.ensures digits) in cc)))
 
--- what stands behind it ends the line
-pub tagged_as-requires : goal.tagged_as-requires
-tagged_as-requires c =
-    let s = c.text_in-escaped.result.1.now in
-    let n = length c.tag.result.now in
-    rw (take_rest s n) (ends-behind (take n s) (drop n s) c.text_in-escaped.ensures.ends (sym (take-append-drop n s)))
+-- the name stands within the line
+pub overflow_sub-start : goal.overflow_sub-start
+overflow_sub-start c =
+    (name_place _ _ c.text_in-escaped.ensures.ends c.in-Some.ensures c.in_ok-inner.ensures c.in_ok-raw.ensures).0
 
--- and what is read of that is read of the line
+pub returns-clause-range : goal.returns-clause-range
+returns-clause-range c =
+    let ends = c.text_in-escaped.ensures.ends in
+    let place = name_place _ _ ends c.in-Some.ensures c.in_ok-inner.ensures c.in_ok-raw.ensures in
+    (omega arith, place.1)
+
+-- the digest is as long as its digits say
+pub returns-clause-size : goal.returns-clause-size
+returns-clause-size c =
+    let few = rw c.len.ensures.value at c.if-digits-len.false in
+    let size = decoded-size _ c.in_ok-digest.digest c.in_ok-digest.ensures.value in
+    omega (arith, size, few)
+
+-- the parts that were found are the line's
 pub returns-clause-parts : goal.returns-clause-parts
 returns-clause-parts c =
-    tag-parts c.args.line.now _ c.text_in-escaped.ensures.text c.tag.ensures c.requires c.tagged_as.ensures.parts
+    let ends = c.text_in-escaped.ensures.ends in
+    let place = name_place _ _ ends c.in-Some.ensures c.in_ok-inner.ensures c.in_ok-raw.ensures in
+    let sign = rw c.skip_blanks.ensures at c.in_ok-past_text.ensures in
+    let spelled = rw c.skip_blanks-digits.ensures at c.in_ok-digest.ensures.value in
+    let some = eqb-false (length c.in_ok-raw.raw.now) 0 (sym c.is_empty.ensures ∙ c.if-is_empty.false) in
+    let width = rw c.text_in-escaped.ensures.text at c.in-Some.ensures in
+    rw (place.2, c.text_in-escaped.ensures.mark) (tagged-read _ _ c.requires width c.in_ok-inner.ensures
+    c.in_ok-raw.ensures sign spelled (returns-clause-size c) (omega (arith, some)))

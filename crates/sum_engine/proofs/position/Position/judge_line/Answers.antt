@@ -1,5 +1,5 @@
 use Rattle.std.proofs.Common.{◌≡◌, slice_range, refl, ap, sym, ◌∙◌}
-use Rattle.sum_lines.specs.Profiles.{present}
+use Rattle.sum_lines.specs.Escape.{present}
 use Rattle.sum_lines.specs.Entries.{Spelled, form_then, line_form}
 use Rattle.sum_lines.specs.ParsedLines.{parse_line, WithEntry}
 use Rattle.sum_engine.specs.refinement.Positions.{place_of}
@@ -14,11 +14,8 @@ returns-in-Some-clause-gives g c =
     let algos = old.listing.settings.algos in
     let vector = c.read_line-reading.new.line.items in
     let entry = c.in-Entry in
-    let s : Spelled = record {
-      algo = entry.kind.algo;
-      digest = entry.digest;
-      name = slice_range vector entry.start entry.stop;
-    } in
+    let name = slice_range vector entry.start entry.stop in
+    let s : Spelled = record { kind = entry.kind; digest = entry.digest; name = name } in
     let said : parse_line present algos (form_then old.form (line_form algos line)) line ≡ WithEntry s =
     sym (rw entry.is at (c.read_line-reading.ensures.says
     ∙ ap (λ f. parse_line present algos f line) c.read_line-reading.ensures.form)) in

@@ -2,7 +2,7 @@ use Rattle.std.proofs.Common.{false, Ok, Err, ap, refl, rules}
 use Rattle.std.proofs.KnownBytes.{Appends-nil}
 use Rattle.std.proofs.lemmas.Result.{err_from_is_err_and}
 use Rattle.sum_sources.specs.declared.fault.Ending.TheVariants.{Whole, Broken}
-use Rattle.sum_lines.specs.Profiles.{present}
+use Rattle.sum_lines.specs.Escape.{present}
 use Rattle.sum_engine.specs.Verdicts.{Rules}
 use Rattle.sum_engine.specs.refinement.Positions.{place_of}
 use Rattle.sum_engine.proofs.StepLemmas.{step_found, nothing_said, step_wants, step_end}
