@@ -1,6 +1,5 @@
 -- Lemmas on rows of four words, whose columns are mixed at once.
-use Rattle.std.proofs.Common.{◌≡◌, ℕ, zero, suc, ◌-◌, ◌*◌, ◌/◌, ◌%◌, ◌^◌, ◌<◌, List, [], ◌∷◌, length, bit_or, bit_xor}
-use Rattle.std.proofs.Common.{refl, ap, arith}
+use Rattle.std.proofs.Common.{◌≡◌, ℕ, zero, suc, ◌-◌, ◌*◌, ◌/◌, ◌%◌, ◌^◌, ◌<◌, List, [], ◌∷◌, length, bit_or, bit_xor, refl, ap, arith}
 use Rattle.std.specs.Int.{rotate_right}
 use Rattle.std.specs.Simd.Lanes.{zip2}
 use Rattle.blake2b_core.specs.Compression.{◌!◌, ◌⊻◌, ◌⋙◌, mix}

@@ -1,7 +1,6 @@
 -- The BLAKE2b digest of a message, without a key (RFC 7693, 3.3).
-use Rattle.std.specs.Prelude.{ℕ, ◌+◌, ◌-◌, ◌*◌, ◌/◌, max, true, false, List, [], ◌++◌, length, take, fold}
-use Rattle.std.specs.Prelude.{replicate, slice_index_or, slice_set}
-use Rattle.std.specs.List.{flat_map, range_with_len}
+use Rattle.std.specs.Prelude.{ℕ, ◌+◌, ◌-◌, ◌*◌, ◌/◌, max, true, false, List, [], ◌++◌, length, take, fold, replicate, slice_index_or, slice_set, flat_map}
+use Rattle.std.specs.List.{range_with_len}
 use Rattle.std.specs.Simd.{first_chunks}
 use Rattle.byteorder.specs.Endian.{little_bytes}
 use Rattle.blake2b_core.specs.Compression.{◌!◌, ◌⊻◌, iv, compress}

@@ -1,15 +1,12 @@
 -- Digits that spell a digest, and decoding them.
-use Rattle.std.proofs.Common.{◌≡◌, ℕ, ◌/◌, ◌≤◌, ◌↔◌, List, length, Result, Ok, Err, IsOk, MatchResult, arith, refl}
-use Rattle.std.proofs.Common.{Bool, true, ltb, [], ◌∷◌, ◌<◌}
-use Rattle.std.specs.Prelude.{◌&&◌}
+use Rattle.std.proofs.Common.{◌≡◌, ℕ, ◌/◌, ◌≤◌, ◌↔◌, List, length, Result, Ok, Err, IsOk, MatchResult, arith, refl, Bool, true, ltb, [], ◌∷◌, ◌<◌, ◌&&◌, IsAscii, IsUtf8}
 use Rattle.std.proofs.lemmas.Bool.Decides.{Decides-by_and, Decides-ltb}
 use Rattle.std.proofs.lemmas.Str.{IsUtf8-from_ascii}
 use Rattle.std.proofs.lemmas.Str.Ascii.{IsAscii-from_all}
-use Rattle.std.specs.Str.{IsAscii, IsUtf8}
 use Rattle.hex.specs.Hex.{decode_sized, encode_lower, lower_digits}
 use Rattle.hex.specs.declared.error.FromHexError.{FromHexError}
 use Rattle.hex.proofs.HexLemmas.{IsAscii-encode_with, IsOk-decode_sized, IsOk-written}
-use Rattle.digest_kinds.specs.Digits.{IsDigits}
+use Rattle.digest_kinds.specs.Kinds.{IsDigits}
 
 -- decoding into room for half as many bytes, 1 to 64, goes well exactly where the text is digits of a digest
 pub IsOk-decoded : {n : ℕ} (text : List ℕ) (r : Result Unit FromHexError) (out : List ℕ)

@@ -1,13 +1,9 @@
 -- Searching the algorithms for one whose tag begins the bytes.
-use Rattle.std.proofs.Common.{◌≡◌, refl, sym, ℕ, Bool, true, false, cond, List, [], ◌∷◌, ◌++◌, ◌==◌, drop, length}
-use Rattle.std.proofs.Common.{Option, None, Some, IfSome}
-use Rattle.std.specs.List.{starts_with, find}
+use Rattle.std.proofs.Common.{◌≡◌, refl, sym, ℕ, Bool, true, false, cond, List, [], ◌∷◌, ◌++◌, ◌==◌, drop, length, Option, None, Some, IfSome, find}
+use Rattle.std.specs.List.{starts_with}
 use Rattle.std.proofs.lemmas.Slice.Eq.{starts_is}
 use Rattle.std.proofs.lemmas.Bool.Decides.{Decides-eqb}
-use Rattle.digest_kinds.specs.Kinds.{all_algos, tag}
-use Rattle.digest_kinds.specs.Tags.{BeginsWithTag}
-use Rattle.digest_kinds.specs.declared.algo.Algo.{Algo}
-use Rattle.digest_kinds.specs.declared.algo.Algo.TheVariants.{Md5}
+use Rattle.digest_kinds.specs.Kinds.{all_algos, tag, BeginsWithTag, Algo, Md5}
 
 -- whether the algorithm's tag is a prefix of the bytes
 abbrev pub begins : List ℕ → Algo → Bool

@@ -1,7 +1,17 @@
--- What is known of an algorithm and of a kind, which is an algorithm with its digest's length.
-use Rattle.std.specs.Prelude.{ℕ, ◌==◌, ◌&&◌, nat_le, Bool, List, [], ◌∷◌, codes}
-use Rattle.digest_kinds.specs.declared.algo.Algo.{Algo}
-use Rattle.digest_kinds.specs.declared.algo.Algo.TheVariants.{Md5, Sha1, Sha224, Sha256, Sha384, Sha512, Blake2b}
+-- Algorithms and kinds, a kind being an algorithm with its digest's length: tags, lengths and digests.
+use Rattle.std.specs.Prelude.{ℕ, ◌==◌, ◌&&◌, nat_le, Bool, List, [], ◌∷◌, codes, ◌/◌, ◌%◌, nat_lt, if◌then◌else◌, Result, Ok, Err, ◌≡◌, ◌++◌, ◌≤◌, length}
+pub use Rattle.digest_kinds.specs.declared.algo.Algo.{Algo}
+pub use Rattle.digest_kinds.specs.declared.algo.Algo.TheVariants.{Md5, Sha1, Sha224, Sha256, Sha384, Sha512, Blake2b}
+use Rattle.md5.specs.Md5.{md5}
+use Rattle.sha1.specs.Sha1.{sha1}
+use Rattle.sha2.specs.Sha256.{sha224, sha256}
+use Rattle.sha2.specs.Sha512.{sha384, sha512}
+use Rattle.blake2b_core.specs.Digest.{blake2b}
+pub use Rattle.digest_kinds.specs.declared.kind.LengthFault.{LengthFault}
+pub use Rattle.digest_kinds.specs.declared.kind.LengthFault.TheVariants.{TooLong, NotBytes}
+use Rattle.std.specs.List.{AllPass}
+use Rattle.hex.specs.Hex.{is_hex_digit}
+pub use Rattle.digest_kinds.specs.declared.algo.Algos.{Algos}
 
 -- the algorithms
 abbrev pub all_algos : List Algo
@@ -39,3 +49,39 @@ full_kind a = record { algo = a; len = full_len a }
 
 abbrev pub blake2b_kind : ℕ → KindValue
 blake2b_kind n = record { algo = Blake2b; len = n }
+
+-- by its algorithm and its length; BLAKE2b alone has digests of more than one length
+abbrev pub digest_by : Algo → ℕ → List ℕ → List ℕ
+digest_by Md5 n m = md5 m
+digest_by Sha1 n m = sha1 m
+digest_by Sha224 n m = sha224 m
+digest_by Sha256 n m = sha256 m
+digest_by Sha384 n m = sha384 m
+digest_by Sha512 n m = sha512 m
+digest_by Blake2b n m = blake2b n m
+
+abbrev pub digest : KindValue → List ℕ → List ℕ
+digest k m = digest_by k.algo k.len m
+
+-- the kind of so many bits, 0 standing for the full 512; too many are refused first, then those that are no whole bytes
+abbrev pub blake2b_of_bits : ℕ → Result KindValue LengthFault
+blake2b_of_bits bits =
+    if nat_lt 512 bits then Err TooLong
+    else if bits == 0 then Ok (full_kind Blake2b)
+    else if bits % 8 == 0 then Ok (record { algo = Blake2b; len = bits / 8 })
+    else Err NotBytes
+
+-- the algorithm's tag is a prefix of the bytes
+abbrev pub BeginsWithTag : List ℕ → Algo → Type 0
+BeginsWithTag bytes a = (rest : List ℕ) × (bytes ≡ tag a ++ rest)
+
+-- no tag is a prefix of another
+abbrev pub TagsApart : Type 0
+TagsApart = (a b : Algo) → BeginsWithTag (tag b) a → a ≡ b
+
+-- the text is 2 to 128 hexadecimal digits of an even count, each of either case
+pub record IsDigits (text : List ℕ) : Type 0 where
+  pub some : 2 ≤ length text
+  pub few : length text ≤ 128
+  pub even : length text % 2 ≡ 0
+  pub digits : AllPass is_hex_digit text

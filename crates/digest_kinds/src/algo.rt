@@ -1,8 +1,7 @@
 //! The algorithms and their tags.
 
 ghost use Rattle.std.specs.Prelude.{◌≡◌, Some, IfSome};
-ghost use Rattle.digest_kinds.specs.Kinds.{full_len, tag};
-ghost use Rattle.digest_kinds.specs.Tags.{BeginsWithTag};
+ghost use Rattle.digest_kinds.specs.Kinds.{full_len, tag, BeginsWithTag};
 
 /// A digest algorithm.
 #[derive(Clone, Copy, Debug, PartialEq, Eq)]

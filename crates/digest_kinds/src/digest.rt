@@ -1,7 +1,7 @@
 //! A digest.
 
 ghost use Rattle.std.specs.Prelude.{◌≡◌, ◌*◌, ◌++◌, ◌≤◌, ◌↔◌, IsTrue, drop, length, IsSome, IfSome, Ok};
-ghost use Rattle.digest_kinds.specs.Digits.{IsDigits};
+ghost use Rattle.digest_kinds.specs.Kinds.{IsDigits};
 ghost use Rattle.hex.specs.Hex.{decode_of, encode_lower};
 
 use std::marker::Model;

@@ -1,8 +1,7 @@
 //! What every hasher does.
 
 ghost use Rattle.std.specs.Prelude.{◌≡◌, ℕ, ◌+◌, ◌<◌, List, ◌++◌, length};
-ghost use Rattle.digest_kinds.specs.Kinds.{KindValue};
-ghost use Rattle.digest_kinds.specs.Digests.{digest};
+ghost use Rattle.digest_kinds.specs.Kinds.{KindValue, digest};
 
 use crate::digest::Digest;
 use crate::kind::Kind;

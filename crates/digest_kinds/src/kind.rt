@@ -1,8 +1,7 @@
 //! An algorithm with its digest's length.
 
 ghost use Rattle.std.specs.Prelude.{◌≡◌, ◌↔◌, ◌⊎◌, ◌*◌, ◌<◌, ◌≤◌, IsNone, IfSome};
-ghost use Rattle.digest_kinds.specs.Kinds.{blake2b_kind, full_kind, tag};
-ghost use Rattle.digest_kinds.specs.Lengths.{blake2b_of_bits};
+ghost use Rattle.digest_kinds.specs.Kinds.{blake2b_kind, full_kind, tag, blake2b_of_bits};
 
 use crate::algo::Algo;
 use std::marker::Model;

@@ -1,18 +1,13 @@
 -- The words of a check ask for that check.
-use Rattle.std.proofs.Common.{◌≡◌, Bool, true, false, not, List, [], ◌∷◌, ◌++◌, map, find, codes, None, Some, Result, Ok, refl, ap, sym, ◌∙◌}
-use Rattle.std.proofs.Common.{unwrap_or}
-use Rattle.std.specs.Str.{bytes_eq}
+use Rattle.std.proofs.Common.{◌≡◌, Bool, true, false, not, List, [], ◌∷◌, ◌++◌, map, find, codes, None, Some, Result, Ok, refl, ap, sym, ◌∙◌, unwrap_or, bytes_eq}
 use Rattle.std.specs.Result.{result_map_both}
 use Rattle.std.specs.List.{list_all}
 use Rattle.std.proofs.lemmas.Bool.{and_parts}
 use Rattle.std.proofs.lemmas.List.Elements.{All-nil, All-cons}
 use Rattle.sum_engine.specs.declared.settings.CheckSettings.{CheckSettings}
 use Rattle.sum_engine.specs.declared.settings.Report.{Report}
-use Rattle.sum_engine.specs.declared.settings.Report.TheVariants as reports
 use Rattle.sum_words.specs.declared.options.Flag.{Flag}
-use Rattle.sum_words.specs.declared.options.Flag.TheVariants as flags
 use Rattle.sum_words.specs.declared.tool.Tool.{Tool}
-use Rattle.sum_words.specs.declared.tool.Tool.TheVariants as tools
 use Rattle.sum_words.specs.declared.request.Request.{Request}
 use Rattle.sum_words.specs.declared.request.Request.TheVariants.{Work}
 use Rattle.sum_words.specs.declared.request.Job.TheVariants.{Check}
@@ -23,6 +18,9 @@ use Rattle.sum_words.specs.Request.{request, early_answer, job_or_fault, kind_as
 use Rattle.sum_words.specs.PlainWords.{is_plain}
 use Rattle.sum_words.proofs.PlainWordLemmas.{plain_words}
 use Rattle.digests.specs.GenerationRuns.{check_options, check_words, ChecksBy}
+use Rattle.sum_engine.specs.declared.settings.Report.TheVariants as reports
+use Rattle.sum_words.specs.declared.options.Flag.TheVariants as flags
+use Rattle.sum_words.specs.declared.tool.Tool.TheVariants as tools
 
 -- ---- long options that every tool has, and that take no value
 

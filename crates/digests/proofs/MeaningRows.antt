@@ -1,25 +1,20 @@
 -- Worked command lines: both texts, the names that are asked and whether all is good, as the meaning has them.
-use Rattle.std.proofs.Common.{◌≡◌, ◌++◌, Bool, List, [], ◌∷◌, refl, codes, true, false}
-use Rattle.std.specs.Prelude.{flat_map, if◌then◌else◌, ⊤}
+use Rattle.std.proofs.Common.{◌≡◌, ◌++◌, Bool, List, [], ◌∷◌, refl, codes, true, false, flat_map, if◌then◌else◌, bytes_eq, chars}
+use Rattle.std.specs.Prelude.{⊤}
 use Rattle.std.specs.List.{concat}
-use Rattle.std.specs.Str.{bytes_eq, chars}
 use Rattle.std.specs.Path.{rsplit_once}
 use lib.Utf8.{encode}
-use Rattle.md5.specs.Md5.{block_words as md5_words, rounds as md5_rounds, compress as md5_compress}
-use Rattle.md5.specs.Md5.{hash_after as md5_after, digest_bytes as md5_bytes, md5}
+use Rattle.md5.specs.Md5.{block_words as md5_words, rounds as md5_rounds, compress as md5_compress, hash_after as md5_after, digest_bytes as md5_bytes, md5}
 use Rattle.blake2b_core.specs.Compression.{mix, round, start, compress}
 use Rattle.blake2b_core.specs.Digest.{blocks, blake2b}
 use Rattle.sum_sources.specs.declared.fault.Fault.TheVariants.{NotFound, Other}
-use Rattle.sum_sources.specs.declared.fault.Ending.TheVariants.{Whole, Broken}
+use Rattle.sum_engine.specs.Runs.{Whole, Broken, World, outs, errs, asks}
 use Rattle.std.specs.Fmt.{digits}
 use Rattle.hex.specs.Hex.{encode_with, decode_pairs}
 use Rattle.sum_lines.specs.PartsOfLines.{plain_parts, tagged_parts}
 use Rattle.sum_sources.specs.ManifestLines.{pieces}
 use Rattle.sum_lines.specs.ParsedLines.{entry_of}
-use Rattle.sum_sources.specs.Contents.{Content, limit}
-use Rattle.sum_sources.specs.Sources.{Reply, Refused, Given}
-use Rattle.sum_engine.specs.Worlds.{World}
-use Rattle.sum_engine.specs.Runs.{outs, errs, asks}
+use Rattle.sum_sources.specs.Contents.{Content, limit, Reply, Refused, Given}
 use Rattle.sum_words.specs.declared.tool.Tool.{Tool}
 use Rattle.sum_words.specs.declared.tool.Tool.TheVariants.{Md5sum, B2sum, Anysum}
 use Rattle.sum_words.specs.Items.{Text, name_or_fault, option_of_letter}

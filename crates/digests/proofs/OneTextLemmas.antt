@@ -1,7 +1,7 @@
 -- Runs that write one text and nothing else: a fault, the help, the version.
 use Rattle.std.proofs.Common.{rules, ◌≡◌, ℕ, true, false, [], Result, Ok, Err, refl, append-nil}
 use Rattle.std.proofs.KnownBytes.{Appends-nil}
-use Rattle.sum_sources.specs.Sources.{SourceState}
+use Rattle.sum_sources.specs.Contents.{SourceState}
 use Rattle.sum_lines.specs.Sinks.{SinkState}
 use Rattle.sum_engine.specs.Moments.{Moment, Accounts}
 use Rattle.sum_engine.specs.Runs.{at_once}

@@ -1,16 +1,12 @@
 -- Operands, one after another: what those before came to, joined to what the rest comes to, is the whole.
-use Rattle.std.proofs.Common.{rules, ◌≡◌, Bool, true, List, [], ◌∷◌, Option, Ok, Err, None, Some, refl, ap, sym, ◌∙◌, subst, append_assoc}
-use Rattle.std.specs.Prelude.{◌&&◌}
+use Rattle.std.proofs.Common.{rules, ◌≡◌, Bool, true, List, [], ◌∷◌, Option, Ok, Err, None, Some, refl, ap, sym, ◌∙◌, subst, append_assoc, ◌&&◌}
 use Rattle.std.proofs.Math.Bool.{and_assoc, and-true}
 use Rattle.std.proofs.lemmas.List.{append-nil}
-use Rattle.sum_sources.specs.Contents.{WhereTold}
-use Rattle.sum_sources.specs.Sources.{SourceState}
+use Rattle.sum_sources.specs.Contents.{WhereTold, SourceState}
 use Rattle.sum_sources.proofs.ToldLemmas.{WhereTold-then}
 use Rattle.sum_engine.specs.declared.stop.Stop.{Stop}
-use Rattle.sum_engine.specs.Worlds.{World, after}
-use Rattle.sum_engine.specs.Runs.{Run, run_then, asks}
-use Rattle.sum_engine.specs.Moments.{Moment, RunState, run_state}
-use Rattle.sum_engine.specs.RunStates.{RunOf}
+use Rattle.sum_engine.specs.Runs.{World, after, Run, run_then, asks}
+use Rattle.sum_engine.specs.Moments.{Moment, RunState, run_state, RunOf}
 use Rattle.sum_engine.proofs.RunStateLemmas.{Runs, did_nothing}
 use Rattle.sum_engine.proofs.RunLemmas.{run_then-did, run_then-first, run_then-second, events_extend}
 use Rattle.sum_words.specs.Items.{Text}

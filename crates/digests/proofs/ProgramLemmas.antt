@@ -1,16 +1,13 @@
 -- A run and its end, joined: what the whole program does.
-use Rattle.std.proofs.Common.{rules, ◌≡◌, ℕ, List, [], Option, None, Some, Result, Ok, Err, ap, sym, ◌∙◌, inl, inr, refl, ◌⊎◌, subst}
-use Rattle.std.specs.Prelude.{IfSome}
+use Rattle.std.proofs.Common.{rules, ◌≡◌, ℕ, List, [], Option, None, Some, Result, Ok, Err, ap, sym, ◌∙◌, inl, inr, refl, ◌⊎◌, subst, IfSome}
 use Rattle.std.specs.Io.KnownBytes.{Keeps}
-use Rattle.sum_sources.specs.Sources.{SourceState}
+use Rattle.sum_sources.specs.Contents.{SourceState}
 use Rattle.sum_lines.specs.Sinks.{SinkState}
 use Rattle.digest_kinds.specs.Limits.{one_more}
 use Rattle.sum_engine.specs.declared.stop.Stop.{Stop}
 use Rattle.sum_engine.specs.declared.stop.Stop.TheVariants.{Write}
-use Rattle.sum_engine.specs.Worlds.{World}
-use Rattle.sum_engine.specs.Moments.{Moment, RunState, HoldNothing, Failures}
-use Rattle.sum_engine.specs.Runs.{Event, Run}
-use Rattle.sum_engine.specs.RunStates.{Did}
+use Rattle.sum_engine.specs.Runs.{World, Event, Run}
+use Rattle.sum_engine.specs.Moments.{Moment, RunState, HoldNothing, Failures, Did}
 use Rattle.sum_engine.specs.refinement.Telling.{OneFailed, HandsOn}
 use Rattle.sum_engine.proofs.RunStateLemmas.{Runs}
 use Rattle.sum_words.specs.Items.{Text}

@@ -1,22 +1,16 @@
 -- What generation writes is good under checking.
-use Rattle.std.proofs.Common.{rules, ◌≡◌, ℕ, ◌<◌, false, List, [], ◌∷◌, length, map, refl, ap, sym, ◌∙◌, append-nil, Ok}
-use Rattle.std.specs.Prelude.{flat_map}
-use Rattle.std.specs.List.{All, Contains}
+use Rattle.std.proofs.Common.{rules, ◌≡◌, ℕ, ◌<◌, false, List, [], ◌∷◌, length, map, refl, ap, sym, ◌∙◌, append-nil, Ok, flat_map, All, Contains}
 use Rattle.std.proofs.lemmas.List.{length-map, map-append}
 use Rattle.std.proofs.lemmas.List.Concat.{flat_map-append}
 use Rattle.std.proofs.lemmas.List.Folds.{flat_map-map}
 use Rattle.std.proofs.lemmas.List.Elements.{All-nil, All-head, All-tail, All-append, All-map, All-weaker, All-contains, All-contains_itself}
-use Rattle.digest_kinds.specs.Digests.{digest}
-use Rattle.digest_kinds.specs.declared.algo.Algos.{Algos}
-use Rattle.sum_sources.specs.declared.fault.Ending.TheVariants.{Whole}
-use Rattle.sum_sources.specs.Contents.{limit}
-use Rattle.sum_sources.specs.Sources.{Reply, Refused, Given}
+use Rattle.digest_kinds.specs.Kinds.{digest}
+use Rattle.sum_engine.specs.Reports.{Algos, right_line}
+use Rattle.sum_engine.specs.Runs.{Whole, World, reply, after, digest_or_fault, outs, asks}
+use Rattle.sum_sources.specs.Contents.{limit, Reply, Refused, Given}
 use Rattle.sum_engine.specs.declared.settings.Settings.{Settings}
 use Rattle.sum_engine.specs.declared.settings.CheckSettings.{CheckSettings}
-use Rattle.sum_engine.specs.Worlds.{World, reply, after, digest_or_fault}
-use Rattle.sum_engine.specs.Runs.{outs, asks}
 use Rattle.sum_engine.specs.Generation.{generate_run}
-use Rattle.sum_engine.specs.Reports.{right_line}
 use Rattle.sum_engine.proofs.ListedLemmas.{Item, written_text, Listed}
 use Rattle.sum_engine.proofs.GoodLemmas.{manifest_good}
 use Rattle.sum_words.specs.declared.tool.Tool.{Tool}

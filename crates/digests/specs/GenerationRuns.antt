@@ -1,27 +1,22 @@
 -- What is written is good: manifests that generation wrote, checked while the files stay as they were.
-use Rattle.std.specs.Prelude.{ℕ, ◌≡◌, ◌<◌, true, false, List, [], ◌∷◌, ◌++◌, IsTrue, length, map, flat_map, codes, if◌then◌else◌}
-use Rattle.std.specs.List.{All}
+use Rattle.std.specs.Prelude.{ℕ, ◌≡◌, ◌<◌, true, false, List, [], ◌∷◌, ◌++◌, IsTrue, length, map, flat_map, codes, if◌then◌else◌, All}
 use Rattle.digest_kinds.specs.Kinds.{has_len}
-use Rattle.digest_kinds.specs.declared.algo.Algos.{Algos}
-use Rattle.sum_sources.specs.declared.fault.Ending.TheVariants.{Whole}
-use Rattle.sum_sources.specs.Contents.{limit}
-use Rattle.sum_sources.specs.Sources.{Reply, Given}
+use Rattle.sum_engine.specs.Reports.{Algos, right_line}
+use Rattle.sum_engine.specs.Runs.{Whole, World, is_dash, reply, outs, errs}
+use Rattle.sum_sources.specs.Contents.{limit, Reply, Given}
 use Rattle.sum_lines.specs.LineLaws.{ReadBy}
 use Rattle.sum_engine.specs.declared.settings.Settings.{Settings}
 use Rattle.sum_engine.specs.declared.settings.CheckSettings.{CheckSettings}
 use Rattle.sum_engine.specs.declared.settings.Report.{Report}
-use Rattle.sum_engine.specs.declared.settings.Report.TheVariants as reports
-use Rattle.sum_engine.specs.Worlds.{World, is_dash, reply}
-use Rattle.sum_engine.specs.Runs.{outs, errs}
 use Rattle.sum_engine.specs.Generation.{generate_run}
-use Rattle.sum_engine.specs.Reports.{right_line}
 use Rattle.sum_words.specs.declared.options.Flag.{Flag}
-use Rattle.sum_words.specs.declared.options.Flag.TheVariants as flags
 use Rattle.sum_words.specs.declared.tool.Tool.{Tool}
 use Rattle.sum_words.specs.Tools.{algos_of}
 use Rattle.sum_words.specs.Items.{Text, full_name}
 use Rattle.sum_words.specs.PlainWords.{is_plain}
 use Rattle.digests.specs.Meaning.{all_of, meaning, status_of}
+use Rattle.sum_engine.specs.declared.settings.Report.TheVariants as reports
+use Rattle.sum_words.specs.declared.options.Flag.TheVariants as flags
 
 -- a name that isn't empty, holds no NUL and isn't `-`, and whose file is whole and not too long
 pub record Listable (answer : Text → Reply) (name : Text) : Type 0 where

@@ -1,8 +1,7 @@
 -- What a command line means: a run, which opens names and writes to both outputs, and whether all is good, which the
 -- status tells.
 use Rattle.std.specs.Prelude.{ℕ, Bool, true, false, List, [], ◌∷◌, Result, Ok, Err, codes, if◌then◌else◌}
-use Rattle.sum_engine.specs.Worlds.{World, after}
-use Rattle.sum_engine.specs.Runs.{Run, run_then, at_once, asks}
+use Rattle.sum_engine.specs.Runs.{World, after, Run, run_then, at_once, asks}
 use Rattle.sum_engine.specs.Generation.{generate_run}
 use Rattle.sum_engine.specs.Checking.{check_run}
 use Rattle.sum_words.specs.declared.tool.Tool.{Tool}

@@ -1,14 +1,12 @@
 -- What the program does, from the list of its arguments to its status.
 use Rattle.std.specs.Prelude.{ℕ, ◌≡◌, ◌⊎◌, false, List, [], Option, None, Some, Result, Ok, Err, codes, IfSome}
 use Rattle.std.specs.Io.KnownBytes.{Appends}
-use Rattle.sum_sources.specs.Sources.{SourceState}
+use Rattle.sum_sources.specs.Contents.{SourceState}
 use Rattle.sum_lines.specs.Sinks.{SinkState, IsPrefix}
 use Rattle.digest_kinds.specs.Limits.{one_more}
 use Rattle.sum_engine.specs.declared.stop.Stop.{Stop}
-use Rattle.sum_engine.specs.Worlds.{World}
-use Rattle.sum_engine.specs.Runs.{Run, at_once}
-use Rattle.sum_engine.specs.Moments.{Moment, HoldNothing, Failures}
-use Rattle.sum_engine.specs.RunStates.{RunsTo}
+use Rattle.sum_engine.specs.Runs.{World, Run, at_once}
+use Rattle.sum_engine.specs.Moments.{Moment, HoldNothing, Failures, RunsTo}
 use Rattle.sum_words.specs.Items.{Text}
 use Rattle.sum_words.specs.CommandLines.{Call, unknown, call, command_line, NeedsMemory}
 use Rattle.sum_words.specs.Texts.{stop_line}

@@ -1,7 +1,6 @@
 //! What a whole command line does.
 ghost use Rattle.std.specs.Prelude.{◌≡◌, ◌∷◌};
-ghost use Rattle.sum_engine.specs.Moments.{HoldNothing, Failures, Refusals, Accounts};
-ghost use Rattle.sum_engine.specs.RunStates.{RunsTo};
+ghost use Rattle.sum_engine.specs.Moments.{HoldNothing, Failures, Refusals, Accounts, RunsTo};
 ghost use Rattle.sum_words.specs.Tools.{name_of};
 ghost use Rattle.sum_words.specs.refinement.RequestReading.{result_of};
 ghost use Rattle.sum_words.specs.Request.{request};

@@ -3,7 +3,7 @@
 #![tactic(auto)]
 
 ghost use Rattle.std.specs.Prelude.{◌≡◌, ◌↔◌, ◌⊎◌, length, IsTrue, IfSome, IfOk, IfErr, Err};
-ghost use Rattle.digest_kinds.specs.Digests.{digest};
+ghost use Rattle.digest_kinds.specs.Kinds.{digest};
 ghost use Rattle.sum_sources.specs.Contents.{clip, Hashes};
 ghost use Rattle.sum_sources.specs.ManifestLines.{lines};
 

@@ -1,18 +1,14 @@
 -- What is answered behind the end of a manifest's verdicts.
-use Rattle.std.proofs.Common.{rules, ◌≡◌, ℕ, Bool, true, false, List, [], length, Option, None, Some, Result, Ok, Err}
-use Rattle.std.proofs.Common.{ap, sym, arith, if◌then◌else◌}
+use Rattle.std.proofs.Common.{rules, ◌≡◌, ℕ, Bool, true, false, List, [], length, Option, None, Some, Result, Ok, Err, ap, sym, arith, if◌then◌else◌}
 use Rattle.sum_sources.specs.declared.fault.Ending.{Ending}
-use Rattle.sum_sources.specs.declared.lines.LineStop.{LineStop}
+use Rattle.sum_engine.specs.LineVerdicts.{LineStop, LineVerdict, FindsNone, FindOf}
 use Rattle.sum_sources.specs.declared.lines.LineStop.TheVariants.{Fault, Memory}
 use Rattle.sum_sources.specs.ManifestLines.{lines, pieces}
 use Rattle.sum_sources.proofs.LineLemmas.{pieces-nil, lines-nil}
 use Rattle.sum_lines.specs.Entries.{form, form_then}
-use Rattle.sum_engine.specs.declared.verdict.LineVerdict.{LineVerdict}
-use Rattle.sum_engine.specs.Verdicts.{lines_by}
-use Rattle.sum_engine.specs.Verdicts.{Rules, verdicts}
+use Rattle.sum_engine.specs.Verdicts.{lines_by, Rules, verdicts}
 use Rattle.sum_engine.specs.Steps.{Now, rest_verdicts}
-use Rattle.sum_engine.specs.LineVerdicts.{FindsNone, FindOf}
-use Rattle.sum_engine.specs.CheckingLaws.{ended_by}
+use Rattle.sum_engine.specs.Manifests.{ended_by}
 
 -- without bytes there is no line under any profile
 no_lines : (drops : Bool) (e : Ending)

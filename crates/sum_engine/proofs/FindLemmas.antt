@@ -3,25 +3,17 @@ use Rattle.std.proofs.Common.{rules, ◌≡◌, ℕ, ◌≤◌, ◌||◌, List, 
 use Rattle.std.specs.List.{list_any}
 use Rattle.std.proofs.KnownBytes.{Appends-nil}
 use Rattle.sum_sources.specs.declared.lines.LineStop.TheVariants.{Memory}
-use Rattle.sum_sources.specs.Contents.{InputState, WhereTold}
-use Rattle.sum_sources.specs.Sources.{SourceState}
+use Rattle.sum_sources.specs.Contents.{InputState, WhereTold, SourceState}
 use Rattle.sum_sources.specs.declared.lines.LineReader.{LineReader}
 use Rattle.sum_sources.proofs.LineLemmas.{line-some}
 use Rattle.sum_lines.specs.ParsedLines.{ParsedLine}
-use Rattle.sum_engine.specs.declared.summary.Counts.{Counts}
-use Rattle.sum_engine.specs.declared.verdict.LineVerdict.{LineVerdict}
-use Rattle.sum_engine.specs.declared.verdict.Verdict.{Verdict}
-use Rattle.sum_engine.specs.Worlds.{World, is_dash}
-use Rattle.sum_engine.specs.Runs.{Opens}
-use Rattle.sum_engine.specs.Verdicts.{Judged, judge, asks_of}
-use Rattle.sum_engine.specs.Reports.{counts_with}
-use Rattle.sum_engine.specs.Moments.{Moment, run_state}
+use Rattle.sum_engine.specs.Reports.{Counts, counts_with}
+use Rattle.sum_engine.specs.LineVerdicts.{LineVerdict, OnlyRefused, judged_in, FindGives}
+use Rattle.sum_engine.specs.Verdicts.{Verdict, Judged, judge, asks_of}
+use Rattle.sum_engine.specs.Runs.{World, is_dash, Opens}
+use Rattle.sum_engine.specs.Moments.{Moment, run_state, Did}
 use Rattle.sum_engine.specs.refinement.Asking.{world_of}
-use Rattle.sum_engine.specs.RunStates.{Did}
-use Rattle.sum_engine.specs.LineVerdicts.{OnlyRefused}
-use Rattle.sum_engine.specs.Checkers.{Place, now_of}
-use Rattle.sum_engine.specs.Steps.{Now, next_judged}
-use Rattle.sum_engine.specs.LineVerdicts.{judged_in, FindGives}
+use Rattle.sum_engine.specs.Steps.{Place, now_of, Now, next_judged}
 use Rattle.sum_engine.specs.refinement.Judging.{IsJudged, name_said, TakesLine, JudgeLineOf, parsed_at}
 use Rattle.sum_engine.proofs.RunStateLemmas.{events_by, where_known, names-by, did_by}
 use Rattle.sum_engine.proofs.RestLemmas.{rest_on}

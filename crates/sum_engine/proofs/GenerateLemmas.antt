@@ -2,19 +2,15 @@
 use Rattle.std.proofs.Common.{◌≡◌, ℕ, ◌||◌, Bool, List, [], ◌∷◌, Some, Result, Ok, Err, refl, ap, sym, ◌∙◌}
 use Rattle.std.proofs.Math.Bool.{or-false}
 use Rattle.digest_kinds.specs.Kinds.{KindValue}
-use Rattle.sum_sources.specs.declared.fault.Fault.{Fault}
-use Rattle.sum_sources.specs.Sources.{Reply, SourceState}
-use Rattle.sum_engine.specs.declared.asking.Asked.{Asked}
-use Rattle.sum_engine.specs.declared.asking.Asked.TheVariants as asked
-use Rattle.sum_engine.specs.declared.settings.Settings.{Settings}
-use Rattle.sum_engine.specs.Worlds.{is_dash, reply, digest_or_fault}
-use Rattle.sum_engine.specs.Runs.{Step, at_once}
-use Rattle.sum_engine.specs.Generation.{generate_run, generate_run_by}
+use Rattle.sum_engine.specs.Runs.{Fault, is_dash, reply, digest_or_fault, Step, at_once}
+use Rattle.sum_sources.specs.Contents.{Reply, SourceState}
+use Rattle.sum_engine.specs.refinement.Asking.{Asked, AskGives, IsAsked, world_of}
+use Rattle.sum_engine.specs.Generation.{Settings, generate_run, generate_run_by}
 use Rattle.sum_engine.specs.Moments.{Moment}
-use Rattle.sum_engine.specs.refinement.Asking.{AskGives, IsAsked, world_of}
 use Rattle.sum_engine.specs.refinement.Telling.{HandsBoth}
 use Rattle.sum_engine.proofs.RunStateLemmas.{Runs, Writing}
 use Rattle.sum_engine.proofs.RunLemmas.{answered, once}
+use Rattle.sum_engine.specs.declared.asking.Asked.TheVariants as asked
 
 -- what came of a name: its digest, or the fault of opening or reading it
 abbrev pub found : Asked → Result (List ℕ) Fault

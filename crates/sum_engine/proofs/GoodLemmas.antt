@@ -1,36 +1,25 @@
 -- A manifest of lines that were written for whole files is good.
-use Rattle.std.proofs.Common.{rules, ◌≡◌, ℕ, suc, ◌+◌, ◌<◌, true, List, [], ◌∷◌, ◌++◌, length, map, refl, ap, ◌∙◌, append_assoc, arith, inl, append-nil, sym}
-use Rattle.std.specs.Prelude.{flat_map}
-use Rattle.std.specs.List.{All}
+use Rattle.std.proofs.Common.{rules, ◌≡◌, ℕ, suc, ◌+◌, ◌<◌, true, List, [], ◌∷◌, ◌++◌, length, map, refl, ap, ◌∙◌, append_assoc, arith, inl, append-nil, sym, flat_map, All}
 use Rattle.std.proofs.lemmas.Bool.{ne_eqb}
 use Rattle.std.proofs.Math.Bool.{and-false, or-true}
 use Rattle.std.proofs.lemmas.List.Elements.{All-head, All-tail}
 use Rattle.std.proofs.lemmas.Slice.Eq.{bytes_eq-Decides}
-use Rattle.digest_kinds.specs.Digests.{digest}
-use Rattle.digest_kinds.specs.declared.algo.Algos.{Algos}
-use Rattle.sum_lines.specs.declared.line_reading.Form.{Form}
+use Rattle.digest_kinds.specs.Kinds.{digest}
+use Rattle.sum_engine.specs.Reports.{Algos, Report, Counts, no_counts, out_of, err_of, right_line, counts, unless_status, end_text, good}
+use Rattle.sum_engine.specs.Verdicts.{Form, CheckSettings, Right, Rules, Judged, digest_verdict, verdict_of, judge, verdicts, all_verdicts}
 use Rattle.sum_lines.specs.Escape.{present, escape}
 use Rattle.sum_lines.specs.Entries.{Entry, form}
-use Rattle.sum_sources.specs.declared.fault.Ending.TheVariants.{Whole}
-use Rattle.sum_sources.specs.Contents.{Content, limit}
-use Rattle.sum_sources.specs.Sources.{Reply, Given}
+use Rattle.sum_engine.specs.Runs.{Whole, World, reply, after, digest_or_fault, Run, outs, errs}
+use Rattle.sum_sources.specs.Contents.{Content, limit, Reply, Given}
 use Rattle.sum_sources.proofs.ContentLemmas.{limit-value, clip-short}
-use Rattle.sum_engine.specs.declared.settings.CheckSettings.{CheckSettings}
-use Rattle.sum_engine.specs.declared.settings.Report.{Report}
-use Rattle.sum_engine.specs.declared.settings.Report.TheVariants as reports
-use Rattle.sum_engine.specs.declared.summary.Counts.{Counts}
-use Rattle.sum_engine.specs.declared.verdict.Verdict.TheVariants.{Right}
-use Rattle.sum_engine.specs.Worlds.{World, reply, after, digest_or_fault}
 use Rattle.sum_engine.specs.Steps.{step_then}
-use Rattle.sum_engine.specs.Runs.{Run, outs, errs}
 use Rattle.sum_lines.specs.ParsedLines.{parse_line}
-use Rattle.sum_engine.specs.Verdicts.{Rules, Judged, digest_verdict, verdict_of, judge, verdicts, all_verdicts}
-use Rattle.sum_engine.specs.Reports.{no_counts, out_of, err_of, right_line, counts, unless_status, end_text, good}
 use Rattle.sum_sources.specs.ManifestLines.{past_line}
 use Rattle.sum_engine.specs.Checking.{line_steps, rules_of, content_run, check_run_by, check_run}
 use Rattle.sum_lines.proofs.ParsedLineLemmas.{says_is}
 use Rattle.sum_engine.proofs.ListedLemmas.{Item, written_text, Listed, prefix, spelled_for, ReadableSoFar, back, whole, lines-are}
 use Rattle.sum_engine.proofs.ManifestLemmas.{opening}
+use Rattle.sum_engine.specs.declared.settings.Report.TheVariants as reports
 
 -- ---- each verdict is Right
 

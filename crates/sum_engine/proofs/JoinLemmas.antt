@@ -1,16 +1,12 @@
 -- Steps of a new checker, one after another.
-use Rattle.std.proofs.Common.{rules, ◌≡◌, ℕ, zero, suc, ◌+◌, ◌≤◌, true, List, [], ◌∷◌, ◌++◌, length, take, drop, refl, ap, sym, ◌∙◌, ◌-◌, arith, length-drop}
-use Rattle.std.specs.List.{flat_map}
+use Rattle.std.proofs.Common.{rules, ◌≡◌, ℕ, zero, suc, ◌+◌, ◌≤◌, true, List, [], ◌∷◌, ◌++◌, length, take, drop, refl, ap, sym, ◌∙◌, ◌-◌, arith, length-drop, flat_map}
 use Rattle.std.proofs.lemmas.List.{take-append-drop}
 use Rattle.sum_sources.specs.Contents.{Content}
 use Rattle.sum_sources.specs.ManifestLines.{past_line}
-use Rattle.sum_lines.specs.declared.line_reading.Form.{Form}
+use Rattle.sum_engine.specs.Verdicts.{Form, lines_by, Rules, Judged, asks_of, verdicts, all_verdicts, judge}
 use Rattle.sum_lines.specs.Entries.{form}
 use Rattle.sum_lines.specs.ParsedLines.{parse_line}
-use Rattle.sum_engine.specs.Verdicts.{lines_by}
-use Rattle.sum_engine.specs.Worlds.{World, after}
-use Rattle.sum_engine.specs.Runs.{Run, outs, errs, asks}
-use Rattle.sum_engine.specs.Verdicts.{Rules, Judged, asks_of, verdicts, all_verdicts, judge}
+use Rattle.sum_engine.specs.Runs.{World, after, Run, outs, errs, asks}
 use Rattle.sum_engine.specs.Reports.{no_counts, out_of, err_of, counts, end_text}
 use Rattle.sum_engine.specs.Checking.{line_steps, content_run}
 use Rattle.sum_engine.specs.Moments.{RunState}

@@ -1,13 +1,10 @@
 -- A manifest of lines that were written for whole files: each line is read back.
-use Rattle.std.proofs.Common.{◌≡◌, ◌≢◌, ◌==◌, ℕ, ◌<◌, false, List, [], ◌∷◌, ◌++◌, length, map, refl, ap, sym, ◌∙◌, subst, ◌⊎◌, inl, IsTrue}
-use Rattle.std.specs.Prelude.{flat_map}
-use Rattle.std.specs.List.{All}
+use Rattle.std.proofs.Common.{◌≡◌, ◌≢◌, ◌==◌, ℕ, ◌<◌, false, List, [], ◌∷◌, ◌++◌, length, map, refl, ap, sym, ◌∙◌, subst, ◌⊎◌, inl, IsTrue, flat_map, All}
 use Rattle.std.specs.Str.Lines.{strip_carriage_return}
 use Rattle.std.proofs.lemmas.Bool.{ne_eqb}
 use Rattle.std.proofs.lemmas.List.{append-nil, append_cancel_right}
 use Rattle.std.proofs.lemmas.List.Elements.{All-nil, All-map, All-weaker}
-use Rattle.digest_kinds.specs.Kinds.{KindValue, has_len}
-use Rattle.digest_kinds.specs.Digests.{digest}
+use Rattle.digest_kinds.specs.Kinds.{KindValue, has_len, digest}
 use Rattle.digest_kinds.specs.declared.algo.Algos.{Algos}
 use Rattle.digest_kinds.proofs.DigestLemmas.{length-digest, IsBytes-digest}
 use Rattle.sum_lines.specs.declared.line_reading.Form.TheVariants.{Undecided, Standard}
@@ -17,12 +14,10 @@ use Rattle.sum_lines.specs.Lines.{line}
 use Rattle.sum_lines.specs.Entries.{Spelled, Entry, form}
 use Rattle.sum_lines.specs.LineLaws.{ReadBy, Writable}
 use Rattle.sum_lines.proofs.LineFormatLemmas.{prefix_of, read_back}
-use Rattle.sum_sources.specs.declared.fault.Ending.TheVariants.{Whole}
-use Rattle.sum_sources.specs.Contents.{Content, limit}
-use Rattle.sum_sources.specs.Sources.{Reply, Given}
+use Rattle.sum_engine.specs.Runs.{Whole, is_dash}
+use Rattle.sum_sources.specs.Contents.{Content, limit, Reply, Given}
 use Rattle.sum_sources.specs.ManifestLines.{NoNewline, lines, pieces}
 use Rattle.sum_sources.proofs.CutLemmas.{pieces-joined}
-use Rattle.sum_engine.specs.Worlds.{is_dash}
 use Rattle.sum_engine.specs.OldVerdicts.{NoReturn}
 use Rattle.sum_engine.proofs.ReturnLemmas.{strips-kept}
 

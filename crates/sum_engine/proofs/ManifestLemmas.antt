@@ -1,40 +1,27 @@
 -- A new checker that runs to its end, and one manifest that is asked and checked.
-use Rattle.std.proofs.Common.{rules, ◌++◌, ◌≡◌, ℕ, ◌||◌, Bool, true, false, List, [], ◌∷◌, Option, None, Some, Result, Ok, Err, cond, refl, sym, ◌∙◌, subst, codes}
-use Rattle.std.specs.Option.{option_map}
+use Rattle.std.proofs.Common.{rules, ◌++◌, ◌≡◌, ℕ, ◌||◌, Bool, true, false, List, [], ◌∷◌, Option, None, Some, Result, Ok, Err, cond, refl, sym, ◌∙◌, subst, codes, option_map, IfSome}
 use Rattle.std.proofs.Math.Bool.{or-false}
-use Rattle.sum_sources.specs.declared.fault.Fault.{Fault}
+use Rattle.sum_engine.specs.Runs.{Fault, World, is_dash, reply, after, Step, Run, events_of}
 use Rattle.sum_sources.specs.declared.source.OpenFault.{OpenFault}
-use Rattle.sum_sources.specs.declared.source.OpenFault.TheVariants as open_faults
-use Rattle.std.specs.Prelude.{IfSome}
-use Rattle.sum_sources.specs.Contents.{Content, InputState, WhereTold, clip}
+use Rattle.sum_sources.specs.Contents.{Content, InputState, WhereTold, clip, SourceState, Reply, Refused, Given, Telling, OpenOf, empty_content}
 use Rattle.sum_lines.specs.Sinks.{SinkState}
 use Rattle.sum_sources.proofs.ToldLemmas.{WhereTold-map}
-use Rattle.sum_sources.specs.Sources.{SourceState, Reply, Refused, Given, Telling, OpenOf}
 use Rattle.digest_kinds.specs.Limits.{one_more}
-use Rattle.sum_sources.specs.Standard.{empty_content}
 use Rattle.sum_lines.specs.declared.line_reading.Form.TheVariants.{Undecided}
 use Rattle.sum_lines.specs.Escape.{present}
-use Rattle.sum_engine.specs.declared.progress.Progress.{Progress}
-use Rattle.sum_engine.specs.declared.progress.Progress.TheVariants.{Going, Ended}
-use Rattle.sum_engine.specs.declared.settings.CheckSettings.{CheckSettings}
-use Rattle.sum_engine.specs.declared.stop.Stop.{Stop}
-use Rattle.sum_engine.specs.declared.stop.Stop.TheVariants.{Memory, Write}
-use Rattle.sum_engine.specs.Worlds.{World, is_dash, reply, after}
+use Rattle.sum_engine.specs.Steps.{Progress, Going, Ended, Now, now_by, StepGives, to_come, Place, now_of}
+use Rattle.sum_engine.specs.Verdicts.{CheckSettings, Rules, all_verdicts}
+use Rattle.sum_engine.specs.Moments.{Stop, Memory, Write, Moment, RunState, run_state, Did, RunOf}
 use Rattle.sum_engine.specs.refinement.Telling.{Hands}
-use Rattle.sum_engine.specs.Runs.{Step, Run, events_of}
 use Rattle.sum_engine.specs.Generation.{fault_line}
-use Rattle.sum_engine.specs.Verdicts.{Rules, all_verdicts}
 use Rattle.sum_engine.specs.Reports.{no_counts}
 use Rattle.sum_engine.specs.Checking.{rules_of, content_run, check_run_by, check_run}
-use Rattle.sum_engine.specs.Moments.{Moment, RunState, run_state}
 use Rattle.sum_engine.specs.refinement.Asking.{world_by, world_of}
-use Rattle.sum_engine.specs.RunStates.{Did, RunOf}
-use Rattle.sum_engine.specs.Steps.{Now, now_by, StepGives, to_come}
-use Rattle.sum_engine.specs.Checkers.{Place, now_of}
 use Rattle.sum_engine.proofs.WorldLemmas.{dash_asked}
 use Rattle.sum_engine.proofs.RunStateLemmas.{Runs, Writing, known_refused, names-by, err_alone}
 use Rattle.sum_engine.proofs.StepLemmas.{now-run_state}
 use Rattle.sum_engine.proofs.RunLemmas.{answered, once, unasked, Along, along_none, along_more, along_end, along_breaks, along_waits, behind_step}
+use Rattle.sum_sources.specs.declared.source.OpenFault.TheVariants as open_faults
 
 -- ---- a new checker, run to its end
 

@@ -1,31 +1,19 @@
 -- A manifest of the time of older versions is checked alike under both profiles.
-use Rattle.std.proofs.Common.{◌≡◌, ℕ, ◌+◌, ◌<◌, false, not, cond, List, [], ◌∷◌, length, map, refl, ap, sym, ◌∙◌, subst, codes, append_assoc, ◌++◌}
-use Rattle.std.specs.Prelude.{bytes_eq}
-use Rattle.std.specs.List.{All, concat, flat_map}
+use Rattle.std.proofs.Common.{◌≡◌, ℕ, ◌+◌, ◌<◌, false, not, cond, List, [], ◌∷◌, length, map, refl, ap, sym, ◌∙◌, subst, codes, append_assoc, ◌++◌, bytes_eq, All, flat_map}
+use Rattle.std.specs.List.{concat}
 use Rattle.std.proofs.lemmas.List.Elements.{All-nil, All-cons, All-head, All-tail}
-use Rattle.digest_kinds.specs.declared.algo.Algos.{Algos}
-use Rattle.sum_sources.specs.declared.fault.Ending.{Ending}
-use Rattle.sum_sources.specs.declared.fault.Ending.TheVariants.{Whole, Broken}
-use Rattle.sum_sources.specs.declared.fault.Fault.{Fault}
-use Rattle.sum_sources.specs.Contents.{Content, clip}
-use Rattle.sum_sources.specs.Sources.{Refused, Given}
+use Rattle.sum_engine.specs.Reports.{Algos, Counts, no_counts, name_line, verdict_line, is_hidden, out_of, err_by, err_of, counts, end_text, good}
+use Rattle.sum_engine.specs.Runs.{Ending, Whole, Broken, Fault, World, after, at_once}
+use Rattle.sum_sources.specs.Contents.{Content, clip, Refused, Given}
 use Rattle.sum_sources.specs.ManifestLines.{pieces, last_line, past_line, bytes_of_pieces}
 use Rattle.sum_sources.proofs.CutLemmas.{cut, pieces-joined}
-use Rattle.sum_lines.specs.declared.line_reading.Form.{Form}
+use Rattle.sum_engine.specs.Verdicts.{Form, Verdict, Bad, Right, Wrong, Unread, lines_by, Rules, Judged, judge, asks_of, verdicts, all_verdicts}
 use Rattle.sum_lines.specs.Shapes.{mark}
 use Rattle.sum_lines.specs.Entries.{form}
-use Rattle.sum_engine.specs.declared.summary.Counts.{Counts}
-use Rattle.sum_engine.specs.declared.verdict.Verdict.{Verdict}
-use Rattle.sum_engine.specs.declared.verdict.Verdict.TheVariants.{Bad, Right, Wrong, Unread}
 use Rattle.sum_lines.specs.Escape.{present}
-use Rattle.sum_engine.specs.Verdicts.{lines_by}
-use Rattle.sum_engine.specs.Worlds.{World, after}
 use Rattle.sum_engine.specs.Steps.{step_then}
-use Rattle.sum_engine.specs.Runs.{at_once}
 use Rattle.sum_lines.specs.ParsedLines.{ParsedLine, Nothing, Improper, WithEntry, parse_line}
-use Rattle.sum_engine.specs.Verdicts.{Rules, Judged, judge, asks_of, verdicts, all_verdicts}
 use Rattle.sum_engine.specs.Generation.{fault_line}
-use Rattle.sum_engine.specs.Reports.{no_counts, name_line, verdict_line, is_hidden, out_of, err_by, err_of, counts, end_text, good}
 use Rattle.sum_engine.specs.Checking.{line_steps, content_run}
 use Rattle.sum_engine.specs.OldVerdicts.{older, rules_under, NoReturn, NoEscapedReturn, Old, OldVerdicts, OldOutcomes, OlderDiffers}
 use Rattle.sum_lines.proofs.ParsedLineLemmas.{says_is}

@@ -1,20 +1,15 @@
 -- The verdicts and the run that are left, after one line and the next.
 use Rattle.std.proofs.Common.{rules, ◌≡◌, ℕ, zero, suc, ◌+◌, List, [], ◌∷◌, length, refl, ap, ◌∙◌}
 use Rattle.sum_sources.specs.Contents.{Content}
-use Rattle.sum_sources.specs.ManifestLines.{past_line}
+use Rattle.sum_sources.specs.ManifestLines.{past_line, past_lines}
 use Rattle.sum_lines.specs.Entries.{form, form_then, line_form}
 use Rattle.sum_lines.proofs.FormLemmas.{form_next, said_stays}
-use Rattle.sum_engine.specs.Worlds.{after}
-use Rattle.sum_engine.specs.Verdicts.{lines_by}
+use Rattle.sum_engine.specs.Runs.{after, Ending, Step, Run}
+use Rattle.sum_engine.specs.Verdicts.{lines_by, Rules, Judged, asks_of, verdicts}
 use Rattle.sum_lines.specs.ParsedLines.{parse_line}
-use Rattle.sum_engine.specs.Verdicts.{Rules, Judged, asks_of, verdicts}
-use Rattle.sum_engine.specs.declared.summary.Counts.{Counts}
-use Rattle.sum_sources.specs.declared.fault.Ending.{Ending}
-use Rattle.sum_engine.specs.Runs.{Step, Run}
-use Rattle.sum_engine.specs.Reports.{counts, out_of, err_of, end_text, good, counts_with}
+use Rattle.sum_engine.specs.Reports.{Counts, counts, out_of, err_of, end_text, good, counts_with}
 use Rattle.sum_engine.specs.Checking.{line_steps}
 use Rattle.sum_engine.specs.Steps.{step_then, Now, Moves, next_judged, rest_verdicts, to_come}
-use Rattle.sum_sources.specs.ManifestLines.{past_lines}
 
 -- what a line says by the form of all lines is what it says by the form so far and its own
 parse_line_now : (r : Rules) (a : Now) (l : List ℕ) (ls : List (List ℕ)) →

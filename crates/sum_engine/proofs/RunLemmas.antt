@@ -1,19 +1,13 @@
 -- Runs, one after another, and what a run's steps come to.
-use Rattle.std.proofs.Common.{rules, ◌≡◌, ℕ, Bool, List, [], ◌∷◌, ◌++◌, Option, Result, Ok, Err, refl, ap, sym, ◌∙◌, inl, append_assoc, append-nil}
-use Rattle.std.specs.Prelude.{flat_map, filter_map}
+use Rattle.std.proofs.Common.{rules, ◌≡◌, ℕ, Bool, List, [], ◌∷◌, ◌++◌, Option, Result, Ok, Err, refl, ap, sym, ◌∙◌, inl, append_assoc, append-nil, flat_map, filter_map}
 use Rattle.std.proofs.lemmas.Grind.{flat_map-append}
 use Rattle.std.proofs.lemmas.List.Elements.{filter_map-append}
-use Rattle.sum_sources.specs.Contents.{WhereTold}
-use Rattle.sum_sources.specs.Sources.{SourceState}
+use Rattle.sum_sources.specs.Contents.{WhereTold, SourceState}
 use Rattle.sum_sources.proofs.ToldLemmas.{WhereTold-map}
 use Rattle.sum_lines.specs.Sinks.{IsPrefix}
-use Rattle.sum_engine.specs.declared.stop.Stop.{Stop}
-use Rattle.sum_engine.specs.declared.stop.Stop.TheVariants.{Memory, Write}
-use Rattle.sum_engine.specs.Worlds.{World}
-use Rattle.sum_engine.specs.Moments.{Moment, RunState, run_state}
+use Rattle.sum_engine.specs.Moments.{Stop, Memory, Write, Moment, RunState, run_state, Did, RunOf}
+use Rattle.sum_engine.specs.Runs.{World, Event, Step, Run, events, events_of, at_once, name_in, err_in, out_in}
 use Rattle.sum_engine.specs.refinement.Asking.{world_of}
-use Rattle.sum_engine.specs.Runs.{Event, Step, Run, events, events_of, at_once, name_in, err_in, out_in}
-use Rattle.sum_engine.specs.RunStates.{Did, RunOf}
 use Rattle.sum_engine.specs.LineVerdicts.{OnlyRefused}
 use Rattle.sum_engine.specs.Steps.{GoesOn, Finishes, Breaks, Lacks}
 use Rattle.sum_engine.specs.Manifests.{EventsExtend}

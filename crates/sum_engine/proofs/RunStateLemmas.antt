@@ -1,28 +1,21 @@
 -- What happened at a run state, one thing after another; and moments whose run states tell or don't.
-use Rattle.std.proofs.Common.{rules, ◌≡◌, ℕ, ◌||◌, Bool, List, [], ◌∷◌, ◌++◌, map, Option, None, Some, Result, Ok, Err, refl, ap, ◌∙◌, inl, inr, append_assoc, append-nil}
-use Rattle.std.specs.Prelude.{filter_map}
+use Rattle.std.proofs.Common.{rules, ◌≡◌, ℕ, ◌||◌, Bool, List, [], ◌∷◌, ◌++◌, map, Option, None, Some, Result, Ok, Err, refl, ap, ◌∙◌, inl, inr, append_assoc, append-nil, filter_map, option_map}
 use Rattle.std.specs.List.{list_any}
-use Rattle.std.specs.Option.{option_map}
 use Rattle.std.specs.Io.KnownBytes.{Appends}
 use Rattle.std.proofs.KnownBytes.{Appends-nil, Appends-trans}
 use Rattle.std.proofs.Math.Bool.{or_assoc}
 use Rattle.std.proofs.lemmas.List.{map-append}
 use Rattle.std.proofs.lemmas.List.Elements.{filter_map-append}
 use Rattle.std.proofs.lemmas.List.Folds.{list_any-append}
-use Rattle.sum_sources.specs.Contents.{WhereTold}
-use Rattle.sum_sources.specs.Sources.{SourceState, Telling}
+use Rattle.sum_sources.specs.Contents.{WhereTold, SourceState, Telling, Content}
 use Rattle.digest_kinds.specs.Limits.{one_more}
 use Rattle.sum_lines.specs.Sinks.{SinkState, IsPrefix}
 use Rattle.sum_lines.specs.refinement.GrowingSinks.{AppendsPrefix}
-use Rattle.sum_engine.specs.Worlds.{World, is_dash, after}
-use Rattle.sum_engine.specs.Runs.{Run, Event, Opens, Tells, Puts, name_in, err_in, out_in}
+use Rattle.sum_engine.specs.Runs.{World, is_dash, after, Run, Event, Opens, Tells, Puts, name_in, err_in, out_in}
 use Rattle.sum_engine.specs.refinement.Telling.{Hands, HandsBoth}
 use Rattle.sum_lines.specs.PartsOfLines.{◌>>=◌}
-use Rattle.sum_sources.specs.Contents.{Content}
-use Rattle.sum_engine.specs.Moments.{Moment, RunState, run_state}
+use Rattle.sum_engine.specs.Moments.{Moment, RunState, run_state, Stop, Did, RunOf}
 use Rattle.sum_engine.specs.refinement.Asking.{world_by, world_of}
-use Rattle.sum_engine.specs.declared.stop.Stop.{Stop}
-use Rattle.sum_engine.specs.RunStates.{Did, RunOf}
 use Rattle.sum_engine.specs.LineVerdicts.{OnlyRefused}
 use Rattle.sum_engine.proofs.WorldLemmas.{after-append}
 

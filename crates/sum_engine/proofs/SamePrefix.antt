@@ -1,13 +1,12 @@
 -- What comes behind a line has no part in what the line says.
 use Rattle.std.proofs.Common.{rules, ◌≡◌, ℕ, suc, ◌+◌, List, [], ◌∷◌, ◌++◌, length, take, refl, ap, sym, ◌∙◌}
-use Rattle.sum_lines.specs.declared.line_reading.Form.{Form}
+use Rattle.sum_engine.specs.Verdicts.{Form, Rules, Judged, judge, asks_of, verdicts}
 use Rattle.sum_lines.specs.declared.line_reading.Form.TheVariants.{Undecided}
 use Rattle.sum_lines.specs.Entries.{form, form_then, line_form}
-use Rattle.sum_engine.specs.Worlds.{World, after}
+use Rattle.sum_engine.specs.Runs.{World, after}
 use Rattle.sum_lines.specs.Escape.{Profile}
 use Rattle.sum_lines.specs.ParsedLines.{ParsedLine, Nothing, Improper, WithEntry, parse_line}
-use Rattle.sum_engine.specs.Verdicts.{Rules, Judged, judge, asks_of, verdicts}
-use Rattle.sum_engine.specs.CheckingLaws.{SameVerdicts}
+use Rattle.sum_engine.specs.Manifests.{SameVerdicts}
 use Rattle.sum_lines.proofs.FormLemmas.{form_next, said_stays}
 
 -- the verdicts of the first lines, by the form so far

@@ -1,36 +1,25 @@
 -- Where a checker stands, and one step of it by what it found.
-use Rattle.std.proofs.Common.{◌≡◌, ℕ, ◌+◌, ◌≤◌, ◌<◌, Bool, List, [], ◌∷◌, length, Option, None, Some, Ok, Err, refl, ap, sym, inl, inr, ◌∙◌, subst, rules}
-use Rattle.std.specs.Option.{option_map}
+use Rattle.std.proofs.Common.{◌≡◌, ℕ, ◌+◌, ◌≤◌, ◌<◌, Bool, List, [], ◌∷◌, length, Option, None, Some, Ok, Err, refl, ap, sym, inl, inr, ◌∙◌, subst, rules, option_map}
 use Rattle.sum_sources.specs.declared.lines.Next.TheVariants.{Line}
-use Rattle.sum_sources.specs.declared.lines.LineStop.TheVariants as line_stops
 use Rattle.sum_sources.specs.declared.lines.LineReader.{LineReader}
-use Rattle.sum_sources.specs.declared.fault.Ending.{Ending}
-use Rattle.sum_sources.specs.Contents.{Content, InputState, WhereTold}
-use Rattle.sum_sources.specs.Sources.{SourceState}
+use Rattle.sum_engine.specs.Runs.{Ending, World, Step, events_of}
+use Rattle.sum_sources.specs.Contents.{Content, InputState, WhereTold, SourceState}
 use Rattle.sum_sources.specs.ManifestLines.{LineOf, lines}
 use Rattle.sum_sources.specs.LineReaders.{coming, used}
 use Rattle.sum_lines.specs.Sinks.{SinkState}
 use Rattle.sum_lines.specs.Escape.{Profile, present}
-use Rattle.sum_engine.specs.declared.settings.Report.{Report}
-use Rattle.sum_engine.specs.declared.settings.Report.TheVariants as reports
-use Rattle.sum_engine.specs.declared.verdict.Verdict.TheVariants.{Ignored}
-use Rattle.sum_engine.specs.Checkers.{Place, now_of}
-use Rattle.sum_engine.specs.declared.progress.Progress.TheVariants.{Going, Ended}
-use Rattle.sum_engine.specs.declared.stop.Stop.TheVariants.{Memory}
-use Rattle.sum_engine.specs.declared.verdict.LineVerdict.{LineVerdict}
-use Rattle.sum_engine.specs.Worlds.{World}
-use Rattle.sum_engine.specs.Verdicts.{lines_by}
-use Rattle.sum_engine.specs.Runs.{Step, events_of}
-use Rattle.sum_engine.specs.Verdicts.{Rules, asks_of}
-use Rattle.sum_engine.specs.Reports.{err_by, end_text, good, counts_with}
-use Rattle.sum_engine.specs.Moments.{Moment, RunState, HoldNothing, run_state}
-use Rattle.sum_engine.specs.Steps.{Now, now_by, step_then, Moves, StepOf, StepGives, next_judged, rest_verdicts, to_come}
-use Rattle.sum_engine.specs.LineVerdicts.{judged_in, FindGives, FindsNone}
+use Rattle.sum_engine.specs.Reports.{Report, err_by, end_text, good, counts_with}
+use Rattle.sum_engine.specs.Verdicts.{Ignored, lines_by, Rules, asks_of}
+use Rattle.sum_engine.specs.Steps.{Place, now_of, Going, Ended, Now, now_by, step_then, Moves, StepOf, StepGives, next_judged, rest_verdicts, to_come}
+use Rattle.sum_engine.specs.Moments.{Memory, Moment, RunState, HoldNothing, run_state}
+use Rattle.sum_engine.specs.LineVerdicts.{LineVerdict, judged_in, FindGives, FindsNone}
 use Rattle.sum_engine.specs.refinement.Judging.{TakesLine}
 use Rattle.sum_engine.specs.refinement.Telling.{HandsOn, out_by, HandsBoth}
 use Rattle.sum_engine.proofs.RunStateLemmas.{Asks, Writing, Came, known, asks_by, asks_none, came_by, err_alone}
 use Rattle.sum_engine.proofs.RunLemmas.{answered}
 use Rattle.sum_engine.proofs.RestLemmas.{line_step, run_by, first_step, found_first}
+use Rattle.sum_sources.specs.declared.lines.LineStop.TheVariants as line_stops
+use Rattle.sum_engine.specs.declared.settings.Report.TheVariants as reports
 
 -- ---- where a checker stands
 

@@ -1,21 +1,16 @@
 -- The verdict of an entry, by what came of asking its name.
-use Rattle.std.proofs.Common.{rules, ◌≡◌, ℕ, ◌&&◌, Bool, true, false, cond, List, [], ◌∷◌, Option, Some, refl}
-use Rattle.std.specs.Str.{bytes_eq}
+use Rattle.std.proofs.Common.{rules, ◌≡◌, ℕ, ◌&&◌, Bool, true, false, cond, List, [], ◌∷◌, Option, Some, refl, bytes_eq}
 use Rattle.std.proofs.Math.Bool.{and-false, and-true}
 use Rattle.digest_kinds.specs.Kinds.{KindValue}
 use Rattle.sum_sources.specs.declared.fault.Fault.TheVariants.{NotFound}
-use Rattle.sum_sources.specs.Contents.{WhereTold}
-use Rattle.sum_sources.specs.Sources.{Reply}
+use Rattle.sum_sources.specs.Contents.{WhereTold, Reply}
 use Rattle.sum_lines.specs.Entries.{Spelled}
-use Rattle.sum_engine.specs.declared.asking.Asked.{Asked}
-use Rattle.sum_engine.specs.declared.asking.Asked.TheVariants as asked
-use Rattle.sum_engine.specs.declared.verdict.Verdict.{Verdict}
-use Rattle.sum_engine.specs.declared.verdict.Verdict.TheVariants.{Right, Wrong, Missing, Unread}
-use Rattle.sum_engine.specs.Worlds.{World, is_dash, reply, digest_or_fault}
+use Rattle.sum_engine.specs.refinement.Asking.{Asked, AskGives, IsAsked}
+use Rattle.sum_engine.specs.Verdicts.{Verdict, Right, Wrong, Missing, Unread, Rules, verdict_of, not_found, digest_verdict, asks_by}
+use Rattle.sum_engine.specs.Runs.{World, is_dash, reply, digest_or_fault}
 use Rattle.sum_lines.specs.ParsedLines.{WithEntry}
-use Rattle.sum_engine.specs.Verdicts.{Rules, verdict_of, not_found, digest_verdict, asks_by}
-use Rattle.sum_engine.specs.refinement.Asking.{AskGives, IsAsked}
 use Rattle.sum_engine.specs.refinement.Judging.{IsJudged, compared}
+use Rattle.sum_engine.specs.declared.asking.Asked.TheVariants as asked
 
 -- a reply against the line's digest
 abbrev verdict_by : Bool → KindValue → List ℕ → Reply → Verdict

@@ -1,14 +1,11 @@
 -- What checking one manifest comes to.
 use Rattle.std.specs.Prelude.{ℕ, true, false, List, [], ◌∷◌, length, codes, if◌then◌else◌}
-use Rattle.sum_sources.specs.Contents.{Content, clip}
-use Rattle.sum_sources.specs.Sources.{Reply, Refused, Given}
+use Rattle.sum_sources.specs.Contents.{Content, clip, Reply, Refused, Given}
 use Rattle.sum_sources.specs.ManifestLines.{past_line}
-use Rattle.sum_engine.specs.declared.settings.CheckSettings.{CheckSettings}
-use Rattle.sum_engine.specs.Worlds.{World, is_dash, reply, after}
-use Rattle.sum_engine.specs.Runs.{run_then, Step, Run, at_once}
+use Rattle.sum_engine.specs.Verdicts.{CheckSettings, Rules, Judged, asks_of, all_verdicts}
+use Rattle.sum_engine.specs.Runs.{World, is_dash, reply, after, run_then, Step, Run, at_once}
 use Rattle.sum_lines.specs.Escape.{present}
 use Rattle.sum_engine.specs.Generation.{fault_line}
-use Rattle.sum_engine.specs.Verdicts.{Rules, Judged, asks_of, all_verdicts}
 use Rattle.sum_engine.specs.Reports.{no_counts, out_of, err_of, counts, end_text, good}
 
 abbrev pub rules_of : CheckSettings → List ℕ → List ℕ → Rules

@@ -1,12 +1,10 @@
 -- What hashing one name comes to.
 use Rattle.std.specs.Prelude.{ℕ, true, false, List, [], ◌∷◌, codes, Result, Ok, Err}
 use Rattle.std.specs.List.{concat}
-use Rattle.sum_sources.specs.declared.fault.Fault.{Fault}
-use Rattle.sum_sources.specs.Faults.{fault_text}
+use Rattle.sum_engine.specs.Runs.{Fault, World, reply, digest_or_fault, Run, at_once}
+use Rattle.sum_sources.specs.Contents.{fault_text}
 use Rattle.sum_lines.specs.Lines.{line}
-use Rattle.sum_engine.specs.declared.settings.Settings.{Settings}
-use Rattle.sum_engine.specs.Worlds.{World, reply, digest_or_fault}
-use Rattle.sum_engine.specs.Runs.{Run, at_once}
+pub use Rattle.sum_engine.specs.declared.settings.Settings.{Settings}
 use Rattle.sum_lines.specs.Escape.{Profile, present, escape_by}
 
 -- TOOL: NAME: TEXT

@@ -1,15 +1,11 @@
-pub mod Worlds
 pub mod Runs
 pub mod Generation
 pub mod Verdicts
 pub mod Reports
 pub mod Checking
 pub mod Moments
-pub mod RunStates
 pub mod Steps
-pub mod Checkers
 pub mod LineVerdicts
 pub mod Manifests
-pub mod CheckingLaws
 pub mod OldVerdicts
 pub mod refinement

@@ -1,25 +1,17 @@
 -- What judging the lines of a manifest gives, one after the other, with no text written.
-use Rattle.std.specs.Prelude.{ℕ, ◌≡◌, ◌≤◌, ◌<◌, ◌⊎◌, List, [], ◌∷◌, map, length, slice_range, Bool, true, false, is_none}
-use Rattle.std.specs.Prelude.{Option, None, Some, Result, Ok, Err}
-use Rattle.sum_sources.specs.declared.fault.Ending.{Ending}
-use Rattle.sum_sources.specs.declared.fault.Ending.TheVariants.{Whole, Broken}
-use Rattle.sum_sources.specs.declared.lines.LineStop.{LineStop}
+use Rattle.std.specs.Prelude.{ℕ, ◌≡◌, ◌≤◌, ◌<◌, ◌⊎◌, List, [], ◌∷◌, map, length, slice_range, Bool, true, false, is_none, Option, None, Some, Result, Ok, Err}
+use Rattle.sum_engine.specs.Runs.{Ending, Whole, Broken, Opens}
+pub use Rattle.sum_sources.specs.declared.lines.LineStop.{LineStop}
 use Rattle.sum_sources.specs.declared.lines.LineStop.TheVariants.{Fault, Memory}
-use Rattle.sum_sources.specs.Contents.{InputState, WhereTold}
-use Rattle.sum_sources.specs.Standard.{left_in}
+use Rattle.sum_sources.specs.Contents.{InputState, WhereTold, left_in}
 use Rattle.sum_lines.specs.Sinks.{SinkState}
 use Rattle.digest_kinds.specs.Limits.{one_more}
-use Rattle.sum_engine.specs.Moments.{Moment, RunState}
-use Rattle.sum_engine.specs.declared.progress.Progress.{Progress}
-use Rattle.sum_engine.specs.declared.progress.Progress.TheVariants.{Going, Ended}
-use Rattle.sum_engine.specs.declared.stop.Stop.{Stop}
-use Rattle.sum_engine.specs.declared.stop.Stop.TheVariants as stops
-use Rattle.sum_engine.specs.declared.verdict.LineVerdict.{LineVerdict}
-use Rattle.sum_engine.specs.Runs.{Opens}
+use Rattle.sum_engine.specs.Moments.{Moment, RunState, Stop, Did}
+use Rattle.sum_engine.specs.Steps.{Progress, Going, Ended, Now, Moves, rest_verdicts}
+pub use Rattle.sum_engine.specs.declared.verdict.LineVerdict.{LineVerdict}
 use Rattle.sum_engine.specs.Verdicts.{Rules, Judged, asks_of}
 use Rattle.sum_engine.specs.Reports.{counts_with}
-use Rattle.sum_engine.specs.RunStates.{Did}
-use Rattle.sum_engine.specs.Steps.{Now, Moves, rest_verdicts}
+use Rattle.sum_engine.specs.declared.stop.Stop.TheVariants as stops
 
 -- what is answered where the next verdict is asked for
 abbrev pub Found : Type 0

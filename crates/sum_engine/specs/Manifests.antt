@@ -1,20 +1,18 @@
--- What a checker's steps come to: a whole manifest.
-use Rattle.std.specs.Prelude.{ℕ, zero, suc, ◌≡◌, ◌+◌, ◌≤◌, Bool, true, List, take, drop, length, flat_map, Option, Result, IfSome}
+-- What a checker's steps come to: a whole manifest. And the laws of what comes first, and of the end.
+use Rattle.std.specs.Prelude.{ℕ, zero, suc, ◌≡◌, ◌+◌, ◌≤◌, Bool, true, List, take, drop, length, flat_map, Option, Result, IfSome, ◌++◌, None, Ok, Err}
 use Rattle.std.specs.Io.KnownBytes.{Appends}
-use Rattle.sum_sources.specs.Contents.{Content, WhereTold}
-use Rattle.sum_sources.specs.Sources.{SourceState}
+use Rattle.sum_sources.specs.Contents.{Content, WhereTold, SourceState}
 use Rattle.sum_sources.specs.ManifestLines.{past_lines}
 use Rattle.sum_lines.specs.Sinks.{IsPrefix}
-use Rattle.sum_engine.specs.declared.stop.Stop.{Stop}
-use Rattle.sum_engine.specs.Worlds.{after}
-use Rattle.sum_engine.specs.Verdicts.{lines_by}
-use Rattle.sum_engine.specs.Runs.{Event, Run, events, outs, errs, asks}
-use Rattle.sum_engine.specs.Verdicts.{Rules, Judged, asks_of, all_verdicts}
+use Rattle.sum_engine.specs.Moments.{Stop, Moment, HoldNothing, RunState, run_state, Did, RunOf}
+use Rattle.sum_engine.specs.Runs.{after, Event, Run, events, outs, errs, asks, Ending, Whole, Broken, World}
+use Rattle.sum_engine.specs.Verdicts.{lines_by, Rules, Judged, asks_of, all_verdicts, verdicts}
 use Rattle.sum_engine.specs.Reports.{out_of, err_of}
 use Rattle.sum_engine.specs.Checking.{line_steps, content_run}
-use Rattle.sum_engine.specs.Moments.{Moment, HoldNothing, RunState, run_state}
-use Rattle.sum_engine.specs.RunStates.{Did, RunOf}
 use Rattle.sum_engine.specs.Steps.{Now, Moves, GoesOn, Finishes, Breaks, to_come, at_start}
+use Rattle.sum_engine.specs.LineVerdicts.{LineStop, LineVerdict, FindsNone, FindOf}
+use Rattle.sum_sources.specs.declared.lines.LineStop.TheVariants.{Fault}
+use Rattle.sum_lines.specs.Entries.{form}
 
 -- a new checker that was run to its end, from outputs that held nothing
 abbrev pub ManifestGives :
@@ -73,3 +71,21 @@ StepsCut = (r : Rules) (c : Content) (s : RunState) (b : Now) (z : RunState) (k 
     → HandledTimes r (at_start c s) b k → Breaks (to_come r b) b.run_state z
     → (let es = events (content_run r c (all_verdicts r s.world c)).steps in
     (prefix : List Event) × IsPrefix prefix es × Did s z prefix)
+
+-- what comes behind some lines has no part in their verdicts, whatever was asked before; nor has the name of the
+-- manifest, where both or neither came from standard input
+abbrev pub SameVerdicts : Type 0
+SameVerdicts = (r : Rules) (other : List ℕ) (w : World) (prefix later others : List (List ℕ)) →
+    take (length prefix) (verdicts r (form r.settings.algos (prefix ++ later)) w 0 (prefix ++ later))
+    ≡ take (length prefix)
+    (verdicts (record r { shown = other }) (form r.settings.algos (prefix ++ others)) w 0 (prefix ++ others))
+
+-- what is answered where no verdict is left and the manifest ends so
+abbrev pub ended_by : Ending → Result (Option LineVerdict) LineStop
+ended_by Whole = Ok None
+ended_by (Broken f) = Err (Fault f)
+
+-- once that was answered, it is answered again
+abbrev pub EndStays : Type 0
+EndStays = (r : Rules) (e : Ending) (vector : List ℕ) (a b c : Now) (x : Result (Option LineVerdict) LineStop)
+    → FindsNone r e a b → FindOf r vector b c x → x ≡ ended_by e

@@ -1,21 +1,14 @@
 -- What the law of old verdicts says: a manifest of the time of older versions is checked alike under both profiles.
-use Rattle.std.specs.Prelude.{ℕ, ◌≡◌, ◌≢◌, ◌<◌, ◌⊎◌, true, false, List, [], ◌∷◌, ◌++◌, length, map, codes}
-use Rattle.std.specs.List.{All}
+use Rattle.std.specs.Prelude.{ℕ, ◌≡◌, ◌≢◌, ◌<◌, ◌⊎◌, true, false, List, [], ◌∷◌, ◌++◌, length, map, codes, All}
 use Rattle.digest_kinds.specs.Kinds.{KindValue}
-use Rattle.digest_kinds.specs.declared.algo.Algos.{Algos}
-use Rattle.sum_sources.specs.declared.fault.Ending.TheVariants.{Whole}
-use Rattle.sum_sources.specs.Contents.{Content, clip}
-use Rattle.sum_sources.specs.Sources.{Reply, Given}
+use Rattle.sum_engine.specs.Reports.{Algos, no_counts, out_of, err_of, counts, end_text, good}
+use Rattle.sum_engine.specs.Runs.{Whole, World}
+use Rattle.sum_sources.specs.Contents.{Content, clip, Reply, Given}
 use Rattle.sum_sources.specs.ManifestLines.{pieces}
-use Rattle.sum_lines.specs.declared.line_reading.Form.{Form}
-use Rattle.sum_lines.specs.Escape.{Profile, present, escape}
+use Rattle.sum_engine.specs.Verdicts.{Form, lines_by, Rules, all_verdicts}
+use Rattle.sum_lines.specs.Escape.{Profile, present, escape, escape_by}
 use Rattle.sum_lines.specs.Shapes.{Plain, Tagged}
-use Rattle.sum_lines.specs.Escape.{escape_by}
-use Rattle.sum_engine.specs.Verdicts.{lines_by}
-use Rattle.sum_engine.specs.Worlds.{World}
 use Rattle.sum_lines.specs.ParsedLines.{Improper, parse_line}
-use Rattle.sum_engine.specs.Verdicts.{Rules, all_verdicts}
-use Rattle.sum_engine.specs.Reports.{no_counts, out_of, err_of, counts, end_text, good}
 use Rattle.sum_engine.specs.Checking.{check_run_by}
 
 -- the profile of older versions

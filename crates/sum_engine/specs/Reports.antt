@@ -1,20 +1,16 @@
 -- What checking writes: the reports of the lines, and the end of a manifest.
 use Rattle.std.specs.Prelude.{ℕ, ◌+◌, ◌==◌, ◌&&◌, ◌||◌, Bool, true, false, not, List, [], ◌∷◌, ◌++◌, decimal, codes, fold, if◌then◌else◌}
 use Rattle.std.specs.List.{concat}
-use Rattle.digest_kinds.specs.declared.algo.Algos.{Algos}
-use Rattle.digest_kinds.specs.declared.algo.Algos.TheVariants.{One, Any}
+pub use Rattle.digest_kinds.specs.declared.algo.Algos.{Algos}
+use Rattle.sum_lines.specs.Shapes.{One, Any, mark}
 use Rattle.digest_kinds.specs.Kinds.{tag}
-use Rattle.sum_sources.specs.declared.fault.Ending.{Ending}
-use Rattle.sum_sources.specs.declared.fault.Ending.TheVariants.{Whole, Broken}
-use Rattle.sum_lines.specs.Shapes.{mark}
-use Rattle.sum_engine.specs.declared.settings.Report.{Report}
+use Rattle.sum_engine.specs.Runs.{Ending, Whole, Broken}
+pub use Rattle.sum_engine.specs.declared.settings.Report.{Report}
 use Rattle.sum_engine.specs.declared.settings.Report.TheVariants.{Quiet, Warn, Status}
-use Rattle.sum_engine.specs.declared.summary.Counts.{Counts}
-use Rattle.sum_engine.specs.declared.verdict.Verdict.{Verdict}
-use Rattle.sum_engine.specs.declared.verdict.Verdict.TheVariants.{Ignored, Bad, Right, Wrong, Missing, Unread}
+pub use Rattle.sum_engine.specs.declared.summary.Counts.{Counts}
+use Rattle.sum_engine.specs.Verdicts.{Verdict, Ignored, Bad, Right, Wrong, Missing, Unread, Rules, Judged}
 use Rattle.sum_lines.specs.Escape.{Profile, present, escape_by, escape_differs}
 use Rattle.sum_engine.specs.Generation.{tool_line, fault_line}
-use Rattle.sum_engine.specs.Verdicts.{Rules, Judged}
 
 -- NAME: TEXT, where a backslash stands before a name that its escape changes
 abbrev pub name_line : Profile → List ℕ → List ℕ → List ℕ

@@ -1,19 +1,16 @@
 -- The verdicts of a manifest's lines.
-use Rattle.std.specs.Prelude.{ℕ, ◌+◌, ◌&&◌, Bool, true, false, List, [], ◌∷◌, Result, Ok, Err, if◌then◌else◌}
-use Rattle.std.specs.Str.{bytes_eq}
-use Rattle.sum_sources.specs.declared.fault.Fault.{Fault}
+use Rattle.std.specs.Prelude.{ℕ, ◌+◌, ◌&&◌, Bool, true, false, List, [], ◌∷◌, Result, Ok, Err, if◌then◌else◌, bytes_eq}
+use Rattle.sum_engine.specs.Runs.{Fault, World, is_dash, reply, after, digest_or_fault}
 use Rattle.sum_sources.specs.declared.fault.Fault.TheVariants.{NotFound}
-use Rattle.sum_sources.specs.Contents.{Content}
+use Rattle.sum_sources.specs.Contents.{Content, Reply, Refused}
 use Rattle.sum_sources.specs.ManifestLines.{lines, pieces}
-use Rattle.sum_sources.specs.Sources.{Reply, Refused}
-use Rattle.sum_lines.specs.declared.line_reading.Form.{Form}
+pub use Rattle.sum_lines.specs.declared.line_reading.Form.{Form}
 use Rattle.sum_lines.specs.Entries.{Spelled, form}
-use Rattle.sum_engine.specs.declared.settings.CheckSettings.{CheckSettings}
-use Rattle.sum_engine.specs.declared.verdict.Verdict.{Verdict}
-use Rattle.sum_engine.specs.declared.verdict.Verdict.TheVariants.{Ignored, Bad, Right, Wrong, Missing, Unread}
+pub use Rattle.sum_engine.specs.declared.settings.CheckSettings.{CheckSettings}
+pub use Rattle.sum_engine.specs.declared.verdict.Verdict.{Verdict}
+pub use Rattle.sum_engine.specs.declared.verdict.Verdict.TheVariants.{Ignored, Bad, Right, Wrong, Missing, Unread}
 use Rattle.sum_lines.specs.Escape.{Profile}
 use Rattle.sum_lines.specs.ParsedLines.{ParsedLine, Nothing, Improper, WithEntry, parse_line}
-use Rattle.sum_engine.specs.Worlds.{World, is_dash, reply, after, digest_or_fault}
 
 -- what a manifest is checked by, the name under which it is shown, and whether it came from standard input
 pub record Rules : Type 0 where

@@ -1,6 +1,6 @@
 //! Asking one name.
 ghost use Rattle.std.specs.Prelude.{◌≡◌, ◌||◌, [], IfNone, IfSome, is_none};
-ghost use Rattle.sum_engine.specs.Worlds.{is_dash};
+ghost use Rattle.sum_engine.specs.Runs.{is_dash};
 ghost use Rattle.sum_engine.specs.LineVerdicts.{asking};
 
 use digest_kinds::{AnyHasher, Digest, Hasher, Kind};

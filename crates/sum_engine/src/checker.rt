@@ -27,7 +27,7 @@ impl<'a, I> Model for Checker<'a, I> {
     ghost use Rattle.std.specs.Prelude.{Result};
     ghost use Rattle.sum_engine.specs.declared.progress.Progress.{Progress};
     ghost use Rattle.sum_engine.specs.declared.stop.Stop.{Stop};
-    ghost use Rattle.sum_engine.specs.Checkers.{Checking};
+    ghost use Rattle.sum_engine.specs.Steps.{Checking};
 
     ghost Value = { Checking I (Result Progress Stop) };
 
@@ -39,7 +39,7 @@ impl<'a, I> Model for Checker<'a, I> {
 impl<'a, I: Input> Checker<'a, I> {
     ghost use Rattle.sum_sources.specs.LineReaders.{coming};
     ghost use Rattle.sum_engine.specs.Moments.{HoldNothing, Failures, Untouched};
-    ghost use Rattle.sum_engine.specs.Checkers.{Begins, again_after, StepsTo, Reads};
+    ghost use Rattle.sum_engine.specs.Steps.{Begins, again_after, StepsTo, Reads};
     ghost use Rattle.sum_engine.specs.refinement.Positions.{rules_in};
 
     /// A checker of the manifest that `input` gives. Its diagnostics begin with `tool`, as with `md5sum`, and call the

@@ -1,12 +1,11 @@
 //! Hashing one name.
 ghost use Rattle.std.specs.Prelude.{◌≡◌, ◌||◌, Err, OnOk, length};
-ghost use Rattle.sum_engine.specs.Worlds.{is_dash};
+ghost use Rattle.sum_engine.specs.Runs.{is_dash};
 ghost use Rattle.sum_lines.specs.Lines.{line};
 ghost use Rattle.sum_engine.specs.Generation.{generate_run};
 ghost use Rattle.sum_engine.specs.refinement.Telling.{HandsOn};
 ghost use Rattle.digest_kinds.specs.Limits.{one_more};
-ghost use Rattle.sum_engine.specs.Moments.{HoldNothing, Failures, Refusals, Untouched};
-ghost use Rattle.sum_engine.specs.RunStates.{RunsTo};
+ghost use Rattle.sum_engine.specs.Moments.{HoldNothing, Failures, Refusals, Untouched, RunsTo};
 
 use crate::asking::{Asked, ask};
 use crate::report::put_fault_line;

@@ -1,5 +1,5 @@
 //! Laws over whole checks: what the steps of a [`Checker`](crate::Checker) come to together.
-ghost use Rattle.sum_engine.specs.CheckingLaws.{SameVerdicts, EndStays};
+ghost use Rattle.sum_engine.specs.Manifests.{SameVerdicts, EndStays};
 ghost use Rattle.sum_engine.specs.OldVerdicts.{OldVerdicts, OldOutcomes, OlderDiffers};
 ghost use Rattle.sum_engine.specs.Manifests.{StepsJoin, StepsEnd, StepsCut, StepsReport, EventsExtend};
 

@@ -4,8 +4,7 @@ ghost use Rattle.sum_sources.specs.Contents.{clip};
 ghost use Rattle.sum_engine.specs.Checking.{check_run};
 ghost use Rattle.std.specs.Prelude.{◌≡◌, ◌⊎◌};
 ghost use Rattle.digest_kinds.specs.Limits.{one_more};
-ghost use Rattle.sum_engine.specs.Moments.{HoldNothing, Failures, Refusals, Accounts};
-ghost use Rattle.sum_engine.specs.RunStates.{RunsTo};
+ghost use Rattle.sum_engine.specs.Moments.{HoldNothing, Failures, Refusals, Accounts, RunsTo};
 ghost use Rattle.sum_engine.specs.Manifests.{ManifestGives};
 ghost use Rattle.sum_engine.specs.refinement.Positions.{rules_in};
 

@@ -32,18 +32,16 @@ impl<'a, I: Input> Position<'a, I> {
     ghost use Rattle.sum_sources.specs.Contents.{WhereTold};
     ghost use Rattle.sum_sources.specs.LineReaders.{coming};
     ghost use Rattle.sum_engine.specs.Moments.{run_state, HoldNothing, Failures, Untouched};
-    ghost use Rattle.sum_engine.specs.Steps.{WantsMemory};
-    ghost use Rattle.sum_engine.specs.Checkers.{Begins, now_of, StepsTo, Reads};
+    ghost use Rattle.sum_engine.specs.Steps.{WantsMemory, Begins, now_of, StepsTo, Reads};
     ghost use Rattle.sum_sources.specs.declared.fault.Ending.TheVariants.{Whole};
     ghost use Rattle.sum_engine.specs.Reports.{good};
     ghost use Rattle.std.specs.List.{list_any};
-    ghost use Rattle.sum_engine.specs.Worlds.{is_dash};
+    ghost use Rattle.sum_engine.specs.Runs.{is_dash};
     ghost use Rattle.sum_engine.specs.Verdicts.{asks_of};
     ghost use Rattle.sum_engine.specs.refinement.Asking.{RefusedUnless, world_of};
     ghost use Rattle.sum_engine.specs.LineVerdicts.{judged_in, Names, FindGives, progress_of, asking};
     ghost use Rattle.sum_engine.specs.refinement.Judging.{TakesLine, JudgeLineOf};
-    ghost use Rattle.sum_engine.specs.refinement.Positions.{rules_in};
-    ghost use Rattle.sum_engine.specs.refinement.Positions.{place_of};
+    ghost use Rattle.sum_engine.specs.refinement.Positions.{rules_in, place_of};
 
     /// In front of the first line of the manifest that `input` gives.
     pub(crate) fn new(listing: Listing<'a>, input: I) -> Self

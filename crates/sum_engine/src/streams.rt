@@ -18,7 +18,7 @@ pub struct Streams<I: Input, S, O: Sink, E: Sink> {
 
 impl<I: Input, S, O: Sink, E: Sink> Model for Streams<I, S, O, E> {
     ghost use Rattle.std.specs.Prelude.{is_none};
-    ghost use Rattle.sum_sources.specs.Standard.{left_in};
+    ghost use Rattle.sum_sources.specs.Contents.{left_in};
     ghost use Rattle.sum_engine.specs.Moments.{Moment};
 
     ghost Value = { Moment S };

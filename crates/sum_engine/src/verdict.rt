@@ -1,7 +1,7 @@
 //! The verdict of a line.
 ghost use Rattle.std.specs.Prelude.{◌≡◌, ◌||◌, MatchOption, is_none};
 ghost use Rattle.std.specs.List.{list_any};
-ghost use Rattle.sum_engine.specs.Worlds.{is_dash};
+ghost use Rattle.sum_engine.specs.Runs.{is_dash};
 ghost use Rattle.sum_engine.specs.Verdicts.{asks_by};
 ghost use Rattle.sum_lines.specs.ParsedLines.{WithEntry};
 ghost use Rattle.sum_engine.specs.LineVerdicts.{asking};

@@ -26,7 +26,7 @@ pub struct Verdicts<I> {
 }
 
 impl<I> Model for Verdicts<I> {
-    ghost use Rattle.sum_engine.specs.Checkers.{Checking};
+    ghost use Rattle.sum_engine.specs.Steps.{Checking};
     ghost use Rattle.sum_engine.specs.LineVerdicts.{Found};
 
     ghost Value = { Checking I Found };
@@ -41,7 +41,7 @@ impl<I: Input> Verdicts<I> {
     ghost use Rattle.sum_sources.specs.LineReaders.{coming};
     ghost use Rattle.sum_engine.specs.Reports.{good};
     ghost use Rattle.sum_engine.specs.Moments.{run_state};
-    ghost use Rattle.sum_engine.specs.Checkers.{Begins, now_of, Reads};
+    ghost use Rattle.sum_engine.specs.Steps.{Begins, now_of, Reads};
     ghost use Rattle.sum_engine.specs.LineVerdicts.{asking, Names, FindGives, progress_of, again_found, is_whole};
 
     /// In front of the first line of the manifest that `input` gives; `from_stdin` says whether it came from standard

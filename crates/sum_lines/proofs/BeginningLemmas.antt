@@ -6,8 +6,7 @@ use Rattle.std.proofs.lemmas.Bool.{lt-ltb, false_from_ne_true}
 use Rattle.std.proofs.lemmas.List.{get_or-take, length-take}
 use Rattle.std.proofs.lemmas.List.Sums.{passes_at_first, position_or_len_is}
 use Rattle.memchr.specs.Find.{IsFirstByte, is_byte2}
-use Rattle.digest_kinds.specs.declared.algo.Algo.{Algo}
-use Rattle.sum_lines.specs.Shapes.{is_blank}
+use Rattle.sum_lines.specs.Shapes.{Algo, is_blank, Algos, One}
 use Rattle.sum_lines.specs.PartsOfLines.{after_while, mark_and_rest, plain_parts, tag_in, tagged_parts}
 use Rattle.sum_lines.proofs.PlainLemmas.{cut-within, no_prefix, plain-digits, plain-prefix, read_is_plain}
 use Rattle.sum_lines.proofs.ScanLemmas.{decoded-size, decoded-digits}
@@ -18,16 +17,13 @@ use Rattle.std.proofs.lemmas.List.Prefix.{front_fits}
 use Rattle.std.proofs.lemmas.Slice.Eq.{starts_is}
 use Rattle.hex.specs.Hex.{decode_of, is_hex_digit}
 use Rattle.hex.proofs.HexLemmas.{decode_of-ok}
-use Rattle.digest_kinds.specs.Kinds.{KindValue, full_len, has_len, tag}
+use Rattle.digest_kinds.specs.Kinds.{KindValue, full_len, has_len, tag, IsDigits}
 use Rattle.digest_kinds.specs.declared.algo.Algo.TheVariants.{Blake2b}
-use Rattle.digest_kinds.specs.declared.algo.Algos.{Algos}
-use Rattle.digest_kinds.specs.declared.algo.Algos.TheVariants.{One}
-use Rattle.sum_lines.specs.declared.beginnings.Beginning.TheVariants as beginnings
 use Rattle.sum_lines.specs.refinement.Beginnings.{Cut, EndsAt, EndsDigits, LeadsTo}
 use Rattle.sum_lines.proofs.PrefixLemmas.{none_of}
 use Rattle.sum_lines.proofs.TaggedLemmas.{hex-no_blank, tag_in-some}
 use Rattle.sum_lines.proofs.BitsLemmas.{has_len-range}
-use Rattle.digest_kinds.specs.Digits.{IsDigits}
+use Rattle.sum_lines.specs.declared.beginnings.Beginning.TheVariants as beginnings
 
 -- a cut has two digits for each byte of its digest, and so few that the search meets its blank
 cut-size : {a : Algo} {s d : List ℕ} → Cut a s d → (position_or_len is_blank s ≡ 2 * length d) × (length d ≤ 64)

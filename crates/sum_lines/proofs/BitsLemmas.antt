@@ -1,10 +1,7 @@
 -- The bits that a BLAKE2b tag may carry: the digits that the code takes are those of `decimal`.
-use Rattle.std.proofs.Common.{ℕ, zero, suc, ◌≡◌, ◌≢◌, ◌+◌, ◌*◌, ◌/◌, ◌%◌, ◌<◌, ◌≤◌, not, ◌&&◌, Bool, true, ◌==◌, List, [], ◌∷◌, length, get_or, None, Some, refl, ap, sym, ◌∙◌, arith, Option}
-use Rattle.std.specs.Prelude.{bytes_eq, nat_lt}
+use Rattle.std.proofs.Common.{ℕ, zero, suc, ◌≡◌, ◌≢◌, ◌+◌, ◌*◌, ◌/◌, ◌%◌, ◌<◌, ◌≤◌, not, ◌&&◌, Bool, true, ◌==◌, List, [], ◌∷◌, length, get_or, None, Some, refl, ap, sym, ◌∙◌, arith, Option, bytes_eq, nat_lt, decimal, find, option_map}
 use Rattle.std.specs.Char.{is_ascii_digit}
-use Rattle.std.specs.Fmt.{decimal}
-use Rattle.std.specs.List.{AllPass, find, range_with_len}
-use Rattle.std.specs.Option.{option_map}
+use Rattle.std.specs.List.{AllPass, range_with_len}
 use Rattle.std.specs.Result.{result_ok}
 use Rattle.std.proofs.lemmas.Bool.{and_parts, and_from, eqb-false, leb-true, le-leb, ltb-true, not-true}
 use Rattle.std.proofs.lemmas.Fmt.{decimal_digit, decimal_injective, decimal-digits_value, digits_decimal, first_decimal, length-decimal-le}
@@ -12,8 +9,7 @@ use Rattle.std.proofs.lemmas.List.Elements.{All-cons, All-head, All-tail, All-ni
 use Rattle.std.proofs.lemmas.Option.{cond_some}
 use Rattle.std.proofs.lemmas.Slice.Eq.{bytes_eq-Decides}
 use Rattle.std.proofs.lemmas.Str.Parse.{IsDigitsTest, IsNumeralModel, digits_value_short, numerals_by_value}
-use Rattle.digest_kinds.specs.Kinds.{KindValue, blake2b_kind, has_len}
-use Rattle.digest_kinds.specs.Lengths.{blake2b_of_bits}
+use Rattle.digest_kinds.specs.Kinds.{KindValue, blake2b_kind, has_len, blake2b_of_bits}
 use Rattle.sum_lines.specs.PartsOfLines.{kind_at}
 use Rattle.sum_lines.specs.refinement.Found.{number_of}
 use Rattle.sum_lines.proofs.PrefixLemmas.{map_some, none_of}

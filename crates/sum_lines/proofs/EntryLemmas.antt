@@ -3,12 +3,9 @@ use Rattle.std.proofs.Common.{ℕ, ◌≡◌, Bool, true, false, cond, List, [],
 use Rattle.std.specs.List.{AllPass}
 use Rattle.std.proofs.lemmas.List.Elements.{All-head}
 use Rattle.digest_kinds.specs.Kinds.{KindValue, tag}
-use Rattle.digest_kinds.specs.declared.algo.Algos.{Algos}
-use Rattle.sum_lines.specs.declared.line_reading.Form.{Form}
-use Rattle.sum_lines.specs.declared.line_reading.Form.TheVariants.{Undecided, Standard, Reversed}
-use Rattle.sum_lines.specs.Shapes.{is_blank, mark, Plain, Tagged}
+use Rattle.sum_lines.specs.Shapes.{Algos, is_blank, mark, Plain, Tagged}
+use Rattle.sum_lines.specs.Entries.{Form, Undecided, Standard, Reversed, is_ignored, begins_standard, form_of_tail, Decides, IsForm, Spelled, ByTag, ByTail, form_then, line_form, form}
 use Rattle.sum_lines.specs.PartsOfLines.{Parts, plain_parts}
-use Rattle.sum_lines.specs.Entries.{is_ignored, begins_standard, form_of_tail, Decides, IsForm, Spelled, ByTag, ByTail, form_then, line_form, form}
 use Rattle.sum_lines.specs.LineLaws.{OneForm}
 use Rattle.sum_lines.proofs.PrefixLemmas.{none_of}
 use Rattle.sum_lines.proofs.TaggedLemmas.{Begins, tag-begins, passes-other}

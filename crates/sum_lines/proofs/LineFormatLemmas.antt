@@ -1,27 +1,21 @@
 -- A line that is written is read back.
-use Rattle.std.proofs.Common.{ℕ, ◌≡◌, Bool, true, List, [], ◌∷◌, ◌++◌, refl, ap, sym, ◌⊎◌, inl, inr, append_assoc}
-use Rattle.std.specs.List.{All}
+use Rattle.std.proofs.Common.{ℕ, ◌≡◌, Bool, true, List, [], ◌∷◌, ◌++◌, refl, ap, sym, ◌⊎◌, inl, inr, append_assoc, All}
 use Rattle.std.proofs.lemmas.List.{append-nil}
 use Rattle.hex.specs.Hex.{encode_lower}
 use Rattle.digest_kinds.specs.Kinds.{KindValue, tag}
-use Rattle.digest_kinds.specs.declared.algo.Algo.{Algo}
-use Rattle.digest_kinds.specs.declared.algo.Algos.{Algos}
-use Rattle.digest_kinds.specs.declared.algo.Algos.TheVariants.{One, Any}
-use Rattle.sum_lines.specs.declared.line_reading.Form.{Form}
-use Rattle.sum_lines.specs.declared.line_reading.Form.TheVariants.{Undecided, Standard}
+use Rattle.sum_lines.specs.Shapes.{Algo, Algos, One, Any, mark, Width, Allows, Tagged}
+use Rattle.sum_lines.specs.Entries.{Form, Undecided, Standard, Spelled, Entry, line_form, form}
 use Rattle.sum_lines.specs.declared.line_format.Mode.{Mode}
-use Rattle.sum_lines.specs.declared.line_format.Mode.TheVariants as modes
 use Rattle.sum_lines.specs.Escape.{present, escape, escape_differs}
-use Rattle.sum_lines.specs.Lines as lines
-use Rattle.sum_lines.specs.Shapes.{mark, Width, Allows, Tagged}
 use Rattle.sum_lines.specs.PartsOfLines.{plain_parts}
-use Rattle.sum_lines.specs.Entries.{Spelled, Entry, line_form, form}
 use Rattle.sum_lines.specs.LineLaws.{ReadBy, Writable, SpellsBack, ReadBack}
 use Rattle.sum_lines.proofs.PlainLemmas.{apart, read_is_plain}
 use Rattle.sum_lines.proofs.PrefixLemmas.{none_of}
 use Rattle.sum_lines.proofs.EntryLemmas.{form_at}
 use Rattle.sum_lines.proofs.ParsedLineLemmas.{one_entry}
 use Rattle.sum_lines.proofs.LineFormatShapes.{Inline, inline, line_width, width-is, plain_line, tagged_line, written_for, is_space_or_star, plain-form, plain-entry, tagged-written, tagged-entry, Inline-plain, Inline-tagged}
+use Rattle.sum_lines.specs.declared.line_format.Mode.TheVariants as modes
+use Rattle.sum_lines.specs.Lines as lines
 
 -- a line that ends with a newline, without it
 abbrev pub prefix_of : Mode → KindValue → List ℕ → List ℕ → List ℕ

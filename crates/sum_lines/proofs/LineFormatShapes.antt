@@ -1,30 +1,24 @@
 -- The lines that are written, as they are put together: each has its shape, spells the name and the digest that it was
 -- written for, and holds no newline and no carriage return before its end.
-use Rattle.std.proofs.Common.{ℕ, ◌≡◌, ◌≢◌, ◌*◌, ◌<◌, not, Bool, true, false, ◌==◌, ◌||◌, List, [], ◌∷◌, ◌++◌, length, refl, arith, inl, inr, cond}
-use Rattle.std.specs.List.{All, AllPass, list_all}
+use Rattle.std.proofs.Common.{ℕ, ◌≡◌, ◌≢◌, ◌*◌, ◌<◌, not, Bool, true, false, ◌==◌, ◌||◌, List, [], ◌∷◌, ◌++◌, length, refl, arith, inl, inr, cond, All, decimal}
+use Rattle.std.specs.List.{AllPass, list_all}
 use Rattle.std.proofs.lemmas.List.Folds.{list_all-append}
 use Rattle.std.proofs.lemmas.List.Sums.{AllPass-from_list_all, list_all-from_AllPass}
-use Rattle.std.specs.Fmt.{decimal}
 use Rattle.std.proofs.lemmas.Bool.{eqb-true}
 use Rattle.std.proofs.lemmas.Bool.Decides.{eqb_tells}
 use Rattle.std.proofs.lemmas.List.Elements.{All-weaker, All-cons, All-nil}
 use Rattle.digest_kinds.specs.Kinds.{KindValue, tag, full_len, has_len}
-use Rattle.digest_kinds.specs.declared.algo.Algo.{Algo}
+use Rattle.sum_lines.specs.Shapes.{Algo, mark, Width, is_blank, Allows, Plain, Tagged, Algos, One}
 use Rattle.digest_kinds.specs.declared.algo.Algo.TheVariants.{Md5, Blake2b}
 use Rattle.sum_lines.specs.Escape.{present, escape, escape_of, escape_differs}
-use Rattle.sum_lines.specs.Shapes.{mark, Width, is_blank, Allows, Plain, Tagged}
 use Rattle.std.specs.Char.{is_ascii_digit}
 use Rattle.sum_lines.proofs.BitsLemmas.{decimal-digits, has_len-range}
 use Rattle.sum_lines.proofs.TaggedLemmas.{passes-other}
 use Rattle.std.proofs.lemmas.Slice.Eq.{bytes_eq-Decides}
 use Rattle.hex.specs.Hex.{encode_lower, is_hex_digit}
 use Rattle.hex.proofs.HexLemmas.{decode_of-encode_lower}
-use Rattle.digest_kinds.specs.declared.algo.Algos.{Algos}
-use Rattle.digest_kinds.specs.declared.algo.Algos.TheVariants.{One}
-use Rattle.sum_lines.specs.declared.line_reading.Form.{Form}
-use Rattle.sum_lines.specs.declared.line_reading.Form.TheVariants.{Standard}
+use Rattle.sum_lines.specs.Entries.{Form, Standard, begins_standard, line_form, Spells, Spelled, Entry}
 use Rattle.sum_lines.specs.PartsOfLines.{Parts}
-use Rattle.sum_lines.specs.Entries.{begins_standard, line_form, Spells, Spelled, Entry}
 use Rattle.sum_lines.specs.LineLaws.{Writable}
 use Rattle.sum_lines.proofs.PlainLemmas.{Digits, digits-of, plain_is_read}
 use Rattle.sum_lines.proofs.EntryLemmas.{plain-speaks, tagged-speaks}

@@ -1,6 +1,5 @@
 -- The name that is left in place of a raw name, and the raw name in a tail.
-use Rattle.std.proofs.Common.{ℕ, ◌≡◌, ◌+◌, ◌-◌, ◌<◌, ◌≤◌, ◌↔◌, Bool, true, false, not, cond, List, ◌++◌, length, take, drop, get_or, slice_range, Option, None, Some, refl, ap, sym, ◌∙◌, arith}
-use Rattle.std.specs.Prelude.{nat_lt}
+use Rattle.std.proofs.Common.{ℕ, ◌≡◌, ◌+◌, ◌-◌, ◌<◌, ◌≤◌, ◌↔◌, Bool, true, false, not, cond, List, ◌++◌, length, take, drop, get_or, slice_range, Option, None, Some, refl, ap, sym, ◌∙◌, arith, nat_lt}
 use Rattle.std.specs.List.{list_all}
 use Rattle.std.specs.Option.{is_some}
 use Rattle.std.proofs.lemmas.Bool.{eqb-true}
@@ -8,10 +7,9 @@ use Rattle.std.proofs.lemmas.List.{drop-drop, drop-take, length-take}
 use Rattle.std.proofs.lemmas.List.Elements.{All-from_get_or}
 use Rattle.std.proofs.lemmas.List.Folds.{list_all_at}
 use Rattle.memchr.specs.Find.{IsFirstByte, is_byte}
-use Rattle.sum_lines.specs.declared.line_reading.Form.TheVariants.{Standard}
+use Rattle.sum_lines.specs.Entries.{Standard, begins_standard}
 use Rattle.sum_lines.specs.declared.scanning.LineParts.{LineParts}
 use Rattle.sum_lines.specs.Escape.{present, escape}
-use Rattle.sum_lines.specs.Entries.{begins_standard}
 use Rattle.sum_lines.specs.ParsedLines.{unescape, with_raw}
 use Rattle.sum_lines.specs.refinement.Found.{line_parts}
 use Rattle.sum_lines.proofs.PrefixLemmas.{none_of}

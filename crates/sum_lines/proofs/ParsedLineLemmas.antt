@@ -3,12 +3,9 @@ use Rattle.std.proofs.Common.{◌≡◌, ℕ, Bool, true, false, List, [], ◌�
 use Rattle.std.specs.Option.{option_or, option_map_or}
 use Rattle.std.proofs.lemmas.Option.{cond_some, same_Some}
 use Rattle.digest_kinds.specs.Kinds.{KindValue}
-use Rattle.digest_kinds.specs.declared.algo.Algos.{Algos}
-use Rattle.sum_lines.specs.declared.line_reading.Form.{Form}
-use Rattle.sum_lines.specs.declared.line_reading.Form.TheVariants.{Undecided, Standard, Reversed}
+use Rattle.sum_lines.specs.Shapes.{Algos, Plain}
+use Rattle.sum_lines.specs.Entries.{Form, Undecided, Standard, Reversed, Spelled, Entry, RawOf, begins_standard, is_ignored_by}
 use Rattle.sum_lines.specs.Escape.{Profile, present, escape_by}
-use Rattle.sum_lines.specs.Shapes.{Plain}
-use Rattle.sum_lines.specs.Entries.{Spelled, Entry, RawOf, begins_standard, is_ignored_by}
 use Rattle.sum_lines.specs.PartsOfLines.{◌>>=◌, Parts, tagged_parts, plain_parts}
 use Rattle.sum_lines.specs.ParsedLines.{with_raw, entry_of_parts, entry_of, Nothing, Improper, WithEntry}
 use Rattle.sum_lines.specs.LineLaws.{OneEntry, SaysIs}

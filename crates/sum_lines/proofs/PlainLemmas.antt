@@ -1,8 +1,7 @@
 -- A line that joins from the parts of a plain line is read as these parts, and no other line is read. No line is both
 -- plain and tagged.
-use Rattle.std.proofs.Common.{ℕ, ◌≡◌, ◌+◌, ◌*◌, ◌<◌, ◌≤◌, not, Bool, true, ◌&&◌, List, [], ◌∷◌, ◌++◌, length, get_or, None, Some, Ok, refl, ap, sym, ◌∙◌, arith, length-drop}
-use Rattle.std.specs.Prelude.{nat_lt}
-use Rattle.std.specs.List.{AllPass, take_while, before_first, after_first, position_or_len}
+use Rattle.std.proofs.Common.{ℕ, ◌≡◌, ◌+◌, ◌*◌, ◌<◌, ◌≤◌, not, Bool, true, ◌&&◌, List, [], ◌∷◌, ◌++◌, length, get_or, None, Some, Ok, refl, ap, sym, ◌∙◌, arith, length-drop, nat_lt, take_while}
+use Rattle.std.specs.List.{AllPass, before_first, after_first, position_or_len}
 use Rattle.std.specs.Result.{result_ok}
 use Rattle.std.proofs.lemmas.Bool.{and_parts, ltb-true, lt-ltb}
 use Rattle.std.proofs.lemmas.List.{take_at}
@@ -12,10 +11,7 @@ use Rattle.std.proofs.lemmas.Option.{cond_some}
 use Rattle.hex.specs.Hex.{decode_of, is_hex_digit}
 use Rattle.hex.proofs.HexLemmas.{decode_of-ok}
 use Rattle.digest_kinds.specs.Kinds.{KindValue, has_len, tag}
-use Rattle.digest_kinds.specs.declared.algo.Algo.{Algo}
-use Rattle.digest_kinds.specs.declared.algo.Algos.{Algos}
-use Rattle.digest_kinds.specs.declared.algo.Algos.TheVariants.{One, Any}
-use Rattle.sum_lines.specs.Shapes.{is_blank, Plain, Tagged}
+use Rattle.sum_lines.specs.Shapes.{Algo, Algos, One, Any, is_blank, Plain, Tagged}
 use Rattle.sum_lines.specs.PartsOfLines.{Parts, after_while, mark_and_rest, plain_parts}
 use Rattle.sum_lines.specs.refinement.Beginnings.{Cut}
 use Rattle.sum_lines.proofs.PrefixLemmas.{bind_some, none_of, ok_some, prefix_passes, prefix-and-rest, prefix_len-stop, rest-seam, mark_and_rest-is}

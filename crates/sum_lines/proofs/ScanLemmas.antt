@@ -1,19 +1,15 @@
 -- What the scanning functions answer, step by step.
-use Rattle.std.proofs.Common.{ℕ, ◌≡◌, ◌≢◌, ◌+◌, ◌-◌, ◌*◌, ◌<◌, ◌≤◌, eq-eqb, List, [], ◌∷◌, ◌++◌, length, take, drop, get_or, slice_range, Option, None, Some, MatchOption, Ok, Bor, refl, sym, arith, append_assoc}
-use Rattle.std.specs.List.{take_while}
-use Rattle.std.specs.Option.{option_copied, option_or}
+use Rattle.std.proofs.Common.{ℕ, ◌≡◌, ◌≢◌, ◌+◌, ◌-◌, ◌*◌, ◌<◌, ◌≤◌, eq-eqb, List, [], ◌∷◌, ◌++◌, length, take, drop, get_or, slice_range, Option, None, Some, MatchOption, Ok, Bor, refl, sym, arith, append_assoc, take_while, option_copied}
+use Rattle.std.specs.Option.{option_or}
 use Rattle.std.specs.Path.{rsplit_once}
 use Rattle.std.specs.Result.{result_ok}
 use Rattle.std.proofs.lemmas.Bool.{eqb-true, lt-ltb, ne_eqb, false_from_ne_true}
 use Rattle.memchr.specs.Find.{Nowhere, Passes, IsLastByte, is_byte}
 use Rattle.hex.specs.Hex.{decode_of}
 use Rattle.hex.proofs.HexLemmas.{decode_of-ok}
-use Rattle.digest_kinds.specs.Kinds.{KindValue, tag}
-use Rattle.digest_kinds.specs.Digits.{IsDigits}
-use Rattle.digest_kinds.specs.declared.algo.Algo.{Algo}
-use Rattle.digest_kinds.specs.declared.algo.Algos.TheVariants.{One}
+use Rattle.digest_kinds.specs.Kinds.{KindValue, tag, IsDigits}
+use Rattle.sum_lines.specs.Shapes.{Algo, One, is_blank, mark, optional}
 use Rattle.std.proofs.lemmas.List.{take-append-drop}
-use Rattle.sum_lines.specs.Shapes.{is_blank, mark, optional}
 use Rattle.sum_lines.specs.PartsOfLines.{after_while, strip_prefix, mark_and_rest, tag_in, width_at, tagged_parts}
 use Rattle.sum_lines.specs.refinement.Found.{EndsIn}
 use Rattle.sum_lines.proofs.PrefixLemmas.{bind_none, none_of, ok_some, strip_prefix-some, strip_prefix-append, prefix-and-rest, opened-some, rfind-at, rfind-none, mark_and_rest-is, rsplit-some}

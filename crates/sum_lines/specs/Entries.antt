@@ -1,14 +1,12 @@
 -- What a manifest's line says: the form that plain lines give the whole list, and the entry that a line spells.
-use Rattle.std.specs.Prelude.{ℕ, ◌≡◌, ◌<◌, ◌⊎◌, ◌==◌, ◌||◌, Bool, false, List, [], ◌∷◌, IsTrue, if◌then◌else◌}
-use Rattle.std.specs.List.{All}
+use Rattle.std.specs.Prelude.{ℕ, ◌≡◌, ◌<◌, ◌⊎◌, ◌==◌, ◌||◌, Bool, false, List, [], ◌∷◌, IsTrue, if◌then◌else◌, All}
 use Rattle.std.specs.Option.{option_map_or}
 use Rattle.digest_kinds.specs.Kinds.{KindValue}
-use Rattle.digest_kinds.specs.declared.algo.Algos.{Algos}
+use Rattle.sum_lines.specs.Shapes.{Algos, Plain, Tagged}
 use Rattle.sum_lines.specs.Escape.{Profile, present}
-use Rattle.sum_lines.specs.Shapes.{Plain, Tagged}
 use Rattle.sum_lines.specs.PartsOfLines.{plain_parts}
-use Rattle.sum_lines.specs.declared.line_reading.Form.{Form}
-use Rattle.sum_lines.specs.declared.line_reading.Form.TheVariants.{Undecided, Standard, Reversed}
+pub use Rattle.sum_lines.specs.declared.line_reading.Form.{Form}
+pub use Rattle.sum_lines.specs.declared.line_reading.Form.TheVariants.{Undecided, Standard, Reversed}
 
 -- a line that says nothing: `#` (35) stands first, or it is empty, unless the profile holds that to be improper
 abbrev pub is_ignored_by : Profile → List ℕ → Bool

@@ -1,19 +1,12 @@
 -- What the laws of the line grammar say.
-use Rattle.std.specs.Prelude.{ℕ, ◌≡◌, ◌≢◌, ◌<◌, ◌↔◌, ◌⊎◌, Bool, true, false, List, [], ◌∷◌, ◌++◌, length, codes, IsTrue}
-use Rattle.std.specs.List.{All}
+use Rattle.std.specs.Prelude.{ℕ, ◌≡◌, ◌≢◌, ◌<◌, ◌↔◌, ◌⊎◌, Bool, true, false, List, [], ◌∷◌, ◌++◌, length, codes, IsTrue, All}
 use Rattle.hex.specs.Hex.{IsBytes}
 use Rattle.digest_kinds.specs.Kinds.{KindValue, has_len}
-use Rattle.digest_kinds.specs.declared.algo.Algo.{Algo}
-use Rattle.digest_kinds.specs.declared.algo.Algos.{Algos}
-use Rattle.digest_kinds.specs.declared.algo.Algos.TheVariants.{One, Any}
-use Rattle.sum_lines.specs.declared.line_reading.Form.{Form}
-use Rattle.sum_lines.specs.declared.line_reading.Form.TheVariants.{Undecided, Standard}
-use Rattle.sum_lines.specs.declared.line_format.Mode.{Mode}
+use Rattle.sum_lines.specs.Shapes.{Algo, Algos, One, Any, Plain, Tagged}
+use Rattle.sum_lines.specs.Entries.{Form, Undecided, Standard, Spelled, Entry, IsForm, is_ignored_by, form}
+use Rattle.sum_lines.specs.Lines.{Mode, line}
 use Rattle.sum_lines.specs.declared.line_format.Mode.TheVariants.{Tag}
 use Rattle.sum_lines.specs.Escape.{Profile, escape, escape_by}
-use Rattle.sum_lines.specs.Lines.{line}
-use Rattle.sum_lines.specs.Shapes.{Plain, Tagged}
-use Rattle.sum_lines.specs.Entries.{Spelled, Entry, IsForm, is_ignored_by, form}
 use Rattle.sum_lines.specs.ParsedLines.{Nothing, Improper, WithEntry, parse_line}
 
 -- for given algorithms and a given form a line spells at most one entry

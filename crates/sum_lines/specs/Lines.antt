@@ -3,8 +3,8 @@ use Rattle.std.specs.Prelude.{ℕ, ◌*◌, ◌==◌, List, [], ◌∷◌, ◌++
 use Rattle.std.specs.List.{concat}
 use Rattle.hex.specs.Hex.{encode_lower}
 use Rattle.digest_kinds.specs.Kinds.{KindValue, full_len, tag}
-use Rattle.sum_lines.specs.declared.line_format.Style.{Style}
-use Rattle.sum_lines.specs.declared.line_format.Mode.{Mode}
+pub use Rattle.sum_lines.specs.declared.line_format.Style.{Style}
+pub use Rattle.sum_lines.specs.declared.line_format.Mode.{Mode}
 use Rattle.sum_lines.specs.declared.line_format.Mode.TheVariants.{Text, Binary, Tag}
 use Rattle.sum_lines.specs.Escape.{present, escape, escape_differs}
 use Rattle.sum_lines.specs.Shapes.{mark}

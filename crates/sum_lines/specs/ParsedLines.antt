@@ -1,17 +1,14 @@
 -- What a line says, computed, and what reading it answers. The first need not be believed: the law `says_is` ties it to
 -- the relation `Entry`.
-use Rattle.std.specs.Prelude.{ℕ, ◌≡◌, ◌≤◌, ◌==◌, List, ◌∷◌, length, drop, slice_range, nat_lt, bytes_eq, ⊤}
-use Rattle.std.specs.Prelude.{Option, None, Some, if◌then◌else◌}
+use Rattle.std.specs.Prelude.{ℕ, ◌≡◌, ◌≤◌, ◌==◌, List, ◌∷◌, length, drop, slice_range, nat_lt, bytes_eq, ⊤, Option, None, Some, if◌then◌else◌}
 use Rattle.std.specs.Option.{option_or, option_map_or}
 use Rattle.std.specs.List.{list_all}
 use Rattle.digest_kinds.specs.declared.algo.Algos.{Algos}
-use Rattle.sum_lines.specs.declared.line_reading.Form.{Form}
-use Rattle.sum_lines.specs.declared.line_reading.Form.TheVariants.{Undecided, Standard, Reversed}
+use Rattle.sum_lines.specs.Entries.{Form, Undecided, Standard, Reversed, Spelled, begins_standard, is_ignored_by}
 use Rattle.sum_lines.specs.declared.line_reading.Reading.{Reading}
-use Rattle.sum_lines.specs.declared.line_reading.Reading.TheVariants as readings
 use Rattle.sum_lines.specs.Escape.{Profile, escape_by}
-use Rattle.sum_lines.specs.Entries.{Spelled, begins_standard, is_ignored_by}
 use Rattle.sum_lines.specs.PartsOfLines.{◌>>=◌, Parts, tagged_parts, plain_parts}
+use Rattle.sum_lines.specs.declared.line_reading.Reading.TheVariants as readings
 
 -- the bytes, where a backslash (92) and the byte behind it stand for one
 abbrev pub unescaped_bytes : List ℕ → List ℕ

@@ -1,17 +1,14 @@
 -- What a line of either shape holds, computed; it need not be believed: the law `says_is` ties it to the relations.
-use Rattle.std.specs.Prelude.{ℕ, ◌*◌, ◌==◌, ◌&&◌, nat_lt, Bool, true, false, List, ◌∷◌, length, drop, bytes_eq, codes, decimal, Option, None, Some, option_map, if◌then◌else◌}
+use Rattle.std.specs.Prelude.{ℕ, ◌*◌, ◌==◌, ◌&&◌, nat_lt, Bool, true, false, List, ◌∷◌, length, drop, bytes_eq, codes, decimal, Option, None, Some, option_map, if◌then◌else◌, option_and_then, take_while, find}
 use Rattle.std.specs.Char.{is_ascii_digit}
-use Rattle.std.specs.Option.{option_or, option_and_then}
+use Rattle.std.specs.Option.{option_or}
 use Rattle.std.specs.Result.{result_ok}
-use Rattle.std.specs.List.{prefix_len, take_while, range_with_len, starts_with, before_first, after_first, find}
+use Rattle.std.specs.List.{prefix_len, range_with_len, starts_with, before_first, after_first}
 use Rattle.std.specs.Path.{rsplit_once}
 use Rattle.hex.specs.Hex.{decode_of}
 use Rattle.digest_kinds.specs.Kinds.{KindValue, all_algos, full_kind, blake2b_kind, has_len, tag}
-use Rattle.digest_kinds.specs.declared.algo.Algo.{Algo}
+use Rattle.sum_lines.specs.Shapes.{Algo, Algos, One, Any, is_blank}
 use Rattle.digest_kinds.specs.declared.algo.Algo.TheVariants.{Blake2b}
-use Rattle.digest_kinds.specs.declared.algo.Algos.{Algos}
-use Rattle.digest_kinds.specs.declared.algo.Algos.TheVariants.{One, Any}
-use Rattle.sum_lines.specs.Shapes.{is_blank}
 
 infixl 10 ◌>>=◌
 abbrev pub ◌>>=◌ : {A B : Type 0} → Option A → (A → Option B) → Option B

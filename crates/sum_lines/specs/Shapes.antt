@@ -1,15 +1,14 @@
 -- The two shapes of a manifest's line: how the whole line is put together from its parts. These are relations, and no
 -- reading from the start: a line has a shape where some parts join to it. In front of either may stand blanks and then
 -- one backslash, which says that the name is escaped.
-use Rattle.std.specs.Prelude.{ℕ, ◌≡◌, ◌*◌, ◌<◌, ◌⊎◌, ◌==◌, ◌||◌, ⊤, Bool, true, List, [], ◌∷◌, ◌++◌, length, codes, IsTrue, Ok, if◌then◌else◌}
+use Rattle.std.specs.Prelude.{ℕ, ◌≡◌, ◌*◌, ◌<◌, ◌⊎◌, ◌==◌, ◌||◌, ⊤, Bool, true, List, [], ◌∷◌, ◌++◌, length, codes, IsTrue, Ok, if◌then◌else◌, decimal}
 use Rattle.std.specs.List.{AllPass}
-use Rattle.std.specs.Fmt.{decimal}
 use Rattle.hex.specs.Hex.{decode_of}
 use Rattle.digest_kinds.specs.Kinds.{KindValue, full_len, has_len, tag}
-use Rattle.digest_kinds.specs.declared.algo.Algo.{Algo}
+pub use Rattle.digest_kinds.specs.declared.algo.Algo.{Algo}
 use Rattle.digest_kinds.specs.declared.algo.Algo.TheVariants.{Blake2b}
-use Rattle.digest_kinds.specs.declared.algo.Algos.{Algos}
-use Rattle.digest_kinds.specs.declared.algo.Algos.TheVariants.{One, Any}
+pub use Rattle.digest_kinds.specs.declared.algo.Algos.{Algos}
+pub use Rattle.digest_kinds.specs.declared.algo.Algos.TheVariants.{One, Any}
 
 -- a blank is a space (32) or a tab (9)
 abbrev pub is_blank : ℕ → Bool

@@ -5,9 +5,8 @@ ghost use Rattle.std.specs.List.{list_all};
 ghost use Rattle.std.specs.Option.{option_and_then, option_map_or};
 ghost use Rattle.sum_lines.specs.Entries.{begins_standard, form_of_tail, form_then, is_ignored, line_form};
 ghost use Rattle.sum_lines.specs.ParsedLines.{Improper, WithEntry, entry_of, entry_of_parts, parse_line, unescape};
-ghost use Rattle.sum_lines.specs.ParsedLines.{with_raw};
+ghost use Rattle.sum_lines.specs.ParsedLines.{with_raw, Within, parsed_line_by};
 ghost use Rattle.sum_lines.specs.Escape.{present};
-ghost use Rattle.sum_lines.specs.ParsedLines.{Within, parsed_line_by};
 ghost use Rattle.sum_lines.specs.refinement.Beginnings.{LeadsTo};
 ghost use Rattle.sum_lines.specs.refinement.Found.{line_parts};
 

@@ -1,6 +1,5 @@
 //! A sink that keeps its bytes in an array.
-ghost use Rattle.std.specs.Prelude.{◌≡◌, ◌≤◌, ◌+◌, ◌<◌, [], length, min, IfOk, IsErr, OnErr};
-ghost use Rattle.std.specs.Prelude.{◌↔◌};
+ghost use Rattle.std.specs.Prelude.{◌≡◌, ◌≤◌, ◌+◌, ◌<◌, [], length, min, IfOk, IsErr, OnErr, ◌↔◌};
 
 use crate::sink::{Sink, SinkFault};
 

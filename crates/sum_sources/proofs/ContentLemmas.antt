@@ -1,8 +1,7 @@
 -- Contents that are the same, what came of one so far, and when it is its own clip.
 use Rattle.std.proofs.Common.{◌≡◌, ℕ, ◌^◌, ◌<◌, List, ◌++◌, length, refl, ap, sym, ◌∙◌, nat_lt}
 use Rattle.std.proofs.lemmas.Bool.{cond-true, lt-ltb}
-use Rattle.sum_sources.specs.declared.fault.Ending.{Ending}
-use Rattle.sum_sources.specs.Contents.{Content, clip, limit}
+use Rattle.sum_sources.specs.Contents.{Ending, Content, clip, limit}
 use Rattle.sum_sources.specs.LineReaders.{with_prefix}
 
 -- these bytes came between the two

@@ -1,13 +1,9 @@
 -- What a read makes of the bytes that count, up to the limit.
-use Rattle.std.proofs.Common.{◌≡◌, ℕ, ◌+◌, ◌-◌, ◌^◌, ◌<◌, ◌≤◌, List, [], ◌++◌, length, take, Ok, Err, ap, sym, ◌∙◌}
-use Rattle.std.proofs.Common.{Option, None, Some, refl, arith, nat_lt, inl, inr, length-append}
+use Rattle.std.proofs.Common.{◌≡◌, ℕ, ◌+◌, ◌-◌, ◌^◌, ◌<◌, ◌≤◌, List, [], ◌++◌, length, take, Ok, Err, ap, sym, ◌∙◌, Option, None, Some, refl, arith, nat_lt, inl, inr, length-append}
 use Rattle.std.proofs.lemmas.Bool.{cond-true, cond-false, lt-ltb, le-ltb, cases_lt}
 use Rattle.std.proofs.lemmas.List.{length-take-le, take-append-le}
 use Rattle.std.proofs.Math.Seq.{take-append-add}
-use Rattle.sum_sources.specs.declared.fault.Fault.{Fault}
-use Rattle.sum_sources.specs.declared.fault.Fault.TheVariants.{Other}
-use Rattle.sum_sources.specs.declared.fault.Ending.TheVariants.{Broken}
-use Rattle.sum_sources.specs.Contents.{Content, limit, WhereTold, ReadsFrom}
+use Rattle.sum_sources.specs.Contents.{Fault, Other, Broken, Content, limit, WhereTold, ReadsFrom}
 use Rattle.sum_sources.specs.LineReaders.{clip_to, with_prefix}
 use Rattle.sum_sources.proofs.ContentLemmas.{Gave-is, limit-value}
 

@@ -1,25 +1,16 @@
 -- What the steps of the line reader make of pieces and lines.
-use Rattle.std.proofs.Common.{◌≡◌, ℕ, ◌+◌, ◌-◌, ◌<◌, suc, false, Bool, List, [], ◌∷◌, ◌++◌, length, map, Option, None}
-use Rattle.std.proofs.Common.{Some, Result, Ok, Err, refl, ap, sym, ◌∙◌, append_assoc, arith, ◌==◌}
+use Rattle.std.proofs.Common.{◌≡◌, ℕ, ◌+◌, ◌-◌, ◌<◌, suc, false, Bool, List, [], ◌∷◌, ◌++◌, length, map, Option, None, Some, Result, Ok, Err, refl, ap, sym, ◌∙◌, append_assoc, arith, ◌==◌, option_map}
 use Rattle.std.specs.List.{slice_split, after_first, position_or_len}
-use Rattle.std.specs.Option.{option_map}
 use Rattle.std.specs.Str.Lines.{strip_carriage_return}
 use Rattle.std.proofs.lemmas.List.{append-nil}
 use Rattle.std.proofs.lemmas.List.Splits.{slice_split_at, slice_split_none, length-slice_split}
 use Rattle.std.proofs.lemmas.List.Elements.{All-head, All-tail}
-use Rattle.sum_sources.specs.declared.fault.Fault.{Fault}
-use Rattle.sum_sources.specs.declared.fault.Ending.{Ending}
-use Rattle.sum_sources.specs.declared.fault.Ending.TheVariants.{Whole, Broken}
-use Rattle.sum_sources.specs.declared.lines.Next.{Next}
-use Rattle.sum_sources.specs.declared.lines.Next.TheVariants.{Line, NoMore}
-use Rattle.sum_sources.specs.declared.lines.LineStop.{LineStop}
-use Rattle.sum_sources.specs.declared.lines.LineStop.TheVariants as stops
-use Rattle.sum_sources.specs.Contents.{Content, WhereTold}
-use Rattle.sum_sources.specs.Standard.{empty_content}
-use Rattle.sum_sources.specs.ManifestLines.{last_line, pieces, lines, NoNewline, LineOf}
+use Rattle.sum_sources.specs.Contents.{Fault, Ending, Whole, Broken, Content, WhereTold, empty_content}
+use Rattle.sum_sources.specs.ManifestLines.{Next, Line, NoMore, LineStop, last_line, pieces, lines, NoNewline, LineOf}
 use Rattle.sum_sources.specs.LineReaders.{left_by}
 use Rattle.sum_sources.proofs.ContentLemmas.{Gave, Gave-is}
 use Rattle.sum_sources.proofs.ToldLemmas.{WhereTold-remade}
+use Rattle.sum_sources.specs.declared.lines.LineStop.TheVariants as stops
 
 -- a newline ends the first piece
 pub pieces-newline : (e : Ending) (piece rest : List ℕ) → NoNewline piece

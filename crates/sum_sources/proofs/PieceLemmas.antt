@@ -1,6 +1,5 @@
 -- The piece of a line that stands in the reader's buffer.
-use Rattle.std.proofs.Common.{◌≡◌, ℕ, ◌+◌, ◌-◌, ◌<◌, ◌≤◌, ◌==◌, List, ◌∷◌, ◌++◌, length, take, drop, get_or}
-use Rattle.std.proofs.Common.{false, refl, ap, ◌∙◌, arith, add-one, length-append, length-take, length-drop}
+use Rattle.std.proofs.Common.{◌≡◌, ℕ, ◌+◌, ◌-◌, ◌<◌, ◌≤◌, ◌==◌, List, ◌∷◌, ◌++◌, length, take, drop, get_or, false, refl, ap, ◌∙◌, arith, add-one, length-append, length-take, length-drop}
 use Rattle.std.proofs.lemmas.List.{length-take-le, get_or-take, drop-take, drop-drop}
 use Rattle.std.proofs.lemmas.Bool.{false_from_ne_true}
 use Rattle.std.proofs.lemmas.List.Elements.{All-from_get_or}

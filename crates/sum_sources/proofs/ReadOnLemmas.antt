@@ -1,14 +1,11 @@
 -- What was read of a line so far, and what reading on makes of it.
-use Rattle.std.proofs.Common.{◌≡◌, ℕ, true, false, List, [], ◌∷◌, ◌++◌, Option, None, Ok, refl, append_assoc, ◌==◌}
-use Rattle.std.specs.Option.{option_map}
+use Rattle.std.proofs.Common.{◌≡◌, ℕ, true, false, List, [], ◌∷◌, ◌++◌, Option, None, Ok, refl, append_assoc, ◌==◌, option_map}
 use Rattle.std.proofs.lemmas.List.{append-nil}
 use Rattle.std.proofs.lemmas.List.Elements.{All-append}
-use Rattle.sum_sources.specs.declared.lines.Next.TheVariants.{Line}
-use Rattle.sum_sources.specs.Contents.{Content, InputState, WhereTold}
-use Rattle.sum_sources.specs.Standard.{empty_content}
+use Rattle.sum_sources.specs.ManifestLines.{Line, NoNewline, LineOf}
+use Rattle.sum_sources.specs.Contents.{Content, InputState, WhereTold, empty_content}
 use Rattle.sum_sources.specs.LineReaders.{Reader, coming}
 use Rattle.sum_sources.specs.refinement.LineStates.{TakesPiece}
-use Rattle.sum_sources.specs.ManifestLines.{NoNewline, LineOf}
 use Rattle.std.specs.Str.Lines.{strip_carriage_return}
 use Rattle.sum_sources.proofs.ContentLemmas.{Gave}
 use Rattle.sum_sources.proofs.LineLemmas.{LineOf-ended}

@@ -1,6 +1,5 @@
 -- What holds between told values, carried along.
-use Rattle.std.proofs.Common.{Option, None, Some}
-use Rattle.std.specs.Option.{option_map}
+use Rattle.std.proofs.Common.{Option, None, Some, option_map}
 use Rattle.sum_sources.specs.Contents.{WhereTold}
 
 -- what follows from a fact between two values holds too

@@ -1,12 +1,15 @@
--- What inputs hold: bytes and an ending, and what counts of them.
-use Rattle.std.specs.Prelude.{ℕ, ◌≡◌, ◌<◌, ◌-◌, ◌^◌, List, [], ◌++◌, take, length, Option, None, Some, Result, Ok, Err}
-use Rattle.std.specs.Prelude.{Bool, ⊤, nat_lt, if◌then◌else◌}
-use Rattle.digest_kinds.specs.Digests.{digest}
-use Rattle.digest_kinds.specs.Kinds.{KindValue}
-use Rattle.sum_sources.specs.declared.fault.Fault.{Fault}
-use Rattle.sum_sources.specs.declared.fault.Fault.TheVariants.{Other}
-use Rattle.sum_sources.specs.declared.fault.Ending.{Ending}
-use Rattle.sum_sources.specs.declared.fault.Ending.TheVariants.{Whole, Broken}
+-- What inputs and sources hold: bytes and an ending, and what counts of them; and what is asked of a source.
+use Rattle.std.specs.Prelude.{ℕ, ◌≡◌, ◌<◌, ◌-◌, ◌^◌, List, [], ◌++◌, take, length, Option, None, Some, Result, Ok, Err, Bool, ⊤, nat_lt, if◌then◌else◌, codes, true, false, ◌∷◌, option_map}
+use Rattle.digest_kinds.specs.Kinds.{digest, KindValue}
+pub use Rattle.sum_sources.specs.declared.fault.Fault.{Fault}
+pub use Rattle.sum_sources.specs.declared.fault.Fault.TheVariants.{Other, NotFound, Denied}
+pub use Rattle.sum_sources.specs.declared.fault.Ending.{Ending}
+pub use Rattle.sum_sources.specs.declared.fault.Ending.TheVariants.{Whole, Broken}
+use Rattle.sum_sources.specs.declared.closable.Closable.{Closable}
+use Rattle.sum_sources.specs.declared.closable.Closable.TheVariants.{Open, Closed}
+use Rattle.digest_kinds.specs.Limits.{one_more}
+use Rattle.sum_sources.specs.declared.source.OpenFault.{OpenFault}
+use Rattle.sum_sources.specs.declared.source.OpenFault.TheVariants as faults
 
 -- bytes that come, and how they end
 pub record Content : Type 0 where
@@ -43,3 +46,55 @@ ReadsFrom c d (Err f) buf = (c.bytes ≡ []) × (c.ending ≡ Broken f) × (d �
 abbrev pub Hashes : KindValue → Content → Result (List ℕ) Fault → Type 0
 Hashes kind c (Ok d) = (c.ending ≡ Whole) × (d ≡ digest kind c.bytes)
 Hashes kind c (Err f) = c.ending ≡ Broken f
+
+abbrev pub fault_text : Fault → List ℕ
+fault_text NotFound = codes "No such file or directory"
+fault_text Denied = codes "Permission denied"
+fault_text Other = codes "Input/output error"
+
+abbrev pub empty_content : Content
+empty_content = record { bytes = []; ending = Whole }
+
+-- what is left in standard input: its input until it was taken, and nothing afterwards, which never fails
+abbrev pub left_in : {I : Type 0} → (I → InputState) → Option I → InputState
+left_in state None = record { content = Some empty_content; failed = false }
+left_in state (Some i) = state i
+
+-- an input that is closed has nothing but a fault, by which each read fails
+abbrev pub unless_closed : {I : Type 0} → (I → InputState) → Closable I → InputState
+unless_closed state (Open i) = state i
+unless_closed state Closed = record { content = Some (record { bytes = []; ending = Broken Other }); failed = true }
+
+pub record OverReader (R : Type 0) : Type 0 where
+  pub reader : R
+  pub failed : Bool  -- whether a read has failed
+
+-- what a source has for a name
+pub data Reply : Type 0 where
+  Refused : Fault → Reply
+  Given : Content → Reply
+
+-- what a source tells: its reply to each name, and the names that it was asked, in order
+pub record Telling : Type 0 where
+  pub answer : List ℕ → Reply
+  pub asked : List (List ℕ)
+
+-- a source at one moment: what it tells, where it does; and how often an opening was refused memory
+pub record SourceState : Type 0 where
+  pub told : Option Telling
+  pub refusals : ℕ
+
+-- only want of memory changes the count of refusals
+abbrev pub refusals_after : {F : Type 0} → ℕ → Result F OpenFault → ℕ
+refusals_after n (Err faults.Memory) = one_more n
+refusals_after n _ = n
+
+-- a source is asked one name more, and this is its reply
+abbrev pub AsksName : Telling → Telling → List ℕ → Option Reply → Type 0
+AsksName s t name reply = (t ≡ record s { asked = s.asked ++ name ∷ [] }) × (reply ≡ Some (s.answer name))
+
+-- opening a name: the same is told for want of memory; else it was asked, and its reply is the file's content or fault
+abbrev pub OpenOf : {F : Type 0} → (F → InputState) → Telling → Telling → List ℕ → Result F OpenFault → Type 0
+OpenOf state s t name (Ok file) = AsksName s t name (option_map Given (state file).content)
+OpenOf state s t name (Err (faults.Fault f)) = AsksName s t name (Some (Refused f))
+OpenOf state s t name (Err faults.Memory) = t ≡ s

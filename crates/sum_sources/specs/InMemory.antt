@@ -1,9 +1,6 @@
 -- Inputs and sources in memory.
-use Rattle.std.specs.Prelude.{ℕ, List, [], ◌∷◌, if◌then◌else◌}
-use Rattle.std.specs.Str.{bytes_eq}
-use Rattle.sum_sources.specs.declared.fault.Fault.TheVariants.{NotFound}
-use Rattle.sum_sources.specs.Contents.{Content}
-use Rattle.sum_sources.specs.Sources.{Reply, Refused, Telling}
+use Rattle.std.specs.Prelude.{ℕ, List, [], ◌∷◌, if◌then◌else◌, bytes_eq}
+use Rattle.sum_sources.specs.Contents.{NotFound, Content, Reply, Refused, Telling}
 
 -- an input in memory: what it has still to give, and the most bytes that one read gives
 pub record ToldContent : Type 0 where

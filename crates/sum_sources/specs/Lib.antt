@@ -1,9 +1,5 @@
 pub mod Contents
-pub mod Faults
 pub mod InMemory
 pub mod LineReaders
 pub mod ManifestLines
-pub mod Readers
-pub mod Sources
-pub mod Standard
 pub mod refinement

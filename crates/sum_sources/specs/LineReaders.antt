@@ -1,17 +1,10 @@
 -- A reader of lines, as its callers see it.
-use Rattle.std.specs.Prelude.{ℕ, ◌≡◌, ◌+◌, ◌-◌, ◌≤◌, ◌⊎◌, List, [], ◌++◌, take, length, nat_lt, if◌then◌else◌}
-use Rattle.std.specs.Prelude.{Option, None, Some, Result, Ok, Err}
-use Rattle.std.specs.Option.{option_map}
+use Rattle.std.specs.Prelude.{ℕ, ◌≡◌, ◌+◌, ◌-◌, ◌≤◌, ◌⊎◌, List, [], ◌++◌, take, length, nat_lt, if◌then◌else◌, Option, None, Some, Result, Ok, Err, option_map}
 use Rattle.digest_kinds.specs.Limits.{LIMIT}
 use Rattle.sum_sources.specs.declared.input.TheConstants.{PIECE}
-use Rattle.sum_sources.specs.declared.fault.Fault.TheVariants.{Other}
-use Rattle.sum_sources.specs.declared.fault.Ending.TheVariants.{Broken}
-use Rattle.sum_sources.specs.declared.lines.Next.{Next}
-use Rattle.sum_sources.specs.declared.lines.Next.TheVariants.{Line, NoMore}
-use Rattle.sum_sources.specs.declared.lines.LineStop.{LineStop}
+use Rattle.sum_sources.specs.Contents.{Other, Broken, Content, InputState, limit, empty_content}
+use Rattle.sum_sources.specs.ManifestLines.{Next, Line, NoMore, LineStop}
 use Rattle.sum_sources.specs.declared.lines.LineStop.TheVariants as stops
-use Rattle.sum_sources.specs.Contents.{Content, InputState, limit}
-use Rattle.sum_sources.specs.Standard.{empty_content}
 
 -- a reader of lines
 pub record Reader (I : Type 0) : Type 0 where

@@ -1,15 +1,12 @@
 -- The lines of a manifest.
-use Rattle.std.specs.Prelude.{ℕ, zero, suc, ◌≡◌, ◌+◌, ◌==◌, false, List, [], ◌∷◌, ◌++◌, map, All}
-use Rattle.std.specs.Prelude.{◌<◌, ◌-◌, take, length, slice_index_or, Result, Ok, Err}
-use Rattle.std.specs.List.{slice_split, after_first, flat_map}
+use Rattle.std.specs.Prelude.{ℕ, zero, suc, ◌≡◌, ◌+◌, ◌==◌, false, List, [], ◌∷◌, ◌++◌, map, All, ◌<◌, ◌-◌, take, length, slice_index_or, Result, Ok, Err, flat_map}
+use Rattle.std.specs.List.{slice_split, after_first}
 use Rattle.std.specs.Str.Lines.{strip_carriage_return}
-use Rattle.sum_sources.specs.declared.fault.Ending.{Ending}
-use Rattle.sum_sources.specs.declared.fault.Ending.TheVariants.{Whole, Broken}
-use Rattle.sum_sources.specs.declared.lines.Next.{Next}
-use Rattle.sum_sources.specs.declared.lines.Next.TheVariants.{Line, NoMore}
-use Rattle.sum_sources.specs.declared.lines.LineStop.{LineStop}
+use Rattle.sum_sources.specs.Contents.{Ending, Whole, Broken, Content}
+pub use Rattle.sum_sources.specs.declared.lines.Next.{Next}
+pub use Rattle.sum_sources.specs.declared.lines.Next.TheVariants.{Line, NoMore}
+pub use Rattle.sum_sources.specs.declared.lines.LineStop.{LineStop}
 use Rattle.sum_sources.specs.declared.lines.LineStop.TheVariants as stops
-use Rattle.sum_sources.specs.Contents.{Content}
 
 -- the last piece, which no newline ended, is a line where it isn't empty and the content ends whole
 abbrev pub last_line : Ending → List ℕ → List (List ℕ)

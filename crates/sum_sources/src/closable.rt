@@ -1,5 +1,5 @@
 //! An input that may be closed from the start.
-ghost use Rattle.sum_sources.specs.Standard.{unless_closed};
+ghost use Rattle.sum_sources.specs.Contents.{unless_closed};
 
 use crate::{Fault, Input};
 

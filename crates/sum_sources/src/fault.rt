@@ -1,6 +1,6 @@
 //! What may go wrong in opening and reading, and how an input ends.
 ghost use Rattle.std.specs.Prelude.{◌≡◌};
-ghost use Rattle.sum_sources.specs.Faults.{fault_text};
+ghost use Rattle.sum_sources.specs.Contents.{fault_text};
 
 use std::{error, fmt};
 use thiserror::Error;

@@ -1,7 +1,7 @@
 //! Real files.
 ghost use Rattle.std.specs.Prelude.{◌≡◌};
 ghost use Rattle.std.specs.Str.{IsUtf8};
-ghost use Rattle.sum_sources.specs.Sources.{refusals_after};
+ghost use Rattle.sum_sources.specs.Contents.{refusals_after};
 
 use crate::from_read::fault_of;
 use crate::{Fault, FromRead, OpenFault, Source};

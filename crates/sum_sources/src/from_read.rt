@@ -26,7 +26,7 @@ pub struct FromRead<R> {
 }
 
 impl<R> Model for FromRead<R> {
-    ghost use Rattle.sum_sources.specs.Readers.{OverReader};
+    ghost use Rattle.sum_sources.specs.Contents.{OverReader};
 
     ghost Value = { OverReader R };
 

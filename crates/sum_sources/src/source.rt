@@ -1,7 +1,6 @@
 //! Where files are opened.
 ghost use Rattle.std.specs.Prelude.{◌≡◌};
-ghost use Rattle.sum_sources.specs.Contents.{WhereTold};
-ghost use Rattle.sum_sources.specs.Sources.{SourceState, OpenOf, refusals_after};
+ghost use Rattle.sum_sources.specs.Contents.{WhereTold, SourceState, OpenOf, refusals_after};
 
 use crate::{Fault, Input};
 use thiserror::Error;

@@ -52,7 +52,7 @@ impl<I: Input> Stdin<I> {
 }
 
 impl<I: Input> Input for Given<I> {
-    ghost use Rattle.sum_sources.specs.Standard.{left_in};
+    ghost use Rattle.sum_sources.specs.Contents.{left_in};
 
     ghost state = { λ s. left_in I.state s };
 

@@ -1,17 +1,15 @@
 -- The command line by its list of arguments.
-use Rattle.std.proofs.Common.{ℕ, ◌≡◌, ◌+◌, ◌-◌, ◌<◌, ◌≤◌, true, false, not, ◌==◌, zero, suc, List, [], ◌∷◌, length, drop, Some, None, refl, ap, sym, ◌∙◌, arith, inl, inr, add-one}
+use Rattle.std.proofs.Common.{ℕ, ◌≡◌, ◌+◌, ◌-◌, ◌<◌, ◌≤◌, true, false, not, ◌==◌, zero, suc, List, [], ◌∷◌, length, drop, Some, None, refl, ap, sym, ◌∙◌, arith, inl, inr, add-one, slice_get, Option, ◌++◌, Any, IsSomeAnd}
 use Rattle.std.proofs.lemmas.List.Sums.{suffix_len_is}
 use Rattle.std.proofs.lemmas.Bool.{not_from_false, not_from_true, false_from_ne_true}
 use Rattle.std.specs.List.{suffix_len}
-use Rattle.std.specs.Prelude.{slice_get, Option, ◌++◌, Any, IsSomeAnd}
 use Rattle.sum_words.specs.declared.command_line.TheConstants.{PAGE}
 use Rattle.std.proofs.lemmas.Option.{slice_get_within, get_or_from_slice_get, IfSome_then}
 use Rattle.std.proofs.Math.Seq.{drop-cons}
 use Rattle.std.proofs.lemmas.List.{append-nil, append_assoc}
 use Rattle.std.proofs.lemmas.List.Folds.{list_all-append}
-use Rattle.sum_words.specs.declared.tool.Tool.{Tool}
+use Rattle.sum_words.specs.Tools.{Tool, tool_called}
 use Rattle.sum_words.specs.Items.{Text, is_readable}
-use Rattle.sum_words.specs.Tools.{tool_called}
 use Rattle.memchr.specs.Find.{Passes, Nowhere, is_byte}
 use Rattle.sum_words.specs.CommandLines.{last_part}
 use Rattle.sum_words.specs.refinement.Arguments.{ArgumentIs, IsFirstWord, WordsUpTo, WordsAre, HasArgument, IsLonger, MayBeUnread}

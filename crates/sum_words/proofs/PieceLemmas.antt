@@ -1,9 +1,7 @@
 -- Bytes cut into pieces: one more piece, and the piece at a place.
-use Rattle.std.proofs.Common.{◌≡◌, ℕ, zero, suc, ◌-◌, ◌<◌, ◌≤◌, List, [], ◌∷◌, ◌++◌, length, take, drop, get_or, Option, None, Some, IfSome, refl, ap, sym, arith, length-append, length-drop, slice_get, true, ltb}
+use Rattle.std.proofs.Common.{◌≡◌, ℕ, zero, suc, ◌-◌, ◌<◌, ◌≤◌, List, [], ◌∷◌, ◌++◌, length, take, drop, get_or, Option, None, Some, IfSome, refl, ap, sym, arith, length-append, length-drop, slice_get, true, ltb, option_copied, IsUtf8}
 use denote.Ref.{Bor}
 use Rattle.std.specs.List.{list_all}
-use Rattle.std.specs.Option.{option_copied}
-use Rattle.std.specs.Str.{IsUtf8}
 use Rattle.std.proofs.lemmas.Str.{is_utf8-from_IsUtf8}
 use Rattle.std.proofs.lemmas.List.{take-append-le, drop-append-le}
 use Rattle.std.proofs.lemmas.List.Folds.{list_all-append}

@@ -1,29 +1,23 @@
 -- Worked command lines: what the definitions say of each computes.
-use Rattle.std.proofs.Common.{◌≡◌, ◌==◌, ◌≤◌, ◌<◌, List, ℕ, [], ◌∷◌, Result, Ok, Err, Option, Some, None, is_some, if◌then◌else◌, refl, codes, true, false, length, inl, inr, arith, lit≤}
-use Rattle.std.specs.List.{AllByRecursion, Any as SomeOne, slice_split}
+use Rattle.std.proofs.Common.{◌≡◌, ◌==◌, ◌≤◌, ◌<◌, List, ℕ, [], ◌∷◌, Result, Ok, Err, Option, Some, None, is_some, if◌then◌else◌, refl, codes, true, false, length, inl, inr, arith, lit≤, Any as SomeOne, chars}
+use Rattle.std.specs.List.{AllByRecursion, slice_split}
 use Rattle.std.proofs.lemmas.List.Elements.{All-from_recursion}
-use Rattle.std.specs.Str.{byte, chars, is_utf8}
+use Rattle.std.specs.Str.{byte, is_utf8}
 use Prim.Native.String.{String}
 use lib.Utf8.{encode}
-use Rattle.digest_kinds.specs.declared.algo.Algo.{Algo}
+use Rattle.sum_lines.specs.Shapes.{Algo, One, Any}
 use Rattle.digest_kinds.specs.declared.algo.Algo.TheVariants.{Md5, Sha256, Blake2b}
-use Rattle.digest_kinds.specs.declared.algo.Algos.TheVariants.{One, Any}
 use Rattle.sum_lines.specs.declared.line_format.Mode.{Mode}
+use Rattle.sum_words.specs.Items.{Long, Short, Text, name_or_fault, option_of_letter}
+use Rattle.sum_words.specs.Tools.{Tool, tool_called}
+use Rattle.sum_words.specs.declared.tool.Tool.TheVariants.{Md5sum, Sha256sum, B2sum, Anysum}
+use Rattle.sum_words.specs.Request.{Request, Work, Help, Version, Generate, Check, request}
+use Rattle.sum_words.specs.WordFaults.{Fault, unknown_long, ambiguous_long, value_not_allowed, value_missing, unknown_short, length_invalid, length_not_bytes, tag_with_text, zero_with_check, tag_with_check, mode_with_check, without_check, check_needed}
+use Rattle.sum_words.specs.CommandLines.{unknown, call, last_part, command_line, NeedsMemory, MayNotRead}
+use Rattle.sum_words.specs.declared.command_line.TheConstants.{PAGE}
 use Rattle.sum_lines.specs.declared.line_format.Mode.TheVariants as modes
 use Rattle.sum_engine.specs.declared.settings.Report.TheVariants as reports
 use Rattle.sum_words.specs.declared.options.Flag.TheVariants as flags
-use Rattle.sum_words.specs.declared.options.Spelling.TheVariants.{Long, Short}
-use Rattle.sum_words.specs.declared.tool.Tool.{Tool}
-use Rattle.sum_words.specs.declared.tool.Tool.TheVariants.{Md5sum, Sha256sum, B2sum, Anysum}
-use Rattle.sum_words.specs.declared.request.Request.{Request}
-use Rattle.sum_words.specs.declared.request.Request.TheVariants.{Work, Help, Version}
-use Rattle.sum_words.specs.declared.request.Job.TheVariants.{Generate, Check}
-use Rattle.sum_words.specs.WordFaults.{Fault, unknown_long, ambiguous_long, value_not_allowed, value_missing, unknown_short, length_invalid, length_not_bytes, tag_with_text, zero_with_check, tag_with_check, mode_with_check, without_check, check_needed}
-use Rattle.sum_words.specs.Items.{Text, name_or_fault, option_of_letter}
-use Rattle.sum_words.specs.Request.{request}
-use Rattle.sum_words.specs.CommandLines.{unknown, call, last_part, command_line, NeedsMemory, MayNotRead}
-use Rattle.sum_words.specs.Tools.{tool_called}
-use Rattle.sum_words.specs.declared.command_line.TheConstants.{PAGE}
 
 -- the words of a line that has one blank between each two
 abbrev pub words : String → List Text

@@ -1,8 +1,7 @@
 -- The search for a tool by its name.
 use Rattle.std.proofs.Common.{◌≡◌, ◌↔◌, List, ℕ, Option, Some, IfSome, refl, ◌∙◌}
-use Rattle.sum_words.specs.declared.tool.Tool.{Tool}
+use Rattle.sum_words.specs.Tools.{Tool, name_of, tool_called}
 use Rattle.sum_words.specs.declared.tool.Tool.TheVariants as tools
-use Rattle.sum_words.specs.Tools.{name_of, tool_called}
 
 -- each tool is found by its own name
 found_by_name : (tool : Tool) → tool_called (name_of tool) ≡ Some tool

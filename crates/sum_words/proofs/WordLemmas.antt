@@ -1,17 +1,15 @@
 -- Cuts of one word.
-use Rattle.std.proofs.Common.{◌≡◌, ◌==◌, ◌≢◌, ℕ, ◌+◌, true, false, List, [], ◌∷◌, ◌++◌, codes, length, drop, Option, None, Some, Result, Ok, Err, is_ok, refl, ap, sym, ◌∙◌, eqb, MatchOption, MatchResult}
+use Rattle.std.proofs.Common.{◌≡◌, ◌==◌, ◌≢◌, ℕ, ◌+◌, true, false, List, [], ◌∷◌, ◌++◌, codes, length, drop, Option, None, Some, Result, Ok, Err, is_ok, refl, ap, sym, ◌∙◌, eqb, MatchOption, MatchResult, chars, encode_utf8_all, IsUtf8, encode_utf8}
 use denote.Ref.{Bor}
 use Rattle.std.specs.List.{starts_with}
-use Rattle.std.specs.Str.{chars, encode_utf8_all, IsUtf8, is_utf8}
-use Rattle.std.specs.Char.{encode_utf8}
+use Rattle.std.specs.Str.{is_utf8}
 use Rattle.std.specs.Str.Pattern.{FindsTextPrefix}
 use Rattle.std.proofs.lemmas.Str.Pattern.{starts_text}
 use Rattle.std.proofs.lemmas.Str.{chars-nil, chars_past_char, encodes-chars, IsUtf8-from_is_utf8, is_utf8-from_IsUtf8}
 use Rattle.std.proofs.lemmas.List.{nil_from_length}
 use Rattle.std.proofs.lemmas.Bool.{eqb-true, and_parts, false_from_ne_true}
 use Rattle.std.proofs.Math.Bool.{and-true}
-use Rattle.sum_words.specs.declared.options.Spelling.TheVariants.{Short}
-use Rattle.sum_words.specs.Items.{attached_value, a_value, a_word, length_value, is_option_word, is_readable}
+use Rattle.sum_words.specs.Items.{Short, attached_value, a_value, a_word, length_value, is_option_word, is_readable}
 use Rattle.sum_words.specs.refinement.ItemIterator.{IsBehind}
 
 -- what stands behind a prefix of a text, as the search for a prefix gives it

@@ -1,11 +1,10 @@
 -- What the program is called for: from the list of its arguments, the name that it was called by and the words.
-use Rattle.std.specs.Prelude.{◌≡◌, ◌<◌, ◌⊎◌, ◌==◌, List, Any, length, drop, slice_get, Option, None, Some, is_some, if◌then◌else◌}
+use Rattle.std.specs.Prelude.{◌≡◌, ◌<◌, ◌⊎◌, ◌==◌, List, Any, length, drop, slice_get, Option, None, Some, is_some, if◌then◌else◌, option_and_then}
 use Rattle.std.specs.List.{after_last, list_all}
-use Rattle.std.specs.Option.{option_and_then, option_map_or}
+use Rattle.std.specs.Option.{option_map_or}
 use Rattle.sum_words.specs.declared.command_line.TheConstants.{PAGE}
-use Rattle.sum_words.specs.declared.tool.Tool.{Tool}
+use Rattle.sum_words.specs.Tools.{Tool, tool_called}
 use Rattle.sum_words.specs.Items.{Text, is_readable}
-use Rattle.sum_words.specs.Tools.{tool_called}
 
 -- the last part of a path: what stands behind its last slash (47)
 abbrev pub last_part : Text → Text

@@ -1,18 +1,18 @@
 -- What the words of a command line say, one by one: options, length values, operands, and at the end maybe a fault.
 use denote.Enum.Bare.{sameb}
-use Rattle.std.specs.Prelude.{ℕ, ◌+◌, ◌==◌, ◌&&◌, ◌||◌, not, Bool, List, [], ◌∷◌, ◌++◌, map, drop, Option, None, Some, Result, Ok, Err, codes, if◌then◌else◌, option_map, filter, find, position}
+use Rattle.std.specs.Prelude.{ℕ, ◌+◌, ◌==◌, ◌&&◌, ◌||◌, not, Bool, List, [], ◌∷◌, ◌++◌, map, drop, Option, None, Some, Result, Ok, Err, codes, if◌then◌else◌, option_map, filter, find, position, bytes_eq, chars, encode_utf8_all}
 use Rattle.std.specs.List.{starts_with, before_first}
 use Rattle.std.specs.Option.{option_map_or}
-use Rattle.std.specs.Str.{byte, bytes_eq, chars, encode_utf8_all, is_utf8}
+use Rattle.std.specs.Str.{byte, is_utf8}
 use Rattle.sum_words.specs.declared.tool.Tool.{Tool}
-use Rattle.sum_words.specs.declared.tool.Tool.TheVariants as tools
-use Rattle.sum_words.specs.declared.options.Flag.{Flag}
-use Rattle.sum_words.specs.declared.options.Flag.TheVariants as flags
+pub use Rattle.sum_words.specs.declared.options.Flag.{Flag}
 use Rattle.sum_words.specs.contracts.tool.Tool.{the_type as tool_type}
 use Rattle.sum_words.specs.contracts.options.Flag.{the_type as flag_type}
-use Rattle.sum_words.specs.declared.options.Spelling.{Spelling}
-use Rattle.sum_words.specs.declared.options.Spelling.TheVariants.{Long, Short}
+pub use Rattle.sum_words.specs.declared.options.Spelling.{Spelling}
+pub use Rattle.sum_words.specs.declared.options.Spelling.TheVariants.{Long, Short}
 use Rattle.sum_words.specs.WordFaults.{Fault, unknown_long, ambiguous_long, value_not_allowed, value_missing, unknown_short}
+use Rattle.sum_words.specs.declared.tool.Tool.TheVariants as tools
+use Rattle.sum_words.specs.declared.options.Flag.TheVariants as flags
 
 -- a list of bytes
 abbrev pub Text : Type 0

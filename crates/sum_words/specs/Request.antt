@@ -1,32 +1,29 @@
 -- What a command line asks for: the request that its items make, or the first fault that counts.
 use denote.Enum.Bare.{sameb}
-use Rattle.std.specs.Prelude.{◌&&◌, ◌||◌, not, Bool, List, [], ◌∷◌, ◌++◌, map, false, Option, None, Some, Result, Ok, Err, if◌then◌else◌, unwrap_or, option_map, filter, find}
+use Rattle.std.specs.Prelude.{◌&&◌, ◌||◌, not, Bool, List, [], ◌∷◌, ◌++◌, map, false, Option, None, Some, Result, Ok, Err, if◌then◌else◌, unwrap_or, option_map, filter, find, bytes_eq}
 use Rattle.std.specs.List.{last_or, list_any}
 use Rattle.std.specs.Option.{option_transpose, option_map_or}
 use Rattle.std.specs.Result.{result_map_both}
-use Rattle.std.specs.Str.{bytes_eq, all_ascii_digits}
+use Rattle.std.specs.Str.{all_ascii_digits}
 use Rattle.std.specs.Str.Parse.{digits_value}
-use Rattle.digest_kinds.specs.declared.algo.Algos.{Algos}
+use Rattle.sum_words.specs.Tools.{Algos, Tool, algos_of}
 use Rattle.digest_kinds.specs.declared.algo.Algos.TheVariants.{One, Any}
 use Rattle.digest_kinds.specs.declared.kind.LengthFault.{LengthFault}
 use Rattle.digest_kinds.specs.declared.kind.LengthFault.TheVariants.{TooLong, NotBytes}
-use Rattle.digest_kinds.specs.Kinds.{KindValue, full_kind}
-use Rattle.digest_kinds.specs.Lengths.{blake2b_of_bits}
+use Rattle.digest_kinds.specs.Kinds.{KindValue, full_kind, blake2b_of_bits}
 use Rattle.sum_lines.specs.declared.line_format.Mode.{Mode}
-use Rattle.sum_lines.specs.declared.line_format.Mode.TheVariants as modes
 use Rattle.sum_engine.specs.declared.settings.Report.{Report}
-use Rattle.sum_engine.specs.declared.settings.Report.TheVariants as reports
 use Rattle.sum_words.specs.declared.options.Flag.{Flag}
-use Rattle.sum_words.specs.declared.options.Flag.TheVariants as flags
 use Rattle.sum_words.specs.contracts.options.Flag.{the_type}
-use Rattle.sum_words.specs.declared.tool.Tool.{Tool}
-use Rattle.sum_words.specs.declared.request.Request.{Request}
-use Rattle.sum_words.specs.declared.request.Request.TheVariants.{Work, Help, Version}
-use Rattle.sum_words.specs.declared.request.Job.{Job}
-use Rattle.sum_words.specs.declared.request.Job.TheVariants.{Generate, Check}
-use Rattle.sum_words.specs.Tools.{algos_of}
+pub use Rattle.sum_words.specs.declared.request.Request.{Request}
+pub use Rattle.sum_words.specs.declared.request.Request.TheVariants.{Work, Help, Version}
+pub use Rattle.sum_words.specs.declared.request.Job.{Job}
+pub use Rattle.sum_words.specs.declared.request.Job.TheVariants.{Generate, Check}
 use Rattle.sum_words.specs.WordFaults.{Fault, length_invalid, length_not_bytes, tag_with_text, zero_with_check, tag_with_check, mode_with_check, without_check, check_needed}
 use Rattle.sum_words.specs.Items.{Text, Item, option, fault, a_word, items_from, options_of, values_of, operands_of}
+use Rattle.sum_lines.specs.declared.line_format.Mode.TheVariants as modes
+use Rattle.sum_engine.specs.declared.settings.Report.TheVariants as reports
+use Rattle.sum_words.specs.declared.options.Flag.TheVariants as flags
 
 -- whether an option is among these (by `sameb`, as `==` answers), and whether it is the last of its kind among them
 abbrev pub has : Flag → List Flag → Bool

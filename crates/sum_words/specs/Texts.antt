@@ -1,18 +1,13 @@
 -- The texts that the program itself writes: those of faults, help and version, and the line for a stop.
-use Rattle.std.specs.Prelude.{[], ◌-◌, ◌++◌, codes, flat_map, if◌then◌else◌, length, replicate}
-use Rattle.std.specs.Char.{encode_utf8}
-use Rattle.std.specs.Str.{byte, bytes_eq}
-use Rattle.digest_kinds.specs.declared.algo.Algos.{Algos}
+use Rattle.std.specs.Prelude.{[], ◌-◌, ◌++◌, codes, flat_map, if◌then◌else◌, length, replicate, encode_utf8, bytes_eq}
+use Rattle.std.specs.Str.{byte}
+use Rattle.sum_words.specs.Tools.{Algos, Tool, name_of, algos_of}
 use Rattle.digest_kinds.specs.declared.algo.Algos.TheVariants.{One, Any}
 use Rattle.digest_kinds.specs.Kinds.{tag}
 use Rattle.sum_lines.specs.Escape.{escape}
 use Rattle.sum_engine.specs.declared.stop.Stop.{Stop}
 use Rattle.sum_engine.specs.declared.stop.Stop.TheVariants.{Memory, Write}
-use Rattle.sum_words.specs.declared.options.Spelling.TheVariants.{Long, Short}
-use Rattle.sum_words.specs.declared.tool.Tool.{Tool}
-use Rattle.sum_words.specs.Tools.{name_of, algos_of}
-use Rattle.sum_words.specs.declared.options.Flag.{Flag}
-use Rattle.sum_words.specs.Items.{Text, row_of, full_name, takes_value, flags_of}
+use Rattle.sum_words.specs.Items.{Long, Short, Flag, Text, row_of, full_name, takes_value, flags_of}
 use Rattle.sum_words.specs.WordFaults.{Fault, unknown_long, ambiguous_long, value_not_allowed, value_missing, unknown_short, length_invalid, length_not_bytes, tag_with_text, zero_with_check, tag_with_check, mode_with_check, without_check, check_needed}
 
 -- a fault: what its text shows of the words is escaped as names are

@@ -1,11 +1,9 @@
 -- The tools: the name of each, and the algorithms of its digests.
-use Rattle.std.specs.Prelude.{List, [], ◌∷◌, ℕ, Option, codes}
-use Rattle.std.specs.List.{find}
-use Rattle.std.specs.Str.{bytes_eq}
+use Rattle.std.specs.Prelude.{List, [], ◌∷◌, ℕ, Option, codes, find, bytes_eq}
 use Rattle.digest_kinds.specs.declared.algo.Algo.TheVariants.{Md5, Sha1, Sha224, Sha256, Sha384, Sha512, Blake2b}
-use Rattle.digest_kinds.specs.declared.algo.Algos.{Algos}
+pub use Rattle.digest_kinds.specs.declared.algo.Algos.{Algos}
 use Rattle.digest_kinds.specs.declared.algo.Algos.TheVariants.{One, Any}
-use Rattle.sum_words.specs.declared.tool.Tool.{Tool}
+pub use Rattle.sum_words.specs.declared.tool.Tool.{Tool}
 use Rattle.sum_words.specs.declared.tool.Tool.TheVariants as tools
 
 -- each tool's name, and the algorithm whose digests it writes and checks; anysum checks those of any

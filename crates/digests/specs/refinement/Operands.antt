@@ -1,13 +1,10 @@
 -- Joins the calls of a run to its operands.
 use Rattle.std.specs.Prelude.{ℕ, ◌≡◌, Bool, List, Result, Ok, Err}
-use Rattle.sum_sources.specs.Sources.{SourceState}
-use Rattle.sum_sources.specs.Contents.{WhereTold}
+use Rattle.sum_sources.specs.Contents.{SourceState, WhereTold}
 use Rattle.sum_engine.specs.declared.stop.Stop.{Stop}
 use Rattle.sum_engine.specs.declared.stop.Stop.TheVariants.{Write}
-use Rattle.sum_engine.specs.Worlds.{World}
-use Rattle.sum_engine.specs.Runs.{Run, run_then, events}
-use Rattle.sum_engine.specs.Moments.{Moment, RunState, run_state}
-use Rattle.sum_engine.specs.RunStates.{Did}
+use Rattle.sum_engine.specs.Runs.{World, Run, run_then, events}
+use Rattle.sum_engine.specs.Moments.{Moment, RunState, run_state, Did}
 use Rattle.sum_words.specs.Items.{Text}
 use Rattle.digests.specs.Meaning.{all_of}
 

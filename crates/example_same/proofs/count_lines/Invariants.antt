@@ -1,5 +1,4 @@
-use Rattle.std.proofs.Common.{◌≡◌, ◌+◌, ◌-◌, ◌^◌, length}
-use Rattle.std.specs.Option.{option_map}
+use Rattle.std.proofs.Common.{◌≡◌, ◌+◌, ◌-◌, ◌^◌, length, option_map}
 use Rattle.sum_sources.specs.Contents.{WhereTold, clip}
 use Rattle.sum_sources.specs.LineReaders.{coming}
 use Rattle.sum_sources.specs.ManifestLines.{lines}

@@ -1,13 +1,12 @@
 -- Joins asking one name to the world.
 use Rattle.std.specs.Prelude.{ℕ, ◌≡◌, List, [], ◌∷◌, length, Option, None, Some, Ok, Err, ⊤}
 use Rattle.digest_kinds.specs.Kinds.{KindValue}
-use Rattle.sum_sources.specs.Contents.{Content, WhereTold}
-use Rattle.sum_sources.specs.Sources.{Reply, Refused, Given, SourceState, Telling}
+use Rattle.sum_sources.specs.Contents.{Content, WhereTold, Reply, Refused, Given, SourceState, Telling}
 use Rattle.sum_engine.specs.Moments.{Moment}
 use Rattle.digest_kinds.specs.Limits.{one_more}
-use Rattle.sum_engine.specs.declared.asking.Asked.{Asked}
+pub use Rattle.sum_engine.specs.declared.asking.Asked.{Asked}
+use Rattle.sum_engine.specs.Runs.{World, after, digest_or_fault, reply}
 use Rattle.sum_engine.specs.declared.asking.Asked.TheVariants as asked
-use Rattle.sum_engine.specs.Worlds.{World, after, digest_or_fault, reply}
 
 -- the world at a moment, where the source and standard input tell
 abbrev pub world_by : Option Telling → Option Content → Option World

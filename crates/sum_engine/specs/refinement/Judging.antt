@@ -1,21 +1,16 @@
 -- Joins what the code finds of a line to what the line says, and to its verdict.
-use Rattle.std.specs.Prelude.{ℕ, ◌≡◌, Bool, List, [], Option, None, Some, if◌then◌else◌}
-use Rattle.std.specs.Str.{bytes_eq}
+use Rattle.std.specs.Prelude.{ℕ, ◌≡◌, Bool, List, [], Option, None, Some, if◌then◌else◌, bytes_eq}
 use Rattle.sum_sources.specs.declared.fault.Fault.TheVariants.{NotFound, Denied, Other}
 use Rattle.sum_lines.specs.Entries.{Spelled, form_then, line_form}
 use Rattle.sum_engine.specs.declared.verdict.Listed.{Listed}
 use Rattle.sum_engine.specs.declared.asking.Asked.{Asked}
-use Rattle.sum_engine.specs.declared.asking.Asked.TheVariants as asked
-use Rattle.sum_engine.specs.declared.verdict.Verdict.{Verdict}
-use Rattle.sum_engine.specs.declared.verdict.Verdict.TheVariants.{Right, Wrong, Missing, Unread}
+use Rattle.sum_engine.specs.Verdicts.{Verdict, Right, Wrong, Missing, Unread, Rules, judge, asks_by, asks_of}
 use Rattle.sum_lines.specs.ParsedLines.{ParsedLine, Nothing, Improper, WithEntry, parse_line}
-use Rattle.sum_engine.specs.Worlds.{World, after}
-use Rattle.sum_engine.specs.Verdicts.{Rules, judge, asks_by, asks_of}
-use Rattle.sum_engine.specs.declared.summary.Counts.{Counts}
-use Rattle.sum_engine.specs.declared.verdict.LineVerdict.{LineVerdict}
-use Rattle.sum_engine.specs.Reports.{counts_with}
-use Rattle.sum_engine.specs.Checkers.{Place}
-use Rattle.sum_engine.specs.LineVerdicts.{judged_in}
+use Rattle.sum_engine.specs.Runs.{World, after}
+use Rattle.sum_engine.specs.Reports.{Counts, counts_with}
+use Rattle.sum_engine.specs.LineVerdicts.{LineVerdict, judged_in}
+use Rattle.sum_engine.specs.Steps.{Place}
+use Rattle.sum_engine.specs.declared.asking.Asked.TheVariants as asked
 
 -- what an entry spells
 abbrev pub spelled_by : Listed → Spelled

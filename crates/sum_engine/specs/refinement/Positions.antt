@@ -3,7 +3,7 @@ use Rattle.sum_engine.specs.declared.listing.Listing.{Listing}
 use Rattle.sum_engine.specs.declared.position.Position.{Position}
 use Rattle.sum_lines.specs.Escape.{present}
 use Rattle.sum_engine.specs.Verdicts.{Rules}
-use Rattle.sum_engine.specs.Checkers.{Place}
+use Rattle.sum_engine.specs.Steps.{Place}
 
 abbrev pub rules_in : Listing → Rules
 rules_in l =

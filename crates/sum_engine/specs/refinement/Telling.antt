@@ -5,9 +5,8 @@ use Rattle.sum_lines.specs.Sinks.{SinkState}
 use Rattle.digest_kinds.specs.Limits.{one_more}
 use Rattle.sum_lines.specs.refinement.GrowingSinks.{AppendsPrefix}
 use Rattle.sum_lines.specs.Escape.{Profile}
-use Rattle.sum_engine.specs.declared.settings.Report.{Report}
+use Rattle.sum_engine.specs.Reports.{Report, is_hidden, verdict_line}
 use Rattle.sum_engine.specs.declared.verdict.Verdict.{Verdict}
-use Rattle.sum_engine.specs.Reports.{is_hidden, verdict_line}
 
 -- all of the text was handed on, or a prefix of it where a call failed
 abbrev pub Hands : {E : Type 0} → Option (List ℕ) → Option (List ℕ) → List ℕ → Result (Unit {0}) E → Type 0

@@ -1,21 +1,14 @@
 -- Joins the line reader's fields and steps to what its callers see of it, and says what the fields keep.
-use Rattle.std.specs.Prelude.{◌≡◌, ◌+◌, ◌-◌, ◌<◌, ◌≤◌, take, drop, Option, None, Some, Result, Ok, Err}
-use Rattle.std.specs.Prelude.{Bool, true, false, ℕ, List, [], ◌∷◌, ◌++◌}
+use Rattle.std.specs.Prelude.{◌≡◌, ◌+◌, ◌-◌, ◌<◌, ◌≤◌, take, drop, Option, None, Some, Result, Ok, Err, Bool, true, false, ℕ, List, [], ◌∷◌, ◌++◌}
 use Rattle.digest_kinds.specs.Limits.{LIMIT}
 use Rattle.sum_sources.specs.declared.input.TheConstants.{PIECE}
-use Rattle.sum_sources.specs.declared.fault.Fault.{Fault}
-use Rattle.sum_sources.specs.declared.fault.Ending.TheVariants.{Broken}
+use Rattle.sum_sources.specs.Contents.{Fault, Broken, Content, empty_content}
 use Rattle.sum_sources.specs.declared.lines.LineReader.TheInside.{Inside}
 use Rattle.sum_sources.specs.declared.lines.State.{State}
 use Rattle.sum_sources.specs.declared.lines.State.TheVariants.{Reading, Ended, Stopped}
-use Rattle.sum_sources.specs.declared.lines.Next.{Next}
-use Rattle.sum_sources.specs.declared.lines.Next.TheVariants.{NoMore}
-use Rattle.sum_sources.specs.declared.lines.LineStop.{LineStop}
-use Rattle.sum_sources.specs.declared.lines.LineStop.TheVariants as stops
-use Rattle.sum_sources.specs.Contents.{Content}
-use Rattle.sum_sources.specs.ManifestLines.{NoNewline}
-use Rattle.sum_sources.specs.Standard.{empty_content}
+use Rattle.sum_sources.specs.ManifestLines.{Next, NoMore, LineStop, NoNewline}
 use Rattle.sum_sources.specs.LineReaders.{Reader}
+use Rattle.sum_sources.specs.declared.lines.LineStop.TheVariants as stops
 
 -- what every later call answers again
 abbrev pub answer_at : State → Option (Result Next LineStop)

@@ -1,13 +1,11 @@
 -- Joins the reading of the arguments to their list.
-use Rattle.std.specs.Prelude.{ℕ, ◌≡◌, ◌<◌, true, List, ◌++◌, take, drop, length, slice_get, Option, None, Some, IfSome, IsSomeAnd, Result, Ok, Err, ⊤}
+use Rattle.std.specs.Prelude.{ℕ, ◌≡◌, ◌<◌, true, List, ◌++◌, take, drop, length, slice_get, Option, None, Some, IfSome, IsSomeAnd, Result, Ok, Err, ⊤, option_and_then}
 use Rattle.std.specs.List.{list_all}
-use Rattle.std.specs.Option.{option_and_then}
 use Rattle.std.specs.declared.env.FillError.{FillError}
 use Rattle.std.specs.declared.env.FillError.TheVariants.{NotPresent, TooLong}
-use Rattle.sum_words.specs.declared.tool.Tool.{Tool}
+use Rattle.sum_words.specs.Tools.{Tool, tool_called}
 use Rattle.sum_words.specs.declared.command_line.CommandLine.{CommandLine}
 use Rattle.sum_words.specs.Items.{Text, is_readable}
-use Rattle.sum_words.specs.Tools.{tool_called}
 use Rattle.sum_words.specs.declared.command_line.CommandLine.TheVariants.{UnknownTool, Asks}
 use Rattle.sum_words.specs.CommandLines.{Call, unknown, call, last_part, command_line, MayNotRead}
 

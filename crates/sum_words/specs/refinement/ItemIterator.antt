@@ -1,19 +1,18 @@
 -- Joins the iterator over the words to the list of items: what its values say, and what is still to come where it
 -- stands.
-use Rattle.std.specs.Prelude.{◌≡◌, ◌==◌, ℕ, drop, length, true, map, List, [], ◌∷◌, ◌++◌, Option, None, Some}
+use Rattle.std.specs.Prelude.{◌≡◌, ◌==◌, ℕ, drop, length, true, map, List, [], ◌∷◌, ◌++◌, Option, None, Some, chars}
 use Rattle.std.specs.List.{starts_with}
-use Rattle.std.specs.Str.{chars}
 use Rattle.sum_words.specs.declared.tool.Tool.{Tool}
 use Rattle.sum_words.specs.declared.faults.WordFault.{WordFault}
-use Rattle.sum_words.specs.declared.faults.WordFault.TheVariants as words
 use Rattle.sum_words.specs.WordFaults.{Fault, unknown_long, ambiguous_long, value_not_allowed, value_missing, unknown_short, length_invalid, length_not_bytes, tag_with_text, zero_with_check, tag_with_check, mode_with_check, without_check, check_needed}
 use Rattle.sum_words.specs.declared.items.Item.{Item as WordItem}
-use Rattle.sum_words.specs.declared.items.Item.TheVariants as says
 use Rattle.sum_words.specs.declared.items.State.{State}
-use Rattle.sum_words.specs.declared.items.State.TheVariants as states
 use Rattle.sum_words.specs.declared.items.Step.{Step}
-use Rattle.sum_words.specs.declared.items.Step.TheVariants as steps
 use Rattle.sum_words.specs.Items.{Text, Item, option, length_value, operand, fault, NextWord, a_word, a_value, no_word, cluster, items_from}
+use Rattle.sum_words.specs.declared.faults.WordFault.TheVariants as words
+use Rattle.sum_words.specs.declared.items.Item.TheVariants as says
+use Rattle.sum_words.specs.declared.items.State.TheVariants as states
+use Rattle.sum_words.specs.declared.items.Step.TheVariants as steps
 
 -- a letter as a text, where there is one
 abbrev pub letter_text : Option ℕ → Text

@@ -1,14 +1,10 @@
 -- Joins the reader of the words to the request: what its running values say, and its answers.
-use Rattle.std.specs.Prelude.{ℕ, ◌≡◌, ◌≤◌, ◌^◌, ◌||◌, true, Bool, List, [], Option, None, Some, Result, Ok, Err, filter, option_map}
+use Rattle.std.specs.Prelude.{ℕ, ◌≡◌, ◌≤◌, ◌^◌, ◌||◌, true, Bool, List, [], Option, None, Some, Result, Ok, Err, filter, option_map, option_copied}
 use Rattle.std.specs.List.{last_or}
-use Rattle.std.specs.Option.{option_copied}
 use Rattle.std.specs.Str.Parse.{digits_value}
 use Rattle.sum_lines.specs.declared.line_format.Mode.{Mode}
-use Rattle.sum_lines.specs.declared.line_format.Mode.TheVariants as modes
 use Rattle.sum_engine.specs.declared.settings.Report.{Report}
-use Rattle.sum_engine.specs.declared.settings.Report.TheVariants as reports
 use Rattle.sum_words.specs.declared.options.Flag.{Flag}
-use Rattle.sum_words.specs.declared.options.Flag.TheVariants as flags
 use Rattle.sum_words.specs.declared.faults.WordFault.{WordFault}
 use Rattle.sum_words.specs.declared.request.Chosen.{Chosen}
 use Rattle.sum_words.specs.declared.request.Reading.{Reading}
@@ -17,6 +13,9 @@ use Rattle.sum_words.specs.WordFaults.{Fault}
 use Rattle.sum_words.specs.Items.{Text, Item, options_of, values_of}
 use Rattle.sum_words.specs.refinement.ItemIterator.{fault_of}
 use Rattle.sum_words.specs.Request.{early_answer, has, mode_flags, report_flags, is_number}
+use Rattle.sum_lines.specs.declared.line_format.Mode.TheVariants as modes
+use Rattle.sum_engine.specs.declared.settings.Report.TheVariants as reports
+use Rattle.sum_words.specs.declared.options.Flag.TheVariants as flags
 
 -- the options that set these
 abbrev pub mode_flag : Mode → Flag

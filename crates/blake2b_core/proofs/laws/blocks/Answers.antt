@@ -1,8 +1,6 @@
-use Rattle.std.proofs.Common.{◌≡◌, ℕ, zero, suc, ◌+◌, ◌-◌, ◌*◌, ◌<◌, ◌≤◌, List, ◌++◌, length, take, drop, replicate}
-use Rattle.std.proofs.Common.{refl, ap, ◌∙◌, arith}
+use Rattle.std.proofs.Common.{◌≡◌, ℕ, zero, suc, ◌+◌, ◌-◌, ◌*◌, ◌<◌, ◌≤◌, List, ◌++◌, length, take, drop, replicate, refl, ap, ◌∙◌, arith}
 use Rattle.std.specs.List.{concat}
-use Rattle.std.proofs.lemmas.List.{take-append-drop, take-take, drop-take, take_all, length-append, length-replicate}
-use Rattle.std.proofs.lemmas.List.{length-take-le, length-drop}
+use Rattle.std.proofs.lemmas.List.{take-append-drop, take-take, drop-take, take_all, length-append, length-replicate, length-take-le, length-drop}
 use Rattle.std.specs.Simd.{first_chunks}
 use Rattle.blake2b_core.specs.Digest.{blocks}
 use Rattle.blake2b_core.proofs.BlockLemmas.{block_count, padded}

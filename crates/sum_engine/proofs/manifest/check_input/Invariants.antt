@@ -1,9 +1,8 @@
-use Rattle.std.proofs.Common.{◌≡◌, ◌⊎◌, ◌^◌, ◌-◌, Bool, true, Ok, None}
+use Rattle.std.proofs.Common.{◌≡◌, ◌⊎◌, ◌^◌, ◌-◌, Bool, true, Ok, None, option_map}
 use Rattle.digest_kinds.specs.Limits.{one_more}
-use Rattle.std.specs.Option.{option_map}
 use Rattle.sum_sources.specs.Contents.{clip}
 use Rattle.sum_engine.specs.Moments.{run_state, HoldNothing, Accounts}
-use Rattle.sum_engine.specs.Checkers.{now_of}
+use Rattle.sum_engine.specs.Steps.{now_of}
 use Rattle.sum_engine.specs.refinement.Positions.{rules_in}
 use Rattle.sum_engine.proofs.ManifestLemmas.{Comes}
 use Rattle.sum_engine.proofs.manifest.check_input.Given as goal

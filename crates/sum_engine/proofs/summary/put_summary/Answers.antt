@@ -1,13 +1,11 @@
 use Rattle.std.proofs.Common.{◌≡◌, ◌==◌, List, ℕ, refl, ◌∙◌}
 use Rattle.sum_sources.specs.declared.fault.Ending.TheVariants.{Whole}
-use Rattle.sum_engine.specs.declared.summary.Counts.{Counts}
+use Rattle.sum_engine.specs.Reports.{Counts, Report, entries, unless_status, warnings, end_text}
 use Rattle.std.proofs.lemmas.Bool.{cond-false, ne_eqb}
-use Rattle.sum_engine.specs.declared.settings.Report.{Report}
 use Rattle.sum_engine.specs.declared.settings.Report.TheVariants.{Status}
-use Rattle.sum_engine.specs.declared.settings.Report.TheVariants as reports
 use Rattle.sum_engine.specs.Verdicts.{Rules}
-use Rattle.sum_engine.specs.Reports.{entries, unless_status, warnings, end_text}
 use Rattle.sum_engine.specs.refinement.Positions.{rules_in}
+use Rattle.sum_engine.specs.declared.settings.Report.TheVariants as reports
 use Rattle.sum_engine.proofs.summary.put_summary.Goals as goal
 
 -- warnings that aren't left out

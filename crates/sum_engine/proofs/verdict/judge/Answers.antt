@@ -1,11 +1,11 @@
 use Rattle.std.proofs.Common.{◌≡◌, ◌&&◌, false, rules}
 use Rattle.sum_lines.specs.Entries.{Spelled}
-use Rattle.sum_engine.specs.Worlds.{is_dash}
+use Rattle.sum_engine.specs.Runs.{is_dash}
 use Rattle.sum_engine.specs.refinement.Judging.{spelled_by}
 use Rattle.sum_engine.specs.refinement.Positions.{rules_in}
 use Rattle.sum_engine.proofs.VerdictLemmas.{judged_entry}
-use Rattle.sum_engine.proofs.verdict.judge.Goals as goal
 use Rattle.sum_engine.proofs.verdict.judge.Goals.{else-listing-via-then-listing+else-is_dash, else-listing-via-else-listing}
+use Rattle.sum_engine.proofs.verdict.judge.Goals as goal
 
 pub returns-clause-gives : goal.returns-clause-gives
 returns-clause-gives g c =

@@ -1,7 +1,6 @@
-use Rattle.std.proofs.Common.{◌≡◌, ◌==◌, List, drop}
-use Rattle.std.specs.List.{filter, starts_with, cons_option}
-use Rattle.sum_words.specs.declared.options.Flag.{Flag}
-use Rattle.sum_words.specs.Items.{full_name, the_one}
+use Rattle.std.proofs.Common.{◌≡◌, ◌==◌, List, drop, filter}
+use Rattle.std.specs.List.{starts_with, cons_option}
+use Rattle.sum_words.specs.Items.{Flag, full_name, the_one}
 use Rattle.sum_words.proofs.options.only_begun.Given as goal
 
 -- what was found and the options still to come mean the same as all

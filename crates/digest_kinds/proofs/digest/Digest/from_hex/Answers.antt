@@ -1,9 +1,9 @@
 use Rattle.std.proofs.Common.{refl, sym, ◌∙◌, ◌↔◌, IsOk, arith}
 use Rattle.std.proofs.lemmas.Grind.{common_steps}
-use Rattle.digest_kinds.specs.Digits.{IsDigits}
+use Rattle.digest_kinds.specs.Kinds.{IsDigits}
 use Rattle.digest_kinds.proofs.DigitLemmas.{IsOk-decoded}
-use Rattle.digest_kinds.proofs.digest.Digest.from_hex.Goals as goal
 use Rattle.digest_kinds.proofs.digest.Digest.from_hex.Goals.{After-decode_to_slice}
+use Rattle.digest_kinds.proofs.digest.Digest.from_hex.Goals as goal
 
 -- the text is decoded exactly where it is digits of a digest
 decoded : (c : After-decode_to_slice) → IsOk c.decode_to_slice.result ↔ IsDigits c.args.text.now

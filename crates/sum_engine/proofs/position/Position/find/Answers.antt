@@ -1,5 +1,4 @@
-use Rattle.std.proofs.Common.{refl, ap}
-use Rattle.std.specs.Prelude.{is_none}
+use Rattle.std.proofs.Common.{refl, ap, is_none}
 use Rattle.sum_engine.specs.LineVerdicts.{asking}
 use Rattle.sum_engine.specs.refinement.Positions.{place_of}
 use Rattle.sum_engine.proofs.RunStateLemmas.{known_refused}
