@@ -1,11 +1,11 @@
 -- The words of a check ask for that check.
-use Rattle.std.proofs.Common.{◌≡◌, Bool, true, false, not, List, [], ◌∷◌, ◌++◌, map, find, codes, None, Some, Result, Ok, refl, ap, sym, ◌∙◌, unwrap_or, bytes_eq}
+use Rattle.std.proofs.Common.{◌≡◌, Bool, true, false, not, List, [], ◌∷◌, ◌++◌, map, find, codes, None, Some, Result, Ok, refl, ap, sym, ◌∙◌, unwrap_or, bytes_eq, filter_map}
 use Rattle.std.specs.Result.{result_map_both}
 use Rattle.std.specs.List.{list_all}
 use Rattle.std.proofs.lemmas.Bool.{and_parts}
 use Rattle.std.proofs.lemmas.List.Elements.{All-nil, All-cons}
 use Rattle.sum_engine.specs.declared.settings.CheckSettings.{CheckSettings}
-use Rattle.sum_engine.specs.declared.settings.Report.{Report}
+use Rattle.sum_words.specs.Request.{Report, request, early_answer, job_or_fault, kind_asked}
 use Rattle.sum_words.specs.declared.options.Flag.{Flag}
 use Rattle.sum_words.specs.declared.tool.Tool.{Tool}
 use Rattle.sum_words.specs.declared.request.Request.{Request}
@@ -13,8 +13,7 @@ use Rattle.sum_words.specs.declared.request.Request.TheVariants.{Work}
 use Rattle.sum_words.specs.declared.request.Job.TheVariants.{Check}
 use Rattle.sum_words.specs.Tools.{algos_of}
 use Rattle.sum_words.specs.WordFaults.{Fault}
-use Rattle.sum_words.specs.Items.{Text, Item, option, operand, a_word, items_from, full_name, flags_of, takes_value, name_part, value_part, name_or_fault, options_of, values_of, operands_of}
-use Rattle.sum_words.specs.Request.{request, early_answer, job_or_fault, kind_asked}
+use Rattle.sum_words.specs.Items.{Text, Item, option, operand, a_word, items_from, full_name, flags_of, takes_value, name_part, value_part, name_or_fault, option_in, value_in, operand_in}
 use Rattle.sum_words.specs.PlainWords.{is_plain}
 use Rattle.sum_words.proofs.PlainWordLemmas.{plain_words}
 use Rattle.digests.specs.GenerationRuns.{check_options, check_words, ChecksBy}
@@ -75,8 +74,8 @@ items-are t check manifest all plain =
 
 -- what items ask for
 abbrev asked : Tool → List Item → Result Request Fault
-asked t xs = unwrap_or (early_answer xs) (result_map_both (λ job. Work job (operands_of xs)) (λ f. f)
-    (job_or_fault (algos_of t) (kind_asked (values_of xs)) (options_of xs)))
+asked t xs = unwrap_or (early_answer xs) (result_map_both (λ job. Work job (filter_map operand_in xs)) (λ f. f)
+    (job_or_fault (algos_of t) (kind_asked (filter_map value_in xs)) (filter_map option_in xs)))
 
 abbrev settings : Tool → Report → Bool → Bool → CheckSettings
 settings t r s i = record { algos = algos_of t; report = r; strict = s; ignore_missing = i }

@@ -7,11 +7,10 @@ use Prim.Native.String.{String}
 use lib.Utf8.{encode}
 use Rattle.sum_lines.specs.Shapes.{Algo, One, Any}
 use Rattle.digest_kinds.specs.declared.algo.Algo.TheVariants.{Md5, Sha256, Blake2b}
-use Rattle.sum_lines.specs.declared.line_format.Mode.{Mode}
+use Rattle.sum_words.specs.Request.{Mode, Request, Work, Help, Version, Generate, Check, request}
 use Rattle.sum_words.specs.Items.{Long, Short, Text, name_or_fault, option_of_letter}
 use Rattle.sum_words.specs.Tools.{Tool, tool_called}
 use Rattle.sum_words.specs.declared.tool.Tool.TheVariants.{Md5sum, Sha256sum, B2sum, Anysum}
-use Rattle.sum_words.specs.Request.{Request, Work, Help, Version, Generate, Check, request}
 use Rattle.sum_words.specs.WordFaults.{Fault, unknown_long, ambiguous_long, value_not_allowed, value_missing, unknown_short, length_invalid, length_not_bytes, tag_with_text, zero_with_check, tag_with_check, mode_with_check, without_check, check_needed}
 use Rattle.sum_words.specs.CommandLines.{unknown, call, last_part, command_line, NeedsMemory, MayNotRead}
 use Rattle.sum_words.specs.declared.command_line.TheConstants.{PAGE}

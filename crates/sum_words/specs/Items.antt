@@ -122,18 +122,15 @@ items_from t a_word (w ∷ ws) =
 items_from t (a_value spelling) [] = fault (value_missing spelling) ∷ []
 items_from t (a_value spelling) (w ∷ ws) = length_value w ∷ items_from t a_word ws
 
--- the options among the items, the length values, and the operands, each in their order
-abbrev pub options_of : List Item → List Flag
-options_of [] = []
-options_of (option flag ∷ xs) = flag ∷ options_of xs
-options_of (x ∷ xs) = options_of xs
+-- an item as an option, as a length value, or as an operand
+abbrev pub option_in : Item → Option Flag
+option_in (option flag) = Some flag
+option_in item = None
 
-abbrev pub values_of : List Item → List Text
-values_of [] = []
-values_of (length_value value ∷ xs) = value ∷ values_of xs
-values_of (x ∷ xs) = values_of xs
+abbrev pub value_in : Item → Option Text
+value_in (length_value value) = Some value
+value_in item = None
 
-abbrev pub operands_of : List Item → List Text
-operands_of [] = []
-operands_of (operand word ∷ xs) = word ∷ operands_of xs
-operands_of (x ∷ xs) = operands_of xs
+abbrev pub operand_in : Item → Option Text
+operand_in (operand word) = Some word
+operand_in item = None

@@ -1,6 +1,6 @@
 -- What a command line asks for: the request that its items make, or the first fault that counts.
 use denote.Enum.Bare.{sameb}
-use Rattle.std.specs.Prelude.{◌&&◌, ◌||◌, not, Bool, List, [], ◌∷◌, ◌++◌, map, false, Option, None, Some, Result, Ok, Err, if◌then◌else◌, unwrap_or, option_map, filter, find, bytes_eq}
+use Rattle.std.specs.Prelude.{◌&&◌, ◌||◌, not, Bool, List, [], ◌∷◌, ◌++◌, map, false, Option, None, Some, Result, Ok, Err, if◌then◌else◌, unwrap_or, option_map, filter, find, bytes_eq, filter_map}
 use Rattle.std.specs.List.{last_or, list_any}
 use Rattle.std.specs.Option.{option_transpose, option_map_or}
 use Rattle.std.specs.Result.{result_map_both}
@@ -11,16 +11,15 @@ use Rattle.digest_kinds.specs.declared.algo.Algos.TheVariants.{One, Any}
 use Rattle.digest_kinds.specs.declared.kind.LengthFault.{LengthFault}
 use Rattle.digest_kinds.specs.declared.kind.LengthFault.TheVariants.{TooLong, NotBytes}
 use Rattle.digest_kinds.specs.Kinds.{KindValue, full_kind, blake2b_of_bits}
-use Rattle.sum_lines.specs.declared.line_format.Mode.{Mode}
-use Rattle.sum_engine.specs.declared.settings.Report.{Report}
-use Rattle.sum_words.specs.declared.options.Flag.{Flag}
+pub use Rattle.sum_lines.specs.declared.line_format.Mode.{Mode}
+pub use Rattle.sum_engine.specs.declared.settings.Report.{Report}
+use Rattle.sum_words.specs.Items.{Flag, Text, Item, option, fault, a_word, items_from, option_in, value_in, operand_in}
 use Rattle.sum_words.specs.contracts.options.Flag.{the_type}
 pub use Rattle.sum_words.specs.declared.request.Request.{Request}
 pub use Rattle.sum_words.specs.declared.request.Request.TheVariants.{Work, Help, Version}
 pub use Rattle.sum_words.specs.declared.request.Job.{Job}
 pub use Rattle.sum_words.specs.declared.request.Job.TheVariants.{Generate, Check}
 use Rattle.sum_words.specs.WordFaults.{Fault, length_invalid, length_not_bytes, tag_with_text, zero_with_check, tag_with_check, mode_with_check, without_check, check_needed}
-use Rattle.sum_words.specs.Items.{Text, Item, option, fault, a_word, items_from, options_of, values_of, operands_of}
 use Rattle.sum_lines.specs.declared.line_format.Mode.TheVariants as modes
 use Rattle.sum_engine.specs.declared.settings.Report.TheVariants as reports
 use Rattle.sum_words.specs.declared.options.Flag.TheVariants as flags
@@ -78,31 +77,23 @@ report_of given = if is_last flags.Status report_flags given then reports.Status
 
 abbrev pub generation_job : Algos → Option KindValue → List Flag → Result Job Fault
 generation_job Any kind given = Err check_needed
-generation_job (One algo) kind given = Ok (Generate (record {
-  kind = unwrap_or kind (full_kind algo);
-  style = record { mode = mode_of given; zero = has flags.Zero given };
-}))
+generation_job (One algo) kind given =
+    let style : Style = record { mode = mode_of given; zero = has flags.Zero given } in
+    Ok (Generate (record { kind = unwrap_or kind (full_kind algo); style = style }))
 
 abbrev pub job_of : Algos → Option KindValue → List Flag → Result Job Fault
-job_of algos kind given =
-    if has flags.Check given then Ok (Check (record {
-      algos = algos;
-      report = report_of given;
-      strict = has flags.Strict given;
-      ignore_missing = has flags.IgnoreMissing given;
-    }))
-    else generation_job algos kind given
+job_of algos kind given = if has flags.Check given
+    then Ok (Check (record { algos = algos; report = report_of given; strict = has flags.Strict given;
+        ignore_missing = has flags.IgnoreMissing given })) else generation_job algos kind given
 
--- the first of them that holds; a fault of the last length value counts before it
-abbrev pub first_fault : List Flag → Option Fault
-first_fault given = option_map (λ row. row.1) (find (λ row. row.0) (faults given))
-
+-- the kind that the last length value asks for; where it is at fault, that counts before the first of the faults above
 abbrev pub kind_asked : List Text → Result (Option KindValue) Fault
 kind_asked values = option_transpose (option_map length_kind (last_or None values))
 
 abbrev pub job_or_fault : Algos → Result (Option KindValue) Fault → List Flag → Result Job Fault
 job_or_fault algos (Err f) given = Err f
-job_or_fault algos (Ok kind) given = option_map_or (λ f. Err f) (first_fault given) (job_of algos kind given)
+job_or_fault algos (Ok kind) given =
+    option_map_or (λ row. Err row.1) (find (λ row. row.0) (faults given)) (job_of algos kind given)
 
 -- the first fault among the items, --help or --version decides where there is one
 abbrev pub early_answer : List Item → Option (Result Request Fault)
@@ -115,5 +106,5 @@ early_answer (x ∷ xs) = early_answer xs
 abbrev pub request : Tool → List Text → Result Request Fault
 request t words =
     let xs = items_from t a_word words in
-    unwrap_or (early_answer xs) (result_map_both (λ job. Work job (operands_of xs)) (λ f. f)
-    (job_or_fault (algos_of t) (kind_asked (values_of xs)) (options_of xs)))
+    unwrap_or (early_answer xs) (result_map_both (λ job. Work job (filter_map operand_in xs)) (λ f. f)
+    (job_or_fault (algos_of t) (kind_asked (filter_map value_in xs)) (filter_map option_in xs)))

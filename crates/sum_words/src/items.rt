@@ -1,10 +1,10 @@
 //! What the words say, item by item.
-ghost use Rattle.std.specs.Prelude.{◌≡◌, ◌==◌, List, ℕ, [], ◌∷◌, IfSome, MatchOption, drop, true, false};
+ghost use Rattle.std.specs.Prelude.{◌≡◌, ◌==◌, List, ℕ, [], ◌∷◌, IfSome, MatchOption, drop, true, false, filter_map};
 ghost use Rattle.std.specs.Option.{option_copied};
 ghost use Rattle.std.specs.List.{starts_with};
 ghost use Rattle.std.specs.Str.{chars};
 ghost use Rattle.sum_words.specs.Items.{a_word, name_part, value_part, long_option, name_or_fault};
-ghost use Rattle.sum_words.specs.Items.{attached_value, cluster, is_option_word, is_readable, items_from, operands_of};
+ghost use Rattle.sum_words.specs.Items.{attached_value, cluster, is_option_word, is_readable, items_from, operand_in};
 ghost use Rattle.sum_words.specs.refinement.ItemIterator.{items_to_come, read_then, step_says, item_of, TakesFirst};
 ghost use Rattle.sum_words.specs.refinement.ItemIterator.{IsBehind};
 ghost use Rattle.sum_words.specs.declared.tool.Tool.{Tool};
@@ -277,18 +277,18 @@ pub struct Operands<'a> {
 }
 
 impl<'a> Model for Operands<'a> {
-    ghost use Rattle.std.specs.Prelude.{List, ℕ};
-    ghost use Rattle.sum_words.specs.Items.{operands_of};
+    ghost use Rattle.std.specs.Prelude.{List, ℕ, filter_map};
+    ghost use Rattle.sum_words.specs.Items.{operand_in};
 
     ghost Value = { List (List ℕ) };
 
-    ghost view = { λ o. operands_of o.items };
+    ghost view = { λ o. filter_map operand_in o.items };
 }
 
 impl<'a> Operands<'a> {
     /// All operands that a tool's words give.
     pub fn new<A: Allocator>(tool: Tool, words: &'a Words<A>) -> Operands<'a>
-        ensures { result ≡ operands_of (items_from tool a_word words.now) }
+        ensures { result ≡ filter_map operand_in (items_from tool a_word words.now) }
     {
         Operands {
             items: Items::new(tool, words),

@@ -1,10 +1,10 @@
 //! What the words ask for.
-ghost use Rattle.std.specs.Prelude.{◌≡◌, ◌∷◌, List, [], Ok};
+ghost use Rattle.std.specs.Prelude.{◌≡◌, ◌∷◌, List, [], Ok, filter_map, find};
 ghost use Rattle.std.specs.Option.{option_copied, option_map, option_transpose};
 ghost use Rattle.std.specs.Str.{all_ascii_digits};
-ghost use Rattle.sum_words.specs.Items.{Item as ItemSaid, a_word, items_from, option, options_of};
+ghost use Rattle.sum_words.specs.Items.{Item as ItemSaid, a_word, items_from, option, option_in};
 ghost use Rattle.sum_words.specs.refinement.ItemIterator.{fault_of};
-ghost use Rattle.sum_words.specs.Request.{length_kind, mode_of, first_fault, job_or_fault, request};
+ghost use Rattle.sum_words.specs.Request.{length_kind, mode_of, faults, job_or_fault, request};
 ghost use Rattle.sum_words.specs.refinement.RequestReading.{IsChosenBy, IsReadingOf, result_of, IsNumberOf};
 
 use crate::faults::WordFault;
@@ -198,7 +198,7 @@ fn all_digits(bytes: &[u8]) -> bool
 // The first fault of the options together: of some that don't go with others, or of one that needs `--check`.
 fn fault_of_options(chosen: &Chosen<'_>) -> Option<WordFault<'static>>
     ensures { (xs : List ItemSaid) → IsChosenBy chosen.now [] xs →
-        option_map fault_of result ≡ first_fault (options_of xs) }
+        option_map fault_of result ≡ option_map (λ row. row.1) (find (λ row. row.0) (faults (filter_map option_in xs))) }
 {
     if chosen.tag && matches!(chosen.mode, Some(Mode::Text)) {
         return Some(WordFault::TagWithText);
@@ -234,7 +234,7 @@ fn asked_job(
     chosen: &Chosen<'_>,
 ) -> Result<Job, WordFault<'static>>
     ensures { (xs : List ItemSaid) → IsChosenBy chosen.now [] xs →
-        result_of result ≡ job_or_fault algos (Ok kind) (options_of xs) }
+        result_of result ≡ job_or_fault algos (Ok kind) (filter_map option_in xs) }
 {
     if let Some(fault) = fault_of_options(chosen) {
         return Err(fault);
@@ -261,7 +261,7 @@ fn asked_job(
 
 // The form of the lines that are written.
 fn mode(chosen: &Chosen<'_>) -> Mode
-    ensures { (xs : List ItemSaid) → IsChosenBy chosen.now [] xs → result ≡ mode_of (options_of xs) }
+    ensures { (xs : List ItemSaid) → IsChosenBy chosen.now [] xs → result ≡ mode_of (filter_map option_in xs) }
 {
     if chosen.tag {
         return Mode::Tag;

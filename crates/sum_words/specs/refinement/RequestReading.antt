@@ -1,18 +1,15 @@
 -- Joins the reader of the words to the request: what its running values say, and its answers.
-use Rattle.std.specs.Prelude.{ℕ, ◌≡◌, ◌≤◌, ◌^◌, ◌||◌, true, Bool, List, [], Option, None, Some, Result, Ok, Err, filter, option_map, option_copied}
+use Rattle.std.specs.Prelude.{ℕ, ◌≡◌, ◌≤◌, ◌^◌, ◌||◌, true, Bool, List, [], Option, None, Some, Result, Ok, Err, filter, option_map, option_copied, filter_map}
 use Rattle.std.specs.List.{last_or}
 use Rattle.std.specs.Str.Parse.{digits_value}
-use Rattle.sum_lines.specs.declared.line_format.Mode.{Mode}
-use Rattle.sum_engine.specs.declared.settings.Report.{Report}
-use Rattle.sum_words.specs.declared.options.Flag.{Flag}
+use Rattle.sum_words.specs.Request.{Mode, Report, early_answer, has, mode_flags, report_flags, is_number}
+use Rattle.sum_words.specs.Items.{Flag, Text, Item, option_in, value_in}
 use Rattle.sum_words.specs.declared.faults.WordFault.{WordFault}
 use Rattle.sum_words.specs.declared.request.Chosen.{Chosen}
 use Rattle.sum_words.specs.declared.request.Reading.{Reading}
 use Rattle.sum_words.specs.declared.request.Reading.TheVariants.{Options, Answer}
 use Rattle.sum_words.specs.WordFaults.{Fault}
-use Rattle.sum_words.specs.Items.{Text, Item, options_of, values_of}
 use Rattle.sum_words.specs.refinement.ItemIterator.{fault_of}
-use Rattle.sum_words.specs.Request.{early_answer, has, mode_flags, report_flags, is_number}
 use Rattle.sum_lines.specs.declared.line_format.Mode.TheVariants as modes
 use Rattle.sum_engine.specs.declared.settings.Report.TheVariants as reports
 use Rattle.sum_words.specs.declared.options.Flag.TheVariants as flags
@@ -35,15 +32,15 @@ last_after kind earlier given = last_or earlier (filter (λ flag. has flag kind)
 
 -- an option was there earlier, or is in the rest, exactly where it is among all
 abbrev pub IsThere : Flag → Bool → List Item → List Item → Type 0
-IsThere flag earlier rest all = (has flag (options_of rest) || earlier) ≡ has flag (options_of all)
+IsThere flag earlier rest all = (has flag (filter_map option_in rest) || earlier) ≡ has flag (filter_map option_in all)
 
 -- the running values and the rest, which is still to be read, say what all items say
 pub record IsChosenBy (c : Chosen) (rest all : List Item) : Type 0 where
-  pub mode : last_after mode_flags (option_map mode_flag c.mode) (options_of rest)
-      ≡ last_after mode_flags None (options_of all)
-  pub report : last_after report_flags (report_flag c.report) (options_of rest)
-      ≡ last_after report_flags None (options_of all)
-  pub length : last_or (option_copied c.length) (values_of rest) ≡ last_or None (values_of all)
+  pub mode : last_after mode_flags (option_map mode_flag c.mode) (filter_map option_in rest)
+      ≡ last_after mode_flags None (filter_map option_in all)
+  pub report : last_after report_flags (report_flag c.report) (filter_map option_in rest)
+      ≡ last_after report_flags None (filter_map option_in all)
+  pub length : last_or (option_copied c.length) (filter_map value_in rest) ≡ last_or None (filter_map value_in all)
   pub binary : IsThere flags.Binary c.binary rest all
   pub check : IsThere flags.Check c.check rest all
   pub tag : IsThere flags.Tag c.tag rest all

@@ -1,10 +1,10 @@
-use Rattle.std.proofs.Common.{◌≡◌, length}
-use Rattle.sum_words.specs.Items.{operands_of}
+use Rattle.std.proofs.Common.{◌≡◌, length, filter_map}
+use Rattle.sum_words.specs.Items.{operand_in}
 use Rattle.sum_words.proofs.items.Operands.next.Given as goal
 
 -- no operand was passed over
 abbrev pub invariant-loop-item : goal.invariant-loop-item
-invariant-loop-item l = operands_of l.self-inside.items ≡ l.fn.self
+invariant-loop-item l = filter_map operand_in l.self-inside.items ≡ l.fn.self
 
 -- the items still to come
 abbrev pub decreases-loop-item : goal.decreases-loop-item
