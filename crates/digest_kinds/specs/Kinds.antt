@@ -1,16 +1,16 @@
 -- Algorithms and kinds, a kind being an algorithm with its digest's length: tags, lengths and digests.
 use Rattle.std.specs.Prelude.{ℕ, ◌==◌, ◌&&◌, nat_le, Bool, List, [], ◌∷◌, codes, ◌/◌, ◌%◌, nat_lt, if◌then◌else◌, Result, Ok, Err, ◌≡◌, ◌++◌, ◌≤◌, length}
-pub use Rattle.digest_kinds.specs.declared.algo.Algo.{Algo}
-pub use Rattle.digest_kinds.specs.declared.algo.Algo.TheVariants.{Md5, Sha1, Sha224, Sha256, Sha384, Sha512, Blake2b}
+use Rattle.std.specs.List.{AllPass}
 use Rattle.md5.specs.Md5.{md5}
 use Rattle.sha1.specs.Sha1.{sha1}
 use Rattle.sha2.specs.Sha256.{sha224, sha256}
 use Rattle.sha2.specs.Sha512.{sha384, sha512}
+use Rattle.hex.specs.Hex.{is_hex_digit}
 use Rattle.blake2b_core.specs.Digest.{blake2b}
+pub use Rattle.digest_kinds.specs.declared.algo.Algo.{Algo}
+pub use Rattle.digest_kinds.specs.declared.algo.Algo.TheVariants.{Md5, Sha1, Sha224, Sha256, Sha384, Sha512, Blake2b}
 pub use Rattle.digest_kinds.specs.declared.kind.LengthFault.{LengthFault}
 pub use Rattle.digest_kinds.specs.declared.kind.LengthFault.TheVariants.{TooLong, NotBytes}
-use Rattle.std.specs.List.{AllPass}
-use Rattle.hex.specs.Hex.{is_hex_digit}
 pub use Rattle.digest_kinds.specs.declared.algo.Algos.{Algos}
 
 -- the algorithms
@@ -50,7 +50,7 @@ full_kind a = record { algo = a; len = full_len a }
 abbrev pub blake2b_kind : ℕ → KindValue
 blake2b_kind n = record { algo = Blake2b; len = n }
 
--- by its algorithm and its length; BLAKE2b alone has digests of more than one length
+-- the digest of a message by an algorithm and a length; BLAKE2b alone has digests of more than one length
 abbrev pub digest_by : Algo → ℕ → List ℕ → List ℕ
 digest_by Md5 n m = md5 m
 digest_by Sha1 n m = sha1 m

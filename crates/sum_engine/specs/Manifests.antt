@@ -1,9 +1,11 @@
--- What a checker's steps come to: a whole manifest. And the laws of what comes first, and of the end.
+-- What a checker's steps come to: a whole manifest; and the laws of its steps, of what comes first, and of the end.
 use Rattle.std.specs.Prelude.{ℕ, zero, suc, ◌≡◌, ◌+◌, ◌≤◌, Bool, true, List, take, drop, length, flat_map, Option, Result, IfSome, ◌++◌, None, Ok, Err}
 use Rattle.std.specs.Io.KnownBytes.{Appends}
+use Rattle.sum_sources.specs.declared.lines.LineStop.TheVariants.{Fault}
 use Rattle.sum_sources.specs.Contents.{Content, WhereTold, SourceState}
 use Rattle.sum_sources.specs.ManifestLines.{past_lines}
 use Rattle.sum_lines.specs.Sinks.{IsPrefix}
+use Rattle.sum_lines.specs.Entries.{form}
 use Rattle.sum_engine.specs.Moments.{Stop, Moment, HoldNothing, RunState, run_state, Did, RunOf}
 use Rattle.sum_engine.specs.Runs.{after, Event, Run, events, outs, errs, asks, Ending, Whole, Broken, World}
 use Rattle.sum_engine.specs.Verdicts.{lines_by, Rules, Judged, asks_of, all_verdicts, verdicts}
@@ -11,8 +13,6 @@ use Rattle.sum_engine.specs.Reports.{out_of, err_of}
 use Rattle.sum_engine.specs.Checking.{line_steps, content_run}
 use Rattle.sum_engine.specs.Steps.{Now, Moves, GoesOn, Finishes, Breaks, to_come, at_start}
 use Rattle.sum_engine.specs.LineVerdicts.{LineStop, LineVerdict, FindsNone, FindOf}
-use Rattle.sum_sources.specs.declared.lines.LineStop.TheVariants.{Fault}
-use Rattle.sum_lines.specs.Entries.{form}
 
 -- a new checker that was run to its end, from outputs that held nothing
 abbrev pub ManifestGives :

@@ -1,14 +1,14 @@
 -- How the streams of a run stand at one moment, and what of its events happened between two: the form of the headline.
 use Rattle.std.specs.Prelude.{ℕ, ◌≡◌, ◌⊎◌, Bool, [], Option, Some, Result, Err, ◌<◌, ◌||◌, List, ◌∷◌, ◌++◌, filter_map, Ok}
+use Rattle.std.specs.List.{list_any}
+use Rattle.std.specs.Io.KnownBytes.{Appends}
+use Rattle.digest_kinds.specs.Limits.{one_more}
 use Rattle.sum_sources.specs.Contents.{Content, SourceState, WhereTold}
 use Rattle.sum_lines.specs.Sinks.{SinkState, IsPrefix}
 use Rattle.sum_lines.specs.PartsOfLines.{◌>>=◌}
-use Rattle.digest_kinds.specs.Limits.{one_more}
 pub use Rattle.sum_engine.specs.declared.stop.Stop.{Stop}
 pub use Rattle.sum_engine.specs.declared.stop.Stop.TheVariants.{Memory, Write}
 use Rattle.sum_engine.specs.Runs.{World, is_dash, after, Event, Step, Run, events, name_in, err_in, out_in}
-use Rattle.std.specs.List.{list_any}
-use Rattle.std.specs.Io.KnownBytes.{Appends}
 
 -- the source itself; what standard input has still to give, where it tells that, and whether it was taken; both outputs
 pub record Moment (S : Type 0) : Type 0 where

@@ -1,21 +1,21 @@
 -- A checker: where it stands in its manifest, what is still to come there, and what its next step does.
 use Rattle.std.specs.Prelude.{ℕ, ◌≡◌, ◌+◌, ◌≤◌, ◌⊎◌, ◌<◌, Bool, List, [], ◌∷◌, length, Option, None, Some, Result, Ok, Err, IfSome, true, option_map}
-use Rattle.sum_sources.specs.Contents.{Content, WhereTold, SourceState, InputState, clip}
 use Rattle.digest_kinds.specs.Limits.{one_more}
+use Rattle.sum_sources.specs.declared.lines.LineReader.{LineReader}
+use Rattle.sum_sources.specs.Contents.{Content, WhereTold, SourceState, InputState, clip}
 use Rattle.sum_sources.specs.ManifestLines.{past_line, NoNewline}
-use Rattle.sum_engine.specs.Verdicts.{Form, lines_by, Rules, Judged, judge, verdicts}
+use Rattle.sum_sources.specs.LineReaders.{coming, used, Bounded}
 use Rattle.sum_lines.specs.declared.line_reading.Form.TheVariants.{Undecided}
 use Rattle.sum_lines.specs.Entries.{form_then, line_form, form}
 use Rattle.sum_lines.specs.Sinks.{IsPrefix}
+use Rattle.sum_lines.specs.ParsedLines.{parse_line}
 pub use Rattle.sum_engine.specs.declared.progress.Progress.{Progress}
 pub use Rattle.sum_engine.specs.declared.progress.Progress.TheVariants.{Going, Ended}
+use Rattle.sum_engine.specs.Verdicts.{Form, lines_by, Rules, Judged, judge, verdicts}
 use Rattle.sum_engine.specs.Moments.{Stop, Memory, Write, RunState, Did, Wants, Moment, HoldNothing, run_state}
 use Rattle.sum_engine.specs.Reports.{Counts, counts, end_text, good, counts_with, no_counts}
-use Rattle.sum_lines.specs.ParsedLines.{parse_line}
 use Rattle.sum_engine.specs.Runs.{Event, Step, Run, events_of}
 use Rattle.sum_engine.specs.Checking.{line_steps}
-use Rattle.sum_sources.specs.declared.lines.LineReader.{LineReader}
-use Rattle.sum_sources.specs.LineReaders.{coming, used, Bounded}
 
 -- what is still to come of the manifest, the lines handled and the bytes that they used, the form and the counts
 -- so far, and the run state

@@ -1,13 +1,13 @@
--- What inputs and sources hold: bytes and an ending, and what counts of them; and what is asked of a source.
+-- What inputs hold, bytes and an ending, and what counts of them; what sources answer, and what they were asked.
 use Rattle.std.specs.Prelude.{ℕ, ◌≡◌, ◌<◌, ◌-◌, ◌^◌, List, [], ◌++◌, take, length, Option, None, Some, Result, Ok, Err, Bool, ⊤, nat_lt, if◌then◌else◌, codes, true, false, ◌∷◌, option_map}
 use Rattle.digest_kinds.specs.Kinds.{digest, KindValue}
+use Rattle.digest_kinds.specs.Limits.{one_more}
 pub use Rattle.sum_sources.specs.declared.fault.Fault.{Fault}
 pub use Rattle.sum_sources.specs.declared.fault.Fault.TheVariants.{Other, NotFound, Denied}
 pub use Rattle.sum_sources.specs.declared.fault.Ending.{Ending}
 pub use Rattle.sum_sources.specs.declared.fault.Ending.TheVariants.{Whole, Broken}
 use Rattle.sum_sources.specs.declared.closable.Closable.{Closable}
 use Rattle.sum_sources.specs.declared.closable.Closable.TheVariants.{Open, Closed}
-use Rattle.digest_kinds.specs.Limits.{one_more}
 use Rattle.sum_sources.specs.declared.source.OpenFault.{OpenFault}
 use Rattle.sum_sources.specs.declared.source.OpenFault.TheVariants as faults
 
@@ -47,6 +47,7 @@ abbrev pub Hashes : KindValue → Content → Result (List ℕ) Fault → Type 0
 Hashes kind c (Ok d) = (c.ending ≡ Whole) × (d ≡ digest kind c.bytes)
 Hashes kind c (Err f) = c.ending ≡ Broken f
 
+-- the words for the faults
 abbrev pub fault_text : Fault → List ℕ
 fault_text NotFound = codes "No such file or directory"
 fault_text Denied = codes "Permission denied"
@@ -65,6 +66,7 @@ abbrev pub unless_closed : {I : Type 0} → (I → InputState) → Closable I �
 unless_closed state (Open i) = state i
 unless_closed state Closed = record { content = Some (record { bytes = []; ending = Broken Other }); failed = true }
 
+-- an input over a reader, as its callers see it
 pub record OverReader (R : Type 0) : Type 0 where
   pub reader : R
   pub failed : Bool  -- whether a read has failed
