@@ -1,6 +1,7 @@
 -- Worked command lines: both texts, the names that are asked and whether all is good, as the meaning has them.
-use Rattle.std.proofs.Common.{◌≡◌, ◌++◌, Bool, List, [], ◌∷◌, refl, codes, true, false, flat_map, if◌then◌else◌, bytes_eq, chars}
+use Rattle.std.proofs.Common.{◌≡◌, ◌++◌, Bool, List, [], ◌∷◌, refl, codes, true, false, flat_map, if◌then◌else◌, bytes_eq}
 use Rattle.std.specs.Prelude.{⊤}
+use Rattle.std.specs.Str.{chars}
 use Rattle.std.specs.List.{concat}
 use Rattle.std.specs.Path.{rsplit_once}
 use lib.Utf8.{encode}

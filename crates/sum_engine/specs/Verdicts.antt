@@ -37,8 +37,7 @@ digest_verdict d (Ok found) = if bytes_eq found d then Right else Wrong
 digest_verdict d (Err f) = Unread f
 
 abbrev pub verdict_of : Rules → World → Spelled → Verdict
-verdict_of r w s =
-    if r.from_stdin && is_dash s.name then Bad
+verdict_of r w s = if r.from_stdin && is_dash s.name then Bad
     else if r.settings.ignore_missing && not_found (reply w s.name) then Missing
     else digest_verdict s.digest (digest_or_fault s.kind (reply w s.name))
 

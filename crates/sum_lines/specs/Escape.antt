@@ -13,8 +13,7 @@ present = record { escapes_return = true; drops_return = true; ignores_empty = t
 
 -- a backslash (92) becomes `\\`, a newline (10) `\n`, a carriage return (13) `\r` if the profile says so; others stay
 abbrev pub escape_of : Profile → ℕ → List ℕ
-escape_of p b =
-    if b == 92 then codes "\\\\" else if b == 10 then codes "\\n"
+escape_of p b = if b == 92 then codes "\\\\" else if b == 10 then codes "\\n"
     else if p.escapes_return && (b == 13) then codes "\\r" else b ∷ []
 
 abbrev pub escape_by : Profile → List ℕ → List ℕ

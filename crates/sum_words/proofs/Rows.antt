@@ -1,8 +1,8 @@
 -- Worked command lines: what the definitions say of each computes.
-use Rattle.std.proofs.Common.{◌≡◌, ◌==◌, ◌≤◌, ◌<◌, List, ℕ, [], ◌∷◌, Result, Ok, Err, Option, Some, None, is_some, if◌then◌else◌, refl, codes, true, false, length, inl, inr, arith, lit≤, Any as SomeOne, chars}
+use Rattle.std.proofs.Common.{◌≡◌, ◌==◌, ◌≤◌, ◌<◌, List, ℕ, [], ◌∷◌, Result, Ok, Err, Option, Some, None, is_some, if◌then◌else◌, refl, codes, true, false, length, inl, inr, arith, lit≤, Any as SomeOne}
 use Rattle.std.specs.List.{AllByRecursion, slice_split}
 use Rattle.std.proofs.lemmas.List.Elements.{All-from_recursion}
-use Rattle.std.specs.Str.{byte, is_utf8}
+use Rattle.std.specs.Str.{byte, chars, is_utf8}
 use Prim.Native.String.{String}
 use lib.Utf8.{encode}
 use Rattle.sum_lines.specs.Shapes.{Algo, One, Any}

@@ -108,8 +108,7 @@ is_option_word word = starts_with ◌==◌ word (codes "-") && not (bytes_eq wor
 
 -- an operand; or behind '-' a cluster; or behind "--" a long option
 abbrev pub read_word : Tool → Text → List Item × NextWord
-read_word t word =
-    if not (is_option_word word) then (operand word ∷ [], a_word)
+read_word t word = if not (is_option_word word) then (operand word ∷ [], a_word)
     else if not (starts_with ◌==◌ word (codes "--")) then cluster t (chars (drop 1 word))
     else long_option (name_or_fault t (name_part (drop 2 word))) (value_part (drop 2 word))
 

@@ -49,8 +49,7 @@ length_fault value NotBytes = length_not_bytes value
 
 -- the kind that a length value asks for, in bits
 abbrev pub length_kind : Text → Result KindValue Fault
-length_kind value =
-    if not (is_number value) then Err (length_invalid value)
+length_kind value = if not (is_number value) then Err (length_invalid value)
     else result_map_both (λ kind. kind) (length_fault value) (blake2b_of_bits (digits_value 10 value))
 
 -- the faults of the options in the order in which they count, each with when it holds
@@ -77,9 +76,8 @@ report_of given = if is_last flags.Status report_flags given then reports.Status
 
 abbrev pub generation_job : Algos → Option KindValue → List Flag → Result Job Fault
 generation_job Any kind given = Err check_needed
-generation_job (One algo) kind given =
-    let style : Style = record { mode = mode_of given; zero = has flags.Zero given } in
-    Ok (Generate (record { kind = unwrap_or kind (full_kind algo); style = style }))
+generation_job (One algo) kind given = Ok (Generate (record { kind = unwrap_or kind (full_kind algo);
+    style = record { mode = mode_of given; zero = has flags.Zero given } }))
 
 abbrev pub job_of : Algos → Option KindValue → List Flag → Result Job Fault
 job_of algos kind given = if has flags.Check given
@@ -93,7 +91,7 @@ kind_asked values = option_transpose (option_map length_kind (last_or None value
 abbrev pub job_or_fault : Algos → Result (Option KindValue) Fault → List Flag → Result Job Fault
 job_or_fault algos (Err f) given = Err f
 job_or_fault algos (Ok kind) given =
-    option_map_or (λ row. Err row.1) (find (λ row. row.0) (faults given)) (job_of algos kind given)
+    option_map_or Err (option_map (λ row. row.1) (find (λ row. row.0) (faults given))) (job_of algos kind given)
 
 -- the first fault among the items, --help or --version decides where there is one
 abbrev pub early_answer : List Item → Option (Result Request Fault)
