@@ -14,8 +14,7 @@ use Rattle.sum_engine.specs.Generation.{tool_line, fault_line}
 
 -- NAME: TEXT, where a backslash stands before a name that its escape changes
 abbrev pub name_line : Profile → List ℕ → List ℕ → List ℕ
-name_line p name text =
-    concat (mark (escape_differs p name) ∷ escape_by p name ∷ codes ": " ∷ text ∷ codes "\n" ∷ [])
+name_line p name text = concat (mark (escape_differs p name) ∷ escape_by p name ∷ codes ": " ∷ text ∷ codes "\n" ∷ [])
 
 abbrev pub verdict_line : Profile → Verdict → List ℕ → List ℕ
 verdict_line p Right name = name_line p name (codes "OK")
@@ -88,8 +87,7 @@ warning tool n one many = if n == 0 then []
     else concat (tool ∷ codes ": WARNING: " ∷ decimal n ∷ (if n == 1 then one else many) ∷ codes "\n" ∷ [])
 
 abbrev pub unverified_line : Rules → Counts → List ℕ
-unverified_line r c =
-    if r.settings.ignore_missing && (c.right == 0)
+unverified_line r c = if r.settings.ignore_missing && (c.right == 0)
     then tool_line r.profile r.tool r.shown (codes "no file was verified") else []
 
 abbrev pub warnings : Rules → Counts → List ℕ

@@ -22,8 +22,9 @@ reply w name = if is_dash name then Given w.input else w.answer name
 
 -- the world after these names were asked: standard input is given once, and is empty from then on
 abbrev pub after : World → List (List ℕ) → World
-after w names = record w { asked = w.asked ++ filter (λ n. not (is_dash n)) names;
-    input = if list_any is_dash names then empty_content else w.input }
+after w names =
+    let input = if list_any is_dash names then empty_content else w.input in
+    record w { asked = w.asked ++ filter (λ n. not (is_dash n)) names; input = input }
 
 -- the digest of a content that ended so, or the fault by which it ended
 abbrev pub digest_unless_broken : Ending → List ℕ → Result (List ℕ) Fault

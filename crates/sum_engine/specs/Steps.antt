@@ -140,8 +140,7 @@ again_after x = Some x
 
 -- where it stands in its manifest, where that and the run state tell
 abbrev pub now_of : {I : Type 0} → (I → InputState) → Place I → Option RunState → Option Now
-now_of state p run_state =
-    now_by (coming state p.reader) p.reader.lines (used p.reader) p.form p.counts run_state
+now_of state p run_state = now_by (coming state p.reader) p.reader.lines (used p.reader) p.form p.counts run_state
 
 -- it stands in front of the first line of that input, of which nothing was read
 abbrev pub Begins : {I : Type 0} → (I → InputState) → Place I → I → Type 0

@@ -12,6 +12,7 @@ use Rattle.digest_kinds.specs.declared.kind.LengthFault.{LengthFault}
 use Rattle.digest_kinds.specs.declared.kind.LengthFault.TheVariants.{TooLong, NotBytes}
 use Rattle.digest_kinds.specs.Kinds.{KindValue, full_kind, blake2b_of_bits}
 pub use Rattle.sum_lines.specs.declared.line_format.Mode.{Mode}
+use Rattle.sum_lines.specs.declared.line_format.Style.{Style}
 pub use Rattle.sum_engine.specs.declared.settings.Report.{Report}
 use Rattle.sum_words.specs.Items.{Flag, Text, Item, option, fault, a_word, items_from, option_in, value_in, operand_in}
 use Rattle.sum_words.specs.contracts.options.Flag.{the_type}
@@ -76,13 +77,17 @@ report_of given = if is_last flags.Status report_flags given then reports.Status
 
 abbrev pub generation_job : Algos → Option KindValue → List Flag → Result Job Fault
 generation_job Any kind given = Err check_needed
-generation_job (One algo) kind given = Ok (Generate (record { kind = unwrap_or kind (full_kind algo);
-    style = record { mode = mode_of given; zero = has flags.Zero given } }))
+generation_job (One algo) kind given =
+    let style : Style = record { mode = mode_of given; zero = has flags.Zero given } in
+    Ok (Generate (record { kind = unwrap_or kind (full_kind algo); style = style }))
 
 abbrev pub job_of : Algos → Option KindValue → List Flag → Result Job Fault
-job_of algos kind given = if has flags.Check given
-    then Ok (Check (record { algos = algos; report = report_of given; strict = has flags.Strict given;
-        ignore_missing = has flags.IgnoreMissing given })) else generation_job algos kind given
+job_of algos kind given = if has flags.Check given then Ok (Check (record {
+  algos = algos;
+  report = report_of given;
+  strict = has flags.Strict given;
+  ignore_missing = has flags.IgnoreMissing given;
+})) else generation_job algos kind given
 
 -- the kind that the last length value asks for; where it is at fault, that counts before the first of the faults above
 abbrev pub kind_asked : List Text → Result (Option KindValue) Fault
