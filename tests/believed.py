@@ -2,8 +2,8 @@
 """What a reader has to believe: the definitions that the contract of a function reaches, by their names.
 
     tests/believed.py            prints, for the headline and the program, the files, each with its lines
-    tests/believed.py --text     prints the contracts, those of the laws too, and the definitions, each behind those that
-                                 it stands on, with what both name of the code
+    tests/believed.py --text     prints the contracts, those of the laws too, and the definitions, each behind those
+                                 that it stands on, with what both name of the code
     tests/believed.py --write    makes the tables of docs/PROMISES.md anew
 
 What a contract says of a value is said in words that others give a meaning: the clauses of the traits that bound the

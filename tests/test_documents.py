@@ -65,7 +65,8 @@ class Documents(Case):
             files = re.search(r"(?m)^    git diff OLD -- 'crates/\*/specs' (.*)$", it.read())[1]
         ran = self.run_command(["sh", "-c", f"ls {files}"], cwd=harness.TOP)
         self.assertEqual((ran.status, ran.err), (0, b""))
-        for name in (b"digests/src/run.rt", b"digests/src/command.rt", b"digests/src/laws.rt", b"sum_lines/src/sink.rt"):
+        for name in (b"digests/src/run.rt", b"digests/src/command.rt", b"digests/src/laws.rt",
+                     b"sum_lines/src/sink.rt"):
             self.assertIn(b"crates/" + name, ran.out.split())
 
     def test_what_cannot_be_read(self):

@@ -34,8 +34,8 @@ DESCRIPTION_OF_ANYSUM = (
     "`anysum` checks lists in which each line names its algorithm, as the other tools write them with `--tag`. It "
     "reads such tagged lines alone: check a list without tags with the tool of its algorithm. A list may mix the "
     "algorithms of all seven tools.",
-    "A line with a tag that `anysum` doesn't know is improperly formatted, as one without a tag is: use `--strict`, with "
-    "which it is a failure.",
+    "A line with a tag that `anysum` doesn't know is improperly formatted, as one without a tag is: use `--strict`, "
+    "with which it is a failure.",
     "`anysum` writes no lines, so it always needs `--check`. It refuses {refused}, though `--help` lists them.")
 
 OPTIONS = (

@@ -198,7 +198,8 @@ fn all_digits(bytes: &[u8]) -> bool
 // The first fault of the options together: of some that don't go with others, or of one that needs `--check`.
 fn fault_of_options(chosen: &Chosen<'_>) -> Option<WordFault<'static>>
     ensures { (xs : List ItemSaid) → IsChosenBy chosen.now [] xs →
-        option_map fault_of result ≡ option_map (λ row. row.1) (find (λ row. row.0) (faults (filter_map option_in xs))) }
+        option_map fault_of result
+        ≡ option_map (λ row. row.1) (find (λ row. row.0) (faults (filter_map option_in xs))) }
 {
     if chosen.tag && matches!(chosen.mode, Some(Mode::Text)) {
         return Some(WordFault::TagWithText);

@@ -6,8 +6,13 @@ use Rattle.sum_engine.specs.Verdicts.{Rules}
 use Rattle.sum_engine.specs.Steps.{Place}
 
 abbrev pub rules_in : Listing → Rules
-rules_in l =
-    record { profile = present; settings = l.settings; tool = l.tool.now; shown = l.shown.now; from_stdin = l.from_stdin }
+rules_in l = record {
+  profile = present;
+  settings = l.settings;
+  tool = l.tool.now;
+  shown = l.shown.now;
+  from_stdin = l.from_stdin;
+}
 
 abbrev pub place_of : {I : Type 0} → Position I → Place I
 place_of p = record { rules = rules_in p.listing; reader = p.reader; form = p.form; counts = p.counts }
