@@ -1,5 +1,5 @@
 -- Worked command lines: both texts, the names that are asked and whether all is good, as the meaning has them.
-use Rattle.std.proofs.Common.{◌≡◌, ◌++◌, Bool, List, [], ◌∷◌, refl, codes, true, false, flat_map, if◌then◌else◌, bytes_eq}
+use Rattle.std.proofs.Common.{◌≡◌, ◌++◌, Bool, List, [], ◌∷◌, refl, codes, true, false, flat_map, if◌then◌else◌, bytes_eq, Ok, Err}
 use Rattle.std.specs.Prelude.{⊤}
 use Rattle.std.specs.Str.{chars}
 use Rattle.std.specs.List.{concat}
@@ -15,7 +15,7 @@ use Rattle.hex.specs.Hex.{encode_with, decode_pairs}
 use Rattle.sum_lines.specs.PartsOfLines.{plain_parts, tagged_parts}
 use Rattle.sum_sources.specs.ManifestLines.{pieces}
 use Rattle.sum_lines.specs.ParsedLines.{entry_of}
-use Rattle.sum_sources.specs.Contents.{Content, limit, Reply, Refused, Given}
+use Rattle.sum_sources.specs.Contents.{Content, limit, Reply}
 use Rattle.sum_words.specs.declared.tool.Tool.{Tool}
 use Rattle.sum_words.specs.declared.tool.Tool.TheVariants.{Md5sum, B2sum, Anysum}
 use Rattle.sum_words.specs.Items.{Text, name_or_fault, option_of_letter}
@@ -39,10 +39,10 @@ broken bytes = record { bytes = bytes; ending = Broken Other }
 -- the file `a` holds abc, `e` is empty, `l` has one content and standard input another; no other file is there
 abbrev answer_with : Content → Text → Reply
 answer_with l name =
-    if bytes_eq name (codes "a") then Given (whole (codes "abc"))
-    else if bytes_eq name (codes "e") then Given (whole [])
-    else if bytes_eq name (codes "l") then Given l
-    else Refused NotFound
+    if bytes_eq name (codes "a") then Ok (whole (codes "abc"))
+    else if bytes_eq name (codes "e") then Ok (whole [])
+    else if bytes_eq name (codes "l") then Ok l
+    else Err NotFound
 
 -- the content of these lines, which ends whole
 abbrev list_of : List Text → Content

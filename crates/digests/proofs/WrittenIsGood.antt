@@ -1,5 +1,5 @@
 -- What generation writes is good under checking.
-use Rattle.std.proofs.Common.{rules, ◌≡◌, ℕ, ◌<◌, false, List, [], ◌∷◌, length, map, refl, ap, sym, ◌∙◌, append-nil, Ok, flat_map, All, Contains}
+use Rattle.std.proofs.Common.{rules, ◌≡◌, ℕ, ◌<◌, false, List, [], ◌∷◌, length, map, refl, ap, sym, ◌∙◌, append-nil, Ok, flat_map, All, Contains, Err}
 use Rattle.std.proofs.lemmas.List.{length-map, map-append}
 use Rattle.std.proofs.lemmas.List.Concat.{flat_map-append}
 use Rattle.std.proofs.lemmas.List.Folds.{flat_map-map}
@@ -7,7 +7,7 @@ use Rattle.std.proofs.lemmas.List.Elements.{All-nil, All-head, All-tail, All-app
 use Rattle.digest_kinds.specs.Kinds.{digest}
 use Rattle.sum_engine.specs.Reports.{Algos, right_line}
 use Rattle.sum_engine.specs.Runs.{Whole, World, reply, after, digest_or_fault, outs, asks}
-use Rattle.sum_sources.specs.Contents.{limit, Reply, Refused, Given}
+use Rattle.sum_sources.specs.Contents.{limit, Reply}
 use Rattle.sum_engine.specs.declared.settings.Settings.{Settings}
 use Rattle.sum_engine.specs.declared.settings.CheckSettings.{CheckSettings}
 use Rattle.sum_engine.specs.Generation.{generate_run}
@@ -24,8 +24,8 @@ use Rattle.digests.specs.GenerationRuns.{Listable, GenerationRun, generation_out
 
 -- what a file gave, as bytes
 abbrev bytes_of : Reply → List ℕ
-bytes_of (Refused f) = []
-bytes_of (Given c) = c.bytes
+bytes_of (Err f) = []
+bytes_of (Ok c) = c.bytes
 
 -- the line that a run writes for a name
 abbrev item : (Text → Reply) → Settings → Text → Item
@@ -83,7 +83,7 @@ lines-good : (t : Tool) (check : CheckSettings) (manifest : Text) (v : World) (x
     (text : Text) → ChecksBy t check manifest
     → All (Listed check.algos v.answer) xs → map (λ i. i.name) xs ≡ names → flat_map written_text xs ≡ text
     → 0 < length names → length text < limit
-    → reply v manifest ≡ Given (record { bytes = text; ending = Whole })
+    → reply v manifest ≡ Ok (record { bytes = text; ending = Whole })
     → Accepts t check v manifest names
 lines-good t check manifest v xs names text by all is same some fits given =
     let count : length xs ≡ length names = sym (length-map xs (λ i. i.name)) ∙ ap length is in

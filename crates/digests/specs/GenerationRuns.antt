@@ -1,9 +1,9 @@
 -- What is written is good: manifests that generation wrote, checked while the files stay as they were.
-use Rattle.std.specs.Prelude.{ℕ, ◌≡◌, ◌<◌, true, false, List, [], ◌∷◌, ◌++◌, IsTrue, length, map, flat_map, codes, if◌then◌else◌, All}
+use Rattle.std.specs.Prelude.{ℕ, ◌≡◌, ◌<◌, true, false, List, [], ◌∷◌, ◌++◌, IsTrue, length, map, flat_map, codes, if◌then◌else◌, All, Ok}
 use Rattle.digest_kinds.specs.Kinds.{has_len}
 use Rattle.sum_engine.specs.Reports.{Algos, right_line}
 use Rattle.sum_engine.specs.Runs.{Whole, World, is_dash, reply, outs, errs}
-use Rattle.sum_sources.specs.Contents.{limit, Reply, Given}
+use Rattle.sum_sources.specs.Contents.{limit, Reply}
 use Rattle.sum_lines.specs.LineLaws.{ReadBy}
 use Rattle.sum_engine.specs.declared.settings.Settings.{Settings}
 use Rattle.sum_engine.specs.declared.settings.CheckSettings.{CheckSettings}
@@ -24,7 +24,7 @@ pub record Listable (answer : Text → Reply) (name : Text) : Type 0 where
   pub no_nul : All (λ b. 0 < b) name
   pub no_dash : is_dash name ≡ false
   pub bytes : List ℕ
-  pub content : answer name ≡ Given (record { bytes = bytes; ending = Whole })
+  pub content : answer name ≡ Ok (record { bytes = bytes; ending = Whole })
   pub fits : length bytes < limit
 
 -- a run of generation: its settings, the tool's name and the names
@@ -81,7 +81,7 @@ abbrev pub WrittenIsGood : Type 0
 WrittenIsGood = (t : Tool) (check : CheckSettings) (manifest : Text) (w v : World) (g : GenerationRun)
     → ChecksBy t check manifest → Checkable check.algos w v g → 0 < length g.names
     → length (generation_output w g) < limit
-    → reply v manifest ≡ Given (record { bytes = generation_output w g; ending = Whole })
+    → reply v manifest ≡ Ok (record { bytes = generation_output w g; ending = Whole })
     → Accepts t check v manifest g.names
 
 -- so is what several runs wrote, one behind the other
@@ -89,5 +89,5 @@ abbrev pub JoinedIsGood : Type 0
 JoinedIsGood = (t : Tool) (check : CheckSettings) (manifest : Text) (w v : World) (gs : List GenerationRun)
     → ChecksBy t check manifest → All (Checkable check.algos w v) gs → 0 < length (flat_map names_of gs)
     → length (flat_map (generation_output w) gs) < limit
-    → reply v manifest ≡ Given (record { bytes = flat_map (generation_output w) gs; ending = Whole })
+    → reply v manifest ≡ Ok (record { bytes = flat_map (generation_output w) gs; ending = Whole })
     → Accepts t check v manifest (flat_map names_of gs)

@@ -1,5 +1,5 @@
 -- A manifest of lines that were written for whole files is good.
-use Rattle.std.proofs.Common.{rules, ◌≡◌, ℕ, suc, ◌+◌, ◌<◌, true, List, [], ◌∷◌, ◌++◌, length, map, refl, ap, ◌∙◌, append_assoc, arith, inl, append-nil, sym, flat_map, All}
+use Rattle.std.proofs.Common.{rules, ◌≡◌, ℕ, suc, ◌+◌, ◌<◌, true, List, [], ◌∷◌, ◌++◌, length, map, refl, ap, ◌∙◌, append_assoc, arith, inl, append-nil, sym, flat_map, All, Ok}
 use Rattle.std.proofs.lemmas.Bool.{ne_eqb}
 use Rattle.std.proofs.Math.Bool.{and-false, or-true}
 use Rattle.std.proofs.lemmas.List.Elements.{All-head, All-tail}
@@ -10,7 +10,7 @@ use Rattle.sum_engine.specs.Verdicts.{Form, CheckSettings, Right, Rules, Judged,
 use Rattle.sum_lines.specs.Escape.{present, escape}
 use Rattle.sum_lines.specs.Entries.{Entry, form}
 use Rattle.sum_engine.specs.Runs.{Whole, World, reply, after, digest_or_fault, Run, outs, errs}
-use Rattle.sum_sources.specs.Contents.{Content, limit, Reply, Given}
+use Rattle.sum_sources.specs.Contents.{Content, limit, Reply}
 use Rattle.sum_sources.proofs.ContentLemmas.{limit-value, clip-short}
 use Rattle.sum_engine.specs.Steps.{step_then}
 use Rattle.sum_lines.specs.ParsedLines.{parse_line}
@@ -29,7 +29,7 @@ now r = record r { profile = present }
 
 -- the digest of the item's file, read by the kind that its line spells, is right against itself
 digest_verdict-right : (algos : Algos) (answer : List ℕ → Reply) (i : Item) → Listed algos answer i
-    → let file = Given (record { bytes = i.bytes; ending = Whole }) in
+    → let file : Reply = Ok (record { bytes = i.bytes; ending = Whole }) in
     digest_verdict (digest i.kind i.bytes) (digest_or_fault i.kind file) ≡ Right
 digest_verdict-right algos answer i h =
     let d : List ℕ = digest i.kind i.bytes in
@@ -138,7 +138,7 @@ all-right r w is all = rw (lines-are r.settings.algos w.answer is all) (right-ve
 -- what checking it comes to, by these verdicts
 check_run-is : (check : CheckSettings) (tool manifest : List ℕ) (w : World) (is : List Item)
     → All (Listed check.algos w.answer) is → length (flat_map written_text is) < limit
-    → reply w manifest ≡ Given (whole is)
+    → reply w manifest ≡ Ok (whole is)
     → check_run check tool w manifest
     ≡ step_then (opening manifest) (content_run (rules_of check tool manifest) (whole is) (rights 0 is))
 check_run-is check tool manifest w is all fits given =
@@ -150,7 +150,7 @@ check_run-is check tool manifest w is all fits given =
 -- a manifest with at least one line is good, and each of its names is reported as right
 pub manifest_good : (check : CheckSettings) (tool manifest : List ℕ) (w : World) (is : List Item)
     → All (Listed check.algos w.answer) is → 0 < length is → length (flat_map written_text is) < limit
-    → reply w manifest ≡ Given (whole is) → Found check tool w manifest is
+    → reply w manifest ≡ Ok (whole is) → Found check tool w manifest is
 manifest_good check tool manifest w [] all some fits given = absurd (omega arith)
 manifest_good check tool manifest w (i ∷ is) all some fits given =
     let r : Rules = rules_of check tool manifest in

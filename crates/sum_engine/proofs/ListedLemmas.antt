@@ -1,5 +1,5 @@
 -- A manifest of lines that were written for whole files: each line is read back.
-use Rattle.std.proofs.Common.{◌≡◌, ◌≢◌, ◌==◌, ℕ, ◌<◌, false, List, [], ◌∷◌, ◌++◌, length, map, refl, ap, sym, ◌∙◌, subst, ◌⊎◌, inl, IsTrue, flat_map, All}
+use Rattle.std.proofs.Common.{◌≡◌, ◌≢◌, ◌==◌, ℕ, ◌<◌, false, List, [], ◌∷◌, ◌++◌, length, map, refl, ap, sym, ◌∙◌, subst, ◌⊎◌, inl, IsTrue, flat_map, All, Ok}
 use Rattle.std.specs.Str.Lines.{strip_carriage_return}
 use Rattle.std.proofs.lemmas.Bool.{ne_eqb}
 use Rattle.std.proofs.lemmas.List.{append-nil, append_cancel_right}
@@ -15,7 +15,7 @@ use Rattle.sum_lines.specs.Entries.{Spelled, Entry, form}
 use Rattle.sum_lines.specs.LineLaws.{ReadBy, Writable}
 use Rattle.sum_lines.proofs.LineFormatLemmas.{prefix_of, read_back}
 use Rattle.sum_engine.specs.Runs.{Whole, is_dash}
-use Rattle.sum_sources.specs.Contents.{Content, limit, Reply, Given}
+use Rattle.sum_sources.specs.Contents.{Content, limit, Reply}
 use Rattle.sum_sources.specs.ManifestLines.{NoNewline, lines, pieces}
 use Rattle.sum_sources.proofs.CutLemmas.{pieces-joined}
 use Rattle.sum_engine.specs.OldVerdicts.{NoReturn}
@@ -41,7 +41,7 @@ pub record Listed (algos : Algos) (answer : List ℕ → Reply) (i : Item) : Typ
   pub some : 0 < length i.name
   pub no_nul : All (λ b. 0 < b) i.name
   pub no_dash : is_dash i.name ≡ false
-  pub content : answer i.name ≡ Given (record { bytes = i.bytes; ending = Whole })
+  pub content : answer i.name ≡ Ok (record { bytes = i.bytes; ending = Whole })
   pub fits : length i.bytes < limit
 
 -- the line without its newline

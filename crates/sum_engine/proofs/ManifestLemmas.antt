@@ -3,7 +3,7 @@ use Rattle.std.proofs.Common.{rules, ◌++◌, ◌≡◌, ℕ, ◌||◌, Bool, t
 use Rattle.std.proofs.Math.Bool.{or-false}
 use Rattle.sum_engine.specs.Runs.{Fault, World, is_dash, reply, after, Step, Run, events_of}
 use Rattle.sum_sources.specs.declared.source.OpenFault.{OpenFault}
-use Rattle.sum_sources.specs.Contents.{Content, InputState, WhereTold, clip, SourceState, Reply, Refused, Given, Telling, OpenOf, empty_content}
+use Rattle.sum_sources.specs.Contents.{Content, InputState, WhereTold, clip, SourceState, Reply, Telling, OpenOf, empty_content}
 use Rattle.sum_lines.specs.Sinks.{SinkState}
 use Rattle.sum_sources.proofs.ToldLemmas.{WhereTold-map}
 use Rattle.digest_kinds.specs.Limits.{one_more}
@@ -115,7 +115,7 @@ opening name = record { names = name ∷ []; err = []; out = []; left = 0 }
 -- the name was asked, which has that content, and nothing else was done
 abbrev pub IsOpened : List ℕ → Option Content → RunState → RunState → Type 0
 IsOpened name c a b =
-    (d : Content) × (c ≡ Some d) × (reply a.world name ≡ Given d) × Did a b (events_of (opening name))
+    (d : Content) × (c ≡ Some d) × (reply a.world name ≡ Ok d) × Did a b (events_of (opening name))
 
 -- what a call gives
 abbrev pub CheckGives : {S : Type 0} → (S → SourceState) → Call → Moment S → Moment S → Result Bool Stop → Type 0
@@ -177,13 +177,13 @@ check_dash {S} state k a b x dash run =
 -- opening a name, as the world sees it
 abbrev OpensIn : {F : Type 0} → (F → InputState) → List ℕ → Result F OpenFault → World → World → Type 0
 OpensIn content name (Ok file) w v = (v ≡ record w { asked = w.asked ++ name ∷ [] })
-    × (c : Content) × (w.answer name ≡ Given c) × ((content file).content ≡ Some c)
+    × (c : Content) × (w.answer name ≡ Ok c) × ((content file).content ≡ Some c)
 OpensIn content name (Err (open_faults.Fault f)) w v =
-    (v ≡ record w { asked = w.asked ++ name ∷ [] }) × (w.answer name ≡ Refused f)
+    (v ≡ record w { asked = w.asked ++ name ∷ [] }) × (w.answer name ≡ Err f)
 OpensIn content name (Err open_faults.Memory) w v = v ≡ w
 
 -- a reply that is a content
-given : (o : Option Content) (r : Reply) → option_map Given o ≡ Some r → (c : Content) × (r ≡ Given c) × (o ≡ Some c)
+given : (o : Option Content) (r : Reply) → option_map Ok o ≡ Some r → (c : Content) × (r ≡ Ok c) × (o ≡ Some c)
 given None r h = cc
 given (Some c) r h = (c, cc, refl)
 
@@ -249,8 +249,8 @@ refused {S = S} content state k a source f err x dash h refusals hands =
 -- checking begins with a step
 begins : (r : Rules) (name : List ℕ) (w : World) (reply : Reply)
     → (next : Step) × (rest : List Step) × ((check_run_by r name w reply).steps ≡ next ∷ rest)
-begins r name w (Refused f) = (_, [], refl)
-begins r name w (Given c) = (opening name, _, refl)
+begins r name w (Err f) = (_, [], refl)
+begins r name w (Ok c) = (opening name, _, refl)
 
 -- the source had no memory to open it
 pub no_room : {F S : Type 0} (content : F → InputState) (state : S → SourceState) (k : Call) (a : Moment S)

@@ -1,10 +1,10 @@
 -- A manifest of the time of older versions is checked alike under both profiles.
-use Rattle.std.proofs.Common.{◌≡◌, ℕ, ◌+◌, ◌<◌, false, not, cond, List, [], ◌∷◌, length, map, refl, ap, sym, ◌∙◌, subst, codes, append_assoc, ◌++◌, bytes_eq, All, flat_map}
+use Rattle.std.proofs.Common.{◌≡◌, ℕ, ◌+◌, ◌<◌, false, not, cond, List, [], ◌∷◌, length, map, refl, ap, sym, ◌∙◌, subst, codes, append_assoc, ◌++◌, bytes_eq, All, flat_map, Ok, Err}
 use Rattle.std.specs.List.{concat}
 use Rattle.std.proofs.lemmas.List.Elements.{All-nil, All-cons, All-head, All-tail}
 use Rattle.sum_engine.specs.Reports.{Algos, Counts, no_counts, name_line, verdict_line, is_hidden, out_of, err_by, err_of, counts, end_text, good}
 use Rattle.sum_engine.specs.Runs.{Ending, Whole, Broken, Fault, World, after, at_once}
-use Rattle.sum_sources.specs.Contents.{Content, clip, Refused, Given}
+use Rattle.sum_sources.specs.Contents.{Content, clip}
 use Rattle.sum_sources.specs.ManifestLines.{pieces, last_line, past_line, bytes_of_pieces}
 use Rattle.sum_sources.proofs.CutLemmas.{cut, pieces-joined}
 use Rattle.sum_engine.specs.Verdicts.{Form, Verdict, Bad, Right, Wrong, Unread, lines_by, Rules, Judged, judge, asks_of, verdicts, all_verdicts}
@@ -206,9 +206,9 @@ content_same r w c h =
 
 -- so is what its name comes to
 pub old_outcomes : OldOutcomes
-old_outcomes r name w (Refused f) own h =
+old_outcomes r name w (Err f) own h =
     ap (λ (l : List ℕ). at_once (name ∷ []) l [] false) (fault_same r.tool r.shown f own)
-old_outcomes r name w (Given c) own h = ap (step_then (opening name)) (content_same r w (clip c) (h c refl))
+old_outcomes r name w (Ok c) own h = ap (step_then (opening name)) (content_same r w (clip c) (h c refl))
 
 -- ---- where the profiles differ
 

@@ -1,6 +1,6 @@
 -- What checking one manifest comes to.
-use Rattle.std.specs.Prelude.{ℕ, true, false, List, [], ◌∷◌, length, codes, if◌then◌else◌}
-use Rattle.sum_sources.specs.Contents.{Content, clip, Reply, Refused, Given}
+use Rattle.std.specs.Prelude.{ℕ, true, false, List, [], ◌∷◌, length, codes, if◌then◌else◌, Ok, Err}
+use Rattle.sum_sources.specs.Contents.{Content, clip, Reply}
 use Rattle.sum_sources.specs.ManifestLines.{past_line}
 use Rattle.sum_engine.specs.Verdicts.{CheckSettings, Rules, Judged, asks_of, all_verdicts}
 use Rattle.sum_engine.specs.Runs.{World, is_dash, reply, after, run_then, Step, Run, at_once}
@@ -26,8 +26,8 @@ content_run r c js =
     record { steps = line_steps r (end_text r c.ending n) c js; good = good r c.ending n }
 
 abbrev pub check_run_by : Rules → List ℕ → World → Reply → Run
-check_run_by r name w (Refused f) = at_once (name ∷ []) (fault_line r.profile r.tool r.shown f) [] false
-check_run_by r name w (Given c) =
+check_run_by r name w (Err f) = at_once (name ∷ []) (fault_line r.profile r.tool r.shown f) [] false
+check_run_by r name w (Ok c) =
     run_then (at_once (name ∷ []) [] [] true) (content_run r (clip c) (all_verdicts r w (clip c)))
 
 abbrev pub check_run : CheckSettings → List ℕ → World → List ℕ → Run

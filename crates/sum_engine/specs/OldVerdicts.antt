@@ -1,9 +1,9 @@
 -- What the law of old verdicts says: a manifest of the time of older versions is checked alike under both profiles.
-use Rattle.std.specs.Prelude.{ℕ, ◌≡◌, ◌≢◌, ◌<◌, ◌⊎◌, true, false, List, [], ◌∷◌, ◌++◌, length, map, codes, All}
+use Rattle.std.specs.Prelude.{ℕ, ◌≡◌, ◌≢◌, ◌<◌, ◌⊎◌, true, false, List, [], ◌∷◌, ◌++◌, length, map, codes, All, Ok}
 use Rattle.digest_kinds.specs.Kinds.{KindValue}
 use Rattle.sum_engine.specs.Reports.{Algos, no_counts, out_of, err_of, counts, end_text, good}
 use Rattle.sum_engine.specs.Runs.{Whole, World}
-use Rattle.sum_sources.specs.Contents.{Content, clip, Reply, Given}
+use Rattle.sum_sources.specs.Contents.{Content, clip, Reply}
 use Rattle.sum_sources.specs.ManifestLines.{pieces}
 use Rattle.sum_engine.specs.Verdicts.{Form, lines_by, Rules, all_verdicts}
 use Rattle.sum_lines.specs.Escape.{Profile, present, escape, escape_by}
@@ -59,7 +59,7 @@ OldVerdicts = (r : Rules) (w : World) (c : Content) → Old r c
 -- so all that checking comes to is the same under both, also where the manifest can't be opened
 abbrev pub OldOutcomes : Type 0
 OldOutcomes = (r : Rules) (name : List ℕ) (w : World) (reply : Reply) → NoReturn r.shown
-    → ((c : Content) → reply ≡ Given c → Old r (clip c))
+    → ((c : Content) → reply ≡ Ok c → Old r (clip c))
     → check_run_by (rules_under older r) name w reply ≡ check_run_by (rules_under present r) name w reply
 
 -- where the older profile differs: a carriage return stands unescaped in a name, stays at a line's end, and an empty

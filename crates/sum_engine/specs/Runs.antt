@@ -6,7 +6,7 @@ use Rattle.digest_kinds.specs.Kinds.{KindValue, digest}
 pub use Rattle.sum_sources.specs.declared.fault.Fault.{Fault}
 pub use Rattle.sum_sources.specs.declared.fault.Ending.{Ending}
 pub use Rattle.sum_sources.specs.declared.fault.Ending.TheVariants.{Whole, Broken}
-use Rattle.sum_sources.specs.Contents.{Content, clip, Reply, Refused, Given, empty_content}
+use Rattle.sum_sources.specs.Contents.{Content, clip, Reply, empty_content}
 
 -- the source's answers, the names asked of it so far, and what standard input has to give
 pub record World : Type 0 where
@@ -18,7 +18,7 @@ abbrev pub is_dash : List ℕ → Bool
 is_dash name = bytes_eq name (codes "-")
 
 abbrev pub reply : World → List ℕ → Reply
-reply w name = if is_dash name then Given w.input else w.answer name
+reply w name = if is_dash name then Ok w.input else w.answer name
 
 -- the world after these names were asked: standard input is given once, and is empty from then on
 abbrev pub after : World → List (List ℕ) → World
@@ -33,8 +33,8 @@ digest_unless_broken (Broken f) d = Err f
 
 -- what reading a reply gives: the digest of all its bytes, or the fault of opening or reading it
 abbrev pub digest_or_fault : KindValue → Reply → Result (List ℕ) Fault
-digest_or_fault kind (Refused f) = Err f
-digest_or_fault kind (Given c) = digest_unless_broken (clip c).ending (digest kind (clip c).bytes)
+digest_or_fault kind (Err f) = Err f
+digest_or_fault kind (Ok c) = digest_unless_broken (clip c).ending (digest kind (clip c).bytes)
 
 -- a name is opened, where `-` is standard input; or a byte is written to standard error, or to standard output
 pub data Event : Type 0 where

@@ -2,7 +2,7 @@
 use Rattle.std.specs.Prelude.{ℕ, ◌+◌, ◌&&◌, Bool, true, false, List, [], ◌∷◌, Result, Ok, Err, if◌then◌else◌, bytes_eq}
 use Rattle.sum_engine.specs.Runs.{Fault, World, is_dash, reply, after, digest_or_fault}
 use Rattle.sum_sources.specs.declared.fault.Fault.TheVariants.{NotFound}
-use Rattle.sum_sources.specs.Contents.{Content, Reply, Refused}
+use Rattle.sum_sources.specs.Contents.{Content, Reply}
 use Rattle.sum_sources.specs.ManifestLines.{lines, pieces}
 pub use Rattle.sum_lines.specs.declared.line_reading.Form.{Form}
 use Rattle.sum_lines.specs.Entries.{Spelled, form}
@@ -28,7 +28,7 @@ pub record Judged : Type 0 where
 
 -- opening answered that there is no such file
 abbrev pub not_found : Reply → Bool
-not_found (Refused NotFound) = true
+not_found (Err NotFound) = true
 not_found r = false
 
 -- what was read, against the digest that the line gives

@@ -71,10 +71,9 @@ pub record OverReader (R : Type 0) : Type 0 where
   pub reader : R
   pub failed : Bool  -- whether a read has failed
 
--- what a source has for a name
-pub data Reply : Type 0 where
-  Refused : Fault → Reply
-  Given : Content → Reply
+-- what a source has for a name: a content, or the fault of opening
+abbrev pub Reply : Type 0
+Reply = Result Content Fault
 
 -- what a source tells: its reply to each name, and the names that it was asked, in order
 pub record Telling : Type 0 where
@@ -97,6 +96,6 @@ AsksName s t name reply = (t ≡ record s { asked = s.asked ++ name ∷ [] }) ×
 
 -- opening a name: the same is told for want of memory; else it was asked, and its reply is the file's content or fault
 abbrev pub OpenOf : {F : Type 0} → (F → InputState) → Telling → Telling → List ℕ → Result F OpenFault → Type 0
-OpenOf state s t name (Ok file) = AsksName s t name (option_map Given (state file).content)
-OpenOf state s t name (Err (faults.Fault f)) = AsksName s t name (Some (Refused f))
+OpenOf state s t name (Ok file) = AsksName s t name (option_map Ok (state file).content)
+OpenOf state s t name (Err (faults.Fault f)) = AsksName s t name (Some (Err f))
 OpenOf state s t name (Err faults.Memory) = t ≡ s

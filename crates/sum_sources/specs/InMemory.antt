@@ -1,6 +1,6 @@
 -- Inputs and sources in memory.
-use Rattle.std.specs.Prelude.{ℕ, List, [], ◌∷◌, if◌then◌else◌, bytes_eq}
-use Rattle.sum_sources.specs.Contents.{NotFound, Content, Reply, Refused, Telling}
+use Rattle.std.specs.Prelude.{ℕ, List, [], ◌∷◌, if◌then◌else◌, bytes_eq, Err}
+use Rattle.sum_sources.specs.Contents.{NotFound, Content, Reply, Telling}
 
 -- an input in memory: what it has still to give, and the most bytes that one read gives
 pub record ToldContent : Type 0 where
@@ -14,7 +14,7 @@ pub record Pair : Type 0 where
 
 -- the first pair with the name answers; a name without a pair is not found
 abbrev pub first_reply : List Pair → List ℕ → Reply
-first_reply [] name = Refused NotFound
+first_reply [] name = Err NotFound
 first_reply (p ∷ ps) name = if bytes_eq p.name name then p.reply else first_reply ps name
 
 -- a source in memory: its pairs in the order in which they were added, the names asked, the most bytes that one read of

@@ -1,7 +1,7 @@
 -- Joins asking one name to the world.
 use Rattle.std.specs.Prelude.{ℕ, ◌≡◌, List, [], ◌∷◌, length, Option, None, Some, Ok, Err, ⊤}
 use Rattle.digest_kinds.specs.Kinds.{KindValue}
-use Rattle.sum_sources.specs.Contents.{Content, WhereTold, Reply, Refused, Given, SourceState, Telling}
+use Rattle.sum_sources.specs.Contents.{Content, WhereTold, Reply, SourceState, Telling}
 use Rattle.sum_engine.specs.Moments.{Moment}
 use Rattle.digest_kinds.specs.Limits.{one_more}
 pub use Rattle.sum_engine.specs.declared.asking.Asked.{Asked}
@@ -19,15 +19,15 @@ world_of state m = world_by (state m.source).told m.input
 
 -- what came of a reply
 abbrev pub IsAsked : KindValue → Reply → Asked → Type 0
-IsAsked kind r (asked.Read d) = (c : Content) × (r ≡ Given c) × (digest_or_fault kind (Given c) ≡ Ok d)
-IsAsked kind r (asked.Refused f) = r ≡ Refused f
-IsAsked kind r (asked.Broken f) = (c : Content) × (r ≡ Given c) × (digest_or_fault kind (Given c) ≡ Err f)
+IsAsked kind r (asked.Read d) = (c : Content) × (r ≡ Ok c) × (digest_or_fault kind (Ok c) ≡ Ok d)
+IsAsked kind r (asked.Refused f) = r ≡ Err f
+IsAsked kind r (asked.Broken f) = (c : Content) × (r ≡ Ok c) × (digest_or_fault kind (Ok c) ≡ Err f)
 
 -- what was read of a content
 abbrev pub IsRead : KindValue → Content → Asked → Type 0
-IsRead kind c (asked.Read d) = digest_or_fault kind (Given c) ≡ Ok d
+IsRead kind c (asked.Read d) = digest_or_fault kind (Ok c) ≡ Ok d
 IsRead kind c (asked.Refused f) = ⊥
-IsRead kind c (asked.Broken f) = digest_or_fault kind (Given c) ≡ Err f
+IsRead kind c (asked.Broken f) = digest_or_fault kind (Ok c) ≡ Err f
 
 -- the name was asked, and this came of it; without memory it wasn't asked
 abbrev pub AskOf : KindValue → World → World → List ℕ → Option Asked → Type 0

@@ -1,13 +1,14 @@
 -- What the answers of a told source say, and the pairs that it stores.
+use Rattle.std.specs.Prelude.{Ok, Err}
 use Rattle.sum_sources.specs.declared.told_source.Answer.{Answer}
 use Rattle.sum_sources.specs.declared.told_source.StoredPair.{StoredPair}
 use Rattle.sum_sources.specs.InMemory.{Pair}
-use Rattle.sum_sources.specs.Contents.{Reply, Refused, Given}
+use Rattle.sum_sources.specs.Contents.{Reply}
 use Rattle.sum_sources.specs.declared.told_source.Answer.TheVariants as answers
 
 abbrev pub reply_of : Answer → Reply
-reply_of (answers.Fault f) = Refused f
-reply_of (answers.Content content ending) = Given (record { bytes = content.now; ending = ending })
+reply_of (answers.Fault f) = Err f
+reply_of (answers.Content content ending) = Ok (record { bytes = content.now; ending = ending })
 
 abbrev pub pair_of : {A : Type 0} → StoredPair A → Pair
 pair_of p = record { name = p.name.items; reply = reply_of p.answer }

@@ -28,3 +28,7 @@ returns-in_default g c =
     let shown = summary-shown r c.args.counts (λ e. c.if-entries-eq0.false (c.entries.ensures ∙ e))
     c.in_default.not-Status in
     rw shown c.put_warnings.ensures
+
+-- there are none
+pub returns-then-entries-eq0 : goal.returns-then-entries-eq0
+returns-then-entries-eq0 g c = rw (← c.entries.ensures, c.if-entries-eq0.true) c.put_tool_line.ensures
