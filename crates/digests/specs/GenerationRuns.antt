@@ -1,5 +1,5 @@
 -- What is written is good: manifests that generation wrote, checked while the files stay as they were.
-use Rattle.std.specs.Prelude.{ℕ, ◌≡◌, ◌<◌, true, false, List, [], ◌∷◌, ◌++◌, IsTrue, length, map, flat_map, codes, if◌then◌else◌, All, Ok}
+use Rattle.std.specs.Prelude.{ℕ, ◌≡◌, ◌<◌, true, false, List, [], ◌∷◌, ◌++◌, IsTrue, length, map, flat_map, codes, if◌then◌else◌, All, Ok, option_to_list}
 use Rattle.digest_kinds.specs.Kinds.{has_len}
 use Rattle.sum_engine.specs.Reports.{Algos, right_line}
 use Rattle.sum_engine.specs.Runs.{Whole, World, is_dash, reply, outs, errs}
@@ -7,15 +7,14 @@ use Rattle.sum_sources.specs.Contents.{limit, Reply}
 use Rattle.sum_lines.specs.LineLaws.{ReadBy}
 use Rattle.sum_engine.specs.declared.settings.Settings.{Settings}
 use Rattle.sum_engine.specs.declared.settings.CheckSettings.{CheckSettings}
-use Rattle.sum_engine.specs.declared.settings.Report.{Report}
 use Rattle.sum_engine.specs.Generation.{generate_run}
 use Rattle.sum_words.specs.declared.options.Flag.{Flag}
 use Rattle.sum_words.specs.declared.tool.Tool.{Tool}
 use Rattle.sum_words.specs.Tools.{algos_of}
 use Rattle.sum_words.specs.Items.{Text, full_name}
+use Rattle.sum_words.specs.Request.{report_flag}
 use Rattle.sum_words.specs.PlainWords.{is_plain}
 use Rattle.digests.specs.Meaning.{all_of, meaning, status_of}
-use Rattle.sum_engine.specs.declared.settings.Report.TheVariants as reports
 use Rattle.sum_words.specs.declared.options.Flag.TheVariants as flags
 
 -- a name that isn't empty, holds no NUL and isn't `-`, and whose file is whole and not too long
@@ -50,14 +49,9 @@ pub record Checkable (algos : Algos) (w v : World) (g : GenerationRun) : Type 0 
   pub same : All (λ name. v.answer name ≡ w.answer name) g.names
 
 -- the options that ask for a check with these settings
-abbrev pub report_option : Report → List Flag
-report_option reports.All = []
-report_option reports.Quiet = flags.Quiet ∷ []
-report_option reports.Warn = flags.Warn ∷ []
-report_option reports.Status = flags.Status ∷ []
-
 abbrev pub check_options : CheckSettings → List Flag
-check_options check = flags.Check ∷ report_option check.report ++ (if check.strict then flags.Strict ∷ [] else [])
+check_options check = flags.Check ∷ option_to_list (report_flag check.report)
+    ++ (if check.strict then flags.Strict ∷ [] else [])
     ++ (if check.ignore_missing then flags.IgnoreMissing ∷ [] else [])
 
 -- the words of such a check of one manifest, as `--check --quiet SUMS`

@@ -39,6 +39,13 @@ mode_flags = flags.Binary ∷ flags.Text ∷ flags.Tag ∷ []
 abbrev pub report_flags : List Flag
 report_flags = flags.Status ∷ flags.Warn ∷ flags.Quiet ∷ []
 
+-- the option that sets a report; `All` needs none
+abbrev pub report_flag : Report → Option Flag
+report_flag reports.All = None
+report_flag reports.Quiet = Some flags.Quiet
+report_flag reports.Warn = Some flags.Warn
+report_flag reports.Status = Some flags.Status
+
 -- one or more digits
 abbrev pub is_number : Text → Bool
 is_number value = not (bytes_eq value []) && all_ascii_digits value

@@ -2,7 +2,7 @@
 use Rattle.std.specs.Prelude.{ℕ, ◌≡◌, ◌≤◌, ◌^◌, ◌||◌, true, Bool, List, [], Option, None, Some, Result, Ok, Err, filter, option_map, option_copied, filter_map}
 use Rattle.std.specs.List.{last_or}
 use Rattle.std.specs.Str.Parse.{digits_value}
-use Rattle.sum_words.specs.Request.{Mode, Report, early_answer, has, mode_flags, report_flags, is_number}
+use Rattle.sum_words.specs.Request.{report_flag, Mode, Report, early_answer, has, mode_flags, report_flags, is_number}
 use Rattle.sum_words.specs.Items.{Flag, Text, Item, option_in, value_in}
 use Rattle.sum_words.specs.declared.faults.WordFault.{WordFault}
 use Rattle.sum_words.specs.declared.request.Chosen.{Chosen}
@@ -11,20 +11,13 @@ use Rattle.sum_words.specs.declared.request.Reading.TheVariants.{Options, Answer
 use Rattle.sum_words.specs.WordFaults.{Fault}
 use Rattle.sum_words.specs.refinement.ItemIterator.{fault_of}
 use Rattle.sum_lines.specs.declared.line_format.Mode.TheVariants as modes
-use Rattle.sum_engine.specs.declared.settings.Report.TheVariants as reports
 use Rattle.sum_words.specs.declared.options.Flag.TheVariants as flags
 
--- the options that set these
+-- the option that sets a mode
 abbrev pub mode_flag : Mode → Flag
 mode_flag modes.Text = flags.Text
 mode_flag modes.Binary = flags.Binary
 mode_flag modes.Tag = flags.Tag
-
-abbrev pub report_flag : Report → Option Flag
-report_flag reports.All = None
-report_flag reports.Quiet = Some flags.Quiet
-report_flag reports.Warn = Some flags.Warn
-report_flag reports.Status = Some flags.Status
 
 -- the last of these options that is given; or an earlier one, where there is none
 abbrev pub last_after : List Flag → Option Flag → List Flag → Option Flag
