@@ -2,7 +2,7 @@
 use Rattle.std.specs.Prelude.{ℕ, ◌≡◌, ◌≤◌, ◌^◌, ◌||◌, true, Bool, List, [], Option, None, Some, Result, Ok, Err, filter, option_map, option_copied, filter_map}
 use Rattle.std.specs.List.{last_or}
 use Rattle.std.specs.Str.Parse.{digits_value}
-use Rattle.sum_words.specs.Request.{report_flag, Mode, Report, early_answer, has, mode_flags, report_flags, is_number}
+use Rattle.sum_words.specs.Request.{report_flag, Mode, early_answer, has, mode_flags, report_flags, is_number}
 use Rattle.sum_words.specs.Items.{Flag, Text, Item, option_in, value_in}
 use Rattle.sum_words.specs.declared.faults.WordFault.{WordFault}
 use Rattle.sum_words.specs.declared.request.Chosen.{Chosen}
