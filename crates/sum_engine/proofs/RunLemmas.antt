@@ -4,8 +4,7 @@ use Rattle.std.proofs.lemmas.Grind.{flat_map-append}
 use Rattle.std.proofs.lemmas.List.Elements.{filter_map-append}
 use Rattle.sum_sources.specs.Contents.{WhereTold, SourceState}
 use Rattle.sum_sources.proofs.ToldLemmas.{WhereTold-map}
-use Rattle.sum_lines.specs.Sinks.{IsPrefix}
-use Rattle.sum_engine.specs.Moments.{Stop, Memory, Write, Moment, RunState, run_state, Did, RunOf}
+use Rattle.sum_engine.specs.Moments.{Stop, Memory, Write, Moment, RunState, run_state, Did, DidPrefix, RunOf}
 use Rattle.sum_engine.specs.Runs.{World, Event, Step, Run, events, events_of, at_once, name_in, err_in, out_in}
 use Rattle.sum_engine.specs.refinement.Asking.{world_of}
 use Rattle.sum_engine.specs.LineVerdicts.{OnlyRefused}
@@ -52,7 +51,7 @@ along_end h k =
 
 -- a step of which a prefix happened
 pub along_breaks : {a b c : RunState} {whole left : Run} → Along whole left a b → Breaks left b c
-    → (prefix : List Event) × IsPrefix prefix (events whole.steps) × Did a c prefix
+    → DidPrefix a c (events whole.steps)
 along_breaks {whole = whole} h k =
     let steps : whole.steps ≡ h.done ++ k.step ∷ k.rest.steps = h.steps ∙ ap (λ r. h.done ++ r.steps) k.is in
     let all : events whole.steps ≡ events h.done ++ (events_of k.step ++ events k.rest.steps) =

@@ -9,12 +9,12 @@ use Rattle.std.proofs.lemmas.List.Elements.{filter_map-append}
 use Rattle.std.proofs.lemmas.List.Folds.{list_any-append}
 use Rattle.sum_sources.specs.Contents.{WhereTold, SourceState, Telling, Content}
 use Rattle.digest_kinds.specs.Limits.{one_more}
-use Rattle.sum_lines.specs.Sinks.{SinkState, IsPrefix}
+use Rattle.sum_lines.specs.Sinks.{SinkState}
 use Rattle.sum_lines.specs.refinement.GrowingSinks.{AppendsPrefix}
 use Rattle.sum_engine.specs.Runs.{World, is_dash, after, Run, Event, Opens, Tells, Puts, name_in, err_in, out_in}
 use Rattle.sum_engine.specs.refinement.Telling.{Hands, HandsBoth}
 use Rattle.sum_lines.specs.PartsOfLines.{◌>>=◌}
-use Rattle.sum_engine.specs.Moments.{Moment, RunState, run_state, Stop, Did, RunOf}
+use Rattle.sum_engine.specs.Moments.{Moment, RunState, run_state, Stop, Did, DidPrefix, RunOf}
 use Rattle.sum_engine.specs.refinement.Asking.{world_by, world_of}
 use Rattle.sum_engine.specs.LineVerdicts.{OnlyRefused}
 use Rattle.sum_engine.proofs.WorldLemmas.{after-append}
@@ -120,7 +120,7 @@ did_both {a} {b} {c} p q h k = record {
 -- the names were asked, and of the text on standard error a prefix was handed on
 pub prefix_err : {a b : RunState} (names : List (List ℕ)) (err out : List ℕ) → Asks a b names
     → AppendsPrefix a.err.written b.err.written err → b.out.written ≡ a.out.written
-    → (prefix : List Event) × IsPrefix prefix (events_by names err out) × Did a b prefix
+    → DidPrefix a b (events_by names err out)
 prefix_err {a} {b} names err out asked h same = (
   events_by names h.0 [],
   (
@@ -133,7 +133,7 @@ prefix_err {a} {b} names err out asked h same = (
 -- all of it was, and a prefix of the text on standard output
 pub prefix_out : {a b : RunState} (names : List (List ℕ)) (err out : List ℕ) → Asks a b names
     → Appends a.err.written b.err.written err → AppendsPrefix a.out.written b.out.written out
-    → (prefix : List Event) × IsPrefix prefix (events_by names err out) × Did a b prefix
+    → DidPrefix a b (events_by names err out)
 prefix_out {a} {b} names err out asked all h = (
   events_by names err h.0,
   (map Puts h.1.0, rw (h.1.1) (simp (map-append, append_assoc))),
@@ -147,7 +147,7 @@ Writing = Result (Unit {0}) (Unit {0})
 -- what it wrote happened, or a prefix of it where it failed
 abbrev pub Came : Writing → RunState → RunState → List Event → Type 0
 Came (Ok u) a b es = Did a b es
-Came (Err e) a b es = (prefix : List Event) × IsPrefix prefix es × Did a b prefix
+Came (Err e) a b es = DidPrefix a b es
 
 -- the names were asked, and the two texts handed on or a prefix of them
 pub came_by : (a b : RunState) (names : List (List ℕ)) (err out : List ℕ) (x : Writing) → Asks a b names
@@ -163,9 +163,8 @@ err_alone a b out text (Ok u) h = (h, Appends-nil out.written)
 err_alone a b out text (Err e) h = inl (h, refl)
 
 -- a prefix of what comes next, behind what happened
-pub prefix_behind : {a b c : RunState} (p es more : List Event) → Did a b p
-    → ((prefix : List Event) × IsPrefix prefix es × Did b c prefix)
-    → (prefix : List Event) × IsPrefix prefix (p ++ (es ++ more)) × Did a c prefix
+pub prefix_behind : {a b c : RunState} (p es more : List Event) → Did a b p → DidPrefix b c es
+    → DidPrefix a c (p ++ (es ++ more))
 prefix_behind p es more done h = (
   p ++ h.0,
   (h.1.0 ++ more, rw (h.1.1) (simp append_assoc)),

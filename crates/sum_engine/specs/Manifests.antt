@@ -4,10 +4,9 @@ use Rattle.std.specs.Io.KnownBytes.{Appends}
 use Rattle.sum_sources.specs.declared.lines.LineStop.TheVariants.{Fault}
 use Rattle.sum_sources.specs.Contents.{Content, WhereTold, SourceState}
 use Rattle.sum_sources.specs.ManifestLines.{past_lines}
-use Rattle.sum_lines.specs.Sinks.{IsPrefix}
 use Rattle.sum_lines.specs.Entries.{form}
-use Rattle.sum_engine.specs.Moments.{Stop, Moment, HoldNothing, RunState, run_state, Did, RunOf}
-use Rattle.sum_engine.specs.Runs.{after, Event, Run, events, outs, errs, asks, Ending, Whole, Broken, World}
+use Rattle.sum_engine.specs.Moments.{Stop, Moment, HoldNothing, RunState, run_state, Did, DidPrefix, RunOf}
+use Rattle.sum_engine.specs.Runs.{after, Run, events, outs, errs, asks, Ending, Whole, Broken, World}
 use Rattle.sum_engine.specs.Verdicts.{lines_by, Rules, Judged, asks_of, all_verdicts, verdicts}
 use Rattle.sum_engine.specs.Reports.{out_of, err_of}
 use Rattle.sum_engine.specs.Checking.{line_steps, content_run}
@@ -67,10 +66,8 @@ StepsEnd = (r : Rules) (c : Content) (s : RunState) (b : Now) (z : RunState) (k 
 
 -- after a step that a write fault cut off one prefix of all events happened
 abbrev pub StepsCut : Type 0
-StepsCut = (r : Rules) (c : Content) (s : RunState) (b : Now) (z : RunState) (k : ℕ)
-    → HandledTimes r (at_start c s) b k → Breaks (to_come r b) b.run_state z
-    → (let es = events (content_run r c (all_verdicts r s.world c)).steps in
-    (prefix : List Event) × IsPrefix prefix es × Did s z prefix)
+StepsCut = (r : Rules) (c : Content) (s : RunState) (b : Now) (z : RunState) (k : ℕ) → HandledTimes r (at_start c s) b k
+    → Breaks (to_come r b) b.run_state z → DidPrefix s z (events (content_run r c (all_verdicts r s.world c)).steps)
 
 -- what comes behind some lines has no part in their verdicts, whatever was asked before; nor has the name of the
 -- manifest, where both or neither came from standard input

@@ -69,6 +69,10 @@ pub record Did (a b : RunState) (es : List Event) : Type 0 where
   pub out : Appends a.out.written b.out.written (filter_map out_in es)
   pub refusals : b.refusals ≡ a.refusals
 
+-- a prefix of these events happened
+abbrev pub DidPrefix : RunState → RunState → List Event → Type 0
+DidPrefix a b es = (prefix : List Event) × IsPrefix prefix es × Did a b prefix
+
 -- memory was wanted at a step, of which nothing happened: the source was refused it, or bytes of the manifest were
 -- still to come
 abbrev pub Wants : Step → RunState → RunState → Type 0
@@ -78,7 +82,7 @@ Wants s a b = (b ≡ record a { refusals = one_more a.refusals }) ⊎ ((b ≡ a)
 -- failed, and one prefix of the events happened; or memory was wanted at a step, and just the steps before it did
 abbrev pub RunOf : {A : Type 0} → List Step → A → RunState → RunState → Result A Stop → Type 0
 RunOf steps x a b (Ok answer) = (answer ≡ x) × Did a b (events steps)
-RunOf steps x a b (Err Write) = (prefix : List Event) × IsPrefix prefix (events steps) × Did a b prefix
+RunOf steps x a b (Err Write) = DidPrefix a b (events steps)
 RunOf steps x a b (Err Memory) = (done : List Step) × (next : Step) × (rest : List Step) × (between : RunState)
     × (steps ≡ done ++ next ∷ rest) × Did a between (events done) × Wants next between b
 

@@ -7,14 +7,13 @@ use Rattle.sum_sources.specs.ManifestLines.{past_line, NoNewline}
 use Rattle.sum_sources.specs.LineReaders.{coming, used, Bounded}
 use Rattle.sum_lines.specs.declared.line_reading.Form.TheVariants.{Undecided}
 use Rattle.sum_lines.specs.Entries.{form_then, line_form, form}
-use Rattle.sum_lines.specs.Sinks.{IsPrefix}
 use Rattle.sum_lines.specs.ParsedLines.{parse_line}
 pub use Rattle.sum_engine.specs.declared.progress.Progress.{Progress}
 pub use Rattle.sum_engine.specs.declared.progress.Progress.TheVariants.{Going, Ended}
 use Rattle.sum_engine.specs.Verdicts.{Form, lines_by, Rules, Judged, judge, verdicts}
-use Rattle.sum_engine.specs.Moments.{Stop, Memory, Write, RunState, Did, Wants, Moment, HoldNothing, run_state}
+use Rattle.sum_engine.specs.Moments.{Stop, Memory, Write, RunState, Did, DidPrefix, Wants, Moment, HoldNothing, run_state}
 use Rattle.sum_engine.specs.Reports.{Counts, counts, end_text, good, counts_with, no_counts}
-use Rattle.sum_engine.specs.Runs.{Event, Step, Run, events_of}
+use Rattle.sum_engine.specs.Runs.{Step, Run, events_of}
 use Rattle.sum_engine.specs.Checking.{line_steps}
 
 -- what is still to come of the manifest, the lines handled and the bytes that they used, the form and the counts
@@ -82,7 +81,7 @@ pub record Breaks (r : Run) (a b : RunState) : Type 0 where
   pub step : Step
   pub rest : Run
   pub is : r ≡ step_then step rest
-  pub did : (prefix : List Event) × IsPrefix prefix (events_of step) × Did a b prefix
+  pub did : DidPrefix a b (events_of step)
 
 -- memory was wanted: nothing of the step happened
 pub record Lacks (r : Run) (a b : RunState) : Type 0 where
