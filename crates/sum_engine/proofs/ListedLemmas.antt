@@ -17,7 +17,7 @@ use Rattle.sum_lines.proofs.LineFormatLemmas.{prefix_of, read_back}
 use Rattle.sum_engine.specs.Runs.{Whole, is_dash}
 use Rattle.sum_sources.specs.Contents.{Content, limit, Reply}
 use Rattle.sum_sources.specs.ManifestLines.{NoNewline, lines, pieces}
-use Rattle.sum_sources.proofs.CutLemmas.{pieces-joined}
+use Rattle.sum_sources.proofs.CutLemmas.{raw_lines-joined}
 use Rattle.sum_engine.specs.OldVerdicts.{NoReturn}
 use Rattle.sum_engine.proofs.ReturnLemmas.{strips-kept}
 
@@ -113,7 +113,7 @@ lines-are algos answer is all =
     let plain = plain-lines algos answer is all in
     let make : List ℕ → Content = λ bytes. record { bytes = bytes; ending = Whole } in
     let none = All-weaker Plainly NoNewline (λ l h k d lt. ne_eqb _ 10 (h k d lt).0) (map prefix is) plain in
-    let cut = pieces-joined Whole (map prefix is) [] none (All-nil (λ b. (b == 10) ≡ false)) in
+    let cut = raw_lines-joined Whole (map prefix is) [] none (All-nil (λ b. (b == 10) ≡ false)) in
     ap (map strip_carriage_return) (ap (λ b. pieces (make b)) (texts is ∙ sym (append-nil _)) ∙ cut
     ∙ append-nil (map prefix is))
     ∙ strips-kept (map prefix is) (All-weaker Plainly NoReturn (λ l h k d lt. (h k d lt).1) (map prefix is) plain)

@@ -6,7 +6,7 @@ use Rattle.sum_engine.specs.Reports.{Algos, Counts, no_counts, name_line, verdic
 use Rattle.sum_engine.specs.Runs.{Ending, Whole, Broken, Fault, World, after, at_once}
 use Rattle.sum_sources.specs.Contents.{Content, clip}
 use Rattle.sum_sources.specs.ManifestLines.{pieces, last_line, past_line, bytes_of_pieces}
-use Rattle.sum_sources.proofs.CutLemmas.{cut, pieces-joined}
+use Rattle.sum_sources.proofs.CutLemmas.{cut, raw_lines-joined}
 use Rattle.sum_engine.specs.Verdicts.{Form, Verdict, Bad, Right, Wrong, Unread, lines_by, Rules, Judged, judge, asks_of, verdicts, all_verdicts}
 use Rattle.sum_lines.specs.Shapes.{mark}
 use Rattle.sum_lines.specs.Entries.{form}
@@ -45,7 +45,7 @@ pieces_clean : (c : Content) → NoReturn c.bytes → All NoReturn (pieces c)
 pieces_clean c free =
     let all = cut c.bytes in
     subst (λ (bytes : List ℕ). All NoReturn (pieces (record { bytes = bytes; ending = c.ending }))) (sym all.2)
-    (subst (All NoReturn) (sym (pieces-joined c.ending all.0 all.1 all.3 all.4))
+    (subst (All NoReturn) (sym (raw_lines-joined c.ending all.0 all.1 all.3 all.4))
     (ended_clean c.ending all.0 all.1 (subst NoReturn all.2 free)))
 
 -- so the lines are the same
@@ -215,7 +215,7 @@ old_outcomes r name w (Ok c) own h = ap (step_then (opening name)) (content_same
 -- an empty line is improper to older versions
 empty_line : (algos : Algos) (f : Form) → parse_line older algos f [] ≡ Improper
 empty_line algos f =
-    let is = says_is older algos f [] in is.improper.1 (refl, λ s e. let bad = e.0 in cc)
+    let is = says_is older algos f [] in is.improper.1 (refl, λ s e. let wrong = e.0 in cc)
 
 -- the profiles do differ: a name with a carriage return, and an empty line
 pub older_differs : OlderDiffers

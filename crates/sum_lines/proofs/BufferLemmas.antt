@@ -3,7 +3,7 @@ use Rattle.std.proofs.Common.{ℕ, ◌≡◌, List, [], Result, Ok, Err, ◌∙�
 use Rattle.sum_lines.specs.Sinks.{SinkState, Wrote, Flushes, Writes}
 use Rattle.sum_lines.specs.Buffers.{behind}
 use Rattle.sum_lines.specs.refinement.GrowingSinks.{Empties}
-use Rattle.sum_lines.proofs.SinkLemmas.{Flushes-behind}
+use Rattle.sum_lines.proofs.SinkLemmas.{Flushes-with_buffered}
 
 -- the buffer was emptied into the sink below
 pub Emptied : {E : Type 0} (a b : SinkState) (own : List ℕ) (r : Result (Unit {0}) E) → Writes a b own r
@@ -23,4 +23,4 @@ Emptied a b own (Err e) h = record {
 pub Flushed-below : {E : Type 0} {a : SinkState} (b c : SinkState) (own : List ℕ) (r : Result (Unit {0}) E)
     → Wrote a (behind b own) [] → own ≡ [] → Flushes b c r → Flushes a (behind c own) r
 Flushed-below b c own r emptied none h =
-    rw (none, append-nil) (Flushes-behind b c r (rw (none, append-nil) at emptied) h)
+    rw (none, append-nil) (Flushes-with_buffered b c r (rw (none, append-nil) at emptied) h)

@@ -73,7 +73,7 @@ decides-or algos line = go (plain_parts algos line) refl
     go : (o : Option Parts) → plain_parts algos line ≡ o
         → Decides algos line (line_form algos line)
         ⊎ ((line_form algos line ≡ Undecided) × ((f : Form) → Decides algos line f → ⊥))
-    go None h = inr (rw h refl, λ f d. let bad = sym h ∙ plain_is_read (decided_parts d) d.plain in cc)
+    go None h = inr (rw h refl, λ f d. let wrong = sym h ∙ plain_is_read (decided_parts d) d.plain in cc)
     go (Some p) h = let plain = read_is_plain h in inl (record {
       escaped = p.escaped;
       kind = p.kind;
@@ -87,7 +87,7 @@ decides-or algos line = go (plain_parts algos line) refl
 -- an ignored line is not plain, and has no form
 pub ignored_mute : (algos : Algos) (line : List ℕ) → is_ignored line ≡ true → line_form algos line ≡ Undecided
 ignored_mute algos line ignored = rw (← none_of (plain_parts algos line) (λ p h.
-    let bad = sym ignored ∙ plain-speaks (read_is_plain h) in cc)) refl
+    let wrong = sym ignored ∙ plain-speaks (read_is_plain h) in cc)) refl
 
 -- the computed form is one that the list has, and it has no other
 is-form : (algos : Algos) (lines : List (List ℕ)) → IsForm algos lines (form algos lines)

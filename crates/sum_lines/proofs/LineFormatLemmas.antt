@@ -55,14 +55,14 @@ back : {algos : Algos} {before later : List (List ℕ)} {kind : KindValue} {name
     → Entry escape algos (form algos (before ++ (prefix ∷ later))) prefix (written_for kind name digest)
     → Readable (form algos (before ++ (prefix ∷ [])))
     → SpellsBack algos before later (prefix ++ (10 ∷ [])) kind name digest
-back {algos} {before} {later} {kind} {name} {digest} {prefix} one entry keeps =
+back {algos} {before} {later} {kind} {name} {digest} {prefix} one has keeps =
     let f : Form = form algos (before ++ (prefix ∷ later)) in
     let s : Spelled = written_for kind name digest in
     record {
       prefix = prefix;
       whole = refl;
       one_line = one;
-      spells = λ t. (λ e. one_entry algos f prefix t s e entry, λ same. rw same entry);
+      spells = λ t. (λ e. one_entry algos f prefix t s e has, λ same. rw same has);
       keeps = keeps;
     }
 

@@ -108,34 +108,34 @@ one_entry algos f line s t p q =
 -- ---- what a line says
 
 -- what is said of a line, by whether it is ignored and its entry: nothing
-said-nothing : (ignored : Bool) (o : Option Spelled)
-    → cond ignored Nothing (option_map_or WithEntry o Improper) ≡ Nothing → ignored ≡ true
-said-nothing ignored o h = grind arith
+said-nothing : (skipped : Bool) (o : Option Spelled)
+    → cond skipped Nothing (option_map_or WithEntry o Improper) ≡ Nothing → skipped ≡ true
+said-nothing skipped o h = grind arith
 
 -- its entry
-said-entry : (ignored : Bool) (o : Option Spelled) (s : Spelled)
-    → cond ignored Nothing (option_map_or WithEntry o Improper) ≡ WithEntry s → (ignored ≡ false) × (o ≡ Some s)
-said-entry ignored o s h = grind arith
+said-entry : (skipped : Bool) (o : Option Spelled) (s : Spelled)
+    → cond skipped Nothing (option_map_or WithEntry o Improper) ≡ WithEntry s → (skipped ≡ false) × (o ≡ Some s)
+said-entry skipped o s h = grind arith
 
 -- or that it is improper
-said-improper : (ignored : Bool) (o : Option Spelled)
-    → cond ignored Nothing (option_map_or WithEntry o Improper) ≡ Improper → (ignored ≡ false) × (o ≡ None)
-said-improper ignored o h = grind arith
+said-improper : (skipped : Bool) (o : Option Spelled)
+    → cond skipped Nothing (option_map_or WithEntry o Improper) ≡ Improper → (skipped ≡ false) × (o ≡ None)
+said-improper skipped o h = grind arith
 
 -- what a line says is computed, whichever the profile
 pub says_is : SaysIs
 says_is p algos f line =
-    let ignored = is_ignored_by p line in
-    let entry = entry_of p algos f line in
+    let skipped = is_ignored_by p line in
+    let found = entry_of p algos f line in
     record {
-      nothing = (said-nothing ignored entry, λ h. rw h refl);
+      nothing = (said-nothing skipped found, λ h. rw h refl);
       spells = λ s. (
-        λ h. let said = said-entry ignored entry s h in (said.0, value_entry p algos f line s said.1),
+        λ h. let said = said-entry skipped found s h in (said.0, value_entry p algos f line s said.1),
         λ h. rw (h.0, entry_value p algos f line s h.1) refl,
       );
       improper = (
-        λ h. let said = said-improper ignored entry h in
-            (said.0, λ s e. let bad = sym said.1 ∙ entry_value p algos f line s e in cc),
-        λ h. rw (h.0, ← none_of entry (λ s e. h.1 s (value_entry p algos f line s e))) refl,
+        λ h. let said = said-improper skipped found h in
+            (said.0, λ s e. let wrong = sym said.1 ∙ entry_value p algos f line s e in cc),
+        λ h. rw (h.0, ← none_of found (λ s e. h.1 s (value_entry p algos f line s e))) refl,
       );
     }

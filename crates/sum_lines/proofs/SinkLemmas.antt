@@ -72,11 +72,11 @@ pub Wrote-flushed : {a b : SinkState} (c : Option (List ℕ)) (text : List ℕ) 
 Wrote-flushed c text wrote handed = let taken = wrote.taken in grind (arith, append_assoc)
 
 -- nothing was written, and then a flush came
-pub Flushes-behind : {E : Type 0} {a : SinkState} (b c : SinkState) (r : Result (Unit {0}) E) → Wrote a b []
+pub Flushes-with_buffered : {E : Type 0} {a : SinkState} (b c : SinkState) (r : Result (Unit {0}) E) → Wrote a b []
     → Flushes b c r → Flushes a c r
-Flushes-behind {a = a} b c (Ok u) wrote flushed =
+Flushes-with_buffered {a = a} b c (Ok u) wrote flushed =
     (rw append-nil at (Wrote-flushed c.written [] wrote flushed.0), flushed.1, flushed.2 ∙ wrote.kept)
-Flushes-behind b c (Err e) wrote dropped = record {
+Flushes-with_buffered b c (Err e) wrote dropped = record {
   handed = rw append-nil at (Wrote-dropped [] wrote dropped);
   none = dropped.none;
   failed = dropped.failed ∙ ap one_more wrote.kept;

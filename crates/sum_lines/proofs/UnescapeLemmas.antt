@@ -69,20 +69,20 @@ escape-if p true raw n h = escape-unescape p raw n h
 escape-if p false raw n h = cc
 
 -- the entry of such parts
-abbrev pub entry : Parts → List ℕ → Spelled
-entry t n = record { kind = t.kind; digest = t.digest; name = n }
+abbrev pub entry_of_text : Parts → List ℕ → Spelled
+entry_of_text t n = record { kind = t.kind; digest = t.digest; name = n }
 
 -- so parts whose raw name spells a name spell an entry, and only such parts do
 pub spelled-is : (p : Profile) (t : Parts) (n : List ℕ) → Spells (escape_by p) t.escaped t.text n
-    → entry_of_parts p t ≡ Some (entry t n)
+    → entry_of_parts p t ≡ Some (entry_of_text t n)
 spelled-is p t n s = rw (unescape-if p t.escaped t.text n s.is, all-of n s.no_nul) refl
 
 -- only such parts
 pub is-spelled : (p : Profile) (t : Parts) (s : Spelled) → entry_of_parts p t ≡ Some s
-    → (n : List ℕ) × Spells (escape_by p) t.escaped t.text n × (entry t n ≡ s)
+    → (n : List ℕ) × Spells (escape_by p) t.escaped t.text n × (entry_of_text t n ≡ s)
 is-spelled p t s h =
     let n = bind_some (cond t.escaped (unescape p t.text) (Some t.text)) _ h in
-    let e = cond_some (list_all (nat_lt 0) n.0) (entry t n.0) s n.2 in
+    let e = cond_some (list_all (nat_lt 0) n.0) (entry_of_text t n.0) s n.2 in
     (n.0, record { no_nul = of-all n.0 e.0; is = escape-if p t.escaped t.text n.0 n.1 }, e.1)
 
 -- what follows the escape of a in the escape of a name is the escape of what follows a in it

@@ -39,10 +39,10 @@ cut [] = ([], [], refl, All-nil NoNewline, All-nil IsPlain)
 cut (b ∷ bs) = cut_more b bs (cut bs)
 
 -- the pieces of bytes that were cut are those of the cut, and the last line
-pub pieces-joined : (ending : Ending) (ended : List (List ℕ)) (tail : List ℕ) → All NoNewline ended → NoNewline tail
+pub raw_lines-joined : (ending : Ending) (ended : List (List ℕ)) (tail : List ℕ) → All NoNewline ended → NoNewline tail
     → pieces (record { bytes = bytes_of_pieces ended tail; ending = ending }) ≡ ended ++ last_line ending tail
-pieces-joined ending [] tail plain none = pieces-last ending tail none
-pieces-joined ending (p ∷ ps) tail plain none =
+raw_lines-joined ending [] tail plain none = pieces-last ending tail none
+raw_lines-joined ending (p ∷ ps) tail plain none =
     simp append_assoc (
     pieces-newline ending p (bytes_of_pieces ps tail) (All-head NoNewline p ps plain)
-    ∙ ap (λ ls. p ∷ ls) (pieces-joined ending ps tail (All-tail NoNewline p ps plain) none))
+    ∙ ap (λ ls. p ∷ ls) (raw_lines-joined ending ps tail (All-tail NoNewline p ps plain) none))

@@ -1,4 +1,4 @@
-use Rattle.sum_sources.proofs.CutLemmas.{cut, pieces-joined}
+use Rattle.sum_sources.proofs.CutLemmas.{cut, raw_lines-joined}
 use Rattle.sum_sources.proofs.laws.pieces_of_bytes.Goals as goal
 
 -- all bytes can be cut at their newlines
@@ -7,4 +7,4 @@ returns-clause-exist c = cut
 
 -- what they were cut into are the pieces
 pub returns-clause-are : goal.returns-clause-are
-returns-clause-are c = pieces-joined
+returns-clause-are c = raw_lines-joined

@@ -13,11 +13,11 @@ returns-in-Some-clause-gives g c =
     let line = c.args.line.now.items in
     let algos = old.listing.settings.algos in
     let vector = c.read_line-reading.new.line.items in
-    let entry = c.in-Entry in
-    let name = slice_range vector entry.start entry.stop in
-    let s : Spelled = record { kind = entry.kind; digest = entry.digest; name = name } in
+    let listed = c.in-Entry in
+    let name = slice_range vector listed.start listed.stop in
+    let s : Spelled = record { kind = listed.kind; digest = listed.digest; name = name } in
     let said : parse_line present algos (form_then old.form (line_form algos line)) line ≡ WithEntry s =
-    sym (rw entry.is at (c.read_line-reading.ensures.says
+    sym (rw listed.is at (c.read_line-reading.ensures.says
     ∙ ap (λ f. parse_line present algos f line) c.read_line-reading.ensures.form)) in
     let judged = rw c.deref.ensures.value at c.in-Some.ensures.gives in
     rw c.found-in-Entry.ensures.is (line_found (place_of old) line (WithEntry s) _ _ vector _ _ _ _ _ said judged
