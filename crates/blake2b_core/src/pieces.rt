@@ -16,11 +16,11 @@ pub struct Blake2b {
     // The state after the blocks before the held one.
     h: [u64; 8],
     // A full block stays here until a byte follows it, since the last block is compressed as the last.
-    held: [u8; 128],
-    used: usize,
+    buffer: [u8; 128],
+    buffer_len: usize,
     taken: u64,
     len: usize,
-    ghost used_high: { used ≤ 128 },
+    ghost used_high: { buffer_len ≤ 128 },
     ghost len_low: { 1 ≤ len },
     ghost len_high: { len ≤ 64 },
 }
@@ -41,8 +41,8 @@ impl Blake2b {
         }
         Some(Blake2b {
             h: initial(len),
-            held: [0; 128],
-            used: 0,
+            buffer: [0; 128],
+            buffer_len: 0,
             taken: 0,
             len,
         })
@@ -64,17 +64,17 @@ impl Blake2b {
 
     // Appends bytes to those that are held.
     fn hold(&mut self, bytes: &[u8])
-        requires room { self.old.used + length bytes.now ≤ 128 }
+        requires room { self.old.buffer_len + length bytes.now ≤ 128 }
         requires fits { self.old.taken + length bytes.now < LIMIT }
         ensures holds { (m : List ℕ) → HoldsSoFar self.old m → HoldsSoFar self.new (m ++ bytes.now) }
-        ensures size { length self.new.held ≡ 128 }
-        ensures used { self.new.used ≡ self.old.used + length bytes.now }
+        ensures size { length self.new.buffer ≡ 128 }
+        ensures used { self.new.buffer_len ≡ self.old.buffer_len + length bytes.now }
         ensures taken { self.new.taken ≡ self.old.taken + length bytes.now }
         ensures len { self.new.len ≡ self.old.len }
     {
-        let held = &mut self.held[..];
-        held[self.used..self.used + bytes.len()].copy_from_slice(bytes);
-        self.used += bytes.len();
+        let held = &mut self.buffer[..];
+        held[self.buffer_len..self.buffer_len + bytes.len()].copy_from_slice(bytes);
+        self.buffer_len += bytes.len();
         self.taken += bytes.len() as u64;
     }
 
@@ -84,18 +84,18 @@ impl Blake2b {
         requires { self.old.taken + length piece.now < LIMIT }
         ensures holds { (m : List ℕ) → HoldsSoFar self.old m → HoldsSoFar self.new (m ++ take result piece.now) }
         ensures some_left { 0 < length piece.now → result < length piece.now }
-        ensures none { length piece.now ≡ 0 → (result ≡ 0) × (self.new.used ≡ self.old.used) }
-        ensures room { 128 < self.new.used + (length piece.now - result) → self.new.used ≡ 0 }
+        ensures none { length piece.now ≡ 0 → (result ≡ 0) × (self.new.buffer_len ≡ self.old.buffer_len) }
+        ensures room { 128 < self.new.buffer_len + (length piece.now - result) → self.new.buffer_len ≡ 0 }
         ensures taken { self.new.taken ≡ self.old.taken + result }
         ensures len { self.new.len ≡ self.old.len }
     {
-        let room = BLOCK - self.used;
-        if self.used == 0 || piece.len() <= room {
+        let room = BLOCK - self.buffer_len;
+        if self.buffer_len == 0 || piece.len() <= room {
             return 0;
         }
         self.hold(&piece[..room]);
-        self.h = compress(&self.h, &self.held, u128::from(self.taken), false);
-        self.used = 0;
+        self.h = compress(&self.h, &self.buffer, u128::from(self.taken), false);
+        self.buffer_len = 0;
         room
     }
 
@@ -103,16 +103,16 @@ impl Blake2b {
     // Answers how many bytes it took.
     fn absorb(&mut self, piece: &[u8]) -> usize
         requires fits { self.old.taken + length piece.now < LIMIT }
-        requires room { 128 < self.old.used + length piece.now → self.old.used ≡ 0 }
+        requires room { 128 < self.old.buffer_len + length piece.now → self.old.buffer_len ≡ 0 }
         ensures holds { (m : List ℕ) → HoldsSoFar self.old m → HoldsSoFar self.new (m ++ take result piece.now) }
         ensures some_left { 0 < length piece.now → result < length piece.now }
         ensures none { length piece.now ≡ 0 → result ≡ 0 }
-        ensures room { self.new.used + (length piece.now - result) ≤ 128 }
-        ensures used { self.new.used ≡ self.old.used }
+        ensures room { self.new.buffer_len + (length piece.now - result) ≤ 128 }
+        ensures used { self.new.buffer_len ≡ self.old.buffer_len }
         ensures taken { self.new.taken ≡ self.old.taken + result }
         ensures len { self.new.len ≡ self.old.len }
     {
-        if self.used > 0 {
+        if self.buffer_len > 0 {
             return 0;
         }
         let blocks = followed_blocks(piece);
@@ -140,7 +140,7 @@ impl Blake2b {
         ensures digest { (m : List ℕ) → Holds self m → result ≡ blake2b (digest_len self) m }
         ensures len { length result ≡ digest_len self }
     {
-        let last = zero_filled(&self.held[..self.used]);
+        let last = zero_filled(&self.buffer[..self.buffer_len]);
         let h = compress(&self.h, &last, u128::from(self.taken), true);
         Output::of_state(&h, self.len)
     }

@@ -21,12 +21,12 @@ flushed-none (Some x) None h none = h
 flushed-none (Some x) (Some y) h none = h ∙ ap (λ l. x ++ l) none ∙ append-nil x
 
 -- also where it fails
-pub dropped-none : (a b : SinkState) → Dropped a b → a.held ≡ [] → Keeps a.written b.written
+pub dropped-none : (a b : SinkState) → Dropped a b → a.buffered ≡ [] → Keeps a.written b.written
 dropped-none a b h none =
-    flushed-none a.written b.written h.handed.2 (no_prefix h.handed.0 h.handed.1.0 (rw none at h.handed.1.1))
+    flushed-none a.written b.written h.written.2 (no_prefix h.written.0 h.written.1.0 (rw none at h.written.1.1))
 
 -- the line for a stop was told, whole or in part
-pub tells-stop : {E : Type 0} (line : Text) (a b : SinkState) (r : Result (Unit {0}) E) → a.held ≡ []
+pub tells-stop : {E : Type 0} (line : Text) (a b : SinkState) (r : Result (Unit {0}) E) → a.buffered ≡ []
     → HandsOn a b line r → HandsOnLine line a b
 tells-stop line a b (Ok u) none h = (line, (h.1 none).1, inl (refl, h.0))
 tells-stop line a b (Err x) none h = let part = (h.1 none).1 in (part.0, part.2, inr (part.1, h.0))
@@ -34,7 +34,7 @@ tells-stop line a b (Err x) none h = let part = (h.1 none).1 in (part.0, part.2,
 -- a run that answered so was settled, and stopped then or before: from a to b and from c to e; then the line was told
 pub closes-stop : {E : Type 0} (line : Stop → Text) (answer : Result ℕ Stop) (stop : Stop) (a b c e d : SinkState)
     (r : Result (Unit {0}) E) → Settles a b c e answer (Err stop) → Keeps a.written b.written
-    → Keeps c.written e.written → e.held ≡ [] → HandsOn e d (line stop) r → Closes line answer a b c d 1
+    → Keeps c.written e.written → e.buffered ≡ [] → HandsOn e d (line stop) r → Closes line answer a b c d 1
 closes-stop line (Ok x) Memory a b c e d r settled kept still none told = absurd settled
 closes-stop line (Ok x) Write a b c e d r settled kept still none told = search rules
 closes-stop line (Err s) stop a b c e d r settled kept still none told = search rules

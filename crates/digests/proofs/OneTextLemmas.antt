@@ -13,7 +13,7 @@ use Rattle.digests.specs.refinement.Operands.{once_told}
 
 -- a text alone was handed on by standard output, or a prefix of it
 pub told_on_out : {S E : Type 0} (state : S → SourceState) (a : Moment S) (out : SinkState) (text : Text)
-    (r : Result (Unit {0}) E) → a.out.held ≡ [] → HandsOn a.out out text r
+    (r : Result (Unit {0}) E) → a.out.buffered ≡ [] → HandsOn a.out out text r
     → Runs state (λ w. at_once [] [] text true) status_of a (record a { out = out }) (once_told r 0)
 told_on_out state a out text (Ok u) none h = where_known state a (record a { out = out }) _ (same_told _) (λ w v same. (
   refl,
@@ -26,7 +26,7 @@ told_on_out state a out text (Err e) none h = where_known state a (record a { ou
 
 -- a text alone was handed on by standard error, or a prefix of it
 pub told_on_err : {S E : Type 0} (state : S → SourceState) (a : Moment S) (err : SinkState) (text : Text)
-    (r : Result (Unit {0}) E) → a.err.held ≡ [] → HandsOn a.err err text r
+    (r : Result (Unit {0}) E) → a.err.buffered ≡ [] → HandsOn a.err err text r
     → Runs state (λ w. at_once [] text [] false) status_of a (record a { err = err }) (once_told r 1)
 told_on_err state a err text (Ok u) none h = where_known state a (record a { err = err }) _ (same_told _) (λ w v same. (
   refl,

@@ -39,7 +39,7 @@ started : (o : Operands) (rest : List Text) (s : Option RunState) → o.names �
     → WhereTold s s (λ s t. Reached o.one o.names rest s t true)
 started o rest None is = tt
 started o rest (Some a) is =
-    record { done = nothing; total = ap (all_of o.one a.world) is; did = did_nothing a; is = refl }
+    record { done = nothing; total = ap (all_of o.one a.world) is; happened = did_nothing a; is = refl }
 
 pub reached_start : {S : Type 0} (state : S → SourceState) (o : Operands) {rest : List Text} (a : Moment S)
     → o.names ≡ rest → HasReached state o.one o.names rest a a true
@@ -57,7 +57,7 @@ reached_step state o good this name rest x y z h k =
       done = run_then p.done run;
       total = p.total ∙ sym (run_then-assoc p.done run (all_of o.one (after b.world (asks run)) rest))
           ∙ ap (λ w. run_then (run_then p.done run) (all_of o.one w rest)) (sym world);
-      did = run_then-did p.done.steps run.steps p.did q.1;
+      happened = run_then-did p.done.steps run.steps p.happened q.1;
       is = ap (λ g. g && this) p.is ∙ ap (λ g. p.done.good && g) q.0;
     }) h k
 
@@ -78,5 +78,5 @@ reached_stop state o stop good name rest x y z h k =
     let later = all_of o.one (after b.world (asks run)) rest in
     let status = status_of (run_then p.done (run_then run later)).good in
     let next = run_then-first b c status run.good run.steps later.steps stop q in
-    let all = run_then-second c status status p.done.steps (run_then run later).steps stop p.did next in
+    let all = run_then-second c status status p.done.steps (run_then run later).steps stop p.happened next in
     subst (λ (r : Run). RunOf r.steps (status_of r.good) a c (Err stop)) (sym p.total) all) h k

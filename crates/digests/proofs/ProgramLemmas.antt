@@ -65,7 +65,7 @@ ends state status line a b out err (Err stop) ran failed told =
 pub program_ends : {S : Type 0} (state : S → SourceState) (status : ℕ) (line : Option Call) (a b : Moment S)
     (out err : SinkState) (answer : Result ℕ Stop) → Runs state (run_of line) status_of a b answer
     → Failures a b answer → HoldNothing b
-    → (b.out.held ≡ [] → b.err.held ≡ [] → Closes (line_of_stop line) answer b.out out b.err err status)
+    → (b.out.buffered ≡ [] → b.err.buffered ≡ [] → Closes (line_of_stop line) answer b.out out b.err err status)
     → EndsGives state line a (record b { out = out; err = err }) status
 program_ends state status line a b out err answer ran failed none closed =
     ends state status line a b out err answer ran failed (closed none.0 none.1)
@@ -74,7 +74,7 @@ program_ends state status line a b out err answer ran failed none closed =
 pub program_told : {S E : Type 0} (state : S → SourceState) (status : ℕ) (line : Option Call) (a : Moment S)
     (err out last : SinkState) (text : Text) (r : Result (Unit {0}) E) → HoldNothing a → HandsOn a.err err text r
     → Runs state (run_of line) status_of a (record a { err = err }) (once_told r 1)
-    → (a.out.held ≡ [] → err.held ≡ [] → Closes (line_of_stop line) (once_told r 1) a.out out err last status)
+    → (a.out.buffered ≡ [] → err.buffered ≡ [] → Closes (line_of_stop line) (once_told r 1) a.out out err last status)
     → EndsGives state line a (record a { out = out; err = last }) status
 program_told state status line a err out last text r none told ran closed =
     program_ends state status line a (record a { err = err }) out last (once_told r 1) ran

@@ -29,7 +29,7 @@ pub fn command<A: Allocator + Copy, G: Arguments, I: Input + Drop, S: Source, O:
     arguments: &G,
     streams: &mut Streams<I, S, O, E>,
 ) -> u8
-    ensures gives { ProgramGives S.state (G.told arguments.now) streams.old streams.new result }
+    ensures gives { ProgramGives S.state (G.known arguments.now) streams.old streams.new result }
     ensures none { HoldNothing streams.old → HoldNothing streams.new }
     ensures kept { result ≡ 0 → Failures streams.old streams.new (Ok result) }
 {
@@ -57,10 +57,10 @@ fn close<O: Sink, E: Sink>(
     out: &mut O,
     err: &mut E,
 ) -> u8
-    ensures gives { (O.state out.old).held ≡ [] → (E.state err.old).held ≡ [] → Closes (line_of tool) answer
+    ensures gives { (O.state out.old).buffered ≡ [] → (E.state err.old).buffered ≡ [] → Closes (line_of tool) answer
         (O.state out.old) (O.state out.new) (E.state err.old) (E.state err.new) result }
-    ensures none { (O.state out.old).held ≡ [] → (E.state err.old).held ≡ []
-        → ((O.state out.new).held ≡ []) × ((E.state err.new).held ≡ []) }
+    ensures none { (O.state out.old).buffered ≡ [] → (E.state err.old).buffered ≡ []
+        → ((O.state out.new).buffered ≡ []) × ((E.state err.new).buffered ≡ []) }
     ensures kept { result ≡ 0
         → IsOk answer × NoneFailed (O.state out.old) (O.state out.new) (E.state err.old) (E.state err.new) }
 {

@@ -17,11 +17,11 @@ pub(crate) fn settle<O: Sink, E: Sink>(
     err: &mut E,
 ) -> Result<u8, Stop>
     ensures answer { Settles (O.state out.old) (O.state out.new) (E.state err.old) (E.state err.new) answer result }
-    ensures bytes { (O.state out.old).held ≡ [] → (E.state err.old).held ≡ []
+    ensures bytes { (O.state out.old).buffered ≡ [] → (E.state err.old).buffered ≡ []
         → Keeps (O.state out.old).written (O.state out.new).written
         × Keeps (E.state err.old).written (E.state err.new).written }
-    ensures none { (O.state out.old).held ≡ [] → (E.state err.old).held ≡ []
-        → ((O.state out.new).held ≡ []) × ((E.state err.new).held ≡ []) }
+    ensures none { (O.state out.old).buffered ≡ [] → (E.state err.old).buffered ≡ []
+        → ((O.state out.new).buffered ≡ []) × ((E.state err.new).buffered ≡ []) }
 {
     let status = answer?;
     out.flush()?;

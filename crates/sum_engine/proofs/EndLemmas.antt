@@ -20,7 +20,7 @@ no_lines false e = pieces-nil e
 none_left : (r : Rules) (e : Ending) (b : Now) → b.rest ≡ record { bytes = []; ending = e } → rest_verdicts r b ≡ []
 none_left r e b rest =
     let ls : lines_by r.profile b.rest ≡ [] = rw rest (no_lines r.profile.drops_return e) in
-    ap (λ l. verdicts r (form_then b.form (form r.settings.algos l)) b.run_state.world b.number l) ls
+    ap (λ l. verdicts r (form_then b.form (form r.settings.algos l)) b.known_state.world b.number l) ls
 
 pub end_stays : (r : Rules) (e : Ending) (vector : List ℕ) (a b c : Now) (x : Result (Option LineVerdict) LineStop)
     → FindsNone r e a b → FindOf r vector b c x → x ≡ ended_by e

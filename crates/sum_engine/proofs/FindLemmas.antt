@@ -34,7 +34,7 @@ pub find_line : {I S : Type 0} (input : I → InputState) (state : S → SourceS
     → ReadsLine input p reader line → TakesLine (record p { reader = reader }) q line → length vector ≤ length line
     → WhereTold (world_of state a) (world_of state b)
     (λ w w'. JudgeLineOf (record p { reader = reader }) line q.counts vector w w' (Some v))
-    → b.taken ≡ a.taken || list_any is_dash (asks_of (judged_in vector v)) → b.err ≡ a.err → b.out ≡ a.out
+    → b.stdin_taken ≡ a.stdin_taken || list_any is_dash (asks_of (judged_in vector v)) → b.err ≡ a.err → b.out ≡ a.out
     → (state b.source).refusals ≡ (state a.source).refusals
     → FindGives p.rules vector (now_of input p (run_state state a)) (now_of input q (run_state state b)) (Ok (Some v))
 find_line {I} input state p q reader a b line vector v reads takes few h taken err out refusals =
@@ -59,7 +59,7 @@ find_line {I} input state p q reader a b line vector v reads takes few h taken e
     let asked = rw (names-by names [] []) at found'.1.world in (
       record {
         first = rest_on p.rules first next vector moves (rw is asked) ∙ rw is refl;
-        did = rw (append-nil (map Opens names)) at found'.1;
+        happened = rw (append-nil (map Opens names)) at found'.1;
         counts = found'.2;
       },
       moves,

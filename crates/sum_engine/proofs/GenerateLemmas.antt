@@ -28,7 +28,7 @@ found_is kind r (asked.Broken f) h = ap (digest_or_fault kind) h.1 ∙ h.2
 pub told : {S : Type 0} (state : S → SourceState) (settings : Settings) (tool name err out : List ℕ) (good : Bool)
     (a b : Moment S) (came : Asked) (x : Writing)
     → AskGives settings.kind (world_of state a) (world_of state b) name (Some came)
-    → b.taken ≡ a.taken || is_dash name → (state b.source).refusals ≡ (state a.source).refusals
+    → b.stdin_taken ≡ a.stdin_taken || is_dash name → (state b.source).refusals ≡ (state a.source).refusals
     → generate_run_by settings tool name (found came) ≡ at_once (name ∷ []) err out good
     → HandsBoth a.err b.err a.out b.out err out x
     → Runs state (λ w. generate_run settings tool w name) (λ g. g) a b (answered x good)
@@ -37,7 +37,7 @@ told state settings tool name err out good a b came x h taken refusals is hands 
       ap (generate_run_by settings tool name) (found_is settings.kind (reply w name) came asked.1) ∙ is,
       record {
         world = asked.0;
-        taken = taken ∙ ap (λ t. a.taken || t) (sym (or-false (is_dash name)));
+        taken = taken ∙ ap (λ t. a.stdin_taken || t) (sym (or-false (is_dash name)));
         refusals = refusals;
       },
     )) hands

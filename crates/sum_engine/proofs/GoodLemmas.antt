@@ -57,7 +57,7 @@ judged : (r : Rules) (w : World) (n : ℕ) (f : Form) (i : Item) → Listed r.se
     → judge r w n (parse_line present r.settings.algos f (prefix i)) ≡ right n i
 judged r w n f i h e =
     let is = says_is present r.settings.algos f (prefix i) in
-    rw ((is.spells (spelled_for i)).1 (e.0, e), verdict-right r w i h) refl
+    rw ((is.when_entry (spelled_for i)).1 (e.0, e), verdict-right r w i h) refl
 
 -- and all of them, each in the world that those before it leave
 right-verdicts : (r : Rules) (before : List (List ℕ)) (is : List Item) (w : World) (n : ℕ)

@@ -36,30 +36,30 @@ drop_next (suc k) (x ∷ xs) ys y h =
 
 -- the whole run is what was done and what is left
 along : {r : Rules} {c : Content} {s : RunState} {b : Now} {k : ℕ} → Joined r c s b k
-    → Along (whole r c s) (to_come r b) s b.run_state
+    → Along (whole r c s) (to_come r b) s b.known_state
 along {r} {c} {s} {b} {k} h = record {
   done = take k (whole r c s).steps;
-  steps = sym (take-append-drop k (whole r c s).steps) ∙ ap (λ l. take k (whole r c s).steps ++ l) (sym h.left);
+  steps = sym (take-append-drop k (whole r c s).steps) ∙ ap (λ l. take k (whole r c s).steps ++ l) (sym h.remaining);
   good = h.good;
   did = h.done;
 }
 
 -- one more was handled
 joined_more : {r : Rules} {c : Content} {s : RunState} {b d : Now} {v : List ℕ} {k : ℕ} → Joined r c s b k
-    → GoesOn (to_come r b) (to_come r d) b.run_state d.run_state → Moves r b d v → Joined r c s d (suc k)
+    → GoesOn (to_come r b) (to_come r d) b.known_state d.known_state → Moves r b d v → Joined r c s d (suc k)
 joined_more {r} {c} {s} {b} {d} {v} {k} h step moves =
     let all = (whole r c s).steps in
-    let left = drop_next k all (to_come r d).steps step.step (sym h.left ∙ ap (λ (q : Run). q.steps) step.is) in
+    let left = drop_next k all (to_come r d).steps step.step (sym h.remaining ∙ ap (λ (q : Run). q.steps) step.is) in
     let rest = moves.rest ∙ ap past_line h.rest ∙ past_next k c in
     record {
       rest = rest;
       lines =
           sym (drop_next k (lines_by r.profile c) (lines_by r.profile d.rest) moves.line (sym h.lines ∙ moves.lines)).0;
       number = omega (arith, moves.number, h.number);
-      used = ap (λ (x : Content). d.used + length x.bytes) (sym rest) ∙ moves.used
-          ∙ ap (λ (x : Content). b.used + length x.bytes) h.rest ∙ h.used;
-      done = rw left.1 (steps_more (take k all) step.step h.done step.did);
-      left = sym left.0;
+      consumed = ap (λ (x : Content). d.consumed + length x.bytes) (sym rest) ∙ moves.consumed
+          ∙ ap (λ (x : Content). b.consumed + length x.bytes) h.rest ∙ h.consumed;
+      done = rw left.1 (steps_more (take k all) step.step h.done step.happened);
+      remaining = sym left.0;
       good = sym (ap (λ (q : Run). q.good) step.is) ∙ h.good;
     }
 
@@ -99,7 +99,7 @@ steps_end r c s b z k x times e =
     let js = all_verdicts r s.world c in
     let ls = lines_by r.profile c in
     let all = (whole r c s).steps in
-    let one : length all - k ≡ 1 = sym (length-drop k all) ∙ ap length (sym h.left ∙ ap (λ (q : Run). q.steps) e.is) in
+    let one : length all - k ≡ 1 = sym (length-drop k all) ∙ ap length (sym h.remaining ∙ ap (λ (q : Run). q.steps) e.is) in
     let len : length all ≡ length js + 1 = length_steps r (end_text r c.ending (counts no_counts js)) c js in
     let size = length_verdicts r (form r.settings.algos ls) s.world 0 ls in
     let end = along_end (along h) e in

@@ -30,7 +30,7 @@ abbrev pub Comes : Rules → Option Content → Option RunState → Option Now �
 Comes r None s b = Unit {0}
 Comes r (Some c) None b = Unit {0}
 Comes r (Some c) (Some s) None = ⊥
-Comes r (Some c) (Some s) (Some b) = Along (content_run r c (all_verdicts r s.world c)) (to_come r b) s b.run_state
+Comes r (Some c) (Some s) (Some b) = Along (content_run r c (all_verdicts r s.world c)) (to_come r b) s b.known_state
 
 -- it begins so
 pub comes_none : (r : Rules) (c : Option Content) (s : Option RunState)
@@ -110,7 +110,7 @@ rules_where k dash = record {
 
 -- a manifest is opened, by that name
 abbrev pub opening : List ℕ → Step
-opening name = record { names = name ∷ []; err = []; out = []; left = 0 }
+opening name = record { names = name ∷ []; err = []; out = []; remaining = 0 }
 
 -- the name was asked, which has that content, and nothing else was done
 abbrev pub IsOpened : List ℕ → Option Content → RunState → RunState → Type 0
@@ -148,7 +148,7 @@ check_gives state k dash c a asked b x is h run =
 
 -- a name that was asked, where nothing was written
 asked_only : {a b : RunState} (name : List ℕ) → b.world ≡ after a.world (name ∷ [])
-    → b.taken ≡ a.taken || is_dash name → b.refusals ≡ a.refusals → b.err ≡ a.err → b.out ≡ a.out
+    → b.stdin_taken ≡ a.stdin_taken || is_dash name → b.refusals ≡ a.refusals → b.err ≡ a.err → b.out ≡ a.out
     → Did a b (events_of (opening name))
 asked_only {a} name world taken refusals err out = search rules
 
@@ -162,16 +162,16 @@ dash_worlds name (Some s) (Some c) dash = (dash_asked s.answer s.asked c name da
 
 -- the manifest is standard input, which is taken then
 dash_opened : {S : Type 0} (state : S → SourceState) (name : List ℕ) (a : Moment S) → is_dash name ≡ true
-    → WhereTold (run_state state a) (run_state state (record a { input = Some empty_content; taken = true }))
+    → WhereTold (run_state state a) (run_state state (record a { input = Some empty_content; stdin_taken = true }))
     (IsOpened name a.input)
 dash_opened {S} state name a dash = search rules
 
 -- so what the checker does with standard input is what the call does
 pub check_dash : {S : Type 0} (state : S → SourceState) (k : Call) (a b : Moment S) (x : Result Bool Stop)
     → is_dash k.name ≡ true → Checks state (rules_where k true) (option_map clip a.input)
-    (record a { input = Some empty_content; taken = true }) b x → CheckGives state k a b x
+    (record a { input = Some empty_content; stdin_taken = true }) b x → CheckGives state k a b x
 check_dash {S} state k a b x dash run =
-    let asked : Moment S = record a { input = Some empty_content; taken = true } in
+    let asked : Moment S = record a { input = Some empty_content; stdin_taken = true } in
     check_gives state k true a.input a asked b x dash (dash_opened state k.name a dash) run
 
 -- opening a name, as the world sees it
@@ -207,7 +207,7 @@ opens content name (Some s) (Some t) (Some i) x h = opens_in content name s t i 
 -- the manifest is a file
 file_opened : {F S : Type 0} (content : F → InputState) (state : S → SourceState) (name : List ℕ) (a : Moment S)
     (source : S) (file : F) → is_dash name ≡ false
-    → WhereTold (state a.source).told (state source).told (λ s t. OpenOf content s t name (Ok file))
+    → WhereTold (state a.source).known (state source).known (λ s t. OpenOf content s t name (Ok file))
     → (state source).refusals ≡ (state a.source).refusals
     → WhereTold (run_state state a) (run_state state (record a { source = source }))
     (IsOpened name (content file).content)
@@ -216,7 +216,7 @@ file_opened content state name a source file dash h refusals = search rules
 -- so what the checker does with it is what the call does
 pub check_file : {F S : Type 0} (content : F → InputState) (state : S → SourceState) (k : Call) (a b : Moment S)
     (source : S) (file : F) (x : Result Bool Stop) → is_dash k.name ≡ false
-    → WhereTold (state a.source).told (state source).told (λ s t. OpenOf content s t k.name (Ok file))
+    → WhereTold (state a.source).known (state source).known (λ s t. OpenOf content s t k.name (Ok file))
     → (state source).refusals ≡ (state a.source).refusals
     → Checks state (rules_where k false) (option_map clip (content file).content)
     (record a { source = source }) b x → CheckGives state k a b x
@@ -228,7 +228,7 @@ check_file {S = S} content state k a b source file x dash h refusals run =
 -- the manifest could not be opened, and the line of its fault was handed on, or a prefix of it
 pub refused : {F S : Type 0} (content : F → InputState) (state : S → SourceState) (k : Call) (a : Moment S)
     (source : S) (f : Fault) (err : SinkState) (x : Writing) → is_dash k.name ≡ false
-    → WhereTold (state a.source).told (state source).told (λ s t. OpenOf content s t k.name (Err (open_faults.Fault f)))
+    → WhereTold (state a.source).known (state source).known (λ s t. OpenOf content s t k.name (Err (open_faults.Fault f)))
     → (state source).refusals ≡ (state a.source).refusals
     → Hands a.err.written err.written (fault_line present k.tool k.name f) x
     → CheckGives state k a (record a { source = source; err = err }) (answered x false)
@@ -236,12 +236,12 @@ refused {S = S} content state k a source f err x dash h refusals hands =
     let next : Moment S = record a { source = source; err = err } in
     once state (λ w. check_run k.settings k.tool w k.name) (k.name ∷ []) (fault_line present k.tool k.name f) [] false
     (λ g. g) a next x
-    (opens content k.name (state a.source).told (state source).told a.input (Err (open_faults.Fault f)) h)
+    (opens content k.name (state a.source).known (state source).known a.input (Err (open_faults.Fault f)) h)
     (λ w v is. (
       rw (dash, is.1) refl,
       record {
         world = is.0 ∙ rw dash refl;
-        taken = rw dash (sym (or-false a.taken));
+        taken = rw dash (sym (or-false a.stdin_taken));
         refusals = refusals;
       },
     )) (err_alone a.err err a.out _ x hands)
@@ -255,7 +255,7 @@ begins r name w (Ok c) = (opening name, _, refl)
 -- the source had no memory to open it
 pub no_room : {F S : Type 0} (content : F → InputState) (state : S → SourceState) (k : Call) (a : Moment S)
     (source : S)
-    → WhereTold (state a.source).told (state source).told (λ s t. OpenOf content s t k.name (Err open_faults.Memory))
+    → WhereTold (state a.source).known (state source).known (λ s t. OpenOf content s t k.name (Err open_faults.Memory))
     → (state source).refusals ≡ one_more (state a.source).refusals
     → CheckGives state k a (record a { source = source }) (Err Memory)
 no_room {S = S} content state k a source h refused =
@@ -263,5 +263,5 @@ no_room {S = S} content state k a source h refused =
     unasked state (λ w. check_run k.settings k.tool w k.name) (λ g. g) a next
     (λ w. begins (rules_of_call k) k.name (after w (k.name ∷ [])) (reply w k.name))
     (known_refused state a next (WhereTold-map (world_of state a) (world_of state next) (λ w v is. is)
-    (opens content k.name (state a.source).told (state source).told a.input (Err open_faults.Memory) h))
+    (opens content k.name (state a.source).known (state source).known a.input (Err open_faults.Memory) h))
     refl refl refl refused)

@@ -180,19 +180,19 @@ parse_line_same algos f line free none some = go (parse_line present algos f lin
     go : (x : ParsedLine) → parse_line present algos f line ≡ x → (parse_line older algos f line ≡ x)
         × CleanParsedLine x
     go Nothing h =
-        let is = (says_is present algos f line).nothing.0 h in
-        ((says_is older algos f line).nothing.1 (ignored_same line true some is), tt)
+        let is = (says_is present algos f line).when_ignored.0 h in
+        ((says_is older algos f line).when_ignored.1 (ignored_same line true some is), tt)
     go Improper h =
-        let is = (says_is present algos f line).improper.0 h in
+        let is = (says_is present algos f line).when_bad.0 h in
         let as_present = entry_by (escape_by older) escape older_name same_escape algos f line in (
-          (says_is older algos f line).improper.1 (
+          (says_is older algos f line).when_bad.1 (
             ignored_same line false some is.0,
             λ s e. is.1 s (as_present s free none e).1,
           ),
           tt,
         )
     go (WithEntry s) h =
-        let is = ((says_is present algos f line).spells s).0 h in
+        let is = ((says_is present algos f line).when_entry s).0 h in
         let as_older = entry_by escape (escape_by older) present_name (λ n clean. sym (same_escape n clean)) in
         let e = as_older algos f line s free none is.1 in
-        (((says_is older algos f line).spells s).1 (ignored_same line false some is.0, e.1), e.0)
+        (((says_is older algos f line).when_entry s).1 (ignored_same line false some is.0, e.1), e.0)

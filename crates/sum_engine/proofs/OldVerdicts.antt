@@ -215,7 +215,7 @@ old_outcomes r name w (Ok c) own h = ap (step_then (opening name)) (content_same
 -- an empty line is improper to older versions
 empty_line : (algos : Algos) (f : Form) → parse_line older algos f [] ≡ Improper
 empty_line algos f =
-    let is = says_is older algos f [] in is.improper.1 (refl, λ s e. let wrong = e.0 in cc)
+    let is = says_is older algos f [] in is.when_bad.1 (refl, λ s e. let wrong = e.0 in cc)
 
 -- the profiles do differ: a name with a carriage return, and an empty line
 pub older_differs : OlderDiffers

@@ -23,12 +23,12 @@ parse_line_now r a l ls =
 -- the first of what is left
 pub rest_head : (r : Rules) (a : Now) (l : List ℕ) (ls : List (List ℕ)) → lines_by r.profile a.rest ≡ l ∷ ls
     → rest_verdicts r a ≡ next_judged r a l ∷ verdicts r (form_then a.form (form r.settings.algos (l ∷ ls)))
-    (after a.run_state.world (asks_of (next_judged r a l))) (a.number + 1) ls
+    (after a.known_state.world (asks_of (next_judged r a l))) (a.number + 1) ls
 rest_head r a l ls h = rw (h, parse_line_now r a l ls) refl
 
 -- one line's verdict, and those of what is left behind it
 pub rest_on : (r : Rules) (a b : Now) (v : List ℕ) (h : Moves r a b v)
-    → b.run_state.world ≡ after a.run_state.world (asks_of (next_judged r a h.line))
+    → b.known_state.world ≡ after a.known_state.world (asks_of (next_judged r a h.line))
     → rest_verdicts r a ≡ next_judged r a h.line ∷ rest_verdicts r b
 rest_on r a b v h world =
     rest_head r a h.line (lines_by r.profile b.rest) h.lines ∙ rw (h.form, world, h.number, form_next) refl
@@ -37,7 +37,7 @@ rest_on r a b v h world =
 
 -- the step of a line, before which so many bytes are left
 abbrev pub line_step : Rules → ℕ → Judged → Step
-line_step r left j = record { names = asks_of j; err = err_of r j; out = out_of r j; left = left }
+line_step r left j = record { names = asks_of j; err = err_of r j; out = out_of r j; remaining = left }
 
 -- that of these verdicts, behind these counts
 abbrev pub run_by : Rules → Ending → Counts → Content → List Judged → Run
@@ -48,9 +48,9 @@ run_by r e k c js = record {
 
 -- it begins with a step before which all of the content is to come
 pub first_step : (r : Rules) (e : Ending) (k : Counts) (c : Content) (js : List Judged)
-    → (s : Step) × (rest : Run) × (run_by r e k c js ≡ step_then s rest) × (s.left ≡ length c.bytes)
+    → (s : Step) × (rest : Run) × (run_by r e k c js ≡ step_then s rest) × (s.remaining ≡ length c.bytes)
 first_step r e k c [] = (
-  record { names = []; err = end_text r e k; out = []; left = length c.bytes },
+  record { names = []; err = end_text r e k; out = []; remaining = length c.bytes },
   record { steps = []; good = good r e k },
   refl,
   refl,

@@ -39,7 +39,7 @@ along_more {next = next} h k = record {
   done = h.done ++ k.step ∷ [];
   steps = h.steps ∙ ap (λ r. h.done ++ r.steps) k.is ∙ sym (append_assoc h.done (k.step ∷ []) next.steps);
   good = sym (ap (λ r. r.good) k.is) ∙ h.good;
-  did = steps_more h.done k.step h.did k.did;
+  did = steps_more h.done k.step h.did k.happened;
 }
 
 -- the last step: all happened
@@ -47,7 +47,7 @@ pub along_end : {a b c : RunState} {whole left : Run} {answer : Bool} → Along 
     → (answer ≡ whole.good) × Did a c (events whole.steps)
 along_end h k =
     let all = h.steps ∙ ap (λ r. h.done ++ r.steps) k.is in
-    (sym (ap (λ r. r.good) k.is) ∙ h.good, rw all (steps_more h.done k.step h.did k.did))
+    (sym (ap (λ r. r.good) k.is) ∙ h.good, rw all (steps_more h.done k.step h.did k.happened))
 
 -- a step of which a prefix happened
 pub along_breaks : {a b c : RunState} {whole left : Run} → Along whole left a b → Breaks left b c
@@ -56,7 +56,7 @@ along_breaks {whole = whole} h k =
     let steps : whole.steps ≡ h.done ++ k.step ∷ k.rest.steps = h.steps ∙ ap (λ r. h.done ++ r.steps) k.is in
     let all : events whole.steps ≡ events h.done ++ (events_of k.step ++ events k.rest.steps) =
     ap events steps ∙ flat_map-append events_of h.done (k.step ∷ k.rest.steps) in
-    rw all (prefix_behind (events h.done) (events_of k.step) (events k.rest.steps) h.did k.did)
+    rw all (prefix_behind (events h.done) (events_of k.step) (events k.rest.steps) h.did k.happened)
 
 -- a step that memory was wanted for
 pub along_waits : {A : Type 0} {a b c : RunState} {whole left : Run} (x : A) → Along whole left a b

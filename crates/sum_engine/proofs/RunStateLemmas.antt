@@ -71,18 +71,18 @@ out-by names err out = simp (
 -- these names were asked, whatever was written
 pub record Asks (a b : RunState) (names : List (List ℕ)) : Type 0 where
   pub world : b.world ≡ after a.world names
-  pub taken : b.taken ≡ a.taken || list_any is_dash names
+  pub taken : b.stdin_taken ≡ a.stdin_taken || list_any is_dash names
   pub refusals : b.refusals ≡ a.refusals
 
 -- no name was
-pub asks_none : {a b : RunState} → b.world ≡ a.world → b.taken ≡ a.taken → b.refusals ≡ a.refusals → Asks a b []
+pub asks_none : {a b : RunState} → b.world ≡ a.world → b.stdin_taken ≡ a.stdin_taken → b.refusals ≡ a.refusals → Asks a b []
 asks_none {a} world taken refusals = search rules
 
 -- so it is where they were opened, and nothing was written
 pub asks_by : {a b : RunState} (names : List (List ℕ)) → Did a b (map Opens names) → Asks a b names
 asks_by names h = record {
   world = rw (kind-all Opens name_in (λ x. refl) names) at h.world;
-  taken = rw (kind-all Opens name_in (λ x. refl) names) at h.taken;
+  taken = rw (kind-all Opens name_in (λ x. refl) names) at h.stdin_taken;
   refusals = h.refusals;
 }
 
@@ -92,7 +92,7 @@ pub did_by : {a b : RunState} (names : List (List ℕ)) (err out : List ℕ) →
     → Did a b (events_by names err out)
 did_by names err out h p q = record {
   world = rw (names-by names err out) h.world;
-  taken = rw (names-by names err out) h.taken;
+  stdin_taken = rw (names-by names err out) h.taken;
   err = rw (err-by names err out) p;
   out = rw (out-by names err out) q;
   refusals = h.refusals;
@@ -107,7 +107,7 @@ pub did_both : {a b c : RunState} (p q : List Event) → Did a b p → Did b c q
 did_both {a} {b} {c} p q h k = record {
   world = rw (k.world, h.world, filter_map-append name_in p q)
       (after-append a.world (filter_map name_in p) (filter_map name_in q));
-  taken = rw (k.taken, h.taken, filter_map-append name_in p q) (simp (list_any-append, or_assoc));
+  stdin_taken = rw (k.stdin_taken, h.stdin_taken, filter_map-append name_in p q) (simp (list_any-append, or_assoc));
   err = rw (filter_map-append err_in p q)
       (Appends-trans a.err.written b.err.written c.err.written _ _ h.err k.err);
   out = rw (filter_map-append out_in p q)
@@ -185,7 +185,7 @@ abbrev pub known : {S : Type 0} → (S → SourceState) → Moment S → World �
 known state m w = record {
   world = w;
   refusals = (state m.source).refusals;
-  taken = m.taken;
+  stdin_taken = m.stdin_taken;
   err = m.err;
   out = m.out;
 }
@@ -200,7 +200,7 @@ by_world f (Some t) (Some c) = refl
 
 pub run_state-known : {S : Type 0} (state : S → SourceState) (m : Moment S)
     → run_state state m ≡ option_map (known state m) (world_of state m)
-run_state-known state m = by_world (known state m) (state m.source).told m.input
+run_state-known state m = by_world (known state m) (state m.source).known m.input
 
 -- what follows of two moments from what holds of their worlds, where these tell
 pub where_known : {S : Type 0} (state : S → SourceState) (a b : Moment S) {P : World → World → Type 0}
@@ -228,7 +228,7 @@ same_told (Some a) = refl
 
 -- the source was refused memory, and nothing else was done
 pub known_refused : {S : Type 0} (state : S → SourceState) (a b : Moment S)
-    → WhereTold (world_of state a) (world_of state b) (λ w v. v ≡ w) → b.taken ≡ a.taken → b.err ≡ a.err
+    → WhereTold (world_of state a) (world_of state b) (λ w v. v ≡ w) → b.stdin_taken ≡ a.stdin_taken → b.err ≡ a.err
     → b.out ≡ a.out → (state b.source).refusals ≡ one_more (state a.source).refusals
     → WhereTold (run_state state a) (run_state state b) OnlyRefused
 known_refused state a b world taken err out refused = search rules

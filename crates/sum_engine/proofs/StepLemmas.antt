@@ -28,10 +28,10 @@ abbrev pub now_at : {I : Type 0} → Place I → Content → RunState → Now
 now_at p c s = record {
   rest = c;
   number = p.reader.lines;
-  used = used p.reader;
+  consumed = used p.reader;
   form = p.form;
   counts = p.counts;
-  run_state = s;
+  known_state = s;
 }
 
 -- that, where both may not tell
@@ -103,11 +103,11 @@ moves_by p q reader c d s t line vector profile number took takes few counted = 
   line = line;
   lines = lines_now p.rules c profile ∙ took.0.0 ∙ ap (λ l. line ∷ l) (sym (lines_now p.rules d profile));
   rest = took.0.1;
-  used = took.1;
+  consumed = took.1;
   number = number;
   form = takes.form;
   counts = counted;
-  held = few;
+  vector_len = few;
 }
 
 -- ---- a step, by what was found
@@ -115,7 +115,7 @@ moves_by p q reader c d s t line vector profile number took takes few counted = 
 -- a call that is lent what a moment has, but for its outputs
 abbrev pub asked : {S : Type 0} → Moment S → Moment S
 asked m =
-    let silent : SinkState = record { written = None; held = []; failures = 0 } in
+    let silent : SinkState = record { written = None; buffered = []; failures = 0 } in
     record m { err = silent; out = silent }
 
 -- the next, by contents and worlds themselves
@@ -142,10 +142,10 @@ lent input state p q a b P R is to = search rules
 
 -- one more step was done, or a prefix of its events
 step_by : (r : Rules) (a b : Now) (vector : List ℕ) (step : Step) (x : Writing)
-    → to_come r a ≡ step_then step (to_come r b) → Moves r a b vector → Came x a.run_state b.run_state (events_of step)
+    → to_come r a ≡ step_then step (to_come r b) → Moves r a b vector → Came x a.known_state b.known_state (events_of step)
     → StepOf r vector a b (answered x Going)
-step_by r a b vector step (Ok u) is moves did = (record { step = step; is = is; did = did }, moves)
-step_by r a b vector step (Err e) is moves cut = record { step = step; rest = to_come r b; is = is; did = cut }
+step_by r a b vector step (Ok u) is moves did = (record { step = step; is = is; happened = did }, moves)
+step_by r a b vector step (Err e) is moves cut = record { step = step; rest = to_come r b; is = is; happened = cut }
 
 -- a line was found, and its report was handed on, or a prefix of it; a is how things stood, by m
 pub step_found : {I S : Type 0} (input : I → InputState) (state : S → SourceState) (p q : Place I) (a m b : Moment S)
@@ -159,7 +159,7 @@ pub step_found : {I S : Type 0} (input : I → InputState) (state : S → Source
 step_found input state p q a m b vector v x is found hands =
     rw (← is) (lent input state p q m b _ _ found (λ c d w v' f.
     let j = judged_in vector v in
-    let names = asks_by (asks_of j) f.0.did in
+    let names = asks_by (asks_of j) f.0.happened in
     let asks : Asks (known state m w) (known state b v') (asks_of j) =
     record { world = names.world; taken = names.taken; refusals = names.refusals } in
     let first : Now = now_at p c (known state m w) in
@@ -168,11 +168,11 @@ step_found input state p q a m b vector v x is found hands =
       line = f.1.line;
       lines = f.1.lines;
       rest = f.1.rest;
-      used = f.1.used;
+      consumed = f.1.consumed;
       number = f.1.number;
       form = f.1.form;
       counts = f.1.counts;
-      held = f.1.held;
+      vector_len = f.1.vector_len;
     } in
     step_by p.rules first next vector (line_step p.rules (length c.bytes) j) x
     (found_first p.rules first next j f.0.first f.0.counts f.1.rest) moves
@@ -197,10 +197,10 @@ step_wants input state p q a m b vector is found err out = rw (← is) (lent inp
       step = s.0;
       rest = s.1;
       is = s.2;
-      wants = elim f.0 [
-        | inl e ↦ inl (rw (ap (λ t. t.world) e, ap (λ t. t.taken) e, ap (λ t. t.refusals) e, err, out) refl)
+      refused = elim f.0 [
+        | inl e ↦ inl (rw (ap (λ t. t.world) e, ap (λ t. t.stdin_taken) e, ap (λ t. t.refusals) e, err, out) refl)
         | inr e ↦ inr (
-          rw (ap (λ t. t.world) e, ap (λ t. t.taken) e, ap (λ t. t.refusals) e, err, out) refl,
+          rw (ap (λ t. t.world) e, ap (λ t. t.stdin_taken) e, ap (λ t. t.refusals) e, err, out) refl,
           subst (λ k. 0 < k) (sym s.3) f.1,
         )
       ];
@@ -209,10 +209,10 @@ step_wants input state p q a m b vector is found err out = rw (← is) (lent inp
 -- the last step was done, or a prefix of its events
 last_by : (r : Rules) (a b : Now) (vector : List ℕ) (step : Step) (answer : Bool) (x : Writing)
     → to_come r a ≡ record { steps = step ∷ []; good = answer }
-    → Came x a.run_state b.run_state (events_of step) → StepOf r vector a b (answered x (Ended answer))
-last_by r a b vector step answer (Ok u) is did = record { step = step; is = is; did = did }
+    → Came x a.known_state b.known_state (events_of step) → StepOf r vector a b (answered x (Ended answer))
+last_by r a b vector step answer (Ok u) is did = record { step = step; is = is; happened = did }
 last_by r a b vector step answer (Err e) is cut =
-    record { step = step; rest = record { steps = []; good = answer }; is = is; did = cut }
+    record { step = step; rest = record { steps = []; good = answer }; is = is; happened = cut }
 
 -- the end was found, and its text was handed on, or a prefix of it
 pub step_end : {I S : Type 0} (input : I → InputState) (state : S → SourceState) (p q : Place I) (a m b : Moment S)
@@ -227,8 +227,8 @@ step_end input state p q a m b vector e answer x is found rules sum out told hol
     rw (← is) (lent input state p q m b _ _ found (λ c d w v f.
     let r = p.rules in
     let said = rw (rules, f.counts) at (told.1 none).1 in
-    let step : Step = record { names = []; err = end_text r e p.counts; out = []; left = length c.bytes } in
-    let asks = asks_none (ap (λ t. t.world) f.same) (ap (λ t. t.taken) f.same) (ap (λ t. t.refusals) f.same) in
+    let step : Step = record { names = []; err = end_text r e p.counts; out = []; remaining = length c.bytes } in
+    let asks = asks_none (ap (λ t. t.world) f.same) (ap (λ t. t.stdin_taken) f.same) (ap (λ t. t.refusals) f.same) in
     last_by r (now_at p c (known state m w)) (now_at q d (known state b v)) vector step answer x
     (ap (run_by r c.ending p.counts c) f.none ∙ rw (f.ending, sum, rules, f.counts) refl)
     (came_by _ _ [] _ [] x asks (rw out (err_alone m.err b.err m.out _ x said)))))

@@ -31,9 +31,9 @@ pub told_flushed : {E : Type 0} (a b c : SinkState) (text : List ℕ) (r : Resul
     → Flushes b c r → HandsOn a c text r
 told_flushed a b c text (Ok u) h k = search rules
 told_flushed a b c text (Err e) h k = (
-  k.failed ∙ ap one_more h.kept,
+  k.failures ∙ ap one_more h.failures,
   λ none.
-      (k.none, subst (λ l. AppendsPrefix a.written c.written (l ++ text)) none (Wrote-dropped text h k)),
+      (k.buffered, subst (λ l. AppendsPrefix a.written c.written (l ++ text)) none (Wrote-dropped text h k)),
 )
 
 -- writing it failed

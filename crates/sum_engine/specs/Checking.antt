@@ -15,8 +15,8 @@ rules_of settings tool name =
 
 -- a step for each line of the content, by these verdicts, one after another, and one for the end, which has that text
 abbrev pub line_steps : Rules → List ℕ → Content → List Judged → List Step
-line_steps r end c [] = record { names = []; err = end; out = []; left = length c.bytes } ∷ []
-line_steps r end c (j ∷ js) = record { names = asks_of j; err = err_of r j; out = out_of r j; left = length c.bytes }
+line_steps r end c [] = record { names = []; err = end; out = []; remaining = length c.bytes } ∷ []
+line_steps r end c (j ∷ js) = record { names = asks_of j; err = err_of r j; out = out_of r j; remaining = length c.bytes }
     ∷ line_steps r end (past_line c) js
 
 -- a manifest that was opened, whose lines have these verdicts

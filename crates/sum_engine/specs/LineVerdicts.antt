@@ -20,8 +20,8 @@ Found = Result (Option LineVerdict) LineStop
 -- the moment of a call that is lent standard input and a source, and writes to no output
 abbrev pub asking : {I S : Type 0} → (I → InputState) → Option I → S → Moment S
 asking state stdin source =
-    let silent : SinkState = record { written = None; held = []; failures = 0 } in
-    record { source = source; input = (left_in state stdin).content; taken = is_none stdin; err = silent; out = silent }
+    let silent : SinkState = record { written = None; buffered = []; failures = 0 } in
+    record { source = source; input = (left_in state stdin).content; stdin_taken = is_none stdin; err = silent; out = silent }
 
 -- the judged line: its name stands in the vector
 abbrev pub judged_in : List ℕ → LineVerdict → Judged
@@ -35,14 +35,14 @@ pub record Names (vector : List ℕ) (v : LineVerdict) : Type 0 where
 -- a line was judged, which is the first of those that were to come; its name was opened, where its verdict asks that
 pub record Finds (r : Rules) (a b : Now) (j : Judged) : Type 0 where
   pub first : rest_verdicts r a ≡ j ∷ rest_verdicts r b
-  pub did : Did a.run_state b.run_state (map Opens (asks_of j))
+  pub happened : Did a.known_state b.known_state (map Opens (asks_of j))
   pub counts : b.counts ≡ counts_with a.counts j.verdict
 
 -- none is to come, and the manifest ends so; nothing was opened, and nothing is left but that ending
 pub record FindsNone (r : Rules) (e : Ending) (a b : Now) : Type 0 where
   pub none : rest_verdicts r a ≡ []
   pub ending : a.rest.ending ≡ e
-  pub same : b.run_state ≡ a.run_state
+  pub same : b.known_state ≡ a.known_state
   pub counts : b.counts ≡ a.counts
   pub rest : b.rest ≡ record { bytes = []; ending = e }
 
@@ -55,7 +55,7 @@ FindOf r vector a b (Ok (Some v)) = Finds r a b (judged_in vector v) × Moves r 
 FindOf r vector a b (Ok None) = FindsNone r Whole a b
 FindOf r vector a b (Err (Fault f)) = FindsNone r (Broken f) a b
 FindOf r vector a b (Err Memory) =
-    (OnlyRefused a.run_state b.run_state ⊎ (b.run_state ≡ a.run_state)) × (0 < length a.rest.bytes)
+    (OnlyRefused a.known_state b.known_state ⊎ (b.known_state ≡ a.known_state)) × (0 < length a.rest.bytes)
 
 -- what the next verdict is, where the manifest and the world tell
 abbrev pub FindGives : Rules → List ℕ → Option Now → Option Now → Found → Type 0

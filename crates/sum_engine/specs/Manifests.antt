@@ -38,7 +38,7 @@ StepsReport = (r : Rules) (end : List ℕ) (c : Content) (js : List Judged) (k :
 -- so many lines were handled, one after another
 abbrev pub HandledTimes : Rules → Now → Now → ℕ → Type 0
 HandledTimes r a b zero = b ≡ a
-HandledTimes r a b (suc k) = (m : Now) × (vector : List ℕ) × GoesOn (to_come r a) (to_come r m) a.run_state m.run_state
+HandledTimes r a b (suc k) = (m : Now) × (vector : List ℕ) × GoesOn (to_come r a) (to_come r m) a.known_state m.known_state
     × Moves r a m vector × HandledTimes r m b k
 
 -- after k lines of a new checker the first k of the manifest's steps are done and nothing else, the others are to come,
@@ -47,9 +47,9 @@ pub record Joined (r : Rules) (c : Content) (s : RunState) (b : Now) (k : ℕ) :
   pub rest : b.rest ≡ past_lines k c
   pub lines : lines_by r.profile b.rest ≡ drop k (lines_by r.profile c)
   pub number : b.number ≡ k
-  pub used : b.used + length (past_lines k c).bytes ≡ length c.bytes
-  pub done : Did s b.run_state (events (take k (content_run r c (all_verdicts r s.world c)).steps))
-  pub left : (to_come r b).steps ≡ drop k (content_run r c (all_verdicts r s.world c)).steps
+  pub consumed : b.consumed + length (past_lines k c).bytes ≡ length c.bytes
+  pub done : Did s b.known_state (events (take k (content_run r c (all_verdicts r s.world c)).steps))
+  pub remaining : (to_come r b).steps ≡ drop k (content_run r c (all_verdicts r s.world c)).steps
   pub good : (to_come r b).good ≡ (content_run r c (all_verdicts r s.world c)).good
 
 -- any number of lines, handled one after another
@@ -60,14 +60,14 @@ StepsJoin = (r : Rules) (c : Content) (s : RunState) (b : Now) (k : ℕ) → Han
 -- the step that ends comes after all lines, and all events have then happened
 abbrev pub StepsEnd : Type 0
 StepsEnd = (r : Rules) (c : Content) (s : RunState) (b : Now) (z : RunState) (k : ℕ) (x : Bool)
-    → HandledTimes r (at_start c s) b k → Finishes (to_come r b) x b.run_state z
+    → HandledTimes r (at_start c s) b k → Finishes (to_come r b) x b.known_state z
     → (k ≡ length (lines_by r.profile c)) × (x ≡ (content_run r c (all_verdicts r s.world c)).good)
     × Did s z (events (content_run r c (all_verdicts r s.world c)).steps)
 
 -- after a step that a write fault cut off one prefix of all events happened
 abbrev pub StepsCut : Type 0
 StepsCut = (r : Rules) (c : Content) (s : RunState) (b : Now) (z : RunState) (k : ℕ) → HandledTimes r (at_start c s) b k
-    → Breaks (to_come r b) b.run_state z → DidPrefix s z (events (content_run r c (all_verdicts r s.world c)).steps)
+    → Breaks (to_come r b) b.known_state z → DidPrefix s z (events (content_run r c (all_verdicts r s.world c)).steps)
 
 -- what comes behind some lines has no part in their verdicts, whatever was asked before; nor has the name of the
 -- manifest, where both or neither came from standard input

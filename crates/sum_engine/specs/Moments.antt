@@ -14,13 +14,13 @@ use Rattle.sum_engine.specs.Runs.{World, is_dash, after, Event, Step, Run, event
 pub record Moment (S : Type 0) : Type 0 where
   pub source : S
   pub input : Option Content
-  pub taken : Bool
+  pub stdin_taken : Bool
   pub err : SinkState
   pub out : SinkState
 
 -- neither output holds anything back
 abbrev pub HoldNothing : {S : Type 0} → Moment S → Type 0
-HoldNothing m = (m.out.held ≡ []) × (m.err.held ≡ [])
+HoldNothing m = (m.out.buffered ≡ []) × (m.err.buffered ≡ [])
 
 -- the failures of the outputs: a call that answers a write fault had one more, of one of them, and any other had none
 abbrev pub Failures : {S A : Type 0} → Moment S → Moment S → Result A Stop → Type 0
@@ -37,7 +37,7 @@ Refusals state Changes a b r = (state b.source).refusals ≡ (state a.source).re
 -- what a call that may stop does, told or not: nothing is held back where nothing was, and a stop has its cause
 pub record Accounts {S A : Type 0} (state : S → SourceState) (Changes : ℕ → ℕ → Type 0) (a b : Moment S)
     (r : Result A Stop) : Type 0 where
-  pub none : HoldNothing a → HoldNothing b
+  pub flushed : HoldNothing a → HoldNothing b
   pub refusals : Refusals state Changes a b r
   pub failures : Failures a b r
 
@@ -49,22 +49,22 @@ Untouched a b r = r ≡ Err Memory → (b.out ≡ a.out) × (b.err ≡ a.err)
 pub record RunState : Type 0 where
   pub world : World
   pub refusals : ℕ  -- how often the source was refused memory
-  pub taken : Bool
+  pub stdin_taken : Bool
   pub err : SinkState
   pub out : SinkState
 
 -- that, where the source and standard input tell
 abbrev pub run_state : {S : Type 0} → (S → SourceState) → Moment S → Option RunState
 run_state state m = do
-  told ← (state m.source).told
+  told ← (state m.source).known
   input ← m.input
   let world : World = record { answer = told.answer; asked = told.asked; input = input }
-  Some (record { world = world; refusals = (state m.source).refusals; taken = m.taken; err = m.err; out = m.out })
+  Some (record { world = world; refusals = (state m.source).refusals; stdin_taken = m.stdin_taken; err = m.err; out = m.out })
 
 -- these events happened: the names were asked, and the bytes were handed on; the source was refused no memory
 pub record Did (a b : RunState) (es : List Event) : Type 0 where
   pub world : b.world ≡ after a.world (filter_map name_in es)
-  pub taken : b.taken ≡ a.taken || list_any is_dash (filter_map name_in es)
+  pub stdin_taken : b.stdin_taken ≡ a.stdin_taken || list_any is_dash (filter_map name_in es)
   pub err : Appends a.err.written b.err.written (filter_map err_in es)
   pub out : Appends a.out.written b.out.written (filter_map out_in es)
   pub refusals : b.refusals ≡ a.refusals
@@ -76,7 +76,7 @@ DidPrefix a b es = (prefix : List Event) × IsPrefix prefix es × Did a b prefix
 -- memory was wanted at a step, of which nothing happened: the source was refused it, or bytes of the manifest were
 -- still to come
 abbrev pub Wants : Step → RunState → RunState → Type 0
-Wants s a b = (b ≡ record a { refusals = one_more a.refusals }) ⊎ ((b ≡ a) × (0 < s.left))
+Wants s a b = (b ≡ record a { refusals = one_more a.refusals }) ⊎ ((b ≡ a) × (0 < s.remaining))
 
 -- THE HEADLINE, for a call that is to answer x: it answers x, and all events of the steps happened; or a write
 -- failed, and one prefix of the events happened; or memory was wanted at a step, and just the steps before it did

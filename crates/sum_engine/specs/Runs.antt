@@ -48,7 +48,7 @@ pub record Step : Type 0 where
   pub names : List (List ℕ)
   pub err : List ℕ
   pub out : List ℕ
-  pub left : ℕ
+  pub remaining : ℕ
 
 -- the steps, and whether all is good
 pub record Run : Type 0 where
@@ -80,7 +80,7 @@ run_then r s = record { steps = r.steps ++ s.steps; good = r.good && s.good }
 -- a run of one step, which opens a name or none and writes a text to standard error and one to standard output
 abbrev pub at_once : List (List ℕ) → List ℕ → List ℕ → Bool → Run
 at_once names err out good =
-    record { steps = record { names = names; err = err; out = out; left = 0 } ∷ []; good = good }
+    record { steps = record { names = names; err = err; out = out; remaining = 0 } ∷ []; good = good }
 
 -- a run's texts on standard output and on standard error, and the names that it opens
 abbrev pub outs : Run → List ℕ

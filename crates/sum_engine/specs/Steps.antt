@@ -21,35 +21,35 @@ use Rattle.sum_engine.specs.Checking.{line_steps}
 pub record Now : Type 0 where
   pub rest : Content
   pub number : ℕ
-  pub used : ℕ
+  pub consumed : ℕ
   pub form : Form
   pub counts : Counts
-  pub run_state : RunState
+  pub known_state : RunState
 
 abbrev pub now_by : Option Content → ℕ → ℕ → Form → Counts → Option RunState → Option Now
 now_by None n u f c s = None
 now_by (Some rest) n u f c None = None
 now_by (Some rest) n u f c (Some s) =
-    Some (record { rest = rest; number = n; used = u; form = f; counts = c; run_state = s })
+    Some (record { rest = rest; number = n; consumed = u; form = f; counts = c; known_state = s })
 
 -- in front of the first line
 abbrev pub no_line : Option Content → Option RunState → Option Now
 no_line c s = now_by c 0 0 Undecided no_counts s
 
 abbrev pub at_start : Content → RunState → Now
-at_start c s = record { rest = c; number = 0; used = 0; form = Undecided; counts = no_counts; run_state = s }
+at_start c s = record { rest = c; number = 0; consumed = 0; form = Undecided; counts = no_counts; known_state = s }
 
 -- the next line's verdict
 abbrev pub next_judged : Rules → Now → List ℕ → Judged
 next_judged r a l =
     let f = form_then a.form (line_form r.settings.algos l) in
-    judge r a.run_state.world (a.number + 1) (parse_line r.profile r.settings.algos f l)
+    judge r a.known_state.world (a.number + 1) (parse_line r.profile r.settings.algos f l)
 
 -- the verdicts that are still to be found
 abbrev pub rest_verdicts : Rules → Now → List Judged
 rest_verdicts r a =
     let ls = lines_by r.profile a.rest in
-    verdicts r (form_then a.form (form r.settings.algos ls)) a.run_state.world a.number ls
+    verdicts r (form_then a.form (form r.settings.algos ls)) a.known_state.world a.number ls
 
 -- the run that is still to come
 abbrev pub to_come : Rules → Now → Run
@@ -68,44 +68,44 @@ step_then s r = record { steps = s ∷ r.steps; good = r.good }
 pub record GoesOn (r s : Run) (a b : RunState) : Type 0 where
   pub step : Step
   pub is : r ≡ step_then step s
-  pub did : Did a b (events_of step)
+  pub happened : Did a b (events_of step)
 
 -- it was the last, and the answer is whether all is good
 pub record Finishes (r : Run) (answer : Bool) (a b : RunState) : Type 0 where
   pub step : Step
   pub is : r ≡ record { steps = step ∷ []; good = answer }
-  pub did : Did a b (events_of step)
+  pub happened : Did a b (events_of step)
 
 -- a write failed: a prefix of the step's events happened
 pub record Breaks (r : Run) (a b : RunState) : Type 0 where
   pub step : Step
   pub rest : Run
   pub is : r ≡ step_then step rest
-  pub did : DidPrefix a b (events_of step)
+  pub happened : DidPrefix a b (events_of step)
 
 -- memory was wanted: nothing of the step happened
 pub record Lacks (r : Run) (a b : RunState) : Type 0 where
   pub step : Step
   pub rest : Run
   pub is : r ≡ step_then step rest
-  pub wants : Wants step a b
+  pub refused : Wants step a b
 
 -- one line was handled; the line's vector holds this then
 pub record Moves (r : Rules) (a b : Now) (vector : List ℕ) : Type 0 where
   pub line : List ℕ
   pub lines : lines_by r.profile a.rest ≡ line ∷ lines_by r.profile b.rest
   pub rest : b.rest ≡ past_line a.rest
-  pub used : b.used + length b.rest.bytes ≡ a.used + length a.rest.bytes
+  pub consumed : b.consumed + length b.rest.bytes ≡ a.consumed + length a.rest.bytes
   pub number : b.number ≡ a.number + 1
   pub form : b.form ≡ form_then a.form (line_form r.settings.algos line)
   pub counts : b.counts ≡ counts_with a.counts (next_judged r a line).verdict
-  pub held : length vector ≤ length line
+  pub vector_len : length vector ≤ length line
 
 abbrev pub StepOf : Rules → List ℕ → Now → Now → Result Progress Stop → Type 0
-StepOf r vector a b (Ok Going) = GoesOn (to_come r a) (to_come r b) a.run_state b.run_state × Moves r a b vector
-StepOf r vector a b (Ok (Ended answer)) = Finishes (to_come r a) answer a.run_state b.run_state
-StepOf r vector a b (Err Write) = Breaks (to_come r a) a.run_state b.run_state
-StepOf r vector a b (Err Memory) = Lacks (to_come r a) a.run_state b.run_state
+StepOf r vector a b (Ok Going) = GoesOn (to_come r a) (to_come r b) a.known_state b.known_state × Moves r a b vector
+StepOf r vector a b (Ok (Ended answer)) = Finishes (to_come r a) answer a.known_state b.known_state
+StepOf r vector a b (Err Write) = Breaks (to_come r a) a.known_state b.known_state
+StepOf r vector a b (Err Memory) = Lacks (to_come r a) a.known_state b.known_state
 
 -- what a step does, where the manifest and the run state tell
 abbrev pub StepGives : Rules → List ℕ → Option Now → Option Now → Result Progress Stop → Type 0
@@ -129,8 +129,8 @@ pub record Place (I : Type 0) : Type 0 where
 -- a manifest that is being checked: where that stands, and the answer that every later call gives again, where there
 -- is one
 pub record Checking (I A : Type 0) : Type 0 where
-  pub place : Place I
-  pub answer : Option A
+  pub cursor : Place I
+  pub final_answer : Option A
 
 -- after a line no answer is given again, after anything else that one is
 abbrev pub again_after : Result Progress Stop → Option (Result Progress Stop)
@@ -143,7 +143,7 @@ now_of state p run_state = now_by (coming state p.reader) p.reader.lines (used p
 
 -- it stands in front of the first line of that input, of which nothing was read
 abbrev pub Begins : {I : Type 0} → (I → InputState) → Place I → I → Type 0
-Begins state p input = (p.reader ≡ record { input = input; ahead = []; taken = 0; lines = 0; answer = None })
+Begins state p input = (p.reader ≡ record { input = input; ahead = []; taken = 0; lines = 0; final_answer = None })
     × ((s : Option RunState) → now_of state p s ≡ no_line (option_map clip (state input).content) s)
 
 -- what a step does to the place, told or not: it is checked by the same; what the input has given and what is left of

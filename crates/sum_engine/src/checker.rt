@@ -20,7 +20,7 @@ use sum_sources::{Input, Source};
 pub struct Checker<'a, I> {
     position: Position<'a, I>,
     // what every later step answers again, where there is such an answer
-    answer: Option<Result<Progress, Stop>>,
+    final_answer: Option<Result<Progress, Stop>>,
 }
 
 impl<'a, I> Model for Checker<'a, I> {
@@ -33,7 +33,7 @@ impl<'a, I> Model for Checker<'a, I> {
 
     ghost use Rattle.sum_engine.specs.refinement.Positions.{place_of};
 
-    ghost view = { λ c. record { place = place_of c.position; answer = c.answer } };
+    ghost view = { λ c. record { cursor = place_of c.position; final_answer = c.final_answer } };
 }
 
 impl<'a, I: Input> Checker<'a, I> {
@@ -52,15 +52,15 @@ impl<'a, I: Input> Checker<'a, I> {
         from_stdin: bool,
         input: I,
     ) -> Self
-        ensures rules { result.place.rules ≡ record {
+        ensures rules { result.cursor.rules ≡ record {
           profile = present;
           settings = settings;
           tool = tool.entry.now;
           shown = shown.entry.now;
           from_stdin = from_stdin;
         } }
-        ensures begins { Begins I.state result.place input }
-        ensures answer { result.answer ≡ None }
+        ensures begins { Begins I.state result.cursor input }
+        ensures answer { result.final_answer ≡ None }
     {
         let listing = Listing {
             settings,
@@ -73,19 +73,19 @@ impl<'a, I: Input> Checker<'a, I> {
 
     /// A checker of the manifest that `input` gives, by what it is listed as.
     pub(crate) fn over(listing: Listing<'a>, input: I) -> Self
-        ensures rules { result.place.rules ≡ rules_in listing.entry }
-        ensures begins { Begins I.state result.place input }
-        ensures answer { result.answer ≡ None }
+        ensures rules { result.cursor.rules ≡ rules_in listing.entry }
+        ensures begins { Begins I.state result.cursor input }
+        ensures answer { result.final_answer ≡ None }
     {
         Checker {
             position: Position::new(listing, input),
-            answer: None,
+            final_answer: None,
         }
     }
 
     /// How many bytes the manifest's input has given.
     pub fn taken(&self) -> u64
-        ensures value { result ≡ self.now.place.reader.taken }
+        ensures value { result ≡ self.now.cursor.reader.taken }
         ensures most { result ≤ LIMIT }
     {
         self.position.taken()
@@ -103,24 +103,24 @@ impl<'a, I: Input> Checker<'a, I> {
         line: &mut Vec<u8, A>,
         streams: &mut Streams<J, S, O, E>,
     ) -> Result<Progress, Stop>
-        ensures gives { self.old.answer ≡ None → StepsTo I.state S.state line.new.items self.old.place self.new.place
+        ensures gives { self.old.final_answer ≡ None → StepsTo I.state S.state line.new.items self.old.cursor self.new.cursor
             streams.old streams.new result }
         ensures none { HoldNothing streams.old → HoldNothing streams.new }
-        ensures again { IfSome self.old.answer
+        ensures again { IfSome self.old.final_answer
             (λ r. (result ≡ r) × (self.new ≡ self.old) × (streams.new ≡ streams.old)) }
-        ensures answer { self.old.answer ≡ None → self.new.answer ≡ again_after result }
-        ensures wants { self.old.answer ≡ None
+        ensures answer { self.old.final_answer ≡ None → self.new.final_answer ≡ again_after result }
+        ensures wants { self.old.final_answer ≡ None
             → WantsMemory (S.state streams.old.source) (S.state streams.new.source)
-            (coming I.state self.old.place.reader) result }
-        ensures failures { self.old.answer ≡ None → Failures streams.old streams.new result }
+            (coming I.state self.old.cursor.reader) result }
+        ensures failures { self.old.final_answer ≡ None → Failures streams.old streams.new result }
         ensures untouched { Untouched streams.old streams.new result }
-        ensures reads { self.old.answer ≡ None → Reads I.state self.old.place self.new.place result }
+        ensures reads { self.old.final_answer ≡ None → Reads I.state self.old.cursor self.new.cursor result }
     {
-        if let Some(answer) = self.answer {
+        if let Some(answer) = self.final_answer {
             return answer;
         }
         let result = self.position.next(line, streams);
-        self.answer = match result {
+        self.final_answer = match result {
             Ok(Progress::Going) => None,
             _ => Some(result),
         };

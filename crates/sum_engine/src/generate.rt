@@ -33,7 +33,7 @@ pub fn generate_one<I: Input + Drop, S: Source, O: Sink, E: Sink>(
     ensures none { HoldNothing streams.old → HoldNothing streams.new }
     ensures refusals { Refusals S.state (λ n m. m ≡ one_more n) streams.old streams.new result }
     ensures failures { Failures streams.old streams.new result }
-    ensures taken { OnOk result (streams.new.taken ≡ streams.old.taken || is_dash name.now) }
+    ensures taken { OnOk result (streams.new.stdin_taken ≡ streams.old.stdin_taken || is_dash name.now) }
     ensures untouched { Untouched streams.old streams.new result }
 {
     let mut buffer = [0; PIECE];

@@ -59,12 +59,12 @@ pub(crate) fn put_report<O: Sink, E: Sink>(
     verdict: Verdict,
     name: &[u8],
 ) -> Result<(), SinkFault>
-    ensures texts { (E.state err.old).held ≡ [] → (O.state out.old).held ≡ []
+    ensures texts { (E.state err.old).buffered ≡ [] → (O.state out.old).buffered ≡ []
         → HandsBoth (E.state err.old) (E.state err.new) (O.state out.old) (O.state out.new)
         (err_by (rules_in listing.now) number verdict name.now)
         (out_by present listing.now.settings.report verdict name.now) result }
-    ensures none { (E.state err.old).held ≡ [] → (O.state out.old).held ≡ []
-        → ((E.state err.new).held ≡ []) × ((O.state out.new).held ≡ []) }
+    ensures none { (E.state err.old).buffered ≡ [] → (O.state out.old).buffered ≡ []
+        → ((E.state err.new).buffered ≡ []) × ((O.state out.new).buffered ≡ []) }
     ensures failures { MatchResult result
         (λ _. NoneFailed (O.state out.old) (O.state out.new) (E.state err.old) (E.state err.new))
         (λ _. OneFailed (O.state out.old) (O.state out.new) (E.state err.old) (E.state err.new)) }

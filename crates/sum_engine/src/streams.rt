@@ -26,7 +26,7 @@ impl<I: Input, S, O: Sink, E: Sink> Model for Streams<I, S, O, E> {
     ghost view = { λ s. record {
       source = s.source;
       input = (left_in I.state s.stdin).content;
-      taken = is_none s.stdin;
+      stdin_taken = is_none s.stdin;
       err = E.state s.err;
       out = O.state s.out;
     } };

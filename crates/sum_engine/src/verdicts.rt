@@ -21,8 +21,8 @@ use sum_sources::{Input, LineStop, Source, Stdin};
 pub struct Verdicts<I> {
     position: Position<'static, I>,
     // what every later call answers again, where there is such an answer
-    answer: Option<Result<Option<LineVerdict>, LineStop>>,
-    ghost again: { option_and_then again_found answer ≡ answer },
+    final_answer: Option<Result<Option<LineVerdict>, LineStop>>,
+    ghost again: { option_and_then again_found final_answer ≡ final_answer },
 }
 
 impl<I> Model for Verdicts<I> {
@@ -33,7 +33,7 @@ impl<I> Model for Verdicts<I> {
 
     ghost use Rattle.sum_engine.specs.refinement.Positions.{place_of};
 
-    ghost view = { λ v. record { place = place_of v.position; answer = v.answer } };
+    ghost view = { λ v. record { cursor = place_of v.position; final_answer = v.final_answer } };
 }
 
 impl<I: Input> Verdicts<I> {
@@ -47,15 +47,15 @@ impl<I: Input> Verdicts<I> {
     /// In front of the first line of the manifest that `input` gives; `from_stdin` says whether it came from standard
     /// input, where a line that names `-` is improperly formatted.
     pub fn new(settings: CheckSettings, from_stdin: bool, input: I) -> Self
-        ensures rules { result.place.rules ≡ record {
+        ensures rules { result.cursor.rules ≡ record {
           profile = present;
           settings = settings;
           tool = [];
           shown = [];
           from_stdin = from_stdin;
         } }
-        ensures begins { Begins I.state result.place input }
-        ensures answer { result.answer ≡ None }
+        ensures begins { Begins I.state result.cursor input }
+        ensures answer { result.final_answer ≡ None }
     {
         let listing = Listing {
             settings,
@@ -65,13 +65,13 @@ impl<I: Input> Verdicts<I> {
         };
         Verdicts {
             position: Position::new(listing, input),
-            answer: None,
+            final_answer: None,
         }
     }
 
     /// How many bytes the manifest's input has given.
     pub fn taken(&self) -> u64
-        ensures value { result ≡ self.now.place.reader.taken }
+        ensures value { result ≡ self.now.cursor.reader.taken }
         ensures most { result ≤ LIMIT }
     {
         self.position.taken()
@@ -90,22 +90,22 @@ impl<I: Input> Verdicts<I> {
         stdin: &mut Stdin<J>,
         source: &mut S,
     ) -> Result<Option<LineVerdict>, LineStop>
-        ensures gives { self.old.answer ≡ None → FindGives self.old.place.rules line.new.items
-            (now_of I.state self.old.place (run_state S.state (asking J.state stdin.old source.old)))
-            (now_of I.state self.new.place (run_state S.state (asking J.state stdin.new source.new))) result }
+        ensures gives { self.old.final_answer ≡ None → FindGives self.old.cursor.rules line.new.items
+            (now_of I.state self.old.cursor (run_state S.state (asking J.state stdin.old source.old)))
+            (now_of I.state self.new.cursor (run_state S.state (asking J.state stdin.new source.new))) result }
         ensures names { IfOk result (λ found. IfSome found (λ v. Names line.new.items v)) }
-        ensures again { IfSome self.old.answer (λ r. (result ≡ r) × (self.new ≡ self.old) × (stdin.new ≡ stdin.old)
+        ensures again { IfSome self.old.final_answer (λ r. (result ≡ r) × (self.new ≡ self.old) × (stdin.new ≡ stdin.old)
             × (source.new ≡ source.old)) }
-        ensures answer { self.old.answer ≡ None → self.new.answer ≡ again_found result }
-        ensures wants { self.old.answer ≡ None → WantsMemory (S.state source.old) (S.state source.new)
-            (coming I.state self.old.place.reader) (progress_of result) }
-        ensures reads { self.old.answer ≡ None → Reads I.state self.old.place self.new.place (progress_of result) }
+        ensures answer { self.old.final_answer ≡ None → self.new.final_answer ≡ again_found result }
+        ensures wants { self.old.final_answer ≡ None → WantsMemory (S.state source.old) (S.state source.new)
+            (coming I.state self.old.cursor.reader) (progress_of result) }
+        ensures reads { self.old.final_answer ≡ None → Reads I.state self.old.cursor self.new.cursor (progress_of result) }
     {
-        if let Some(answer) = self.answer {
+        if let Some(answer) = self.final_answer {
             return answer;
         }
         let found = self.position.find(line, stdin, source);
-        self.answer = match found {
+        self.final_answer = match found {
             Ok(Some(_)) => None,
             _ => Some(found),
         };
@@ -114,9 +114,9 @@ impl<I: Input> Verdicts<I> {
 
     /// Whether the manifest is good; false before `next` has answered that no line is left.
     pub fn is_good(&self) -> bool
-        ensures { result ≡ is_whole self.now.answer && good self.now.place.rules Whole self.now.place.counts }
+        ensures { result ≡ is_whole self.now.final_answer && good self.now.cursor.rules Whole self.now.cursor.counts }
     {
-        match self.answer {
+        match self.final_answer {
             Some(Ok(None)) => self.position.is_good(),
             _ => false,
         }

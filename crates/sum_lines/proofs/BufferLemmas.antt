@@ -9,14 +9,14 @@ use Rattle.sum_lines.proofs.SinkLemmas.{Flushes-with_buffered}
 pub Emptied : {E : Type 0} (a b : SinkState) (own : List ℕ) (r : Result (Unit {0}) E) → Writes a b own r
     → Empties (behind a own) (behind b []) r
 Emptied a b own (Ok u) h = record {
-  taken = let taken = h.taken in grind (arith, append_assoc, append-nil);
-  grows = h.grows;
-  kept = h.kept;
+  accepted = let taken = h.accepted in grind (arith, append_assoc, append-nil);
+  written = h.written;
+  failures = h.failures;
 }
 Emptied a b own (Err e) h = record {
-  handed = (h.handed.0, (h.handed.1, h.handed.2), h.handed.4);
-  none = append-nil b.held ∙ h.none;
-  failed = h.failed;
+  written = (h.written.0, (h.written.1, h.written.2), h.written.4);
+  buffered = append-nil b.buffered ∙ h.buffered;
+  failures = h.failures;
 }
 
 -- the buffer was emptied, and then the sink below was flushed

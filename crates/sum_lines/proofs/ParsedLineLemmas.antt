@@ -128,12 +128,12 @@ says_is p algos f line =
     let skipped = is_ignored_by p line in
     let found = entry_of p algos f line in
     record {
-      nothing = (said-nothing skipped found, λ h. rw h refl);
-      spells = λ s. (
+      when_ignored = (said-nothing skipped found, λ h. rw h refl);
+      when_entry = λ s. (
         λ h. let said = said-entry skipped found s h in (said.0, value_entry p algos f line s said.1),
         λ h. rw (h.0, entry_value p algos f line s h.1) refl,
       );
-      improper = (
+      when_bad = (
         λ h. let said = said-improper skipped found h in
             (said.0, λ s e. let wrong = sym said.1 ∙ entry_value p algos f line s e in cc),
         λ h. rw (h.0, ← none_of found (λ s e. h.1 s (value_entry p algos f line s e))) refl,

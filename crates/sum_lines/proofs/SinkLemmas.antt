@@ -17,18 +17,18 @@ Grows-trans a b c p q = (p.0 ++ q.0, Appends-trans a b c p.0 q.0 p.1 q.1)
 -- nothing is written where nothing is done
 pub Wrote-nil : {a : SinkState} → Wrote a a []
 Wrote-nil {a} = record {
-  taken = Appends-nil (append_known a.written a.held);
-  grows = ([], Appends-nil a.written);
-  kept = refl;
+  accepted = Appends-nil (append_known a.written a.buffered);
+  written = ([], Appends-nil a.written);
+  failures = refl;
 }
 
 -- one text was written, and then another
 pub Wrote-trans : {a b c : SinkState} (xs ys : List ℕ) → Wrote a b xs → Wrote b c ys → Wrote a c (xs ++ ys)
 Wrote-trans {a} {b} {c} xs ys first second = record {
-  taken = Appends-trans (append_known a.written a.held) (append_known b.written b.held)
-      (append_known c.written c.held) xs ys first.taken second.taken;
-  grows = Grows-trans a.written b.written c.written first.grows second.grows;
-  kept = second.kept ∙ first.kept;
+  accepted = Appends-trans (append_known a.written a.buffered) (append_known b.written b.buffered)
+      (append_known c.written c.buffered) xs ys first.accepted second.accepted;
+  written = Grows-trans a.written b.written c.written first.written second.written;
+  failures = second.failures ∙ first.failures;
 }
 
 -- a text was taken, and then a prefix of what was held was handed on
@@ -62,48 +62,48 @@ handed_part (Some x) b c held_before held_after text piece later grows taken som
 -- a text was written, and a call without a text failed behind it: of what was held before and of the text a prefix was
 -- handed on
 pub Wrote-dropped : {a b c : SinkState} (text : List ℕ) → Wrote a b text → Dropped b c
-    → AppendsPrefix a.written c.written (a.held ++ text)
+    → AppendsPrefix a.written c.written (a.buffered ++ text)
 Wrote-dropped {a} {b} {c} text wrote dropped =
-    handed_some a.written b.written c.written a.held b.held text wrote.grows wrote.taken dropped.handed
+    handed_some a.written b.written c.written a.buffered b.buffered text wrote.written wrote.accepted dropped.written
 
 -- a text was written, and then all that was held was handed on
 pub Wrote-flushed : {a b : SinkState} (c : Option (List ℕ)) (text : List ℕ) → Wrote a b text
-    → Appends b.written c b.held → Appends a.written c (a.held ++ text)
-Wrote-flushed c text wrote handed = let taken = wrote.taken in grind (arith, append_assoc)
+    → Appends b.written c b.buffered → Appends a.written c (a.buffered ++ text)
+Wrote-flushed c text wrote handed = let taken = wrote.accepted in grind (arith, append_assoc)
 
 -- nothing was written, and then a flush came
 pub Flushes-with_buffered : {E : Type 0} {a : SinkState} (b c : SinkState) (r : Result (Unit {0}) E) → Wrote a b []
     → Flushes b c r → Flushes a c r
 Flushes-with_buffered {a = a} b c (Ok u) wrote flushed =
-    (rw append-nil at (Wrote-flushed c.written [] wrote flushed.0), flushed.1, flushed.2 ∙ wrote.kept)
+    (rw append-nil at (Wrote-flushed c.written [] wrote flushed.0), flushed.1, flushed.2 ∙ wrote.failures)
 Flushes-with_buffered b c (Err e) wrote dropped = record {
-  handed = rw append-nil at (Wrote-dropped [] wrote dropped);
-  none = dropped.none;
-  failed = dropped.failed ∙ ap one_more wrote.kept;
+  written = rw append-nil at (Wrote-dropped [] wrote dropped);
+  buffered = dropped.buffered;
+  failures = dropped.failures ∙ ap one_more wrote.failures;
 }
 
 -- a write failed that was to take some of a text
 pub Dropped-broke : {a b : SinkState} {text : List ℕ} → Dropped a b → 0 < length text → Broke a b text
 Dropped-broke {text = text} dropped some =
-    let prefix = dropped.handed.0 in
-    let rest = dropped.handed.1.0 in
-    let cut = dropped.handed.1.1 in
+    let prefix = dropped.written.0 in
+    let rest = dropped.written.1.0 in
+    let cut = dropped.written.1.1 in
     let longer : 0 < length (rest ++ text) = omega (arith, some, length-append rest text) in
     record {
-      some = some;
-      handed = (prefix, rest ++ text, grind (arith, append_assoc), longer, dropped.handed.2);
-      none = dropped.none;
-      failed = dropped.failed;
+      nonempty = some;
+      written = (prefix, rest ++ text, grind (arith, append_assoc), longer, dropped.written.2);
+      buffered = dropped.buffered;
+      failures = dropped.failures;
     }
 
 -- a sink that tells all that it took, and holds nothing back, took a piece
 pub Wrote-told : (old new piece : List ℕ) (failures : ℕ) → new ≡ old ++ piece
-    → Wrote (record { written = Some old; held = []; failures = failures })
-    (record { written = Some new; held = []; failures = failures }) piece
+    → Wrote (record { written = Some old; buffered = []; failures = failures })
+    (record { written = Some new; buffered = []; failures = failures }) piece
 Wrote-told old new piece failures is = record {
-  taken = grind (arith, append-nil);
-  grows = (piece, is);
-  kept = refl;
+  accepted = grind (arith, append-nil);
+  written = (piece, is);
+  failures = refl;
 }
 
 -- ---- a text, piece after piece
@@ -134,11 +134,11 @@ Left-stop {a} {b} {c} {piece = piece} more left cut failed =
     let whole = left.cut ∙ ap (λ l. left.prefix ++ l) cut in
     let size = length-append left.prefix (piece ++ more) in
     record {
-      some = rw whole (omega (arith, failed.some, size, length-append piece more));
-      handed = rw whole (handed_part a.written b.written c.written a.held b.held left.prefix piece more
-          left.wrote.grows left.wrote.taken failed.some failed.handed);
-      none = failed.none;
-      failed = failed.failed ∙ ap one_more left.wrote.kept;
+      nonempty = rw whole (omega (arith, failed.nonempty, size, length-append piece more));
+      written = rw whole (handed_part a.written b.written c.written a.buffered b.buffered left.prefix piece more
+          left.wrote.written left.wrote.accepted failed.nonempty failed.written);
+      buffered = failed.buffered;
+      failures = failed.failures ∙ ap one_more left.wrote.failures;
     }
 
 -- the last piece is all of the rest: its call answers for the whole text

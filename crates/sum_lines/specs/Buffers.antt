@@ -6,15 +6,15 @@ use Rattle.sum_lines.specs.declared.buffered.TheConstants.{ROOM}
 -- a buffer: the sink below, and what is held
 pub record Buffer (S : Type 0) : Type 0 where
   pub sink : S
-  pub held : List ℕ
+  pub buffered : List ℕ
 
 -- a sink that holds these bytes, too, behind its own
 abbrev pub behind : SinkState → List ℕ → SinkState
-behind a own = record { written = a.written; held = a.held ++ own; failures = a.failures }
+behind a own = record { written = a.written; buffered = a.buffered ++ own; failures = a.failures }
 
 -- a buffer holds what the sink below holds, and behind that its own
 abbrev pub buffer_state : {S : Type 0} → (S → SinkState) → Buffer S → SinkState
-buffer_state state b = behind (state b.sink) b.held
+buffer_state state b = behind (state b.sink) b.buffered
 
 -- what is held, where there is no room for more
 abbrev pub if_full : List ℕ → List ℕ

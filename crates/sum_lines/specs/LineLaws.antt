@@ -26,10 +26,10 @@ OneForm = (algos : Algos) (lines : List (List ℕ)) (f : Form) → IsForm algos 
 -- what a line says, whichever the profile: nothing where it is ignored; otherwise its entry or, where it has none, that
 -- it is improper
 pub record SaysOf (p : Profile) (algos : Algos) (f : Form) (line : List ℕ) : Type 0 where
-  pub nothing : (parse_line p algos f line ≡ Nothing) ↔ (is_ignored_by p line ≡ true)
-  pub spells : (s : Spelled) → (parse_line p algos f line ≡ WithEntry s)
+  pub when_ignored : (parse_line p algos f line ≡ Nothing) ↔ (is_ignored_by p line ≡ true)
+  pub when_entry : (s : Spelled) → (parse_line p algos f line ≡ WithEntry s)
       ↔ ((is_ignored_by p line ≡ false) × Entry (escape_by p) algos f line s)
-  pub improper : (parse_line p algos f line ≡ Improper)
+  pub when_bad : (parse_line p algos f line ≡ Improper)
       ↔ ((is_ignored_by p line ≡ false) × ((s : Spelled) → ¬ Entry (escape_by p) algos f line s))
 
 abbrev pub SaysIs : Type 0

@@ -16,28 +16,28 @@ AppendsPart old new text =
 -- a sink at one moment: what it handed on, where it tells that; what it took and still holds; how many calls failed
 pub record SinkState : Type 0 where
   pub written : Option (List ℕ)
-  pub held : List ℕ
+  pub buffered : List ℕ
   pub failures : ℕ
 
 -- the text was taken: it stands behind what was held, and some of both may have been handed on
 pub record Wrote (a b : SinkState) (text : List ℕ) : Type 0 where
-  pub taken : Appends (append_known a.written a.held) (append_known b.written b.held) text
-  pub grows : (more : List ℕ) × Appends a.written b.written more
-  pub kept : b.failures ≡ a.failures
+  pub accepted : Appends (append_known a.written a.buffered) (append_known b.written b.buffered) text
+  pub written : (more : List ℕ) × Appends a.written b.written more
+  pub failures : b.failures ≡ a.failures
 
 -- a call failed: of what was held and of the text, which isn't empty, a proper prefix was handed on, and the rest is
 -- dropped
 pub record Broke (a b : SinkState) (text : List ℕ) : Type 0 where
-  pub some : 0 < length text
-  pub handed : AppendsPart a.written b.written (a.held ++ text)
-  pub none : b.held ≡ []
-  pub failed : b.failures ≡ one_more a.failures
+  pub nonempty : 0 < length text
+  pub written : AppendsPart a.written b.written (a.buffered ++ text)
+  pub buffered : b.buffered ≡ []
+  pub failures : b.failures ≡ one_more a.failures
 
 -- a call failed: a prefix of what was held was handed on, and the rest is dropped
 pub record Dropped (a b : SinkState) : Type 0 where
-  pub handed : (prefix : List ℕ) × IsPrefix prefix a.held × Appends a.written b.written prefix
-  pub none : b.held ≡ []
-  pub failed : b.failures ≡ one_more a.failures
+  pub written : (prefix : List ℕ) × IsPrefix prefix a.buffered × Appends a.written b.written prefix
+  pub buffered : b.buffered ≡ []
+  pub failures : b.failures ≡ one_more a.failures
 
 -- a call that takes all of the text, or fails; with an empty text it doesn't fail
 abbrev pub Writes : {E : Type 0} → SinkState → SinkState → List ℕ → Result (Unit {0}) E → Type 0
@@ -51,7 +51,7 @@ WritesSome a b piece (Err e) = Dropped a b
 
 -- one flush, which hands on all that is held, or fails
 abbrev pub Flushes : {E : Type 0} → SinkState → SinkState → Result (Unit {0}) E → Type 0
-Flushes a b (Ok u) = Appends a.written b.written a.held × (b.held ≡ []) × (b.failures ≡ a.failures)
+Flushes a b (Ok u) = Appends a.written b.written a.buffered × (b.buffered ≡ []) × (b.failures ≡ a.failures)
 Flushes a b (Err e) = Dropped a b
 
 -- ---- what is offered

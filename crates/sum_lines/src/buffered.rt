@@ -25,7 +25,7 @@ impl<S> Model for Buffered<S> {
 
     ghost Value = { Buffer S };
 
-    ghost view = { λ s. record { sink = s.sink; held = take s.len s.buffer } };
+    ghost view = { λ s. record { sink = s.sink; buffered = take s.len s.buffer } };
 
     ghost invariant = { λ s. s.len ≤ ROOM };
 }
@@ -33,7 +33,7 @@ impl<S> Model for Buffered<S> {
 impl<S> Buffered<S> {
     /// An empty buffer over `sink`.
     pub fn new(sink: S) -> Self
-        ensures { result ≡ record { sink = sink; held = [] } }
+        ensures { result ≡ record { sink = sink; buffered = [] } }
     {
         Buffered {
             sink,
@@ -64,8 +64,8 @@ impl<S: Sink> Buffered<S> {
     // Hands on to the sink below what is held.
     fn empty(&mut self) -> Result<(), SinkFault>
         ensures bytes { Empties (buffer_state S.state self.old) (buffer_state S.state self.new) result }
-        ensures none { self.new.held ≡ [] }
-        ensures hands { HandsOn (S.offered self.old.sink) (S.offered self.new.sink) self.old.held }
+        ensures none { self.new.buffered ≡ [] }
+        ensures hands { HandsOn (S.offered self.old.sink) (S.offered self.new.sink) self.old.buffered }
     {
         let len = self.len;
         self.len = 0;
@@ -75,8 +75,8 @@ impl<S: Sink> Buffered<S> {
     // Hands on to the sink below what is held, where there is no room for more.
     fn make_room(&mut self) -> Result<(), SinkFault>
         ensures bytes { Empties (buffer_state S.state self.old) (buffer_state S.state self.new) result }
-        ensures held { OnOk result (self.new.held ≡ unless_full self.old.held) }
-        ensures hands { HandsOn (S.offered self.old.sink) (S.offered self.new.sink) (if_full self.old.held) }
+        ensures held { OnOk result (self.new.buffered ≡ unless_full self.old.buffered) }
+        ensures hands { HandsOn (S.offered self.old.sink) (S.offered self.new.sink) (if_full self.old.buffered) }
     {
         if self.len < ROOM {
             return Ok(());
@@ -95,8 +95,8 @@ impl<S: Sink> Sink for Buffered<S> {
     fn write(&mut self, piece: &[u8]) -> Result<usize, SinkFault>
         ensures bytes { WritesSome (buffer_state S.state self.old) (buffer_state S.state self.new) piece.now result }
         ensures empty { piece.now ≡ [] → result ≡ Ok 0 }
-        ensures hands { HandsOn (S.offered self.old.sink) (S.offered self.new.sink) (handed self.old.held piece.now) }
-        ensures fits { IfOk result (λ n. n ≡ min (length piece.now) (ROOM - length (unless_full self.old.held))) }
+        ensures hands { HandsOn (S.offered self.old.sink) (S.offered self.new.sink) (handed self.old.buffered piece.now) }
+        ensures fits { IfOk result (λ n. n ≡ min (length piece.now) (ROOM - length (unless_full self.old.buffered))) }
     {
         if piece.is_empty() {
             return Ok(0);
@@ -111,7 +111,7 @@ impl<S: Sink> Sink for Buffered<S> {
     /// Hands on all that is held, which is offered in one piece, and flushes the sink below. A fault where that fails.
     fn flush(&mut self) -> Result<(), SinkFault>
         ensures bytes { Flushes (buffer_state S.state self.old) (buffer_state S.state self.new) result }
-        ensures hands { HandsOn (S.offered self.old.sink) (S.offered self.new.sink) self.old.held }
+        ensures hands { HandsOn (S.offered self.old.sink) (S.offered self.new.sink) self.old.buffered }
     {
         self.empty()?;
         self.sink.flush()

@@ -38,7 +38,7 @@ impl<W: Write> FromWrite<W> {
 }
 
 impl<W: Write> Sink for FromWrite<W> {
-    ghost state = { λ s. record { written = W.contents s.writer; held = []; failures = s.failures } };
+    ghost state = { λ s. record { written = W.contents s.writer; buffered = []; failures = s.failures } };
 
     /// Hands a piece that isn't empty to the writer, again after each interruption. A fault where the writer fails,
     /// takes nothing of it, or is interrupted a thousand times in a row.

@@ -47,7 +47,7 @@ impl Recorder {
 }
 
 impl Sink for Recorder {
-    ghost state = { λ s. record { written = None; held = []; failures = s.failures } };
+    ghost state = { λ s. record { written = None; buffered = []; failures = s.failures } };
 
     fn write(&mut self, piece: &[u8]) -> Result<usize, SinkFault> {
         self.writes = self.writes.saturating_add(1);

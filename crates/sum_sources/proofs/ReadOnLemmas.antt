@@ -15,7 +15,7 @@ use Rattle.sum_sources.proofs.ToldLemmas.{WhereTold-map, WhereTold-remade, Where
 pub record LineSoFar {I : Type 0} (state : I → InputState) (old s : Reader I) (line : List ℕ) : Type 0 where
   pub came : WhereTold (coming state old) (coming state s) (λ c d. Gave c d line)
   pub plain : NoNewline line
-  pub going : s.answer ≡ None
+  pub going : s.final_answer ≡ None
 
 -- bytes that were ahead came too
 took : {I : Type 0} {state : I → InputState} {old s s' : Reader I} {line : List ℕ} (prefix : List ℕ)

@@ -82,7 +82,7 @@ pub record Telling : Type 0 where
 
 -- a source at one moment: what it tells, where it does; and how often an opening was refused memory
 pub record SourceState : Type 0 where
-  pub told : Option Telling
+  pub known : Option Telling
   pub refusals : ℕ
 
 -- only want of memory changes the count of refusals

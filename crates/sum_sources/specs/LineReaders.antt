@@ -12,7 +12,7 @@ pub record Reader (I : Type 0) : Type 0 where
   pub ahead : List ℕ  -- of these bytes, those that were not moved into a line
   pub taken : ℕ  -- how many bytes the input has given
   pub lines : ℕ  -- how many lines were answered
-  pub answer : Option (Result Next LineStop)  -- what every later call answers again, where there is one
+  pub final_answer : Option (Result Next LineStop)  -- what every later call answers again, where there is one
 
 -- how many bytes the lines have used, newlines included; after a stop also those of a line that was begun
 abbrev pub used : {I : Type 0} → Reader I → ℕ
@@ -41,7 +41,7 @@ left_by _ c = c
 -- what is still to come: the bytes read ahead and then the input's content, as far as the limit allows
 abbrev pub coming : {I : Type 0} → (I → InputState) → Reader I → Option Content
 coming state r =
-    option_map (λ c. left_by r.answer (with_prefix r.ahead (clip_to (limit - r.taken) c))) (state r.input).content
+    option_map (λ c. left_by r.final_answer (with_prefix r.ahead (clip_to (limit - r.taken) c))) (state r.input).content
 
 -- what every later call answers, once this was answered: after a line nothing is settled, or the end; after the end or
 -- a stop, the same

@@ -42,7 +42,7 @@ where
 
     ghost use Rattle.std.specs.Prelude.{None};
 
-    ghost state = { λ s. record { told = None; refusals = s } };
+    ghost state = { λ s. record { known = None; refusals = s } };
 
     /// Opens the file; a name that isn't UTF-8 is `Fault::Other`, since the runtime's paths are texts. Other faults are
     /// those of the system; `OpenFault::Memory` where the runtime has no memory for the call.

@@ -83,7 +83,7 @@ impl<I: Input> LineReader<I> {
     /// A reader of the lines of `input`. An input of `LIMIT` bytes or more counts as its first
     /// `LIMIT - 1` bytes and then `Fault::Other`.
     pub fn new(input: I) -> Self
-        ensures is { result ≡ record { input = input; ahead = []; taken = 0; lines = 0; answer = None } }
+        ensures is { result ≡ record { input = input; ahead = []; taken = 0; lines = 0; final_answer = None } }
         ensures coming { coming I.state result ≡ option_map clip (I.state input).content }
     {
         LineReader {
@@ -123,7 +123,7 @@ impl<I: Input> LineReader<I> {
     // Reads into the empty buffer. False means that the input has ended.
     fn fill(&mut self) -> Result<bool, Fault>
         requires empty { self.old.ahead ≡ [] }
-        requires going { self.old.answer ≡ None }
+        requires going { self.old.final_answer ≡ None }
         ensures gives { WhereTold (coming I.state self.old) (coming I.state self.new)
             (λ c d. FillOf c d result) }
         ensures more { result ≡ Ok true → self.old.taken < self.new.taken }
@@ -131,7 +131,7 @@ impl<I: Input> LineReader<I> {
         ensures input { WhereTold (I.state self.old.input).content (I.state self.new.input).content
             (λ c d. self.new.taken + length d.bytes ≡ self.old.taken + length c.bytes) }
         ensures lines { self.new.lines ≡ self.old.lines }
-        ensures answer { IfOk result (λ _. self.new.answer ≡ None) }
+        ensures answer { IfOk result (λ _. self.new.final_answer ≡ None) }
         ensures failed { IfOk result (λ _. (I.state self.new.input).failed ≡ (I.state self.old.input).failed) }
     {
         self.start = 0;
@@ -143,7 +143,7 @@ impl<I: Input> LineReader<I> {
     // Moves the buffer's bytes up to its first newline to the line's end, and drops that newline.
     // False means that there was none, and all bytes were moved.
     fn take_piece<A: Allocator>(&mut self, line: &mut Vec<u8, A>) -> Result<bool, AllocError>
-        requires going { self.old.answer ≡ None }
+        requires going { self.old.final_answer ≡ None }
         ensures piece { IfOk result (λ ended.
             TakesPiece ended self.old.ahead self.new.ahead line.old.items line.new.items) }
         ensures memory { IsErr result → (self.new ≡ self.old) × (0 < length self.old.ahead) }
@@ -172,7 +172,7 @@ impl<I: Input> LineReader<I> {
     // Reads the next piece, with its carriage return, into a line that is empty.
     fn read_on<A: Allocator>(&mut self, line: &mut Vec<u8, A>) -> Result<Next, LineStop>
         requires empty { line.old.items ≡ [] }
-        requires going { self.old.answer ≡ None }
+        requires going { self.old.final_answer ≡ None }
         ensures gives { WhereTold (coming I.state self.old) (coming I.state self.new)
             (λ c d. LineOf c d result (strip_carriage_return line.new.items)) }
         ensures memory { result ≡ Err LineStop.Memory → 0 < length self.new.ahead }
@@ -182,7 +182,7 @@ impl<I: Input> LineReader<I> {
             (λ c d. self.new.taken + length d.bytes ≡ self.old.taken + length c.bytes) }
         ensures some { result ≡ Ok Next.Line → used self.old < used self.new }
         ensures lines { self.new.lines ≡ self.old.lines }
-        ensures answer { OnOk result (AnsweredAfter result self.new.answer) }
+        ensures answer { OnOk result (AnsweredAfter result self.new.final_answer) }
         ensures failed { OnOk result ((I.state self.new.input).failed ≡ (I.state self.old.input).failed) }
         ensures ahead { ¬ NoNewline self.old.ahead → self.new.input ≡ self.old.input }
     {
@@ -213,8 +213,8 @@ impl<I: Input> LineReader<I> {
     pub fn next_line<A: Allocator>(&mut self, line: &mut Vec<u8, A>) -> Result<Next, LineStop>
         ensures gives { WhereTold (coming I.state self.old) (coming I.state self.new)
             (λ c d. LineOf c d result line.new.items) }
-        ensures again { IfSome self.old.answer (λ answer. (result ≡ answer) × (self.new ≡ self.old)) }
-        ensures answer { AnsweredAfter result self.new.answer }
+        ensures again { IfSome self.old.final_answer (λ answer. (result ≡ answer) × (self.new ≡ self.old)) }
+        ensures answer { AnsweredAfter result self.new.final_answer }
         ensures lines { self.new.lines ≡ lines_after self.old.lines result }
         ensures taken { WhereTold (I.state self.old.input).content (I.state self.new.input).content
             (λ c d. self.new.taken + length d.bytes ≡ self.old.taken + length c.bytes) }

@@ -126,7 +126,7 @@ impl<'a, A: Allocator + Copy> Source for ToldSource<'a, A> {
     ghost use Rattle.std.specs.Prelude.{Some};
     ghost use Rattle.sum_sources.specs.InMemory.{telling_of};
 
-    ghost state = { λ s. record { told = Some (telling_of s); refusals = s.refusals } };
+    ghost state = { λ s. record { known = Some (telling_of s); refusals = s.refusals } };
 
     fn open_file(&mut self, name: &[u8]) -> Result<Told<'a>, OpenFault>
         ensures answer { OpenOf ⟦<Told<'a> as Input>⟧.state

@@ -36,8 +36,8 @@ pub fn read_command_line<A: Allocator + Copy, G: Arguments>(
     alloc: A,
     arguments: &G,
 ) -> Result<CommandLine<A>, NotRead>
-    ensures line { IfOk result (λ line. CallIs (G.told arguments.now) (call_of line)) }
-    ensures not_read { OnErr result (MayBeUnread (G.told arguments.now)) }
+    ensures line { IfOk result (λ line. CallIs (G.known arguments.now) (call_of line)) }
+    ensures not_read { OnErr result (MayBeUnread (G.known arguments.now)) }
 {
     let mut room = Room {
         page: [0; PAGE],
@@ -70,8 +70,8 @@ impl<A: Allocator> Room<A> {
         arguments: &G,
         place: usize,
     ) -> Result<Option<&[u8]>, NotRead>
-        ensures bytes { IfOk result (λ o. ArgumentIs (G.told arguments.now) place (option_map (λ s. s.now) o)) }
-        ensures not_read { OnErr result (IsLonger (G.told arguments.now) place PAGE) }
+        ensures bytes { IfOk result (λ o. ArgumentIs (G.known arguments.now) place (option_map (λ s. s.now) o)) }
+        ensures not_read { OnErr result (IsLonger (G.known arguments.now) place PAGE) }
     {
         match arguments.fill(place, &mut self.page) {
             Ok(len) => Ok(Some(&self.page[..len])),
@@ -91,9 +91,9 @@ fn fill_growing<A: Allocator, G: Arguments>(
     more: &mut Vec<u8, A>,
 ) -> Result<Option<usize>, NotRead>
     ensures within { IfOk result (λ o. IfSome o (λ n. n ≤ vec_len more.new)) }
-    ensures bytes { IfOk result (λ o. ArgumentIs (G.told arguments.now) place
+    ensures bytes { IfOk result (λ o. ArgumentIs (G.known arguments.now) place
         (option_map (λ n. take n more.new.items) o)) }
-    ensures not_read { OnErr result (IsLonger (G.told arguments.now) place (vec_len more.old)) }
+    ensures not_read { OnErr result (IsLonger (G.known arguments.now) place (vec_len more.old)) }
 {
     'longer: loop {
         match arguments.fill(place, more.as_mut_slice()) {
@@ -126,8 +126,8 @@ fn tool_called_by_name<A: Allocator, G: Arguments>(
     arguments: &G,
     room: &mut Room<A>,
 ) -> Result<Option<Tool>, NotRead>
-    ensures tool { IfOk result (λ tool. IsNameOf (G.told arguments.now) tool) }
-    ensures not_read { OnErr result (MayBeUnread (G.told arguments.now)) }
+    ensures tool { IfOk result (λ tool. IsNameOf (G.known arguments.now) tool) }
+    ensures not_read { OnErr result (MayBeUnread (G.known arguments.now)) }
 {
     match room.argument(arguments, 0)? {
         Some(path) => Ok(Tool::of_name(last_part(path))),
@@ -151,8 +151,8 @@ fn tool_called_by_word<A: Allocator, G: Arguments>(
     arguments: &G,
     room: &mut Room<A>,
 ) -> Result<Option<Tool>, NotRead>
-    ensures tool { IfOk result (λ tool. IsFirstWord (G.told arguments.now) tool) }
-    ensures not_read { OnErr result (MayBeUnread (G.told arguments.now)) }
+    ensures tool { IfOk result (λ tool. IsFirstWord (G.known arguments.now) tool) }
+    ensures not_read { OnErr result (MayBeUnread (G.known arguments.now)) }
 {
     match room.argument(arguments, 1)? {
         Some(word) if is_readable(word) => Ok(Tool::of_name(word)),
@@ -170,8 +170,8 @@ fn words_from<A: Allocator + Copy, G: Arguments>(
     room: &mut Room<A>,
 ) -> Result<Words<A>, NotRead>
     requires { first < usize.MAX }
-    ensures words { IfOk result (λ words. WordsAre (G.told arguments.now) first words) }
-    ensures not_read { OnErr result (HasArgument (G.told arguments.now) first) }
+    ensures words { IfOk result (λ words. WordsAre (G.known arguments.now) first words) }
+    ensures not_read { OnErr result (HasArgument (G.known arguments.now) first) }
 {
     let mut words = Words::new(alloc);
     'places: for place in first..usize::MAX {

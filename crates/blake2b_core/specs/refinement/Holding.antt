@@ -19,12 +19,12 @@ taken s = s.taken
 pub record HoldsSoFar (s : Blake2b) (m : List ℕ) : Type 0 where
   pub taken : s.taken ≡ length m
   pub done : ℕ
-  pub count : 128 * done + s.used ≡ length m
+  pub count : 128 * done + s.buffer_len ≡ length m
   pub hash : s.h ≡ hash_after s.len (blocks m) done
-  pub rest : take s.used s.held ≡ drop (128 * done) m
+  pub rest : take s.buffer_len s.buffer ≡ drop (128 * done) m
 
 -- the state s holds the message m: besides, the last block is held, so that only the empty message
 -- leaves nothing held
 pub record Holds (s : Blake2b) (m : List ℕ) : Type 0 where
   pub so_far : HoldsSoFar s m
-  pub none_held : s.used ≡ 0 → m ≡ []
+  pub empty_buffer : s.buffer_len ≡ 0 → m ≡ []

@@ -12,7 +12,7 @@ use Rattle.digests.specs.Meaning.{all_of}
 pub record Reached (one : World → Text → Run) (names rest : List Text) (a b : RunState) (good : Bool) : Type 0 where
   pub done : Run
   pub total : all_of one a.world names ≡ run_then done (all_of one b.world rest)
-  pub did : Did a b (events done.steps)
+  pub happened : Did a b (events done.steps)
   pub is : good ≡ done.good
 
 -- the same where it is told

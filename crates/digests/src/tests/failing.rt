@@ -39,7 +39,7 @@ impl<'a> Source for FilesFailOnce<'a> {
 
     ghost use Rattle.std.specs.Prelude.{None};
 
-    ghost state = { λ s. record { told = None; refusals = s.source.refusals } };
+    ghost state = { λ s. record { known = None; refusals = s.source.refusals } };
 
     fn open_file(&mut self, name: &[u8]) -> Result<FailsOnce<'a>, OpenFault> {
         match self.source.open_file(name) {

@@ -18,7 +18,7 @@ struct CountsFlushes {
 impl Sink for CountsFlushes {
     ghost use Rattle.std.specs.Prelude.{None, []};
 
-    ghost state = { λ s. record { written = None; held = []; failures = s.failures } };
+    ghost state = { λ s. record { written = None; buffered = []; failures = s.failures } };
 
     fn write(&mut self, piece: &[u8]) -> Result<usize, SinkFault> {
         Ok(piece.len())

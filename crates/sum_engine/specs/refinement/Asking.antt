@@ -15,7 +15,7 @@ world_by (Some t) None = None
 world_by (Some t) (Some c) = Some (record { answer = t.answer; asked = t.asked; input = c })
 
 abbrev pub world_of : {S : Type 0} → (S → SourceState) → Moment S → Option World
-world_of state m = world_by (state m.source).told m.input
+world_of state m = world_by (state m.source).known m.input
 
 -- what came of a reply
 abbrev pub IsAsked : KindValue → Reply → Asked → Type 0

@@ -29,4 +29,4 @@ room s = s.limit - s.len
 
 -- how it stands as a sink: it holds nothing back
 abbrev pub told_state : {N : ℕ} → ToldSink N → SinkState
-told_state s = record { written = Some (bytes_of s); held = []; failures = s.failures }
+told_state s = record { written = Some (bytes_of s); buffered = []; failures = s.failures }

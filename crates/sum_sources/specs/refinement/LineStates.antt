@@ -23,7 +23,7 @@ seen s = record {
   ahead = take (s.end - s.start) (drop s.start s.buf);
   taken = s.taken;
   lines = s.lines;
-  answer = answer_at s.state;
+  final_answer = answer_at s.state;
 }
 
 -- what the fields keep

@@ -29,7 +29,7 @@ returns-in-Ok-Work-clause-gives g c = rw (c.in-Ok-Work.is, c.in-Ok-Work.field-0-
 -- and `each` accounts for it
 pub returns-in-Ok-Work-clause-accounts : goal.returns-in-Ok-Work-clause-accounts
 returns-in-Ok-Work-clause-accounts g c = rw (c.in-Ok-Work.is, c.in-Ok-Work.field-0-is) (record {
-  none = c.each.ensures.accounts.none;
+  flushed = c.each.ensures.accounts.flushed;
   refusals = c.each.ensures.accounts.refusals;
   failures = c.each.ensures.accounts.failures;
 })

@@ -23,7 +23,7 @@ returns-in-Err-clause-gives g c =
     let so_far = c.operands.invariant in
     λ hold. reached_stop g.S.Source.state all c.in-Err.stop c.operands.good c.operands.name.now c.operands.operands
     c.args.streams.now c.operands.streams c.one.new.streams (so_far.reached hold)
-    (c.in-Err.ensures.gives (so_far.so_far.none hold))
+    (c.in-Err.ensures.gives (so_far.so_far.flushed hold))
 
 -- an operand happened, and another one is left
 pub operands-preserved : goal.operands-preserved
@@ -39,7 +39,7 @@ operands-preserved g c =
     record {
       reached = λ hold. rw (is, ← c.in-Some.ensures) (reached_step g.S.Source.state all c.operands.good c.in-Ok.this
           c.operands.name.now c.operands.operands c.args.streams.now c.operands.streams c.one.new.streams
-          (so_far.reached hold) (c.in-Ok.ensures.gives (so_far.so_far.none hold)));
+          (so_far.reached hold) (c.in-Ok.ensures.gives (so_far.so_far.flushed hold)));
       so_far = search rules;
     }
 
@@ -57,6 +57,6 @@ returns-in-None-clause-gives g c =
     λ hold.
     let reached = reached_step g.S.Source.state all c.operands.good c.in-Ok.this c.operands.name.now c.operands.operands
     c.args.streams.now c.operands.streams c.one.new.streams (so_far.reached hold)
-    (c.in-Ok.ensures.gives (so_far.so_far.none hold)) in
+    (c.in-Ok.ensures.gives (so_far.so_far.flushed hold)) in
     rw c.status.ensures (reached_end g.S.Source.state all _ c.args.streams.now c.one.new.streams
     (rw (← is, c.in-None.ensures.0) at reached))

@@ -8,7 +8,7 @@ returns-in-Generate-clause-gives g c = λ hold.
 -- where it is hashed, want of memory is one refusal
 pub returns-in-Generate-clause-accounts : goal.returns-in-Generate-clause-accounts
 returns-in-Generate-clause-accounts g c = rw c.in-Generate.is (record {
-  none = c.generate_one.ensures.none;
+  flushed = c.generate_one.ensures.none;
   refusals = c.generate_one.ensures.refusals;
   failures = c.generate_one.ensures.failures;
 })
@@ -21,7 +21,7 @@ returns-in-Check-clause-gives g c = λ hold.
 -- where it is checked, want of memory may be one refusal
 pub returns-in-Check-clause-accounts : goal.returns-in-Check-clause-accounts
 returns-in-Check-clause-accounts g c = rw c.in-Check.is (record {
-  none = c.check_one.ensures.none;
+  flushed = c.check_one.ensures.none;
   refusals = c.check_one.ensures.refusals;
   failures = c.check_one.ensures.failures;
 })

@@ -16,17 +16,17 @@ pub returns-in-Err-clause-gives : goal.returns-in-Err-clause-gives
 returns-in-Err-clause-gives g c =
     let so_far = c.lines.invariant in
     λ hold. comes_last g.I.Input.state g.S.Source.state _ (rules_in c.args.listing) _ c.args.streams.now
-    c.step.new.streams _ c.step.new.self.place c.step.new.line.items (Err c.in-Err.stop)
-    so_far.rules (so_far.comes hold) (c.in-Err.ensures.gives so_far.going (so_far.so_far.none hold))
+    c.step.new.streams _ c.step.new.self.cursor c.step.new.line.items (Err c.in-Err.stop)
+    so_far.rules (so_far.comes hold) (c.in-Err.ensures.gives so_far.going (so_far.so_far.flushed hold))
 
 -- the end was handled
 pub returns-in-Ok-Ended-clause-gives : goal.returns-in-Ok-Ended-clause-gives
 returns-in-Ok-Ended-clause-gives g c =
     let so_far = c.lines.invariant in
     λ hold.
-    let ended = rw c.in-Ok-Ended.field-0-is at (c.in-Ok-Ended.ensures.gives so_far.going (so_far.so_far.none hold)) in
+    let ended = rw c.in-Ok-Ended.field-0-is at (c.in-Ok-Ended.ensures.gives so_far.going (so_far.so_far.flushed hold)) in
     comes_last g.I.Input.state g.S.Source.state _ (rules_in c.args.listing) _ c.args.streams.now
-    c.step.new.streams _ c.step.new.self.place c.step.new.line.items (Ok c.in-Ok-Ended.good)
+    c.step.new.streams _ c.step.new.self.cursor c.step.new.line.items (Ok c.in-Ok-Ended.good)
     so_far.rules (so_far.comes hold) ended
 
 pub lines-preserved : goal.lines-preserved
@@ -34,7 +34,7 @@ lines-preserved g c =
     let so_far = c.lines.invariant in
     record {
       comes = λ hold.
-          let gone = c.in-Ok-Going.ensures.gives so_far.going (so_far.so_far.none hold) in
+          let gone = c.in-Ok-Going.ensures.gives so_far.going (so_far.so_far.flushed hold) in
           comes_more _ (rules_in c.args.listing) _ _ _ _ c.step.new.line.items so_far.rules (so_far.comes hold)
           (rw c.in-Ok-Going.field-0-is at gone);
       rules = (c.in-Ok-Going.ensures.reads so_far.going).rules ∙ so_far.rules;

@@ -14,11 +14,11 @@ invariant-lines g l =
     record {
       comes : HoldNothing streams → Comes r (option_map clip (g.I.Input.state l.fn.input).content)
           (run_state g.S.Source.state streams)
-          (now_of g.I.Input.state l.checker.place (run_state g.S.Source.state l.streams));
-      rules : l.checker.place.rules ≡ r;
-      going : l.checker.answer ≡ None;
+          (now_of g.I.Input.state l.checker.cursor (run_state g.S.Source.state l.streams));
+      rules : l.checker.cursor.rules ≡ r;
+      going : l.checker.final_answer ≡ None;
       so_far : Accounts {A = Bool} g.S.Source.state (λ n m. (m ≡ n) ⊎ (m ≡ one_more n)) streams l.streams (Ok true);
     }
 
 abbrev pub decreases-lines : goal.decreases-lines
-decreases-lines g l = 2 ^ 61 - l.checker.place.reader.lines
+decreases-lines g l = 2 ^ 61 - l.checker.cursor.reader.lines

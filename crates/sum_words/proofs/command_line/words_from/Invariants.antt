@@ -5,5 +5,5 @@ use Rattle.sum_words.proofs.command_line.words_from.Given as goal
 -- the words before the place were read, and where it isn't the first place there is one
 abbrev pub invariant-places : goal.invariant-places
 invariant-places g l =
-    WordsUpTo (g.G.Arguments.told l.arguments) l.first l.place l.words
-    × (l.first < l.place → HasArgument (g.G.Arguments.told l.arguments) l.first)
+    WordsUpTo (g.G.Arguments.known l.arguments) l.first l.place l.words
+    × (l.first < l.place → HasArgument (g.G.Arguments.known l.arguments) l.first)

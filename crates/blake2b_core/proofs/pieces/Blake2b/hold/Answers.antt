@@ -8,13 +8,13 @@ pub returns-clause-holds : goal.returns-clause-holds
 returns-clause-holds c = λ m held.
     let s = c.args.self.now in
     let bytes = c.args.bytes.now in
-    let counted : 128 * held.done + s.used ≡ length m = held.count in
+    let counted : 128 * held.done + s.buffer_len ≡ length m = held.count in
     let within : 128 * held.done ≤ length m = omega arith in
-    let room : s.used ≤ length s.held = search rules in
+    let room : s.buffer_len ≤ length s.buffer = search rules in
     record {
       taken = let taken = held.taken in omega (arith, length-append m bytes);
       done = held.done;
       count = omega (arith, length-append m bytes);
       hash = held.hash ∙ sym (hash_after-append s.len m bytes held.done within);
-      rest = held-more s.used _ (128 * held.done) s.held m room c.copy_from_slice.ensures.after within held.rest;
+      rest = held-more s.buffer_len _ (128 * held.done) s.buffer m room c.copy_from_slice.ensures.after within held.rest;
     }

@@ -7,5 +7,5 @@ pub returns-clause-holds : goal.returns-clause-holds
 unfolding hash_after
 returns-clause-holds c = record {
   so_far = record { taken = refl; done = 0; count = refl; hash = c.initial.ensures; rest = refl };
-  none_held = λ _. refl;
+  empty_buffer = λ _. refl;
 }

@@ -19,15 +19,15 @@ returns-clause-holds c = λ m held.
     let all = c.hold.ensures.holds ((m ++ take a piece) ++ take b rest) absorbed in
     record {
       so_far = subst (HoldsSoFar c.hold.new.self) (three_parts m piece a b behind end) all;
-      none_held = λ none.
+      empty_buffer = λ none.
           let rest_size : length rest ≡ length piece - a = omega (arith, ap length behind, length-drop a piece) in
           let last_size : length last ≡ length rest - b = omega (arith, ap length end, length-drop b rest) in
-          let used : c.hold.new.self.used ≡ c.absorb-absorbed.new.self.used + length last = c.hold.ensures.used in
+          let used : c.hold.new.self.buffer_len ≡ c.absorb-absorbed.new.self.buffer_len + length last = c.hold.ensures.used in
           let no_piece : length piece ≡ 0 =
           none_left (length piece) a b rest_size c.fill-filled.ensures.some_left
           c.absorb-absorbed.ensures.some_left (omega arith) in
           let kept = c.fill-filled.ensures.none no_piece in
-          let none_before : c.args.self.now.used ≡ 0 = omega (arith, kept.1) in
-          let no_message = ap length (held.none_held none_before) in
+          let none_before : c.args.self.now.buffer_len ≡ 0 = omega (arith, kept.1) in
+          let no_message = ap length (held.empty_buffer none_before) in
           nil_from_length (m ++ piece) (omega (arith, length-append m piece));
     }
