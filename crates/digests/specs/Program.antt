@@ -8,18 +8,18 @@ use Rattle.sum_engine.specs.declared.stop.Stop.{Stop}
 use Rattle.sum_engine.specs.Runs.{World, Run, at_once}
 use Rattle.sum_engine.specs.Moments.{Moment, HoldNothing, Failures, RunsTo}
 use Rattle.sum_words.specs.Items.{Text}
-use Rattle.sum_words.specs.CommandLines.{Call, unknown, call, command_line, NeedsMemory}
+use Rattle.sum_words.specs.CommandLines.{Call, unknown_tool, invoke, command_line, NeedsMemory}
 use Rattle.sum_words.specs.Texts.{stop_line}
 use Rattle.digests.specs.Meaning.{meaning, status_of}
 
 -- what a call means, and the line that tells of its stop, where there is a tool to tell of it
 abbrev pub run_of : Option Call → World → Run
 run_of None w = at_once [] (codes "digests: words not read\n") [] false
-run_of (Some unknown) w = at_once [] (codes "digests: unknown tool\n") [] false
-run_of (Some (call tool words)) w = meaning tool words w
+run_of (Some unknown_tool) w = at_once [] (codes "digests: unknown tool\n") [] false
+run_of (Some (invoke tool words)) w = meaning tool words w
 
 abbrev pub line_of_stop : Option Call → Stop → Text
-line_of_stop (Some (call tool words)) stop = stop_line tool stop
+line_of_stop (Some (invoke tool words)) stop = stop_line tool stop
 line_of_stop line stop = []
 
 -- a line was handed on by an output: all of it; or a prefix, where that output failed

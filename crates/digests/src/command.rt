@@ -34,7 +34,7 @@ pub fn command<A: Allocator + Copy, G: Arguments, I: Input + Drop, S: Source, O:
     ensures kept { result ≡ 0 → Failures streams.old streams.new (Ok result) }
 {
     match read_command_line(alloc, arguments) {
-        Ok(CommandLine::Asks(tool, words)) => {
+        Ok(CommandLine::Invoke(tool, words)) => {
             let answer = run(alloc, tool, &words, streams);
             close(Some(tool), answer, &mut streams.out, &mut streams.err)
         }

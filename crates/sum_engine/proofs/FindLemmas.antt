@@ -10,7 +10,7 @@ use Rattle.sum_lines.specs.ParsedLines.{ParsedLine}
 use Rattle.sum_engine.specs.Reports.{Counts, counts_with}
 use Rattle.sum_engine.specs.LineVerdicts.{LineVerdict, OnlyRefused, judged_in, FindGives}
 use Rattle.sum_engine.specs.Verdicts.{Verdict, Judged, judge, asks_of}
-use Rattle.sum_engine.specs.Runs.{World, is_dash, Opens}
+use Rattle.sum_engine.specs.Runs.{World, is_dash, open_name}
 use Rattle.sum_engine.specs.Moments.{Moment, run_state, Did}
 use Rattle.sum_engine.specs.refinement.Asking.{world_of}
 use Rattle.sum_engine.specs.Steps.{Place, now_of, Now, next_judged}
@@ -59,7 +59,7 @@ find_line {I} input state p q reader a b line vector v reads takes few h taken e
     let asked = rw (names-by names [] []) at found'.1.world in (
       record {
         first = rest_on p.rules first next vector moves (rw is asked) ∙ rw is refl;
-        happened = rw (append-nil (map Opens names)) at found'.1;
+        happened = rw (append-nil (map open_name names)) at found'.1;
         counts = found'.2;
       },
       moves,

@@ -15,13 +15,13 @@ use Rattle.sum_engine.specs.declared.asking.Asked.TheVariants as asked
 -- what came of a name: its digest, or the fault of opening or reading it
 abbrev pub found : Asked → Result (List ℕ) Fault
 found (asked.Read d) = Ok d
-found (asked.Refused f) = Err f
+found (asked.NotOpened f) = Err f
 found (asked.Broken f) = Err f
 
 -- it is what the definitions say of the reply
 found_is : (kind : KindValue) (r : Reply) (a : Asked) → IsAsked kind r a → digest_or_fault kind r ≡ found a
 found_is kind r (asked.Read d) h = ap (digest_or_fault kind) h.1 ∙ h.2
-found_is kind r (asked.Refused f) h = ap (digest_or_fault kind) h
+found_is kind r (asked.NotOpened f) h = ap (digest_or_fault kind) h
 found_is kind r (asked.Broken f) h = ap (digest_or_fault kind) h.1 ∙ h.2
 
 -- the name was asked, and its line or that of its fault was handed on, or a prefix of it

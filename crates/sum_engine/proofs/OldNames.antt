@@ -9,7 +9,7 @@ use Rattle.sum_lines.specs.declared.line_reading.Form.{Form}
 use Rattle.sum_lines.specs.declared.line_reading.Form.TheVariants.{Undecided, Standard, Reversed}
 use Rattle.sum_lines.specs.Escape.{present, escape, escape_of, escape_by}
 use Rattle.sum_lines.specs.Entries.{Spelled, is_ignored_by, RawOf, ByTag, ByTail, Entry}
-use Rattle.sum_lines.specs.ParsedLines.{ParsedLine, Nothing, Improper, WithEntry, parse_line}
+use Rattle.sum_lines.specs.ParsedLines.{ParsedLine, ignored, bad, entry, parse_line}
 use Rattle.sum_lines.proofs.ParsedLineLemmas.{says_is}
 use Rattle.sum_engine.specs.OldVerdicts.{older, NoReturn, HasEscapedReturn, NoEscapedReturn}
 use Rattle.sum_engine.proofs.ReturnLemmas.{NotReturn}
@@ -161,9 +161,9 @@ entry_by E F cleans same algos f line s free none (i, inr t) =
 
 -- what a line says names no carriage return
 abbrev pub CleanParsedLine : ParsedLine → Type 0
-CleanParsedLine Nothing = Unit {0}
-CleanParsedLine Improper = Unit {0}
-CleanParsedLine (WithEntry s) = NoReturn s.name
+CleanParsedLine ignored = Unit {0}
+CleanParsedLine bad = Unit {0}
+CleanParsedLine (entry s) = NoReturn s.name
 
 -- a line that isn't empty is ignored under both profiles or under neither
 ignored_same : (line : List ℕ) (q : Bool) → 0 < length line → is_ignored_by present line ≡ q → is_ignored_by older line
@@ -179,10 +179,10 @@ parse_line_same algos f line free none some = go (parse_line present algos f lin
   where
     go : (x : ParsedLine) → parse_line present algos f line ≡ x → (parse_line older algos f line ≡ x)
         × CleanParsedLine x
-    go Nothing h =
+    go ignored h =
         let is = (says_is present algos f line).when_ignored.0 h in
         ((says_is older algos f line).when_ignored.1 (ignored_same line true some is), tt)
-    go Improper h =
+    go bad h =
         let is = (says_is present algos f line).when_bad.0 h in
         let as_present = entry_by (escape_by older) escape older_name same_escape algos f line in (
           (says_is older algos f line).when_bad.1 (
@@ -191,7 +191,7 @@ parse_line_same algos f line free none some = go (parse_line present algos f lin
           ),
           tt,
         )
-    go (WithEntry s) h =
+    go (entry s) h =
         let is = ((says_is present algos f line).when_entry s).0 h in
         let as_older = entry_by escape (escape_by older) present_name (λ n clean. sym (same_escape n clean)) in
         let e = as_older algos f line s free none is.1 in

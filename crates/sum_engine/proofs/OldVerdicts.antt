@@ -12,7 +12,7 @@ use Rattle.sum_lines.specs.Shapes.{mark}
 use Rattle.sum_lines.specs.Entries.{form}
 use Rattle.sum_lines.specs.Escape.{present}
 use Rattle.sum_engine.specs.Steps.{step_then}
-use Rattle.sum_lines.specs.ParsedLines.{ParsedLine, Nothing, Improper, WithEntry, parse_line}
+use Rattle.sum_lines.specs.ParsedLines.{ParsedLine, ignored, bad, entry, parse_line}
 use Rattle.sum_engine.specs.Generation.{fault_line}
 use Rattle.sum_engine.specs.Checking.{line_steps, content_run}
 use Rattle.sum_engine.specs.OldVerdicts.{older, rules_under, NoReturn, NoEscapedReturn, Old, OldVerdicts, OldOutcomes, OlderDiffers}
@@ -60,9 +60,9 @@ CleanName j = NoReturn j.name
 
 -- and what is judged names none
 judged_clean : (r : Rules) (w : World) (n : ℕ) (x : ParsedLine) → CleanParsedLine x → CleanName (judge r w n x)
-judged_clean r w n Nothing h = All-nil NotReturn
-judged_clean r w n Improper h = All-nil NotReturn
-judged_clean r w n (WithEntry s) h = h
+judged_clean r w n ignored h = All-nil NotReturn
+judged_clean r w n bad h = All-nil NotReturn
+judged_clean r w n (entry s) h = h
 
 -- a line that says the same under both profiles
 pub record Alike (algos : Algos) (line : List ℕ) : Type 0 where
@@ -213,7 +213,7 @@ old_outcomes r name w (Ok c) own h = ap (step_then (opening name)) (content_same
 -- ---- where the profiles differ
 
 -- an empty line is improper to older versions
-empty_line : (algos : Algos) (f : Form) → parse_line older algos f [] ≡ Improper
+empty_line : (algos : Algos) (f : Form) → parse_line older algos f [] ≡ bad
 empty_line algos f =
     let is = says_is older algos f [] in is.when_bad.1 (refl, λ s e. let wrong = e.0 in cc)
 

@@ -11,7 +11,7 @@ use Rattle.sum_sources.specs.Contents.{WhereTold, SourceState, Telling, Content}
 use Rattle.digest_kinds.specs.Limits.{one_more}
 use Rattle.sum_lines.specs.Sinks.{SinkState}
 use Rattle.sum_lines.specs.refinement.GrowingSinks.{AppendsPrefix}
-use Rattle.sum_engine.specs.Runs.{World, is_dash, after, Run, Event, Opens, Tells, Puts, name_in, err_in, out_in}
+use Rattle.sum_engine.specs.Runs.{World, is_dash, after, Run, Event, open_name, write_err, write_out, name_in, err_in, out_in}
 use Rattle.sum_engine.specs.refinement.Telling.{Hands, HandsBoth}
 use Rattle.sum_lines.specs.PartsOfLines.{◌>>=◌}
 use Rattle.sum_engine.specs.Moments.{Moment, RunState, run_state, Stop, Did, DidPrefix, RunOf}
@@ -23,7 +23,7 @@ use Rattle.sum_engine.proofs.WorldLemmas.{after-append}
 
 -- these names are opened, and then these texts are written, in this order
 abbrev pub events_by : List (List ℕ) → List ℕ → List ℕ → List Event
-events_by names err out = map Opens names ++ (map Tells err ++ map Puts out)
+events_by names err out = map open_name names ++ (map write_err err ++ map write_out out)
 
 -- events of the kind that is looked for
 kind-all : {A : Type 0} (f : A → Event) (h : Event → Option A) → ((x : A) → h (f x) ≡ Some x) → (xs : List A)
@@ -41,9 +41,9 @@ kind-none f h none (x ∷ xs) = rw (none x) (kind-none f h none xs)
 pub names-by : (names : List (List ℕ)) (err out : List ℕ) → filter_map name_in (events_by names err out) ≡ names
 names-by names err out = simp (
   filter_map-append,
-  kind-all Opens name_in (λ x. refl),
-  kind-none Tells name_in (λ x. refl),
-  kind-none Puts name_in (λ x. refl),
+  kind-all open_name name_in (λ x. refl),
+  kind-none write_err name_in (λ x. refl),
+  kind-none write_out name_in (λ x. refl),
   append-nil,
 )
 
@@ -51,9 +51,9 @@ names-by names err out = simp (
 pub err-by : (names : List (List ℕ)) (err out : List ℕ) → filter_map err_in (events_by names err out) ≡ err
 err-by names err out = simp (
   filter_map-append,
-  kind-none Opens err_in (λ x. refl),
-  kind-all Tells err_in (λ x. refl),
-  kind-none Puts err_in (λ x. refl),
+  kind-none open_name err_in (λ x. refl),
+  kind-all write_err err_in (λ x. refl),
+  kind-none write_out err_in (λ x. refl),
   append-nil,
 )
 
@@ -61,9 +61,9 @@ err-by names err out = simp (
 pub out-by : (names : List (List ℕ)) (err out : List ℕ) → filter_map out_in (events_by names err out) ≡ out
 out-by names err out = simp (
   filter_map-append,
-  kind-none Opens out_in (λ x. refl),
-  kind-none Tells out_in (λ x. refl),
-  kind-all Puts out_in (λ x. refl),
+  kind-none open_name out_in (λ x. refl),
+  kind-none write_err out_in (λ x. refl),
+  kind-all write_out out_in (λ x. refl),
 )
 
 -- ---- what happened
@@ -79,10 +79,10 @@ pub asks_none : {a b : RunState} → b.world ≡ a.world → b.stdin_taken ≡ a
 asks_none {a} world taken refusals = search rules
 
 -- so it is where they were opened, and nothing was written
-pub asks_by : {a b : RunState} (names : List (List ℕ)) → Did a b (map Opens names) → Asks a b names
+pub asks_by : {a b : RunState} (names : List (List ℕ)) → Did a b (map open_name names) → Asks a b names
 asks_by names h = record {
-  world = rw (kind-all Opens name_in (λ x. refl) names) at h.world;
-  taken = rw (kind-all Opens name_in (λ x. refl) names) at h.stdin_taken;
+  world = rw (kind-all open_name name_in (λ x. refl) names) at h.world;
+  taken = rw (kind-all open_name name_in (λ x. refl) names) at h.stdin_taken;
   refusals = h.refusals;
 }
 
@@ -124,7 +124,7 @@ pub prefix_err : {a b : RunState} (names : List (List ℕ)) (err out : List ℕ)
 prefix_err {a} {b} names err out asked h same = (
   events_by names h.0 [],
   (
-    map Tells h.1.0 ++ map Puts out,
+    map write_err h.1.0 ++ map write_out out,
     rw (h.1.1) (simp (map-append, append-nil, append_assoc)),
   ),
   did_by names h.0 [] asked h.2 (rw same (Appends-nil a.out.written)),
@@ -136,7 +136,7 @@ pub prefix_out : {a b : RunState} (names : List (List ℕ)) (err out : List ℕ)
     → DidPrefix a b (events_by names err out)
 prefix_out {a} {b} names err out asked all h = (
   events_by names err h.0,
-  (map Puts h.1.0, rw (h.1.1) (simp (map-append, append_assoc))),
+  (map write_out h.1.0, rw (h.1.1) (simp (map-append, append_assoc))),
   did_by names err h.0 asked all h.2,
 )
 

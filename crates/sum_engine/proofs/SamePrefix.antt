@@ -5,7 +5,7 @@ use Rattle.sum_lines.specs.declared.line_reading.Form.TheVariants.{Undecided}
 use Rattle.sum_lines.specs.Entries.{form, form_then, line_form}
 use Rattle.sum_engine.specs.Runs.{World, after}
 use Rattle.sum_lines.specs.Escape.{Profile}
-use Rattle.sum_lines.specs.ParsedLines.{ParsedLine, Nothing, Improper, WithEntry, parse_line}
+use Rattle.sum_lines.specs.ParsedLines.{ParsedLine, ignored, bad, entry, parse_line}
 use Rattle.sum_engine.specs.Manifests.{SameVerdicts}
 use Rattle.sum_lines.proofs.FormLemmas.{form_next, said_stays}
 
@@ -36,9 +36,9 @@ prefix_verdicts r w n f (l ∷ ls) later =
 -- neither the name of the manifest nor the profile has a part in the judgement of what one line says
 pub judge_under : (r : Rules) (p : Profile) (other : List ℕ) (w : World) (n : ℕ) (x : ParsedLine)
     → judge r w n x ≡ judge (record r { profile = p; shown = other }) w n x
-judge_under r p other w n Nothing = refl
-judge_under r p other w n Improper = refl
-judge_under r p other w n (WithEntry s) = refl
+judge_under r p other w n ignored = refl
+judge_under r p other w n bad = refl
+judge_under r p other w n (entry s) = refl
 
 -- nor has the name in those of the first lines
 running_renamed : (r : Rules) (other : List ℕ) (w : World) (n : ℕ) (f : Form) (ls : List (List ℕ))

@@ -8,7 +8,7 @@ use Rattle.sum_lines.specs.Entries.{Spelled}
 use Rattle.sum_engine.specs.refinement.Asking.{Asked, AskGives, IsAsked}
 use Rattle.sum_engine.specs.Verdicts.{Verdict, Right, Wrong, Missing, Unread, Rules, verdict_of, not_found, digest_verdict, asks_by}
 use Rattle.sum_engine.specs.Runs.{World, is_dash, reply, digest_or_fault}
-use Rattle.sum_lines.specs.ParsedLines.{WithEntry}
+use Rattle.sum_lines.specs.ParsedLines.{entry}
 use Rattle.sum_engine.specs.refinement.Judging.{IsJudged, compared}
 use Rattle.sum_engine.specs.declared.asking.Asked.TheVariants as asked
 
@@ -21,8 +21,8 @@ by_asked : (ignore : Bool) (kind : KindValue) (d : List ℕ) (r : Reply) (a : As
     → verdict_by ignore kind d r ≡ compared ignore d a
 by_asked ignore kind d r (asked.Read x) h = rw (h.1, h.2, and-false) refl
 by_asked ignore kind d r (asked.Broken f) h = rw (h.1, h.2, and-false) refl
-by_asked ignore kind d r (asked.Refused NotFound) h = rw (h, and-true) refl
-by_asked ignore kind d r (asked.Refused f) h = rw (h, and-false) refl
+by_asked ignore kind d r (asked.NotOpened NotFound) h = rw (h, and-true) refl
+by_asked ignore kind d r (asked.NotOpened f) h = rw (h, and-false) refl
 
 -- a name that either verdict asks
 asks_either : (b : Bool) (x y : Verdict) (name : List ℕ) → asks_by x name ≡ name ∷ [] → asks_by y name ≡ name ∷ []
@@ -34,7 +34,7 @@ asks_either false x y name h k = k
 asks_compared : (ignore : Bool) (d : List ℕ) (a : Asked) (name : List ℕ)
     → asks_by (compared ignore d a) name ≡ name ∷ []
 asks_compared ignore d (asked.Read x) name = asks_either (bytes_eq x d) Right Wrong name refl refl
-asks_compared ignore d (asked.Refused NotFound) name = asks_either ignore Missing (Unread NotFound) name refl refl
+asks_compared ignore d (asked.NotOpened NotFound) name = asks_either ignore Missing (Unread NotFound) name refl refl
 asks_compared ignore d a name = refl
 
 -- so is the verdict of an entry
@@ -46,5 +46,5 @@ verdict_is r w s a dash h = search rules
 pub judged_entry : (r : Rules) (w v : Option World) (s : Spelled) (a : Asked) (verdict : Verdict)
     → r.from_stdin && is_dash s.name ≡ false → AskGives s.kind w v s.name (Some a)
     → verdict ≡ compared r.settings.ignore_missing s.digest a
-    → WhereTold w v (λ w v. IsJudged r w v (WithEntry s) verdict)
+    → WhereTold w v (λ w v. IsJudged r w v (entry s) verdict)
 judged_entry r w v s a verdict dash h is = search rules

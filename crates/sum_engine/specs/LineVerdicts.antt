@@ -1,6 +1,6 @@
 -- What judging the lines of a manifest gives, one after the other, with no text written.
 use Rattle.std.specs.Prelude.{ℕ, ◌≡◌, ◌≤◌, ◌<◌, ◌⊎◌, List, [], ◌∷◌, map, length, slice_range, Bool, true, false, is_none, Option, None, Some, Result, Ok, Err}
-use Rattle.sum_engine.specs.Runs.{Ending, Whole, Broken, Opens}
+use Rattle.sum_engine.specs.Runs.{Ending, Whole, Broken, open_name}
 pub use Rattle.sum_sources.specs.declared.lines.LineStop.{LineStop}
 use Rattle.sum_sources.specs.declared.lines.LineStop.TheVariants.{Fault, Memory}
 use Rattle.sum_sources.specs.Contents.{InputState, WhereTold, left_in}
@@ -35,7 +35,7 @@ pub record Names (vector : List ℕ) (v : LineVerdict) : Type 0 where
 -- a line was judged, which is the first of those that were to come; its name was opened, where its verdict asks that
 pub record Finds (r : Rules) (a b : Now) (j : Judged) : Type 0 where
   pub first : rest_verdicts r a ≡ j ∷ rest_verdicts r b
-  pub happened : Did a.known_state b.known_state (map Opens (asks_of j))
+  pub happened : Did a.known_state b.known_state (map open_name (asks_of j))
   pub counts : b.counts ≡ counts_with a.counts j.verdict
 
 -- none is to come, and the manifest ends so; nothing was opened, and nothing is left but that ending

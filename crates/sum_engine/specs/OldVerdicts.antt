@@ -8,7 +8,7 @@ use Rattle.sum_sources.specs.ManifestLines.{pieces}
 use Rattle.sum_engine.specs.Verdicts.{Form, lines_by, Rules, all_verdicts}
 use Rattle.sum_lines.specs.Escape.{Profile, present, escape, escape_by}
 use Rattle.sum_lines.specs.Shapes.{Plain, Tagged}
-use Rattle.sum_lines.specs.ParsedLines.{Improper, parse_line}
+use Rattle.sum_lines.specs.ParsedLines.{bad, parse_line}
 use Rattle.sum_engine.specs.Checking.{check_run_by}
 
 -- the profile of older versions
@@ -67,4 +67,4 @@ OldOutcomes = (r : Rules) (name : List ℕ) (w : World) (reply : Reply) → NoRe
 abbrev pub OlderDiffers : Type 0
 OlderDiffers = (escape_by older (codes "\r") ≡ codes "\r")
     × (lines_by older (record { bytes = codes "a\r\n"; ending = Whole }) ≡ codes "a\r" ∷ [])
-    × ((algos : Algos) (f : Form) → parse_line older algos f [] ≡ Improper)
+    × ((algos : Algos) (f : Form) → parse_line older algos f [] ≡ bad)

@@ -38,9 +38,9 @@ digest_or_fault kind (Ok c) = digest_unless_broken (clip c).ending (digest kind 
 
 -- a name is opened, where `-` is standard input; or a byte is written to standard error, or to standard output
 pub data Event : Type 0 where
-  Opens : List ℕ → Event
-  Tells : ℕ → Event
-  Puts : ℕ → Event
+  open_name : List ℕ → Event
+  write_err : ℕ → Event
+  write_out : ℕ → Event
 
 -- What is done between two moments at which a run may want memory: one name is opened or none, then a text is written
 -- to standard error, then one to standard output. `left` is how many bytes of a manifest are still to come before it.
@@ -56,22 +56,22 @@ pub record Run : Type 0 where
   pub good : Bool
 
 abbrev pub events_of : Step → List Event
-events_of s = map Opens s.names ++ (map Tells s.err ++ map Puts s.out)
+events_of s = map open_name s.names ++ (map write_err s.err ++ map write_out s.out)
 
 abbrev pub events : List Step → List Event
 events steps = flat_map events_of steps
 
 -- what of the events is of each kind
 abbrev pub name_in : Event → Option (List ℕ)
-name_in (Opens name) = Some name
+name_in (open_name name) = Some name
 name_in event = None
 
 abbrev pub err_in : Event → Option ℕ
-err_in (Tells b) = Some b
+err_in (write_err b) = Some b
 err_in event = None
 
 abbrev pub out_in : Event → Option ℕ
-out_in (Puts b) = Some b
+out_in (write_out b) = Some b
 out_in event = None
 
 abbrev pub run_then : Run → Run → Run

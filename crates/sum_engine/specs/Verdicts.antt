@@ -10,7 +10,7 @@ pub use Rattle.sum_engine.specs.declared.settings.CheckSettings.{CheckSettings}
 pub use Rattle.sum_engine.specs.declared.verdict.Verdict.{Verdict}
 pub use Rattle.sum_engine.specs.declared.verdict.Verdict.TheVariants.{Ignored, Bad, Right, Wrong, Missing, Unread}
 use Rattle.sum_lines.specs.Escape.{Profile}
-use Rattle.sum_lines.specs.ParsedLines.{ParsedLine, Nothing, Improper, WithEntry, parse_line}
+use Rattle.sum_lines.specs.ParsedLines.{ParsedLine, ignored, bad, entry, parse_line}
 
 -- what a manifest is checked by, the name under which it is shown, and whether it came from standard input
 pub record Rules : Type 0 where
@@ -43,9 +43,9 @@ verdict_of r w s = if r.from_stdin && is_dash s.name then Bad
 
 -- line n, which says this
 abbrev pub judge : Rules → World → ℕ → ParsedLine → Judged
-judge r w n Nothing = record { number = n; verdict = Ignored; name = [] }
-judge r w n Improper = record { number = n; verdict = Bad; name = [] }
-judge r w n (WithEntry s) = record { number = n; verdict = verdict_of r w s; name = s.name }
+judge r w n ignored = record { number = n; verdict = Ignored; name = [] }
+judge r w n bad = record { number = n; verdict = Bad; name = [] }
+judge r w n (entry s) = record { number = n; verdict = verdict_of r w s; name = s.name }
 
 -- the name of an entry is asked
 abbrev pub asks_by : Verdict → List ℕ → List (List ℕ)

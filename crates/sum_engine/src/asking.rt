@@ -12,7 +12,7 @@ pub(crate) enum Asked {
     /// It was read whole, and this is its digest.
     Read(Digest),
     /// It could not be opened.
-    Refused(Fault),
+    NotOpened(Fault),
     /// It was opened, and reading it failed.
     Broken(Fault),
 }
@@ -47,7 +47,7 @@ pub(crate) fn ask<I: Input + Drop, S: Source>(
     }
     match source.open_file(name) {
         Ok(file) => Some(read_digest(file, AnyHasher::new(kind), buffer)),
-        Err(OpenFault::Fault(fault)) => Some(Asked::Refused(fault)),
+        Err(OpenFault::Fault(fault)) => Some(Asked::NotOpened(fault)),
         Err(OpenFault::Memory) => None,
     }
 }

@@ -50,7 +50,7 @@ pub fn generate_one<I: Input + Drop, S: Source, O: Sink, E: Sink>(
             tell_line(&mut streams.out, settings, name, &digest)?;
             Ok(true)
         }
-        Some(Asked::Refused(fault)) => {
+        Some(Asked::NotOpened(fault)) => {
             put_fault_line(&mut streams.err, tool, name, fault)?;
             Ok(false)
         }

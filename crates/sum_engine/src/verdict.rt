@@ -3,7 +3,7 @@ ghost use Rattle.std.specs.Prelude.{◌≡◌, ◌||◌, MatchOption, is_none};
 ghost use Rattle.std.specs.List.{list_any};
 ghost use Rattle.sum_engine.specs.Runs.{is_dash};
 ghost use Rattle.sum_engine.specs.Verdicts.{asks_by};
-ghost use Rattle.sum_lines.specs.ParsedLines.{WithEntry};
+ghost use Rattle.sum_lines.specs.ParsedLines.{entry};
 ghost use Rattle.sum_engine.specs.LineVerdicts.{asking};
 ghost use Rattle.sum_engine.specs.refinement.Asking.{RefusedUnless, world_of};
 
@@ -61,7 +61,7 @@ pub(crate) fn judge<I: Input + Drop, S: Source>(
 ) -> Option<Verdict>
     ensures gives { WhereTold (world_of S.state (asking I.state stdin.old source.old))
         (world_of S.state (asking I.state stdin.new source.new))
-        (λ w v. JudgeOf (rules_in listing.now) w v (WithEntry (spelled_by listed.now)) result) }
+        (λ w v. JudgeOf (rules_in listing.now) w v (entry (spelled_by listed.now)) result) }
     ensures taken { MatchOption result (stdin.new ≡ stdin.old)
         (λ v. is_none stdin.new ≡ is_none stdin.old || list_any is_dash (asks_by v listed.now.name.now)) }
     ensures refusals { RefusedUnless (S.state source.old) (S.state source.new) result }
@@ -86,8 +86,8 @@ fn compare(asked: &Asked, digest: &Digest, ignore_missing: bool) -> Verdict
                 Verdict::Wrong
             }
         }
-        Asked::Refused(Fault::NotFound) if ignore_missing => Verdict::Missing,
-        Asked::Refused(fault) => Verdict::Unread(*fault),
+        Asked::NotOpened(Fault::NotFound) if ignore_missing => Verdict::Missing,
+        Asked::NotOpened(fault) => Verdict::Unread(*fault),
         Asked::Broken(fault) => Verdict::Unread(*fault),
     }
 }

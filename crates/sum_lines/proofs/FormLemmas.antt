@@ -5,7 +5,7 @@ use Rattle.digest_kinds.specs.declared.algo.Algos.{Algos}
 use Rattle.sum_lines.specs.Entries.{Form, Undecided, Standard, Reversed, form, form_then, line_form, form_of_tail, is_ignored_by, begins_standard}
 use Rattle.sum_lines.specs.Escape.{Profile}
 use Rattle.sum_lines.specs.PartsOfLines.{◌>>=◌, Parts, tagged_parts, plain_parts}
-use Rattle.sum_lines.specs.ParsedLines.{with_raw, entry_of_parts, entry_of, Nothing, Improper, WithEntry, parse_line}
+use Rattle.sum_lines.specs.ParsedLines.{with_raw, entry_of_parts, entry_of, ignored, bad, entry, parse_line}
 use Rattle.sum_lines.specs.LineLaws.{SameSaid, SameForm}
 use Rattle.sum_lines.proofs.PlainLemmas.{plain_is_read}
 use Rattle.sum_lines.proofs.EntryLemmas.{form_at}
@@ -30,7 +30,7 @@ pub said_stays : (p : Profile) (algos : Algos) (f g : Form) (line : List ℕ)
     ≡ parse_line p algos (form_then f (line_form algos line)) line
 unfolding entry_of
 said_stays p algos f g line =
-    ap (λ o. cond (is_ignored_by p line) Nothing (option_map_or WithEntry o Improper))
+    ap (λ o. cond (is_ignored_by p line) ignored (option_map_or entry o bad))
     (entry_stays p f g (tagged_parts algos line) (plain_parts algos line))
 
 -- what a line says is said of it and of the lines before it

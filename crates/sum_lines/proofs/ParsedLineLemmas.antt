@@ -7,7 +7,7 @@ use Rattle.sum_lines.specs.Shapes.{Algos, Plain}
 use Rattle.sum_lines.specs.Entries.{Form, Undecided, Standard, Reversed, Spelled, Entry, RawOf, begins_standard, is_ignored_by}
 use Rattle.sum_lines.specs.Escape.{Profile, present, escape_by}
 use Rattle.sum_lines.specs.PartsOfLines.{◌>>=◌, Parts, tagged_parts, plain_parts}
-use Rattle.sum_lines.specs.ParsedLines.{with_raw, entry_of_parts, entry_of, Nothing, Improper, WithEntry}
+use Rattle.sum_lines.specs.ParsedLines.{with_raw, entry_of_parts, entry_of, ignored, bad, entry}
 use Rattle.sum_lines.specs.LineLaws.{OneEntry, SaysIs}
 use Rattle.sum_lines.proofs.PrefixLemmas.{bind_some, none_of}
 use Rattle.sum_lines.proofs.PlainLemmas.{apart, plain_is_read, read_is_plain}
@@ -109,17 +109,17 @@ one_entry algos f line s t p q =
 
 -- what is said of a line, by whether it is ignored and its entry: nothing
 said-nothing : (skipped : Bool) (o : Option Spelled)
-    → cond skipped Nothing (option_map_or WithEntry o Improper) ≡ Nothing → skipped ≡ true
+    → cond skipped ignored (option_map_or entry o bad) ≡ ignored → skipped ≡ true
 said-nothing skipped o h = grind arith
 
 -- its entry
 said-entry : (skipped : Bool) (o : Option Spelled) (s : Spelled)
-    → cond skipped Nothing (option_map_or WithEntry o Improper) ≡ WithEntry s → (skipped ≡ false) × (o ≡ Some s)
+    → cond skipped ignored (option_map_or entry o bad) ≡ entry s → (skipped ≡ false) × (o ≡ Some s)
 said-entry skipped o s h = grind arith
 
 -- or that it is improper
 said-improper : (skipped : Bool) (o : Option Spelled)
-    → cond skipped Nothing (option_map_or WithEntry o Improper) ≡ Improper → (skipped ≡ false) × (o ≡ None)
+    → cond skipped ignored (option_map_or entry o bad) ≡ bad → (skipped ≡ false) × (o ≡ None)
 said-improper skipped o h = grind arith
 
 -- what a line says is computed, whichever the profile

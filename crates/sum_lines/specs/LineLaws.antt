@@ -7,7 +7,7 @@ use Rattle.sum_lines.specs.Entries.{Form, Undecided, Standard, Spelled, Entry, I
 use Rattle.sum_lines.specs.Lines.{Mode, line}
 use Rattle.sum_lines.specs.declared.line_format.Mode.TheVariants.{Tag}
 use Rattle.sum_lines.specs.Escape.{Profile, escape, escape_by}
-use Rattle.sum_lines.specs.ParsedLines.{Nothing, Improper, WithEntry, parse_line}
+use Rattle.sum_lines.specs.ParsedLines.{ignored, bad, entry, parse_line}
 
 -- for given algorithms and a given form a line spells at most one entry
 abbrev pub OneEntry : Type 0
@@ -26,10 +26,10 @@ OneForm = (algos : Algos) (lines : List (List ℕ)) (f : Form) → IsForm algos 
 -- what a line says, whichever the profile: nothing where it is ignored; otherwise its entry or, where it has none, that
 -- it is improper
 pub record SaysOf (p : Profile) (algos : Algos) (f : Form) (line : List ℕ) : Type 0 where
-  pub when_ignored : (parse_line p algos f line ≡ Nothing) ↔ (is_ignored_by p line ≡ true)
-  pub when_entry : (s : Spelled) → (parse_line p algos f line ≡ WithEntry s)
+  pub when_ignored : (parse_line p algos f line ≡ ignored) ↔ (is_ignored_by p line ≡ true)
+  pub when_entry : (s : Spelled) → (parse_line p algos f line ≡ entry s)
       ↔ ((is_ignored_by p line ≡ false) × Entry (escape_by p) algos f line s)
-  pub when_bad : (parse_line p algos f line ≡ Improper)
+  pub when_bad : (parse_line p algos f line ≡ bad)
       ↔ ((is_ignored_by p line ≡ false) × ((s : Spelled) → ¬ Entry (escape_by p) algos f line s))
 
 abbrev pub SaysIs : Type 0

@@ -39,20 +39,20 @@ entry_of p algos f line =
 
 -- what a line says: nothing, an entry, or something improper
 pub data ParsedLine : Type 0 where
-  Nothing : ParsedLine
-  Improper : ParsedLine
-  WithEntry : Spelled → ParsedLine
+  ignored : ParsedLine
+  bad : ParsedLine
+  entry : Spelled → ParsedLine
 
 abbrev pub parse_line : Profile → Algos → Form → List ℕ → ParsedLine
 parse_line p algos f line =
-    if is_ignored_by p line then Nothing else option_map_or WithEntry (entry_of p algos f line) Improper
+    if is_ignored_by p line then ignored else option_map_or entry (entry_of p algos f line) bad
 
 -- what a reading says, whose name stands in the line's vector
 abbrev pub parsed_line_by : List ℕ → Reading → ParsedLine
-parsed_line_by line readings.Ignored = Nothing
-parsed_line_by line readings.Bad = Improper
+parsed_line_by line readings.Ignored = ignored
+parsed_line_by line readings.Bad = bad
 parsed_line_by line (readings.Entry kind digest start stop) =
-    WithEntry (record { kind = kind; digest = digest; name = slice_range line start stop })
+    entry (record { kind = kind; digest = digest; name = slice_range line start stop })
 
 -- the name stands in the line, and the digest is as long as the kind's
 abbrev pub Within : List ℕ → Reading → Type 0

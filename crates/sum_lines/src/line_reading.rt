@@ -4,7 +4,7 @@ ghost use Rattle.std.specs.Prelude.{◌≡◌, ◌≤◌, None, Some, drop, if�
 ghost use Rattle.std.specs.List.{list_all};
 ghost use Rattle.std.specs.Option.{option_and_then, option_map_or};
 ghost use Rattle.sum_lines.specs.Entries.{begins_standard, form_of_tail, form_then, is_ignored, line_form};
-ghost use Rattle.sum_lines.specs.ParsedLines.{Improper, WithEntry, entry_of, entry_of_parts, parse_line, unescape};
+ghost use Rattle.sum_lines.specs.ParsedLines.{bad, entry, entry_of, entry_of_parts, parse_line, unescape};
 ghost use Rattle.sum_lines.specs.ParsedLines.{with_raw, Within, parsed_line_by};
 ghost use Rattle.sum_lines.specs.Escape.{present};
 ghost use Rattle.sum_lines.specs.refinement.Beginnings.{LeadsTo};
@@ -93,7 +93,7 @@ fn read_begun<A: Allocator>(
     requires { LeadsTo algos line.old.items beginning }
     ensures form { result.1 ≡ form_then form (line_form algos line.old.items) }
     ensures says { parsed_line_by line.new.items result.0
-        ≡ option_map_or WithEntry (entry_of present algos result.1 line.old.items) Improper }
+        ≡ option_map_or entry (entry_of present algos result.1 line.old.items) bad }
     ensures within { Within line.new.items result.0 }
     ensures len { vec_len line.new ≤ vec_len line.old }
 {
@@ -125,8 +125,8 @@ fn read_tail<A: Allocator>(form: Form, line: &mut Vec<u8, A>, found: LineParts) 
     requires ordered { found.start ≤ found.stop }
     requires within { found.stop ≤ length line.old.items }
     ensures form { result.1 ≡ form_then form (form_of_tail (line_parts line.old.items found).text) }
-    ensures says { parsed_line_by line.new.items result.0 ≡ option_map_or WithEntry
-        (option_and_then (entry_of_parts present) (with_raw result.1 (line_parts line.old.items found))) Improper }
+    ensures says { parsed_line_by line.new.items result.0 ≡ option_map_or entry
+        (option_and_then (entry_of_parts present) (with_raw result.1 (line_parts line.old.items found))) bad }
     ensures within { Within line.new.items result.0 }
     ensures len { vec_len line.new ≤ vec_len line.old }
 {
@@ -166,7 +166,7 @@ fn read_name<A: Allocator>(line: &mut Vec<u8, A>, found: LineParts) -> Reading
     requires ordered { found.start ≤ found.stop }
     requires within { found.stop ≤ length line.old.items }
     ensures says { parsed_line_by line.new.items result
-        ≡ option_map_or WithEntry (entry_of_parts present (line_parts line.old.items found)) Improper }
+        ≡ option_map_or entry (entry_of_parts present (line_parts line.old.items found)) bad }
     ensures within { Within line.new.items result }
     ensures len { vec_len line.new ≤ vec_len line.old }
 {

@@ -33,7 +33,7 @@ pub enum LineStop {
 
 #[derive(Clone, Copy, Debug, PartialEq, Eq)]
 enum State {
-    Reading,
+    Active,
     Ended,
     Stopped(LineStop),
 }
@@ -93,7 +93,7 @@ impl<I: Input> LineReader<I> {
             start: 0,
             end: 0,
             lines: 0,
-            state: State::Reading,
+            state: State::Active,
         }
     }
 
@@ -227,7 +227,7 @@ impl<I: Input> LineReader<I> {
         match self.state {
             State::Ended => return Ok(Next::NoMore),
             State::Stopped(stop) => return Err(stop),
-            State::Reading => {}
+            State::Active => {}
         }
         line.clear();
         let result = self.read_on(line);

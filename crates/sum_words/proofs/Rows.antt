@@ -12,7 +12,7 @@ use Rattle.sum_words.specs.Items.{Long, Short, Text, name_or_fault, option_of_le
 use Rattle.sum_words.specs.Tools.{Tool, tool_called}
 use Rattle.sum_words.specs.declared.tool.Tool.TheVariants.{Md5sum, Sha256sum, B2sum, Anysum}
 use Rattle.sum_words.specs.WordFaults.{Fault, unknown_long, ambiguous_long, value_not_allowed, value_missing, unknown_short, length_invalid, length_not_bytes, tag_with_text, zero_with_check, tag_with_check, mode_with_check, without_check, check_needed}
-use Rattle.sum_words.specs.CommandLines.{unknown, call, last_part, command_line, NeedsMemory, MayNotRead}
+use Rattle.sum_words.specs.CommandLines.{unknown_tool, invoke, last_part, command_line, NeedsMemory, MayNotRead}
 use Rattle.sum_words.specs.declared.command_line.TheConstants.{PAGE}
 use Rattle.sum_lines.specs.declared.line_format.Mode.TheVariants as modes
 use Rattle.sum_engine.specs.declared.settings.Report.TheVariants as reports
@@ -107,9 +107,9 @@ odd_words :
     (request Md5sum (codes "a" ∷ (233 ∷ []) ∷ codes "--" ∷ (255 ∷ []) ∷ [])
     ≡ writes Md5 16 modes.Text (codes "a" ∷ (233 ∷ []) ∷ (255 ∷ []) ∷ []))
     × (request B2sum (codes "-l" ∷ (255 ∷ []) ∷ []) ≡ Err (length_invalid (255 ∷ [])))
-    × (command_line (codes "digests" ∷ codes "md5sum" ∷ (233 ∷ []) ∷ []) ≡ Some (call Md5sum ((233 ∷ []) ∷ [])))
+    × (command_line (codes "digests" ∷ codes "md5sum" ∷ (233 ∷ []) ∷ []) ≡ Some (invoke Md5sum ((233 ∷ []) ∷ [])))
     × (command_line (codes "md5sum" ∷ codes "a" ∷ (45 ∷ 255 ∷ []) ∷ []) ≡ None)
-    × (command_line (codes "digests" ∷ (255 ∷ []) ∷ []) ≡ Some unknown)
+    × (command_line (codes "digests" ∷ (255 ∷ []) ∷ []) ≡ Some unknown_tool)
 unfolding chars encode name_or_fault option_of_letter tool_called is_utf8
 odd_words = (refl, refl, refl, refl, refl)
 

@@ -12,8 +12,8 @@ last_part path = after_last (λ b. b == 47) path
 
 -- what a command line calls for: an unknown tool, or this one on these words
 pub data Call : Type 0 where
-  unknown : Call
-  call : Tool → List Text → Call
+  unknown_tool : Call
+  invoke : Tool → List Text → Call
 
 -- the tool and its words: all of them, where the program was called by a tool's name; else the first names the tool
 abbrev pub tool_and_words : List Text → Option Tool × List Text
@@ -24,7 +24,7 @@ tool_and_words all =
 -- nothing, where a word that begins with a dash is not UTF-8
 abbrev pub command_line : List Text → Option Call
 command_line all = if list_all is_readable (drop 1 all)
-    then Some (option_map_or (λ tool. call tool (tool_and_words all).1) (tool_and_words all).0 unknown) else None
+    then Some (option_map_or (λ tool. invoke tool (tool_and_words all).1) (tool_and_words all).0 unknown_tool) else None
 
 -- memory is needed for the words: there is one to keep, or an argument is longer than the page that it is read into
 abbrev pub NeedsMemory : List Text → Type 0

@@ -25,7 +25,7 @@ pub enum CommandLine<A: Allocator> {
     /// No tool, or one that there isn't.
     UnknownTool,
     /// This tool, on these words.
-    Asks(Tool, Words<A>),
+    Invoke(Tool, Words<A>),
 }
 
 /// Reads the command line. The last part of the name by which the program was called is the tool's, where it is one;
@@ -51,7 +51,7 @@ pub fn read_command_line<A: Allocator + Copy, G: Arguments>(
     }
     let words = words_from(alloc, arguments, first, &mut room)?;
     match tool {
-        Some(tool) => Ok(CommandLine::Asks(tool, words)),
+        Some(tool) => Ok(CommandLine::Invoke(tool, words)),
         None => Ok(CommandLine::UnknownTool),
     }
 }

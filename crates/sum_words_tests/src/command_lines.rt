@@ -23,7 +23,7 @@ fn assert_asks(
     (want, first): (Tool, &[u8]),
 ) -> Result<(), Fail> {
     match read_command_line(rt.alloc(), &ToldArguments::new(arguments)) {
-        Ok(CommandLine::Asks(tool, words)) => {
+        Ok(CommandLine::Invoke(tool, words)) => {
             assert_eq!(rt; tool, want);
             assert_eq!(rt; words.get(0), Some(first));
             Ok(())
@@ -53,7 +53,7 @@ fn no_words(rt: HostRuntime) -> Result<(), Fail> {
     }
     let named = [b"/bin/md5sum".as_slice()];
     match read_command_line(rt.alloc(), &ToldArguments::new(&named)) {
-        Ok(CommandLine::Asks(tool, words)) => {
+        Ok(CommandLine::Invoke(tool, words)) => {
             assert_eq!(rt; tool, Tool::Md5sum);
             assert_eq!(rt; words.get(0), None);
             Ok(())

@@ -20,13 +20,13 @@ world_of state m = world_by (state m.source).known m.input
 -- what came of a reply
 abbrev pub IsAsked : KindValue → Reply → Asked → Type 0
 IsAsked kind r (asked.Read d) = (c : Content) × (r ≡ Ok c) × (digest_or_fault kind (Ok c) ≡ Ok d)
-IsAsked kind r (asked.Refused f) = r ≡ Err f
+IsAsked kind r (asked.NotOpened f) = r ≡ Err f
 IsAsked kind r (asked.Broken f) = (c : Content) × (r ≡ Ok c) × (digest_or_fault kind (Ok c) ≡ Err f)
 
 -- what was read of a content
 abbrev pub IsRead : KindValue → Content → Asked → Type 0
 IsRead kind c (asked.Read d) = digest_or_fault kind (Ok c) ≡ Ok d
-IsRead kind c (asked.Refused f) = ⊥
+IsRead kind c (asked.NotOpened f) = ⊥
 IsRead kind c (asked.Broken f) = digest_or_fault kind (Ok c) ≡ Err f
 
 -- the name was asked, and this came of it; without memory it wasn't asked
@@ -41,7 +41,7 @@ AskGives kind w v name r = WhereTold w v (λ w v. AskOf kind w v name r)
 abbrev pub Sized : KindValue → Option Asked → Type 0
 Sized kind None = ⊤
 Sized kind (Some (asked.Read d)) = length d ≡ kind.len
-Sized kind (Some (asked.Refused f)) = ⊤
+Sized kind (Some (asked.NotOpened f)) = ⊤
 Sized kind (Some (asked.Broken f)) = ⊤
 
 -- the source was refused memory, once, where nothing is answered

@@ -5,7 +5,7 @@ use Rattle.sum_lines.specs.Entries.{Spelled, form_then, line_form}
 use Rattle.sum_engine.specs.declared.verdict.Listed.{Listed}
 use Rattle.sum_engine.specs.declared.asking.Asked.{Asked}
 use Rattle.sum_engine.specs.Verdicts.{Verdict, Right, Wrong, Missing, Unread, Rules, judge, asks_by, asks_of}
-use Rattle.sum_lines.specs.ParsedLines.{ParsedLine, Nothing, Improper, WithEntry, parse_line}
+use Rattle.sum_lines.specs.ParsedLines.{ParsedLine, ignored, bad, entry, parse_line}
 use Rattle.sum_engine.specs.Runs.{World, after}
 use Rattle.sum_engine.specs.Reports.{Counts, counts_with}
 use Rattle.sum_engine.specs.LineVerdicts.{LineVerdict, judged_in}
@@ -18,16 +18,16 @@ spelled_by l = record { kind = l.kind; digest = l.digest.now; name = l.name.now 
 
 -- the name in what a line says, or nothing
 abbrev pub name_said : ParsedLine → List ℕ
-name_said Nothing = []
-name_said Improper = []
-name_said (WithEntry s) = s.name
+name_said ignored = []
+name_said bad = []
+name_said (entry s) = s.name
 
 -- the verdict by what came of asking the name
 abbrev pub compared : Bool → List ℕ → Asked → Verdict
 compared ignore d (asked.Read found) = if bytes_eq found d then Right else Wrong
-compared ignore d (asked.Refused NotFound) = if ignore then Missing else Unread NotFound
-compared ignore d (asked.Refused Denied) = Unread Denied
-compared ignore d (asked.Refused Other) = Unread Other
+compared ignore d (asked.NotOpened NotFound) = if ignore then Missing else Unread NotFound
+compared ignore d (asked.NotOpened Denied) = Unread Denied
+compared ignore d (asked.NotOpened Other) = Unread Other
 compared ignore d (asked.Broken f) = Unread f
 
 -- a line that says this has this verdict, whatever its number, and its name was asked where that asks it

@@ -5,14 +5,14 @@ use Rattle.sum_sources.specs.declared.input.TheConstants.{PIECE}
 use Rattle.sum_sources.specs.Contents.{Fault, Broken, Content, empty_content}
 use Rattle.sum_sources.specs.declared.lines.LineReader.TheInside.{Inside}
 use Rattle.sum_sources.specs.declared.lines.State.{State}
-use Rattle.sum_sources.specs.declared.lines.State.TheVariants.{Reading, Ended, Stopped}
+use Rattle.sum_sources.specs.declared.lines.State.TheVariants.{Active, Ended, Stopped}
 use Rattle.sum_sources.specs.ManifestLines.{Next, NoMore, LineStop, NoNewline}
 use Rattle.sum_sources.specs.LineReaders.{Reader}
 use Rattle.sum_sources.specs.declared.lines.LineStop.TheVariants as stops
 
 -- what every later call answers again
 abbrev pub answer_at : State → Option (Result Next LineStop)
-answer_at Reading = None
+answer_at Active = None
 answer_at Ended = Some (Ok NoMore)
 answer_at (Stopped e) = Some (Err e)
 

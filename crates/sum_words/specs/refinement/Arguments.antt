@@ -6,8 +6,8 @@ use Rattle.std.specs.declared.env.FillError.TheVariants.{NotPresent, TooLong}
 use Rattle.sum_words.specs.Tools.{Tool, tool_called}
 use Rattle.sum_words.specs.declared.command_line.CommandLine.{CommandLine}
 use Rattle.sum_words.specs.Items.{Text, is_readable}
-use Rattle.sum_words.specs.declared.command_line.CommandLine.TheVariants.{UnknownTool, Asks}
-use Rattle.sum_words.specs.CommandLines.{Call, unknown, call, last_part, command_line, MayNotRead}
+use Rattle.sum_words.specs.declared.command_line.CommandLine.TheVariants.{UnknownTool, Invoke}
+use Rattle.sum_words.specs.CommandLines.{Call, unknown_tool, invoke, last_part, command_line, MayNotRead}
 
 -- what one call does: the argument at the place stands in front of the buffer; there is none; or it is longer
 abbrev pub Fills : Option (List Text) → ℕ → List ℕ → Result ℕ FillError → Type 0
@@ -49,8 +49,8 @@ WordsUpTo told first place words =
 
 -- what the program's value calls for
 abbrev pub call_of : {A : Type 0} → CommandLine A → Call
-call_of UnknownTool = unknown
-call_of (Asks tool words) = call tool words
+call_of UnknownTool = unknown_tool
+call_of (Invoke tool words) = invoke tool words
 
 abbrev pub CallIs : Option (List Text) → Call → Type 0
 CallIs told c = IfSome told (λ all. command_line all ≡ Some c)

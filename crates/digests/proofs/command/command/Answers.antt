@@ -1,7 +1,7 @@
 use Rattle.std.proofs.Common.{Some, None, sym, subst}
 use Rattle.sum_engine.proofs.RunStateLemmas.{Runs}
 use Rattle.sum_engine.specs.Moments.{Moment, HoldNothing, Failures}
-use Rattle.sum_words.specs.CommandLines.{call, unknown}
+use Rattle.sum_words.specs.CommandLines.{invoke, unknown_tool}
 use Rattle.digests.specs.Meaning.{status_of}
 use Rattle.digests.specs.Program.{run_of}
 use Rattle.digests.proofs.OneTextLemmas.{told_on_err}
@@ -9,10 +9,10 @@ use Rattle.digests.proofs.ProgramLemmas.{program_ends, program_told, program_rea
 use Rattle.digests.proofs.command.command.Goals as goal
 
 -- the tool was run
-pub returns-in-Ok-Asks-clause-gives : goal.returns-in-Ok-Asks-clause-gives
-returns-in-Ok-Asks-clause-gives g c =
-    let line = call c.in-Ok-Asks.tool c.in-Ok-Asks.words in
-    let read = rw c.in-Ok-Asks.field-0-is at c.in-Ok-Asks.ensures.line in
+pub returns-in-Ok-Invoke-clause-gives : goal.returns-in-Ok-Invoke-clause-gives
+returns-in-Ok-Invoke-clause-gives g c =
+    let line = invoke c.in-Ok-Invoke.tool c.in-Ok-Invoke.words in
+    let read = rw c.in-Ok-Invoke.field-0-is at c.in-Ok-Invoke.ensures.line in
     let first = c.args.streams.now in
     let ran = c.run-answer.ensures in
     let answer = c.run-answer.result in
@@ -30,8 +30,8 @@ returns-in-Ok-UnknownTool-clause-gives g c =
     let closed = rw c.status_once-answer.ensures at c.close-in-Ok-UnknownTool.ensures.gives in
     let told = c.tell.ensures in
     rw (← c.streams-in-Ok-UnknownTool.view_is) (λ hold. program_read g.S.Source.state _ _
-    c.close-in-Ok-UnknownTool.result _ unknown read
-    (program_told g.S.Source.state c.close-in-Ok-UnknownTool.result (Some unknown) _ _ _ _ _ c.tell.result hold told
+    c.close-in-Ok-UnknownTool.result _ unknown_tool read
+    (program_told g.S.Source.state c.close-in-Ok-UnknownTool.result (Some unknown_tool) _ _ _ _ _ c.tell.result hold told
     (told_on_err g.S.Source.state _ _ _ c.tell.result hold.1 told) closed))
 
 -- the words couldn't be read: another line says so

@@ -40,26 +40,26 @@ returns-in_ok-tell_line-in-Some-Read-clause-gives g c =
     (Appends-nil _, (c.in_ok-tell_line-in-Some-Read.ensures.1 hold.0).1))
 
 -- the name could not be opened, and the line of its fault failed
-pub returns-in_err-put_fault_line-in-Some-Refused-clause-gives :
-    goal.returns-in_err-put_fault_line-in-Some-Refused-clause-gives
-returns-in_err-put_fault_line-in-Some-Refused-clause-gives g c =
-    let back = c.from_residual-in_err-put_fault_line-in-Some-Refused in
+pub returns-in_err-put_fault_line-in-Some-NotOpened-clause-gives :
+    goal.returns-in_err-put_fault_line-in-Some-NotOpened-clause-gives
+returns-in_err-put_fault_line-in-Some-NotOpened-clause-gives g c =
+    let back = c.from_residual-in_err-put_fault_line-in-Some-NotOpened in
     let stop = err_from_is_err_and back.result back.ensures.1 in
-    let done = c.in-Some-Refused.ensures in
-    let gives = rw c.in-Some-Refused.field-0-is at done.gives in
+    let done = c.in-Some-NotOpened.ensures in
+    let gives = rw c.in-Some-NotOpened.field-0-is at done.gives in
     rw (stop.1, stop.2, ← c.streams.view_is) (λ hold. told g.S.Source.state c.args.settings.now c.args.tool.now
-    c.args.name.now _ _ _ _ _ (asked.Refused c.in-Some-Refused.fault) (Err tt) gives done.taken done.refusals refl
-    (inl ((c.in_err-put_fault_line-in-Some-Refused.ensures.1 hold.1).1, refl)))
+    c.args.name.now _ _ _ _ _ (asked.NotOpened c.in-Some-NotOpened.fault) (Err tt) gives done.taken done.refusals refl
+    (inl ((c.in_err-put_fault_line-in-Some-NotOpened.ensures.1 hold.1).1, refl)))
 
 -- that line was handed on
-pub returns-in_ok-put_fault_line-in-Some-Refused-clause-gives :
-    goal.returns-in_ok-put_fault_line-in-Some-Refused-clause-gives
-returns-in_ok-put_fault_line-in-Some-Refused-clause-gives g c =
-    let done = c.in-Some-Refused.ensures in
-    let gives = rw c.in-Some-Refused.field-0-is at done.gives in
+pub returns-in_ok-put_fault_line-in-Some-NotOpened-clause-gives :
+    goal.returns-in_ok-put_fault_line-in-Some-NotOpened-clause-gives
+returns-in_ok-put_fault_line-in-Some-NotOpened-clause-gives g c =
+    let done = c.in-Some-NotOpened.ensures in
+    let gives = rw c.in-Some-NotOpened.field-0-is at done.gives in
     rw (← c.streams.view_is) (λ hold. told g.S.Source.state c.args.settings.now c.args.tool.now
-    c.args.name.now _ _ _ _ _ (asked.Refused c.in-Some-Refused.fault) (Ok tt) gives done.taken done.refusals refl
-    ((c.in_ok-put_fault_line-in-Some-Refused.ensures.1 hold.1).1, Appends-nil _))
+    c.args.name.now _ _ _ _ _ (asked.NotOpened c.in-Some-NotOpened.fault) (Ok tt) gives done.taken done.refusals refl
+    ((c.in_ok-put_fault_line-in-Some-NotOpened.ensures.1 hold.1).1, Appends-nil _))
 
 -- the name could not be read to its end, and the line of its fault failed
 pub returns-in_err-put_fault_line-in-Some-Broken-clause-gives :
