@@ -3,7 +3,7 @@ use Rattle.std.proofs.Common.{◌≡◌, ℕ, zero, suc, ◌-◌, ◌*◌, ◌/�
 use Rattle.std.specs.Int.{rotate_right}
 use Rattle.std.specs.Simd.Lanes.{zip2}
 use Rattle.blake2b_core.specs.Compression.{◌!◌, ◌⊻◌, ◌⋙◌, mix}
-use Rattle.blake2b_core.specs.refinement.Columns.{columns, diagonals, row, turned, word, words}
+use Rattle.blake2b_core.specs.refinement.Columns.{columns, diagonals, row, rotated_row, word, words}
 
 -- what holds of each of the four lanes
 below_four : (P : ℕ → Type 0) → P 0 → P 1 → P 2 → P 3 → (j : ℕ) → j < 4 → P j
@@ -62,9 +62,9 @@ columns-rows r v x y mixes =
 -- four diagonals, as the columns of rows of which all but the second are turned against it (a, c and d), and turned
 -- back (a', c' and d')
 pub diagonals-rows : {a c d x' y' a' c' d' : List ℕ} (v r : List (List ℕ)) (x y : List ℕ)
-    → a ≡ turned (row v 0) 3 → c ≡ turned (row v 2) 1 → d ≡ turned (row v 3) 2 → x' ≡ turned x 3 → y' ≡ turned y 3
+    → a ≡ rotated_row (row v 0) 3 → c ≡ rotated_row (row v 2) 1 → d ≡ rotated_row (row v 3) 2 → x' ≡ rotated_row x 3 → y' ≡ rotated_row y 3
     → words r ≡ columns (words (a ∷ row v 1 ∷ c ∷ d ∷ [])) x' y'
-    → a' ≡ turned (row r 0) 1 → c' ≡ turned (row r 2) 3 → d' ≡ turned (row r 3) 2
+    → a' ≡ rotated_row (row r 0) 1 → c' ≡ rotated_row (row r 2) 3 → d' ≡ rotated_row (row r 3) 2
     → words (a' ∷ row r 1 ∷ c' ∷ d' ∷ []) ≡ diagonals (words v) x y
 unfolding mix columns diagonals
 diagonals-rows v r x y a_is c_is d_is x_is y_is mixed a_back c_back d_back =

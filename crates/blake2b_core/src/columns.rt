@@ -2,7 +2,7 @@
 //! that each is a lane of four vectors, the rows of the working vector.
 ghost use Rattle.std.specs.Prelude.{◌≡◌, ℕ, ◌<◌};
 ghost use Rattle.blake2b_core.specs.Compression.{◌!◌, ◌⊞◌, ◌⊻◌, ◌⋙◌};
-ghost use Rattle.blake2b_core.specs.refinement.Columns.{columns, diagonals, turned, words};
+ghost use Rattle.blake2b_core.specs.refinement.Columns.{columns, diagonals, rotated_row, words};
 
 use std::simd::u64x4;
 
@@ -46,7 +46,7 @@ pub(crate) fn mixed_columns(v: [u64x4; 4], x: u64x4, y: u64x4) -> [u64x4; 4]
 fn turned(row: u64x4, places: usize) -> u64x4
     requires some { 0 < places }
     requires few { places < 4 }
-    ensures { result ≡ turned row places }
+    ensures { result ≡ rotated_row row places }
 {
     match places {
         1 => row.rotate_elements_left::<1>(),

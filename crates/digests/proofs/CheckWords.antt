@@ -12,8 +12,8 @@ use Rattle.sum_words.specs.declared.request.Request.{Request}
 use Rattle.sum_words.specs.declared.request.Request.TheVariants.{Work}
 use Rattle.sum_words.specs.declared.request.Job.TheVariants.{Check}
 use Rattle.sum_words.specs.Tools.{algos_of}
-use Rattle.sum_words.specs.WordFaults.{Fault}
-use Rattle.sum_words.specs.Items.{Text, Item, option, operand, a_word, items_from, full_name, flags_of, takes_value, name_part, value_part, name_or_fault, option_in, value_in, operand_in}
+use Rattle.sum_words.specs.WordFaults.{WordFaultValue}
+use Rattle.sum_words.specs.Items.{ByteString, ItemValue, option, operand, a_word, items_from, full_name, flags_of, takes_value, name_part, value_part, name_or_fault, option_in, value_in, operand_in}
 use Rattle.sum_words.specs.PlainWords.{is_plain}
 use Rattle.sum_words.proofs.PlainWordLemmas.{plain_words}
 use Rattle.digests.specs.GenerationRuns.{check_options, check_words, ChecksBy}
@@ -47,13 +47,13 @@ unfolding name_or_fault
 long_name t flag h = rw (named t flag h) refl
 
 -- it is that option
-long_word : (t : Tool) (flag : Flag) (more : List Text) → takes_none flag ≡ true
+long_word : (t : Tool) (flag : Flag) (more : List ByteString) → takes_none flag ≡ true
     → items_from t a_word ((codes "--" ++ full_name flag) ∷ more) ≡ option flag ∷ items_from t a_word more
 long_word t flag more h =
     let long = is-long flag h in
     rw (long.3, long.1, long.2, long_name t flag h, long.0) refl
 
-long_words : (t : Tool) (fs : List Flag) (more : List Text) → list_all takes_none fs ≡ true
+long_words : (t : Tool) (fs : List Flag) (more : List ByteString) → list_all takes_none fs ≡ true
     → items_from t a_word (map (λ f. codes "--" ++ full_name f) fs ++ more) ≡ map option fs ++ items_from t a_word more
 long_words t [] more all = refl
 long_words t (flag ∷ fs) more all =
@@ -64,7 +64,7 @@ long_words t (flag ∷ fs) more all =
 -- ---- the words of a check
 
 -- they are those options and an operand
-items-are : (t : Tool) (check : CheckSettings) (manifest : Text) → list_all takes_none (check_options check) ≡ true
+items-are : (t : Tool) (check : CheckSettings) (manifest : ByteString) → list_all takes_none (check_options check) ≡ true
     → is_plain manifest ≡ true
     → items_from t a_word (check_words check manifest) ≡ map option (check_options check) ++ operand manifest ∷ []
 items-are t check manifest all plain =
@@ -73,7 +73,7 @@ items-are t check manifest all plain =
     (All-cons (λ w. is_plain w ≡ true) manifest [] plain (All-nil (λ w. is_plain w ≡ true))))
 
 -- what items ask for
-abbrev asked : Tool → List Item → Result Request Fault
+abbrev asked : Tool → List ItemValue → Result Request WordFaultValue
 asked t xs = unwrap_or (early_answer xs) (result_map_both (λ job. Work job (filter_map operand_in xs)) (λ f. f)
     (job_or_fault (algos_of t) (kind_asked (filter_map value_in xs)) (filter_map option_in xs)))
 
@@ -81,7 +81,7 @@ abbrev settings : Tool → Report → Bool → Bool → CheckSettings
 settings t r s i = record { algos = algos_of t; report = r; strict = s; ignore_missing = i }
 
 -- no option of a check takes a value, and what they ask for is the check
-checked : (t : Tool) (m : Text) (r : Report) (s i : Bool)
+checked : (t : Tool) (m : ByteString) (r : Report) (s i : Bool)
     → (list_all takes_none (check_options (settings t r s i)) ≡ true)
     × (asked t (map option (check_options (settings t r s i)) ++ operand m ∷ [])
     ≡ Ok (Work (Check (settings t r s i)) (m ∷ [])))
@@ -103,7 +103,7 @@ checked t m reports.Status true false = (refl, refl)
 checked t m reports.Status true true = (refl, refl)
 
 -- so the words ask for the check
-pub request-check_words : (t : Tool) (check : CheckSettings) (manifest : Text) → ChecksBy t check manifest
+pub request-check_words : (t : Tool) (check : CheckSettings) (manifest : ByteString) → ChecksBy t check manifest
     → request t (check_words check manifest) ≡ Ok (Work (Check check) (manifest ∷ []))
 request-check_words t check manifest h =
     let is = checked t manifest check.report check.strict check.ignore_missing in

@@ -1,40 +1,40 @@
 -- The end of a program: a run that answered, both outputs flushed once more, and the line for a stop.
 use Rattle.std.proofs.Common.{rules, ◌≡◌, ℕ, [], ◌∷◌, ◌++◌, Option, None, Some, Result, Ok, Err, refl, ap, ◌∙◌, inl, inr, append-nil}
 use Rattle.std.specs.Io.KnownBytes.{Keeps, Appends}
-use Rattle.sum_lines.specs.Sinks.{SinkState, Dropped}
+use Rattle.sum_lines.specs.Sinks.{SinkState, FlushFailed}
 use Rattle.sum_engine.specs.declared.stop.Stop.{Stop}
 use Rattle.sum_engine.specs.declared.stop.Stop.TheVariants.{Memory, Write}
-use Rattle.sum_engine.specs.refinement.Telling.{HandsOn}
-use Rattle.sum_words.specs.Items.{Text}
-use Rattle.digests.specs.Program.{HandsOnLine}
-use Rattle.digests.specs.refinement.Endings.{Settles, Closes}
+use Rattle.sum_engine.specs.refinement.Telling.{WritesAndFlushes}
+use Rattle.sum_words.specs.Items.{ByteString}
+use Rattle.digests.specs.Program.{WritesLine}
+use Rattle.digests.specs.refinement.Endings.{FlushesBoth, FinishesRun}
 
 -- nothing has no prefix but nothing
-no_prefix : (prefix rest : Text) → [] ≡ prefix ++ rest → prefix ≡ []
+no_prefix : (prefix rest : ByteString) → [] ≡ prefix ++ rest → prefix ≡ []
 no_prefix [] rest h = refl
 no_prefix (b ∷ bs) rest h = cc
 
 -- a flush of a sink that holds nothing hands on nothing
-pub flushed-none : (a b : Option Text) {held : Text} → Appends a b held → held ≡ [] → Keeps a b
+pub flushed-none : (a b : Option ByteString) {held : ByteString} → Appends a b held → held ≡ [] → Keeps a b
 flushed-none None b h none = tt
 flushed-none (Some x) None h none = h
 flushed-none (Some x) (Some y) h none = h ∙ ap (λ l. x ++ l) none ∙ append-nil x
 
 -- also where it fails
-pub dropped-none : (a b : SinkState) → Dropped a b → a.buffered ≡ [] → Keeps a.written b.written
+pub dropped-none : (a b : SinkState) → FlushFailed a b → a.buffered ≡ [] → Keeps a.written b.written
 dropped-none a b h none =
     flushed-none a.written b.written h.written.2 (no_prefix h.written.0 h.written.1.0 (rw none at h.written.1.1))
 
 -- the line for a stop was told, whole or in part
-pub tells-stop : {E : Type 0} (line : Text) (a b : SinkState) (r : Result (Unit {0}) E) → a.buffered ≡ []
-    → HandsOn a b line r → HandsOnLine line a b
+pub tells-stop : {E : Type 0} (line : ByteString) (a b : SinkState) (r : Result (Unit {0}) E) → a.buffered ≡ []
+    → WritesAndFlushes a b line r → WritesLine line a b
 tells-stop line a b (Ok u) none h = (line, (h.1 none).1, inl (refl, h.0))
 tells-stop line a b (Err x) none h = let part = (h.1 none).1 in (part.0, part.2, inr (part.1, h.0))
 
 -- a run that answered so was settled, and stopped then or before: from a to b and from c to e; then the line was told
-pub closes-stop : {E : Type 0} (line : Stop → Text) (answer : Result ℕ Stop) (stop : Stop) (a b c e d : SinkState)
-    (r : Result (Unit {0}) E) → Settles a b c e answer (Err stop) → Keeps a.written b.written
-    → Keeps c.written e.written → e.buffered ≡ [] → HandsOn e d (line stop) r → Closes line answer a b c d 1
+pub closes-stop : {E : Type 0} (line : Stop → ByteString) (answer : Result ℕ Stop) (stop : Stop) (a b c e d : SinkState)
+    (r : Result (Unit {0}) E) → FlushesBoth a b c e answer (Err stop) → Keeps a.written b.written
+    → Keeps c.written e.written → e.buffered ≡ [] → WritesAndFlushes e d (line stop) r → FinishesRun line answer a b c d 1
 closes-stop line (Ok x) Memory a b c e d r settled kept still none told = absurd settled
 closes-stop line (Ok x) Write a b c e d r settled kept still none told = search rules
 closes-stop line (Err s) stop a b c e d r settled kept still none told = search rules

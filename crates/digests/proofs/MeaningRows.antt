@@ -9,35 +9,35 @@ use Rattle.md5.specs.Md5.{block_words as md5_words, rounds as md5_rounds, compre
 use Rattle.blake2b_core.specs.Compression.{mix, round, start, compress}
 use Rattle.blake2b_core.specs.Digest.{blocks, blake2b}
 use Rattle.sum_sources.specs.declared.fault.Fault.TheVariants.{NotFound, Other}
-use Rattle.sum_engine.specs.Runs.{Whole, Broken, World, outs, errs, asks}
+use Rattle.sum_engine.specs.Runs.{Whole, Broken, World, out_text, err_text, asks}
 use Rattle.std.specs.Fmt.{digits}
 use Rattle.hex.specs.Hex.{encode_with, decode_pairs}
 use Rattle.sum_lines.specs.PartsOfLines.{plain_parts, tagged_parts}
-use Rattle.sum_sources.specs.ManifestLines.{pieces}
+use Rattle.sum_sources.specs.ManifestLines.{raw_lines}
 use Rattle.sum_lines.specs.ParsedLines.{entry_of}
 use Rattle.sum_sources.specs.Contents.{Content, limit, Reply}
 use Rattle.sum_words.specs.declared.tool.Tool.{Tool}
 use Rattle.sum_words.specs.declared.tool.Tool.TheVariants.{Md5sum, B2sum, Anysum}
-use Rattle.sum_words.specs.Items.{Text, name_or_fault, option_of_letter}
+use Rattle.sum_words.specs.Items.{ByteString, name_or_fault, option_of_letter}
 use Rattle.digests.specs.Meaning.{meaning}
 
 -- what a row unfolds, so that its texts are computed
 unfoldable meaning_on_literals : ⊤
-unfolding chars encode name_or_fault option_of_letter limit pieces entry_of plain_parts tagged_parts rsplit_once
+unfolding chars encode name_or_fault option_of_letter limit raw_lines entry_of plain_parts tagged_parts rsplit_once
     encode_with decode_pairs digits md5_words md5_rounds md5_compress md5_after md5_bytes md5
     mix round start compress blocks blake2b
 meaning_on_literals = tt
 
 -- bytes that end whole
-abbrev whole : Text → Content
+abbrev whole : ByteString → Content
 whole bytes = record { bytes = bytes; ending = Whole }
 
 -- bytes, and then a fault
-abbrev broken : Text → Content
+abbrev broken : ByteString → Content
 broken bytes = record { bytes = bytes; ending = Broken Other }
 
 -- the file `a` holds abc, `e` is empty, `l` has one content and standard input another; no other file is there
-abbrev answer_with : Content → Text → Reply
+abbrev answer_with : Content → ByteString → Reply
 answer_with l name =
     if bytes_eq name (codes "a") then Ok (whole (codes "abc"))
     else if bytes_eq name (codes "e") then Ok (whole [])
@@ -45,7 +45,7 @@ answer_with l name =
     else Err NotFound
 
 -- the content of these lines, which ends whole
-abbrev list_of : List Text → Content
+abbrev list_of : List ByteString → Content
 list_of lines = whole (flat_map (λ line. line ++ codes "\n") lines)
 
 -- the world of these files
@@ -54,16 +54,16 @@ world l input = record { answer = answer_with l; asked = []; input = input }
 
 -- both texts of a run, the names that it asks, and whether all is good
 record Comes : Type 0 where
-  out : Text
-  err : Text
-  asks : List Text
+  out : ByteString
+  err : ByteString
+  asks : List ByteString
   good : Bool
 
 -- what a command line comes to in it
-abbrev comes_to : Tool → List Text → World → Comes
+abbrev comes_to : Tool → List ByteString → World → Comes
 comes_to tool words w =
     let run = meaning tool words w in
-    record { out = outs run; err = errs run; asks = asks run; good = run.good }
+    record { out = out_text run; err = err_text run; asks = asks run; good = run.good }
 
 -- md5sum a e
 files : comes_to Md5sum

@@ -3,18 +3,18 @@ use Rattle.std.proofs.Common.{rules, ◌≡◌, ℕ, true, false, [], Result, Ok
 use Rattle.std.proofs.KnownBytes.{Appends-nil}
 use Rattle.sum_sources.specs.Contents.{SourceState}
 use Rattle.sum_lines.specs.Sinks.{SinkState}
-use Rattle.sum_engine.specs.Moments.{Moment, Accounts}
-use Rattle.sum_engine.specs.Runs.{at_once}
-use Rattle.sum_engine.specs.refinement.Telling.{HandsOn}
+use Rattle.sum_engine.specs.Moments.{StreamsState, StopHasCause}
+use Rattle.sum_engine.specs.Runs.{single_step}
+use Rattle.sum_engine.specs.refinement.Telling.{WritesAndFlushes}
 use Rattle.sum_engine.proofs.RunStateLemmas.{events_by, Runs, where_known, same_told, asks_none, did_by, prefix_err, prefix_out}
-use Rattle.sum_words.specs.Items.{Text}
+use Rattle.sum_words.specs.Items.{ByteString}
 use Rattle.digests.specs.Meaning.{status_of}
-use Rattle.digests.specs.refinement.Operands.{once_told}
+use Rattle.digests.specs.refinement.Operands.{status_after_write}
 
 -- a text alone was handed on by standard output, or a prefix of it
-pub told_on_out : {S E : Type 0} (state : S → SourceState) (a : Moment S) (out : SinkState) (text : Text)
-    (r : Result (Unit {0}) E) → a.out.buffered ≡ [] → HandsOn a.out out text r
-    → Runs state (λ w. at_once [] [] text true) status_of a (record a { out = out }) (once_told r 0)
+pub told_on_out : {S E : Type 0} (state : S → SourceState) (a : StreamsState S) (out : SinkState) (text : ByteString)
+    (r : Result (Unit {0}) E) → a.out.buffered ≡ [] → WritesAndFlushes a.out out text r
+    → Runs state (λ w. single_step [] [] text true) status_of a (record a { out = out }) (status_after_write r 0)
 told_on_out state a out text (Ok u) none h = where_known state a (record a { out = out }) _ (same_told _) (λ w v same. (
   refl,
   rw (append-nil (events_by [] [] text)) (
@@ -25,9 +25,9 @@ told_on_out state a out text (Err e) none h = where_known state a (record a { ou
     prefix_out [] [] text (asks_none same refl refl) (Appends-nil a.err.written) (h.1 none).1))
 
 -- a text alone was handed on by standard error, or a prefix of it
-pub told_on_err : {S E : Type 0} (state : S → SourceState) (a : Moment S) (err : SinkState) (text : Text)
-    (r : Result (Unit {0}) E) → a.err.buffered ≡ [] → HandsOn a.err err text r
-    → Runs state (λ w. at_once [] text [] false) status_of a (record a { err = err }) (once_told r 1)
+pub told_on_err : {S E : Type 0} (state : S → SourceState) (a : StreamsState S) (err : SinkState) (text : ByteString)
+    (r : Result (Unit {0}) E) → a.err.buffered ≡ [] → WritesAndFlushes a.err err text r
+    → Runs state (λ w. single_step [] text [] false) status_of a (record a { err = err }) (status_after_write r 1)
 told_on_err state a err text (Ok u) none h = where_known state a (record a { err = err }) _ (same_told _) (λ w v same. (
   refl,
   rw (append-nil (events_by [] text [])) (
@@ -38,14 +38,14 @@ told_on_err state a err text (Err e) none h = where_known state a (record a { er
     prefix_err [] text [] (asks_none same refl refl) (h.1 none).1 refl))
 
 -- a call that writes a text accounts for its stop
-pub accounts_on_out : {S E : Type 0} (state : S → SourceState) (Changes : ℕ → ℕ → Type 0) (a : Moment S)
-    (out : SinkState) (text : Text) (status : ℕ) (r : Result (Unit {0}) E) → HandsOn a.out out text r
-    → Accounts state Changes a (record a { out = out }) (once_told r status)
+pub accounts_on_out : {S E : Type 0} (state : S → SourceState) (Changes : ℕ → ℕ → Type 0) (a : StreamsState S)
+    (out : SinkState) (text : ByteString) (status : ℕ) (r : Result (Unit {0}) E) → WritesAndFlushes a.out out text r
+    → StopHasCause state Changes a (record a { out = out }) (status_after_write r status)
 accounts_on_out state Changes a out text status (Ok u) h = search rules
 accounts_on_out state Changes a out text status (Err e) h = search rules
 
-pub accounts_on_err : {S E : Type 0} (state : S → SourceState) (Changes : ℕ → ℕ → Type 0) (a : Moment S)
-    (err : SinkState) (text : Text) (status : ℕ) (r : Result (Unit {0}) E) → HandsOn a.err err text r
-    → Accounts state Changes a (record a { err = err }) (once_told r status)
+pub accounts_on_err : {S E : Type 0} (state : S → SourceState) (Changes : ℕ → ℕ → Type 0) (a : StreamsState S)
+    (err : SinkState) (text : ByteString) (status : ℕ) (r : Result (Unit {0}) E) → WritesAndFlushes a.err err text r
+    → StopHasCause state Changes a (record a { err = err }) (status_after_write r status)
 accounts_on_err state Changes a err text status (Ok u) h = search rules
 accounts_on_err state Changes a err text status (Err e) h = search rules

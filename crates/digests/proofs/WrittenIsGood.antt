@@ -6,19 +6,19 @@ use Rattle.std.proofs.lemmas.List.Folds.{flat_map-map}
 use Rattle.std.proofs.lemmas.List.Elements.{All-nil, All-head, All-tail, All-append, All-map, All-weaker, All-contains, All-contains_itself}
 use Rattle.digest_kinds.specs.Kinds.{digest}
 use Rattle.sum_engine.specs.Reports.{Algos, right_line}
-use Rattle.sum_engine.specs.Runs.{Whole, World, reply, after, digest_or_fault, outs, asks}
+use Rattle.sum_engine.specs.Runs.{Whole, World, reply, after, digest_or_fault, out_text, asks}
 use Rattle.sum_sources.specs.Contents.{limit, Reply}
 use Rattle.sum_engine.specs.declared.settings.Settings.{Settings}
 use Rattle.sum_engine.specs.declared.settings.CheckSettings.{CheckSettings}
-use Rattle.sum_engine.specs.Generation.{generate_run}
+use Rattle.sum_engine.specs.Generation.{generate_behavior}
 use Rattle.sum_engine.proofs.ListedLemmas.{Item, written_text, Listed}
 use Rattle.sum_engine.proofs.GoodLemmas.{manifest_good}
 use Rattle.sum_words.specs.declared.tool.Tool.{Tool}
 use Rattle.sum_words.specs.Tools.{name_of}
-use Rattle.sum_words.specs.Items.{Text}
-use Rattle.digests.specs.Meaning.{all_of}
+use Rattle.sum_words.specs.Items.{ByteString}
+use Rattle.digests.specs.Meaning.{operands_behavior}
 use Rattle.digests.proofs.CheckWords.{request-check_words}
-use Rattle.digests.specs.GenerationRuns.{Listable, GenerationRun, generation_output, names_of, Checkable, ChecksBy, Accepts, WrittenIsGood, JoinedIsGood}
+use Rattle.digests.specs.GenerationRuns.{Listable, GenerationRun, generation_output, names_of, Checkable, ChecksBy, ReportsAllOk, WrittenIsGood, JoinedIsGood}
 
 -- ---- the lines of a run
 
@@ -28,39 +28,39 @@ bytes_of (Err f) = []
 bytes_of (Ok c) = c.bytes
 
 -- the line that a run writes for a name
-abbrev item : (Text → Reply) → Settings → Text → Item
+abbrev item : (ByteString → Reply) → Settings → ByteString → Item
 item answer s name = record { mode = s.style.mode; kind = s.kind; name = name; bytes = bytes_of (answer name) }
 
 -- the lines for all its names
-abbrev items : (Text → Reply) → GenerationRun → List Item
+abbrev items : (ByteString → Reply) → GenerationRun → List Item
 items answer g = map (item answer g.settings) g.names
 
 -- a file that can be listed is read to its end
-read-is : (w : World) (s : Settings) (name : Text) → Listable w.answer name
+read-is : (w : World) (s : Settings) (name : ByteString) → Listable w.answer name
     → digest_or_fault s.kind (reply w name) ≡ Ok (digest s.kind (bytes_of (w.answer name)))
 read-is w s name h = search rules
 
 -- so one line is written for it
-line-is : (w : World) (s : Settings) (tool name : Text) → s.style.zero ≡ false → Listable w.answer name
-    → outs (generate_run s tool w name) ≡ written_text (item w.answer s name)
+line-is : (w : World) (s : Settings) (tool name : ByteString) → s.style.zero ≡ false → Listable w.answer name
+    → out_text (generate_behavior s tool w name) ≡ written_text (item w.answer s name)
 line-is w s tool name newlines h = rw (read-is w s name h, newlines, append-nil) refl
 
 -- and for all names their lines, one behind the other; what a name answers doesn't depend on what was asked before
-lines-are : (s : Settings) (tool : Text) (names : List Text) (w : World)
+lines-are : (s : Settings) (tool : ByteString) (names : List ByteString) (w : World)
     → s.style.zero ≡ false → All (Listable w.answer) names
-    → outs (all_of (generate_run s tool) w names) ≡ flat_map written_text (map (item w.answer s) names)
+    → out_text (operands_behavior (generate_behavior s tool) w names) ≡ flat_map written_text (map (item w.answer s) names)
 lines-are s tool [] w newlines all = refl
 lines-are s tool (name ∷ names) w newlines all =
-    let next : World = after w (asks (generate_run s tool w name)) in
+    let next : World = after w (asks (generate_behavior s tool w name)) in
     let first = line-is w s tool name newlines (All-head (Listable w.answer) name names all) in
     let others = lines-are s tool names next newlines (All-tail (Listable w.answer) name names all) in
-    flat_map-append (λ st. st.out) (generate_run s tool w name).steps (all_of (generate_run s tool) next names).steps
+    flat_map-append (λ st. st.out) (generate_behavior s tool w name).steps (operands_behavior (generate_behavior s tool) next names).steps
     ∙ rw (first, others) refl
 
 -- ---- they are read back, and their files are the same
 
 -- one line
-item-listed : (algos : Algos) (w v : World) (g : GenerationRun) (name : Text)
+item-listed : (algos : Algos) (w v : World) (g : GenerationRun) (name : ByteString)
     → Checkable algos w v g → Listable w.answer name → v.answer name ≡ w.answer name
     → Listed algos v.answer (item w.answer g.settings name)
 item-listed algos w v g name c h same = search rules
@@ -69,8 +69,8 @@ item-listed algos w v g name c h same = search rules
 run-listed : (algos : Algos) (w v : World) (g : GenerationRun) → Checkable algos w v g
     → All (Listed algos v.answer) (items w.answer g)
 run-listed algos w v g c =
-    let Is : Text → Type 0 = λ name. Listed algos v.answer (item w.answer g.settings name) in
-    let is : (name : Text) → Contains g.names name → Is name = λ name one.
+    let Is : ByteString → Type 0 = λ name. Listed algos v.answer (item w.answer g.settings name) in
+    let is : (name : ByteString) → Contains g.names name → Is name = λ name one.
     item-listed algos w v g name c (All-contains (Listable w.answer) g.names name c.listable one)
     (All-contains (λ n. v.answer n ≡ w.answer n) g.names name c.same one) in
     All-map (Listed algos v.answer) (item w.answer g.settings) g.names
@@ -79,12 +79,12 @@ run-listed algos w v g c =
 -- ---- a manifest of such lines
 
 -- a manifest that holds the lines for some names is good
-lines-good : (t : Tool) (check : CheckSettings) (manifest : Text) (v : World) (xs : List Item) (names : List Text)
-    (text : Text) → ChecksBy t check manifest
+lines-good : (t : Tool) (check : CheckSettings) (manifest : ByteString) (v : World) (xs : List Item) (names : List ByteString)
+    (text : ByteString) → ChecksBy t check manifest
     → All (Listed check.algos v.answer) xs → map (λ i. i.name) xs ≡ names → flat_map written_text xs ≡ text
     → 0 < length names → length text < limit
     → reply v manifest ≡ Ok (record { bytes = text; ending = Whole })
-    → Accepts t check v manifest names
+    → ReportsAllOk t check v manifest names
 lines-good t check manifest v xs names text by all is same some fits given =
     let count : length xs ≡ length names = sym (length-map xs (λ i. i.name)) ∙ ap length is in
     let f = manifest_good check (name_of t) manifest v xs all (rw count some) (rw same fits) (rw same given) in
@@ -104,7 +104,7 @@ run-text : (algos : Algos) (w v : World) (g : GenerationRun) → Checkable algos
 run-text algos w v g c = sym (lines-are g.settings g.tool g.names w c.newlines c.listable)
 
 -- and these are for its names
-names-are : (answer : Text → Reply) (s : Settings) (names : List Text)
+names-are : (answer : ByteString → Reply) (s : Settings) (names : List ByteString)
     → map (λ i. i.name) (map (item answer s) names) ≡ names
 names-are answer s [] = refl
 names-are answer s (name ∷ names) = ap (λ l. name ∷ l) (names-are answer s names)
@@ -136,7 +136,7 @@ runs-text algos w v (g ∷ gs) all =
     rw (flat_map-append, first, others) refl
 
 -- and these are for all of their names
-runs-names : (answer : Text → Reply) (gs : List GenerationRun)
+runs-names : (answer : ByteString → Reply) (gs : List GenerationRun)
     → map (λ i. i.name) (flat_map (items answer) gs) ≡ flat_map names_of gs
 runs-names answer [] = refl
 runs-names answer (g ∷ gs) = rw (map-append, names-are answer g.settings g.names, runs-names answer gs) refl

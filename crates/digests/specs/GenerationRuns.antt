@@ -2,23 +2,23 @@
 use Rattle.std.specs.Prelude.{ℕ, ◌≡◌, ◌<◌, true, false, List, [], ◌∷◌, ◌++◌, IsTrue, length, map, flat_map, codes, if◌then◌else◌, All, Ok, option_to_list}
 use Rattle.digest_kinds.specs.Kinds.{has_len}
 use Rattle.sum_engine.specs.Reports.{Algos, right_line}
-use Rattle.sum_engine.specs.Runs.{Whole, World, is_dash, reply, outs, errs}
+use Rattle.sum_engine.specs.Runs.{Whole, World, is_dash, reply, out_text, err_text}
 use Rattle.sum_sources.specs.Contents.{limit, Reply}
 use Rattle.sum_lines.specs.LineLaws.{ReadBy}
 use Rattle.sum_engine.specs.declared.settings.Settings.{Settings}
 use Rattle.sum_engine.specs.declared.settings.CheckSettings.{CheckSettings}
-use Rattle.sum_engine.specs.Generation.{generate_run}
+use Rattle.sum_engine.specs.Generation.{generate_behavior}
 use Rattle.sum_words.specs.declared.options.Flag.{Flag}
 use Rattle.sum_words.specs.declared.tool.Tool.{Tool}
 use Rattle.sum_words.specs.Tools.{algos_of}
-use Rattle.sum_words.specs.Items.{Text, full_name}
+use Rattle.sum_words.specs.Items.{ByteString, full_name}
 use Rattle.sum_words.specs.Request.{report_flag}
 use Rattle.sum_words.specs.PlainWords.{is_plain}
-use Rattle.digests.specs.Meaning.{all_of, meaning, status_of}
+use Rattle.digests.specs.Meaning.{operands_behavior, meaning, status_of}
 use Rattle.sum_words.specs.declared.options.Flag.TheVariants as flags
 
 -- a name that isn't empty, holds no NUL and isn't `-`, and whose file is whole and not too long
-pub record Listable (answer : Text → Reply) (name : Text) : Type 0 where
+pub record Listable (answer : ByteString → Reply) (name : ByteString) : Type 0 where
   pub some : 0 < length name
   pub no_nul : All (λ b. 0 < b) name
   pub no_dash : is_dash name ≡ false
@@ -29,14 +29,14 @@ pub record Listable (answer : Text → Reply) (name : Text) : Type 0 where
 -- a run of generation: its settings, the tool's name and the names
 pub record GenerationRun : Type 0 where
   pub settings : Settings
-  pub tool : Text
-  pub names : List Text
+  pub tool : ByteString
+  pub names : List ByteString
 
 -- what it writes on standard output in a world
-abbrev pub generation_output : World → GenerationRun → Text
-generation_output w g = outs (all_of (generate_run g.settings g.tool) w g.names)
+abbrev pub generation_output : World → GenerationRun → ByteString
+generation_output w g = out_text (operands_behavior (generate_behavior g.settings g.tool) w g.names)
 
-abbrev pub names_of : GenerationRun → List Text
+abbrev pub names_of : GenerationRun → List ByteString
 names_of g = g.names
 
 -- What a run wrote in the world w can be checked in the world v: its lines end with newlines; who checks reads them, as
@@ -55,33 +55,33 @@ check_options check = flags.Check ∷ option_to_list (report_flag check.report)
     ++ (if check.ignore_missing then flags.IgnoreMissing ∷ [] else [])
 
 -- the words of such a check of one manifest, as `--check --quiet SUMS`
-abbrev pub check_words : CheckSettings → Text → List Text
+abbrev pub check_words : CheckSettings → ByteString → List ByteString
 check_words check manifest = map (λ flag. codes "--" ++ full_name flag) (check_options check) ++ manifest ∷ []
 
 -- A tool, called with these words, ends with the status 0; it writes `NAME: OK` for each name, where the report setting
 -- has such lines, and nothing else.
-pub record Accepts (t : Tool) (check : CheckSettings) (v : World) (manifest : Text) (names : List Text) : Type 0 where
+pub record ReportsAllOk (t : Tool) (check : CheckSettings) (v : World) (manifest : ByteString) (names : List ByteString) : Type 0 where
   pub status : status_of (meaning t (check_words check manifest) v).good ≡ 0
-  pub out : outs (meaning t (check_words check manifest) v) ≡ flat_map (right_line check.report) names
-  pub err : errs (meaning t (check_words check manifest) v) ≡ []
+  pub out : out_text (meaning t (check_words check manifest) v) ≡ flat_map (right_line check.report) names
+  pub err : err_text (meaning t (check_words check manifest) v) ≡ []
 
 -- the settings are some of that tool's, and the manifest's name is taken for an operand
-pub record ChecksBy (t : Tool) (check : CheckSettings) (manifest : Text) : Type 0 where
+pub record ChecksBy (t : Tool) (check : CheckSettings) (manifest : ByteString) : Type 0 where
   pub algo : check.algos ≡ algos_of t
   pub operand : is_plain manifest ≡ true
 
 -- what generation wrote for one name or more is good as a manifest, where it isn't too long
 abbrev pub WrittenIsGood : Type 0
-WrittenIsGood = (t : Tool) (check : CheckSettings) (manifest : Text) (w v : World) (g : GenerationRun)
+WrittenIsGood = (t : Tool) (check : CheckSettings) (manifest : ByteString) (w v : World) (g : GenerationRun)
     → ChecksBy t check manifest → Checkable check.algos w v g → 0 < length g.names
     → length (generation_output w g) < limit
     → reply v manifest ≡ Ok (record { bytes = generation_output w g; ending = Whole })
-    → Accepts t check v manifest g.names
+    → ReportsAllOk t check v manifest g.names
 
 -- so is what several runs wrote, one behind the other
 abbrev pub JoinedIsGood : Type 0
-JoinedIsGood = (t : Tool) (check : CheckSettings) (manifest : Text) (w v : World) (gs : List GenerationRun)
+JoinedIsGood = (t : Tool) (check : CheckSettings) (manifest : ByteString) (w v : World) (gs : List GenerationRun)
     → ChecksBy t check manifest → All (Checkable check.algos w v) gs → 0 < length (flat_map names_of gs)
     → length (flat_map (generation_output w) gs) < limit
     → reply v manifest ≡ Ok (record { bytes = flat_map (generation_output w) gs; ending = Whole })
-    → Accepts t check v manifest (flat_map names_of gs)
+    → ReportsAllOk t check v manifest (flat_map names_of gs)

@@ -5,43 +5,43 @@ use Rattle.sum_sources.specs.Contents.{SourceState}
 use Rattle.sum_lines.specs.Sinks.{SinkState, IsPrefix}
 use Rattle.digest_kinds.specs.Limits.{one_more}
 use Rattle.sum_engine.specs.declared.stop.Stop.{Stop}
-use Rattle.sum_engine.specs.Runs.{World, Run, at_once}
-use Rattle.sum_engine.specs.Moments.{Moment, HoldNothing, Failures, RunsTo}
-use Rattle.sum_words.specs.Items.{Text}
-use Rattle.sum_words.specs.CommandLines.{Call, unknown_tool, invoke, command_line, NeedsMemory}
+use Rattle.sum_engine.specs.Runs.{World, Behavior, single_step}
+use Rattle.sum_engine.specs.Moments.{StreamsState, IsFlushed, FailuresMatch, Performs}
+use Rattle.sum_words.specs.Items.{ByteString}
+use Rattle.sum_words.specs.CommandLines.{CommandLineValue, unknown_tool, invoke, command_line, NeedsMemory}
 use Rattle.sum_words.specs.Texts.{stop_line}
 use Rattle.digests.specs.Meaning.{meaning, status_of}
 
 -- what a call means, and the line that tells of its stop, where there is a tool to tell of it
-abbrev pub run_of : Option Call → World → Run
-run_of None w = at_once [] (codes "digests: words not read\n") [] false
-run_of (Some unknown_tool) w = at_once [] (codes "digests: unknown tool\n") [] false
-run_of (Some (invoke tool words)) w = meaning tool words w
+abbrev pub call_behavior : Option CommandLineValue → World → Behavior
+call_behavior None w = single_step [] (codes "digests: words not read\n") [] false
+call_behavior (Some unknown_tool) w = single_step [] (codes "digests: unknown tool\n") [] false
+call_behavior (Some (invoke tool words)) w = meaning tool words w
 
-abbrev pub line_of_stop : Option Call → Stop → Text
-line_of_stop (Some (invoke tool words)) stop = stop_line tool stop
-line_of_stop line stop = []
+abbrev pub call_stop_line : Option CommandLineValue → Stop → ByteString
+call_stop_line (Some (invoke tool words)) stop = stop_line tool stop
+call_stop_line line stop = []
 
 -- a line was handed on by an output: all of it; or a prefix, where that output failed
-abbrev pub HandsOnLine : Text → SinkState → SinkState → Type 0
-HandsOnLine line a b = (said : Text) × Appends a.written b.written said
+abbrev pub WritesLine : ByteString → SinkState → SinkState → Type 0
+WritesLine line a b = (said : ByteString) × Appends a.written b.written said
     × (((said ≡ line) × (b.failures ≡ a.failures)) ⊎ (IsPrefix said line × (b.failures ≡ one_more a.failures)))
 
 -- what an answer leaves to do: nothing, and it is the status; or standard error tells of the stop, and the status is 1
-abbrev pub Leaves : {S : Type 0} → Option Call → Result ℕ Stop → Moment S → Moment S → ℕ → Type 0
-Leaves line (Ok answer) a b status = (status ≡ answer) × (b ≡ a)
-Leaves line (Err stop) a b status = (status ≡ 1) × (b ≡ record a { err = b.err })
-    × HandsOnLine (line_of_stop line stop) a.err b.err
+abbrev pub ReportsStop : {S : Type 0} → Option CommandLineValue → Result ℕ Stop → StreamsState S → StreamsState S → ℕ → Type 0
+ReportsStop line (Ok answer) a b status = (status ≡ answer) × (b ≡ a)
+ReportsStop line (Err stop) a b status = (status ≡ 1) × (b ≡ record a { err = b.err })
+    × WritesLine (call_stop_line line stop) a.err b.err
 
 -- THE PROGRAM, for what it was called for: its run, as the headline has it, and then what its answer leaves to be done
-abbrev pub EndsGives : {S : Type 0} → (S → SourceState) → Option Call → Moment S → Moment S → ℕ → Type 0
-EndsGives {S} state line a b status = (answer : Result ℕ Stop) × (between : Moment S)
-    × RunsTo state (run_of line) status_of a between answer × Failures a between answer
-    × Leaves line answer between b status
+abbrev pub CallPerforms : {S : Type 0} → (S → SourceState) → Option CommandLineValue → StreamsState S → StreamsState S → ℕ → Type 0
+CallPerforms {S} state line a b status = (answer : Result ℕ Stop) × (between : StreamsState S)
+    × Performs state (call_behavior line) status_of a between answer × FailuresMatch a between answer
+    × ReportsStop line answer between b status
 
 -- what it is called for is said by the arguments, where these are told; or the words couldn't be read, which needed
 -- memory; both outputs hold nothing at first
-abbrev pub ProgramGives :
-    {S : Type 0} → (S → SourceState) → Option (List Text) → Moment S → Moment S → ℕ → Type 0
-ProgramGives state told a b status = HoldNothing a → IfSome told (λ arguments.
-    EndsGives state (command_line arguments) a b status ⊎ (NeedsMemory arguments × EndsGives state None a b status))
+abbrev pub ProgramPerforms :
+    {S : Type 0} → (S → SourceState) → Option (List ByteString) → StreamsState S → StreamsState S → ℕ → Type 0
+ProgramPerforms state told a b status = IsFlushed a → IfSome told (λ arguments.
+    CallPerforms state (command_line arguments) a b status ⊎ (NeedsMemory arguments × CallPerforms state None a b status))

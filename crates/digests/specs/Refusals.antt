@@ -3,7 +3,7 @@ use Rattle.std.specs.Prelude.{ℕ, ◌≡◌, ◌⊎◌, Result, Ok}
 use Rattle.digest_kinds.specs.Limits.{one_more}
 use Rattle.sum_words.specs.declared.request.Job.{Job}
 use Rattle.sum_words.specs.declared.request.Request.{Request}
-use Rattle.sum_words.specs.WordFaults.{Fault}
+use Rattle.sum_words.specs.WordFaults.{WordFaultValue}
 use Rattle.sum_words.specs.declared.request.Job.TheVariants as jobs
 use Rattle.sum_words.specs.declared.request.Request.TheVariants as requests
 
@@ -13,6 +13,6 @@ RefusalsOfJob (jobs.Generate settings) n m = m ≡ one_more n
 RefusalsOfJob (jobs.Check settings) n m = (m ≡ n) ⊎ (m ≡ one_more n)
 
 -- a fault, help and version want no memory
-abbrev pub RefusalsOf : Result Request Fault → ℕ → ℕ → Type 0
+abbrev pub RefusalsOf : Result Request WordFaultValue → ℕ → ℕ → Type 0
 RefusalsOf (Ok (requests.Work job names)) n m = RefusalsOfJob job n m
 RefusalsOf asked n m = ⊥

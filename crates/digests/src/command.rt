@@ -1,9 +1,9 @@
 //! The whole program, from the list of its arguments to its exit status.
 ghost use Rattle.std.specs.Prelude.{◌≡◌, [], Ok, IsOk};
-ghost use Rattle.sum_engine.specs.Moments.{HoldNothing, Failures};
+ghost use Rattle.sum_engine.specs.Moments.{IsFlushed, FailuresMatch};
 ghost use Rattle.sum_engine.specs.refinement.Telling.{NoneFailed};
-ghost use Rattle.digests.specs.Program.{ProgramGives};
-ghost use Rattle.digests.specs.refinement.Endings.{Closes, line_of};
+ghost use Rattle.digests.specs.Program.{ProgramPerforms};
+ghost use Rattle.digests.specs.refinement.Endings.{FinishesRun, tool_stop_line};
 
 use crate::ending::{settle, tell_stop};
 use crate::run::{run, status_once};
@@ -29,9 +29,9 @@ pub fn command<A: Allocator + Copy, G: Arguments, I: Input + Drop, S: Source, O:
     arguments: &G,
     streams: &mut Streams<I, S, O, E>,
 ) -> u8
-    ensures gives { ProgramGives S.state (G.known arguments.now) streams.old streams.new result }
-    ensures none { HoldNothing streams.old → HoldNothing streams.new }
-    ensures kept { result ≡ 0 → Failures streams.old streams.new (Ok result) }
+    ensures gives { ProgramPerforms S.state (G.known arguments.now) streams.old streams.new result }
+    ensures none { IsFlushed streams.old → IsFlushed streams.new }
+    ensures kept { result ≡ 0 → FailuresMatch streams.old streams.new (Ok result) }
 {
     match read_command_line(alloc, arguments) {
         Ok(CommandLine::Invoke(tool, words)) => {
@@ -57,7 +57,7 @@ fn close<O: Sink, E: Sink>(
     out: &mut O,
     err: &mut E,
 ) -> u8
-    ensures gives { (O.state out.old).buffered ≡ [] → (E.state err.old).buffered ≡ [] → Closes (line_of tool) answer
+    ensures gives { (O.state out.old).buffered ≡ [] → (E.state err.old).buffered ≡ [] → FinishesRun (tool_stop_line tool) answer
         (O.state out.old) (O.state out.new) (E.state err.old) (E.state err.new) result }
     ensures none { (O.state out.old).buffered ≡ [] → (E.state err.old).buffered ≡ []
         → ((O.state out.new).buffered ≡ []) × ((E.state err.new).buffered ≡ []) }

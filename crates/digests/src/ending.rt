@@ -1,8 +1,8 @@
 //! The end of a run: both outputs are flushed once more, and a stop is told.
 ghost use Rattle.std.specs.Prelude.{◌≡◌, []};
 ghost use Rattle.std.specs.Io.KnownBytes.{Keeps};
-ghost use Rattle.sum_engine.specs.refinement.Telling.{HandsOn};
-ghost use Rattle.digests.specs.refinement.Endings.{Settles, line_of};
+ghost use Rattle.sum_engine.specs.refinement.Telling.{WritesAndFlushes};
+ghost use Rattle.digests.specs.refinement.Endings.{FlushesBoth, tool_stop_line};
 
 use crate::telling::{Text, tell};
 use sum_engine::Stop;
@@ -16,7 +16,7 @@ pub(crate) fn settle<O: Sink, E: Sink>(
     out: &mut O,
     err: &mut E,
 ) -> Result<u8, Stop>
-    ensures answer { Settles (O.state out.old) (O.state out.new) (E.state err.old) (E.state err.new) answer result }
+    ensures answer { FlushesBoth (O.state out.old) (O.state out.new) (E.state err.old) (E.state err.new) answer result }
     ensures bytes { (O.state out.old).buffered ≡ [] → (E.state err.old).buffered ≡ []
         → Keeps (O.state out.old).written (O.state out.new).written
         × Keeps (E.state err.old).written (E.state err.new).written }
@@ -35,7 +35,7 @@ pub(crate) fn tell_stop<E: Sink>(
     stop: Stop,
     err: &mut E,
 ) -> Result<(), SinkFault>
-    ensures { HandsOn (E.state err.old) (E.state err.new) (line_of tool stop) result }
+    ensures { WritesAndFlushes (E.state err.old) (E.state err.new) (tool_stop_line tool stop) result }
 {
     match tool {
         None => Ok(()),

@@ -1,12 +1,12 @@
 //! What a whole command line does.
 ghost use Rattle.std.specs.Prelude.{◌≡◌, ◌∷◌};
-ghost use Rattle.sum_engine.specs.Moments.{HoldNothing, Failures, Refusals, Accounts, RunsTo};
+ghost use Rattle.sum_engine.specs.Moments.{IsFlushed, FailuresMatch, RefusalsMatch, StopHasCause, Performs};
 ghost use Rattle.sum_words.specs.Tools.{name_of};
 ghost use Rattle.sum_words.specs.refinement.RequestReading.{result_of};
 ghost use Rattle.sum_words.specs.Request.{request};
-ghost use Rattle.digests.specs.Meaning.{all_of, answer_run, one_of, or_dash, meaning, status_of};
+ghost use Rattle.digests.specs.Meaning.{operands_behavior, request_behavior, operand_behavior, or_dash, meaning, status_of};
 ghost use Rattle.digests.specs.Refusals.{RefusalsOfJob, RefusalsOf};
-ghost use Rattle.digests.specs.refinement.Operands.{once_told};
+ghost use Rattle.digests.specs.refinement.Operands.{status_after_write};
 
 use crate::telling::{Text, tell};
 use std::alloc::Allocator;
@@ -29,10 +29,10 @@ pub fn run<A: Allocator + Copy, I: Input + Drop, S: Source, O: Sink, E: Sink>(
     words: &Words<A>,
     streams: &mut Streams<I, S, O, E>,
 ) -> Result<u8, Stop>
-    ensures gives { RunsTo S.state (meaning tool words.now) status_of streams.old streams.new result }
-    ensures none { HoldNothing streams.old → HoldNothing streams.new }
-    ensures refusals { Refusals S.state (RefusalsOf (request tool words.now)) streams.old streams.new result }
-    ensures failures { Failures streams.old streams.new result }
+    ensures gives { Performs S.state (meaning tool words.now) status_of streams.old streams.new result }
+    ensures none { IsFlushed streams.old → IsFlushed streams.new }
+    ensures refusals { RefusalsMatch S.state (RefusalsOf (request tool words.now)) streams.old streams.new result }
+    ensures failures { FailuresMatch streams.old streams.new result }
 {
     answer(alloc, tool, read_words(tool, words), streams)
 }
@@ -43,8 +43,8 @@ fn answer<A: Allocator + Copy, I: Input + Drop, S: Source, O: Sink, E: Sink>(
     asked: Result<Request, WordFault>,
     streams: &mut Streams<I, S, O, E>,
 ) -> Result<u8, Stop>
-    ensures gives { RunsTo S.state (answer_run tool (result_of asked.entry)) status_of streams.old streams.new result }
-    ensures accounts { Accounts S.state (RefusalsOf (result_of asked.entry)) streams.old streams.new result }
+    ensures gives { Performs S.state (request_behavior tool (result_of asked.entry)) status_of streams.old streams.new result }
+    ensures accounts { StopHasCause S.state (RefusalsOf (result_of asked.entry)) streams.old streams.new result }
 {
     match asked {
         Err(fault) => status_once(tell(&mut streams.err, Text::Fault(tool, &fault)), 1),
@@ -56,7 +56,7 @@ fn answer<A: Allocator + Copy, I: Input + Drop, S: Source, O: Sink, E: Sink>(
 
 // The end of a run that wrote one text.
 pub(crate) fn status_once(told: Result<(), SinkFault>, status: u8) -> Result<u8, Stop>
-    ensures { result ≡ once_told told status }
+    ensures { result ≡ status_after_write told status }
 {
     told?;
     Ok(status)
@@ -69,9 +69,9 @@ fn one<A: Allocator + Copy, I: Input + Drop, S: Source, O: Sink, E: Sink>(
     name: &[u8],
     streams: &mut Streams<I, S, O, E>,
 ) -> Result<bool, Stop>
-    ensures gives { RunsTo S.state (λ w. one_of job.now (name_of tool) w name.now) (λ good. good)
+    ensures gives { Performs S.state (λ w. operand_behavior job.now (name_of tool) w name.now) (λ good. good)
         streams.old streams.new result }
-    ensures accounts { Accounts S.state (RefusalsOfJob job.now) streams.old streams.new result }
+    ensures accounts { StopHasCause S.state (RefusalsOfJob job.now) streams.old streams.new result }
 {
     match job {
         Job::Generate(settings) => generate_one(settings, tool.name(), name, streams),
@@ -96,9 +96,9 @@ fn each<A: Allocator + Copy, I: Input + Drop, S: Source, O: Sink, E: Sink>(
     operands: Operands,
     streams: &mut Streams<I, S, O, E>,
 ) -> Result<u8, Stop>
-    ensures gives { RunsTo S.state (λ w. all_of (one_of job.now (name_of tool)) w (or_dash operands.entry)) status_of
+    ensures gives { Performs S.state (λ w. operands_behavior (operand_behavior job.now (name_of tool)) w (or_dash operands.entry)) status_of
         streams.old streams.new result }
-    ensures accounts { Accounts S.state (RefusalsOfJob job.now) streams.old streams.new result }
+    ensures accounts { StopHasCause S.state (RefusalsOfJob job.now) streams.old streams.new result }
 {
     let mut operands = operands;
     let mut name = first_name(&mut operands);

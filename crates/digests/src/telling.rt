@@ -1,6 +1,6 @@
 //! The texts that the program writes as a whole.
-ghost use Rattle.sum_lines.specs.Sinks.{Writes};
-ghost use Rattle.sum_engine.specs.refinement.Telling.{HandsOn};
+ghost use Rattle.sum_lines.specs.Sinks.{WritesAll};
+ghost use Rattle.sum_engine.specs.refinement.Telling.{WritesAndFlushes};
 
 use sum_engine::Stop;
 use sum_lines::{Sink, SinkFault, put_all};
@@ -21,18 +21,18 @@ pub(crate) enum Text<'a> {
     Stop(Tool, Stop),
 }
 
-ghost use Rattle.digests.specs.refinement.WholeTexts.{text_of};
+ghost use Rattle.digests.specs.refinement.WholeTexts.{message_text};
 
 /// Writes a text, and hands it on. A fault where that failed; a prefix of the text is then handed on.
 pub(crate) fn tell<S: Sink>(sink: &mut S, text: Text) -> Result<(), SinkFault>
-    ensures { HandsOn (S.state sink.old) (S.state sink.new) (text_of text.entry) result }
+    ensures { WritesAndFlushes (S.state sink.old) (S.state sink.new) (message_text text.entry) result }
 {
     put(sink, text)?;
     sink.flush()
 }
 
 fn put<S: Sink>(sink: &mut S, text: Text) -> Result<(), SinkFault>
-    ensures { Writes (S.state sink.old) (S.state sink.new) (text_of text.entry) result }
+    ensures { WritesAll (S.state sink.old) (S.state sink.new) (message_text text.entry) result }
 {
     match text {
         Text::Fault(tool, fault) => put_fault(sink, tool, fault),

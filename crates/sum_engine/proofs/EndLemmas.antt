@@ -1,31 +1,31 @@
 -- What is answered behind the end of a manifest's verdicts.
 use Rattle.std.proofs.Common.{rules, ◌≡◌, ℕ, Bool, true, false, List, [], length, Option, None, Some, Result, Ok, Err, ap, sym, arith, if◌then◌else◌}
 use Rattle.sum_sources.specs.declared.fault.Ending.{Ending}
-use Rattle.sum_engine.specs.LineVerdicts.{LineStop, LineVerdict, FindsNone, FindOf}
+use Rattle.sum_engine.specs.LineVerdicts.{LineStop, LineVerdict, NoVerdictLeft, NextVerdictIs}
 use Rattle.sum_sources.specs.declared.lines.LineStop.TheVariants.{Fault, Memory}
-use Rattle.sum_sources.specs.ManifestLines.{lines, pieces}
+use Rattle.sum_sources.specs.ManifestLines.{lines, raw_lines}
 use Rattle.sum_sources.proofs.LineLemmas.{pieces-nil, lines-nil}
 use Rattle.sum_lines.specs.Entries.{form, form_then}
 use Rattle.sum_engine.specs.Verdicts.{lines_by, Rules, verdicts}
-use Rattle.sum_engine.specs.Steps.{Now, rest_verdicts}
+use Rattle.sum_engine.specs.Steps.{CheckState, remaining_verdicts}
 use Rattle.sum_engine.specs.Manifests.{ended_by}
 
 -- without bytes there is no line under any profile
 no_lines : (drops : Bool) (e : Ending)
-    → (if drops then lines (record { bytes = []; ending = e }) else pieces (record { bytes = []; ending = e })) ≡ []
+    → (if drops then lines (record { bytes = []; ending = e }) else raw_lines (record { bytes = []; ending = e })) ≡ []
 no_lines true e = lines-nil e
 no_lines false e = pieces-nil e
 
 -- nor a verdict
-none_left : (r : Rules) (e : Ending) (b : Now) → b.rest ≡ record { bytes = []; ending = e } → rest_verdicts r b ≡ []
+none_left : (r : Rules) (e : Ending) (b : CheckState) → b.rest ≡ record { bytes = []; ending = e } → remaining_verdicts r b ≡ []
 none_left r e b rest =
     let ls : lines_by r.profile b.rest ≡ [] = rw rest (no_lines r.profile.drops_return e) in
     ap (λ l. verdicts r (form_then b.form (form r.settings.algos l)) b.known_state.world b.number l) ls
 
-pub end_stays : (r : Rules) (e : Ending) (vector : List ℕ) (a b c : Now) (x : Result (Option LineVerdict) LineStop)
-    → FindsNone r e a b → FindOf r vector b c x → x ≡ ended_by e
+pub end_stays : (r : Rules) (e : Ending) (vector : List ℕ) (a b c : CheckState) (x : Result (Option LineVerdict) LineStop)
+    → NoVerdictLeft r e a b → NextVerdictIs r vector b c x → x ≡ ended_by e
 end_stays r e vector a b c (Ok (Some v)) ended found =
-    let size : 0 ≡ length (rest_verdicts r b) = ap length (sym (none_left r e b ended.rest)) in
+    let size : 0 ≡ length (remaining_verdicts r b) = ap length (sym (none_left r e b ended.rest)) in
     absurd (omega (arith, size, ap length found.0.first))
 end_stays r e vector a b c (Ok None) ended found = search rules
 end_stays r e vector a b c (Err (Fault f)) ended found = search rules

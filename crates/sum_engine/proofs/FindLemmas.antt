@@ -3,58 +3,58 @@ use Rattle.std.proofs.Common.{rules, ◌≡◌, ℕ, ◌≤◌, ◌||◌, List, 
 use Rattle.std.specs.List.{list_any}
 use Rattle.std.proofs.KnownBytes.{Appends-nil}
 use Rattle.sum_sources.specs.declared.lines.LineStop.TheVariants.{Memory}
-use Rattle.sum_sources.specs.Contents.{InputState, WhereTold, SourceState}
+use Rattle.sum_sources.specs.Contents.{InputState, IfKnown, SourceState}
 use Rattle.sum_sources.specs.declared.lines.LineReader.{LineReader}
 use Rattle.sum_sources.proofs.LineLemmas.{line-some}
 use Rattle.sum_lines.specs.ParsedLines.{ParsedLine}
 use Rattle.sum_engine.specs.Reports.{Counts, counts_with}
-use Rattle.sum_engine.specs.LineVerdicts.{LineVerdict, OnlyRefused, judged_in, FindGives}
-use Rattle.sum_engine.specs.Verdicts.{Verdict, Judged, judge, asks_of}
+use Rattle.sum_engine.specs.LineVerdicts.{LineVerdict, OnlyRefused, line_verdict_value, NextVerdictIfKnown}
+use Rattle.sum_engine.specs.Verdicts.{Verdict, LineVerdictValue, judge, asks_of}
 use Rattle.sum_engine.specs.Runs.{World, is_dash, open_name}
-use Rattle.sum_engine.specs.Moments.{Moment, run_state, Did}
+use Rattle.sum_engine.specs.Moments.{StreamsState, known_state, Happened}
 use Rattle.sum_engine.specs.refinement.Asking.{world_of}
-use Rattle.sum_engine.specs.Steps.{Place, now_of, Now, next_judged}
-use Rattle.sum_engine.specs.refinement.Judging.{IsJudged, name_said, TakesLine, JudgeLineOf, parsed_at}
+use Rattle.sum_engine.specs.Steps.{CursorValue, check_state, CheckState, next_judged}
+use Rattle.sum_engine.specs.refinement.Judging.{IsJudged, name_in_line, TakesLine, JudgeLineOf, parsed_at}
 use Rattle.sum_engine.proofs.RunStateLemmas.{events_by, where_known, names-by, did_by}
 use Rattle.sum_engine.proofs.RestLemmas.{rest_on}
 use Rattle.sum_engine.proofs.StepLemmas.{now_at, now-told, ReadsLine, read_line, moves_by}
 
 -- a line was judged, and its name stands in the vector
-pub line_found : {I : Type 0} (p : Place I) (line : List ℕ) (said : ParsedLine) (k : ℕ) (d : Counts) (vector : List ℕ)
+pub line_found : {I : Type 0} (p : CursorValue I) (line : List ℕ) (said : ParsedLine) (k : ℕ) (d : Counts) (vector : List ℕ)
     (w v : Option World) (verdict : Verdict) (start stop : ℕ) → parsed_at p line ≡ said
-    → WhereTold w v (λ w v. IsJudged p.rules w v said verdict) → d ≡ counts_with p.counts verdict
-    → slice_range vector start stop ≡ name_said said → k ≡ p.reader.lines
-    → WhereTold w v (λ w v. JudgeLineOf p line d vector w v
+    → IfKnown w v (λ w v. IsJudged p.rules w v said verdict) → d ≡ counts_with p.counts verdict
+    → slice_range vector start stop ≡ name_in_line said → k ≡ p.reader.lines
+    → IfKnown w v (λ w v. JudgeLineOf p line d vector w v
     (Some (record { number = k; verdict = verdict; start = start; stop = stop })))
 line_found p line said k d vector w v verdict start stop is h count place number = search rules
 
 -- it is the first of those that were to come; q is the place then
-pub find_line : {I S : Type 0} (input : I → InputState) (state : S → SourceState) (p q : Place I)
-    (reader : LineReader I) (a b : Moment S) (line vector : List ℕ) (v : LineVerdict)
+pub find_line : {I S : Type 0} (input : I → InputState) (state : S → SourceState) (p q : CursorValue I)
+    (reader : LineReader I) (a b : StreamsState S) (line vector : List ℕ) (v : LineVerdict)
     → ReadsLine input p reader line → TakesLine (record p { reader = reader }) q line → length vector ≤ length line
-    → WhereTold (world_of state a) (world_of state b)
+    → IfKnown (world_of state a) (world_of state b)
     (λ w w'. JudgeLineOf (record p { reader = reader }) line q.counts vector w w' (Some v))
-    → b.stdin_taken ≡ a.stdin_taken || list_any is_dash (asks_of (judged_in vector v)) → b.err ≡ a.err → b.out ≡ a.out
+    → b.stdin_taken ≡ a.stdin_taken || list_any is_dash (asks_of (line_verdict_value vector v)) → b.err ≡ a.err → b.out ≡ a.out
     → (state b.source).refusals ≡ (state a.source).refusals
-    → FindGives p.rules vector (now_of input p (run_state state a)) (now_of input q (run_state state b)) (Ok (Some v))
+    → NextVerdictIfKnown p.rules vector (check_state input p (known_state state a)) (check_state input q (known_state state b)) (Ok (Some v))
 find_line {I} input state p q reader a b line vector v reads takes few h taken err out refusals =
-    let then : Place I = record q { reader = reader } in
-    let names = asks_of (judged_in vector v) in
+    let then : CursorValue I = record q { reader = reader } in
+    let names = asks_of (line_verdict_value vector v) in
     let said = parsed_at (record p { reader = reader }) line in
-    let found = where_known state a b (λ s t. (judge p.rules s.world reader.lines said ≡ judged_in vector v)
-    × Did s t (events_by names [] []) × (q.counts ≡ counts_with p.counts v.verdict)) h (λ w w' judged. (
+    let found = where_known state a b (λ s t. (judge p.rules s.world reader.lines said ≡ line_verdict_value vector v)
+    × Happened s t (events_by names [] []) × (q.counts ≡ counts_with p.counts v.verdict)) h (λ w w' judged. (
       judged.0,
       did_by names [] [] (record { world = judged.1; taken = taken; refusals = refusals })
           (rw err (Appends-nil a.err.written)) (rw out (Appends-nil a.out.written)),
       judged.2,
     )) in
     let took = read_line input p reader line reads in
-    rw takes.reader (now-told input p then (run_state state a) (run_state state b) _ took found (λ c d s t took found.
+    rw takes.reader (now-told input p then (known_state state a) (known_state state b) _ took found (λ c d s t took found.
     let found' = rw reads.number at found in
-    let first : Now = now_at p c s in
-    let next : Now = now_at then d t in
-    let is : next_judged p.rules first line ≡ judged_in vector v = found'.0 in
-    let counted = found'.2 ∙ ap (λ (j : Judged). counts_with p.counts j.verdict) (sym is) in
+    let first : CheckState = now_at p c s in
+    let next : CheckState = now_at then d t in
+    let is : next_judged p.rules first line ≡ line_verdict_value vector v = found'.0 in
+    let counted = found'.2 ∙ ap (λ (j : LineVerdictValue). counts_with p.counts j.verdict) (sym is) in
     let moves = moves_by p q reader c d s t line vector reads.profile reads.number took takes few counted in
     let asked = rw (names-by names [] []) at found'.1.world in (
       record {
@@ -66,11 +66,11 @@ find_line {I} input state p q reader a b line vector v reads takes few h taken e
     )))
 
 -- memory to open a line's file was refused: nothing happened, and the line was to come
-pub find_refused : {I S : Type 0} (input : I → InputState) (state : S → SourceState) (p q : Place I)
-    (reader : LineReader I) (a b : Moment S) (line vector : List ℕ) → ReadsLine input p reader line
-    → q.reader ≡ reader → WhereTold (run_state state a) (run_state state b) OnlyRefused
-    → FindGives p.rules vector (now_of input p (run_state state a)) (now_of input q (run_state state b)) (Err Memory)
+pub find_refused : {I S : Type 0} (input : I → InputState) (state : S → SourceState) (p q : CursorValue I)
+    (reader : LineReader I) (a b : StreamsState S) (line vector : List ℕ) → ReadsLine input p reader line
+    → q.reader ≡ reader → IfKnown (known_state state a) (known_state state b) OnlyRefused
+    → NextVerdictIfKnown p.rules vector (check_state input p (known_state state a)) (check_state input q (known_state state b)) (Err Memory)
 find_refused {I} input state p q reader a b line vector reads is refused =
-    let then : Place I = record q { reader = reader } in
-    rw is (now-told input p then (run_state state a) (run_state state b) _ reads.came refused
+    let then : CursorValue I = record q { reader = reader } in
+    rw is (now-told input p then (known_state state a) (known_state state b) _ reads.came refused
     (λ c d s t came refused. (inl refused, line-some c d line came)))

@@ -2,12 +2,12 @@
 use Rattle.std.proofs.Common.{◌≡◌, ℕ, ◌||◌, Bool, List, [], ◌∷◌, Some, Result, Ok, Err, refl, ap, sym, ◌∙◌}
 use Rattle.std.proofs.Math.Bool.{or-false}
 use Rattle.digest_kinds.specs.Kinds.{KindValue}
-use Rattle.sum_engine.specs.Runs.{Fault, is_dash, reply, digest_or_fault, Step, at_once}
+use Rattle.sum_engine.specs.Runs.{Fault, is_dash, reply, digest_or_fault, Step, single_step}
 use Rattle.sum_sources.specs.Contents.{Reply, SourceState}
-use Rattle.sum_engine.specs.refinement.Asking.{Asked, AskGives, IsAsked, world_of}
-use Rattle.sum_engine.specs.Generation.{Settings, generate_run, generate_run_by}
-use Rattle.sum_engine.specs.Moments.{Moment}
-use Rattle.sum_engine.specs.refinement.Telling.{HandsBoth}
+use Rattle.sum_engine.specs.refinement.Asking.{Asked, HashesNameIfKnown, IsHashOutcome, world_of}
+use Rattle.sum_engine.specs.Generation.{Settings, generate_behavior, generate_behavior_by}
+use Rattle.sum_engine.specs.Moments.{StreamsState}
+use Rattle.sum_engine.specs.refinement.Telling.{WritesBoth}
 use Rattle.sum_engine.proofs.RunStateLemmas.{Runs, Writing}
 use Rattle.sum_engine.proofs.RunLemmas.{answered, once}
 use Rattle.sum_engine.specs.declared.asking.Asked.TheVariants as asked
@@ -19,22 +19,22 @@ found (asked.NotOpened f) = Err f
 found (asked.Broken f) = Err f
 
 -- it is what the definitions say of the reply
-found_is : (kind : KindValue) (r : Reply) (a : Asked) → IsAsked kind r a → digest_or_fault kind r ≡ found a
+found_is : (kind : KindValue) (r : Reply) (a : Asked) → IsHashOutcome kind r a → digest_or_fault kind r ≡ found a
 found_is kind r (asked.Read d) h = ap (digest_or_fault kind) h.1 ∙ h.2
 found_is kind r (asked.NotOpened f) h = ap (digest_or_fault kind) h
 found_is kind r (asked.Broken f) h = ap (digest_or_fault kind) h.1 ∙ h.2
 
 -- the name was asked, and its line or that of its fault was handed on, or a prefix of it
 pub told : {S : Type 0} (state : S → SourceState) (settings : Settings) (tool name err out : List ℕ) (good : Bool)
-    (a b : Moment S) (came : Asked) (x : Writing)
-    → AskGives settings.kind (world_of state a) (world_of state b) name (Some came)
+    (a b : StreamsState S) (came : Asked) (x : Writing)
+    → HashesNameIfKnown settings.kind (world_of state a) (world_of state b) name (Some came)
     → b.stdin_taken ≡ a.stdin_taken || is_dash name → (state b.source).refusals ≡ (state a.source).refusals
-    → generate_run_by settings tool name (found came) ≡ at_once (name ∷ []) err out good
-    → HandsBoth a.err b.err a.out b.out err out x
-    → Runs state (λ w. generate_run settings tool w name) (λ g. g) a b (answered x good)
+    → generate_behavior_by settings tool name (found came) ≡ single_step (name ∷ []) err out good
+    → WritesBoth a.err b.err a.out b.out err out x
+    → Runs state (λ w. generate_behavior settings tool w name) (λ g. g) a b (answered x good)
 told state settings tool name err out good a b came x h taken refusals is hands =
-    once state (λ w. generate_run settings tool w name) (name ∷ []) err out good (λ g. g) a b x h (λ w v asked. (
-      ap (generate_run_by settings tool name) (found_is settings.kind (reply w name) came asked.1) ∙ is,
+    once state (λ w. generate_behavior settings tool w name) (name ∷ []) err out good (λ g. g) a b x h (λ w v asked. (
+      ap (generate_behavior_by settings tool name) (found_is settings.kind (reply w name) came asked.1) ∙ is,
       record {
         world = asked.0;
         taken = taken ∙ ap (λ t. a.stdin_taken || t) (sym (or-false (is_dash name)));
@@ -44,6 +44,6 @@ told state settings tool name err out good a b came x h taken refusals is hands 
 
 -- generation is one step
 pub one_step : (settings : Settings) (tool name : List ℕ) (x : Result (List ℕ) Fault)
-    → (s : Step) × (rest : List Step) × ((generate_run_by settings tool name x).steps ≡ s ∷ rest)
+    → (s : Step) × (rest : List Step) × ((generate_behavior_by settings tool name x).steps ≡ s ∷ rest)
 one_step settings tool name (Ok d) = (_, [], refl)
 one_step settings tool name (Err f) = (_, [], refl)

@@ -6,16 +6,16 @@ use Rattle.std.proofs.lemmas.List.Elements.{All-head, All-tail}
 use Rattle.std.proofs.lemmas.Slice.Eq.{bytes_eq-Decides}
 use Rattle.digest_kinds.specs.Kinds.{digest}
 use Rattle.sum_engine.specs.Reports.{Algos, Report, Counts, no_counts, out_of, err_of, right_line, counts, unless_status, end_text, good}
-use Rattle.sum_engine.specs.Verdicts.{Form, CheckSettings, Right, Rules, Judged, digest_verdict, verdict_of, judge, verdicts, all_verdicts}
+use Rattle.sum_engine.specs.Verdicts.{Form, CheckSettings, Right, Rules, LineVerdictValue, digest_verdict, verdict_of, judge, verdicts, all_verdicts}
 use Rattle.sum_lines.specs.Escape.{present, escape}
-use Rattle.sum_lines.specs.Entries.{Entry, form}
-use Rattle.sum_engine.specs.Runs.{Whole, World, reply, after, digest_or_fault, Run, outs, errs}
+use Rattle.sum_lines.specs.Entries.{IsEntry, form}
+use Rattle.sum_engine.specs.Runs.{Whole, World, reply, after, digest_or_fault, Behavior, out_text, err_text}
 use Rattle.sum_sources.specs.Contents.{Content, limit, Reply}
 use Rattle.sum_sources.proofs.ContentLemmas.{limit-value, clip-short}
 use Rattle.sum_engine.specs.Steps.{step_then}
 use Rattle.sum_lines.specs.ParsedLines.{parse_line}
 use Rattle.sum_sources.specs.ManifestLines.{past_line}
-use Rattle.sum_engine.specs.Checking.{line_steps, rules_of, content_run, check_run_by, check_run}
+use Rattle.sum_engine.specs.Checking.{line_steps, rules_of, content_behavior, check_behavior_by, check_behavior}
 use Rattle.sum_lines.proofs.ParsedLineLemmas.{says_is}
 use Rattle.sum_engine.proofs.ListedLemmas.{Item, written_text, Listed, prefix, spelled_for, ReadableSoFar, back, whole, lines-are}
 use Rattle.sum_engine.proofs.ManifestLemmas.{opening}
@@ -43,17 +43,17 @@ verdict-right r w i h =
     simp (h.no_dash, h.content, and-false) (digest_verdict-right r.settings.algos w.answer i h)
 
 -- the verdict of an item on line n
-abbrev right : ℕ → Item → Judged
+abbrev right : ℕ → Item → LineVerdictValue
 right n i = record { number = n; verdict = Right; name = i.name }
 
 -- those of items behind line n
-abbrev rights : ℕ → List Item → List Judged
+abbrev rights : ℕ → List Item → List LineVerdictValue
 rights n [] = []
 rights n (i ∷ is) = right (n + 1) i ∷ rights (n + 1) is
 
 -- a written line is judged so
 judged : (r : Rules) (w : World) (n : ℕ) (f : Form) (i : Item) → Listed r.settings.algos w.answer i
-    → Entry escape r.settings.algos f (prefix i) (spelled_for i)
+    → IsEntry escape r.settings.algos f (prefix i) (spelled_for i)
     → judge r w n (parse_line present r.settings.algos f (prefix i)) ≡ right n i
 judged r w n f i h e =
     let is = says_is present r.settings.algos f (prefix i) in
@@ -86,13 +86,13 @@ rights-err r n [] = refl
 rights-err r n (i ∷ is) = rights-err r (n + 1) is
 
 -- a manifest's run writes on standard output the reports of its lines
-pub outs_of_lines : (r : Rules) (end : List ℕ) (c : Content) (js : List Judged)
+pub outs_of_lines : (r : Rules) (end : List ℕ) (c : Content) (js : List LineVerdictValue)
     → flat_map (λ s. s.out) (line_steps r end c js) ≡ flat_map (out_of r) js
 outs_of_lines r end c [] = refl
 outs_of_lines r end c (j ∷ js) = ap (λ l. out_of r j ++ l) (outs_of_lines r end (past_line c) js)
 
 -- on standard error these, and then the end
-pub errs_of_lines : (r : Rules) (end : List ℕ) (c : Content) (js : List Judged)
+pub errs_of_lines : (r : Rules) (end : List ℕ) (c : Content) (js : List LineVerdictValue)
     → flat_map (λ s. s.err) (line_steps r end c js) ≡ flat_map (err_of r) js ++ end
 errs_of_lines r end c [] = append-nil end
 errs_of_lines r end c (j ∷ js) = ap (λ l. err_of r j ++ l) (errs_of_lines r end (past_line c) js)
@@ -126,9 +126,9 @@ is-good r k = rw (ne_eqb (suc k) 0 (λ e. omega (arith, e)), or-true) refl
 
 -- what checking such a manifest comes to
 pub record Found (check : CheckSettings) (tool : List ℕ) (w : World) (manifest : List ℕ) (is : List Item) : Type 0 where
-  pub good : (check_run check tool w manifest).good ≡ true
-  pub out : outs (check_run check tool w manifest) ≡ flat_map (λ (i : Item). right_line check.report i.name) is
-  pub err : errs (check_run check tool w manifest) ≡ []
+  pub good : (check_behavior check tool w manifest).good ≡ true
+  pub out : out_text (check_behavior check tool w manifest) ≡ flat_map (λ (i : Item). right_line check.report i.name) is
+  pub err : err_text (check_behavior check tool w manifest) ≡ []
 
 -- the verdicts of its lines
 all-right : (r : Rules) (w : World) (is : List Item) → All (Listed r.settings.algos w.answer) is
@@ -136,15 +136,15 @@ all-right : (r : Rules) (w : World) (is : List Item) → All (Listed r.settings.
 all-right r w is all = rw (lines-are r.settings.algos w.answer is all) (right-verdicts r [] is w 0 (inl refl) all)
 
 -- what checking it comes to, by these verdicts
-check_run-is : (check : CheckSettings) (tool manifest : List ℕ) (w : World) (is : List Item)
+check_behavior-is : (check : CheckSettings) (tool manifest : List ℕ) (w : World) (is : List Item)
     → All (Listed check.algos w.answer) is → length (flat_map written_text is) < limit
     → reply w manifest ≡ Ok (whole is)
-    → check_run check tool w manifest
-    ≡ step_then (opening manifest) (content_run (rules_of check tool manifest) (whole is) (rights 0 is))
-check_run-is check tool manifest w is all fits given =
+    → check_behavior check tool w manifest
+    ≡ step_then (opening manifest) (content_behavior (rules_of check tool manifest) (whole is) (rights 0 is))
+check_behavior-is check tool manifest w is all fits given =
     let r : Rules = rules_of check tool manifest in
     let next : World = after w (manifest ∷ []) in
-    ap (check_run_by r manifest next) given
+    ap (check_behavior_by r manifest next) given
     ∙ rw (clip-short (whole is) (rw limit-value at fits), all-right r next is all) refl
 
 -- a manifest with at least one line is good, and each of its names is reported as right
@@ -154,16 +154,16 @@ pub manifest_good : (check : CheckSettings) (tool manifest : List ℕ) (w : Worl
 manifest_good check tool manifest w [] all some fits given = absurd (omega arith)
 manifest_good check tool manifest w (i ∷ is) all some fits given =
     let r : Rules = rules_of check tool manifest in
-    let here = check_run-is check tool manifest w (i ∷ is) all fits given in
+    let here = check_behavior-is check tool manifest w (i ∷ is) all fits given in
     let c : counts no_counts (rights 0 (i ∷ is)) ≡ right_counts (suc (length is)) =
     counts-are 0 0 (i ∷ is) ∙ ap right_counts (omega arith) in
     let js = rights 0 (i ∷ is) in
     let end = end_text r Whole (counts no_counts js) in
     record {
-      good = ap (λ (q : Run). q.good) here ∙ ap (good r Whole) c ∙ is-good r (length is);
-      out = ap outs here ∙ outs_of_lines r end (whole (i ∷ is)) js ∙ rights-out r 0 (i ∷ is);
+      good = ap (λ (q : Behavior). q.good) here ∙ ap (good r Whole) c ∙ is-good r (length is);
+      out = ap out_text here ∙ outs_of_lines r end (whole (i ∷ is)) js ∙ rights-out r 0 (i ∷ is);
       err =
-          ap errs here ∙ errs_of_lines r end (whole (i ∷ is)) js
+          ap err_text here ∙ errs_of_lines r end (whole (i ∷ is)) js
           ∙ ap (λ t. t ++ end) (rights-err r 0 (i ∷ is))
           ∙ ap (end_text r Whole) c ∙ no-summary r (length is);
     }

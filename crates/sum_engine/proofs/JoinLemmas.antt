@@ -3,26 +3,26 @@ use Rattle.std.proofs.Common.{rules, ◌≡◌, ℕ, zero, suc, ◌+◌, ◌≤�
 use Rattle.std.proofs.lemmas.List.{take-append-drop}
 use Rattle.sum_sources.specs.Contents.{Content}
 use Rattle.sum_sources.specs.ManifestLines.{past_line}
-use Rattle.sum_engine.specs.Verdicts.{Form, lines_by, Rules, Judged, asks_of, verdicts, all_verdicts, judge}
+use Rattle.sum_engine.specs.Verdicts.{Form, lines_by, Rules, LineVerdictValue, asks_of, verdicts, all_verdicts, judge}
 use Rattle.sum_lines.specs.Entries.{form}
 use Rattle.sum_lines.specs.ParsedLines.{parse_line}
-use Rattle.sum_engine.specs.Runs.{World, after, Run, outs, errs, asks}
+use Rattle.sum_engine.specs.Runs.{World, after, Behavior, out_text, err_text, asks}
 use Rattle.sum_engine.specs.Reports.{no_counts, out_of, err_of, counts, end_text}
-use Rattle.sum_engine.specs.Checking.{line_steps, content_run}
-use Rattle.sum_engine.specs.Moments.{RunState}
-use Rattle.sum_engine.specs.Steps.{Now, Moves, GoesOn, to_come, at_start}
-use Rattle.sum_engine.specs.Manifests.{HandledTimes, StepsJoin, StepsEnd, StepsCut, StepsReport, Joined}
+use Rattle.sum_engine.specs.Checking.{line_steps, content_behavior}
+use Rattle.sum_engine.specs.Moments.{KnownState}
+use Rattle.sum_engine.specs.Steps.{CheckState, LineHandled, StepDone, remaining_behavior, initial_state}
+use Rattle.sum_engine.specs.Manifests.{LinesHandled, StepsJoin, StepsEnd, StepsCut, StepsReport, StateAfterLines}
 use Rattle.sum_engine.proofs.RestLemmas.{past_next}
 use Rattle.sum_engine.proofs.RunLemmas.{Along, steps_more, along_end, along_breaks}
 
 -- ---- a new checker
 
 -- the manifest's run
-abbrev whole : Rules → Content → RunState → Run
-whole r c s = content_run r c (all_verdicts r s.world c)
+abbrev whole : Rules → Content → KnownState → Behavior
+whole r c s = content_behavior r c (all_verdicts r s.world c)
 
 -- of none nothing happened
-joined_none : (r : Rules) (c : Content) (s : RunState) → Joined r c s (at_start c s) 0
+joined_none : (r : Rules) (c : Content) (s : KnownState) → StateAfterLines r c s (initial_state c s) 0
 joined_none r c s = search rules
 
 -- what is left and what is done behind one more
@@ -35,8 +35,8 @@ drop_next (suc k) (x ∷ xs) ys y h =
     let next = drop_next k xs ys y h in (next.0, ap (λ l. x ∷ l) next.1)
 
 -- the whole run is what was done and what is left
-along : {r : Rules} {c : Content} {s : RunState} {b : Now} {k : ℕ} → Joined r c s b k
-    → Along (whole r c s) (to_come r b) s b.known_state
+along : {r : Rules} {c : Content} {s : KnownState} {b : CheckState} {k : ℕ} → StateAfterLines r c s b k
+    → Along (whole r c s) (remaining_behavior r b) s b.known_state
 along {r} {c} {s} {b} {k} h = record {
   done = take k (whole r c s).steps;
   steps = sym (take-append-drop k (whole r c s).steps) ∙ ap (λ l. take k (whole r c s).steps ++ l) (sym h.remaining);
@@ -45,11 +45,11 @@ along {r} {c} {s} {b} {k} h = record {
 }
 
 -- one more was handled
-joined_more : {r : Rules} {c : Content} {s : RunState} {b d : Now} {v : List ℕ} {k : ℕ} → Joined r c s b k
-    → GoesOn (to_come r b) (to_come r d) b.known_state d.known_state → Moves r b d v → Joined r c s d (suc k)
+joined_more : {r : Rules} {c : Content} {s : KnownState} {b d : CheckState} {v : List ℕ} {k : ℕ} → StateAfterLines r c s b k
+    → StepDone (remaining_behavior r b) (remaining_behavior r d) b.known_state d.known_state → LineHandled r b d v → StateAfterLines r c s d (suc k)
 joined_more {r} {c} {s} {b} {d} {v} {k} h step moves =
     let all = (whole r c s).steps in
-    let left = drop_next k all (to_come r d).steps step.step (sym h.remaining ∙ ap (λ (q : Run). q.steps) step.is) in
+    let left = drop_next k all (remaining_behavior r d).steps step.step (sym h.remaining ∙ ap (λ (q : Behavior). q.steps) step.is) in
     let rest = moves.rest ∙ ap past_line h.rest ∙ past_next k c in
     record {
       rest = rest;
@@ -60,12 +60,12 @@ joined_more {r} {c} {s} {b} {d} {v} {k} h step moves =
           ∙ ap (λ (x : Content). b.consumed + length x.bytes) h.rest ∙ h.consumed;
       done = rw left.1 (steps_more (take k all) step.step h.done step.happened);
       remaining = sym left.0;
-      good = sym (ap (λ (q : Run). q.good) step.is) ∙ h.good;
+      good = sym (ap (λ (q : Behavior). q.good) step.is) ∙ h.good;
     }
 
 -- so many were, one after another
-joined_times : (r : Rules) (c : Content) (s : RunState) (a b : Now) (i k : ℕ) → Joined r c s a i → HandledTimes r a b k
-    → Joined r c s b (i + k)
+joined_times : (r : Rules) (c : Content) (s : KnownState) (a b : CheckState) (i k : ℕ) → StateAfterLines r c s a i → LinesHandled r a b k
+    → StateAfterLines r c s b (i + k)
 joined_times r c s a b i zero h is = search rules
 joined_times r c s a b i (suc k) h more =
     let next : i + suc k ≡ suc i + k = omega arith in
@@ -76,7 +76,7 @@ joined_times r c s a b i (suc k) h more =
 -- so many lines handled one after another are the first so many steps
 pub steps_join : StepsJoin
 steps_join r c s b k h =
-    let same : 0 + k ≡ k = omega arith in rw same at (joined_times r c s (at_start c s) b 0 k (joined_none r c s) h)
+    let same : 0 + k ≡ k = omega arith in rw same at (joined_times r c s (initial_state c s) b 0 k (joined_none r c s) h)
 
 -- there are as many verdicts as lines
 length_verdicts : (r : Rules) (f : Form) (w : World) (n : ℕ) (ls : List (List ℕ))
@@ -87,7 +87,7 @@ length_verdicts r f w n (l ∷ ls) =
     (n + 1) ls)
 
 -- and one step more
-length_steps : (r : Rules) (end : List ℕ) (c : Content) (js : List Judged)
+length_steps : (r : Rules) (end : List ℕ) (c : Content) (js : List LineVerdictValue)
     → length (line_steps r end c js) ≡ length js + 1
 length_steps r end c [] = refl
 length_steps r end c (j ∷ js) = omega (arith, length_steps r end (past_line c) js)
@@ -99,7 +99,7 @@ steps_end r c s b z k x times e =
     let js = all_verdicts r s.world c in
     let ls = lines_by r.profile c in
     let all = (whole r c s).steps in
-    let one : length all - k ≡ 1 = sym (length-drop k all) ∙ ap length (sym h.remaining ∙ ap (λ (q : Run). q.steps) e.is) in
+    let one : length all - k ≡ 1 = sym (length-drop k all) ∙ ap length (sym h.remaining ∙ ap (λ (q : Behavior). q.steps) e.is) in
     let len : length all ≡ length js + 1 = length_steps r (end_text r c.ending (counts no_counts js)) c js in
     let size = length_verdicts r (form r.settings.algos ls) s.world 0 ls in
     let end = along_end (along h) e in
@@ -112,9 +112,9 @@ steps_cut r c s b z k times e = along_breaks (along (steps_join r c s b k times)
 -- ---- the reports of the first steps
 
 -- by the lines
-reports : (r : Rules) (end : List ℕ) (c : Content) (js : List Judged) (k : ℕ) → k ≤ length js →
-    let some : Run = record { steps = take k (line_steps r end c js); good = true } in
-    (outs some ≡ flat_map (out_of r) (take k js)) × (errs some ≡ flat_map (err_of r) (take k js))
+reports : (r : Rules) (end : List ℕ) (c : Content) (js : List LineVerdictValue) (k : ℕ) → k ≤ length js →
+    let some : Behavior = record { steps = take k (line_steps r end c js); good = true } in
+    (out_text some ≡ flat_map (out_of r) (take k js)) × (err_text some ≡ flat_map (err_of r) (take k js))
     × (asks some ≡ flat_map asks_of (take k js))
 reports r end c js zero few = (refl, refl, refl)
 reports r end c [] (suc k) few = absurd (omega (arith, few))

@@ -11,12 +11,12 @@ use Rattle.sum_lines.specs.declared.line_reading.Form.TheVariants.{Undecided, St
 use Rattle.sum_lines.specs.declared.line_format.Mode.{Mode}
 use Rattle.sum_lines.specs.Escape.{escape}
 use Rattle.sum_lines.specs.Lines.{line}
-use Rattle.sum_lines.specs.Entries.{Spelled, Entry, form}
+use Rattle.sum_lines.specs.Entries.{EntryValue, IsEntry, form}
 use Rattle.sum_lines.specs.LineLaws.{ReadBy, Writable}
 use Rattle.sum_lines.proofs.LineFormatLemmas.{prefix_of, read_back}
 use Rattle.sum_engine.specs.Runs.{Whole, is_dash}
 use Rattle.sum_sources.specs.Contents.{Content, limit, Reply}
-use Rattle.sum_sources.specs.ManifestLines.{NoNewline, lines, pieces}
+use Rattle.sum_sources.specs.ManifestLines.{NoNewline, lines, raw_lines}
 use Rattle.sum_sources.proofs.CutLemmas.{raw_lines-joined}
 use Rattle.sum_engine.specs.OldVerdicts.{NoReturn}
 use Rattle.sum_engine.proofs.ReturnLemmas.{strips-kept}
@@ -49,7 +49,7 @@ abbrev pub prefix : Item → List ℕ
 prefix i = prefix_of i.mode i.kind i.name (digest i.kind i.bytes)
 
 -- what the line spells
-abbrev pub spelled_for : Item → Spelled
+abbrev pub spelled_for : Item → EntryValue
 spelled_for i = record { kind = i.kind; digest = digest i.kind i.bytes; name = i.name }
 
 -- it can be written so that it is read back
@@ -74,9 +74,9 @@ abbrev pub Plainly : List ℕ → Type 0
 Plainly l = All (λ b. (b ≢ 10) × (b ≢ 13)) l
 
 -- a line between others is read as s, and leaves the form plain enough for the next
-abbrev pub Back : Algos → List (List ℕ) → List (List ℕ) → Spelled → List ℕ → Type 0
+abbrev pub Back : Algos → List (List ℕ) → List (List ℕ) → EntryValue → List ℕ → Type 0
 Back algos before later s l =
-    Plainly l × Entry escape algos (form algos (before ++ (l ∷ later))) l s × ReadableSoFar algos (before ++ (l ∷ []))
+    Plainly l × IsEntry escape algos (form algos (before ++ (l ∷ later))) l s × ReadableSoFar algos (before ++ (l ∷ []))
 
 -- so is each item's
 pub back : (algos : Algos) (answer : List ℕ → Reply) (before later : List (List ℕ)) (i : Item) → Listed algos answer i
@@ -114,6 +114,6 @@ lines-are algos answer is all =
     let make : List ℕ → Content = λ bytes. record { bytes = bytes; ending = Whole } in
     let none = All-weaker Plainly NoNewline (λ l h k d lt. ne_eqb _ 10 (h k d lt).0) (map prefix is) plain in
     let cut = raw_lines-joined Whole (map prefix is) [] none (All-nil (λ b. (b == 10) ≡ false)) in
-    ap (map strip_carriage_return) (ap (λ b. pieces (make b)) (texts is ∙ sym (append-nil _)) ∙ cut
+    ap (map strip_carriage_return) (ap (λ b. raw_lines (make b)) (texts is ∙ sym (append-nil _)) ∙ cut
     ∙ append-nil (map prefix is))
     ∙ strips-kept (map prefix is) (All-weaker Plainly NoReturn (λ l h k d lt. (h k d lt).1) (map prefix is) plain)

@@ -1,21 +1,21 @@
 -- A new checker that runs to its end, and one manifest that is asked and checked.
 use Rattle.std.proofs.Common.{rules, ◌++◌, ◌≡◌, ℕ, ◌||◌, Bool, true, false, List, [], ◌∷◌, Option, None, Some, Result, Ok, Err, cond, refl, sym, ◌∙◌, subst, codes, option_map, IfSome}
 use Rattle.std.proofs.Math.Bool.{or-false}
-use Rattle.sum_engine.specs.Runs.{Fault, World, is_dash, reply, after, Step, Run, events_of}
+use Rattle.sum_engine.specs.Runs.{Fault, World, is_dash, reply, after, Step, Behavior, events_of}
 use Rattle.sum_sources.specs.declared.source.OpenFault.{OpenFault}
-use Rattle.sum_sources.specs.Contents.{Content, InputState, WhereTold, clip, SourceState, Reply, Telling, OpenOf, empty_content}
+use Rattle.sum_sources.specs.Contents.{Content, InputState, IfKnown, clip, SourceState, Reply, KnownSource, OpenOf, empty_content}
 use Rattle.sum_lines.specs.Sinks.{SinkState}
-use Rattle.sum_sources.proofs.ToldLemmas.{WhereTold-map}
+use Rattle.sum_sources.proofs.ToldLemmas.{IfKnown-map}
 use Rattle.digest_kinds.specs.Limits.{one_more}
 use Rattle.sum_lines.specs.declared.line_reading.Form.TheVariants.{Undecided}
 use Rattle.sum_lines.specs.Escape.{present}
-use Rattle.sum_engine.specs.Steps.{Progress, Going, Ended, Now, now_by, StepGives, to_come, Place, now_of}
+use Rattle.sum_engine.specs.Steps.{Progress, Going, Ended, CheckState, check_state_from, StepIsIfKnown, remaining_behavior, CursorValue, check_state}
 use Rattle.sum_engine.specs.Verdicts.{CheckSettings, Rules, all_verdicts}
-use Rattle.sum_engine.specs.Moments.{Stop, Memory, Write, Moment, RunState, run_state, Did, RunOf}
-use Rattle.sum_engine.specs.refinement.Telling.{Hands}
+use Rattle.sum_engine.specs.Moments.{Stop, Memory, Write, StreamsState, KnownState, known_state, Happened, PerformsSteps}
+use Rattle.sum_engine.specs.refinement.Telling.{WritesOrPrefix}
 use Rattle.sum_engine.specs.Generation.{fault_line}
 use Rattle.sum_engine.specs.Reports.{no_counts}
-use Rattle.sum_engine.specs.Checking.{rules_of, content_run, check_run_by, check_run}
+use Rattle.sum_engine.specs.Checking.{rules_of, content_behavior, check_behavior_by, check_behavior}
 use Rattle.sum_engine.specs.refinement.Asking.{world_by, world_of}
 use Rattle.sum_engine.proofs.WorldLemmas.{dash_asked}
 use Rattle.sum_engine.proofs.RunStateLemmas.{Runs, Writing, known_refused, names-by, err_alone}
@@ -26,22 +26,22 @@ use Rattle.sum_sources.specs.declared.source.OpenFault.TheVariants as open_fault
 -- ---- a new checker, run to its end
 
 -- it came so far, where its manifest and the run state tell
-abbrev pub Comes : Rules → Option Content → Option RunState → Option Now → Type 0
+abbrev pub Comes : Rules → Option Content → Option KnownState → Option CheckState → Type 0
 Comes r None s b = Unit {0}
 Comes r (Some c) None b = Unit {0}
 Comes r (Some c) (Some s) None = ⊥
-Comes r (Some c) (Some s) (Some b) = Along (content_run r c (all_verdicts r s.world c)) (to_come r b) s b.known_state
+Comes r (Some c) (Some s) (Some b) = Along (content_behavior r c (all_verdicts r s.world c)) (remaining_behavior r b) s b.known_state
 
 -- it begins so
-pub comes_none : (r : Rules) (c : Option Content) (s : Option RunState)
-    → Comes r c s (now_by c 0 0 Undecided no_counts s)
+pub comes_none : (r : Rules) (c : Option Content) (s : Option KnownState)
+    → Comes r c s (check_state_from c 0 0 Undecided no_counts s)
 comes_none r None s = tt
 comes_none r (Some c) None = tt
-comes_none r (Some c) (Some s) = along_none (content_run r c (all_verdicts r s.world c)) s
+comes_none r (Some c) (Some s) = along_none (content_behavior r c (all_verdicts r s.world c)) s
 
 -- a step that goes on comes one line further
-pub comes_more : (q r : Rules) (c : Option Content) (s : Option RunState) (b d : Option Now) (held : List ℕ)
-    → q ≡ r → Comes r c s b → StepGives q held b d (Ok Going) → Comes r c s d
+pub comes_more : (q r : Rules) (c : Option Content) (s : Option KnownState) (b d : Option CheckState) (held : List ℕ)
+    → q ≡ r → Comes r c s b → StepIsIfKnown q held b d (Ok Going) → Comes r c s d
 comes_more q r None s b d held rules p h = tt
 comes_more q r (Some c) None b d held rules p h = tt
 comes_more q r (Some c) (Some s) None d held rules p h = absurd p
@@ -54,20 +54,20 @@ ends (Ok good) = Ok (Ended good)
 ends (Err stop) = Err stop
 
 -- the run of a manifest
-abbrev pub manifest_run : Rules → Content → World → Run
-manifest_run r c w = content_run r c (all_verdicts r w c)
+abbrev pub manifest_run : Rules → Content → World → Behavior
+manifest_run r c w = content_behavior r c (all_verdicts r w c)
 
 -- that of a manifest that may not tell, from one moment to another
-abbrev pub Checks : {S : Type 0} → (S → SourceState) → Rules → Option Content → Moment S → Moment S
+abbrev pub Checks : {S : Type 0} → (S → SourceState) → Rules → Option Content → StreamsState S → StreamsState S
     → Result Bool Stop → Type 0
 Checks state r c a b x = IfSome c (λ c. Runs state (manifest_run r c) (λ g. g) a b x)
 
 -- the step that ends leaves all that the manifest comes to; one that stops leaves a prefix of it where a write failed,
 -- and whole steps where memory was wanted
-comes_last_by : {I : Type 0} (state : I → InputState) (q r : Rules) (c : Option Content) (s z : Option RunState)
-    (a : Option Now) (p : Place I) (held : List ℕ) (x : Result Bool Stop) → q ≡ r → Comes r c s a
-    → StepGives q held a (now_of state p z) (ends x) → IfSome c (λ c. WhereTold s z (λ s t.
-    let run = manifest_run r c s.world in RunOf run.steps run.good s t x))
+comes_last_by : {I : Type 0} (state : I → InputState) (q r : Rules) (c : Option Content) (s z : Option KnownState)
+    (a : Option CheckState) (p : CursorValue I) (held : List ℕ) (x : Result Bool Stop) → q ≡ r → Comes r c s a
+    → StepIsIfKnown q held a (check_state state p z) (ends x) → IfSome c (λ c. IfKnown s z (λ s t.
+    let run = manifest_run r c s.world in PerformsSteps run.steps run.good s t x))
 comes_last_by state q r None s z a p held x rules k h = tt
 comes_last_by state q r (Some c) None z a p held x rules k h = tt
 comes_last_by state q r (Some c) (Some s) z None p held x rules k h = absurd k
@@ -80,11 +80,11 @@ comes_last_by state q r (Some c) (Some s) z (Some a) p held (Err Memory) rules k
     along_waits (manifest_run r c s.world).good k (rw rules at waits))
 
 pub comes_last : {I S : Type 0} (input : I → InputState) (state : S → SourceState) (q r : Rules) (c : Option Content)
-    (first last : Moment S) (a : Option Now) (p : Place I) (held : List ℕ) (x : Result Bool Stop) → q ≡ r
-    → Comes r c (run_state state first) a → StepGives q held a (now_of input p (run_state state last)) (ends x)
+    (first last : StreamsState S) (a : Option CheckState) (p : CursorValue I) (held : List ℕ) (x : Result Bool Stop) → q ≡ r
+    → Comes r c (known_state state first) a → StepIsIfKnown q held a (check_state input p (known_state state last)) (ends x)
     → Checks state r c first last x
 comes_last input state q r c first last a p held x rules k h =
-    comes_last_by input q r c (run_state state first) (run_state state last) a p held x rules k h
+    comes_last_by input q r c (known_state state first) (known_state state last) a p held x rules k h
 
 -- ---- a manifest that was asked
 
@@ -113,65 +113,65 @@ abbrev pub opening : List ℕ → Step
 opening name = record { names = name ∷ []; err = []; out = []; remaining = 0 }
 
 -- the name was asked, which has that content, and nothing else was done
-abbrev pub IsOpened : List ℕ → Option Content → RunState → RunState → Type 0
+abbrev pub IsOpened : List ℕ → Option Content → KnownState → KnownState → Type 0
 IsOpened name c a b =
-    (d : Content) × (c ≡ Some d) × (reply a.world name ≡ Ok d) × Did a b (events_of (opening name))
+    (d : Content) × (c ≡ Some d) × (reply a.world name ≡ Ok d) × Happened a b (events_of (opening name))
 
 -- what a call gives
-abbrev pub CheckGives : {S : Type 0} → (S → SourceState) → Call → Moment S → Moment S → Result Bool Stop → Type 0
-CheckGives state k a b x = Runs state (λ w. check_run k.settings k.tool w k.name) (λ g. g) a b x
+abbrev pub CheckGives : {S : Type 0} → (S → SourceState) → Call → StreamsState S → StreamsState S → Result Bool Stop → Type 0
+CheckGives state k a b x = Runs state (λ w. check_behavior k.settings k.tool w k.name) (λ g. g) a b x
 
 -- the next, by run states
-check_gives_by : (k : Call) (dash : Bool) (c : Option Content) (a asked b : Option RunState) (x : Result Bool Stop)
-    → is_dash k.name ≡ dash → WhereTold a asked (IsOpened k.name c)
-    → IfSome (option_map clip c) (λ c. WhereTold asked b (λ s t.
-    let run = manifest_run (rules_where k dash) c s.world in RunOf run.steps run.good s t x))
-    → WhereTold a b (λ s t.
-    let run = check_run k.settings k.tool s.world k.name in RunOf run.steps run.good s t x)
+check_gives_by : (k : Call) (dash : Bool) (c : Option Content) (a asked b : Option KnownState) (x : Result Bool Stop)
+    → is_dash k.name ≡ dash → IfKnown a asked (IsOpened k.name c)
+    → IfSome (option_map clip c) (λ c. IfKnown asked b (λ s t.
+    let run = manifest_run (rules_where k dash) c s.world in PerformsSteps run.steps run.good s t x))
+    → IfKnown a b (λ s t.
+    let run = check_behavior k.settings k.tool s.world k.name in PerformsSteps run.steps run.good s t x)
 check_gives_by k dash c None asked b x is h run = tt
 check_gives_by k dash c (Some a) None b x is h run = absurd h
 check_gives_by k dash c (Some a) (Some asked) None x is h run = absurd (rw h.1 at run)
 check_gives_by k dash c (Some a) (Some asked) (Some b) x is h run =
-    let of : World → Run = manifest_run (rules_of_call k) (clip h.0) in
+    let of : World → Behavior = manifest_run (rules_of_call k) (clip h.0) in
     let later : World = after a.world (k.name ∷ []) in
     let world : asked.world ≡ later = rw (names-by (k.name ∷ []) [] []) at h.3.world in
-    let rest = subst (λ w. RunOf (of w).steps (of w).good asked b x) world (rw (← is, h.1) at run) in
+    let rest = subst (λ w. PerformsSteps (of w).steps (of w).good asked b x) world (rw (← is, h.1) at run) in
     rw h.2 (behind_step b (of later).good (opening k.name) (of later).steps x h.3 rest)
 
 -- after that, what the checker does is what the call does, where source, standard input and manifest tell
 check_gives : {S : Type 0} (state : S → SourceState) (k : Call) (dash : Bool) (c : Option Content)
-    (a asked b : Moment S) (x : Result Bool Stop) → is_dash k.name ≡ dash
-    → WhereTold (run_state state a) (run_state state asked) (IsOpened k.name c)
+    (a asked b : StreamsState S) (x : Result Bool Stop) → is_dash k.name ≡ dash
+    → IfKnown (known_state state a) (known_state state asked) (IsOpened k.name c)
     → Checks state (rules_where k dash) (option_map clip c) asked b x → CheckGives state k a b x
 check_gives state k dash c a asked b x is h run =
-    check_gives_by k dash c (run_state state a) (run_state state asked) (run_state state b) x is h run
+    check_gives_by k dash c (known_state state a) (known_state state asked) (known_state state b) x is h run
 
 -- a name that was asked, where nothing was written
-asked_only : {a b : RunState} (name : List ℕ) → b.world ≡ after a.world (name ∷ [])
+asked_only : {a b : KnownState} (name : List ℕ) → b.world ≡ after a.world (name ∷ [])
     → b.stdin_taken ≡ a.stdin_taken || is_dash name → b.refusals ≡ a.refusals → b.err ≡ a.err → b.out ≡ a.out
-    → Did a b (events_of (opening name))
+    → Happened a b (events_of (opening name))
 asked_only {a} name world taken refusals err out = search rules
 
 -- the worlds of a source before and after standard input was taken
-dash_worlds : (name : List ℕ) (s : Option Telling) (c : Option Content) → is_dash name ≡ true
-    → WhereTold (world_by s c) (world_by s (Some empty_content))
+dash_worlds : (name : List ℕ) (s : Option KnownSource) (c : Option Content) → is_dash name ≡ true
+    → IfKnown (world_by s c) (world_by s (Some empty_content))
     (λ w v. (v ≡ after w (name ∷ [])) × (c ≡ Some w.input))
 dash_worlds name None c dash = tt
 dash_worlds name (Some s) None dash = tt
 dash_worlds name (Some s) (Some c) dash = (dash_asked s.answer s.asked c name dash, refl)
 
 -- the manifest is standard input, which is taken then
-dash_opened : {S : Type 0} (state : S → SourceState) (name : List ℕ) (a : Moment S) → is_dash name ≡ true
-    → WhereTold (run_state state a) (run_state state (record a { input = Some empty_content; stdin_taken = true }))
+dash_opened : {S : Type 0} (state : S → SourceState) (name : List ℕ) (a : StreamsState S) → is_dash name ≡ true
+    → IfKnown (known_state state a) (known_state state (record a { input = Some empty_content; stdin_taken = true }))
     (IsOpened name a.input)
 dash_opened {S} state name a dash = search rules
 
 -- so what the checker does with standard input is what the call does
-pub check_dash : {S : Type 0} (state : S → SourceState) (k : Call) (a b : Moment S) (x : Result Bool Stop)
+pub check_dash : {S : Type 0} (state : S → SourceState) (k : Call) (a b : StreamsState S) (x : Result Bool Stop)
     → is_dash k.name ≡ true → Checks state (rules_where k true) (option_map clip a.input)
     (record a { input = Some empty_content; stdin_taken = true }) b x → CheckGives state k a b x
 check_dash {S} state k a b x dash run =
-    let asked : Moment S = record a { input = Some empty_content; stdin_taken = true } in
+    let asked : StreamsState S = record a { input = Some empty_content; stdin_taken = true } in
     check_gives state k true a.input a asked b x dash (dash_opened state k.name a dash) run
 
 -- opening a name, as the world sees it
@@ -187,7 +187,7 @@ given : (o : Option Content) (r : Reply) → option_map Ok o ≡ Some r → (c :
 given None r h = cc
 given (Some c) r h = (c, cc, refl)
 
-opens_in : {F : Type 0} (content : F → InputState) (name : List ℕ) (s t : Telling) (i : Content)
+opens_in : {F : Type 0} (content : F → InputState) (name : List ℕ) (s t : KnownSource) (i : Content)
     (x : Result F OpenFault) → OpenOf content s t name x
     → OpensIn content name x (record { answer = s.answer; asked = s.asked; input = i })
     (record { answer = t.answer; asked = t.asked; input = i })
@@ -196,45 +196,45 @@ opens_in content name s t i (Err (open_faults.Fault f)) h = (rw h.0 refl, cc)
 opens_in content name s t i (Err open_faults.Memory) h = rw h refl
 
 -- where source and standard input tell
-opens : {F : Type 0} (content : F → InputState) (name : List ℕ) (s t : Option Telling) (input : Option Content)
-    (x : Result F OpenFault) → WhereTold s t (λ s t. OpenOf content s t name x)
-    → WhereTold (world_by s input) (world_by t input) (OpensIn content name x)
+opens : {F : Type 0} (content : F → InputState) (name : List ℕ) (s t : Option KnownSource) (input : Option Content)
+    (x : Result F OpenFault) → IfKnown s t (λ s t. OpenOf content s t name x)
+    → IfKnown (world_by s input) (world_by t input) (OpensIn content name x)
 opens content name None t input x h = tt
 opens content name (Some s) t None x h = tt
 opens content name (Some s) None (Some i) x h = absurd h
 opens content name (Some s) (Some t) (Some i) x h = opens_in content name s t i x h
 
 -- the manifest is a file
-file_opened : {F S : Type 0} (content : F → InputState) (state : S → SourceState) (name : List ℕ) (a : Moment S)
+file_opened : {F S : Type 0} (content : F → InputState) (state : S → SourceState) (name : List ℕ) (a : StreamsState S)
     (source : S) (file : F) → is_dash name ≡ false
-    → WhereTold (state a.source).known (state source).known (λ s t. OpenOf content s t name (Ok file))
+    → IfKnown (state a.source).known (state source).known (λ s t. OpenOf content s t name (Ok file))
     → (state source).refusals ≡ (state a.source).refusals
-    → WhereTold (run_state state a) (run_state state (record a { source = source }))
+    → IfKnown (known_state state a) (known_state state (record a { source = source }))
     (IsOpened name (content file).content)
 file_opened content state name a source file dash h refusals = search rules
 
 -- so what the checker does with it is what the call does
-pub check_file : {F S : Type 0} (content : F → InputState) (state : S → SourceState) (k : Call) (a b : Moment S)
+pub check_file : {F S : Type 0} (content : F → InputState) (state : S → SourceState) (k : Call) (a b : StreamsState S)
     (source : S) (file : F) (x : Result Bool Stop) → is_dash k.name ≡ false
-    → WhereTold (state a.source).known (state source).known (λ s t. OpenOf content s t k.name (Ok file))
+    → IfKnown (state a.source).known (state source).known (λ s t. OpenOf content s t k.name (Ok file))
     → (state source).refusals ≡ (state a.source).refusals
     → Checks state (rules_where k false) (option_map clip (content file).content)
     (record a { source = source }) b x → CheckGives state k a b x
 check_file {S = S} content state k a b source file x dash h refusals run =
-    let asked : Moment S = record a { source = source } in
+    let asked : StreamsState S = record a { source = source } in
     check_gives state k false (content file).content a asked b x dash
     (file_opened content state k.name a source file dash h refusals) run
 
 -- the manifest could not be opened, and the line of its fault was handed on, or a prefix of it
-pub refused : {F S : Type 0} (content : F → InputState) (state : S → SourceState) (k : Call) (a : Moment S)
+pub refused : {F S : Type 0} (content : F → InputState) (state : S → SourceState) (k : Call) (a : StreamsState S)
     (source : S) (f : Fault) (err : SinkState) (x : Writing) → is_dash k.name ≡ false
-    → WhereTold (state a.source).known (state source).known (λ s t. OpenOf content s t k.name (Err (open_faults.Fault f)))
+    → IfKnown (state a.source).known (state source).known (λ s t. OpenOf content s t k.name (Err (open_faults.Fault f)))
     → (state source).refusals ≡ (state a.source).refusals
-    → Hands a.err.written err.written (fault_line present k.tool k.name f) x
+    → WritesOrPrefix a.err.written err.written (fault_line present k.tool k.name f) x
     → CheckGives state k a (record a { source = source; err = err }) (answered x false)
 refused {S = S} content state k a source f err x dash h refusals hands =
-    let next : Moment S = record a { source = source; err = err } in
-    once state (λ w. check_run k.settings k.tool w k.name) (k.name ∷ []) (fault_line present k.tool k.name f) [] false
+    let next : StreamsState S = record a { source = source; err = err } in
+    once state (λ w. check_behavior k.settings k.tool w k.name) (k.name ∷ []) (fault_line present k.tool k.name f) [] false
     (λ g. g) a next x
     (opens content k.name (state a.source).known (state source).known a.input (Err (open_faults.Fault f)) h)
     (λ w v is. (
@@ -248,20 +248,20 @@ refused {S = S} content state k a source f err x dash h refusals hands =
 
 -- checking begins with a step
 begins : (r : Rules) (name : List ℕ) (w : World) (reply : Reply)
-    → (next : Step) × (rest : List Step) × ((check_run_by r name w reply).steps ≡ next ∷ rest)
+    → (next : Step) × (rest : List Step) × ((check_behavior_by r name w reply).steps ≡ next ∷ rest)
 begins r name w (Err f) = (_, [], refl)
 begins r name w (Ok c) = (opening name, _, refl)
 
 -- the source had no memory to open it
-pub no_room : {F S : Type 0} (content : F → InputState) (state : S → SourceState) (k : Call) (a : Moment S)
+pub no_room : {F S : Type 0} (content : F → InputState) (state : S → SourceState) (k : Call) (a : StreamsState S)
     (source : S)
-    → WhereTold (state a.source).known (state source).known (λ s t. OpenOf content s t k.name (Err open_faults.Memory))
+    → IfKnown (state a.source).known (state source).known (λ s t. OpenOf content s t k.name (Err open_faults.Memory))
     → (state source).refusals ≡ one_more (state a.source).refusals
     → CheckGives state k a (record a { source = source }) (Err Memory)
 no_room {S = S} content state k a source h refused =
-    let next : Moment S = record a { source = source } in
-    unasked state (λ w. check_run k.settings k.tool w k.name) (λ g. g) a next
+    let next : StreamsState S = record a { source = source } in
+    unasked state (λ w. check_behavior k.settings k.tool w k.name) (λ g. g) a next
     (λ w. begins (rules_of_call k) k.name (after w (k.name ∷ [])) (reply w k.name))
-    (known_refused state a next (WhereTold-map (world_of state a) (world_of state next) (λ w v is. is)
+    (known_refused state a next (IfKnown-map (world_of state a) (world_of state next) (λ w v is. is)
     (opens content k.name (state a.source).known (state source).known a.input (Err open_faults.Memory) h))
     refl refl refl refused)

@@ -8,7 +8,7 @@ use Rattle.sum_lines.specs.Shapes.{Algos, Plain, Tagged, mark, optional}
 use Rattle.sum_lines.specs.declared.line_reading.Form.{Form}
 use Rattle.sum_lines.specs.declared.line_reading.Form.TheVariants.{Undecided, Standard, Reversed}
 use Rattle.sum_lines.specs.Escape.{present, escape, escape_of, escape_by}
-use Rattle.sum_lines.specs.Entries.{Spelled, is_ignored_by, RawOf, ByTag, ByTail, Entry}
+use Rattle.sum_lines.specs.Entries.{EntryValue, is_ignored_by, RawOf, ByTag, ByTail, IsEntry}
 use Rattle.sum_lines.specs.ParsedLines.{ParsedLine, ignored, bad, entry, parse_line}
 use Rattle.sum_lines.proofs.ParsedLineLemmas.{says_is}
 use Rattle.sum_engine.specs.OldVerdicts.{older, NoReturn, HasEscapedReturn, NoEscapedReturn}
@@ -106,7 +106,7 @@ raw_clean Standard e (b ∷ c ∷ cs) raw h is =
     )
 
 -- what an entry spells has none where its line has none: a tagged line
-tag_clean : (E : List ℕ → List ℕ) (algos : Algos) (line : List ℕ) (s : Spelled) → NoReturn line
+tag_clean : (E : List ℕ → List ℕ) (algos : Algos) (line : List ℕ) (s : EntryValue) → NoReturn line
     → NoEscapedReturn algos line → (t : ByTag E algos line s) → CleanRaw t.escaped t.raw
 tag_clean E algos line s free none t =
     let whole = subst NoReturn t.tagged.whole free in (
@@ -119,7 +119,7 @@ tag_clean E algos line s free none t =
     )
 
 -- and a plain one
-tail_clean : (E : List ℕ → List ℕ) (algos : Algos) (f : Form) (line : List ℕ) (s : Spelled) → NoReturn line
+tail_clean : (E : List ℕ → List ℕ) (algos : Algos) (f : Form) (line : List ℕ) (s : EntryValue) → NoReturn line
     → NoEscapedReturn algos line → (t : ByTail E algos f line s) → CleanRaw t.escaped t.raw
 tail_clean E algos f line s free none t =
     let whole = subst NoReturn t.plain.whole free in raw_clean f t.escaped t.tail t.raw (
@@ -138,8 +138,8 @@ respelled e raw name same s = record { no_nul = s.no_nul; is = s.is ∙ ap (λ l
 
 -- an entry by one escape is one by the other, and its name has none
 entry_by : (E F : List ℕ → List ℕ) → Cleans E → ((name : List ℕ) → NoReturn name → E name ≡ F name) → (algos : Algos)
-    (f : Form) (line : List ℕ) (s : Spelled) → NoReturn line → NoEscapedReturn algos line → Entry E algos f line s
-    → NoReturn s.name × Entry F algos f line s
+    (f : Form) (line : List ℕ) (s : EntryValue) → NoReturn line → NoEscapedReturn algos line → IsEntry E algos f line s
+    → NoReturn s.name × IsEntry F algos f line s
 entry_by E F cleans same algos f line s free none (i, inl t) =
     let clean = cleans t.escaped t.raw s.name (tag_clean E algos line s free none t) t.spells in
     let spells = respelled {E = E} {F = F} t.escaped t.raw s.name (same s.name clean) t.spells in

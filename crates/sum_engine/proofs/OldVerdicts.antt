@@ -3,19 +3,19 @@ use Rattle.std.proofs.Common.{◌≡◌, ℕ, ◌+◌, ◌<◌, false, not, cond
 use Rattle.std.specs.List.{concat}
 use Rattle.std.proofs.lemmas.List.Elements.{All-nil, All-cons, All-head, All-tail}
 use Rattle.sum_engine.specs.Reports.{Algos, Counts, no_counts, name_line, verdict_line, is_hidden, out_of, err_by, err_of, counts, end_text, good}
-use Rattle.sum_engine.specs.Runs.{Ending, Whole, Broken, Fault, World, after, at_once}
+use Rattle.sum_engine.specs.Runs.{Ending, Whole, Broken, Fault, World, after, single_step}
 use Rattle.sum_sources.specs.Contents.{Content, clip}
-use Rattle.sum_sources.specs.ManifestLines.{pieces, last_line, past_line, bytes_of_pieces}
+use Rattle.sum_sources.specs.ManifestLines.{raw_lines, last_line, past_line, bytes_of_lines}
 use Rattle.sum_sources.proofs.CutLemmas.{cut, raw_lines-joined}
-use Rattle.sum_engine.specs.Verdicts.{Form, Verdict, Bad, Right, Wrong, Unread, lines_by, Rules, Judged, judge, asks_of, verdicts, all_verdicts}
+use Rattle.sum_engine.specs.Verdicts.{Form, Verdict, Bad, Right, Wrong, Unread, lines_by, Rules, LineVerdictValue, judge, asks_of, verdicts, all_verdicts}
 use Rattle.sum_lines.specs.Shapes.{mark}
 use Rattle.sum_lines.specs.Entries.{form}
 use Rattle.sum_lines.specs.Escape.{present}
 use Rattle.sum_engine.specs.Steps.{step_then}
 use Rattle.sum_lines.specs.ParsedLines.{ParsedLine, ignored, bad, entry, parse_line}
 use Rattle.sum_engine.specs.Generation.{fault_line}
-use Rattle.sum_engine.specs.Checking.{line_steps, content_run}
-use Rattle.sum_engine.specs.OldVerdicts.{older, rules_under, NoReturn, NoEscapedReturn, Old, OldVerdicts, OldOutcomes, OlderDiffers}
+use Rattle.sum_engine.specs.Checking.{line_steps, content_behavior}
+use Rattle.sum_engine.specs.OldVerdicts.{older, rules_under, NoReturn, NoEscapedReturn, IsOldManifest, OldVerdicts, OldOutcomes, OlderDiffers}
 use Rattle.sum_lines.proofs.ParsedLineLemmas.{says_is}
 use Rattle.sum_engine.proofs.OldNames.{all_left, all_right, same_escape, CleanParsedLine, parse_line_same}
 use Rattle.sum_engine.proofs.SamePrefix.{judge_under}
@@ -31,31 +31,31 @@ last_clean Whole (b ∷ bs) free = All-cons NoReturn (b ∷ bs) [] free (All-nil
 last_clean (Broken f) piece free = All-nil NoReturn
 
 -- nor has any other line
-ended_clean : (e : Ending) (ended : List (List ℕ)) (tail : List ℕ) → NoReturn (bytes_of_pieces ended tail)
+ended_clean : (e : Ending) (ended : List (List ℕ)) (tail : List ℕ) → NoReturn (bytes_of_lines ended tail)
     → All NoReturn (ended ++ last_line e tail)
 ended_clean e [] tail free = last_clean e tail free
 ended_clean e (p ∷ ps) tail free =
-    let whole : NoReturn ((p ++ 10 ∷ []) ++ bytes_of_pieces ps tail) =
+    let whole : NoReturn ((p ++ 10 ∷ []) ++ bytes_of_lines ps tail) =
     subst NoReturn (append_assoc (p ++ 10 ∷ []) (flat_map (λ piece. piece ++ 10 ∷ []) ps) tail) free in
     All-cons NoReturn p (ps ++ last_line e tail) (all_left NotReturn p _ (all_left NotReturn (p ++ 10 ∷ []) _ whole))
     (ended_clean e ps tail (all_right NotReturn (p ++ 10 ∷ []) _ whole))
 
 -- so no line of a content has one
-pieces_clean : (c : Content) → NoReturn c.bytes → All NoReturn (pieces c)
+pieces_clean : (c : Content) → NoReturn c.bytes → All NoReturn (raw_lines c)
 pieces_clean c free =
     let all = cut c.bytes in
-    subst (λ (bytes : List ℕ). All NoReturn (pieces (record { bytes = bytes; ending = c.ending }))) (sym all.2)
+    subst (λ (bytes : List ℕ). All NoReturn (raw_lines (record { bytes = bytes; ending = c.ending }))) (sym all.2)
     (subst (All NoReturn) (sym (raw_lines-joined c.ending all.0 all.1 all.3 all.4))
     (ended_clean c.ending all.0 all.1 (subst NoReturn all.2 free)))
 
 -- so the lines are the same
 lines_same : (c : Content) → NoReturn c.bytes → lines_by older c ≡ lines_by present c
-lines_same c free = sym (strips-kept (pieces c) (pieces_clean c free))
+lines_same c free = sym (strips-kept (raw_lines c) (pieces_clean c free))
 
 -- ---- the verdicts
 
 -- a name that holds no carriage return
-abbrev CleanName : Judged → Type 0
+abbrev CleanName : LineVerdictValue → Type 0
 CleanName j = NoReturn j.name
 
 -- and what is judged names none
@@ -106,14 +106,14 @@ said_same (Unread f) name free = name_line_same name (codes "FAILED open or read
 said_same v name free = refl
 
 -- what is the same for each verdict without one is the same for all
-all_same : (f g : Judged → List ℕ) → ((j : Judged) → CleanName j → f j ≡ g j) → (js : List Judged) → All CleanName js
+all_same : (f g : LineVerdictValue → List ℕ) → ((j : LineVerdictValue) → CleanName j → f j ≡ g j) → (js : List LineVerdictValue) → All CleanName js
     → map f js ≡ map g js
 all_same f g same [] all = refl
 all_same f g same (j ∷ js) all =
     rw (same j (All-head CleanName j js all), all_same f g same js (All-tail CleanName j js all)) refl
 
 -- and so is all that is reported
-outs_same : (r : Rules) (js : List Judged) → All CleanName js
+outs_same : (r : Rules) (js : List LineVerdictValue) → All CleanName js
     → map (out_of (rules_under older r)) js ≡ map (out_of (rules_under present r)) js
 outs_same r js all = all_same (out_of (rules_under older r)) (out_of (rules_under present r)) (λ j free.
     ap (cond (is_hidden r.settings.report j.verdict) []) (said_same j.verdict j.name free)) js all
@@ -131,7 +131,7 @@ err_same r n (Unread f) name own free = fault_same r.tool name f free
 err_same r n v name own free = refl
 
 -- all that is written there
-errs_same : (r : Rules) (js : List Judged) → NoReturn r.shown → All CleanName js
+errs_same : (r : Rules) (js : List LineVerdictValue) → NoReturn r.shown → All CleanName js
     → map (err_of (rules_under older r)) js ≡ map (err_of (rules_under present r)) js
 errs_same r js own all = all_same (err_of (rules_under older r)) (err_of (rules_under present r)) (λ j free.
     err_same r j.number j.verdict j.name own free) js all
@@ -150,17 +150,17 @@ good_same r (Broken f) c = refl
 -- ---- the law
 
 -- the verdicts of such a manifest are the same under both profiles, and name no carriage return
-found_same : (r : Rules) (w : World) (c : Content) → Old r c
+found_same : (r : Rules) (w : World) (c : Content) → IsOldManifest r c
     → (all_verdicts (rules_under older r) w c ≡ all_verdicts (rules_under present r) w c)
     × All CleanName (all_verdicts (rules_under present r) w c)
 found_same r w c h =
     let clean = pieces_clean c h.no_byte in
-    let all : All (Alike r.settings.algos) (pieces c) =
+    let all : All (Alike r.settings.algos) (raw_lines c) =
     λ k d lt. record { no_byte = clean k d lt; no_escape = h.no_escape k d lt; some = h.no_empty k d lt } in
     let Same : List (List ℕ) → Type 0 = λ ls.
     (all_verdicts (rules_under older r) w c ≡ verdicts (rules_under present r) (form r.settings.algos ls) w 0 ls)
     × All CleanName (verdicts (rules_under present r) (form r.settings.algos ls) w 0 ls) in
-    subst Same (lines_same c h.no_byte) (verdicts_same r (form r.settings.algos (pieces c)) w 0 (pieces c) all)
+    subst Same (lines_same c h.no_byte) (verdicts_same r (form r.settings.algos (raw_lines c)) w 0 (raw_lines c) all)
 
 -- so are its reports
 pub old_verdicts : OldVerdicts
@@ -178,7 +178,7 @@ old_verdicts r w c h =
 -- ---- all that checking comes to
 
 -- the steps are the same
-steps_same : (r : Rules) (end : List ℕ) (c : Content) (js : List Judged) → NoReturn r.shown → All CleanName js
+steps_same : (r : Rules) (end : List ℕ) (c : Content) (js : List LineVerdictValue) → NoReturn r.shown → All CleanName js
     → line_steps (rules_under older r) end c js ≡ line_steps (rules_under present r) end c js
 steps_same r end c [] own all = refl
 steps_same r end c (j ∷ js) own all =
@@ -190,9 +190,9 @@ steps_same r end c (j ∷ js) own all =
     ) refl
 
 -- what such a content comes to is the same
-content_same : (r : Rules) (w : World) (c : Content) → Old r c
-    → content_run (rules_under older r) c (all_verdicts (rules_under older r) w c)
-    ≡ content_run (rules_under present r) c (all_verdicts (rules_under present r) w c)
+content_same : (r : Rules) (w : World) (c : Content) → IsOldManifest r c
+    → content_behavior (rules_under older r) c (all_verdicts (rules_under older r) w c)
+    ≡ content_behavior (rules_under present r) c (all_verdicts (rules_under present r) w c)
 content_same r w c h =
     let found = found_same r w c h in
     let ks = all_verdicts (rules_under present r) w c in
@@ -207,7 +207,7 @@ content_same r w c h =
 -- so is what its name comes to
 pub old_outcomes : OldOutcomes
 old_outcomes r name w (Err f) own h =
-    ap (λ (l : List ℕ). at_once (name ∷ []) l [] false) (fault_same r.tool r.shown f own)
+    ap (λ (l : List ℕ). single_step (name ∷ []) l [] false) (fault_same r.tool r.shown f own)
 old_outcomes r name w (Ok c) own h = ap (step_then (opening name)) (content_same r w (clip c) (h c refl))
 
 -- ---- where the profiles differ
@@ -219,5 +219,5 @@ empty_line algos f =
 
 -- the profiles do differ: a name with a carriage return, and an empty line
 pub older_differs : OlderDiffers
-unfolding pieces
+unfolding raw_lines
 older_differs = (refl, refl, empty_line)

@@ -4,15 +4,15 @@ use Rattle.sum_sources.specs.Contents.{Content}
 use Rattle.sum_sources.specs.ManifestLines.{past_line, past_lines}
 use Rattle.sum_lines.specs.Entries.{form, form_then, line_form}
 use Rattle.sum_lines.proofs.FormLemmas.{form_next, said_stays}
-use Rattle.sum_engine.specs.Runs.{after, Ending, Step, Run}
-use Rattle.sum_engine.specs.Verdicts.{lines_by, Rules, Judged, asks_of, verdicts}
+use Rattle.sum_engine.specs.Runs.{after, Ending, Step, Behavior}
+use Rattle.sum_engine.specs.Verdicts.{lines_by, Rules, LineVerdictValue, asks_of, verdicts}
 use Rattle.sum_lines.specs.ParsedLines.{parse_line}
 use Rattle.sum_engine.specs.Reports.{Counts, counts, out_of, err_of, end_text, good, counts_with}
 use Rattle.sum_engine.specs.Checking.{line_steps}
-use Rattle.sum_engine.specs.Steps.{step_then, Now, Moves, next_judged, rest_verdicts, to_come}
+use Rattle.sum_engine.specs.Steps.{step_then, CheckState, LineHandled, next_judged, remaining_verdicts, remaining_behavior}
 
 -- what a line says by the form of all lines is what it says by the form so far and its own
-parse_line_now : (r : Rules) (a : Now) (l : List ℕ) (ls : List (List ℕ)) →
+parse_line_now : (r : Rules) (a : CheckState) (l : List ℕ) (ls : List (List ℕ)) →
     parse_line r.profile r.settings.algos (form_then a.form (form r.settings.algos (l ∷ ls))) l
     ≡ parse_line r.profile r.settings.algos (form_then a.form (line_form r.settings.algos l)) l
 parse_line_now r a l ls =
@@ -21,34 +21,34 @@ parse_line_now r a l ls =
     ∙ said_stays r.profile algo a.form (form algo ls) l
 
 -- the first of what is left
-pub rest_head : (r : Rules) (a : Now) (l : List ℕ) (ls : List (List ℕ)) → lines_by r.profile a.rest ≡ l ∷ ls
-    → rest_verdicts r a ≡ next_judged r a l ∷ verdicts r (form_then a.form (form r.settings.algos (l ∷ ls)))
+pub rest_head : (r : Rules) (a : CheckState) (l : List ℕ) (ls : List (List ℕ)) → lines_by r.profile a.rest ≡ l ∷ ls
+    → remaining_verdicts r a ≡ next_judged r a l ∷ verdicts r (form_then a.form (form r.settings.algos (l ∷ ls)))
     (after a.known_state.world (asks_of (next_judged r a l))) (a.number + 1) ls
 rest_head r a l ls h = rw (h, parse_line_now r a l ls) refl
 
 -- one line's verdict, and those of what is left behind it
-pub rest_on : (r : Rules) (a b : Now) (v : List ℕ) (h : Moves r a b v)
+pub rest_on : (r : Rules) (a b : CheckState) (v : List ℕ) (h : LineHandled r a b v)
     → b.known_state.world ≡ after a.known_state.world (asks_of (next_judged r a h.line))
-    → rest_verdicts r a ≡ next_judged r a h.line ∷ rest_verdicts r b
+    → remaining_verdicts r a ≡ next_judged r a h.line ∷ remaining_verdicts r b
 rest_on r a b v h world =
     rest_head r a h.line (lines_by r.profile b.rest) h.lines ∙ rw (h.form, world, h.number, form_next) refl
 
 -- ---- the run that is to come
 
 -- the step of a line, before which so many bytes are left
-abbrev pub line_step : Rules → ℕ → Judged → Step
+abbrev pub line_step : Rules → ℕ → LineVerdictValue → Step
 line_step r left j = record { names = asks_of j; err = err_of r j; out = out_of r j; remaining = left }
 
 -- that of these verdicts, behind these counts
-abbrev pub run_by : Rules → Ending → Counts → Content → List Judged → Run
+abbrev pub run_by : Rules → Ending → Counts → Content → List LineVerdictValue → Behavior
 run_by r e k c js = record {
   steps = line_steps r (end_text r e (counts k js)) c js;
   good = good r e (counts k js);
 }
 
 -- it begins with a step before which all of the content is to come
-pub first_step : (r : Rules) (e : Ending) (k : Counts) (c : Content) (js : List Judged)
-    → (s : Step) × (rest : Run) × (run_by r e k c js ≡ step_then s rest) × (s.remaining ≡ length c.bytes)
+pub first_step : (r : Rules) (e : Ending) (k : Counts) (c : Content) (js : List LineVerdictValue)
+    → (s : Step) × (rest : Behavior) × (run_by r e k c js ≡ step_then s rest) × (s.remaining ≡ length c.bytes)
 first_step r e k c [] = (
   record { names = []; err = end_text r e k; out = []; remaining = length c.bytes },
   record { steps = []; good = good r e k },
@@ -59,9 +59,9 @@ first_step r e k c (j ∷ js) =
     (line_step r (length c.bytes) j, run_by r e (counts_with k j.verdict) (past_line c) js, refl, refl)
 
 -- a line was found, which is the first of those that are to come
-pub found_first : (r : Rules) (a b : Now) (j : Judged) → rest_verdicts r a ≡ j ∷ rest_verdicts r b
+pub found_first : (r : Rules) (a b : CheckState) (j : LineVerdictValue) → remaining_verdicts r a ≡ j ∷ remaining_verdicts r b
     → b.counts ≡ counts_with a.counts j.verdict → b.rest ≡ past_line a.rest
-    → to_come r a ≡ step_then (line_step r (length a.rest.bytes) j) (to_come r b)
+    → remaining_behavior r a ≡ step_then (line_step r (length a.rest.bytes) j) (remaining_behavior r b)
 found_first r a b j first counted rest = search rules
 
 -- contents past so many lines

@@ -2,38 +2,38 @@
 use Rattle.std.proofs.Common.{rules, ◌≡◌, ℕ, Bool, List, [], ◌∷◌, ◌++◌, Option, Result, Ok, Err, refl, ap, sym, ◌∙◌, inl, append_assoc, append-nil, flat_map, filter_map}
 use Rattle.std.proofs.lemmas.Grind.{flat_map-append}
 use Rattle.std.proofs.lemmas.List.Elements.{filter_map-append}
-use Rattle.sum_sources.specs.Contents.{WhereTold, SourceState}
-use Rattle.sum_sources.proofs.ToldLemmas.{WhereTold-map}
-use Rattle.sum_engine.specs.Moments.{Stop, Memory, Write, Moment, RunState, run_state, Did, DidPrefix, RunOf}
-use Rattle.sum_engine.specs.Runs.{World, Event, Step, Run, events, events_of, at_once, name_in, err_in, out_in}
+use Rattle.sum_sources.specs.Contents.{IfKnown, SourceState}
+use Rattle.sum_sources.proofs.ToldLemmas.{IfKnown-map}
+use Rattle.sum_engine.specs.Moments.{Stop, Memory, Write, StreamsState, KnownState, known_state, Happened, PrefixHappened, PerformsSteps}
+use Rattle.sum_engine.specs.Runs.{World, Event, Step, Behavior, trace, events_of, single_step, name_in, err_in, out_in}
 use Rattle.sum_engine.specs.refinement.Asking.{world_of}
 use Rattle.sum_engine.specs.LineVerdicts.{OnlyRefused}
-use Rattle.sum_engine.specs.Steps.{GoesOn, Finishes, Breaks, Lacks}
+use Rattle.sum_engine.specs.Steps.{StepDone, LastStepDone, StepFailed, StepRefused}
 use Rattle.sum_engine.specs.Manifests.{EventsExtend}
-use Rattle.sum_engine.specs.refinement.Telling.{HandsBoth}
+use Rattle.sum_engine.specs.refinement.Telling.{WritesBoth}
 use Rattle.sum_engine.proofs.RunStateLemmas.{Runs, Asks, Writing, where_known, names-by, err-by, out-by, did_nothing, did_both, came_by, prefix_behind, known}
 
 -- one more of the steps happened
-pub steps_more : {a b c : RunState} (done : List Step) (next : Step) → Did a b (events done) → Did b c (events_of next)
-    → Did a c (events (done ++ next ∷ []))
+pub steps_more : {a b c : KnownState} (done : List Step) (next : Step) → Happened a b (trace done) → Happened b c (events_of next)
+    → Happened a c (trace (done ++ next ∷ []))
 steps_more done next h k = rw (flat_map-append events_of done (next ∷ []), append-nil (events_of next))
-    (did_both (events done) (events_of next) h k)
+    (did_both (trace done) (events_of next) h k)
 
 -- ---- along a run
 
 -- of the whole run all happened but what is left
-pub record Along (whole left : Run) (a b : RunState) : Type 0 where
+pub record Along (whole left : Behavior) (a b : KnownState) : Type 0 where
   pub done : List Step
   pub steps : whole.steps ≡ done ++ left.steps
   pub good : left.good ≡ whole.good
-  pub did : Did a b (events done)
+  pub did : Happened a b (trace done)
 
 -- it begins so
-pub along_none : (r : Run) (a : RunState) → Along r r a a
+pub along_none : (r : Behavior) (a : KnownState) → Along r r a a
 along_none r a = record { done = []; steps = refl; good = refl; did = did_nothing a }
 
 -- one step more happened
-pub along_more : {a b c : RunState} {whole left next : Run} → Along whole left a b → GoesOn left next b c
+pub along_more : {a b c : KnownState} {whole left next : Behavior} → Along whole left a b → StepDone left next b c
     → Along whole next a c
 along_more {next = next} h k = record {
   done = h.done ++ k.step ∷ [];
@@ -43,66 +43,66 @@ along_more {next = next} h k = record {
 }
 
 -- the last step: all happened
-pub along_end : {a b c : RunState} {whole left : Run} {answer : Bool} → Along whole left a b → Finishes left answer b c
-    → (answer ≡ whole.good) × Did a c (events whole.steps)
+pub along_end : {a b c : KnownState} {whole left : Behavior} {answer : Bool} → Along whole left a b → LastStepDone left answer b c
+    → (answer ≡ whole.good) × Happened a c (trace whole.steps)
 along_end h k =
     let all = h.steps ∙ ap (λ r. h.done ++ r.steps) k.is in
     (sym (ap (λ r. r.good) k.is) ∙ h.good, rw all (steps_more h.done k.step h.did k.happened))
 
 -- a step of which a prefix happened
-pub along_breaks : {a b c : RunState} {whole left : Run} → Along whole left a b → Breaks left b c
-    → DidPrefix a c (events whole.steps)
+pub along_breaks : {a b c : KnownState} {whole left : Behavior} → Along whole left a b → StepFailed left b c
+    → PrefixHappened a c (trace whole.steps)
 along_breaks {whole = whole} h k =
     let steps : whole.steps ≡ h.done ++ k.step ∷ k.rest.steps = h.steps ∙ ap (λ r. h.done ++ r.steps) k.is in
-    let all : events whole.steps ≡ events h.done ++ (events_of k.step ++ events k.rest.steps) =
-    ap events steps ∙ flat_map-append events_of h.done (k.step ∷ k.rest.steps) in
-    rw all (prefix_behind (events h.done) (events_of k.step) (events k.rest.steps) h.did k.happened)
+    let all : trace whole.steps ≡ trace h.done ++ (events_of k.step ++ trace k.rest.steps) =
+    ap trace steps ∙ flat_map-append events_of h.done (k.step ∷ k.rest.steps) in
+    rw all (prefix_behind (trace h.done) (events_of k.step) (trace k.rest.steps) h.did k.happened)
 
 -- a step that memory was wanted for
-pub along_waits : {A : Type 0} {a b c : RunState} {whole left : Run} (x : A) → Along whole left a b
-    → Lacks left b c → RunOf whole.steps x a c (Err Memory)
+pub along_waits : {A : Type 0} {a b c : KnownState} {whole left : Behavior} (x : A) → Along whole left a b
+    → StepRefused left b c → PerformsSteps whole.steps x a c (Err Memory)
 along_waits {b = b} {whole = whole} x h k = search rules
 
 -- ---- a run behind a step, and one run after another
 
 -- both happened
-pub run_then-did : {a b c : RunState} (r s : List Step) → Did a b (events r) → Did b c (events s)
-    → Did a c (events (r ++ s))
-run_then-did r s h k = rw (flat_map-append events_of r s) (did_both (events r) (events s) h k)
+pub behavior_then-did : {a b c : KnownState} (r s : List Step) → Happened a b (trace r) → Happened b c (trace s)
+    → Happened a c (trace (r ++ s))
+behavior_then-did r s h k = rw (flat_map-append events_of r s) (did_both (trace r) (trace s) h k)
 
 -- the first happened, and the second stopped
-pub run_then-second : {A B : Type 0} {a b : RunState} (c : RunState) (x : A) (y : B) (r s : List Step) (stop : Stop)
-    → Did a b (events r) → RunOf s y b c (Err stop) → RunOf (r ++ s) x a c (Err stop)
-run_then-second c x y r s Write h k = (
-  events r ++ k.0,
+pub behavior_then-second : {A B : Type 0} {a b : KnownState} (c : KnownState) (x : A) (y : B) (r s : List Step) (stop : Stop)
+    → Happened a b (trace r) → PerformsSteps s y b c (Err stop) → PerformsSteps (r ++ s) x a c (Err stop)
+behavior_then-second c x y r s Write h k = (
+  trace r ++ k.0,
   (
     k.1.0,
-    flat_map-append events_of r s ∙ ap (λ l. events r ++ l) k.1.1 ∙ sym (append_assoc (events r) k.0 k.1.0),
+    flat_map-append events_of r s ∙ ap (λ l. trace r ++ l) k.1.1 ∙ sym (append_assoc (trace r) k.0 k.1.0),
   ),
-  did_both (events r) k.0 h k.2,
+  did_both (trace r) k.0 h k.2,
 )
-run_then-second c x y r s Memory h k = (
+behavior_then-second c x y r s Memory h k = (
   r ++ k.0,
   k.1,
   k.2,
   k.3,
   ap (λ l. r ++ l) k.4 ∙ sym (append_assoc r k.0 (k.1 ∷ k.2)),
-  rw (flat_map-append events_of r k.0) (did_both (events r) (events k.0) h k.5),
+  rw (flat_map-append events_of r k.0) (did_both (trace r) (trace k.0) h k.5),
   k.6,
 )
 
 -- the first stopped
-pub run_then-first : {A B : Type 0} (a b : RunState) (x : A) (y : B) (r s : List Step) (stop : Stop)
-    → RunOf r y a b (Err stop) → RunOf (r ++ s) x a b (Err stop)
-run_then-first a b x y r s Write h = (
+pub behavior_then-first : {A B : Type 0} (a b : KnownState) (x : A) (y : B) (r s : List Step) (stop : Stop)
+    → PerformsSteps r y a b (Err stop) → PerformsSteps (r ++ s) x a b (Err stop)
+behavior_then-first a b x y r s Write h = (
   h.0,
   (
-    h.1.0 ++ events s,
-    flat_map-append events_of r s ∙ ap (λ l. l ++ events s) h.1.1 ∙ append_assoc h.0 h.1.0 (events s),
+    h.1.0 ++ trace s,
+    flat_map-append events_of r s ∙ ap (λ l. l ++ trace s) h.1.1 ∙ append_assoc h.0 h.1.0 (trace s),
   ),
   h.2,
 )
-run_then-first a b x y r s Memory h = (
+behavior_then-first a b x y r s Memory h = (
   h.0,
   h.1,
   h.2 ++ s,
@@ -113,10 +113,10 @@ run_then-first a b x y r s Memory h = (
 )
 
 -- a run behind its first step, which happened
-pub behind_step : {A : Type 0} {a b : RunState} (c : RunState) (x : A) (s : Step) (r : List Step) (y : Result A Stop)
-    → Did a b (events_of s) → RunOf r x b c y → RunOf (s ∷ r) x a c y
-behind_step c x s r (Ok good) h k = (k.0, did_both (events_of s) (events r) h k.1)
-behind_step c x s r (Err stop) h k = run_then-second c x x (s ∷ []) r stop (rw (append-nil (events_of s)) h) k
+pub behind_step : {A : Type 0} {a b : KnownState} (c : KnownState) (x : A) (s : Step) (r : List Step) (y : Result A Stop)
+    → Happened a b (events_of s) → PerformsSteps r x b c y → PerformsSteps (s ∷ r) x a c y
+behind_step c x s r (Ok good) h k = (k.0, did_both (events_of s) (trace r) h k.1)
+behind_step c x s r (Err stop) h k = behavior_then-second c x x (s ∷ []) r stop (rw (append-nil (events_of s)) h) k
 
 -- ---- a run of one step
 
@@ -126,22 +126,22 @@ answered (Ok u) x = Ok x
 answered (Err e) x = Err Write
 
 -- the step was done, or a prefix of it
-pub once : {S A : Type 0} (state : S → SourceState) (run : World → Run) (names : List (List ℕ)) (err out : List ℕ)
-    (good : Bool) (answer : Bool → A) (a b : Moment S) {P : World → World → Type 0} (x : Writing)
-    → WhereTold (world_of state a) (world_of state b) P
-    → ((w v : World) → P w v → (run w ≡ at_once names err out good) × Asks (known state a w) (known state b v) names)
-    → HandsBoth a.err b.err a.out b.out err out x → Runs state run answer a b (answered x (answer good))
+pub once : {S A : Type 0} (state : S → SourceState) (run : World → Behavior) (names : List (List ℕ)) (err out : List ℕ)
+    (good : Bool) (answer : Bool → A) (a b : StreamsState S) {P : World → World → Type 0} (x : Writing)
+    → IfKnown (world_of state a) (world_of state b) P
+    → ((w v : World) → P w v → (run w ≡ single_step names err out good) × Asks (known state a w) (known state b v) names)
+    → WritesBoth a.err b.err a.out b.out err out x → Runs state run answer a b (answered x (answer good))
 once state run names err out good answer a b (Ok u) h is told = where_known state a b _ h (λ w v p.
     rw ((is w v p).0, append-nil) (refl, came_by _ _ names err out (Ok u) (is w v p).1 told))
 once state run names err out good answer a b (Err e) h is told = where_known state a b _ h (λ w v p.
     rw ((is w v p).0, append-nil) (came_by _ _ names err out (Err e) (is w v p).1 told))
 
 -- the source had no memory to open the first step's name
-pub unasked : {S A : Type 0} (state : S → SourceState) (run : World → Run) (answer : Bool → A) (a b : Moment S)
+pub unasked : {S A : Type 0} (state : S → SourceState) (run : World → Behavior) (answer : Bool → A) (a b : StreamsState S)
     → ((w : World) → (s : Step) × (rest : List Step) × ((run w).steps ≡ s ∷ rest))
-    → WhereTold (run_state state a) (run_state state b) OnlyRefused
+    → IfKnown (known_state state a) (known_state state b) OnlyRefused
     → Runs state run answer a b (Err Memory)
-unasked state run answer a b first h = WhereTold-map (run_state state a) (run_state state b) (λ s t refused.
+unasked state run answer a b first h = IfKnown-map (known_state state a) (known_state state b) (λ s t refused.
     let next = first s.world in
     ([], next.0, next.1, s, next.2, did_nothing s, inl refused)) h
 
@@ -150,10 +150,10 @@ unasked state run answer a b first h = WhereTold-map (run_state state a) (run_st
 -- the events of several steps are, of each kind, those of one after the other
 kind_of_events : {X : Type 0} (h : Event → Option X) (part : Step → List X)
     → ((s : Step) → filter_map h (events_of s) ≡ part s) → (steps : List Step)
-    → filter_map h (events steps) ≡ flat_map part steps
+    → filter_map h (trace steps) ≡ flat_map part steps
 kind_of_events h part one [] = refl
-kind_of_events h part one (s ∷ steps) = filter_map-append h (events_of s) (events steps)
-    ∙ ap (λ l. l ++ filter_map h (events steps)) (one s) ∙ ap (λ l. part s ++ l) (kind_of_events h part one steps)
+kind_of_events h part one (s ∷ steps) = filter_map-append h (events_of s) (trace steps)
+    ∙ ap (λ l. l ++ filter_map h (trace steps)) (one s) ∙ ap (λ l. part s ++ l) (kind_of_events h part one steps)
 
 -- so what happened of a run extends each output by the run's text there, and asks its names
 pub events_extend : EventsExtend

@@ -7,14 +7,14 @@ use Rattle.std.proofs.Math.Bool.{or_assoc}
 use Rattle.std.proofs.lemmas.List.{map-append}
 use Rattle.std.proofs.lemmas.List.Elements.{filter_map-append}
 use Rattle.std.proofs.lemmas.List.Folds.{list_any-append}
-use Rattle.sum_sources.specs.Contents.{WhereTold, SourceState, Telling, Content}
+use Rattle.sum_sources.specs.Contents.{IfKnown, SourceState, KnownSource, Content}
 use Rattle.digest_kinds.specs.Limits.{one_more}
 use Rattle.sum_lines.specs.Sinks.{SinkState}
 use Rattle.sum_lines.specs.refinement.GrowingSinks.{AppendsPrefix}
-use Rattle.sum_engine.specs.Runs.{World, is_dash, after, Run, Event, open_name, write_err, write_out, name_in, err_in, out_in}
-use Rattle.sum_engine.specs.refinement.Telling.{Hands, HandsBoth}
+use Rattle.sum_engine.specs.Runs.{World, is_dash, after, Behavior, Event, open_name, write_err, write_out, name_in, err_in, out_in}
+use Rattle.sum_engine.specs.refinement.Telling.{WritesOrPrefix, WritesBoth}
 use Rattle.sum_lines.specs.PartsOfLines.{◌>>=◌}
-use Rattle.sum_engine.specs.Moments.{Moment, RunState, run_state, Stop, Did, DidPrefix, RunOf}
+use Rattle.sum_engine.specs.Moments.{StreamsState, KnownState, known_state, Stop, Happened, PrefixHappened, PerformsSteps}
 use Rattle.sum_engine.specs.refinement.Asking.{world_by, world_of}
 use Rattle.sum_engine.specs.LineVerdicts.{OnlyRefused}
 use Rattle.sum_engine.proofs.WorldLemmas.{after-append}
@@ -69,17 +69,17 @@ out-by names err out = simp (
 -- ---- what happened
 
 -- these names were asked, whatever was written
-pub record Asks (a b : RunState) (names : List (List ℕ)) : Type 0 where
+pub record Asks (a b : KnownState) (names : List (List ℕ)) : Type 0 where
   pub world : b.world ≡ after a.world names
   pub taken : b.stdin_taken ≡ a.stdin_taken || list_any is_dash names
   pub refusals : b.refusals ≡ a.refusals
 
 -- no name was
-pub asks_none : {a b : RunState} → b.world ≡ a.world → b.stdin_taken ≡ a.stdin_taken → b.refusals ≡ a.refusals → Asks a b []
+pub asks_none : {a b : KnownState} → b.world ≡ a.world → b.stdin_taken ≡ a.stdin_taken → b.refusals ≡ a.refusals → Asks a b []
 asks_none {a} world taken refusals = search rules
 
 -- so it is where they were opened, and nothing was written
-pub asks_by : {a b : RunState} (names : List (List ℕ)) → Did a b (map open_name names) → Asks a b names
+pub asks_by : {a b : KnownState} (names : List (List ℕ)) → Happened a b (map open_name names) → Asks a b names
 asks_by names h = record {
   world = rw (kind-all open_name name_in (λ x. refl) names) at h.world;
   taken = rw (kind-all open_name name_in (λ x. refl) names) at h.stdin_taken;
@@ -87,9 +87,9 @@ asks_by names h = record {
 }
 
 -- these names were asked and these texts handed on
-pub did_by : {a b : RunState} (names : List (List ℕ)) (err out : List ℕ) → Asks a b names
+pub did_by : {a b : KnownState} (names : List (List ℕ)) (err out : List ℕ) → Asks a b names
     → Appends a.err.written b.err.written err → Appends a.out.written b.out.written out
-    → Did a b (events_by names err out)
+    → Happened a b (events_by names err out)
 did_by names err out h p q = record {
   world = rw (names-by names err out) h.world;
   stdin_taken = rw (names-by names err out) h.taken;
@@ -99,11 +99,11 @@ did_by names err out h p q = record {
 }
 
 -- nothing
-pub did_nothing : (a : RunState) → Did a a []
+pub did_nothing : (a : KnownState) → Happened a a []
 did_nothing a = search rules
 
 -- one thing after another
-pub did_both : {a b c : RunState} (p q : List Event) → Did a b p → Did b c q → Did a c (p ++ q)
+pub did_both : {a b c : KnownState} (p q : List Event) → Happened a b p → Happened b c q → Happened a c (p ++ q)
 did_both {a} {b} {c} p q h k = record {
   world = rw (k.world, h.world, filter_map-append name_in p q)
       (after-append a.world (filter_map name_in p) (filter_map name_in q));
@@ -118,9 +118,9 @@ did_both {a} {b} {c} p q h k = record {
 -- ---- a prefix of it
 
 -- the names were asked, and of the text on standard error a prefix was handed on
-pub prefix_err : {a b : RunState} (names : List (List ℕ)) (err out : List ℕ) → Asks a b names
+pub prefix_err : {a b : KnownState} (names : List (List ℕ)) (err out : List ℕ) → Asks a b names
     → AppendsPrefix a.err.written b.err.written err → b.out.written ≡ a.out.written
-    → DidPrefix a b (events_by names err out)
+    → PrefixHappened a b (events_by names err out)
 prefix_err {a} {b} names err out asked h same = (
   events_by names h.0 [],
   (
@@ -131,9 +131,9 @@ prefix_err {a} {b} names err out asked h same = (
 )
 
 -- all of it was, and a prefix of the text on standard output
-pub prefix_out : {a b : RunState} (names : List (List ℕ)) (err out : List ℕ) → Asks a b names
+pub prefix_out : {a b : KnownState} (names : List (List ℕ)) (err out : List ℕ) → Asks a b names
     → Appends a.err.written b.err.written err → AppendsPrefix a.out.written b.out.written out
-    → DidPrefix a b (events_by names err out)
+    → PrefixHappened a b (events_by names err out)
 prefix_out {a} {b} names err out asked all h = (
   events_by names err h.0,
   (map write_out h.1.0, rw (h.1.1) (simp (map-append, append_assoc))),
@@ -145,26 +145,26 @@ abbrev pub Writing : Type 0
 Writing = Result (Unit {0}) (Unit {0})
 
 -- what it wrote happened, or a prefix of it where it failed
-abbrev pub Came : Writing → RunState → RunState → List Event → Type 0
-Came (Ok u) a b es = Did a b es
-Came (Err e) a b es = DidPrefix a b es
+abbrev pub Came : Writing → KnownState → KnownState → List Event → Type 0
+Came (Ok u) a b es = Happened a b es
+Came (Err e) a b es = PrefixHappened a b es
 
 -- the names were asked, and the two texts handed on or a prefix of them
-pub came_by : (a b : RunState) (names : List (List ℕ)) (err out : List ℕ) (x : Writing) → Asks a b names
-    → HandsBoth a.err b.err a.out b.out err out x → Came x a b (events_by names err out)
+pub came_by : (a b : KnownState) (names : List (List ℕ)) (err out : List ℕ) (x : Writing) → Asks a b names
+    → WritesBoth a.err b.err a.out b.out err out x → Came x a b (events_by names err out)
 came_by a b names err out (Ok u) asked h = did_by names err out asked h.0 h.1
 came_by a b names err out (Err e) asked (inl h) = prefix_err names err out asked h.0 h.1
 came_by a b names err out (Err e) asked (inr h) = prefix_out names err out asked h.0 h.1
 
 -- standard error alone was written to
-pub err_alone : (a b out : SinkState) (text : List ℕ) (x : Writing) → Hands a.written b.written text x
-    → HandsBoth a b out out text [] x
+pub err_alone : (a b out : SinkState) (text : List ℕ) (x : Writing) → WritesOrPrefix a.written b.written text x
+    → WritesBoth a b out out text [] x
 err_alone a b out text (Ok u) h = (h, Appends-nil out.written)
 err_alone a b out text (Err e) h = inl (h, refl)
 
 -- a prefix of what comes next, behind what happened
-pub prefix_behind : {a b c : RunState} (p es more : List Event) → Did a b p → DidPrefix b c es
-    → DidPrefix a c (p ++ (es ++ more))
+pub prefix_behind : {a b c : KnownState} (p es more : List Event) → Happened a b p → PrefixHappened b c es
+    → PrefixHappened a c (p ++ (es ++ more))
 prefix_behind p es more done h = (
   p ++ h.0,
   (h.1.0 ++ more, rw (h.1.1) (simp append_assoc)),
@@ -174,14 +174,14 @@ prefix_behind p es more done h = (
 -- ---- moments whose run states tell or don't
 
 -- what follows of values that are made of told ones
-WhereTold-made : {A B : Type 0} (x y : Option A) (f g : A → B) {P : A → A → Type 0} (R : B → B → Type 0)
-    → WhereTold x y P → ((a b : A) → P a b → R (f a) (g b)) → WhereTold (option_map f x) (option_map g y) R
-WhereTold-made None y f g R h k = tt
-WhereTold-made (Some a) None f g R h k = h
-WhereTold-made (Some a) (Some b) f g R h k = k a b h
+IfKnown-made : {A B : Type 0} (x y : Option A) (f g : A → B) {P : A → A → Type 0} (R : B → B → Type 0)
+    → IfKnown x y P → ((a b : A) → P a b → R (f a) (g b)) → IfKnown (option_map f x) (option_map g y) R
+IfKnown-made None y f g R h k = tt
+IfKnown-made (Some a) None f g R h k = h
+IfKnown-made (Some a) (Some b) f g R h k = k a b h
 
 -- the run state at a moment, once its world is known
-abbrev pub known : {S : Type 0} → (S → SourceState) → Moment S → World → RunState
+abbrev pub known : {S : Type 0} → (S → SourceState) → StreamsState S → World → KnownState
 known state m w = record {
   world = w;
   refusals = (state m.source).refusals;
@@ -191,59 +191,59 @@ known state m w = record {
 }
 
 -- the run state, by the world
-by_world : (f : World → RunState) (t : Option Telling) (c : Option Content)
+by_world : (f : World → KnownState) (t : Option KnownSource) (c : Option Content)
     → (t >>= (λ t. c >>= (λ c. Some (f (record { answer = t.answer; asked = t.asked; input = c })))))
     ≡ option_map f (world_by t c)
 by_world f None c = refl
 by_world f (Some t) None = refl
 by_world f (Some t) (Some c) = refl
 
-pub run_state-known : {S : Type 0} (state : S → SourceState) (m : Moment S)
-    → run_state state m ≡ option_map (known state m) (world_of state m)
+pub run_state-known : {S : Type 0} (state : S → SourceState) (m : StreamsState S)
+    → known_state state m ≡ option_map (known state m) (world_of state m)
 run_state-known state m = by_world (known state m) (state m.source).known m.input
 
 -- what follows of two moments from what holds of their worlds, where these tell
-pub where_known : {S : Type 0} (state : S → SourceState) (a b : Moment S) {P : World → World → Type 0}
-    (R : RunState → RunState → Type 0) → WhereTold (world_of state a) (world_of state b) P
+pub where_known : {S : Type 0} (state : S → SourceState) (a b : StreamsState S) {P : World → World → Type 0}
+    (R : KnownState → KnownState → Type 0) → IfKnown (world_of state a) (world_of state b) P
     → ((w v : World) → P w v → R (known state a w) (known state b v))
-    → WhereTold (run_state state a) (run_state state b) R
+    → IfKnown (known_state state a) (known_state state b) R
 where_known state a b R h f = search rules
 
 -- and what holds of their worlds from what holds of the moments
 told-of : {A B : Type 0} (x y : Option A) (f g : A → B) (R : B → B → Type 0)
-    → WhereTold (option_map f x) (option_map g y) R → WhereTold x y (λ a b. R (f a) (g b))
+    → IfKnown (option_map f x) (option_map g y) R → IfKnown x y (λ a b. R (f a) (g b))
 told-of None y f g R h = tt
 told-of (Some a) None f g R h = h
 told-of (Some a) (Some b) f g R h = h
 
-pub known_worlds : {S : Type 0} (state : S → SourceState) (a b : Moment S) (R : RunState → RunState → Type 0)
-    → WhereTold (run_state state a) (run_state state b) R
-    → WhereTold (world_of state a) (world_of state b) (λ w v. R (known state a w) (known state b v))
+pub known_worlds : {S : Type 0} (state : S → SourceState) (a b : StreamsState S) (R : KnownState → KnownState → Type 0)
+    → IfKnown (known_state state a) (known_state state b) R
+    → IfKnown (world_of state a) (world_of state b) (λ w v. R (known state a w) (known state b v))
 known_worlds state a b R h = search rules
 
 -- a value that stayed
-pub same_told : {A : Type 0} (x : Option A) → WhereTold x x (λ a b. b ≡ a)
+pub same_told : {A : Type 0} (x : Option A) → IfKnown x x (λ a b. b ≡ a)
 same_told None = tt
 same_told (Some a) = refl
 
 -- the source was refused memory, and nothing else was done
-pub known_refused : {S : Type 0} (state : S → SourceState) (a b : Moment S)
-    → WhereTold (world_of state a) (world_of state b) (λ w v. v ≡ w) → b.stdin_taken ≡ a.stdin_taken → b.err ≡ a.err
+pub known_refused : {S : Type 0} (state : S → SourceState) (a b : StreamsState S)
+    → IfKnown (world_of state a) (world_of state b) (λ w v. v ≡ w) → b.stdin_taken ≡ a.stdin_taken → b.err ≡ a.err
     → b.out ≡ a.out → (state b.source).refusals ≡ one_more (state a.source).refusals
-    → WhereTold (run_state state a) (run_state state b) OnlyRefused
+    → IfKnown (known_state state a) (known_state state b) OnlyRefused
 known_refused state a b world taken err out refused = search rules
 
 -- standard error handed on a text or a prefix of it, and nothing else was done
-pub err_came : {S : Type 0} (state : S → SourceState) (a : Moment S) (err : SinkState) (text : List ℕ) (x : Writing)
-    → Hands a.err.written err.written text x
-    → WhereTold (run_state state a) (run_state state (record a { err = err }))
+pub err_came : {S : Type 0} (state : S → SourceState) (a : StreamsState S) (err : SinkState) (text : List ℕ) (x : Writing)
+    → WritesOrPrefix a.err.written err.written text x
+    → IfKnown (known_state state a) (known_state state (record a { err = err }))
     (λ s t. Came x s t (events_by [] text []))
 err_came state a err text x h = where_known state a (record a { err = err }) _ (same_told (world_of state a))
     (λ w v same. came_by _ _ [] text [] x (asks_none same refl refl) (err_alone a.err err a.out text x h))
 
 -- a run from one moment to another, whatever the outputs hold
-abbrev pub Runs : {S A : Type 0} → (S → SourceState) → (World → Run) → (Bool → A) → Moment S → Moment S
+abbrev pub Runs : {S A : Type 0} → (S → SourceState) → (World → Behavior) → (Bool → A) → StreamsState S → StreamsState S
     → Result A Stop → Type 0
 Runs state run answer a b r =
-    WhereTold (run_state state a) (run_state state b)
-    (λ s t. RunOf (run s.world).steps (answer (run s.world).good) s t r)
+    IfKnown (known_state state a) (known_state state b)
+    (λ s t. PerformsSteps (run s.world).steps (answer (run s.world).good) s t r)

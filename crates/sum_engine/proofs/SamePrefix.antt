@@ -1,6 +1,6 @@
 -- What comes behind a line has no part in what the line says.
 use Rattle.std.proofs.Common.{rules, ◌≡◌, ℕ, suc, ◌+◌, List, [], ◌∷◌, ◌++◌, length, take, refl, ap, sym, ◌∙◌}
-use Rattle.sum_engine.specs.Verdicts.{Form, Rules, Judged, judge, asks_of, verdicts}
+use Rattle.sum_engine.specs.Verdicts.{Form, Rules, LineVerdictValue, judge, asks_of, verdicts}
 use Rattle.sum_lines.specs.declared.line_reading.Form.TheVariants.{Undecided}
 use Rattle.sum_lines.specs.Entries.{form, form_then, line_form}
 use Rattle.sum_engine.specs.Runs.{World, after}
@@ -10,7 +10,7 @@ use Rattle.sum_engine.specs.Manifests.{SameVerdicts}
 use Rattle.sum_lines.proofs.FormLemmas.{form_next, said_stays}
 
 -- the verdicts of the first lines, by the form so far
-abbrev running : Rules → World → ℕ → Form → List (List ℕ) → List Judged
+abbrev running : Rules → World → ℕ → Form → List (List ℕ) → List LineVerdictValue
 running r w n f [] = []
 running r w n f (l ∷ ls) =
     let here = form_then f (line_form r.settings.algos l) in

@@ -3,18 +3,18 @@ use Rattle.std.proofs.Common.{◌≡◌, ℕ, ◌+◌, ◌≤◌, ◌<◌, Bool,
 use Rattle.sum_sources.specs.declared.lines.Next.TheVariants.{Line}
 use Rattle.sum_sources.specs.declared.lines.LineReader.{LineReader}
 use Rattle.sum_engine.specs.Runs.{Ending, World, Step, events_of}
-use Rattle.sum_sources.specs.Contents.{Content, InputState, WhereTold, SourceState}
-use Rattle.sum_sources.specs.ManifestLines.{LineOf, lines}
-use Rattle.sum_sources.specs.LineReaders.{coming, used}
+use Rattle.sum_sources.specs.Contents.{Content, InputState, IfKnown, SourceState}
+use Rattle.sum_sources.specs.ManifestLines.{NextLineIs, lines}
+use Rattle.sum_sources.specs.LineReaders.{remaining_content, consumed}
 use Rattle.sum_lines.specs.Sinks.{SinkState}
 use Rattle.sum_lines.specs.Escape.{Profile, present}
 use Rattle.sum_engine.specs.Reports.{Report, err_by, end_text, good, counts_with}
 use Rattle.sum_engine.specs.Verdicts.{Ignored, lines_by, Rules, asks_of}
-use Rattle.sum_engine.specs.Steps.{Place, now_of, Going, Ended, Now, now_by, step_then, Moves, StepOf, StepGives, next_judged, rest_verdicts, to_come}
-use Rattle.sum_engine.specs.Moments.{Memory, Moment, RunState, HoldNothing, run_state}
-use Rattle.sum_engine.specs.LineVerdicts.{LineVerdict, judged_in, FindGives, FindsNone}
+use Rattle.sum_engine.specs.Steps.{CursorValue, check_state, Going, Ended, CheckState, check_state_from, step_then, LineHandled, StepIs, StepIsIfKnown, next_judged, remaining_verdicts, remaining_behavior}
+use Rattle.sum_engine.specs.Moments.{Memory, StreamsState, KnownState, IsFlushed, known_state}
+use Rattle.sum_engine.specs.LineVerdicts.{LineVerdict, line_verdict_value, NextVerdictIfKnown, NoVerdictLeft}
 use Rattle.sum_engine.specs.refinement.Judging.{TakesLine}
-use Rattle.sum_engine.specs.refinement.Telling.{HandsOn, out_by, HandsBoth}
+use Rattle.sum_engine.specs.refinement.Telling.{WritesAndFlushes, out_by, WritesBoth}
 use Rattle.sum_engine.proofs.RunStateLemmas.{Asks, Writing, Came, known, asks_by, asks_none, came_by, err_alone}
 use Rattle.sum_engine.proofs.RunLemmas.{answered}
 use Rattle.sum_engine.proofs.RestLemmas.{line_step, run_by, first_step, found_first}
@@ -24,25 +24,25 @@ use Rattle.sum_engine.specs.declared.settings.Report.TheVariants as reports
 -- ---- where a checker stands
 
 -- where it stands at a place, once its content and its run state are known
-abbrev pub now_at : {I : Type 0} → Place I → Content → RunState → Now
+abbrev pub now_at : {I : Type 0} → CursorValue I → Content → KnownState → CheckState
 now_at p c s = record {
   rest = c;
   number = p.reader.lines;
-  consumed = used p.reader;
+  consumed = consumed p.reader;
   form = p.form;
   counts = p.counts;
   known_state = s;
 }
 
 -- that, where both may not tell
-abbrev now_where : {I : Type 0} → Place I → Option Content → Option RunState → Option Now
-now_where p c s = now_by c p.reader.lines (used p.reader) p.form p.counts s
+abbrev now_where : {I : Type 0} → CursorValue I → Option Content → Option KnownState → Option CheckState
+now_where p c s = check_state_from c p.reader.lines (consumed p.reader) p.form p.counts s
 
 -- the next, by contents and run states themselves
-now_made : {I : Type 0} (p q : Place I) (x y : Option Content) (s t : Option RunState)
-    {P : Content → Content → Type 0} {Q : RunState → RunState → Type 0} (R : Now → Now → Type 0) → WhereTold x y P
-    → WhereTold s t Q → ((c d : Content) (s t : RunState) → P c d → Q s t → R (now_at p c s) (now_at q d t))
-    → WhereTold (now_where p x s) (now_where q y t) R
+now_made : {I : Type 0} (p q : CursorValue I) (x y : Option Content) (s t : Option KnownState)
+    {P : Content → Content → Type 0} {Q : KnownState → KnownState → Type 0} (R : CheckState → CheckState → Type 0) → IfKnown x y P
+    → IfKnown s t Q → ((c d : Content) (s t : KnownState) → P c d → Q s t → R (now_at p c s) (now_at q d t))
+    → IfKnown (now_where p x s) (now_where q y t) R
 now_made p q None y s t R h k f = tt
 now_made p q (Some c) y None t R h k f = tt
 now_made p q (Some c) None (Some s) t R h k f = absurd h
@@ -50,35 +50,35 @@ now_made p q (Some c) (Some d) (Some s) None R h k f = absurd k
 now_made p q (Some c) (Some d) (Some s) (Some t) R h k f = f c d s t h k
 
 -- what follows of two places from what holds of their contents and of their run states, where these tell
-pub now-told : {I : Type 0} (state : I → InputState) (p q : Place I) (s t : Option RunState)
-    {P : Content → Content → Type 0} {Q : RunState → RunState → Type 0} (R : Now → Now → Type 0)
-    → WhereTold (coming state p.reader) (coming state q.reader) P → WhereTold s t Q
-    → ((c d : Content) (s t : RunState) → P c d → Q s t → R (now_at p c s) (now_at q d t))
-    → WhereTold (now_of state p s) (now_of state q t) R
-now-told state p q s t R h k f = now_made p q (coming state p.reader) (coming state q.reader) s t R h k f
+pub now-told : {I : Type 0} (state : I → InputState) (p q : CursorValue I) (s t : Option KnownState)
+    {P : Content → Content → Type 0} {Q : KnownState → KnownState → Type 0} (R : CheckState → CheckState → Type 0)
+    → IfKnown (remaining_content state p.reader) (remaining_content state q.reader) P → IfKnown s t Q
+    → ((c d : Content) (s t : KnownState) → P c d → Q s t → R (now_at p c s) (now_at q d t))
+    → IfKnown (check_state state p s) (check_state state q t) R
+now-told state p q s t R h k f = now_made p q (remaining_content state p.reader) (remaining_content state q.reader) s t R h k f
 
 -- the next likewise
-run_state_made : {I : Type 0} (q : Place I) (d : Option Content) (z : Option RunState) (a : Now) (s : RunState)
-    (P : Now → Now → Type 0) (R : RunState → RunState → Type 0) → WhereTold (Some a) (now_where q d z) P
-    → ((d : Content) (z : RunState) → P a (now_at q d z) → R s z) → WhereTold (Some s) z R
+run_state_made : {I : Type 0} (q : CursorValue I) (d : Option Content) (z : Option KnownState) (a : CheckState) (s : KnownState)
+    (P : CheckState → CheckState → Type 0) (R : KnownState → KnownState → Type 0) → IfKnown (Some a) (now_where q d z) P
+    → ((d : Content) (z : KnownState) → P a (now_at q d z) → R s z) → IfKnown (Some s) z R
 run_state_made q None z a s P R h f = absurd h
 run_state_made q (Some d) None a s P R h f = absurd h
 run_state_made q (Some d) (Some z) a s P R h f = f d z h
 
 -- what follows of the run state alone
-pub now-run_state : {I : Type 0} (state : I → InputState) (q : Place I) (z : Option RunState) (a : Now) (s : RunState)
-    (P : Now → Now → Type 0) (R : RunState → RunState → Type 0) → WhereTold (Some a) (now_of state q z) P
-    → ((d : Content) (z : RunState) → P a (now_at q d z) → R s z) → WhereTold (Some s) z R
-now-run_state state q z a s P R h f = run_state_made q (coming state q.reader) z a s P R h f
+pub now-run_state : {I : Type 0} (state : I → InputState) (q : CursorValue I) (z : Option KnownState) (a : CheckState) (s : KnownState)
+    (P : CheckState → CheckState → Type 0) (R : KnownState → KnownState → Type 0) → IfKnown (Some a) (check_state state q z) P
+    → ((d : Content) (z : KnownState) → P a (now_at q d z) → R s z) → IfKnown (Some s) z R
+now-run_state state q z a s P R h f = run_state_made q (remaining_content state q.reader) z a s P R h f
 
 -- ---- a step, by what the reader answered
 
 -- the reader of a place became this one, which has read a line more
-pub record ReadsLine {I : Type 0} (state : I → InputState) (p : Place I) (reader : LineReader I) (line : List ℕ)
+pub record ReadsLine {I : Type 0} (state : I → InputState) (p : CursorValue I) (reader : LineReader I) (line : List ℕ)
     : Type 0 where
-  pub came : WhereTold (coming state p.reader) (coming state reader) (λ c d. LineOf c d (Ok Line) line)
-  pub using : WhereTold (coming state p.reader) (coming state reader)
-      (λ c d. used reader + length d.bytes ≡ used p.reader + length c.bytes)
+  pub came : IfKnown (remaining_content state p.reader) (remaining_content state reader) (λ c d. NextLineIs c d (Ok Line) line)
+  pub using : IfKnown (remaining_content state p.reader) (remaining_content state reader)
+      (λ c d. consumed reader + length d.bytes ≡ consumed p.reader + length c.bytes)
   pub number : reader.lines ≡ p.reader.lines + 1
   pub profile : p.rules.profile ≡ present
 
@@ -87,18 +87,18 @@ pub lines_now : (r : Rules) (c : Content) → r.profile ≡ present → lines_by
 lines_now r c h = rw h refl
 
 -- both together
-pub read_line : {I : Type 0} (state : I → InputState) (p : Place I) (reader : LineReader I) (line : List ℕ)
-    → ReadsLine state p reader line → WhereTold (coming state p.reader) (coming state reader)
-    (λ c d. LineOf c d (Ok Line) line × (used reader + length d.bytes ≡ used p.reader + length c.bytes))
+pub read_line : {I : Type 0} (state : I → InputState) (p : CursorValue I) (reader : LineReader I) (line : List ℕ)
+    → ReadsLine state p reader line → IfKnown (remaining_content state p.reader) (remaining_content state reader)
+    (λ c d. NextLineIs c d (Ok Line) line × (consumed reader + length d.bytes ≡ consumed p.reader + length c.bytes))
 read_line state p reader line h = search rules
 
 -- a line of which so much was taken, and what its place became, make one move
-abbrev pub moves_by : {I : Type 0} (p q : Place I) (reader : LineReader I) (c d : Content) (s t : RunState)
+abbrev pub moves_by : {I : Type 0} (p q : CursorValue I) (reader : LineReader I) (c d : Content) (s t : KnownState)
     (line vector : List ℕ) → p.rules.profile ≡ present → reader.lines ≡ p.reader.lines + 1
-    → LineOf c d (Ok Line) line × (used reader + length d.bytes ≡ used p.reader + length c.bytes)
+    → NextLineIs c d (Ok Line) line × (consumed reader + length d.bytes ≡ consumed p.reader + length c.bytes)
     → TakesLine (record p { reader = reader }) q line → length vector ≤ length line
     → q.counts ≡ counts_with p.counts (next_judged p.rules (now_at p c s) line).verdict
-    → Moves p.rules (now_at p c s) (now_at (record q { reader = reader }) d t) vector
+    → LineHandled p.rules (now_at p c s) (now_at (record q { reader = reader }) d t) vector
 moves_by p q reader c d s t line vector profile number took takes few counted = record {
   line = line;
   lines = lines_now p.rules c profile ∙ took.0.0 ∙ ap (λ l. line ∷ l) (sym (lines_now p.rules d profile));
@@ -113,17 +113,17 @@ moves_by p q reader c d s t line vector profile number took takes few counted = 
 -- ---- a step, by what was found
 
 -- a call that is lent what a moment has, but for its outputs
-abbrev pub asked : {S : Type 0} → Moment S → Moment S
+abbrev pub asked : {S : Type 0} → StreamsState S → StreamsState S
 asked m =
     let silent : SinkState = record { written = None; buffered = []; failures = 0 } in
     record m { err = silent; out = silent }
 
 -- the next, by contents and worlds themselves
-lent_made : {I : Type 0} (p q : Place I) (x y : Option Content) (w v : Option World) (f g h k : World → RunState)
-    (P R : Now → Now → Type 0) → WhereTold (now_where p x (option_map f w)) (now_where q y (option_map g v)) P
+lent_made : {I : Type 0} (p q : CursorValue I) (x y : Option Content) (w v : Option World) (f g h k : World → KnownState)
+    (P R : CheckState → CheckState → Type 0) → IfKnown (now_where p x (option_map f w)) (now_where q y (option_map g v)) P
     → ((c d : Content) (w v : World) → P (now_at p c (f w)) (now_at q d (g v))
     → R (now_at p c (h w)) (now_at q d (k v)))
-    → WhereTold (now_where p x (option_map h w)) (now_where q y (option_map k v)) R
+    → IfKnown (now_where p x (option_map h w)) (now_where q y (option_map k v)) R
 lent_made p q None y w v f g h k P R is to = tt
 lent_made p q (Some c) y None v f g h k P R is to = tt
 lent_made p q (Some c) None (Some w) v f g h k P R is to = absurd is
@@ -131,40 +131,40 @@ lent_made p q (Some c) (Some d) (Some w) None f g h k P R is to = absurd is
 lent_made p q (Some c) (Some d) (Some w) (Some v) f g h k P R is to = to c d w v is
 
 -- what follows of two moments from what holds of them but for their outputs
-lent : {I S : Type 0} (input : I → InputState) (state : S → SourceState) (p q : Place I) (a b : Moment S)
-    (P R : Now → Now → Type 0)
-    → WhereTold (now_of input p (run_state state (asked a))) (now_of input q (run_state state (asked b))) P
+lent : {I S : Type 0} (input : I → InputState) (state : S → SourceState) (p q : CursorValue I) (a b : StreamsState S)
+    (P R : CheckState → CheckState → Type 0)
+    → IfKnown (check_state input p (known_state state (asked a))) (check_state input q (known_state state (asked b))) P
     → ((c d : Content) (w v : World)
     → P (now_at p c (known state (asked a) w)) (now_at q d (known state (asked b) v))
     → R (now_at p c (known state a w)) (now_at q d (known state b v)))
-    → WhereTold (now_of input p (run_state state a)) (now_of input q (run_state state b)) R
+    → IfKnown (check_state input p (known_state state a)) (check_state input q (known_state state b)) R
 lent input state p q a b P R is to = search rules
 
 -- one more step was done, or a prefix of its events
-step_by : (r : Rules) (a b : Now) (vector : List ℕ) (step : Step) (x : Writing)
-    → to_come r a ≡ step_then step (to_come r b) → Moves r a b vector → Came x a.known_state b.known_state (events_of step)
-    → StepOf r vector a b (answered x Going)
+step_by : (r : Rules) (a b : CheckState) (vector : List ℕ) (step : Step) (x : Writing)
+    → remaining_behavior r a ≡ step_then step (remaining_behavior r b) → LineHandled r a b vector → Came x a.known_state b.known_state (events_of step)
+    → StepIs r vector a b (answered x Going)
 step_by r a b vector step (Ok u) is moves did = (record { step = step; is = is; happened = did }, moves)
-step_by r a b vector step (Err e) is moves cut = record { step = step; rest = to_come r b; is = is; happened = cut }
+step_by r a b vector step (Err e) is moves cut = record { step = step; rest = remaining_behavior r b; is = is; happened = cut }
 
 -- a line was found, and its report was handed on, or a prefix of it; a is how things stood, by m
-pub step_found : {I S : Type 0} (input : I → InputState) (state : S → SourceState) (p q : Place I) (a m b : Moment S)
+pub step_found : {I S : Type 0} (input : I → InputState) (state : S → SourceState) (p q : CursorValue I) (a m b : StreamsState S)
     (vector : List ℕ) (v : LineVerdict) (x : Writing) → m ≡ a
-    → FindGives p.rules vector (now_of input p (run_state state (asked m))) (now_of input q (run_state state (asked b)))
+    → NextVerdictIfKnown p.rules vector (check_state input p (known_state state (asked m))) (check_state input q (known_state state (asked b)))
     (Ok (Some v))
-    → HandsBoth m.err b.err m.out b.out (err_by p.rules v.number v.verdict (judged_in vector v).name)
-    (out_by p.rules.profile p.rules.settings.report v.verdict (judged_in vector v).name) x
-    → StepGives p.rules vector (now_of input p (run_state state a)) (now_of input q (run_state state b))
+    → WritesBoth m.err b.err m.out b.out (err_by p.rules v.number v.verdict (line_verdict_value vector v).name)
+    (out_by p.rules.profile p.rules.settings.report v.verdict (line_verdict_value vector v).name) x
+    → StepIsIfKnown p.rules vector (check_state input p (known_state state a)) (check_state input q (known_state state b))
     (answered x Going)
 step_found input state p q a m b vector v x is found hands =
     rw (← is) (lent input state p q m b _ _ found (λ c d w v' f.
-    let j = judged_in vector v in
+    let j = line_verdict_value vector v in
     let names = asks_by (asks_of j) f.0.happened in
     let asks : Asks (known state m w) (known state b v') (asks_of j) =
     record { world = names.world; taken = names.taken; refusals = names.refusals } in
-    let first : Now = now_at p c (known state m w) in
-    let next : Now = now_at q d (known state b v') in
-    let moves : Moves p.rules first next vector = record {
+    let first : CheckState = now_at p c (known state m w) in
+    let next : CheckState = now_at q d (known state b v') in
+    let moves : LineHandled p.rules first next vector = record {
       line = f.1.line;
       lines = f.1.lines;
       rest = f.1.rest;
@@ -186,13 +186,13 @@ nothing_said p reports.Warn name = refl
 nothing_said p reports.Status name = refl
 
 -- memory was wanted, and both outputs stayed
-pub step_wants : {I S : Type 0} (input : I → InputState) (state : S → SourceState) (p q : Place I) (a m b : Moment S)
+pub step_wants : {I S : Type 0} (input : I → InputState) (state : S → SourceState) (p q : CursorValue I) (a m b : StreamsState S)
     (vector : List ℕ) → m ≡ a
-    → FindGives p.rules vector (now_of input p (run_state state (asked m))) (now_of input q (run_state state (asked b)))
+    → NextVerdictIfKnown p.rules vector (check_state input p (known_state state (asked m))) (check_state input q (known_state state (asked b)))
     (Err line_stops.Memory) → b.err ≡ m.err → b.out ≡ m.out
-    → StepGives p.rules vector (now_of input p (run_state state a)) (now_of input q (run_state state b)) (Err Memory)
+    → StepIsIfKnown p.rules vector (check_state input p (known_state state a)) (check_state input q (known_state state b)) (Err Memory)
 step_wants input state p q a m b vector is found err out = rw (← is) (lent input state p q m b _ _ found (λ c d w v f.
-    let s = first_step p.rules c.ending p.counts c (rest_verdicts p.rules (now_at p c (known state m w))) in
+    let s = first_step p.rules c.ending p.counts c (remaining_verdicts p.rules (now_at p c (known state m w))) in
     record {
       step = s.0;
       rest = s.1;
@@ -207,20 +207,20 @@ step_wants input state p q a m b vector is found err out = rw (← is) (lent inp
     }))
 
 -- the last step was done, or a prefix of its events
-last_by : (r : Rules) (a b : Now) (vector : List ℕ) (step : Step) (answer : Bool) (x : Writing)
-    → to_come r a ≡ record { steps = step ∷ []; good = answer }
-    → Came x a.known_state b.known_state (events_of step) → StepOf r vector a b (answered x (Ended answer))
+last_by : (r : Rules) (a b : CheckState) (vector : List ℕ) (step : Step) (answer : Bool) (x : Writing)
+    → remaining_behavior r a ≡ record { steps = step ∷ []; good = answer }
+    → Came x a.known_state b.known_state (events_of step) → StepIs r vector a b (answered x (Ended answer))
 last_by r a b vector step answer (Ok u) is did = record { step = step; is = is; happened = did }
 last_by r a b vector step answer (Err e) is cut =
     record { step = step; rest = record { steps = []; good = answer }; is = is; happened = cut }
 
 -- the end was found, and its text was handed on, or a prefix of it
-pub step_end : {I S : Type 0} (input : I → InputState) (state : S → SourceState) (p q : Place I) (a m b : Moment S)
+pub step_end : {I S : Type 0} (input : I → InputState) (state : S → SourceState) (p q : CursorValue I) (a m b : StreamsState S)
     (vector : List ℕ) (e : Ending) (answer : Bool) (x : Writing) → m ≡ a
-    → WhereTold (now_of input p (run_state state (asked m))) (now_of input q (run_state state (asked b)))
-    (FindsNone p.rules e) → q.rules ≡ p.rules → answer ≡ good q.rules e q.counts → b.out ≡ m.out
-    → HandsOn m.err b.err (end_text q.rules e q.counts) x → HoldNothing a
-    → StepGives p.rules vector (now_of input p (run_state state a)) (now_of input q (run_state state b))
+    → IfKnown (check_state input p (known_state state (asked m))) (check_state input q (known_state state (asked b)))
+    (NoVerdictLeft p.rules e) → q.rules ≡ p.rules → answer ≡ good q.rules e q.counts → b.out ≡ m.out
+    → WritesAndFlushes m.err b.err (end_text q.rules e q.counts) x → IsFlushed a
+    → StepIsIfKnown p.rules vector (check_state input p (known_state state a)) (check_state input q (known_state state b))
     (answered x (Ended answer))
 step_end input state p q a m b vector e answer x is found rules sum out told hold =
     let none = rw (← is) at hold.1 in

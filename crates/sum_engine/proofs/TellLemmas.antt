@@ -2,11 +2,11 @@
 use Rattle.std.proofs.Common.{rules, ℕ, List, ◌++◌, Option, Result, Ok, Err, ap, sym, ◌∙◌, append_assoc, subst}
 use Rattle.std.specs.Io.KnownBytes.{Appends}
 use Rattle.std.proofs.KnownBytes.{Appends-trans}
-use Rattle.sum_lines.specs.Sinks.{SinkState, Wrote, Broke, Flushes}
+use Rattle.sum_lines.specs.Sinks.{SinkState, Accepted, WriteFailed, Flushes}
 use Rattle.digest_kinds.specs.Limits.{one_more}
 use Rattle.sum_lines.specs.refinement.GrowingSinks.{AppendsPrefix}
-use Rattle.sum_lines.proofs.SinkLemmas.{Wrote-dropped}
-use Rattle.sum_engine.specs.refinement.Telling.{HandsOn}
+use Rattle.sum_lines.proofs.SinkLemmas.{Accepted-dropped}
+use Rattle.sum_engine.specs.refinement.Telling.{WritesAndFlushes}
 
 -- ---- known bytes
 
@@ -27,25 +27,25 @@ prefix_then a b c x y h k = (
 -- ---- one output
 
 -- a text was written, and then flushed
-pub told_flushed : {E : Type 0} (a b c : SinkState) (text : List ℕ) (r : Result (Unit {0}) E) → Wrote a b text
-    → Flushes b c r → HandsOn a c text r
+pub told_flushed : {E : Type 0} (a b c : SinkState) (text : List ℕ) (r : Result (Unit {0}) E) → Accepted a b text
+    → Flushes b c r → WritesAndFlushes a c text r
 told_flushed a b c text (Ok u) h k = search rules
 told_flushed a b c text (Err e) h k = (
   k.failures ∙ ap one_more h.failures,
   λ none.
-      (k.buffered, subst (λ l. AppendsPrefix a.written c.written (l ++ text)) none (Wrote-dropped text h k)),
+      (k.buffered, subst (λ l. AppendsPrefix a.written c.written (l ++ text)) none (Accepted-dropped text h k)),
 )
 
 -- writing it failed
-pub told_broken : {E : Type 0} (a c : SinkState) (text : List ℕ) (e : E) → Broke a c text
-    → HandsOn a c text (Err e)
+pub told_broken : {E : Type 0} (a c : SinkState) (text : List ℕ) (e : E) → WriteFailed a c text
+    → WritesAndFlushes a c text (Err e)
 told_broken a c text e h = search rules
 
 -- ---- one text after another
 
 -- a text, and then another or a prefix of it
 pub tells_then : {E : Type 0} (a b c : SinkState) (x y : List ℕ) (r : Result (Unit {0}) E)
-    → HandsOn {E = E} a b x (Ok tt) → HandsOn b c y r → HandsOn a c (x ++ y) r
+    → WritesAndFlushes {E = E} a b x (Ok tt) → WritesAndFlushes b c y r → WritesAndFlushes a c (x ++ y) r
 tells_then a b c x y (Ok u) h k = (
   k.0 ∙ h.0,
   λ none.
@@ -62,6 +62,6 @@ tells_then a b c x y (Err e) h k = (
 )
 
 -- a prefix of a text, and none of the next
-pub part_more : {E : Type 0} (a b : SinkState) (x y : List ℕ) (e : E) → HandsOn a b x (Err e)
-    → HandsOn a b (x ++ y) (Err e)
+pub part_more : {E : Type 0} (a b : SinkState) (x y : List ℕ) (e : E) → WritesAndFlushes a b x (Err e)
+    → WritesAndFlushes a b (x ++ y) (Err e)
 part_more a b x y e h = (h.0, λ none. ((h.1 none).0, prefix_more a.written b.written x y (h.1 none).1))

@@ -2,8 +2,8 @@
 use Rattle.std.specs.Prelude.{ℕ, true, false, List, [], ◌∷◌, length, codes, if◌then◌else◌, Ok, Err}
 use Rattle.sum_sources.specs.Contents.{Content, clip, Reply}
 use Rattle.sum_sources.specs.ManifestLines.{past_line}
-use Rattle.sum_engine.specs.Verdicts.{CheckSettings, Rules, Judged, asks_of, all_verdicts}
-use Rattle.sum_engine.specs.Runs.{World, is_dash, reply, after, run_then, Step, Run, at_once}
+use Rattle.sum_engine.specs.Verdicts.{CheckSettings, Rules, LineVerdictValue, asks_of, all_verdicts}
+use Rattle.sum_engine.specs.Runs.{World, is_dash, reply, after, behavior_then, Step, Behavior, single_step}
 use Rattle.sum_lines.specs.Escape.{present}
 use Rattle.sum_engine.specs.Generation.{fault_line}
 use Rattle.sum_engine.specs.Reports.{no_counts, out_of, err_of, counts, end_text, good}
@@ -14,21 +14,21 @@ rules_of settings tool name =
     record { profile = present; settings = settings; tool = tool; shown = shown; from_stdin = is_dash name }
 
 -- a step for each line of the content, by these verdicts, one after another, and one for the end, which has that text
-abbrev pub line_steps : Rules → List ℕ → Content → List Judged → List Step
+abbrev pub line_steps : Rules → List ℕ → Content → List LineVerdictValue → List Step
 line_steps r end c [] = record { names = []; err = end; out = []; remaining = length c.bytes } ∷ []
 line_steps r end c (j ∷ js) = record { names = asks_of j; err = err_of r j; out = out_of r j; remaining = length c.bytes }
     ∷ line_steps r end (past_line c) js
 
 -- a manifest that was opened, whose lines have these verdicts
-abbrev pub content_run : Rules → Content → List Judged → Run
-content_run r c js =
+abbrev pub content_behavior : Rules → Content → List LineVerdictValue → Behavior
+content_behavior r c js =
     let n = counts no_counts js in
     record { steps = line_steps r (end_text r c.ending n) c js; good = good r c.ending n }
 
-abbrev pub check_run_by : Rules → List ℕ → World → Reply → Run
-check_run_by r name w (Err f) = at_once (name ∷ []) (fault_line r.profile r.tool r.shown f) [] false
-check_run_by r name w (Ok c) =
-    run_then (at_once (name ∷ []) [] [] true) (content_run r (clip c) (all_verdicts r w (clip c)))
+abbrev pub check_behavior_by : Rules → List ℕ → World → Reply → Behavior
+check_behavior_by r name w (Err f) = single_step (name ∷ []) (fault_line r.profile r.tool r.shown f) [] false
+check_behavior_by r name w (Ok c) =
+    behavior_then (single_step (name ∷ []) [] [] true) (content_behavior r (clip c) (all_verdicts r w (clip c)))
 
-abbrev pub check_run : CheckSettings → List ℕ → World → List ℕ → Run
-check_run settings tool w name = check_run_by (rules_of settings tool name) name (after w (name ∷ [])) (reply w name)
+abbrev pub check_behavior : CheckSettings → List ℕ → World → List ℕ → Behavior
+check_behavior settings tool w name = check_behavior_by (rules_of settings tool name) name (after w (name ∷ [])) (reply w name)

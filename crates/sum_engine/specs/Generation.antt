@@ -1,7 +1,7 @@
 -- What hashing one name comes to.
 use Rattle.std.specs.Prelude.{ℕ, true, false, List, [], ◌∷◌, codes, Result, Ok, Err}
 use Rattle.std.specs.List.{concat}
-use Rattle.sum_engine.specs.Runs.{Fault, World, reply, digest_or_fault, Run, at_once}
+use Rattle.sum_engine.specs.Runs.{Fault, World, reply, digest_or_fault, Behavior, single_step}
 use Rattle.sum_sources.specs.Contents.{fault_text}
 use Rattle.sum_lines.specs.Lines.{line}
 pub use Rattle.sum_engine.specs.declared.settings.Settings.{Settings}
@@ -14,10 +14,10 @@ tool_line p tool name text = concat (tool ∷ codes ": " ∷ escape_by p name �
 abbrev pub fault_line : Profile → List ℕ → List ℕ → Fault → List ℕ
 fault_line p tool name fault = tool_line p tool name (fault_text fault)
 
-abbrev pub generate_run_by : Settings → List ℕ → List ℕ → Result (List ℕ) Fault → Run
-generate_run_by settings tool name (Ok d) = at_once (name ∷ []) [] (line settings.style settings.kind name d) true
-generate_run_by settings tool name (Err f) = at_once (name ∷ []) (fault_line present tool name f) [] false
+abbrev pub generate_behavior_by : Settings → List ℕ → List ℕ → Result (List ℕ) Fault → Behavior
+generate_behavior_by settings tool name (Ok d) = single_step (name ∷ []) [] (line settings.style settings.kind name d) true
+generate_behavior_by settings tool name (Err f) = single_step (name ∷ []) (fault_line present tool name f) [] false
 
 -- a name that is read gives its line, any other the line of its fault
-abbrev pub generate_run : Settings → List ℕ → World → List ℕ → Run
-generate_run settings tool w name = generate_run_by settings tool name (digest_or_fault settings.kind (reply w name))
+abbrev pub generate_behavior : Settings → List ℕ → World → List ℕ → Behavior
+generate_behavior settings tool w name = generate_behavior_by settings tool name (digest_or_fault settings.kind (reply w name))

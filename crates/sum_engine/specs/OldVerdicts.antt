@@ -4,12 +4,12 @@ use Rattle.digest_kinds.specs.Kinds.{KindValue}
 use Rattle.sum_engine.specs.Reports.{Algos, no_counts, out_of, err_of, counts, end_text, good}
 use Rattle.sum_engine.specs.Runs.{Whole, World}
 use Rattle.sum_sources.specs.Contents.{Content, clip, Reply}
-use Rattle.sum_sources.specs.ManifestLines.{pieces}
+use Rattle.sum_sources.specs.ManifestLines.{raw_lines}
 use Rattle.sum_engine.specs.Verdicts.{Form, lines_by, Rules, all_verdicts}
 use Rattle.sum_lines.specs.Escape.{Profile, present, escape, escape_by}
 use Rattle.sum_lines.specs.Shapes.{Plain, Tagged}
 use Rattle.sum_lines.specs.ParsedLines.{bad, parse_line}
-use Rattle.sum_engine.specs.Checking.{check_run_by}
+use Rattle.sum_engine.specs.Checking.{check_behavior_by}
 
 -- the profile of older versions
 abbrev pub older : Profile
@@ -34,11 +34,11 @@ NoEscapedReturn algos line = (kind : KindValue) (digest name : List ℕ)
 
 -- a manifest that has no carriage return, neither in its own name nor as a byte nor as the escape `\r`, and no empty
 -- line
-pub record Old (r : Rules) (c : Content) : Type 0 where
+pub record IsOldManifest (r : Rules) (c : Content) : Type 0 where
   pub own_name : NoReturn r.shown
   pub no_byte : NoReturn c.bytes
-  pub no_escape : All (NoEscapedReturn r.settings.algos) (pieces c)
-  pub no_empty : All (λ line. 0 < length line) (pieces c)
+  pub no_escape : All (NoEscapedReturn r.settings.algos) (raw_lines c)
+  pub no_empty : All (λ line. 0 < length line) (raw_lines c)
 
 -- two kinds of rules find the same verdicts in a manifest, write the same of each of its lines and of its end, and
 -- hold it good or not alike
@@ -53,14 +53,14 @@ pub record SameChecks (r s : Rules) (w : World) (c : Content) : Type 0 where
 
 -- such a manifest is checked alike under both profiles, whatever was asked before
 abbrev pub OldVerdicts : Type 0
-OldVerdicts = (r : Rules) (w : World) (c : Content) → Old r c
+OldVerdicts = (r : Rules) (w : World) (c : Content) → IsOldManifest r c
     → SameChecks (rules_under older r) (rules_under present r) w c
 
 -- so all that checking comes to is the same under both, also where the manifest can't be opened
 abbrev pub OldOutcomes : Type 0
 OldOutcomes = (r : Rules) (name : List ℕ) (w : World) (reply : Reply) → NoReturn r.shown
-    → ((c : Content) → reply ≡ Ok c → Old r (clip c))
-    → check_run_by (rules_under older r) name w reply ≡ check_run_by (rules_under present r) name w reply
+    → ((c : Content) → reply ≡ Ok c → IsOldManifest r (clip c))
+    → check_behavior_by (rules_under older r) name w reply ≡ check_behavior_by (rules_under present r) name w reply
 
 -- where the older profile differs: a carriage return stands unescaped in a name, stays at a line's end, and an empty
 -- line is improper

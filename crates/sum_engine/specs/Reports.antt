@@ -8,7 +8,7 @@ use Rattle.sum_engine.specs.Runs.{Ending, Whole, Broken}
 pub use Rattle.sum_engine.specs.declared.settings.Report.{Report}
 use Rattle.sum_engine.specs.declared.settings.Report.TheVariants.{Quiet, Warn, Status}
 pub use Rattle.sum_engine.specs.declared.summary.Counts.{Counts}
-use Rattle.sum_engine.specs.Verdicts.{Verdict, Ignored, Bad, Right, Wrong, Missing, Unread, Rules, Judged}
+use Rattle.sum_engine.specs.Verdicts.{Verdict, Ignored, Bad, Right, Wrong, Missing, Unread, Rules, LineVerdictValue}
 use Rattle.sum_lines.specs.Escape.{Profile, present, escape_by, escape_differs}
 use Rattle.sum_engine.specs.Generation.{tool_line, fault_line}
 
@@ -29,7 +29,7 @@ is_hidden Status v = true
 is_hidden report v = false
 
 -- a line's report on standard output
-abbrev pub out_of : Rules → Judged → List ℕ
+abbrev pub out_of : Rules → LineVerdictValue → List ℕ
 out_of r j = if is_hidden r.settings.report j.verdict then [] else verdict_line r.profile j.verdict j.name
 
 -- of a name whose file has the digest that its line gives
@@ -55,7 +55,7 @@ err_by r n Bad name = if_warned r.settings.report (bad_line r n)
 err_by r n (Unread f) name = fault_line r.profile r.tool name f
 err_by r n v name = []
 
-abbrev pub err_of : Rules → Judged → List ℕ
+abbrev pub err_of : Rules → LineVerdictValue → List ℕ
 err_of r j = err_by r j.number j.verdict j.name
 
 abbrev pub no_counts : Counts
@@ -71,7 +71,7 @@ counts_with c Missing = record c { missing = c.missing + 1 }
 counts_with c (Unread f) = record c { unread = c.unread + 1 }
 
 -- how many lines have each verdict but `Ignored`, and so many before them
-abbrev pub counts : Counts → List Judged → Counts
+abbrev pub counts : Counts → List LineVerdictValue → Counts
 counts c js = fold (λ c j. counts_with c j.verdict) c js
 
 abbrev pub entries : Counts → ℕ

@@ -51,15 +51,15 @@ pub record Step : Type 0 where
   pub remaining : ℕ
 
 -- the steps, and whether all is good
-pub record Run : Type 0 where
+pub record Behavior : Type 0 where
   pub steps : List Step
   pub good : Bool
 
 abbrev pub events_of : Step → List Event
 events_of s = map open_name s.names ++ (map write_err s.err ++ map write_out s.out)
 
-abbrev pub events : List Step → List Event
-events steps = flat_map events_of steps
+abbrev pub trace : List Step → List Event
+trace steps = flat_map events_of steps
 
 -- what of the events is of each kind
 abbrev pub name_in : Event → Option (List ℕ)
@@ -74,20 +74,20 @@ abbrev pub out_in : Event → Option ℕ
 out_in (write_out b) = Some b
 out_in event = None
 
-abbrev pub run_then : Run → Run → Run
-run_then r s = record { steps = r.steps ++ s.steps; good = r.good && s.good }
+abbrev pub behavior_then : Behavior → Behavior → Behavior
+behavior_then r s = record { steps = r.steps ++ s.steps; good = r.good && s.good }
 
 -- a run of one step, which opens a name or none and writes a text to standard error and one to standard output
-abbrev pub at_once : List (List ℕ) → List ℕ → List ℕ → Bool → Run
-at_once names err out good =
+abbrev pub single_step : List (List ℕ) → List ℕ → List ℕ → Bool → Behavior
+single_step names err out good =
     record { steps = record { names = names; err = err; out = out; remaining = 0 } ∷ []; good = good }
 
 -- a run's texts on standard output and on standard error, and the names that it opens
-abbrev pub outs : Run → List ℕ
-outs r = flat_map (λ s. s.out) r.steps
+abbrev pub out_text : Behavior → List ℕ
+out_text r = flat_map (λ s. s.out) r.steps
 
-abbrev pub errs : Run → List ℕ
-errs r = flat_map (λ s. s.err) r.steps
+abbrev pub err_text : Behavior → List ℕ
+err_text r = flat_map (λ s. s.err) r.steps
 
-abbrev pub asks : Run → List (List ℕ)
+abbrev pub asks : Behavior → List (List ℕ)
 asks r = flat_map (λ s. s.names) r.steps

@@ -3,9 +3,9 @@ use Rattle.std.specs.Prelude.{ℕ, ◌+◌, ◌&&◌, Bool, true, false, List, [
 use Rattle.sum_engine.specs.Runs.{Fault, World, is_dash, reply, after, digest_or_fault}
 use Rattle.sum_sources.specs.declared.fault.Fault.TheVariants.{NotFound}
 use Rattle.sum_sources.specs.Contents.{Content, Reply}
-use Rattle.sum_sources.specs.ManifestLines.{lines, pieces}
+use Rattle.sum_sources.specs.ManifestLines.{lines, raw_lines}
 pub use Rattle.sum_lines.specs.declared.line_reading.Form.{Form}
-use Rattle.sum_lines.specs.Entries.{Spelled, form}
+use Rattle.sum_lines.specs.Entries.{EntryValue, form}
 pub use Rattle.sum_engine.specs.declared.settings.CheckSettings.{CheckSettings}
 pub use Rattle.sum_engine.specs.declared.verdict.Verdict.{Verdict}
 pub use Rattle.sum_engine.specs.declared.verdict.Verdict.TheVariants.{Ignored, Bad, Right, Wrong, Missing, Unread}
@@ -21,7 +21,7 @@ pub record Rules : Type 0 where
   pub from_stdin : Bool
 
 -- a line's number (the first is 1), its verdict, and the name of its entry
-pub record Judged : Type 0 where
+pub record LineVerdictValue : Type 0 where
   pub number : ℕ
   pub verdict : Verdict
   pub name : List ℕ
@@ -36,13 +36,13 @@ abbrev pub digest_verdict : List ℕ → Result (List ℕ) Fault → Verdict
 digest_verdict d (Ok found) = if bytes_eq found d then Right else Wrong
 digest_verdict d (Err f) = Unread f
 
-abbrev pub verdict_of : Rules → World → Spelled → Verdict
+abbrev pub verdict_of : Rules → World → EntryValue → Verdict
 verdict_of r w s = if r.from_stdin && is_dash s.name then Bad
     else if r.settings.ignore_missing && not_found (reply w s.name) then Missing
     else digest_verdict s.digest (digest_or_fault s.kind (reply w s.name))
 
 -- line n, which says this
-abbrev pub judge : Rules → World → ℕ → ParsedLine → Judged
+abbrev pub judge : Rules → World → ℕ → ParsedLine → LineVerdictValue
 judge r w n ignored = record { number = n; verdict = Ignored; name = [] }
 judge r w n bad = record { number = n; verdict = Bad; name = [] }
 judge r w n (entry s) = record { number = n; verdict = verdict_of r w s; name = s.name }
@@ -53,20 +53,20 @@ asks_by Ignored name = []
 asks_by Bad name = []
 asks_by v name = name ∷ []
 
-abbrev pub asks_of : Judged → List (List ℕ)
+abbrev pub asks_of : LineVerdictValue → List (List ℕ)
 asks_of j = asks_by j.verdict j.name
 
 -- the lines of a content, each without one carriage return at its end, unless the profile drops none
 abbrev pub lines_by : Profile → Content → List (List ℕ)
-lines_by p c = if p.drops_return then lines c else pieces c
+lines_by p c = if p.drops_return then lines c else raw_lines c
 
 -- the lines behind line n in a manifest of that form, each after the asks of those before it
-abbrev pub verdicts : Rules → Form → World → ℕ → List (List ℕ) → List Judged
+abbrev pub verdicts : Rules → Form → World → ℕ → List (List ℕ) → List LineVerdictValue
 verdicts r f w n [] = []
 verdicts r f w n (l ∷ ls) =
     let j = judge r w (n + 1) (parse_line r.profile r.settings.algos f l) in
     j ∷ verdicts r f (after w (asks_of j)) (n + 1) ls
 
 -- a whole manifest, whose form is that of all its lines
-abbrev pub all_verdicts : Rules → World → Content → List Judged
+abbrev pub all_verdicts : Rules → World → Content → List LineVerdictValue
 all_verdicts r w c = verdicts r (form r.settings.algos (lines_by r.profile c)) w 0 (lines_by r.profile c)

@@ -1,7 +1,7 @@
 //! Asking one name.
 ghost use Rattle.std.specs.Prelude.{◌≡◌, ◌||◌, [], IfNone, IfSome, is_none};
 ghost use Rattle.sum_engine.specs.Runs.{is_dash};
-ghost use Rattle.sum_engine.specs.LineVerdicts.{asking};
+ghost use Rattle.sum_engine.specs.LineVerdicts.{lent_streams};
 
 use digest_kinds::{AnyHasher, Digest, Hasher, Kind};
 use sum_sources::{Fault, Input, OpenFault, PIECE, Source, Stdin, hash_input_over};
@@ -24,7 +24,7 @@ pub(crate) fn is_dash(name: &[u8]) -> bool
     name == b"-".as_slice()
 }
 
-ghost use Rattle.sum_engine.specs.refinement.Asking.{AskGives, IsRead, RefusedUnless, Sized, world_of};
+ghost use Rattle.sum_engine.specs.refinement.Asking.{HashesNameIfKnown, IsRead, RefusedUnless, HasKindLen, world_of};
 
 /// Opens the name, where `-` is standard input, and reads it to its end, by way of the buffer. None where the source
 /// had no memory to open it; the name then doesn't count as asked.
@@ -35,12 +35,12 @@ pub(crate) fn ask<I: Input + Drop, S: Source>(
     source: &mut S,
     buffer: &mut [u8; PIECE],
 ) -> Option<Asked>
-    ensures gives { AskGives kind (world_of S.state (asking I.state stdin.old source.old))
-        (world_of S.state (asking I.state stdin.new source.new)) name.now result }
+    ensures gives { HashesNameIfKnown kind (world_of S.state (lent_streams I.state stdin.old source.old))
+        (world_of S.state (lent_streams I.state stdin.new source.new)) name.now result }
     ensures taken { is_none stdin.new ≡ is_none stdin.old || is_dash name.now }
     ensures kept { IfNone result (stdin.new ≡ stdin.old) }
     ensures refusals { RefusedUnless (S.state source.old) (S.state source.new) result }
-    ensures sized { Sized kind result }
+    ensures sized { HasKindLen kind result }
 {
     if is_dash(name) {
         return Some(read_digest(stdin.take(), AnyHasher::new(kind), buffer));
@@ -61,7 +61,7 @@ fn read_digest<F: Input + Drop, H: Hasher + Drop>(
 ) -> Asked
     requires { H.holds hasher [] }
     ensures gives { IfSome (F.state file).content (λ c. IsRead (H.kind_of hasher) c result) }
-    ensures sized { Sized (H.kind_of hasher) (Some result) }
+    ensures sized { HasKindLen (H.kind_of hasher) (Some result) }
 {
     match hash_input_over(&mut file, hasher, buffer) {
         Ok(digest) => Asked::Read(digest),

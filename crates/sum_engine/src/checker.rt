@@ -1,7 +1,7 @@
 //! Checking a manifest, a line at a time.
 ghost use Rattle.std.specs.Prelude.{◌≡◌, ◌≤◌, [], None, Some, Err, Ok, Option, IfSome};
 ghost use Rattle.sum_lines.specs.Escape.{present};
-ghost use Rattle.sum_engine.specs.Steps.{WantsMemory};
+ghost use Rattle.sum_engine.specs.Steps.{MemoryStopHasCause};
 
 use crate::listing::Listing;
 use crate::position::Position;
@@ -27,19 +27,19 @@ impl<'a, I> Model for Checker<'a, I> {
     ghost use Rattle.std.specs.Prelude.{Result};
     ghost use Rattle.sum_engine.specs.declared.progress.Progress.{Progress};
     ghost use Rattle.sum_engine.specs.declared.stop.Stop.{Stop};
-    ghost use Rattle.sum_engine.specs.Steps.{Checking};
+    ghost use Rattle.sum_engine.specs.Steps.{CheckerValue};
 
-    ghost Value = { Checking I (Result Progress Stop) };
+    ghost Value = { CheckerValue I (Result Progress Stop) };
 
-    ghost use Rattle.sum_engine.specs.refinement.Positions.{place_of};
+    ghost use Rattle.sum_engine.specs.refinement.Positions.{cursor_value};
 
-    ghost view = { λ c. record { cursor = place_of c.position; final_answer = c.final_answer } };
+    ghost view = { λ c. record { cursor = cursor_value c.position; final_answer = c.final_answer } };
 }
 
 impl<'a, I: Input> Checker<'a, I> {
-    ghost use Rattle.sum_sources.specs.LineReaders.{coming};
-    ghost use Rattle.sum_engine.specs.Moments.{HoldNothing, Failures, Untouched};
-    ghost use Rattle.sum_engine.specs.Steps.{Begins, again_after, StepsTo, Reads};
+    ghost use Rattle.sum_sources.specs.LineReaders.{remaining_content};
+    ghost use Rattle.sum_engine.specs.Moments.{IsFlushed, FailuresMatch, NoOutputOnMemory};
+    ghost use Rattle.sum_engine.specs.Steps.{IsAtStart, final_answer_of_step, PerformsStep, AdvancesReader};
     ghost use Rattle.sum_engine.specs.refinement.Positions.{rules_in};
 
     /// A checker of the manifest that `input` gives. Its diagnostics begin with `tool`, as with `md5sum`, and call the
@@ -59,7 +59,7 @@ impl<'a, I: Input> Checker<'a, I> {
           shown = shown.entry.now;
           from_stdin = from_stdin;
         } }
-        ensures begins { Begins I.state result.cursor input }
+        ensures begins { IsAtStart I.state result.cursor input }
         ensures answer { result.final_answer ≡ None }
     {
         let listing = Listing {
@@ -74,7 +74,7 @@ impl<'a, I: Input> Checker<'a, I> {
     /// A checker of the manifest that `input` gives, by what it is listed as.
     pub(crate) fn over(listing: Listing<'a>, input: I) -> Self
         ensures rules { result.cursor.rules ≡ rules_in listing.entry }
-        ensures begins { Begins I.state result.cursor input }
+        ensures begins { IsAtStart I.state result.cursor input }
         ensures answer { result.final_answer ≡ None }
     {
         Checker {
@@ -103,18 +103,18 @@ impl<'a, I: Input> Checker<'a, I> {
         line: &mut Vec<u8, A>,
         streams: &mut Streams<J, S, O, E>,
     ) -> Result<Progress, Stop>
-        ensures gives { self.old.final_answer ≡ None → StepsTo I.state S.state line.new.items self.old.cursor self.new.cursor
+        ensures gives { self.old.final_answer ≡ None → PerformsStep I.state S.state line.new.items self.old.cursor self.new.cursor
             streams.old streams.new result }
-        ensures none { HoldNothing streams.old → HoldNothing streams.new }
+        ensures none { IsFlushed streams.old → IsFlushed streams.new }
         ensures again { IfSome self.old.final_answer
             (λ r. (result ≡ r) × (self.new ≡ self.old) × (streams.new ≡ streams.old)) }
-        ensures answer { self.old.final_answer ≡ None → self.new.final_answer ≡ again_after result }
+        ensures answer { self.old.final_answer ≡ None → self.new.final_answer ≡ final_answer_of_step result }
         ensures wants { self.old.final_answer ≡ None
-            → WantsMemory (S.state streams.old.source) (S.state streams.new.source)
-            (coming I.state self.old.cursor.reader) result }
-        ensures failures { self.old.final_answer ≡ None → Failures streams.old streams.new result }
-        ensures untouched { Untouched streams.old streams.new result }
-        ensures reads { self.old.final_answer ≡ None → Reads I.state self.old.cursor self.new.cursor result }
+            → MemoryStopHasCause (S.state streams.old.source) (S.state streams.new.source)
+            (remaining_content I.state self.old.cursor.reader) result }
+        ensures failures { self.old.final_answer ≡ None → FailuresMatch streams.old streams.new result }
+        ensures untouched { NoOutputOnMemory streams.old streams.new result }
+        ensures reads { self.old.final_answer ≡ None → AdvancesReader I.state self.old.cursor self.new.cursor result }
     {
         if let Some(answer) = self.final_answer {
             return answer;

@@ -2,10 +2,10 @@
 ghost use Rattle.std.specs.Prelude.{◌≡◌, ◌||◌, Err, OnOk, length};
 ghost use Rattle.sum_engine.specs.Runs.{is_dash};
 ghost use Rattle.sum_lines.specs.Lines.{line};
-ghost use Rattle.sum_engine.specs.Generation.{generate_run};
-ghost use Rattle.sum_engine.specs.refinement.Telling.{HandsOn};
+ghost use Rattle.sum_engine.specs.Generation.{generate_behavior};
+ghost use Rattle.sum_engine.specs.refinement.Telling.{WritesAndFlushes};
 ghost use Rattle.digest_kinds.specs.Limits.{one_more};
-ghost use Rattle.sum_engine.specs.Moments.{HoldNothing, Failures, Refusals, Untouched, RunsTo};
+ghost use Rattle.sum_engine.specs.Moments.{IsFlushed, FailuresMatch, RefusalsMatch, NoOutputOnMemory, Performs};
 
 use crate::asking::{Asked, ask};
 use crate::report::put_fault_line;
@@ -28,13 +28,13 @@ pub fn generate_one<I: Input + Drop, S: Source, O: Sink, E: Sink>(
     name: &[u8],
     streams: &mut Streams<I, S, O, E>,
 ) -> Result<bool, Stop>
-    ensures gives { RunsTo S.state (λ w. generate_run settings.now tool.now w name.now) (λ good. good)
+    ensures gives { Performs S.state (λ w. generate_behavior settings.now tool.now w name.now) (λ good. good)
         streams.old streams.new result }
-    ensures none { HoldNothing streams.old → HoldNothing streams.new }
-    ensures refusals { Refusals S.state (λ n m. m ≡ one_more n) streams.old streams.new result }
-    ensures failures { Failures streams.old streams.new result }
+    ensures none { IsFlushed streams.old → IsFlushed streams.new }
+    ensures refusals { RefusalsMatch S.state (λ n m. m ≡ one_more n) streams.old streams.new result }
+    ensures failures { FailuresMatch streams.old streams.new result }
     ensures taken { OnOk result (streams.new.stdin_taken ≡ streams.old.stdin_taken || is_dash name.now) }
-    ensures untouched { Untouched streams.old streams.new result }
+    ensures untouched { NoOutputOnMemory streams.old streams.new result }
 {
     let mut buffer = [0; PIECE];
     let asked = ask(
@@ -69,7 +69,7 @@ fn tell_line<O: Sink>(
     digest: &Digest,
 ) -> Result<(), SinkFault>
     requires { length digest.now ≡ settings.now.kind.len }
-    ensures { HandsOn (O.state out.old) (O.state out.new)
+    ensures { WritesAndFlushes (O.state out.old) (O.state out.new)
         (line settings.now.style settings.now.kind name.now digest.now) result }
 {
     put_line(out, settings.style, settings.kind, name, digest)?;

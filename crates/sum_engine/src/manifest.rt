@@ -1,11 +1,11 @@
 //! Checking one manifest.
 ghost use Rattle.std.specs.Option.{option_map};
 ghost use Rattle.sum_sources.specs.Contents.{clip};
-ghost use Rattle.sum_engine.specs.Checking.{check_run};
+ghost use Rattle.sum_engine.specs.Checking.{check_behavior};
 ghost use Rattle.std.specs.Prelude.{◌≡◌, ◌⊎◌};
 ghost use Rattle.digest_kinds.specs.Limits.{one_more};
-ghost use Rattle.sum_engine.specs.Moments.{HoldNothing, Failures, Refusals, Accounts, RunsTo};
-ghost use Rattle.sum_engine.specs.Manifests.{ManifestGives};
+ghost use Rattle.sum_engine.specs.Moments.{IsFlushed, FailuresMatch, RefusalsMatch, StopHasCause, Performs};
+ghost use Rattle.sum_engine.specs.Manifests.{ManifestPerforms};
 ghost use Rattle.sum_engine.specs.refinement.Positions.{rules_in};
 
 use crate::asking::is_dash;
@@ -35,11 +35,11 @@ pub fn check_one<A: Allocator + Copy, J: Input + Drop, S: Source, O: Sink, E: Si
     name: &[u8],
     streams: &mut Streams<J, S, O, E>,
 ) -> Result<bool, Stop>
-    ensures gives { RunsTo S.state (λ w. check_run settings tool.now w name.now) (λ good. good)
+    ensures gives { Performs S.state (λ w. check_behavior settings tool.now w name.now) (λ good. good)
         streams.old streams.new result }
-    ensures none { HoldNothing streams.old → HoldNothing streams.new }
-    ensures refusals { Refusals S.state (λ n m. (m ≡ n) ⊎ (m ≡ one_more n)) streams.old streams.new result }
-    ensures failures { Failures streams.old streams.new result }
+    ensures none { IsFlushed streams.old → IsFlushed streams.new }
+    ensures refusals { RefusalsMatch S.state (λ n m. (m ≡ n) ⊎ (m ≡ one_more n)) streams.old streams.new result }
+    ensures failures { FailuresMatch streams.old streams.new result }
 {
     if is_dash(name) {
         let input = streams.stdin.take();
@@ -76,9 +76,9 @@ fn check_input<'a, A: Allocator, I: Input + Drop, J: Input + Drop, S: Source, O:
     input: I,
     streams: &mut Streams<J, S, O, E>,
 ) -> Result<bool, Stop>
-    ensures gives { ManifestGives S.state (rules_in listing.entry) (option_map clip (I.state input).content)
+    ensures gives { ManifestPerforms S.state (rules_in listing.entry) (option_map clip (I.state input).content)
         streams.old streams.new result }
-    ensures accounts { Accounts S.state (λ n m. (m ≡ n) ⊎ (m ≡ one_more n)) streams.old streams.new result }
+    ensures accounts { StopHasCause S.state (λ n m. (m ≡ n) ⊎ (m ≡ one_more n)) streams.old streams.new result }
 {
     let mut checker = Checker::over(listing, input);
     let mut line = Vec::new(alloc);

@@ -29,24 +29,24 @@ pub(crate) struct Position<'a, I> {
 }
 
 impl<'a, I: Input> Position<'a, I> {
-    ghost use Rattle.sum_sources.specs.Contents.{WhereTold};
-    ghost use Rattle.sum_sources.specs.LineReaders.{coming};
-    ghost use Rattle.sum_engine.specs.Moments.{run_state, HoldNothing, Failures, Untouched};
-    ghost use Rattle.sum_engine.specs.Steps.{WantsMemory, Begins, now_of, StepsTo, Reads};
+    ghost use Rattle.sum_sources.specs.Contents.{IfKnown};
+    ghost use Rattle.sum_sources.specs.LineReaders.{remaining_content};
+    ghost use Rattle.sum_engine.specs.Moments.{known_state, IsFlushed, FailuresMatch, NoOutputOnMemory};
+    ghost use Rattle.sum_engine.specs.Steps.{MemoryStopHasCause, IsAtStart, check_state, PerformsStep, AdvancesReader};
     ghost use Rattle.sum_sources.specs.declared.fault.Ending.TheVariants.{Whole};
     ghost use Rattle.sum_engine.specs.Reports.{good};
     ghost use Rattle.std.specs.List.{list_any};
     ghost use Rattle.sum_engine.specs.Runs.{is_dash};
     ghost use Rattle.sum_engine.specs.Verdicts.{asks_of};
     ghost use Rattle.sum_engine.specs.refinement.Asking.{RefusedUnless, world_of};
-    ghost use Rattle.sum_engine.specs.LineVerdicts.{judged_in, Names, FindGives, progress_of, asking};
+    ghost use Rattle.sum_engine.specs.LineVerdicts.{line_verdict_value, HasNameRange, NextVerdictIfKnown, progress_of, lent_streams};
     ghost use Rattle.sum_engine.specs.refinement.Judging.{TakesLine, JudgeLineOf};
-    ghost use Rattle.sum_engine.specs.refinement.Positions.{rules_in, place_of};
+    ghost use Rattle.sum_engine.specs.refinement.Positions.{rules_in, cursor_value};
 
     /// In front of the first line of the manifest that `input` gives.
     pub(crate) fn new(listing: Listing<'a>, input: I) -> Self
         ensures rules { rules_in result.listing ≡ rules_in listing.entry }
-        ensures begins { Begins I.state (place_of result) input }
+        ensures begins { IsAtStart I.state (cursor_value result) input }
     {
         Position {
             listing,
@@ -78,14 +78,14 @@ impl<'a, I: Input> Position<'a, I> {
         line: &mut Vec<u8, A>,
         streams: &mut Streams<J, S, O, E>,
     ) -> Result<Progress, Stop>
-        ensures gives { StepsTo I.state S.state line.new.items (place_of self.old) (place_of self.new)
+        ensures gives { PerformsStep I.state S.state line.new.items (cursor_value self.old) (cursor_value self.new)
             streams.old streams.new result }
-        ensures none { HoldNothing streams.old → HoldNothing streams.new }
-        ensures wants { WantsMemory (S.state streams.old.source) (S.state streams.new.source)
-            (coming I.state self.old.reader) result }
-        ensures failures { Failures streams.old streams.new result }
-        ensures untouched { Untouched streams.old streams.new result }
-        ensures reads { Reads I.state (place_of self.old) (place_of self.new) result }
+        ensures none { IsFlushed streams.old → IsFlushed streams.new }
+        ensures wants { MemoryStopHasCause (S.state streams.old.source) (S.state streams.new.source)
+            (remaining_content I.state self.old.reader) result }
+        ensures failures { FailuresMatch streams.old streams.new result }
+        ensures untouched { NoOutputOnMemory streams.old streams.new result }
+        ensures reads { AdvancesReader I.state (cursor_value self.old) (cursor_value self.new) result }
     {
         match self.find(line, &mut streams.stdin, &mut streams.source) {
             Err(LineStop::Memory) => Err(Stop::Memory),
@@ -126,13 +126,13 @@ impl<'a, I: Input> Position<'a, I> {
         stdin: &mut Stdin<J>,
         source: &mut S,
     ) -> Result<Option<LineVerdict>, LineStop>
-        ensures gives { FindGives (rules_in self.old.listing) line.new.items
-            (now_of I.state (place_of self.old) (run_state S.state (asking J.state stdin.old source.old)))
-            (now_of I.state (place_of self.new) (run_state S.state (asking J.state stdin.new source.new))) result }
-        ensures names { IfOk result (λ found. IfSome found (λ v. Names line.new.items v)) }
-        ensures wants { WantsMemory (S.state source.old) (S.state source.new) (coming I.state self.old.reader)
+        ensures gives { NextVerdictIfKnown (rules_in self.old.listing) line.new.items
+            (check_state I.state (cursor_value self.old) (known_state S.state (lent_streams J.state stdin.old source.old)))
+            (check_state I.state (cursor_value self.new) (known_state S.state (lent_streams J.state stdin.new source.new))) result }
+        ensures names { IfOk result (λ found. IfSome found (λ v. HasNameRange line.new.items v)) }
+        ensures wants { MemoryStopHasCause (S.state source.old) (S.state source.new) (remaining_content I.state self.old.reader)
             (progress_of result) }
-        ensures reads { Reads I.state (place_of self.old) (place_of self.new) (progress_of result) }
+        ensures reads { AdvancesReader I.state (cursor_value self.old) (cursor_value self.new) (progress_of result) }
     {
         match self.reader.next_line(line) {
             Err(stop) => Err(stop),
@@ -153,13 +153,13 @@ impl<'a, I: Input> Position<'a, I> {
     ) -> Option<LineVerdict>
         requires room { total self.old.counts < self.old.reader.lines }
         requires few { self.old.reader.lines ≤ LIMIT }
-        ensures gives { WhereTold (world_of S.state (asking J.state stdin.old source.old))
-            (world_of S.state (asking J.state stdin.new source.new))
-            (λ w v. JudgeLineOf (place_of self.old) line.old.items self.new.counts line.new.items w v result) }
+        ensures gives { IfKnown (world_of S.state (lent_streams J.state stdin.old source.old))
+            (world_of S.state (lent_streams J.state stdin.new source.new))
+            (λ w v. JudgeLineOf (cursor_value self.old) line.old.items self.new.counts line.new.items w v result) }
         ensures taken { MatchOption result (stdin.new ≡ stdin.old) (λ v. is_none stdin.new
-            ≡ is_none stdin.old || list_any is_dash (asks_of (judged_in line.new.items v))) }
-        ensures names { IfSome result (λ v. Names line.new.items v) }
-        ensures place { TakesLine (place_of self.old) (place_of self.new) line.old.items }
+            ≡ is_none stdin.old || list_any is_dash (asks_of (line_verdict_value line.new.items v))) }
+        ensures names { IfSome result (λ v. HasNameRange line.new.items v) }
+        ensures place { TakesLine (cursor_value self.old) (cursor_value self.new) line.old.items }
         ensures held { length line.new.items ≤ length line.old.items }
         ensures refusals { RefusedUnless (S.state source.old) (S.state source.new) result }
     {

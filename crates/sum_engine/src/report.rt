@@ -6,7 +6,7 @@ ghost use Rattle.sum_lines.specs.Shapes.{mark};
 ghost use Rattle.sum_engine.specs.Generation.{tool_line, fault_line};
 ghost use Rattle.sum_engine.specs.Reports.{verdict_line, bad_line, err_by};
 ghost use Rattle.sum_engine.specs.refinement.Positions.{rules_in};
-ghost use Rattle.sum_engine.specs.refinement.Telling.{out_by, HandsOn, HandsBoth, NoneFailed, OneFailed};
+ghost use Rattle.sum_engine.specs.refinement.Telling.{out_by, WritesAndFlushes, WritesBoth, NoneFailed, OneFailed};
 
 use crate::listing::Listing;
 use crate::settings::Report;
@@ -23,7 +23,7 @@ pub(crate) fn put_tool_line<'a, E: Sink>(
     name: &'a [u8],
     text: &'a [u8],
 ) -> Result<(), SinkFault>
-    ensures { HandsOn (E.state err.old) (E.state err.new) (tool_line present tool.now name.now text.now) result }
+    ensures { WritesAndFlushes (E.state err.old) (E.state err.new) (tool_line present tool.now name.now text.now) result }
 {
     tell(
         err,
@@ -45,7 +45,7 @@ pub(crate) fn put_fault_line<E: Sink>(
     name: &[u8],
     fault: Fault,
 ) -> Result<(), SinkFault>
-    ensures { HandsOn (E.state err.old) (E.state err.new) (fault_line present tool.now name.now fault) result }
+    ensures { WritesAndFlushes (E.state err.old) (E.state err.new) (fault_line present tool.now name.now fault) result }
 {
     put_tool_line(err, tool, name, fault.text().as_bytes())
 }
@@ -60,7 +60,7 @@ pub(crate) fn put_report<O: Sink, E: Sink>(
     name: &[u8],
 ) -> Result<(), SinkFault>
     ensures texts { (E.state err.old).buffered ≡ [] → (O.state out.old).buffered ≡ []
-        → HandsBoth (E.state err.old) (E.state err.new) (O.state out.old) (O.state out.new)
+        → WritesBoth (E.state err.old) (E.state err.new) (O.state out.old) (O.state out.new)
         (err_by (rules_in listing.now) number verdict name.now)
         (out_by present listing.now.settings.report verdict name.now) result }
     ensures none { (E.state err.old).buffered ≡ [] → (O.state out.old).buffered ≡ []
@@ -81,7 +81,7 @@ fn put_out<O: Sink>(
     verdict: Verdict,
     name: &[u8],
 ) -> Result<(), SinkFault>
-    ensures { HandsOn (O.state out.old) (O.state out.new) (out_by present report verdict name.now) result }
+    ensures { WritesAndFlushes (O.state out.old) (O.state out.new) (out_by present report verdict name.now) result }
 {
     match report {
         Report::All => put_said(out, verdict, name),
@@ -95,7 +95,7 @@ fn put_out<O: Sink>(
 }
 
 fn put_said<O: Sink>(out: &mut O, verdict: Verdict, name: &[u8]) -> Result<(), SinkFault>
-    ensures { HandsOn (O.state out.old) (O.state out.new) (verdict_line present verdict name.now) result }
+    ensures { WritesAndFlushes (O.state out.old) (O.state out.new) (verdict_line present verdict name.now) result }
 {
     match verdict {
         Verdict::Ignored | Verdict::Bad | Verdict::Missing => Ok(()),
@@ -107,7 +107,7 @@ fn put_said<O: Sink>(out: &mut O, verdict: Verdict, name: &[u8]) -> Result<(), S
 
 // Writes the name and what stands behind it. Most names hold nothing to escape, and are then searched once.
 fn put_name_line<'a, O: Sink>(out: &mut O, name: &'a [u8], rest: &'a [u8]) -> Result<(), SinkFault>
-    ensures { HandsOn (O.state out.old) (O.state out.new)
+    ensures { WritesAndFlushes (O.state out.old) (O.state out.new)
         (concat (mark (escape_differs present name.now) ∷ escape name.now ∷ rest.now ∷ [])) result }
 {
     if needs_escape(name) {
@@ -126,7 +126,7 @@ fn put_err<E: Sink>(
     verdict: Verdict,
     name: &[u8],
 ) -> Result<(), SinkFault>
-    ensures { HandsOn (E.state err.old) (E.state err.new)
+    ensures { WritesAndFlushes (E.state err.old) (E.state err.new)
         (err_by (rules_in listing.now) number verdict name.now) result }
 {
     match verdict {
@@ -140,7 +140,7 @@ fn put_err<E: Sink>(
 }
 
 fn put_bad_line<E: Sink>(err: &mut E, listing: &Listing, number: u64) -> Result<(), SinkFault>
-    ensures { HandsOn (E.state err.old) (E.state err.new) (bad_line (rules_in listing.now) number) result }
+    ensures { WritesAndFlushes (E.state err.old) (E.state err.new) (bad_line (rules_in listing.now) number) result }
 {
     let word = tag_word(listing.settings.algos);
     tell(

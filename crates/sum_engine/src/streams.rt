@@ -18,14 +18,14 @@ pub struct Streams<I: Input, S, O: Sink, E: Sink> {
 
 impl<I: Input, S, O: Sink, E: Sink> Model for Streams<I, S, O, E> {
     ghost use Rattle.std.specs.Prelude.{is_none};
-    ghost use Rattle.sum_sources.specs.Contents.{left_in};
-    ghost use Rattle.sum_engine.specs.Moments.{Moment};
+    ghost use Rattle.sum_sources.specs.Contents.{stdin_state};
+    ghost use Rattle.sum_engine.specs.Moments.{StreamsState};
 
-    ghost Value = { Moment S };
+    ghost Value = { StreamsState S };
 
     ghost view = { λ s. record {
       source = s.source;
-      input = (left_in I.state s.stdin).content;
+      input = (stdin_state I.state s.stdin).content;
       stdin_taken = is_none s.stdin;
       err = E.state s.err;
       out = O.state s.out;

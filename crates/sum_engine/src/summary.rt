@@ -21,7 +21,7 @@ pub(crate) struct Counts {
 ghost use Rattle.sum_engine.specs.Reports.{warning, warnings, unverified_line, end_text, good};
 ghost use Rattle.sum_engine.specs.Reports.{entries, total, counts_with, no_counts};
 ghost use Rattle.sum_engine.specs.refinement.Positions.{rules_in};
-ghost use Rattle.sum_engine.specs.refinement.Telling.{HandsOn};
+ghost use Rattle.sum_engine.specs.refinement.Telling.{WritesAndFlushes};
 ghost use Rattle.sum_sources.specs.declared.fault.Ending.TheVariants.{Whole};
 
 impl Counts {
@@ -76,7 +76,7 @@ pub(crate) fn put_summary<E: Sink>(
     counts: Counts,
 ) -> Result<(), SinkFault>
     requires { total counts < 2 ^ 63 }
-    ensures { HandsOn (E.state err.old) (E.state err.new) (end_text (rules_in listing.now) Whole counts) result }
+    ensures { WritesAndFlushes (E.state err.old) (E.state err.new) (end_text (rules_in listing.now) Whole counts) result }
 {
     if counts.entries() == 0 {
         let text = b"no properly formatted checksum lines found";
@@ -89,7 +89,7 @@ pub(crate) fn put_summary<E: Sink>(
 }
 
 fn put_warnings<E: Sink>(err: &mut E, listing: &Listing, counts: Counts) -> Result<(), SinkFault>
-    ensures { HandsOn (E.state err.old) (E.state err.new) (warnings (rules_in listing.now) counts) result }
+    ensures { WritesAndFlushes (E.state err.old) (E.state err.new) (warnings (rules_in listing.now) counts) result }
 {
     let tool = listing.tool;
     put_warning(
@@ -123,7 +123,7 @@ fn put_warning<'a, E: Sink>(
     one: &'a [u8],
     many: &'a [u8],
 ) -> Result<(), SinkFault>
-    ensures { HandsOn (E.state err.old) (E.state err.new) (warning tool.now count one.now many.now) result }
+    ensures { WritesAndFlushes (E.state err.old) (E.state err.new) (warning tool.now count one.now many.now) result }
 {
     if count == 0 {
         return Ok(());
@@ -142,7 +142,7 @@ fn put_warning<'a, E: Sink>(
 }
 
 fn put_unverified<E: Sink>(err: &mut E, listing: &Listing, counts: Counts) -> Result<(), SinkFault>
-    ensures { HandsOn (E.state err.old) (E.state err.new) (unverified_line (rules_in listing.now) counts) result }
+    ensures { WritesAndFlushes (E.state err.old) (E.state err.new) (unverified_line (rules_in listing.now) counts) result }
 {
     if listing.settings.ignore_missing && counts.right == 0 {
         return put_tool_line(err, listing.tool, listing.shown, b"no file was verified");

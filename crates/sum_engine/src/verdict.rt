@@ -4,7 +4,7 @@ ghost use Rattle.std.specs.List.{list_any};
 ghost use Rattle.sum_engine.specs.Runs.{is_dash};
 ghost use Rattle.sum_engine.specs.Verdicts.{asks_by};
 ghost use Rattle.sum_lines.specs.ParsedLines.{entry};
-ghost use Rattle.sum_engine.specs.LineVerdicts.{asking};
+ghost use Rattle.sum_engine.specs.LineVerdicts.{lent_streams};
 ghost use Rattle.sum_engine.specs.refinement.Asking.{RefusedUnless, world_of};
 
 use crate::asking::{Asked, ask, is_dash};
@@ -40,8 +40,8 @@ pub struct LineVerdict {
 }
 
 ghost use Rattle.sum_engine.specs.refinement.Positions.{rules_in};
-ghost use Rattle.sum_sources.specs.Contents.{WhereTold};
-ghost use Rattle.sum_engine.specs.refinement.Judging.{JudgeOf, compared, spelled_by};
+ghost use Rattle.sum_sources.specs.Contents.{IfKnown};
+ghost use Rattle.sum_engine.specs.refinement.Judging.{JudgeOf, verdict_of_outcome, listed_entry};
 
 /// An entry of a manifest: the digest of a file, with its kind, and the file's name.
 #[derive(Clone, Copy)]
@@ -59,9 +59,9 @@ pub(crate) fn judge<I: Input + Drop, S: Source>(
     source: &mut S,
     buffer: &mut [u8; PIECE],
 ) -> Option<Verdict>
-    ensures gives { WhereTold (world_of S.state (asking I.state stdin.old source.old))
-        (world_of S.state (asking I.state stdin.new source.new))
-        (λ w v. JudgeOf (rules_in listing.now) w v (entry (spelled_by listed.now)) result) }
+    ensures gives { IfKnown (world_of S.state (lent_streams I.state stdin.old source.old))
+        (world_of S.state (lent_streams I.state stdin.new source.new))
+        (λ w v. JudgeOf (rules_in listing.now) w v (entry (listed_entry listed.now)) result) }
     ensures taken { MatchOption result (stdin.new ≡ stdin.old)
         (λ v. is_none stdin.new ≡ is_none stdin.old || list_any is_dash (asks_by v listed.now.name.now)) }
     ensures refusals { RefusedUnless (S.state source.old) (S.state source.new) result }
@@ -76,7 +76,7 @@ pub(crate) fn judge<I: Input + Drop, S: Source>(
 }
 
 fn compare(asked: &Asked, digest: &Digest, ignore_missing: bool) -> Verdict
-    ensures { result ≡ compared ignore_missing digest.now asked.now }
+    ensures { result ≡ verdict_of_outcome ignore_missing digest.now asked.now }
 {
     match asked {
         Asked::Read(found) => {

@@ -2,8 +2,8 @@
 ghost use Rattle.std.specs.Prelude.{◌≡◌, ◌≤◌, ◌&&◌, [], None, IfOk, IfSome};
 ghost use Rattle.std.specs.Option.{option_and_then};
 ghost use Rattle.sum_lines.specs.Escape.{present};
-ghost use Rattle.sum_engine.specs.LineVerdicts.{again_found};
-ghost use Rattle.sum_engine.specs.Steps.{WantsMemory};
+ghost use Rattle.sum_engine.specs.LineVerdicts.{final_answer_of_next};
+ghost use Rattle.sum_engine.specs.Steps.{MemoryStopHasCause};
 
 use crate::listing::Listing;
 use crate::position::Position;
@@ -22,27 +22,27 @@ pub struct Verdicts<I> {
     position: Position<'static, I>,
     // what every later call answers again, where there is such an answer
     final_answer: Option<Result<Option<LineVerdict>, LineStop>>,
-    ghost again: { option_and_then again_found final_answer ≡ final_answer },
+    ghost again: { option_and_then final_answer_of_next final_answer ≡ final_answer },
 }
 
 impl<I> Model for Verdicts<I> {
-    ghost use Rattle.sum_engine.specs.Steps.{Checking};
-    ghost use Rattle.sum_engine.specs.LineVerdicts.{Found};
+    ghost use Rattle.sum_engine.specs.Steps.{CheckerValue};
+    ghost use Rattle.sum_engine.specs.LineVerdicts.{VerdictResult};
 
-    ghost Value = { Checking I Found };
+    ghost Value = { CheckerValue I VerdictResult };
 
-    ghost use Rattle.sum_engine.specs.refinement.Positions.{place_of};
+    ghost use Rattle.sum_engine.specs.refinement.Positions.{cursor_value};
 
-    ghost view = { λ v. record { cursor = place_of v.position; final_answer = v.final_answer } };
+    ghost view = { λ v. record { cursor = cursor_value v.position; final_answer = v.final_answer } };
 }
 
 impl<I: Input> Verdicts<I> {
     ghost use Rattle.sum_sources.specs.declared.fault.Ending.TheVariants.{Whole};
-    ghost use Rattle.sum_sources.specs.LineReaders.{coming};
+    ghost use Rattle.sum_sources.specs.LineReaders.{remaining_content};
     ghost use Rattle.sum_engine.specs.Reports.{good};
-    ghost use Rattle.sum_engine.specs.Moments.{run_state};
-    ghost use Rattle.sum_engine.specs.Steps.{Begins, now_of, Reads};
-    ghost use Rattle.sum_engine.specs.LineVerdicts.{asking, Names, FindGives, progress_of, again_found, is_whole};
+    ghost use Rattle.sum_engine.specs.Moments.{known_state};
+    ghost use Rattle.sum_engine.specs.Steps.{IsAtStart, check_state, AdvancesReader};
+    ghost use Rattle.sum_engine.specs.LineVerdicts.{lent_streams, HasNameRange, NextVerdictIfKnown, progress_of, final_answer_of_next, is_whole};
 
     /// In front of the first line of the manifest that `input` gives; `from_stdin` says whether it came from standard
     /// input, where a line that names `-` is improperly formatted.
@@ -54,7 +54,7 @@ impl<I: Input> Verdicts<I> {
           shown = [];
           from_stdin = from_stdin;
         } }
-        ensures begins { Begins I.state result.cursor input }
+        ensures begins { IsAtStart I.state result.cursor input }
         ensures answer { result.final_answer ≡ None }
     {
         let listing = Listing {
@@ -90,16 +90,16 @@ impl<I: Input> Verdicts<I> {
         stdin: &mut Stdin<J>,
         source: &mut S,
     ) -> Result<Option<LineVerdict>, LineStop>
-        ensures gives { self.old.final_answer ≡ None → FindGives self.old.cursor.rules line.new.items
-            (now_of I.state self.old.cursor (run_state S.state (asking J.state stdin.old source.old)))
-            (now_of I.state self.new.cursor (run_state S.state (asking J.state stdin.new source.new))) result }
-        ensures names { IfOk result (λ found. IfSome found (λ v. Names line.new.items v)) }
+        ensures gives { self.old.final_answer ≡ None → NextVerdictIfKnown self.old.cursor.rules line.new.items
+            (check_state I.state self.old.cursor (known_state S.state (lent_streams J.state stdin.old source.old)))
+            (check_state I.state self.new.cursor (known_state S.state (lent_streams J.state stdin.new source.new))) result }
+        ensures names { IfOk result (λ found. IfSome found (λ v. HasNameRange line.new.items v)) }
         ensures again { IfSome self.old.final_answer (λ r. (result ≡ r) × (self.new ≡ self.old) × (stdin.new ≡ stdin.old)
             × (source.new ≡ source.old)) }
-        ensures answer { self.old.final_answer ≡ None → self.new.final_answer ≡ again_found result }
-        ensures wants { self.old.final_answer ≡ None → WantsMemory (S.state source.old) (S.state source.new)
-            (coming I.state self.old.cursor.reader) (progress_of result) }
-        ensures reads { self.old.final_answer ≡ None → Reads I.state self.old.cursor self.new.cursor (progress_of result) }
+        ensures answer { self.old.final_answer ≡ None → self.new.final_answer ≡ final_answer_of_next result }
+        ensures wants { self.old.final_answer ≡ None → MemoryStopHasCause (S.state source.old) (S.state source.new)
+            (remaining_content I.state self.old.cursor.reader) (progress_of result) }
+        ensures reads { self.old.final_answer ≡ None → AdvancesReader I.state self.old.cursor self.new.cursor (progress_of result) }
     {
         if let Some(answer) = self.final_answer {
             return answer;

@@ -1,13 +1,13 @@
 -- What a buffer over a sink does to what was taken, by what the sink below answers.
 use Rattle.std.proofs.Common.{ℕ, ◌≡◌, List, [], Result, Ok, Err, ◌∙◌, append_assoc, append-nil, arith}
-use Rattle.sum_lines.specs.Sinks.{SinkState, Wrote, Flushes, Writes}
-use Rattle.sum_lines.specs.Buffers.{behind}
-use Rattle.sum_lines.specs.refinement.GrowingSinks.{Empties}
+use Rattle.sum_lines.specs.Sinks.{SinkState, Accepted, Flushes, WritesAll}
+use Rattle.sum_lines.specs.Buffers.{with_buffered}
+use Rattle.sum_lines.specs.refinement.GrowingSinks.{FlushesBuffer}
 use Rattle.sum_lines.proofs.SinkLemmas.{Flushes-with_buffered}
 
 -- the buffer was emptied into the sink below
-pub Emptied : {E : Type 0} (a b : SinkState) (own : List ℕ) (r : Result (Unit {0}) E) → Writes a b own r
-    → Empties (behind a own) (behind b []) r
+pub Emptied : {E : Type 0} (a b : SinkState) (own : List ℕ) (r : Result (Unit {0}) E) → WritesAll a b own r
+    → FlushesBuffer (with_buffered a own) (with_buffered b []) r
 Emptied a b own (Ok u) h = record {
   accepted = let taken = h.accepted in grind (arith, append_assoc, append-nil);
   written = h.written;
@@ -21,6 +21,6 @@ Emptied a b own (Err e) h = record {
 
 -- the buffer was emptied, and then the sink below was flushed
 pub Flushed-below : {E : Type 0} {a : SinkState} (b c : SinkState) (own : List ℕ) (r : Result (Unit {0}) E)
-    → Wrote a (behind b own) [] → own ≡ [] → Flushes b c r → Flushes a (behind c own) r
+    → Accepted a (with_buffered b own) [] → own ≡ [] → Flushes b c r → Flushes a (with_buffered c own) r
 Flushed-below b c own r emptied none h =
     rw (none, append-nil) (Flushes-with_buffered b c r (rw (none, append-nil) at emptied) h)

@@ -4,8 +4,8 @@ use Rattle.std.specs.List.{AllPass}
 use Rattle.std.proofs.lemmas.List.Elements.{All-head}
 use Rattle.digest_kinds.specs.Kinds.{KindValue, tag}
 use Rattle.sum_lines.specs.Shapes.{Algos, is_blank, mark, Plain, Tagged}
-use Rattle.sum_lines.specs.Entries.{Form, Undecided, Standard, Reversed, is_ignored, begins_standard, form_of_tail, Decides, IsForm, Spelled, ByTag, ByTail, form_then, line_form, form}
-use Rattle.sum_lines.specs.PartsOfLines.{Parts, plain_parts}
+use Rattle.sum_lines.specs.Entries.{Form, Undecided, Standard, Reversed, is_ignored, begins_standard, form_of_tail, DecidesForm, IsForm, EntryValue, ByTag, ByTail, form_then, line_form, form}
+use Rattle.sum_lines.specs.PartsOfLines.{LinePartsValue, plain_parts}
 use Rattle.sum_lines.specs.LineLaws.{OneForm}
 use Rattle.sum_lines.proofs.PrefixLemmas.{none_of}
 use Rattle.sum_lines.proofs.TaggedLemmas.{Begins, tag-begins, passes-other}
@@ -14,13 +14,13 @@ use Rattle.sum_lines.proofs.PlainLemmas.{plain-digits, plain_is_read, read_is_pl
 -- ---- the parts of an entry
 
 -- the parts of an entry's line, tagged or plain
-abbrev pub tag_parts : {escaped : List ℕ → List ℕ} {algos : Algos} {line : List ℕ} {s : Spelled}
-    → ByTag escaped algos line s → Parts
+abbrev pub tag_parts : {escaped : List ℕ → List ℕ} {algos : Algos} {line : List ℕ} {s : EntryValue}
+    → ByTag escaped algos line s → LinePartsValue
 tag_parts {s = s} by = record { escaped = by.escaped; kind = s.kind; digest = s.digest; text = by.raw }
 
 -- those of a plain line
-abbrev pub tail_parts : {escaped : List ℕ → List ℕ} {algos : Algos} {f : Form} {line : List ℕ} {s : Spelled}
-    → ByTail escaped algos f line s → Parts
+abbrev pub tail_parts : {escaped : List ℕ → List ℕ} {algos : Algos} {f : Form} {line : List ℕ} {s : EntryValue}
+    → ByTail escaped algos f line s → LinePartsValue
 tail_parts {s = s} by = record { escaped = by.escaped; kind = s.kind; digest = s.digest; text = by.tail }
 
 -- ---- one form
@@ -30,11 +30,11 @@ keeps : (b : Bool) (g : Form) → form_then (cond b Standard Reversed) g ≡ con
 keeps b g = grind arith
 
 -- the parts of a line that decides
-abbrev decided_parts : {algos : Algos} {line : List ℕ} {f : Form} → Decides algos line f → Parts
+abbrev decided_parts : {algos : Algos} {line : List ℕ} {f : Form} → DecidesForm algos line f → LinePartsValue
 decided_parts d = record { escaped = d.escaped; kind = d.kind; digest = d.digest; text = d.tail }
 
 -- what a line decides is its own form, and stays
-pub decides-form : {algos : Algos} {line : List ℕ} {f : Form} → Decides algos line f
+pub decides-form : {algos : Algos} {line : List ℕ} {f : Form} → DecidesForm algos line f
     → (line_form algos line ≡ f) × ((g : Form) → form_then f g ≡ f)
 decides-form {algos} {line} d =
     let here : line_form algos line ≡ form_of_tail d.tail = rw (plain_is_read (decided_parts d) d.plain) refl in
@@ -66,13 +66,13 @@ tagged-speaks {e = e} {kind = kind} t =
     rw t.whole (speaks t.blanks e (tag kind.algo) _ t.are_blanks (tag-begins kind.algo))
 
 -- a line that is found to be plain decides its own form; any other decides nothing
-decides-or : (algos : Algos) (line : List ℕ) → Decides algos line (line_form algos line)
-    ⊎ ((line_form algos line ≡ Undecided) × ((f : Form) → Decides algos line f → ⊥))
+decides-or : (algos : Algos) (line : List ℕ) → DecidesForm algos line (line_form algos line)
+    ⊎ ((line_form algos line ≡ Undecided) × ((f : Form) → DecidesForm algos line f → ⊥))
 decides-or algos line = go (plain_parts algos line) refl
   where
-    go : (o : Option Parts) → plain_parts algos line ≡ o
-        → Decides algos line (line_form algos line)
-        ⊎ ((line_form algos line ≡ Undecided) × ((f : Form) → Decides algos line f → ⊥))
+    go : (o : Option LinePartsValue) → plain_parts algos line ≡ o
+        → DecidesForm algos line (line_form algos line)
+        ⊎ ((line_form algos line ≡ Undecided) × ((f : Form) → DecidesForm algos line f → ⊥))
     go None h = inr (rw h refl, λ f d. let wrong = sym h ∙ plain_is_read (decided_parts d) d.plain in cc)
     go (Some p) h = let plain = read_is_plain h in inl (record {
       escaped = p.escaped;

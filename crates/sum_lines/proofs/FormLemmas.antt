@@ -4,9 +4,9 @@ use Rattle.std.specs.Option.{option_map_or}
 use Rattle.digest_kinds.specs.declared.algo.Algos.{Algos}
 use Rattle.sum_lines.specs.Entries.{Form, Undecided, Standard, Reversed, form, form_then, line_form, form_of_tail, is_ignored_by, begins_standard}
 use Rattle.sum_lines.specs.Escape.{Profile}
-use Rattle.sum_lines.specs.PartsOfLines.{◌>>=◌, Parts, tagged_parts, plain_parts}
+use Rattle.sum_lines.specs.PartsOfLines.{◌>>=◌, LinePartsValue, tagged_parts, plain_parts}
 use Rattle.sum_lines.specs.ParsedLines.{with_raw, entry_of_parts, entry_of, ignored, bad, entry, parse_line}
-use Rattle.sum_lines.specs.LineLaws.{SameSaid, SameForm}
+use Rattle.sum_lines.specs.LineLaws.{SameParse, SameForm}
 use Rattle.sum_lines.proofs.PlainLemmas.{plain_is_read}
 use Rattle.sum_lines.proofs.EntryLemmas.{form_at}
 pub use Rattle.sum_lines.proofs.EntryLemmas.{form_next, form_on}
@@ -18,8 +18,8 @@ pub decided : (f : Form) (b : Bool) (g : Form)
 decided f b g = grind arith
 
 -- so later lines leave the entry as it is
-entry_stays : (p : Profile) (f g : Form) (t q : Option Parts)
-    → let x = option_map_or (λ (q : Parts). form_of_tail q.text) q Undecided in
+entry_stays : (p : Profile) (f g : Form) (t q : Option LinePartsValue)
+    → let x = option_map_or (λ (q : LinePartsValue). form_of_tail q.text) q Undecided in
     entry_by p (form_then (form_then f x) g) t q ≡ entry_by p (form_then f x) t q
 entry_stays p f g None (Some q) = ap (λ x. with_raw x q >>= entry_of_parts p) (decided f (begins_standard q.text) g)
 entry_stays p f g t q = refl
@@ -42,7 +42,7 @@ parsed_line_alone p algos before later line =
     ∙ said_stays p algos (form algos before) (form algos later) line
 
 -- so lines behind it may be others
-pub same_said : SameSaid
+pub same_said : SameParse
 same_said p algos before later others line =
     parsed_line_alone p algos before later line ∙ sym (parsed_line_alone p algos before others line)
 
@@ -58,6 +58,6 @@ form_alone algos before later line tail own =
 -- and lines behind it may be others
 pub same_form : SameForm
 same_form algos before later others line e kind d tail plain =
-    let p : Parts = record { escaped = e; kind = kind; digest = d; text = tail } in
+    let p : LinePartsValue = record { escaped = e; kind = kind; digest = d; text = tail } in
     let own : line_form algos line ≡ form_of_tail tail = rw (plain_is_read p plain) refl in
     form_alone algos before later line tail own ∙ sym (form_alone algos before others line tail own)

@@ -1,6 +1,6 @@
 -- What was offered of a text, piece after piece, while it was handed on.
 use Rattle.std.proofs.Common.{ℕ, ◌≡◌, ◌<◌, ◌≤◌, List, [], ◌∷◌, ◌++◌, length, take, drop, Option, refl, sym, ◌∙◌, append_assoc, take-append-drop, length-append, length-take, arith}
-use Rattle.sum_lines.specs.Sinks.{Offers, IsRest, AreRests, InOnePiece, HandsOn}
+use Rattle.sum_lines.specs.Sinks.{Offers, IsRest, AreRests, InOnePiece, OffersWhole}
 
 -- the pieces were offered one after another, each as what was left of the one before, and this rest is left of the last
 abbrev pub Leaves : List ℕ → List (List ℕ) → List ℕ → Type 0
@@ -70,7 +70,7 @@ Offered-more {a} {b} {c} {text} {rest} n h offer some within = record {
 
 -- the rest was offered, and that was the last offer
 pub Offered-last : {a b : Option (List (List ℕ))} {text rest : List ℕ} (c : Option (List (List ℕ)))
-    → Offered a b text rest → Offers b c (rest ∷ []) → 0 < length rest → HandsOn a c text
+    → Offered a b text rest → Offers b c (rest ∷ []) → 0 < length rest → OffersWhole a c text
 Offered-last {a} {b} {text} {rest} c h offer some = (
   h.pieces ++ rest ∷ [],
   Offers-trans a b c h.pieces (rest ∷ []) h.offers offer,
@@ -79,5 +79,5 @@ Offered-last {a} {b} {text} {rest} c h offer some = (
 
 -- nothing is left to offer
 pub Offered-none : {a b : Option (List (List ℕ))} {text rest : List ℕ}
-    → Offered a b text rest → rest ≡ [] → HandsOn a b text
+    → Offered a b text rest → rest ≡ [] → OffersWhole a b text
 Offered-none {text = text} {rest = rest} h none = (h.pieces, h.offers, Leaves-none text h.pieces rest h.leaves none)

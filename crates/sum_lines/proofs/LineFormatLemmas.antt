@@ -4,7 +4,7 @@ use Rattle.std.proofs.lemmas.List.{append-nil}
 use Rattle.hex.specs.Hex.{encode_lower}
 use Rattle.digest_kinds.specs.Kinds.{KindValue, tag}
 use Rattle.sum_lines.specs.Shapes.{Algo, Algos, One, Any, mark, Width, Allows, Tagged}
-use Rattle.sum_lines.specs.Entries.{Form, Undecided, Standard, Spelled, Entry, line_form, form}
+use Rattle.sum_lines.specs.Entries.{Form, Undecided, Standard, EntryValue, IsEntry, line_form, form}
 use Rattle.sum_lines.specs.declared.line_format.Mode.{Mode}
 use Rattle.sum_lines.specs.Escape.{present, escape, escape_differs}
 use Rattle.sum_lines.specs.PartsOfLines.{plain_parts}
@@ -52,12 +52,12 @@ tagged-mute {algos} {line} tagged =
 -- a line with an entry is read back, since a line spells at most one
 back : {algos : Algos} {before later : List (List ℕ)} {kind : KindValue} {name digest prefix : List ℕ}
     → All Inline prefix
-    → Entry escape algos (form algos (before ++ (prefix ∷ later))) prefix (written_for kind name digest)
+    → IsEntry escape algos (form algos (before ++ (prefix ∷ later))) prefix (written_for kind name digest)
     → Readable (form algos (before ++ (prefix ∷ [])))
     → SpellsBack algos before later (prefix ++ (10 ∷ [])) kind name digest
 back {algos} {before} {later} {kind} {name} {digest} {prefix} one has keeps =
     let f : Form = form algos (before ++ (prefix ∷ later)) in
-    let s : Spelled = written_for kind name digest in
+    let s : EntryValue = written_for kind name digest in
     record {
       prefix = prefix;
       whole = refl;

@@ -17,8 +17,8 @@ use Rattle.sum_lines.proofs.TaggedLemmas.{passes-other}
 use Rattle.std.proofs.lemmas.Slice.Eq.{bytes_eq-Decides}
 use Rattle.hex.specs.Hex.{encode_lower, is_hex_digit}
 use Rattle.hex.proofs.HexLemmas.{decode_of-encode_lower}
-use Rattle.sum_lines.specs.Entries.{Form, Standard, begins_standard, line_form, Spells, Spelled, Entry}
-use Rattle.sum_lines.specs.PartsOfLines.{Parts}
+use Rattle.sum_lines.specs.Entries.{Form, Standard, begins_standard, line_form, Spells, EntryValue, IsEntry}
+use Rattle.sum_lines.specs.PartsOfLines.{LinePartsValue}
 use Rattle.sum_lines.specs.LineLaws.{Writable}
 use Rattle.sum_lines.proofs.PlainLemmas.{Digits, digits-of, plain_is_read}
 use Rattle.sum_lines.proofs.EntryLemmas.{plain-speaks, tagged-speaks}
@@ -100,7 +100,7 @@ tagged_line kind width name digest =
     ++ (tag kind.algo ++ (width ++ (32 ∷ 40 ∷ (escape name ++ (41 ∷ 32 ∷ 61 ∷ 32 ∷ encode_lower digest)))))
 
 -- the entry that either spells
-abbrev pub written_for : KindValue → List ℕ → List ℕ → Spelled
+abbrev pub written_for : KindValue → List ℕ → List ℕ → EntryValue
 written_for kind name digest = record { kind = kind; digest = digest; name = name }
 
 -- the byte before the name makes the list Standard
@@ -149,13 +149,13 @@ module _ {kind : KindValue} {name digest : List ℕ} (w : Writable kind name dig
   pub plain-form : (x : ℕ) → is_space_or_star x ≡ true
       → line_form (One kind.algo) (plain_line x name digest) ≡ Standard
   plain-form x star =
-      let p : Parts =
+      let p : LinePartsValue =
       record { escaped = escape_differs present name; kind = kind; digest = digest; text = x ∷ escape name } in
       rw (plain_is_read p (plain-written x), standard x name w.some star) refl
 
   -- in a Standard list it spells what it was written for
   pub plain-entry : (x : ℕ) (f : Form) → is_space_or_star x ≡ true → f ≡ Standard
-      → Entry escape (One kind.algo) f (plain_line x name digest) (written_for kind name digest)
+      → IsEntry escape (One kind.algo) f (plain_line x name digest) (written_for kind name digest)
   plain-entry x f star is = rw is (
     plain-speaks (plain-written x),
     inr (record {
@@ -194,7 +194,7 @@ module _ {kind : KindValue} {name digest : List ℕ} (w : Writable kind name dig
 
   -- whatever the form, it spells what it was written for
   pub tagged-entry : (algos : Algos) (width : List ℕ) (f : Form) → Allows algos kind.algo → Width kind width
-      → Entry escape algos f (tagged_line kind width name digest) (written_for kind name digest)
+      → IsEntry escape algos f (tagged_line kind width name digest) (written_for kind name digest)
   tagged-entry algos width f allowed is_width =
       let tagged = tagged-written algos width allowed is_width in (
         tagged-speaks tagged,

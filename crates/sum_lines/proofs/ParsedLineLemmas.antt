@@ -4,11 +4,11 @@ use Rattle.std.specs.Option.{option_or, option_map_or}
 use Rattle.std.proofs.lemmas.Option.{cond_some, same_Some}
 use Rattle.digest_kinds.specs.Kinds.{KindValue}
 use Rattle.sum_lines.specs.Shapes.{Algos, Plain}
-use Rattle.sum_lines.specs.Entries.{Form, Undecided, Standard, Reversed, Spelled, Entry, RawOf, begins_standard, is_ignored_by}
+use Rattle.sum_lines.specs.Entries.{Form, Undecided, Standard, Reversed, EntryValue, IsEntry, RawOf, begins_standard, is_ignored_by}
 use Rattle.sum_lines.specs.Escape.{Profile, present, escape_by}
-use Rattle.sum_lines.specs.PartsOfLines.{◌>>=◌, Parts, tagged_parts, plain_parts}
+use Rattle.sum_lines.specs.PartsOfLines.{◌>>=◌, LinePartsValue, tagged_parts, plain_parts}
 use Rattle.sum_lines.specs.ParsedLines.{with_raw, entry_of_parts, entry_of, ignored, bad, entry}
-use Rattle.sum_lines.specs.LineLaws.{OneEntry, SaysIs}
+use Rattle.sum_lines.specs.LineLaws.{OneEntry, ParseIsGrammar}
 use Rattle.sum_lines.proofs.PrefixLemmas.{bind_some, none_of}
 use Rattle.sum_lines.proofs.PlainLemmas.{apart, plain_is_read, read_is_plain}
 use Rattle.sum_lines.proofs.TaggedLemmas.{tagged_is_read, read_is_tagged}
@@ -18,15 +18,15 @@ use Rattle.sum_lines.proofs.UnescapeLemmas.{spelled-is, is-spelled}
 -- ---- the raw name
 
 -- the entry by what was found of a line
-abbrev pub entry_by : Profile → Form → Option Parts → Option Parts → Option Spelled
+abbrev pub entry_by : Profile → Form → Option LinePartsValue → Option LinePartsValue → Option EntryValue
 entry_by p f t q = option_or t (q >>= with_raw f) >>= entry_of_parts p
 
 -- the parts with another text
-abbrev with_text : Parts → List ℕ → Parts
+abbrev with_text : LinePartsValue → List ℕ → LinePartsValue
 with_text t raw = record { escaped = t.escaped; kind = t.kind; digest = t.digest; text = raw }
 
 -- the raw name of a tail is found
-raw-is : (f : Form) (t : Parts) (raw : List ℕ) → RawOf f t.text raw → with_raw f t ≡ Some (with_text t raw)
+raw-is : (f : Form) (t : LinePartsValue) (raw : List ℕ) → RawOf f t.text raw → with_raw f t ≡ Some (with_text t raw)
 raw-is Undecided t raw h = absurd h
 raw-is Reversed t raw h = ap (λ l. Some (with_text t l)) (sym h)
 raw-is Standard t raw h = rw h.0 (ap (λ l. Some (with_text t (drop 1 l))) h.2)
@@ -37,7 +37,7 @@ standard-raw [] h = cc
 standard-raw (x ∷ xs) h = (h, x, refl)
 
 -- what is found in place of a tail is its raw name
-is-raw : (f : Form) (t q : Parts) → with_raw f t ≡ Some q
+is-raw : (f : Form) (t q : LinePartsValue) → with_raw f t ≡ Some q
     → (raw : List ℕ) × RawOf f t.text raw × (with_text t raw ≡ q)
 is-raw Undecided t q h = cc
 is-raw Reversed t q h = (t.text, refl, cc)
@@ -54,7 +54,7 @@ module _ (p : Profile) (algos : Algos) (f : Form) (line : List ℕ) where
   not-tagged plain = none_of (tagged_parts algos line) (λ q h. apart plain (read_is_tagged h))
 
   -- an entry by its tag or by its tail
-  pub entry_value : (s : Spelled) → Entry (escape_by p) algos f line s → entry_of p algos f line ≡ Some s
+  pub entry_value : (s : EntryValue) → IsEntry (escape_by p) algos f line s → entry_of p algos f line ≡ Some s
   unfolding entry_of
   entry_value s (_, inl t) =
       rw (tagged_is_read (tag_parts t) t.tagged) (spelled-is p (tag_parts t) s.name t.spells)
@@ -66,8 +66,8 @@ module _ (p : Profile) (algos : Algos) (f : Form) (line : List ℕ) where
   -- ---- the entry that is computed is the line's
 
   -- what a tagged line's parts spell
-  by-tag : (s : Spelled) (t : Parts) → tagged_parts algos line ≡ Some t → entry_of_parts p t ≡ Some s
-      → Entry (escape_by p) algos f line s
+  by-tag : (s : EntryValue) (t : LinePartsValue) → tagged_parts algos line ≡ Some t → entry_of_parts p t ≡ Some s
+      → IsEntry (escape_by p) algos f line s
   by-tag s t found h =
       let name = is-spelled p t s h in
       let tagged = read_is_tagged found in
@@ -75,8 +75,8 @@ module _ (p : Profile) (algos : Algos) (f : Form) (line : List ℕ) where
       (tagged-speaks tagged, inl (record { escaped = t.escaped; raw = t.text; tagged = tagged; spells = name.1 }))
 
   -- what a plain line's spell, with the raw name of its tail
-  by-tail : (s : Spelled) (t : Parts) (raw : List ℕ) → plain_parts algos line ≡ Some t → RawOf f t.text raw
-      → entry_of_parts p (with_text t raw) ≡ Some s → Entry (escape_by p) algos f line s
+  by-tail : (s : EntryValue) (t : LinePartsValue) (raw : List ℕ) → plain_parts algos line ≡ Some t → RawOf f t.text raw
+      → entry_of_parts p (with_text t raw) ≡ Some s → IsEntry (escape_by p) algos f line s
   by-tail s t raw found is h =
       let name = is-spelled p (with_text t raw) s h in
       let plain = read_is_plain found in
@@ -86,8 +86,8 @@ module _ (p : Profile) (algos : Algos) (f : Form) (line : List ℕ) where
       )
 
   -- either of them, as a line is found to be tagged or only plain
-  by-parts : (s : Spelled) (t q : Option Parts) → tagged_parts algos line ≡ t → plain_parts algos line ≡ q
-      → entry_by p f t q ≡ Some s → Entry (escape_by p) algos f line s
+  by-parts : (s : EntryValue) (t q : Option LinePartsValue) → tagged_parts algos line ≡ t → plain_parts algos line ≡ q
+      → entry_by p f t q ≡ Some s → IsEntry (escape_by p) algos f line s
   by-parts s (Some t) q tagged plain h = by-tag s t tagged h
   by-parts s None None tagged plain h = cc
   by-parts s None (Some q) tagged plain h =
@@ -96,7 +96,7 @@ module _ (p : Profile) (algos : Algos) (f : Form) (line : List ℕ) where
       by-tail s q raw.0 plain raw.1 (ap (entry_of_parts p) raw.2 ∙ named.2)
 
   -- so what is computed is an entry of the line
-  pub value_entry : (s : Spelled) → entry_of p algos f line ≡ Some s → Entry (escape_by p) algos f line s
+  pub value_entry : (s : EntryValue) → entry_of p algos f line ≡ Some s → IsEntry (escape_by p) algos f line s
   unfolding entry_of
   value_entry s h = by-parts s (tagged_parts algos line) (plain_parts algos line) refl refl h
 
@@ -108,22 +108,22 @@ one_entry algos f line s t p q =
 -- ---- what a line says
 
 -- what is said of a line, by whether it is ignored and its entry: nothing
-said-nothing : (skipped : Bool) (o : Option Spelled)
+said-nothing : (skipped : Bool) (o : Option EntryValue)
     → cond skipped ignored (option_map_or entry o bad) ≡ ignored → skipped ≡ true
 said-nothing skipped o h = grind arith
 
 -- its entry
-said-entry : (skipped : Bool) (o : Option Spelled) (s : Spelled)
+said-entry : (skipped : Bool) (o : Option EntryValue) (s : EntryValue)
     → cond skipped ignored (option_map_or entry o bad) ≡ entry s → (skipped ≡ false) × (o ≡ Some s)
 said-entry skipped o s h = grind arith
 
 -- or that it is improper
-said-improper : (skipped : Bool) (o : Option Spelled)
+said-improper : (skipped : Bool) (o : Option EntryValue)
     → cond skipped ignored (option_map_or entry o bad) ≡ bad → (skipped ≡ false) × (o ≡ None)
 said-improper skipped o h = grind arith
 
 -- what a line says is computed, whichever the profile
-pub says_is : SaysIs
+pub says_is : ParseIsGrammar
 says_is p algos f line =
     let skipped = is_ignored_by p line in
     let found = entry_of p algos f line in

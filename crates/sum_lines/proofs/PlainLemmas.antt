@@ -12,20 +12,20 @@ use Rattle.hex.specs.Hex.{decode_of, is_hex_digit}
 use Rattle.hex.proofs.HexLemmas.{decode_of-ok}
 use Rattle.digest_kinds.specs.Kinds.{KindValue, has_len, tag}
 use Rattle.sum_lines.specs.Shapes.{Algo, Algos, One, Any, is_blank, Plain, Tagged}
-use Rattle.sum_lines.specs.PartsOfLines.{Parts, after_while, mark_and_rest, plain_parts}
+use Rattle.sum_lines.specs.PartsOfLines.{LinePartsValue, after_while, mark_and_rest, plain_parts}
 use Rattle.sum_lines.specs.refinement.Beginnings.{Cut}
 use Rattle.sum_lines.proofs.PrefixLemmas.{bind_some, none_of, ok_some, prefix_passes, prefix-and-rest, prefix_len-stop, rest-seam, mark_and_rest-is}
 use Rattle.sum_lines.proofs.TaggedLemmas.{Begins, begins-by, passes-other, behind_tag, hex-no_blank, tagged-prefix, mark_and_rest-prefix}
 use Rattle.sum_lines.proofs.BitsLemmas.{has_len-range}
 
 -- the parts are those of a plain line
-abbrev pub IsPlain : Algos → List ℕ → Parts → Type 0
+abbrev pub IsPlain : Algos → List ℕ → LinePartsValue → Type 0
 IsPlain algos line p = Plain algos line p.escaped p.kind p.digest p.text
 
 -- ---- what is read joins to the line
 
 -- what is read is such a cut
-plain_parts-some : {a : Algo} (line : List ℕ) {p : Parts} → plain_parts (One a) line ≡ Some p
+plain_parts-some : {a : Algo} (line : List ℕ) {p : LinePartsValue} → plain_parts (One a) line ≡ Some p
     → let t = mark_and_rest (after_while is_blank line) in let tail = after_first is_blank t.1 in
     (d : List ℕ) × Cut a t.1 d
     × (record { escaped = t.0; kind = record { algo = a; len = length d }; digest = d; text = tail } ≡ p)
@@ -52,7 +52,7 @@ cut-within {s = s} cut =
     omega (arith, some, rest)
 
 -- a line that is read as plain is plain
-pub read_is_plain : {algos : Algos} {line : List ℕ} {p : Parts} → plain_parts algos line ≡ Some p → IsPlain algos line p
+pub read_is_plain : {algos : Algos} {line : List ℕ} {p : LinePartsValue} → plain_parts algos line ≡ Some p → IsPlain algos line p
 unfolding plain_parts
 read_is_plain {algos = One a} {line} {p} h =
     let s : List ℕ = (mark_and_rest (after_while is_blank line)).1 in
@@ -126,7 +126,7 @@ module _ {algos : Algos} {line : List ℕ} {e : Bool} {kind : KindValue} {d tail
       ∙ mark_and_rest-prefix t.blanks e t.digits (t.blank ∷ tail) t.are_blanks digits.begins
 
 -- so the line is read as its parts
-pub plain_is_read : {algos : Algos} {line : List ℕ} (p : Parts) → IsPlain algos line p → plain_parts algos line ≡ Some p
+pub plain_is_read : {algos : Algos} {line : List ℕ} (p : LinePartsValue) → IsPlain algos line p → plain_parts algos line ≡ Some p
 unfolding plain_parts
 plain_is_read p t =
     let digits = plain-digits t in

@@ -4,7 +4,7 @@ use Rattle.std.proofs.Common.{ℕ, ◌≡◌, ◌<◌, ◌-◌, List, [], ◌++�
 use Rattle.std.proofs.lemmas.List.{take_rest, append_cancel_left}
 use Rattle.std.specs.Io.KnownBytes.{Appends, append_known}
 use Rattle.std.proofs.KnownBytes.{Appends-nil, Appends-trans}
-use Rattle.sum_lines.specs.Sinks.{AppendsPart, SinkState, Wrote, Broke, Dropped, Writes, Flushes}
+use Rattle.sum_lines.specs.Sinks.{AppendsProperPrefix, SinkState, Accepted, WriteFailed, FlushFailed, WritesAll, Flushes}
 use Rattle.digest_kinds.specs.Limits.{one_more}
 use Rattle.sum_lines.specs.refinement.GrowingSinks.{Grows, AppendsPrefix}
 
@@ -15,16 +15,16 @@ pub Grows-trans : (a b c : Option (List ℕ)) → Grows a b → Grows b c → Gr
 Grows-trans a b c p q = (p.0 ++ q.0, Appends-trans a b c p.0 q.0 p.1 q.1)
 
 -- nothing is written where nothing is done
-pub Wrote-nil : {a : SinkState} → Wrote a a []
-Wrote-nil {a} = record {
+pub Accepted-nil : {a : SinkState} → Accepted a a []
+Accepted-nil {a} = record {
   accepted = Appends-nil (append_known a.written a.buffered);
   written = ([], Appends-nil a.written);
   failures = refl;
 }
 
 -- one text was written, and then another
-pub Wrote-trans : {a b c : SinkState} (xs ys : List ℕ) → Wrote a b xs → Wrote b c ys → Wrote a c (xs ++ ys)
-Wrote-trans {a} {b} {c} xs ys first second = record {
+pub Accepted-trans : {a b c : SinkState} (xs ys : List ℕ) → Accepted a b xs → Accepted b c ys → Accepted a c (xs ++ ys)
+Accepted-trans {a} {b} {c} xs ys first second = record {
   accepted = Appends-trans (append_known a.written a.buffered) (append_known b.written b.buffered)
       (append_known c.written c.buffered) xs ys first.accepted second.accepted;
   written = Grows-trans a.written b.written c.written first.written second.written;
@@ -45,7 +45,7 @@ handed_some (Some x) b c held_before held_after text grows taken handed =
 -- a text was taken, and then a proper prefix of what was held and of one more piece was handed on
 handed_part : (a b c : Option (List ℕ)) (held_before held_after text piece later : List ℕ) → Grows a b
     → Appends (append_known a held_before) (append_known b held_after) text → 0 < length piece
-    → AppendsPart b c (held_after ++ piece) → AppendsPart a c (held_before ++ (text ++ (piece ++ later)))
+    → AppendsProperPrefix b c (held_after ++ piece) → AppendsProperPrefix a c (held_before ++ (text ++ (piece ++ later)))
 handed_part None b c held_before held_after text piece later grows taken some handed =
     ([], held_before ++ (text ++ (piece ++ later)), refl, grind (arith, length-append), tt)
 handed_part (Some x) b c held_before held_after text piece later grows taken some handed =
@@ -61,30 +61,30 @@ handed_part (Some x) b c held_before held_after text piece later grows taken som
 
 -- a text was written, and a call without a text failed behind it: of what was held before and of the text a prefix was
 -- handed on
-pub Wrote-dropped : {a b c : SinkState} (text : List ℕ) → Wrote a b text → Dropped b c
+pub Accepted-dropped : {a b c : SinkState} (text : List ℕ) → Accepted a b text → FlushFailed b c
     → AppendsPrefix a.written c.written (a.buffered ++ text)
-Wrote-dropped {a} {b} {c} text wrote dropped =
+Accepted-dropped {a} {b} {c} text wrote dropped =
     handed_some a.written b.written c.written a.buffered b.buffered text wrote.written wrote.accepted dropped.written
 
 -- a text was written, and then all that was held was handed on
-pub Wrote-flushed : {a b : SinkState} (c : Option (List ℕ)) (text : List ℕ) → Wrote a b text
+pub Accepted-flushed : {a b : SinkState} (c : Option (List ℕ)) (text : List ℕ) → Accepted a b text
     → Appends b.written c b.buffered → Appends a.written c (a.buffered ++ text)
-Wrote-flushed c text wrote handed = let taken = wrote.accepted in grind (arith, append_assoc)
+Accepted-flushed c text wrote handed = let taken = wrote.accepted in grind (arith, append_assoc)
 
 -- nothing was written, and then a flush came
-pub Flushes-with_buffered : {E : Type 0} {a : SinkState} (b c : SinkState) (r : Result (Unit {0}) E) → Wrote a b []
+pub Flushes-with_buffered : {E : Type 0} {a : SinkState} (b c : SinkState) (r : Result (Unit {0}) E) → Accepted a b []
     → Flushes b c r → Flushes a c r
 Flushes-with_buffered {a = a} b c (Ok u) wrote flushed =
-    (rw append-nil at (Wrote-flushed c.written [] wrote flushed.0), flushed.1, flushed.2 ∙ wrote.failures)
+    (rw append-nil at (Accepted-flushed c.written [] wrote flushed.0), flushed.1, flushed.2 ∙ wrote.failures)
 Flushes-with_buffered b c (Err e) wrote dropped = record {
-  written = rw append-nil at (Wrote-dropped [] wrote dropped);
+  written = rw append-nil at (Accepted-dropped [] wrote dropped);
   buffered = dropped.buffered;
   failures = dropped.failures ∙ ap one_more wrote.failures;
 }
 
 -- a write failed that was to take some of a text
-pub Dropped-broke : {a b : SinkState} {text : List ℕ} → Dropped a b → 0 < length text → Broke a b text
-Dropped-broke {text = text} dropped some =
+pub FlushFailed-broke : {a b : SinkState} {text : List ℕ} → FlushFailed a b → 0 < length text → WriteFailed a b text
+FlushFailed-broke {text = text} dropped some =
     let prefix = dropped.written.0 in
     let rest = dropped.written.1.0 in
     let cut = dropped.written.1.1 in
@@ -97,10 +97,10 @@ Dropped-broke {text = text} dropped some =
     }
 
 -- a sink that tells all that it took, and holds nothing back, took a piece
-pub Wrote-told : (old new piece : List ℕ) (failures : ℕ) → new ≡ old ++ piece
-    → Wrote (record { written = Some old; buffered = []; failures = failures })
+pub Accepted-told : (old new piece : List ℕ) (failures : ℕ) → new ≡ old ++ piece
+    → Accepted (record { written = Some old; buffered = []; failures = failures })
     (record { written = Some new; buffered = []; failures = failures }) piece
-Wrote-told old new piece failures is = record {
+Accepted-told old new piece failures is = record {
   accepted = grind (arith, append-nil);
   written = (piece, is);
   failures = refl;
@@ -112,24 +112,24 @@ Wrote-told old new piece failures is = record {
 pub record Left (a b : SinkState) (text rest : List ℕ) : Type 0 where
   pub prefix : List ℕ
   pub cut : text ≡ prefix ++ rest
-  pub wrote : Wrote a b prefix
+  pub wrote : Accepted a b prefix
 
 -- before the first piece, all of the text is left
 pub Left-all : {a : SinkState} {text : List ℕ} → Left a a text text
-Left-all = record { prefix = []; cut = refl; wrote = Wrote-nil }
+Left-all = record { prefix = []; cut = refl; wrote = Accepted-nil }
 
 -- a piece of the rest was written
 pub Left-step : {a b c : SinkState} {text rest more : List ℕ} (piece : List ℕ) → Left a b text rest
-    → rest ≡ piece ++ more → Wrote b c piece → Left a c text more
+    → rest ≡ piece ++ more → Accepted b c piece → Left a c text more
 Left-step {more = more} piece left cut written = record {
   prefix = left.prefix ++ piece;
   cut = left.cut ∙ ap (λ l. left.prefix ++ l) cut ∙ sym (append_assoc left.prefix piece more);
-  wrote = Wrote-trans left.prefix piece left.wrote written;
+  wrote = Accepted-trans left.prefix piece left.wrote written;
 }
 
 -- a piece of the rest failed: so did the whole text
 pub Left-stop : {a b c : SinkState} {text rest piece : List ℕ} (more : List ℕ) → Left a b text rest
-    → rest ≡ piece ++ more → Broke b c piece → Broke a c text
+    → rest ≡ piece ++ more → WriteFailed b c piece → WriteFailed a c text
 Left-stop {a} {b} {c} {piece = piece} more left cut failed =
     let whole = left.cut ∙ ap (λ l. left.prefix ++ l) cut in
     let size = length-append left.prefix (piece ++ more) in
@@ -143,12 +143,12 @@ Left-stop {a} {b} {c} {piece = piece} more left cut failed =
 
 -- the last piece is all of the rest: its call answers for the whole text
 pub Left-last : {E : Type 0} {a b : SinkState} {text rest : List ℕ} (c : SinkState) (r : Result (Unit {0}) E)
-    → Left a b text rest → Writes b c rest r → Writes a c text r
-Left-last {rest = rest} c (Ok u) left last = rw left.cut (Wrote-trans left.prefix rest left.wrote last)
+    → Left a b text rest → WritesAll b c rest r → WritesAll a c text r
+Left-last {rest = rest} c (Ok u) left last = rw left.cut (Accepted-trans left.prefix rest left.wrote last)
 Left-last {rest = rest} c (Err e) left last = Left-stop [] left (sym (append-nil rest)) last
 
 -- nothing is left: all of the text was written
-pub Left-none : {a b : SinkState} {text rest : List ℕ} → Left a b text rest → rest ≡ [] → Wrote a b text
+pub Left-none : {a b : SinkState} {text rest : List ℕ} → Left a b text rest → rest ≡ [] → Accepted a b text
 Left-none left none = rw (left.cut, none, append-nil) left.wrote
 
 -- a rest is what a write takes of it, and what is left behind that

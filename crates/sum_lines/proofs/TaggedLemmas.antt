@@ -16,7 +16,7 @@ use Rattle.digest_kinds.specs.Kinds.{KindValue, all_algos, full_kind, has_len, t
 use Rattle.digest_kinds.proofs.TagLemmas.{IfSome-find-begins, find-begins}
 use Rattle.sum_lines.specs.Shapes.{Algo, Algos, One, Any, is_blank, Width, Allows, Tagged, mark, optional}
 use Rattle.digest_kinds.specs.declared.algo.Algo.TheVariants.{Blake2b, Md5}
-use Rattle.sum_lines.specs.PartsOfLines.{Parts, after_while, strip_prefix, mark_and_rest, tag_in, kind_at, width_at, tagged_parts}
+use Rattle.sum_lines.specs.PartsOfLines.{LinePartsValue, after_while, strip_prefix, mark_and_rest, tag_in, kind_at, width_at, tagged_parts}
 use Rattle.sum_lines.proofs.PrefixLemmas.{bind_some, map_some, ok_some, prefix_passes, prefix-and-rest, mark_and_rest-is, strip_prefix-some, opened-some, rsplit-some, parts-at, prefix_len-all, starts-append, opened-at, rsplit-at}
 use Rattle.sum_lines.proofs.BitsLemmas.{kind_at-some, kind_at-bits, decimal-digits, has_len-range}
 use Rattle.std.proofs.lemmas.List.{append-nil, drop_all, drop_at}
@@ -81,11 +81,11 @@ width_at-some a s w h = wide-none a s w h
 -- ---- the whole line
 
 -- the parts are those of a tagged line
-abbrev pub IsTagged : Algos → List ℕ → Parts → Type 0
+abbrev pub IsTagged : Algos → List ℕ → LinePartsValue → Type 0
 IsTagged algos line p = Tagged algos line p.escaped p.kind p.digest p.text
 
 -- a line that is read as tagged is tagged
-pub read_is_tagged : {algos : Algos} {line : List ℕ} {p : Parts} → tagged_parts algos line ≡ Some p
+pub read_is_tagged : {algos : Algos} {line : List ℕ} {p : LinePartsValue} → tagged_parts algos line ≡ Some p
     → IsTagged algos line p
 unfolding tagged_parts
 read_is_tagged {algos} {line} {p} h =
@@ -253,7 +253,7 @@ tagged-prefix {e = e} {kind = kind} t =
     ap (λ l. mark_and_rest (after_while is_blank l)) t.whole
     ∙ mark_and_rest-prefix t.blanks e (tag kind.algo) (behind_tag t) t.are_blanks (tag-begins kind.algo)
 
-module _ {algos : Algos} {line : List ℕ} (p : Parts) (t : IsTagged algos line p) where
+module _ {algos : Algos} {line : List ℕ} (p : LinePartsValue) (t : IsTagged algos line p) where
   -- behind the closing parenthesis stand `=` and the digits
   sign-found : after_while is_blank (behind_name t) ≡ 61 ∷ (t.after ++ t.digits)
   sign-found = (parts-at is_blank t.before 61 (t.after ++ t.digits) t.before_blanks refl).1

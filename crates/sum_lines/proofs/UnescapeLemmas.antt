@@ -8,9 +8,9 @@ use Rattle.std.proofs.lemmas.List.Elements.{All-weaker}
 use Rattle.std.proofs.lemmas.List.Sums.{AllPass-from_list_all, list_all-from_AllPass}
 use Rattle.std.proofs.lemmas.Slice.Eq.{bytes_eq-Decides}
 use Rattle.sum_lines.specs.Escape.{Profile, present, escape_of, escape_by, escape, IsEscaped}
-use Rattle.sum_lines.specs.Entries.{Spells, Spelled}
+use Rattle.sum_lines.specs.Entries.{Spells, EntryValue}
 use Rattle.sum_lines.specs.ParsedLines.{unescaped_bytes, unescape, entry_of_parts}
-use Rattle.sum_lines.specs.PartsOfLines.{Parts}
+use Rattle.sum_lines.specs.PartsOfLines.{LinePartsValue}
 use Rattle.sum_lines.proofs.PrefixLemmas.{bind_some}
 use Rattle.std.proofs.lemmas.Grind.{flat_map-append, common_steps}
 use Rattle.std.proofs.Math.Seq.{take-append-add}
@@ -69,16 +69,16 @@ escape-if p true raw n h = escape-unescape p raw n h
 escape-if p false raw n h = cc
 
 -- the entry of such parts
-abbrev pub entry_of_text : Parts → List ℕ → Spelled
+abbrev pub entry_of_text : LinePartsValue → List ℕ → EntryValue
 entry_of_text t n = record { kind = t.kind; digest = t.digest; name = n }
 
 -- so parts whose raw name spells a name spell an entry, and only such parts do
-pub spelled-is : (p : Profile) (t : Parts) (n : List ℕ) → Spells (escape_by p) t.escaped t.text n
+pub spelled-is : (p : Profile) (t : LinePartsValue) (n : List ℕ) → Spells (escape_by p) t.escaped t.text n
     → entry_of_parts p t ≡ Some (entry_of_text t n)
 spelled-is p t n s = rw (unescape-if p t.escaped t.text n s.is, all-of n s.no_nul) refl
 
 -- only such parts
-pub is-spelled : (p : Profile) (t : Parts) (s : Spelled) → entry_of_parts p t ≡ Some s
+pub is-spelled : (p : Profile) (t : LinePartsValue) (s : EntryValue) → entry_of_parts p t ≡ Some s
     → (n : List ℕ) × Spells (escape_by p) t.escaped t.text n × (entry_of_text t n ≡ s)
 is-spelled p t s h =
     let n = bind_some (cond t.escaped (unescape p t.text) (Some t.text)) _ h in

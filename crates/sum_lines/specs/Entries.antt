@@ -25,7 +25,7 @@ abbrev pub form_of_tail : List ℕ → Form
 form_of_tail tail = if begins_standard tail then Standard else Reversed
 
 -- The form of a list of lines: the first line that isn't ignored and is plain decides it, by its tail.
-pub record Decides (algos : Algos) (line : List ℕ) (form : Form) : Type 0 where
+pub record DecidesForm (algos : Algos) (line : List ℕ) (form : Form) : Type 0 where
   pub escaped : Bool
   pub kind : KindValue
   pub digest : List ℕ
@@ -36,8 +36,8 @@ pub record Decides (algos : Algos) (line : List ℕ) (form : Form) : Type 0 wher
 
 abbrev pub IsForm : Algos → List (List ℕ) → Form → Type 0
 IsForm algos [] form = form ≡ Undecided
-IsForm algos (line ∷ later) form = Decides algos line form
-    ⊎ (((f : Form) → ¬ Decides algos line f) × IsForm algos later form)
+IsForm algos (line ∷ later) form = DecidesForm algos line form
+    ⊎ (((f : Form) → ¬ DecidesForm algos line f) × IsForm algos later form)
 
 -- The raw name, as it stands in the line, spells a name: the name holds no NUL, and the raw name is its escape
 -- behind a leading backslash, and the name itself otherwise.
@@ -53,18 +53,18 @@ RawOf Reversed tail raw = raw ≡ tail
 RawOf Standard tail raw = IsTrue (begins_standard tail) × (b : ℕ) × (tail ≡ b ∷ raw)
 
 -- what an entry spells
-pub record Spelled : Type 0 where
+pub record EntryValue : Type 0 where
   pub kind : KindValue
   pub digest : List ℕ
   pub name : List ℕ
 
-pub record ByTag (escape : List ℕ → List ℕ) (algos : Algos) (line : List ℕ) (s : Spelled) : Type 0 where
+pub record ByTag (escape : List ℕ → List ℕ) (algos : Algos) (line : List ℕ) (s : EntryValue) : Type 0 where
   pub escaped : Bool
   pub raw : List ℕ
   pub tagged : Tagged algos line escaped s.kind s.digest raw
   pub spells : Spells escape escaped raw s.name
 
-pub record ByTail (escape : List ℕ → List ℕ) (algos : Algos) (form : Form) (line : List ℕ) (s : Spelled) : Type 0 where
+pub record ByTail (escape : List ℕ → List ℕ) (algos : Algos) (form : Form) (line : List ℕ) (s : EntryValue) : Type 0 where
   pub escaped : Bool
   pub tail : List ℕ
   pub raw : List ℕ
@@ -73,8 +73,8 @@ pub record ByTail (escape : List ℕ → List ℕ) (algos : Algos) (form : Form)
   pub spells : Spells escape escaped raw s.name
 
 -- An entry: what a line spells in a list of that form. Names are escaped by `escape`.
-abbrev pub Entry : (List ℕ → List ℕ) → Algos → Form → List ℕ → Spelled → Type 0
-Entry escape algos form line s = (is_ignored line ≡ false)
+abbrev pub IsEntry : (List ℕ → List ℕ) → Algos → Form → List ℕ → EntryValue → Type 0
+IsEntry escape algos form line s = (is_ignored line ≡ false)
     × (ByTag escape algos line s ⊎ ByTail escape algos form line s)
 
 -- The form, computed. It need not be believed: by the law `one_form` it is the list's. First that of one line, and one

@@ -3,7 +3,7 @@ use Rattle.std.specs.Prelude.{ℕ, ◌≡◌, ◌≢◌, ◌<◌, ◌↔◌, ◌
 use Rattle.hex.specs.Hex.{IsBytes}
 use Rattle.digest_kinds.specs.Kinds.{KindValue, has_len}
 use Rattle.sum_lines.specs.Shapes.{Algo, Algos, One, Any, Plain, Tagged}
-use Rattle.sum_lines.specs.Entries.{Form, Undecided, Standard, Spelled, Entry, IsForm, is_ignored_by, form}
+use Rattle.sum_lines.specs.Entries.{Form, Undecided, Standard, EntryValue, IsEntry, IsForm, is_ignored_by, form}
 use Rattle.sum_lines.specs.Lines.{Mode, line}
 use Rattle.sum_lines.specs.declared.line_format.Mode.TheVariants.{Tag}
 use Rattle.sum_lines.specs.Escape.{Profile, escape, escape_by}
@@ -11,8 +11,8 @@ use Rattle.sum_lines.specs.ParsedLines.{ignored, bad, entry, parse_line}
 
 -- for given algorithms and a given form a line spells at most one entry
 abbrev pub OneEntry : Type 0
-OneEntry = (algos : Algos) (f : Form) (line : List ℕ) (s t : Spelled) → Entry escape algos f line s
-    → Entry escape algos f line t → s ≡ t
+OneEntry = (algos : Algos) (f : Form) (line : List ℕ) (s t : EntryValue) → IsEntry escape algos f line s
+    → IsEntry escape algos f line t → s ≡ t
 
 -- no line has both shapes, whichever algorithms they name
 abbrev pub Apart : Type 0
@@ -25,19 +25,19 @@ OneForm = (algos : Algos) (lines : List (List ℕ)) (f : Form) → IsForm algos 
 
 -- what a line says, whichever the profile: nothing where it is ignored; otherwise its entry or, where it has none, that
 -- it is improper
-pub record SaysOf (p : Profile) (algos : Algos) (f : Form) (line : List ℕ) : Type 0 where
+pub record ParseMatches (p : Profile) (algos : Algos) (f : Form) (line : List ℕ) : Type 0 where
   pub when_ignored : (parse_line p algos f line ≡ ignored) ↔ (is_ignored_by p line ≡ true)
-  pub when_entry : (s : Spelled) → (parse_line p algos f line ≡ entry s)
-      ↔ ((is_ignored_by p line ≡ false) × Entry (escape_by p) algos f line s)
+  pub when_entry : (s : EntryValue) → (parse_line p algos f line ≡ entry s)
+      ↔ ((is_ignored_by p line ≡ false) × IsEntry (escape_by p) algos f line s)
   pub when_bad : (parse_line p algos f line ≡ bad)
-      ↔ ((is_ignored_by p line ≡ false) × ((s : Spelled) → ¬ Entry (escape_by p) algos f line s))
+      ↔ ((is_ignored_by p line ≡ false) × ((s : EntryValue) → ¬ IsEntry (escape_by p) algos f line s))
 
-abbrev pub SaysIs : Type 0
-SaysIs = (p : Profile) (algos : Algos) (f : Form) (line : List ℕ) → SaysOf p algos f line
+abbrev pub ParseIsGrammar : Type 0
+ParseIsGrammar = (p : Profile) (algos : Algos) (f : Form) (line : List ℕ) → ParseMatches p algos f line
 
 -- what comes behind a line has no part in what it says
-abbrev pub SameSaid : Type 0
-SameSaid = (p : Profile) (algos : Algos) (before later others : List (List ℕ)) (line : List ℕ)
+abbrev pub SameParse : Type 0
+SameParse = (p : Profile) (algos : Algos) (before later others : List (List ℕ)) (line : List ℕ)
     → parse_line p algos (form algos (before ++ (line ∷ later))) line
     ≡ parse_line p algos (form algos (before ++ (line ∷ others))) line
 
@@ -66,7 +66,7 @@ pub record SpellsBack (algos : Algos) (before later : List (List ℕ)) (text : L
   pub prefix : List ℕ
   pub whole : text ≡ prefix ++ codes "\n"
   pub one_line : All (λ b. (b ≢ 10) × (b ≢ 13)) prefix
-  pub spells : (s : Spelled) → Entry escape algos (form algos (before ++ (prefix ∷ later))) prefix s
+  pub spells : (s : EntryValue) → IsEntry escape algos (form algos (before ++ (prefix ∷ later))) prefix s
       ↔ (s ≡ record { kind = kind; digest = digest; name = name })
   pub keeps : (form algos (before ++ (prefix ∷ [])) ≡ Undecided) ⊎ (form algos (before ++ (prefix ∷ [])) ≡ Standard)
 

@@ -4,10 +4,10 @@ use Rattle.std.specs.Prelude.{ℕ, ◌≡◌, ◌≤◌, ◌==◌, List, ◌∷�
 use Rattle.std.specs.Option.{option_or, option_map_or}
 use Rattle.std.specs.List.{list_all}
 use Rattle.digest_kinds.specs.declared.algo.Algos.{Algos}
-use Rattle.sum_lines.specs.Entries.{Form, Undecided, Standard, Reversed, Spelled, begins_standard, is_ignored_by}
+use Rattle.sum_lines.specs.Entries.{Form, Undecided, Standard, Reversed, EntryValue, begins_standard, is_ignored_by}
 use Rattle.sum_lines.specs.declared.line_reading.Reading.{Reading}
 use Rattle.sum_lines.specs.Escape.{Profile, escape_by}
-use Rattle.sum_lines.specs.PartsOfLines.{◌>>=◌, Parts, tagged_parts, plain_parts}
+use Rattle.sum_lines.specs.PartsOfLines.{◌>>=◌, LinePartsValue, tagged_parts, plain_parts}
 use Rattle.sum_lines.specs.declared.line_reading.Reading.TheVariants as readings
 
 -- the bytes, where a backslash (92) and the byte behind it stand for one
@@ -22,18 +22,18 @@ abbrev pub unescape : Profile → List ℕ → Option (List ℕ)
 unescape p bytes = if bytes_eq (escape_by p (unescaped_bytes bytes)) bytes then Some (unescaped_bytes bytes) else None
 
 -- a plain line's parts, with the raw name in place of its tail
-abbrev pub with_raw : Form → Parts → Option Parts
+abbrev pub with_raw : Form → LinePartsValue → Option LinePartsValue
 with_raw Reversed q = Some q
 with_raw Standard q = if begins_standard q.text then Some (record q { text = drop 1 q.text }) else None
 with_raw Undecided q = None
 
 -- the entry that a line's parts spell, whose text is a raw name: the name holds no NUL
-abbrev pub entry_of_parts : Profile → Parts → Option Spelled
+abbrev pub entry_of_parts : Profile → LinePartsValue → Option EntryValue
 entry_of_parts p t = do
   name ← if t.escaped then unescape p t.text else Some t.text
   if list_all (nat_lt 0) name then Some (record { kind = t.kind; digest = t.digest; name = name }) else None
 
-unfoldable pub entry_of : Profile → Algos → Form → List ℕ → Option Spelled
+unfoldable pub entry_of : Profile → Algos → Form → List ℕ → Option EntryValue
 entry_of p algos f line =
     option_or (tagged_parts algos line) (plain_parts algos line >>= with_raw f) >>= entry_of_parts p
 
@@ -41,7 +41,7 @@ entry_of p algos f line =
 pub data ParsedLine : Type 0 where
   ignored : ParsedLine
   bad : ParsedLine
-  entry : Spelled → ParsedLine
+  entry : EntryValue → ParsedLine
 
 abbrev pub parse_line : Profile → Algos → Form → List ℕ → ParsedLine
 parse_line p algos f line =

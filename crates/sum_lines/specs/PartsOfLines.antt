@@ -15,7 +15,7 @@ abbrev pub ◌>>=◌ : {A B : Type 0} → Option A → (A → Option B) → Opti
 o >>= f = option_and_then f o
 
 -- what a line was found to hold; the text is the raw name of a tagged line, the tail of a plain one
-pub record Parts : Type 0 where
+pub record LinePartsValue : Type 0 where
   pub escaped : Bool
   pub kind : KindValue
   pub digest : List ℕ
@@ -30,7 +30,7 @@ abbrev pub mark_and_rest : List ℕ → Bool × List ℕ
 mark_and_rest s = if starts_with ◌==◌ s (codes "\\") then (true, drop 1 s) else (false, s)
 
 -- a plain line's parts: digits up to the first blank of its text, and the tail behind that
-unfoldable pub plain_parts : Algos → List ℕ → Option Parts
+unfoldable pub plain_parts : Algos → List ℕ → Option LinePartsValue
 plain_parts Any line = None
 plain_parts (One a) line = let text = mark_and_rest (after_while is_blank line) in do
   d ← result_ok (decode_of (before_first is_blank text.1))
@@ -59,7 +59,7 @@ width_at Blake2b (b ∷ bs) =
 width_at a s = Some (full_kind a, s)
 
 -- a tagged line's parts; the last parenthesis ends the name
-unfoldable pub tagged_parts : Algos → List ℕ → Option Parts
+unfoldable pub tagged_parts : Algos → List ℕ → Option LinePartsValue
 tagged_parts algos line = let text = mark_and_rest (after_while is_blank line) in do
   a ← tag_in algos text.1
   w ← width_at a (drop (length (tag a)) text.1)

@@ -9,8 +9,8 @@ abbrev pub IsPrefix : {A : Type 0} → List A → List A → Type 0
 IsPrefix {A} prefix xs = (rest : List A) × (xs ≡ prefix ++ rest)
 
 -- known bytes grow by a proper prefix of the text
-abbrev pub AppendsPart : Option (List ℕ) → Option (List ℕ) → List ℕ → Type 0
-AppendsPart old new text =
+abbrev pub AppendsProperPrefix : Option (List ℕ) → Option (List ℕ) → List ℕ → Type 0
+AppendsProperPrefix old new text =
     (prefix : List ℕ) × (rest : List ℕ) × (text ≡ prefix ++ rest) × (0 < length rest) × Appends old new prefix
 
 -- a sink at one moment: what it handed on, where it tells that; what it took and still holds; how many calls failed
@@ -20,39 +20,39 @@ pub record SinkState : Type 0 where
   pub failures : ℕ
 
 -- the text was taken: it stands behind what was held, and some of both may have been handed on
-pub record Wrote (a b : SinkState) (text : List ℕ) : Type 0 where
+pub record Accepted (a b : SinkState) (text : List ℕ) : Type 0 where
   pub accepted : Appends (append_known a.written a.buffered) (append_known b.written b.buffered) text
   pub written : (more : List ℕ) × Appends a.written b.written more
   pub failures : b.failures ≡ a.failures
 
 -- a call failed: of what was held and of the text, which isn't empty, a proper prefix was handed on, and the rest is
 -- dropped
-pub record Broke (a b : SinkState) (text : List ℕ) : Type 0 where
+pub record WriteFailed (a b : SinkState) (text : List ℕ) : Type 0 where
   pub nonempty : 0 < length text
-  pub written : AppendsPart a.written b.written (a.buffered ++ text)
+  pub written : AppendsProperPrefix a.written b.written (a.buffered ++ text)
   pub buffered : b.buffered ≡ []
   pub failures : b.failures ≡ one_more a.failures
 
 -- a call failed: a prefix of what was held was handed on, and the rest is dropped
-pub record Dropped (a b : SinkState) : Type 0 where
+pub record FlushFailed (a b : SinkState) : Type 0 where
   pub written : (prefix : List ℕ) × IsPrefix prefix a.buffered × Appends a.written b.written prefix
   pub buffered : b.buffered ≡ []
   pub failures : b.failures ≡ one_more a.failures
 
 -- a call that takes all of the text, or fails; with an empty text it doesn't fail
-abbrev pub Writes : {E : Type 0} → SinkState → SinkState → List ℕ → Result (Unit {0}) E → Type 0
-Writes a b text (Ok u) = Wrote a b text
-Writes a b text (Err e) = Broke a b text
+abbrev pub WritesAll : {E : Type 0} → SinkState → SinkState → List ℕ → Result (Unit {0}) E → Type 0
+WritesAll a b text (Ok u) = Accepted a b text
+WritesAll a b text (Err e) = WriteFailed a b text
 
 -- one write, which takes the first bytes of a piece, at least one where there is one, or fails
 abbrev pub WritesSome : {E : Type 0} → SinkState → SinkState → List ℕ → Result ℕ E → Type 0
-WritesSome a b piece (Ok n) = (n ≤ length piece) × (0 < length piece → 0 < n) × Wrote a b (take n piece)
-WritesSome a b piece (Err e) = Dropped a b
+WritesSome a b piece (Ok n) = (n ≤ length piece) × (0 < length piece → 0 < n) × Accepted a b (take n piece)
+WritesSome a b piece (Err e) = FlushFailed a b
 
 -- one flush, which hands on all that is held, or fails
 abbrev pub Flushes : {E : Type 0} → SinkState → SinkState → Result (Unit {0}) E → Type 0
 Flushes a b (Ok u) = Appends a.written b.written a.buffered × (b.buffered ≡ []) × (b.failures ≡ a.failures)
-Flushes a b (Err e) = Dropped a b
+Flushes a b (Err e) = FlushFailed a b
 
 -- ---- what is offered
 
@@ -74,5 +74,5 @@ abbrev pub InOnePiece : List ℕ → List (List ℕ) → Type 0
 InOnePiece text [] = text ≡ []
 InOnePiece text (piece ∷ rests) = (0 < length text) × (piece ≡ text) × AreRests text rests
 
-abbrev pub HandsOn : Option (List (List ℕ)) → Option (List (List ℕ)) → List ℕ → Type 0
-HandsOn old new text = (pieces : List (List ℕ)) × Offers old new pieces × InOnePiece text pieces
+abbrev pub OffersWhole : Option (List (List ℕ)) → Option (List (List ℕ)) → List ℕ → Type 0
+OffersWhole old new text = (pieces : List (List ℕ)) × Offers old new pieces × InOnePiece text pieces

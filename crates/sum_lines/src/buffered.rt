@@ -1,6 +1,6 @@
 //! A buffer over a sink.
 ghost use Rattle.std.specs.Prelude.{◌≡◌, ◌≤◌, ◌-◌, ◌+◌, ◌++◌, [], length, min, take, Ok, IfOk, OnOk};
-ghost use Rattle.sum_lines.specs.Sinks.{WritesSome, Flushes, HandsOn};
+ghost use Rattle.sum_lines.specs.Sinks.{WritesSome, Flushes, OffersWhole};
 
 use crate::sink::{Sink, SinkFault, put_all};
 use std::marker::Model;
@@ -20,10 +20,10 @@ pub struct Buffered<S> {
 
 impl<S> Model for Buffered<S> {
     ghost use Rattle.std.specs.Prelude.{◌≤◌, take};
-    ghost use Rattle.sum_lines.specs.Buffers.{Buffer};
+    ghost use Rattle.sum_lines.specs.Buffers.{BufferedValue};
     ghost use Rattle.sum_lines.specs.declared.buffered.TheConstants.{ROOM};
 
-    ghost Value = { Buffer S };
+    ghost Value = { BufferedValue S };
 
     ghost view = { λ s. record { sink = s.sink; buffered = take s.len s.buffer } };
 
@@ -58,14 +58,14 @@ impl<S> Buffered<S> {
 }
 
 impl<S: Sink> Buffered<S> {
-    ghost use Rattle.sum_lines.specs.Buffers.{buffer_state, if_full, unless_full};
-    ghost use Rattle.sum_lines.specs.refinement.GrowingSinks.{Empties};
+    ghost use Rattle.sum_lines.specs.Buffers.{buffer_state, flushed_if_full, kept_unless_full};
+    ghost use Rattle.sum_lines.specs.refinement.GrowingSinks.{FlushesBuffer};
 
     // Hands on to the sink below what is held.
     fn empty(&mut self) -> Result<(), SinkFault>
-        ensures bytes { Empties (buffer_state S.state self.old) (buffer_state S.state self.new) result }
+        ensures bytes { FlushesBuffer (buffer_state S.state self.old) (buffer_state S.state self.new) result }
         ensures none { self.new.buffered ≡ [] }
-        ensures hands { HandsOn (S.offered self.old.sink) (S.offered self.new.sink) self.old.buffered }
+        ensures hands { OffersWhole (S.offered self.old.sink) (S.offered self.new.sink) self.old.buffered }
     {
         let len = self.len;
         self.len = 0;
@@ -74,9 +74,9 @@ impl<S: Sink> Buffered<S> {
 
     // Hands on to the sink below what is held, where there is no room for more.
     fn make_room(&mut self) -> Result<(), SinkFault>
-        ensures bytes { Empties (buffer_state S.state self.old) (buffer_state S.state self.new) result }
-        ensures held { OnOk result (self.new.buffered ≡ unless_full self.old.buffered) }
-        ensures hands { HandsOn (S.offered self.old.sink) (S.offered self.new.sink) (if_full self.old.buffered) }
+        ensures bytes { FlushesBuffer (buffer_state S.state self.old) (buffer_state S.state self.new) result }
+        ensures held { OnOk result (self.new.buffered ≡ kept_unless_full self.old.buffered) }
+        ensures hands { OffersWhole (S.offered self.old.sink) (S.offered self.new.sink) (flushed_if_full self.old.buffered) }
     {
         if self.len < ROOM {
             return Ok(());
@@ -86,7 +86,7 @@ impl<S: Sink> Buffered<S> {
 }
 
 impl<S: Sink> Sink for Buffered<S> {
-    ghost use Rattle.sum_lines.specs.Buffers.{buffer_state, unless_full, handed};
+    ghost use Rattle.sum_lines.specs.Buffers.{buffer_state, kept_unless_full, flushed_before_write};
 
     ghost state = { buffer_state S.state };
 
@@ -95,8 +95,8 @@ impl<S: Sink> Sink for Buffered<S> {
     fn write(&mut self, piece: &[u8]) -> Result<usize, SinkFault>
         ensures bytes { WritesSome (buffer_state S.state self.old) (buffer_state S.state self.new) piece.now result }
         ensures empty { piece.now ≡ [] → result ≡ Ok 0 }
-        ensures hands { HandsOn (S.offered self.old.sink) (S.offered self.new.sink) (handed self.old.buffered piece.now) }
-        ensures fits { IfOk result (λ n. n ≡ min (length piece.now) (ROOM - length (unless_full self.old.buffered))) }
+        ensures hands { OffersWhole (S.offered self.old.sink) (S.offered self.new.sink) (flushed_before_write self.old.buffered piece.now) }
+        ensures fits { IfOk result (λ n. n ≡ min (length piece.now) (ROOM - length (kept_unless_full self.old.buffered))) }
     {
         if piece.is_empty() {
             return Ok(0);
@@ -111,7 +111,7 @@ impl<S: Sink> Sink for Buffered<S> {
     /// Hands on all that is held, which is offered in one piece, and flushes the sink below. A fault where that fails.
     fn flush(&mut self) -> Result<(), SinkFault>
         ensures bytes { Flushes (buffer_state S.state self.old) (buffer_state S.state self.new) result }
-        ensures hands { HandsOn (S.offered self.old.sink) (S.offered self.new.sink) self.old.buffered }
+        ensures hands { OffersWhole (S.offered self.old.sink) (S.offered self.new.sink) self.old.buffered }
     {
         self.empty()?;
         self.sink.flush()

@@ -1,7 +1,7 @@
 //! The escape of names in lines and diagnostics.
 ghost use Rattle.std.specs.Prelude.{◌≡◌, ◌≢◌, ◌↔◌, ◌+◌, ◌<◌, ◌≤◌, ◌++◌, ℕ, List, length, vec_len, take, drop};
 ghost use Rattle.std.specs.Prelude.{slice_index, is_some, true, IfSome, IfNone, MatchOption};
-ghost use Rattle.sum_lines.specs.Sinks.{Writes};
+ghost use Rattle.sum_lines.specs.Sinks.{WritesAll};
 ghost use Rattle.sum_lines.specs.Escape.{present, IsEscaped, escape, escape_of, escape_differs};
 
 use crate::sink::{Sink, SinkFault, put_all};
@@ -19,7 +19,7 @@ pub fn needs_escape(name: &[u8]) -> bool
 /// other byte as it is. A fault where a write failed; of what was held and of it a proper prefix is then handed on, and
 /// nothing is held.
 pub fn put_escaped<S: Sink>(sink: &mut S, name: &[u8]) -> Result<(), SinkFault>
-    ensures { Writes (S.state sink.old) (S.state sink.new) (escape name.now) result }
+    ensures { WritesAll (S.state sink.old) (S.state sink.new) (escape name.now) result }
 {
     let mut rest = name;
     while let Some(at) = next_special(rest) {
@@ -44,7 +44,7 @@ fn next_special(name: &[u8]) -> Option<usize>
 
 // Writes the escape of one byte.
 fn put_escape<S: Sink>(sink: &mut S, byte: u8) -> Result<(), SinkFault>
-    ensures { Writes (S.state sink.old) (S.state sink.new) (escape_of present byte) result }
+    ensures { WritesAll (S.state sink.old) (S.state sink.new) (escape_of present byte) result }
 {
     match byte {
         b'\\' => put_all(sink, b"\\\\"),

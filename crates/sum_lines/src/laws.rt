@@ -1,6 +1,6 @@
 //! Laws of the line grammar: what holds of its definitions, whatever the code does.
 
-ghost use Rattle.sum_lines.specs.LineLaws.{Apart, OneEntry, OneForm, ReadBack, SameForm, SameSaid, SaysIs};
+ghost use Rattle.sum_lines.specs.LineLaws.{Apart, OneEntry, OneForm, ReadBack, SameForm, SameParse, ParseIsGrammar};
 
 /// For given algorithms and a given form a line spells at most one entry; and no line is both plain and tagged,
 /// whichever algorithms these are.
@@ -18,13 +18,13 @@ pub fn one_form()
 /// What a line says, as it is computed, is what the line grammar has, whichever the profile: nothing exactly where the
 /// line is ignored; otherwise the entry that the grammar has or, where it has none, something improper.
 pub fn says_is()
-    ensures { SaysIs }
+    ensures { ParseIsGrammar }
 {}
 
 /// What comes behind a line has no part in what it says nor, where the line is plain, in the form.
 #[tactic(auto, using(crate::proofs::FormLemmas::same_said))]
 pub fn same_said()
-    ensures says { SameSaid }
+    ensures says { SameParse }
     ensures form { SameForm }
 {}
 

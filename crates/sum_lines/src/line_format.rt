@@ -1,6 +1,6 @@
 //! The line that is written for a name and its digest.
 ghost use Rattle.std.specs.Prelude.{◌≡◌, length};
-ghost use Rattle.sum_lines.specs.Sinks.{Writes};
+ghost use Rattle.sum_lines.specs.Sinks.{WritesAll};
 
 use crate::escape::needs_escape;
 use crate::parts::{Part, put_parts};
@@ -43,7 +43,7 @@ pub fn put_line<S: Sink>(
     digest: &Digest,
 ) -> Result<(), SinkFault>
     requires { length digest.now ≡ kind.len }
-    ensures { Writes (S.state sink.old) (S.state sink.new) (line style kind name.now digest.now) result }
+    ensures { WritesAll (S.state sink.old) (S.state sink.new) (line style kind name.now digest.now) result }
 {
     let mut buffer = [0; 128];
     let digits = digits_of(digest, &mut buffer);
@@ -85,7 +85,7 @@ fn put_form<'a, S: Sink>(
     name: Part<'a>,
     digits: &'a [u8],
 ) -> Result<(), SinkFault>
-    ensures { Writes (S.state sink.old) (S.state sink.new) (layout mode kind (part_text name.entry) digits.now) result }
+    ensures { WritesAll (S.state sink.old) (S.state sink.new) (layout mode kind (part_text name.entry) digits.now) result }
 {
     let digits = Part::Bytes(digits);
     match mode {
@@ -103,7 +103,7 @@ fn put_form<'a, S: Sink>(
 
 // Writes the tag, for a BLAKE2b digest that isn't full with its bits.
 fn put_tag<S: Sink>(sink: &mut S, kind: Kind) -> Result<(), SinkFault>
-    ensures { Writes (S.state sink.old) (S.state sink.new) (line_tag kind) result }
+    ensures { WritesAll (S.state sink.old) (S.state sink.new) (line_tag kind) result }
 {
     let tag = Part::Bytes(kind.tag().as_bytes());
     if kind.len() == Kind::of(kind.algo()).len() {

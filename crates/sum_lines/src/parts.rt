@@ -1,6 +1,6 @@
 //! Texts that are written part after part.
 ghost use Rattle.std.specs.Prelude.{decimal};
-ghost use Rattle.sum_lines.specs.Sinks.{Writes};
+ghost use Rattle.sum_lines.specs.Sinks.{WritesAll};
 
 use crate::escape::put_escaped;
 use crate::sink::{Sink, SinkFault, put_all};
@@ -22,7 +22,7 @@ ghost use Rattle.sum_lines.specs.refinement.PartTexts.{part_text, parts_text};
 /// Writes the parts, one after another. A fault where a write failed; of what was held and of their text a proper
 /// prefix is then handed on, and nothing is held.
 pub fn put_parts<S: Sink>(sink: &mut S, parts: &[Part]) -> Result<(), SinkFault>
-    ensures { Writes (S.state sink.old) (S.state sink.new) (parts_text parts.now) result }
+    ensures { WritesAll (S.state sink.old) (S.state sink.new) (parts_text parts.now) result }
 {
     for part in parts {
         put_part(sink, *part)?;
@@ -31,7 +31,7 @@ pub fn put_parts<S: Sink>(sink: &mut S, parts: &[Part]) -> Result<(), SinkFault>
 }
 
 fn put_part<S: Sink>(sink: &mut S, part: Part) -> Result<(), SinkFault>
-    ensures { Writes (S.state sink.old) (S.state sink.new) (part_text part.entry) result }
+    ensures { WritesAll (S.state sink.old) (S.state sink.new) (part_text part.entry) result }
 {
     match part {
         Part::Bytes(bytes) => put_all(sink, bytes),
@@ -43,7 +43,7 @@ fn put_part<S: Sink>(sink: &mut S, part: Part) -> Result<(), SinkFault>
 /// Writes the number's decimal digits, without a leading zero. A fault where a write failed; of what was held and of
 /// the digits a proper prefix is then handed on, and nothing is held.
 pub fn put_number<S: Sink>(sink: &mut S, number: u64) -> Result<(), SinkFault>
-    ensures { Writes (S.state sink.old) (S.state sink.new) (decimal number) result }
+    ensures { WritesAll (S.state sink.old) (S.state sink.new) (decimal number) result }
 {
     let mut buffer = Buffer::new();
     put_all(sink, buffer.format(number).as_bytes())

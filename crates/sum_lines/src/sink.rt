@@ -1,6 +1,6 @@
 //! Where bytes are written: the trait of a sink, and the call that writes all of a piece.
 ghost use Rattle.std.specs.Prelude.{◌≡◌, ℕ, List, [], ◌∷◌, Option, None, Ok};
-ghost use Rattle.sum_lines.specs.Sinks.{SinkState, WritesSome, Flushes, Offers, HandsOn, Writes};
+ghost use Rattle.sum_lines.specs.Sinks.{SinkState, WritesSome, Flushes, Offers, OffersWhole, WritesAll};
 
 use thiserror::Error;
 
@@ -36,8 +36,8 @@ pub trait Sink {
 /// Writes all of the bytes, which are offered in one piece, and of which only what is left is offered again. A fault
 /// where a write failed; of what the sink held and of the bytes a proper prefix is then handed on, and nothing is held.
 pub fn put_all<S: Sink>(sink: &mut S, bytes: &[u8]) -> Result<(), SinkFault>
-    ensures text { Writes (S.state sink.old) (S.state sink.new) bytes.now result }
-    ensures offers { HandsOn (S.offered sink.old) (S.offered sink.new) bytes.now }
+    ensures text { WritesAll (S.state sink.old) (S.state sink.new) bytes.now result }
+    ensures offers { OffersWhole (S.offered sink.old) (S.offered sink.new) bytes.now }
 {
     let mut rest = bytes;
     while !rest.is_empty() {

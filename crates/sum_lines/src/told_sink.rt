@@ -14,12 +14,12 @@ pub struct ToldSink<const N: usize> {
 }
 
 impl<const N: usize> ToldSink<N> {
-    ghost use Rattle.sum_lines.specs.refinement.GrowingSinks.{bytes_of, room};
+    ghost use Rattle.sum_lines.specs.refinement.GrowingSinks.{bytes_of, remaining_capacity};
 
     /// An empty sink that takes `stop` bytes, or N where that is less, and then fails.
     pub fn new(stop: usize) -> Self
         ensures empty { bytes_of result ≡ [] }
-        ensures room { room result ≡ min stop N }
+        ensures room { remaining_capacity result ≡ min stop N }
         ensures failures { (⟦<ToldSink<N> as Sink>⟧.state result).failures ≡ 0 }
     {
         ToldSink {
@@ -41,19 +41,19 @@ impl<const N: usize> ToldSink<N> {
 impl<const N: usize> Sink for ToldSink<N> {
     ghost use Rattle.std.specs.Prelude.{Ok};
     ghost use Rattle.sum_lines.specs.Sinks.{WritesSome, Flushes};
-    ghost use Rattle.sum_lines.specs.refinement.GrowingSinks.{room, told_state};
+    ghost use Rattle.sum_lines.specs.refinement.GrowingSinks.{remaining_capacity, told_sink_state};
 
-    ghost state = { told_state };
+    ghost state = { told_sink_state };
 
     /// Takes what there is room for. A fault exactly where there is none and the piece isn't empty; then there is none
     /// afterwards, either.
     fn write(&mut self, piece: &[u8]) -> Result<usize, SinkFault>
-        ensures bytes { WritesSome (told_state self.old) (told_state self.new) piece.now result }
+        ensures bytes { WritesSome (told_sink_state self.old) (told_sink_state self.new) piece.now result }
         ensures empty { piece.now ≡ [] → result ≡ Ok 0 }
-        ensures all { IfOk result (λ n. n ≡ min (room self.old) (length piece.now)) }
-        ensures full { IsErr result ↔ ((room self.old ≡ 0) × (0 < length piece.now)) }
-        ensures room { IfOk result (λ n. room self.new + n ≡ room self.old) }
-        ensures stays { OnErr result (room self.new ≡ room self.old) }
+        ensures all { IfOk result (λ n. n ≡ min (remaining_capacity self.old) (length piece.now)) }
+        ensures full { IsErr result ↔ ((remaining_capacity self.old ≡ 0) × (0 < length piece.now)) }
+        ensures room { IfOk result (λ n. remaining_capacity self.new + n ≡ remaining_capacity self.old) }
+        ensures stays { OnErr result (remaining_capacity self.new ≡ remaining_capacity self.old) }
     {
         if piece.is_empty() {
             return Ok(0);
@@ -73,7 +73,7 @@ impl<const N: usize> Sink for ToldSink<N> {
     fn flush(&mut self) -> Result<(), SinkFault>
         ensures ok { result ≡ Ok tt }
         ensures same { self.new ≡ self.old }
-        ensures bytes { Flushes (told_state self.old) (told_state self.new) result }
+        ensures bytes { Flushes (told_sink_state self.old) (told_sink_state self.new) result }
     {
         Ok(())
     }

@@ -3,13 +3,13 @@ use Rattle.std.proofs.Common.{◌≡◌, ℕ, List, [], ◌∷◌, ◌++◌, ref
 use Rattle.std.proofs.lemmas.Bool.Decides.{eqb_tells}
 use Rattle.std.proofs.lemmas.List.Elements.{All-nil, All-cons, All-head, All-tail}
 use Rattle.sum_sources.specs.declared.fault.Ending.{Ending}
-use Rattle.sum_sources.specs.ManifestLines.{NoNewline, bytes_of_pieces, last_line, pieces}
+use Rattle.sum_sources.specs.ManifestLines.{NoNewline, bytes_of_lines, last_line, raw_lines}
 use Rattle.sum_sources.proofs.LineLemmas.{pieces-newline, pieces-last}
 
 -- the bytes can be cut
 abbrev pub IsCut : List ℕ → Type 0
 IsCut bytes = (ended : List (List ℕ)) × (tail : List ℕ)
-    × (bytes ≡ bytes_of_pieces ended tail) × All NoNewline ended × NoNewline tail
+    × (bytes ≡ bytes_of_lines ended tail) × All NoNewline ended × NoNewline tail
 
 -- the byte is no newline
 abbrev IsPlain : ℕ → Type 0
@@ -40,9 +40,9 @@ cut (b ∷ bs) = cut_more b bs (cut bs)
 
 -- the pieces of bytes that were cut are those of the cut, and the last line
 pub raw_lines-joined : (ending : Ending) (ended : List (List ℕ)) (tail : List ℕ) → All NoNewline ended → NoNewline tail
-    → pieces (record { bytes = bytes_of_pieces ended tail; ending = ending }) ≡ ended ++ last_line ending tail
+    → raw_lines (record { bytes = bytes_of_lines ended tail; ending = ending }) ≡ ended ++ last_line ending tail
 raw_lines-joined ending [] tail plain none = pieces-last ending tail none
 raw_lines-joined ending (p ∷ ps) tail plain none =
     simp append_assoc (
-    pieces-newline ending p (bytes_of_pieces ps tail) (All-head NoNewline p ps plain)
+    pieces-newline ending p (bytes_of_lines ps tail) (All-head NoNewline p ps plain)
     ∙ ap (λ ls. p ∷ ls) (raw_lines-joined ending ps tail (All-tail NoNewline p ps plain) none))

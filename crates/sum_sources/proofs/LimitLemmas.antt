@@ -3,7 +3,7 @@ use Rattle.std.proofs.Common.{◌≡◌, ℕ, ◌+◌, ◌-◌, ◌^◌, ◌<◌
 use Rattle.std.proofs.lemmas.Bool.{cond-true, cond-false, lt-ltb, le-ltb, cases_lt}
 use Rattle.std.proofs.lemmas.List.{length-take-le, take-append-le}
 use Rattle.std.proofs.Math.Seq.{take-append-add}
-use Rattle.sum_sources.specs.Contents.{Fault, Other, Broken, Content, limit, WhereTold, ReadsFrom}
+use Rattle.sum_sources.specs.Contents.{Fault, Other, Broken, Content, limit, IfKnown, ReadsFrom}
 use Rattle.sum_sources.specs.LineReaders.{clip_to, with_prefix}
 use Rattle.sum_sources.proofs.ContentLemmas.{Gave-is, limit-value}
 
@@ -66,7 +66,7 @@ clipped-long c d part n t few one full read =
 
 -- nothing more is read then
 pub clipped-none : (x : Option Content) (t : ℕ) → t ≡ 2 ^ 61
-    → WhereTold x x (λ c d. ReadsFrom (clip_to (limit - t) c) (clip_to (limit - t) d) (Err Other) [])
+    → IfKnown x x (λ c d. ReadsFrom (clip_to (limit - t) c) (clip_to (limit - t) d) (Err Other) [])
 clipped-none None t full = tt
 clipped-none (Some c) t full =
     let none : limit - t ≡ 0 = rw limit-value (omega arith) in

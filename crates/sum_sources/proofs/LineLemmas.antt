@@ -5,18 +5,18 @@ use Rattle.std.specs.Str.Lines.{strip_carriage_return}
 use Rattle.std.proofs.lemmas.List.{append-nil}
 use Rattle.std.proofs.lemmas.List.Splits.{slice_split_at, slice_split_none, length-slice_split}
 use Rattle.std.proofs.lemmas.List.Elements.{All-head, All-tail}
-use Rattle.sum_sources.specs.Contents.{Fault, Ending, Whole, Broken, Content, WhereTold, empty_content}
-use Rattle.sum_sources.specs.ManifestLines.{Next, Line, NoMore, LineStop, last_line, pieces, lines, NoNewline, LineOf}
+use Rattle.sum_sources.specs.Contents.{Fault, Ending, Whole, Broken, Content, IfKnown, empty_content}
+use Rattle.sum_sources.specs.ManifestLines.{Next, Line, NoMore, LineStop, last_line, raw_lines, lines, NoNewline, NextLineIs}
 use Rattle.sum_sources.specs.LineReaders.{left_by}
 use Rattle.sum_sources.proofs.ContentLemmas.{Gave, Gave-is}
-use Rattle.sum_sources.proofs.ToldLemmas.{WhereTold-remade}
+use Rattle.sum_sources.proofs.ToldLemmas.{IfKnown-remade}
 use Rattle.sum_sources.specs.declared.lines.LineStop.TheVariants as stops
 
 -- a newline ends the first piece
 pub pieces-newline : (e : Ending) (piece rest : List ℕ) → NoNewline piece
-    → pieces (record { bytes = piece ++ (10 ∷ rest); ending = e })
-    ≡ piece ∷ pieces (record { bytes = rest; ending = e })
-unfolding pieces
+    → raw_lines (record { bytes = piece ++ (10 ∷ rest); ending = e })
+    ≡ piece ∷ raw_lines (record { bytes = rest; ending = e })
+unfolding raw_lines
 pieces-newline e piece rest none =
     let newline : ℕ → Bool = λ b. b == 10 in
     let size : length (piece ∷ slice_split newline rest) - 1 ≡ suc (length (slice_split newline rest) - 1) =
@@ -25,8 +25,8 @@ pieces-newline e piece rest none =
 
 -- bytes without a newline are the last piece
 pub pieces-last : (e : Ending) (piece : List ℕ) → NoNewline piece
-    → pieces (record { bytes = piece; ending = e }) ≡ last_line e piece
-unfolding pieces
+    → raw_lines (record { bytes = piece; ending = e }) ≡ last_line e piece
+unfolding raw_lines
 pieces-last e piece none = rw (slice_split_none (λ b. b == 10) piece none) refl
 
 -- the first newline stands past a piece that has none
@@ -40,8 +40,8 @@ after_piece (b ∷ bs) rest none =
     rw (plain, size) (after_piece bs rest (All-tail (λ b. (b == 10) ≡ false) b bs none))
 
 -- no bytes, no piece or line
-pub pieces-nil : (e : Ending) → pieces (record { bytes = []; ending = e }) ≡ []
-unfolding pieces
+pub pieces-nil : (e : Ending) → raw_lines (record { bytes = []; ending = e }) ≡ []
+unfolding raw_lines
 pieces-nil Whole = refl
 pieces-nil (Broken f) = refl
 
@@ -49,52 +49,52 @@ pub lines-nil : (e : Ending) → lines (record { bytes = []; ending = e }) ≡ [
 lines-nil e = ap (map strip_carriage_return) (pieces-nil e)
 
 -- a newline ends the first line
-pub LineOf-ended : (c d : Content) (piece : List ℕ) → NoNewline piece → Gave c d (piece ++ 10 ∷ [])
-    → LineOf c d (Ok Line) (strip_carriage_return piece)
-LineOf-ended c d piece none gave =
+pub NextLineIs-ended : (c d : Content) (piece : List ℕ) → NoNewline piece → Gave c d (piece ++ 10 ∷ [])
+    → NextLineIs c d (Ok Line) (strip_carriage_return piece)
+NextLineIs-ended c d piece none gave =
     rw (Gave-is c d _ gave, append_assoc piece (10 ∷ []) d.bytes, after_piece piece (10 ∷ d.bytes) none)
     (ap (map strip_carriage_return) (pieces-newline d.ending piece d.bytes none), refl)
 
 -- a last piece that isn't empty is the only line left
-pub LineOf-last : (c : Content) (piece : List ℕ) → NoNewline piece → 0 < length piece → Gave c empty_content piece
-    → LineOf c empty_content (Ok Line) (strip_carriage_return piece)
-LineOf-last c [] none some gave = absurd (omega arith)
-LineOf-last c (b ∷ bs) none some gave =
+pub NextLineIs-last : (c : Content) (piece : List ℕ) → NoNewline piece → 0 < length piece → Gave c empty_content piece
+    → NextLineIs c empty_content (Ok Line) (strip_carriage_return piece)
+NextLineIs-last c [] none some gave = absurd (omega arith)
+NextLineIs-last c (b ∷ bs) none some gave =
     rw (Gave-is c empty_content (b ∷ bs) gave, after_piece (b ∷ bs) [] none, append-nil, lines-nil Whole)
     (ap (map strip_carriage_return) (pieces-last Whole (b ∷ bs) none), refl)
 
 -- where nothing is left, there is no line
-pub LineOf-none : (c : Content) (line : List ℕ) → Gave c empty_content [] → LineOf c empty_content (Ok NoMore) line
-LineOf-none c line gave = rw (Gave-is c empty_content [] gave) (lines-nil Whole, refl)
+pub NextLineIs-none : (c : Content) (line : List ℕ) → Gave c empty_content [] → NextLineIs c empty_content (Ok NoMore) line
+NextLineIs-none c line gave = rw (Gave-is c empty_content [] gave) (lines-nil Whole, refl)
 
 -- a fault leaves no line, whatever stands before it
-pub LineOf-fault : (c d : Content) (f : Fault) (piece : List ℕ) → NoNewline piece
-    → Gave c (record { bytes = []; ending = Broken f }) piece → LineOf c d (Err (stops.Fault f)) []
-LineOf-fault c d f piece none gave =
+pub NextLineIs-fault : (c d : Content) (f : Fault) (piece : List ℕ) → NoNewline piece
+    → Gave c (record { bytes = []; ending = Broken f }) piece → NextLineIs c d (Err (stops.Fault f)) []
+NextLineIs-fault c d f piece none gave =
     rw (Gave-is c (record { bytes = []; ending = Broken f }) piece gave, append-nil)
     (ap (map strip_carriage_return) (pieces-last (Broken f) piece none), refl)
 
 -- what is still to come after a stop doesn't matter
 pub gives_stop : {r : Result Next LineStop} {e : LineStop} (x z : Option Content) (f g : Content → Content)
-    (piece line : List ℕ) → r ≡ Err e → WhereTold x (option_map f z) (λ c d. LineOf c d r piece)
-    → WhereTold x (option_map g z) (λ c d. LineOf c d r line)
+    (piece line : List ℕ) → r ≡ Err e → IfKnown x (option_map f z) (λ c d. NextLineIs c d r piece)
+    → IfKnown x (option_map g z) (λ c d. NextLineIs c d r line)
 gives_stop {e = stops.Memory} x z f g piece line is h =
-    rw is (WhereTold-remade x z f g _ _ (λ c d h. h) (rw is at h))
+    rw is (IfKnown-remade x z f g _ _ (λ c d h. h) (rw is at h))
 gives_stop {e = stops.Fault q} x z f g piece line is h =
-    rw is (WhereTold-remade x z f g _ _ (λ c d h. h) (rw is at h))
+    rw is (IfKnown-remade x z f g _ _ (λ c d h. h) (rw is at h))
 
 -- the end was answered before, and is answered again
 pub gives_ended : (z : Option Content) (line : List ℕ)
-    → WhereTold (option_map (λ _. empty_content) z) (option_map (λ _. empty_content) z)
-    (λ c d. LineOf c d (Ok NoMore) line)
+    → IfKnown (option_map (λ _. empty_content) z) (option_map (λ _. empty_content) z)
+    (λ c d. NextLineIs c d (Ok NoMore) line)
 gives_ended None line = tt
 gives_ended (Some c) line = (lines-nil Whole, refl)
 
 -- so is a stop
 pub gives_stopped : (e : LineStop) (z : Option Content) (f : Content → Content) (line : List ℕ)
     → (e ≡ stops.Memory → (c : Content) → 0 < length (f c).bytes)
-    → WhereTold (option_map (λ c. left_by (Some (Err e)) (f c)) z) (option_map (λ c. left_by (Some (Err e)) (f c)) z)
-    (λ c d. LineOf c d (Err e) line)
+    → IfKnown (option_map (λ c. left_by (Some (Err e)) (f c)) z) (option_map (λ c. left_by (Some (Err e)) (f c)) z)
+    (λ c d. NextLineIs c d (Err e) line)
 gives_stopped e None f line some = tt
 gives_stopped (stops.Fault x) (Some c) f line some = (lines-nil (Broken x), refl)
 gives_stopped stops.Memory (Some c) f line some = some refl c
@@ -105,5 +105,5 @@ some_bytes : (bytes line : List ℕ) (e : Ending) (ls : List (List ℕ))
 some_bytes [] line e ls is = let nil = sym (lines-nil e) ∙ is in cc
 some_bytes (b ∷ bs) line e ls is = omega arith
 
-pub line-some : (c d : Content) (line : List ℕ) → LineOf c d (Ok Line) line → 0 < length c.bytes
+pub line-some : (c d : Content) (line : List ℕ) → NextLineIs c d (Ok Line) line → 0 < length c.bytes
 line-some c d line is = some_bytes c.bytes line c.ending (lines d) is.0

@@ -2,32 +2,32 @@
 use Rattle.std.proofs.Common.{◌≡◌, ℕ, true, false, List, [], ◌∷◌, ◌++◌, Option, None, Ok, refl, append_assoc, ◌==◌, option_map}
 use Rattle.std.proofs.lemmas.List.{append-nil}
 use Rattle.std.proofs.lemmas.List.Elements.{All-append}
-use Rattle.sum_sources.specs.ManifestLines.{Line, NoNewline, LineOf}
-use Rattle.sum_sources.specs.Contents.{Content, InputState, WhereTold, empty_content}
-use Rattle.sum_sources.specs.LineReaders.{Reader, coming}
+use Rattle.sum_sources.specs.ManifestLines.{Line, NoNewline, NextLineIs}
+use Rattle.sum_sources.specs.Contents.{Content, InputState, IfKnown, empty_content}
+use Rattle.sum_sources.specs.LineReaders.{LineReaderValue, remaining_content}
 use Rattle.sum_sources.specs.refinement.LineStates.{TakesPiece}
 use Rattle.std.specs.Str.Lines.{strip_carriage_return}
 use Rattle.sum_sources.proofs.ContentLemmas.{Gave}
-use Rattle.sum_sources.proofs.LineLemmas.{LineOf-ended}
-use Rattle.sum_sources.proofs.ToldLemmas.{WhereTold-map, WhereTold-remade, WhereTold-then}
+use Rattle.sum_sources.proofs.LineLemmas.{NextLineIs-ended}
+use Rattle.sum_sources.proofs.ToldLemmas.{IfKnown-map, IfKnown-remade, IfKnown-then}
 
 -- this much of a line came to a reader, and no newline with it: a record, so that antt finds what it speaks of
-pub record LineSoFar {I : Type 0} (state : I → InputState) (old s : Reader I) (line : List ℕ) : Type 0 where
-  pub came : WhereTold (coming state old) (coming state s) (λ c d. Gave c d line)
+pub record LineSoFar {I : Type 0} (state : I → InputState) (old s : LineReaderValue I) (line : List ℕ) : Type 0 where
+  pub came : IfKnown (remaining_content state old) (remaining_content state s) (λ c d. Gave c d line)
   pub plain : NoNewline line
   pub going : s.final_answer ≡ None
 
 -- bytes that were ahead came too
-took : {I : Type 0} {state : I → InputState} {old s s' : Reader I} {line : List ℕ} (prefix : List ℕ)
+took : {I : Type 0} {state : I → InputState} {old s s' : LineReaderValue I} {line : List ℕ} (prefix : List ℕ)
     → LineSoFar state old s line → s' ≡ record s { ahead = s'.ahead } → s.ahead ≡ prefix ++ s'.ahead
-    → WhereTold (coming state old) (coming state s') (λ c d. Gave c d (line ++ prefix))
+    → IfKnown (remaining_content state old) (remaining_content state s') (λ c d. Gave c d (line ++ prefix))
 took {state = state} {old = old} {s = s} {line = line} prefix h same ahead =
-    rw (same, h.going) (WhereTold-remade (coming state old) (state s.input).content _ _
+    rw (same, h.going) (IfKnown-remade (remaining_content state old) (state s.input).content _ _
     (λ c d. Gave c d line) (λ c d. Gave c d (line ++ prefix))
     (λ c d gave. (simp append_assoc (simp append_assoc at gave.0), gave.1)) (rw (h.going, ahead) at h.came))
 
 -- the whole buffer joins the line, where it has no newline
-pub LineSoFar-piece : {I : Type 0} {state : I → InputState} {old s s' : Reader I} {line line' : List ℕ}
+pub LineSoFar-piece : {I : Type 0} {state : I → InputState} {old s s' : LineReaderValue I} {line line' : List ℕ}
     → LineSoFar state old s line → s' ≡ record s { ahead = s'.ahead }
     → TakesPiece false s.ahead s'.ahead line line' → LineSoFar state old s' line'
 LineSoFar-piece {s = s} {line = line} h same (plain, none, is) = record {
@@ -37,29 +37,29 @@ LineSoFar-piece {s = s} {line = line} h same (plain, none, is) = record {
 }
 
 -- a newline in the buffer ends the line
-pub ends_line : {I : Type 0} {state : I → InputState} {old s s' : Reader I} {line line' : List ℕ}
+pub ends_line : {I : Type 0} {state : I → InputState} {old s s' : LineReaderValue I} {line line' : List ℕ}
     → LineSoFar state old s line → s' ≡ record s { ahead = s'.ahead }
     → TakesPiece true s.ahead s'.ahead line line'
-    → WhereTold (coming state old) (coming state s') (λ c d. LineOf c d (Ok Line) (strip_carriage_return line'))
+    → IfKnown (remaining_content state old) (remaining_content state s') (λ c d. NextLineIs c d (Ok Line) (strip_carriage_return line'))
 ends_line {state = state} {old = old} {s' = s'} {line = line} h same (piece, plain, cut, is) =
-    rw is (WhereTold-map (coming state old) (coming state s') (λ c d gave.
-    LineOf-ended c d (line ++ piece) (All-append (λ b. (b == 10) ≡ false) line piece h.plain plain)
+    rw is (IfKnown-map (remaining_content state old) (remaining_content state s') (λ c d gave.
+    NextLineIs-ended c d (line ++ piece) (All-append (λ b. (b == 10) ≡ false) line piece h.plain plain)
     (rw (append_assoc line piece (10 ∷ [])) gave)) (took (piece ++ 10 ∷ []) h same (rw append_assoc cut)))
 
 -- the line is all that came, where just this is still to come
-pub all_came : {I : Type 0} {state : I → InputState} {old s : Reader I} {line : List ℕ} (y : Option Content)
-    (rest : Content) → LineSoFar state old s line → WhereTold (coming state s) y (λ c d. c ≡ rest)
-    → WhereTold (coming state old) y (λ c d. Gave c rest line)
+pub all_came : {I : Type 0} {state : I → InputState} {old s : LineReaderValue I} {line : List ℕ} (y : Option Content)
+    (rest : Content) → LineSoFar state old s line → IfKnown (remaining_content state s) y (λ c d. c ≡ rest)
+    → IfKnown (remaining_content state old) y (λ c d. Gave c rest line)
 all_came {state = state} {old = old} {s = s} {line = line} y rest h is =
-    WhereTold-then (coming state old) (coming state s) y {R = λ c d. Gave c rest line}
+    IfKnown-then (remaining_content state old) (remaining_content state s) y {R = λ c d. Gave c rest line}
     (λ c d e came is. rw is at came) h.came is
 
 -- so the input's end ends the line, or leaves none
-pub ends_last : {I : Type 0} {state : I → InputState} {old s : Reader I} {line : List ℕ}
+pub ends_last : {I : Type 0} {state : I → InputState} {old s : LineReaderValue I} {line : List ℕ}
     (z : Option Content) (f : Content → Content) (Q : Content → Content → Type 0) → LineSoFar state old s line
-    → WhereTold (coming state s) (option_map f z) (λ c d. c ≡ empty_content)
+    → IfKnown (remaining_content state s) (option_map f z) (λ c d. c ≡ empty_content)
     → ((c : Content) → Gave c empty_content line → Q c empty_content)
-    → WhereTold (coming state old) (option_map (λ _. empty_content) z) Q
+    → IfKnown (remaining_content state old) (option_map (λ _. empty_content) z) Q
 ends_last {state = state} {old = old} {line = line} z f Q h ended all =
-    WhereTold-remade (coming state old) z f (λ _. empty_content) (λ c d. Gave c empty_content line) Q (λ c d. all c)
+    IfKnown-remade (remaining_content state old) z f (λ _. empty_content) (λ c d. Gave c empty_content line) Q (λ c d. all c)
     (all_came (option_map f z) empty_content h ended)

@@ -30,10 +30,10 @@ abbrev pub clip : Content → Content
 clip c = if nat_lt (length c.bytes) limit then c else record { bytes = take (limit - 1) c.bytes; ending = Broken Other }
 
 -- what holds between a value before and after, where it is told; what is told stays told
-abbrev pub WhereTold : {A : Type 0} → Option A → Option A → (A → A → Type 0) → Type 0
-WhereTold None new P = ⊤
-WhereTold (Some a) None P = ⊥
-WhereTold (Some a) (Some b) P = P a b
+abbrev pub IfKnown : {A : Type 0} → Option A → Option A → (A → A → Type 0) → Type 0
+IfKnown None new P = ⊤
+IfKnown (Some a) None P = ⊥
+IfKnown (Some a) (Some b) P = P a b
 
 -- a read takes the first bytes; it finds the end only where no byte is left and the ending is whole, and a fault only
 -- where no byte is left and the ending is that fault
@@ -57,9 +57,9 @@ abbrev pub empty_content : Content
 empty_content = record { bytes = []; ending = Whole }
 
 -- what is left in standard input: its input until it was taken, and nothing afterwards, which never fails
-abbrev pub left_in : {I : Type 0} → (I → InputState) → Option I → InputState
-left_in state None = record { content = Some empty_content; failed = false }
-left_in state (Some i) = state i
+abbrev pub stdin_state : {I : Type 0} → (I → InputState) → Option I → InputState
+stdin_state state None = record { content = Some empty_content; failed = false }
+stdin_state state (Some i) = state i
 
 -- an input that is closed has nothing but a fault, by which each read fails
 abbrev pub unless_closed : {I : Type 0} → (I → InputState) → Closable I → InputState
@@ -76,13 +76,13 @@ abbrev pub Reply : Type 0
 Reply = Result Content Fault
 
 -- what a source tells: its reply to each name, and the names that it was asked, in order
-pub record Telling : Type 0 where
+pub record KnownSource : Type 0 where
   pub answer : List ℕ → Reply
   pub asked : List (List ℕ)
 
 -- a source at one moment: what it tells, where it does; and how often an opening was refused memory
 pub record SourceState : Type 0 where
-  pub known : Option Telling
+  pub known : Option KnownSource
   pub refusals : ℕ
 
 -- only want of memory changes the count of refusals
@@ -91,11 +91,11 @@ refusals_after n (Err faults.Memory) = one_more n
 refusals_after n _ = n
 
 -- a source is asked one name more, and this is its reply
-abbrev pub AsksName : Telling → Telling → List ℕ → Option Reply → Type 0
+abbrev pub AsksName : KnownSource → KnownSource → List ℕ → Option Reply → Type 0
 AsksName s t name reply = (t ≡ record s { asked = s.asked ++ name ∷ [] }) × (reply ≡ Some (s.answer name))
 
 -- opening a name: the same is told for want of memory; else it was asked, and its reply is the file's content or fault
-abbrev pub OpenOf : {F : Type 0} → (F → InputState) → Telling → Telling → List ℕ → Result F OpenFault → Type 0
+abbrev pub OpenOf : {F : Type 0} → (F → InputState) → KnownSource → KnownSource → List ℕ → Result F OpenFault → Type 0
 OpenOf state s t name (Ok file) = AsksName s t name (option_map Ok (state file).content)
 OpenOf state s t name (Err (faults.Fault f)) = AsksName s t name (Some (Err f))
 OpenOf state s t name (Err faults.Memory) = t ≡ s

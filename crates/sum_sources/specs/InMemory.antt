@@ -1,6 +1,6 @@
 -- Inputs and sources in memory.
 use Rattle.std.specs.Prelude.{ℕ, List, [], ◌∷◌, if◌then◌else◌, bytes_eq, Err}
-use Rattle.sum_sources.specs.Contents.{NotFound, Content, Reply, Telling}
+use Rattle.sum_sources.specs.Contents.{NotFound, Content, Reply, KnownSource}
 
 -- an input in memory: what it has still to give, and the most bytes that one read gives
 pub record ToldContent : Type 0 where
@@ -26,5 +26,5 @@ pub record ToldFiles : Type 0 where
   pub refusals : ℕ
 
 -- what it tells
-abbrev pub telling_of : ToldFiles → Telling
-telling_of s = record { answer = first_reply s.pairs; asked = s.asked }
+abbrev pub known_source : ToldFiles → KnownSource
+known_source s = record { answer = first_reply s.pairs; asked = s.asked }

@@ -7,7 +7,7 @@ use Rattle.sum_sources.specs.ManifestLines.{Next, Line, NoMore, LineStop}
 use Rattle.sum_sources.specs.declared.lines.LineStop.TheVariants as stops
 
 -- a reader of lines
-pub record Reader (I : Type 0) : Type 0 where
+pub record LineReaderValue (I : Type 0) : Type 0 where
   pub input : I  -- its input, past the bytes that it has given
   pub ahead : List ℕ  -- of these bytes, those that were not moved into a line
   pub taken : ℕ  -- how many bytes the input has given
@@ -15,11 +15,11 @@ pub record Reader (I : Type 0) : Type 0 where
   pub final_answer : Option (Result Next LineStop)  -- what every later call answers again, where there is one
 
 -- how many bytes the lines have used, newlines included; after a stop also those of a line that was begun
-abbrev pub used : {I : Type 0} → Reader I → ℕ
-used r = r.taken - length r.ahead
+abbrev pub consumed : {I : Type 0} → LineReaderValue I → ℕ
+consumed r = r.taken - length r.ahead
 
 -- what holds of every reader: each line has used a byte at least, at most a piece is ahead, and the limit stands
-pub record Bounded {I : Type 0} (r : Reader I) : Type 0 where
+pub record Bounded {I : Type 0} (r : LineReaderValue I) : Type 0 where
   pub lines : r.lines + length r.ahead ≤ r.taken
   pub ahead : length r.ahead ≤ PIECE
   pub taken : r.taken ≤ LIMIT
@@ -39,12 +39,12 @@ left_by (Some (Err (stops.Fault f))) c = record { bytes = []; ending = Broken f 
 left_by _ c = c
 
 -- what is still to come: the bytes read ahead and then the input's content, as far as the limit allows
-abbrev pub coming : {I : Type 0} → (I → InputState) → Reader I → Option Content
-coming state r =
+abbrev pub remaining_content : {I : Type 0} → (I → InputState) → LineReaderValue I → Option Content
+remaining_content state r =
     option_map (λ c. left_by r.final_answer (with_prefix r.ahead (clip_to (limit - r.taken) c))) (state r.input).content
 
 -- what every later call answers, once this was answered: after a line nothing is settled, or the end; after the end or
 -- a stop, the same
-abbrev pub AnsweredAfter : Result Next LineStop → Option (Result Next LineStop) → Type 0
-AnsweredAfter (Ok Line) later = (later ≡ None) ⊎ (later ≡ Some (Ok NoMore))
-AnsweredAfter answer later = later ≡ Some answer
+abbrev pub FinalAnswerAfter : Result Next LineStop → Option (Result Next LineStop) → Type 0
+FinalAnswerAfter (Ok Line) later = (later ≡ None) ⊎ (later ≡ Some (Ok NoMore))
+FinalAnswerAfter answer later = later ≡ Some answer

@@ -14,13 +14,13 @@ last_line Whole (b ∷ bs) = (b ∷ bs) ∷ []
 last_line _ _ = []
 
 -- the lines of a content with their carriage returns: each piece that a newline ended, and the last one by its own rule
-unfoldable pub pieces : Content → List (List ℕ)
-pieces c = let all = slice_split (λ b. b == 10) c.bytes in
+unfoldable pub raw_lines : Content → List (List ℕ)
+raw_lines c = let all = slice_split (λ b. b == 10) c.bytes in
     take (length all - 1) all ++ last_line c.ending (slice_index_or all (length all - 1) [])
 
 -- the lines of a content: each without one carriage return at its end, where it has one
 abbrev pub lines : Content → List (List ℕ)
-lines c = map strip_carriage_return (pieces c)
+lines c = map strip_carriage_return (raw_lines c)
 
 -- what stands past the first line
 abbrev pub past_line : Content → Content
@@ -31,16 +31,16 @@ abbrev pub NoNewline : List ℕ → Type 0
 NoNewline piece = All (λ b. (b == 10) ≡ false) piece
 
 -- these pieces, each ended by a newline, and then the tail
-abbrev pub bytes_of_pieces : List (List ℕ) → List ℕ → List ℕ
-bytes_of_pieces ended tail = flat_map (λ piece. piece ++ 10 ∷ []) ended ++ tail
+abbrev pub bytes_of_lines : List (List ℕ) → List ℕ → List ℕ
+bytes_of_lines ended tail = flat_map (λ piece. piece ++ 10 ∷ []) ended ++ tail
 
 -- what next_line answers: the first line, with what stands past it still to come; or that none is left, by the ending;
 -- or that it wants memory, only where something is still to come
-abbrev pub LineOf : Content → Content → Result Next LineStop → List ℕ → Type 0
-LineOf c d (Ok Line) line = (lines c ≡ line ∷ lines d) × (d ≡ past_line c)
-LineOf c d (Ok NoMore) line = (lines c ≡ []) × (c.ending ≡ Whole)
-LineOf c d (Err (stops.Fault f)) line = (lines c ≡ []) × (c.ending ≡ Broken f)
-LineOf c d (Err stops.Memory) line = 0 < length c.bytes
+abbrev pub NextLineIs : Content → Content → Result Next LineStop → List ℕ → Type 0
+NextLineIs c d (Ok Line) line = (lines c ≡ line ∷ lines d) × (d ≡ past_line c)
+NextLineIs c d (Ok NoMore) line = (lines c ≡ []) × (c.ending ≡ Whole)
+NextLineIs c d (Err (stops.Fault f)) line = (lines c ≡ []) × (c.ending ≡ Broken f)
+NextLineIs c d (Err stops.Memory) line = 0 < length c.bytes
 
 -- how many lines were answered
 abbrev pub lines_after : ℕ → Result Next LineStop → ℕ

@@ -1,6 +1,6 @@
 //! What can be read.
 ghost use Rattle.std.specs.Prelude.{true, ◌≡◌, ◌≤◌, ◌||◌, length, None, is_err, IfOk};
-ghost use Rattle.sum_sources.specs.Contents.{InputState, WhereTold, ReadsFrom};
+ghost use Rattle.sum_sources.specs.Contents.{InputState, IfKnown, ReadsFrom};
 
 use crate::Fault;
 
@@ -17,7 +17,7 @@ pub trait Input {
     /// a fault only where no byte is to come and the input ends by that fault.
     fn read(&mut self, buf: &mut [u8]) -> Result<usize, Fault>
         ensures count { IfOk result (λ n. n ≤ length buf.new) }
-        ensures bytes { WhereTold (state self.old).content (state self.new).content (λ c d.
+        ensures bytes { IfKnown (state self.old).content (state self.new).content (λ c d.
             ReadsFrom c d result buf.new) }
         ensures failed { (state self.new).failed ≡ (state self.old).failed || is_err result };
 }

@@ -1,7 +1,7 @@
 //! An input ends at the limit.
 ghost use Rattle.std.specs.Prelude.{◌≡◌, ◌≤◌, ◌<◌, ◌+◌, ◌-◌, length, IfOk};
 ghost use Rattle.digest_kinds.specs.Limits.{LIMIT};
-ghost use Rattle.sum_sources.specs.Contents.{WhereTold, ReadsFrom, limit};
+ghost use Rattle.sum_sources.specs.Contents.{IfKnown, ReadsFrom, limit};
 ghost use Rattle.sum_sources.specs.LineReaders.{clip_to};
 ghost use Rattle.sum_sources.specs.declared.input.TheConstants.{PIECE};
 
@@ -22,10 +22,10 @@ pub(crate) fn read_limited<I: Input>(
     ensures taken { IfOk result (λ n. taken.new ≡ taken.old + n) }
     ensures more { taken.old ≤ taken.new }
     ensures few { IfOk result (λ _. taken.new < LIMIT) }
-    ensures bytes { WhereTold (I.state input.old).content (I.state input.new).content (λ c d.
+    ensures bytes { IfKnown (I.state input.old).content (I.state input.new).content (λ c d.
         ReadsFrom (clip_to (limit - taken.old) c) (clip_to (limit - taken.new) d) result buffer.new) }
     ensures failed { IfOk result (λ _. (I.state input.new).failed ≡ (I.state input.old).failed) }
-    ensures input { WhereTold (I.state input.old).content (I.state input.new).content
+    ensures input { IfKnown (I.state input.old).content (I.state input.new).content
         (λ c d. taken.new + length d.bytes ≡ taken.old + length c.bytes) }
 {
     if *taken == LIMIT {

@@ -3,7 +3,7 @@ ghost use Rattle.std.specs.Prelude.{◌≡◌, ◌≤◌, ◌<◌, ◌+◌, [], 
 ghost use Rattle.std.specs.Prelude.{None, IfOk, IfSome, IsErr, OnOk, if◌then◌else◌};
 ghost use Rattle.std.specs.Str.Lines.{strip_carriage_return};
 ghost use Rattle.digest_kinds.specs.Limits.{LIMIT};
-ghost use Rattle.sum_sources.specs.Contents.{WhereTold};
+ghost use Rattle.sum_sources.specs.Contents.{IfKnown};
 
 use crate::limited::read_limited;
 use crate::{Fault, Input, PIECE};
@@ -53,15 +53,15 @@ pub struct LineReader<I> {
 }
 
 impl<I> Model for LineReader<I> {
-    ghost use Rattle.sum_sources.specs.LineReaders.{Reader};
+    ghost use Rattle.sum_sources.specs.LineReaders.{LineReaderValue};
 
-    ghost Value = { Reader I };
+    ghost Value = { LineReaderValue I };
 
-    ghost use Rattle.sum_sources.specs.refinement.LineStates.{seen, Kept};
+    ghost use Rattle.sum_sources.specs.refinement.LineStates.{line_reader_view, LineReaderInvariant};
 
-    ghost view = { λ s. seen s };
+    ghost view = { λ s. line_reader_view s };
 
-    ghost invariant = { λ s. Kept s };
+    ghost invariant = { λ s. LineReaderInvariant s };
 }
 
 // Drops the one carriage return at the end of the line, where there is one.
@@ -76,15 +76,15 @@ fn drop_return<A: Allocator>(line: &mut Vec<u8, A>)
 impl<I: Input> LineReader<I> {
     ghost use Rattle.std.specs.Option.{option_map};
     ghost use Rattle.sum_sources.specs.Contents.{clip};
-    ghost use Rattle.sum_sources.specs.ManifestLines.{LineOf, NoNewline, lines_after};
-    ghost use Rattle.sum_sources.specs.LineReaders.{coming, used, Bounded, AnsweredAfter};
+    ghost use Rattle.sum_sources.specs.ManifestLines.{NextLineIs, NoNewline, lines_after};
+    ghost use Rattle.sum_sources.specs.LineReaders.{remaining_content, consumed, Bounded, FinalAnswerAfter};
     ghost use Rattle.sum_sources.specs.refinement.LineStates.{FillOf, TakesPiece};
 
     /// A reader of the lines of `input`. An input of `LIMIT` bytes or more counts as its first
     /// `LIMIT - 1` bytes and then `Fault::Other`.
     pub fn new(input: I) -> Self
         ensures is { result ≡ record { input = input; ahead = []; taken = 0; lines = 0; final_answer = None } }
-        ensures coming { coming I.state result ≡ option_map clip (I.state input).content }
+        ensures remaining_content { remaining_content I.state result ≡ option_map clip (I.state input).content }
     {
         LineReader {
             input,
@@ -124,11 +124,11 @@ impl<I: Input> LineReader<I> {
     fn fill(&mut self) -> Result<bool, Fault>
         requires empty { self.old.ahead ≡ [] }
         requires going { self.old.final_answer ≡ None }
-        ensures gives { WhereTold (coming I.state self.old) (coming I.state self.new)
+        ensures gives { IfKnown (remaining_content I.state self.old) (remaining_content I.state self.new)
             (λ c d. FillOf c d result) }
         ensures more { result ≡ Ok true → self.old.taken < self.new.taken }
-        ensures used { IfOk result (λ _. used self.new ≡ used self.old) }
-        ensures input { WhereTold (I.state self.old.input).content (I.state self.new.input).content
+        ensures used { IfOk result (λ _. consumed self.new ≡ consumed self.old) }
+        ensures input { IfKnown (I.state self.old.input).content (I.state self.new.input).content
             (λ c d. self.new.taken + length d.bytes ≡ self.old.taken + length c.bytes) }
         ensures lines { self.new.lines ≡ self.old.lines }
         ensures answer { IfOk result (λ _. self.new.final_answer ≡ None) }
@@ -147,8 +147,8 @@ impl<I: Input> LineReader<I> {
         ensures piece { IfOk result (λ ended.
             TakesPiece ended self.old.ahead self.new.ahead line.old.items line.new.items) }
         ensures memory { IsErr result → (self.new ≡ self.old) × (0 < length self.old.ahead) }
-        ensures used { IfOk result (λ ended. used self.new + length line.old.items
-            ≡ used self.old + length line.new.items + (if ended then 1 else 0)) }
+        ensures used { IfOk result (λ ended. consumed self.new + length line.old.items
+            ≡ consumed self.old + length line.new.items + (if ended then 1 else 0)) }
         ensures same { self.new ≡ record self.old { ahead = self.new.ahead } }
     {
         if self.start == self.end {
@@ -173,16 +173,16 @@ impl<I: Input> LineReader<I> {
     fn read_on<A: Allocator>(&mut self, line: &mut Vec<u8, A>) -> Result<Next, LineStop>
         requires empty { line.old.items ≡ [] }
         requires going { self.old.final_answer ≡ None }
-        ensures gives { WhereTold (coming I.state self.old) (coming I.state self.new)
-            (λ c d. LineOf c d result (strip_carriage_return line.new.items)) }
+        ensures gives { IfKnown (remaining_content I.state self.old) (remaining_content I.state self.new)
+            (λ c d. NextLineIs c d result (strip_carriage_return line.new.items)) }
         ensures memory { result ≡ Err LineStop.Memory → 0 < length self.new.ahead }
-        ensures used { OnOk result (WhereTold (coming I.state self.old) (coming I.state self.new)
-            (λ c d. used self.new + length d.bytes ≡ used self.old + length c.bytes)) }
-        ensures input { WhereTold (I.state self.old.input).content (I.state self.new.input).content
+        ensures used { OnOk result (IfKnown (remaining_content I.state self.old) (remaining_content I.state self.new)
+            (λ c d. consumed self.new + length d.bytes ≡ consumed self.old + length c.bytes)) }
+        ensures input { IfKnown (I.state self.old.input).content (I.state self.new.input).content
             (λ c d. self.new.taken + length d.bytes ≡ self.old.taken + length c.bytes) }
-        ensures some { result ≡ Ok Next.Line → used self.old < used self.new }
+        ensures some { result ≡ Ok Next.Line → consumed self.old < consumed self.new }
         ensures lines { self.new.lines ≡ self.old.lines }
-        ensures answer { OnOk result (AnsweredAfter result self.new.final_answer) }
+        ensures answer { OnOk result (FinalAnswerAfter result self.new.final_answer) }
         ensures failed { OnOk result ((I.state self.new.input).failed ≡ (I.state self.old.input).failed) }
         ensures ahead { ¬ NoNewline self.old.ahead → self.new.input ≡ self.old.input }
     {
@@ -211,15 +211,15 @@ impl<I: Input> LineReader<I> {
     /// memory for the line was refused. Each of these is answered again by every later call. What `line` holds after
     /// them isn't said; what it held before doesn't matter.
     pub fn next_line<A: Allocator>(&mut self, line: &mut Vec<u8, A>) -> Result<Next, LineStop>
-        ensures gives { WhereTold (coming I.state self.old) (coming I.state self.new)
-            (λ c d. LineOf c d result line.new.items) }
+        ensures gives { IfKnown (remaining_content I.state self.old) (remaining_content I.state self.new)
+            (λ c d. NextLineIs c d result line.new.items) }
         ensures again { IfSome self.old.final_answer (λ answer. (result ≡ answer) × (self.new ≡ self.old)) }
-        ensures answer { AnsweredAfter result self.new.final_answer }
+        ensures answer { FinalAnswerAfter result self.new.final_answer }
         ensures lines { self.new.lines ≡ lines_after self.old.lines result }
-        ensures taken { WhereTold (I.state self.old.input).content (I.state self.new.input).content
+        ensures taken { IfKnown (I.state self.old.input).content (I.state self.new.input).content
             (λ c d. self.new.taken + length d.bytes ≡ self.old.taken + length c.bytes) }
-        ensures used { OnOk result (WhereTold (coming I.state self.old) (coming I.state self.new)
-            (λ c d. used self.new + length d.bytes ≡ used self.old + length c.bytes)) }
+        ensures used { OnOk result (IfKnown (remaining_content I.state self.old) (remaining_content I.state self.new)
+            (λ c d. consumed self.new + length d.bytes ≡ consumed self.old + length c.bytes)) }
         ensures failed { OnOk result ((I.state self.new.input).failed ≡ (I.state self.old.input).failed) }
         ensures ahead { ¬ NoNewline self.old.ahead → self.new.input ≡ self.old.input }
         ensures bounds { Bounded self.new }

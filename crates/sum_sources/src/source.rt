@@ -1,6 +1,6 @@
 //! Where files are opened.
 ghost use Rattle.std.specs.Prelude.{◌≡◌};
-ghost use Rattle.sum_sources.specs.Contents.{WhereTold, SourceState, OpenOf, refusals_after};
+ghost use Rattle.sum_sources.specs.Contents.{IfKnown, SourceState, OpenOf, refusals_after};
 
 use crate::{Fault, Input};
 use thiserror::Error;
@@ -26,7 +26,7 @@ pub trait Source {
     /// Opens the file of that name. `OpenFault::Fault` where it can't be opened. `OpenFault::Memory` comes only where
     /// memory was refused; then the name doesn't count as asked.
     fn open_file(&mut self, name: &[u8]) -> Result<Self::File, OpenFault>
-        ensures answer { WhereTold (state self.old).known (state self.new).known (λ s t.
+        ensures answer { IfKnown (state self.old).known (state self.new).known (λ s t.
             OpenOf Self.File.state s t name.now result) }
         ensures refusals { (state self.new).refusals ≡ refusals_after (state self.old).refusals result };
 }

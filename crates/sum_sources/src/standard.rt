@@ -52,9 +52,9 @@ impl<I: Input> Stdin<I> {
 }
 
 impl<I: Input> Input for Given<I> {
-    ghost use Rattle.sum_sources.specs.Contents.{left_in};
+    ghost use Rattle.sum_sources.specs.Contents.{stdin_state};
 
-    ghost state = { λ s. left_in I.state s };
+    ghost state = { λ s. stdin_state I.state s };
 
     fn read(&mut self, buf: &mut [u8]) -> Result<usize, Fault> {
         match &mut self.input {

@@ -1,7 +1,7 @@
 //! A source in memory.
 ghost use Rattle.std.specs.Prelude.{◌≡◌, ◌++◌, ◌∷◌, [], OnOk, OnErr, IfOk, map, max, slice_get};
 ghost use Rattle.std.specs.Option.{option_map};
-ghost use Rattle.sum_sources.specs.InMemory.{first_reply, telling_of};
+ghost use Rattle.sum_sources.specs.InMemory.{first_reply, known_source};
 ghost use Rattle.sum_sources.specs.Contents.{OpenOf, refusals_after};
 ghost use Rattle.digest_kinds.specs.Limits.{one_more};
 ghost use Rattle.sum_sources.specs.refinement.ToldPairs.{pair_of, reply_of};
@@ -124,13 +124,13 @@ impl<'a, A: Allocator + Copy> Source for ToldSource<'a, A> {
     type File = Told<'a>;
 
     ghost use Rattle.std.specs.Prelude.{Some};
-    ghost use Rattle.sum_sources.specs.InMemory.{telling_of};
+    ghost use Rattle.sum_sources.specs.InMemory.{known_source};
 
-    ghost state = { λ s. record { known = Some (telling_of s); refusals = s.refusals } };
+    ghost state = { λ s. record { known = Some (known_source s); refusals = s.refusals } };
 
     fn open_file(&mut self, name: &[u8]) -> Result<Told<'a>, OpenFault>
         ensures answer { OpenOf ⟦<Told<'a> as Input>⟧.state
-            (telling_of self.old) (telling_of self.new) name.now result }
+            (known_source self.old) (known_source self.new) name.now result }
         ensures refusals { self.new.refusals ≡ refusals_after self.old.refusals result }
         ensures piece { IfOk result (λ file. file.piece ≡ max self.old.piece 1) }
         ensures same { (self.new.pairs ≡ self.old.pairs) × (self.new.piece ≡ self.old.piece) }

@@ -9,7 +9,7 @@ use Rattle.std.proofs.Math.Seq.{drop-cons}
 use Rattle.std.proofs.lemmas.List.{append-nil, append_assoc}
 use Rattle.std.proofs.lemmas.List.Folds.{list_all-append}
 use Rattle.sum_words.specs.Tools.{Tool, tool_called}
-use Rattle.sum_words.specs.Items.{Text, is_readable}
+use Rattle.sum_words.specs.Items.{ByteString, is_readable}
 use Rattle.memchr.specs.Find.{Passes, Nowhere, is_byte}
 use Rattle.sum_words.specs.CommandLines.{last_part}
 use Rattle.sum_words.specs.refinement.Arguments.{ArgumentIs, IsFirstWord, WordsUpTo, WordsAre, HasArgument, IsLonger, MayBeUnread}
@@ -43,25 +43,25 @@ drop_at_some {x = x} xs p h =
     rw (drop-cons xs p x (slice_get_within xs p x h), get_or_from_slice_get xs p x x h, add-one) refl
 
 -- there is an argument at each place up to one where an argument stands
-pub there_is : (told : Option (List Text)) (first place : ℕ) (word : Text)
+pub there_is : (told : Option (List ByteString)) (first place : ℕ) (word : ByteString)
     → ArgumentIs told place (Some word) → first ≤ place → HasArgument told first
 there_is told first place word h le =
     IfSome_then told h (λ all at. omega (arith, slice_get_within all place word at, le))
 
 -- the tool by the first word
-pub first_is : (told : Option (List Text)) (word : Text) (tool : Option Tool)
+pub first_is : (told : Option (List ByteString)) (word : ByteString) (tool : Option Tool)
     → ArgumentIs told 1 (Some word) → true ≡ is_readable word → tool ≡ tool_called word → IsFirstWord told tool
 first_is told word tool h reads is = IfSome_then told h (λ all at.
     (rw at is, rw (drop_at_some all 1 at, ← reads) refl))
 
 -- the first word, which can't be read
-pub bad_first_unread : (told : Option (List Text)) (word : Text)
+pub bad_first_unread : (told : Option (List ByteString)) (word : ByteString)
     → ArgumentIs told 1 (Some word) → false ≡ is_readable word → MayBeUnread told
 bad_first_unread None word h bad = tt
 bad_first_unread (Some all) word h bad = inl (rw (drop_at_some all 1 h, ← bad) refl)
 
 -- a long argument is one of them
-longer : (all : List Text) (place : ℕ) → IsSomeAnd (slice_get all place) (λ a. PAGE < length a)
+longer : (all : List ByteString) (place : ℕ) → IsSomeAnd (slice_get all place) (λ a. PAGE < length a)
     → Any (λ a. PAGE < length a) all
 longer [] zero h = absurd h
 longer [] (suc place) h = absurd h
@@ -69,7 +69,7 @@ longer (a ∷ all) zero h = (0, a, omega arith, refl, h)
 longer (a ∷ all) (suc place) h =
     let (k, x, less, at, long) = longer all place h in (suc k, x, omega (arith, less), at, long)
 
-pub longer_unread : (told : Option (List Text)) (place : ℕ) → IsLonger told place PAGE → MayBeUnread told
+pub longer_unread : (told : Option (List ByteString)) (place : ℕ) → IsLonger told place PAGE → MayBeUnread told
 longer_unread None place h = tt
 longer_unread (Some all) place h = inr (inr (longer all place h))
 
@@ -79,7 +79,7 @@ pub ruleset first_word_steps = (first_is, bad_first_unread, longer_unread)
 -- ---- the words, one after another
 
 -- one more word was read
-pub words_more : (told : Option (List Text)) (first place : ℕ) (words : List Text) (word : Text)
+pub words_more : (told : Option (List ByteString)) (first place : ℕ) (words : List ByteString) (word : ByteString)
     → WordsUpTo told first place words → ArgumentIs told place (Some word) → true ≡ is_readable word
     → WordsUpTo told first (place + 1) (words ++ word ∷ [])
 words_more None first place words word w h reads = tt
@@ -90,7 +90,7 @@ words_more (Some all) first place words word w h reads =
     )
 
 -- all words were read
-pub words_all : (told : Option (List Text)) (first place : ℕ) (words : List Text)
+pub words_all : (told : Option (List ByteString)) (first place : ℕ) (words : List ByteString)
     → WordsUpTo told first place words → ArgumentIs told place None → WordsAre told first words
 words_all None first place words w h = tt
 words_all (Some all) first place words w h =

@@ -10,17 +10,17 @@ use Rattle.std.proofs.lemmas.List.Sums.{AllPass-from_list_all}
 use Rattle.std.proofs.lemmas.Option.{get_or_from_slice_get, slice_get_within}
 use Rattle.std.proofs.Math.Bool.{or-true}
 use Rattle.std.proofs.Math.Seq.{drop-append_seam, take-length}
-use Rattle.sum_words.specs.Items.{Text, is_readable}
+use Rattle.sum_words.specs.Items.{ByteString, is_readable}
 use Rattle.sum_words.specs.refinement.Pieces.{pieces_cut, CutsAt, AreWords}
 
 -- ---- what can be read
 
 -- a text can be read
-pub readable_text : (word : Text) → IsUtf8 word → is_readable word ≡ true
+pub readable_text : (word : ByteString) → IsUtf8 word → is_readable word ≡ true
 readable_text word valid = rw (is_utf8-from_IsUtf8 word valid) (or-true _)
 
 -- where all words can be read, the one at a place can
-pub readable_at : (words : List Text) (i : ℕ) (r : Option (Bor Text)) → list_all is_readable words ≡ true
+pub readable_at : (words : List ByteString) (i : ℕ) (r : Option (Bor ByteString)) → list_all is_readable words ≡ true
     → option_copied r ≡ slice_get words i → IfSome r (λ word. is_readable word.now ≡ true)
 readable_at words i None all at = tt
 readable_at words i (Some word) all at =
@@ -78,7 +78,7 @@ pieces_cut-length bytes from [] = refl
 pieces_cut-length bytes from (end ∷ ends) = ap suc (pieces_cut-length bytes end ends)
 
 -- where the piece at a place is cut out of the bytes
-pub record PieceAt (bytes : List ℕ) (words : List Text) (i start end : ℕ) : Type 0 where
+pub record PieceAt (bytes : List ℕ) (words : List ByteString) (i start end : ℕ) : Type 0 where
   pub order : start ≤ end
   pub within : end ≤ length bytes
   pub piece : slice_get words i ≡ Some (take (end - start) (drop start bytes))

@@ -4,16 +4,16 @@ use Rattle.std.proofs.lemmas.Bool.{false_from_ne_true}
 use Rattle.std.proofs.lemmas.Slice.Eq.{bytes_eq-Decides}
 use Rattle.std.proofs.lemmas.List.Elements.{All-head, All-tail}
 use Rattle.sum_words.specs.declared.tool.Tool.{Tool}
-use Rattle.sum_words.specs.Items.{Text, operand, a_word, items_from}
+use Rattle.sum_words.specs.Items.{ByteString, operand, a_word, items_from}
 use Rattle.sum_words.specs.PlainWords.{is_plain, PlainWordsAreOperands}
 
 -- two dashes are no plain word
-no_dashes : (word : Text) → is_plain word ≡ true → bytes_eq word (codes "--") ≡ false
+no_dashes : (word : ByteString) → is_plain word ≡ true → bytes_eq word (codes "--") ≡ false
 no_dashes word h = false_from_ne_true _ (λ same.
     let no : false ≡ true = rw ((bytes_eq-Decides word (codes "--")).0 same) at h in cc)
 
 -- a plain word is an operand
-plain_word : (t : Tool) (word : Text) (more : List Text) → is_plain word ≡ true
+plain_word : (t : Tool) (word : ByteString) (more : List ByteString) → is_plain word ≡ true
     → items_from t a_word (word ∷ more) ≡ operand word ∷ items_from t a_word more
 plain_word t word more h = rw (no_dashes word h, h) refl
 

@@ -6,25 +6,25 @@ use Rattle.std.specs.Str.Parse.{ParsesUnsigned, digits_value}
 use Rattle.std.proofs.lemmas.Bool.{cases_lt}
 use Rattle.std.proofs.lemmas.Str.{IsUtf8-from_ascii}
 use Rattle.std.proofs.lemmas.Str.Parse.{IsNumeralModel, numerals_by_value, tells_all_ascii_digits, parse_digits}
-use Rattle.sum_words.specs.Items.{Flag, Text, Item, option}
+use Rattle.sum_words.specs.Items.{Flag, ByteString, ItemValue, option}
 use Rattle.sum_words.specs.Request.{early_answer}
 use Rattle.sum_words.specs.refinement.RequestReading.{IsNumberOf}
 use Rattle.sum_words.specs.declared.options.Flag.TheVariants as flags
 
 -- an option that doesn't end the matter
-pub ending_not : (flag : Flag) (rest : List Item) → flag ≢ flags.Help → flag ≢ flags.Version
+pub ending_not : (flag : Flag) (rest : List ItemValue) → flag ≢ flags.Help → flag ≢ flags.Version
     → early_answer (option flag ∷ rest) ≡ early_answer rest
 ending_not flags.Help rest help version = absurd (help refl)
 ending_not flags.Version rest help version = absurd (version refl)
 ending_not flag rest help version = refl
 
 -- digits are a text
-digits_ascii : (value : Text) → all_ascii_digits value ≡ true → (i : ℕ) → get_or value i 0 < 128
+digits_ascii : (value : ByteString) → all_ascii_digits value ≡ true → (i : ℕ) → get_or value i 0 < 128
 digits_ascii [] digits i = omega arith
 digits_ascii (b ∷ bs) digits zero = omega (arith, (tells_all_ascii_digits.parts b bs digits).0)
 digits_ascii (b ∷ bs) digits (suc i) = digits_ascii bs (tells_all_ascii_digits.parts b bs digits).1 i
 
-pub digits_text : (value : Text) → all_ascii_digits value ≡ true → IsUtf8 value
+pub digits_text : (value : ByteString) → all_ascii_digits value ≡ true → IsUtf8 value
 digits_text value digits = IsUtf8-from_ascii value (digits_ascii value digits)
 
 -- what parsing says of a text of digits
@@ -32,7 +32,7 @@ numerals : IsNumeralModel (λ ds. all_ascii_digits ds ≡ true) (digits_value 10
 numerals = numerals_by_value _ tells_all_ascii_digits
 
 -- what parsing answers for digits is the number, or it is too large
-number_told : {E : Type 0} (value : Text) (r : Result ℕ E)
+number_told : {E : Type 0} (value : ByteString) (r : Result ℕ E)
     → OkIff r ((0 < length value) × (digits_value 10 value < 2 ^ 64)) (digits_value 10 value)
     → all_ascii_digits value ≡ true → IsNumberOf value (result_ok r)
 number_told [] (Ok n) h digits = absurd (omega (arith, h.0.0))
@@ -44,6 +44,6 @@ number_told (b ∷ bs) (Err e) h digits = λ number. elim (cases_lt (digits_valu
 ]
 
 -- the same by the contract of parsing
-pub number_parsed : {E : Type 0} (value : Text) (r : Result ℕ E) → ParsesUnsigned 64 10 value r
+pub number_parsed : {E : Type 0} (value : ByteString) (r : Result ℕ E) → ParsesUnsigned 64 10 value r
     → all_ascii_digits value ≡ true → IsNumberOf value (result_ok r)
 number_parsed value r h digits = number_told value r (parse_digits numerals 64 value r h digits) digits

@@ -8,10 +8,10 @@ use lib.Utf8.{encode}
 use Rattle.sum_lines.specs.Shapes.{Algo, One, Any}
 use Rattle.digest_kinds.specs.declared.algo.Algo.TheVariants.{Md5, Sha256, Blake2b}
 use Rattle.sum_words.specs.Request.{Mode, Request, Work, Help, Version, Generate, Check, request}
-use Rattle.sum_words.specs.Items.{Long, Short, Text, name_or_fault, option_of_letter}
+use Rattle.sum_words.specs.Items.{Long, Short, ByteString, name_or_fault, option_of_letter}
 use Rattle.sum_words.specs.Tools.{Tool, tool_called}
 use Rattle.sum_words.specs.declared.tool.Tool.TheVariants.{Md5sum, Sha256sum, B2sum, Anysum}
-use Rattle.sum_words.specs.WordFaults.{Fault, unknown_long, ambiguous_long, value_not_allowed, value_missing, unknown_short, length_invalid, length_not_bytes, tag_with_text, zero_with_check, tag_with_check, mode_with_check, without_check, check_needed}
+use Rattle.sum_words.specs.WordFaults.{WordFaultValue, unknown_long, ambiguous_long, value_not_allowed, value_missing, unknown_short, length_invalid, length_not_bytes, tag_with_text, zero_with_check, tag_with_check, mode_with_check, without_check, check_needed}
 use Rattle.sum_words.specs.CommandLines.{unknown_tool, invoke, last_part, command_line, NeedsMemory, MayNotRead}
 use Rattle.sum_words.specs.declared.command_line.TheConstants.{PAGE}
 use Rattle.sum_lines.specs.declared.line_format.Mode.TheVariants as modes
@@ -19,11 +19,11 @@ use Rattle.sum_engine.specs.declared.settings.Report.TheVariants as reports
 use Rattle.sum_words.specs.declared.options.Flag.TheVariants as flags
 
 -- the words of a line that has one blank between each two
-abbrev pub words : String → List Text
+abbrev pub words : String → List ByteString
 words line = slice_split (λ b. b == byte " ") (codes line)
 
 -- what a tool writes in a mode, each line with a newline
-abbrev pub writes : Algo → ℕ → Mode → List Text → Result Request Fault
+abbrev pub writes : Algo → ℕ → Mode → List ByteString → Result Request WordFaultValue
 writes algo len mode operands = Ok (Work (Generate
     (record { kind = record { algo = algo; len = len }; style = record { mode = mode; zero = false } })) operands)
 
@@ -114,16 +114,16 @@ unfolding chars encode name_or_fault option_of_letter tool_called is_utf8
 odd_words = (refl, refl, refl, refl, refl)
 
 -- no argument of these is longer than the page
-not_longer : (all : List Text) → AllByRecursion (λ a. length a ≤ PAGE) all → SomeOne (λ a. PAGE < length a) all → ⊥
+not_longer : (all : List ByteString) → AllByRecursion (λ a. length a ≤ PAGE) all → SomeOne (λ a. PAGE < length a) all → ⊥
 not_longer all short (k, a, less, at, long) =
     let fits = All-from_recursion (λ a. length a ≤ PAGE) all short k a less in
     absurd (omega (arith, rw at at fits, long))
 
 -- a command line without a word is always read, where the name is no longer than the page
-no_words : (name : Text) → length name ≤ PAGE → MayNotRead (name ∷ []) → ⊥
+no_words : (name : ByteString) → length name ≤ PAGE → MayNotRead (name ∷ []) → ⊥
 no_words name h (inl none) = cc
 no_words name h (inr (inl kept)) = elim (tool_called (last_part name)) as (λ o.
-    let called : Option Tool × List Text = if is_some o then (o, []) else (None, []) in 0 < length called.1 → ⊥) [
+    let called : Option Tool × List ByteString = if is_some o then (o, []) else (None, []) in 0 < length called.1 → ⊥) [
       | None ↦ λ some. absurd (omega (arith, some))
       | Some tool ↦ λ some. absurd (omega (arith, some))
     ] kept

@@ -10,13 +10,13 @@ use Rattle.std.proofs.lemmas.List.{nil_from_length}
 use Rattle.std.proofs.lemmas.Bool.{eqb-true, and_parts, false_from_ne_true}
 use Rattle.std.proofs.Math.Bool.{and-true}
 use Rattle.sum_words.specs.Items.{Short, attached_value, a_value, a_word, length_value, is_option_word, is_readable}
-use Rattle.sum_words.specs.refinement.ItemIterator.{IsBehind}
+use Rattle.sum_words.specs.refinement.ItemIterator.{IsAfterPrefix}
 
 -- what stands behind a prefix of a text, as the search for a prefix gives it
 pub behind_prefix : (prefix text : List ℕ) (r : Option (Bor (List ℕ)))
     → MatchOption r (FindsTextPrefix prefix text None)
     (λ x. (n : ℕ) × FindsTextPrefix prefix text (Some n) × (x.now ≡ drop n text) × (length x.now + n ≡ length text))
-    → MatchOption r (starts_with ◌==◌ text prefix ≡ false) (λ x. IsBehind prefix text x.now)
+    → MatchOption r (starts_with ◌==◌ text prefix ≡ false) (λ x. IsAfterPrefix prefix text x.now)
 behind_prefix prefix text None h = sym (starts_text false prefix text h)
 behind_prefix prefix text (Some x)
     (n, f, e, l) = (sym (starts_text true prefix text (n, f, (rw f.0 f.2))), (rw f.0 at e))

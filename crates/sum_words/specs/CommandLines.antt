@@ -4,32 +4,32 @@ use Rattle.std.specs.List.{after_last, list_all}
 use Rattle.std.specs.Option.{option_map_or}
 use Rattle.sum_words.specs.declared.command_line.TheConstants.{PAGE}
 use Rattle.sum_words.specs.Tools.{Tool, tool_called}
-use Rattle.sum_words.specs.Items.{Text, is_readable}
+use Rattle.sum_words.specs.Items.{ByteString, is_readable}
 
 -- the last part of a path: what stands behind its last slash (47)
-abbrev pub last_part : Text → Text
+abbrev pub last_part : ByteString → ByteString
 last_part path = after_last (λ b. b == 47) path
 
 -- what a command line calls for: an unknown tool, or this one on these words
-pub data Call : Type 0 where
-  unknown_tool : Call
-  invoke : Tool → List Text → Call
+pub data CommandLineValue : Type 0 where
+  unknown_tool : CommandLineValue
+  invoke : Tool → List ByteString → CommandLineValue
 
 -- the tool and its words: all of them, where the program was called by a tool's name; else the first names the tool
-abbrev pub tool_and_words : List Text → Option Tool × List Text
+abbrev pub tool_and_words : List ByteString → Option Tool × List ByteString
 tool_and_words all =
     let called = option_and_then (λ name. tool_called (last_part name)) (slice_get all 0) in
     if is_some called then (called, drop 1 all) else (option_and_then tool_called (slice_get all 1), drop 2 all)
 
 -- nothing, where a word that begins with a dash is not UTF-8
-abbrev pub command_line : List Text → Option Call
+abbrev pub command_line : List ByteString → Option CommandLineValue
 command_line all = if list_all is_readable (drop 1 all)
     then Some (option_map_or (λ tool. invoke tool (tool_and_words all).1) (tool_and_words all).0 unknown_tool) else None
 
 -- memory is needed for the words: there is one to keep, or an argument is longer than the page that it is read into
-abbrev pub NeedsMemory : List Text → Type 0
+abbrev pub NeedsMemory : List ByteString → Type 0
 NeedsMemory all = (0 < length (tool_and_words all).1) ⊎ Any (λ argument. PAGE < length argument) all
 
 -- only then can the command line be left unread: such a word is not UTF-8, or memory is needed
-abbrev pub MayNotRead : List Text → Type 0
+abbrev pub MayNotRead : List ByteString → Type 0
 MayNotRead all = (command_line all ≡ None) ⊎ NeedsMemory all

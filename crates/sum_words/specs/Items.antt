@@ -10,22 +10,22 @@ use Rattle.sum_words.specs.contracts.tool.Tool.{the_type as tool_type}
 use Rattle.sum_words.specs.contracts.options.Flag.{the_type as flag_type}
 pub use Rattle.sum_words.specs.declared.options.Spelling.{Spelling}
 pub use Rattle.sum_words.specs.declared.options.Spelling.TheVariants.{Long, Short}
-use Rattle.sum_words.specs.WordFaults.{Fault, unknown_long, ambiguous_long, value_not_allowed, value_missing, unknown_short}
+use Rattle.sum_words.specs.WordFaults.{WordFaultValue, unknown_long, ambiguous_long, value_not_allowed, value_missing, unknown_short}
 use Rattle.sum_words.specs.declared.tool.Tool.TheVariants as tools
 use Rattle.sum_words.specs.declared.options.Flag.TheVariants as flags
 
 -- a list of bytes
-abbrev pub Text : Type 0
-Text = List ℕ
+abbrev pub ByteString : Type 0
+ByteString = List ℕ
 
-pub data Item : Type 0 where
-  option : Flag → Item
-  length_value : Text → Item
-  operand : Text → Item
-  fault : Fault → Item
+pub data ItemValue : Type 0 where
+  option : Flag → ItemValue
+  length_value : ByteString → ItemValue
+  operand : ByteString → ItemValue
+  fault : WordFaultValue → ItemValue
 
 -- an option's letter, where there is one, its full name, and what help says of it
-abbrev pub row_of : Flag → Text × Text × Text
+abbrev pub row_of : Flag → ByteString × ByteString × ByteString
 row_of flags.Binary = (codes "b", codes "binary", codes "mark each line as binary")
 row_of flags.Check = (codes "c", codes "check", codes "read checksums from the FILEs and check them")
 row_of flags.Length = (codes "l", codes "length", codes "digest length in bits, a multiple of 8, at most 512")
@@ -41,7 +41,7 @@ row_of flags.Warn = (codes "w", codes "warn", codes "with -c: name each improper
 row_of flags.Help = (codes "", codes "help", codes "print this text")
 row_of flags.Version = (codes "", codes "version", codes "print the version")
 
-abbrev pub full_name : Flag → Text
+abbrev pub full_name : Flag → ByteString
 full_name flag = (row_of flag).1
 
 abbrev pub takes_value : Flag → Bool
@@ -60,23 +60,23 @@ pub data NextWord : Type 0 where
   no_word : NextWord
 
 -- A long option: its name goes up to the first '=', and a value stands behind that.
-abbrev pub name_part : Text → Text
+abbrev pub name_part : ByteString → ByteString
 name_part text = before_first (λ b. b == byte "=") text
 
-abbrev pub value_part : Text → Option Text
+abbrev pub value_part : ByteString → Option ByteString
 value_part text = option_map (λ i. drop (i + 1) text) (position (λ b. b == byte "=") text)
 
 -- the option that a name means: the one that has it in full, or else the only one whose full name begins with it
-abbrev pub the_one : Text → List Flag → Result Flag Fault
+abbrev pub the_one : ByteString → List Flag → Result Flag WordFaultValue
 the_one name [] = Err (unknown_long name)
 the_one name (flag ∷ []) = Ok flag
 the_one name several = Err (ambiguous_long name)
 
-unfoldable pub name_or_fault : Tool → Text → Result Flag Fault
+unfoldable pub name_or_fault : Tool → ByteString → Result Flag WordFaultValue
 name_or_fault t name = option_map_or (λ flag. Ok flag) (find (λ flag. bytes_eq name (full_name flag)) (flags_of t))
     (the_one name (filter (λ flag. starts_with ◌==◌ (full_name flag) name) (flags_of t)))
 
-abbrev pub long_option : Result Flag Fault → Option Text → List Item × NextWord
+abbrev pub long_option : Result Flag WordFaultValue → Option ByteString → List ItemValue × NextWord
 long_option (Err f) value = (fault f ∷ [], no_word)
 long_option (Ok flag) None = if takes_value flag then ([], a_value Long) else (option flag ∷ [], a_word)
 long_option (Ok flag) (Some value) =
@@ -86,34 +86,34 @@ long_option (Ok flag) (Some value) =
 unfoldable pub option_of_letter : Tool → ℕ → Option Flag
 option_of_letter t c = find (λ flag. bytes_eq (row_of flag).0 (c ∷ [])) (flags_of t)
 
-abbrev pub attached_value : List ℕ → List Item × NextWord
+abbrev pub attached_value : List ℕ → List ItemValue × NextWord
 attached_value [] = ([], a_value Short)
 attached_value cs = (length_value (encode_utf8_all cs) ∷ [], a_word)
 
-abbrev pub letter_then : ℕ → Option Flag → List ℕ → List Item × NextWord → List Item × NextWord
+abbrev pub letter_then : ℕ → Option Flag → List ℕ → List ItemValue × NextWord → List ItemValue × NextWord
 letter_then c None cs rest = (fault (unknown_short c) ∷ [], no_word)
 letter_then c (Some flag) cs rest = if takes_value flag then attached_value cs else (option flag ∷ rest.0, rest.1)
 
-abbrev pub cluster : Tool → List ℕ → List Item × NextWord
+abbrev pub cluster : Tool → List ℕ → List ItemValue × NextWord
 cluster t [] = ([], a_word)
 cluster t (c ∷ cs) = letter_then c (option_of_letter t c) cs (cluster t cs)
 
 -- whether a word can be read: one that begins with a dash has to be UTF-8, any other may hold any bytes
-abbrev pub is_readable : Text → Bool
+abbrev pub is_readable : ByteString → Bool
 is_readable word = not (starts_with ◌==◌ word (codes "-")) || is_utf8 word
 
 -- whether a word begins with a dash and goes on
-abbrev pub is_option_word : Text → Bool
+abbrev pub is_option_word : ByteString → Bool
 is_option_word word = starts_with ◌==◌ word (codes "-") && not (bytes_eq word (codes "-"))
 
 -- an operand; or behind '-' a cluster; or behind "--" a long option
-abbrev pub read_word : Tool → Text → List Item × NextWord
+abbrev pub read_word : Tool → ByteString → List ItemValue × NextWord
 read_word t word = if not (is_option_word word) then (operand word ∷ [], a_word)
     else if not (starts_with ◌==◌ word (codes "--")) then cluster t (chars (drop 1 word))
     else long_option (name_or_fault t (name_part (drop 2 word))) (value_part (drop 2 word))
 
 -- all words; those behind a "--" that is no option's value are operands
-abbrev pub items_from : Tool → NextWord → List Text → List Item
+abbrev pub items_from : Tool → NextWord → List ByteString → List ItemValue
 items_from t no_word words = []
 items_from t a_word [] = []
 items_from t a_word (w ∷ ws) =
@@ -122,14 +122,14 @@ items_from t (a_value spelling) [] = fault (value_missing spelling) ∷ []
 items_from t (a_value spelling) (w ∷ ws) = length_value w ∷ items_from t a_word ws
 
 -- an item as an option, as a length value, or as an operand
-abbrev pub option_in : Item → Option Flag
+abbrev pub option_in : ItemValue → Option Flag
 option_in (option flag) = Some flag
 option_in item = None
 
-abbrev pub value_in : Item → Option Text
+abbrev pub value_in : ItemValue → Option ByteString
 value_in (length_value value) = Some value
 value_in item = None
 
-abbrev pub operand_in : Item → Option Text
+abbrev pub operand_in : ItemValue → Option ByteString
 operand_in (operand word) = Some word
 operand_in item = None

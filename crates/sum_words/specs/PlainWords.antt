@@ -2,17 +2,17 @@
 use Rattle.std.specs.Prelude.{◌≡◌, not, Bool, List, ◌∷◌, ◌++◌, map, codes}
 use Rattle.std.specs.List.{AllPass}
 use Rattle.sum_words.specs.declared.tool.Tool.{Tool}
-use Rattle.sum_words.specs.Items.{Text, operand, a_word, is_option_word, items_from}
+use Rattle.sum_words.specs.Items.{ByteString, operand, a_word, is_option_word, items_from}
 
 -- a word that doesn't begin with a dash, or is a dash alone
-abbrev pub is_plain : Text → Bool
+abbrev pub is_plain : ByteString → Bool
 is_plain word = not (is_option_word word)
 
 -- plain words are operands, whatever follows them
 abbrev pub PlainWordsAreOperands : Type 0
-PlainWordsAreOperands = (t : Tool) (words more : List Text) → AllPass is_plain words →
+PlainWordsAreOperands = (t : Tool) (words more : List ByteString) → AllPass is_plain words →
     items_from t a_word (words ++ more) ≡ map operand words ++ items_from t a_word more
 
 -- behind two dashes that are no option's value every word is one
 abbrev pub WordsBehindAreOperands : Type 0
-WordsBehindAreOperands = (t : Tool) (words : List Text) → items_from t a_word (codes "--" ∷ words) ≡ map operand words
+WordsBehindAreOperands = (t : Tool) (words : List ByteString) → items_from t a_word (codes "--" ∷ words) ≡ map operand words

@@ -14,13 +14,13 @@ use Rattle.digest_kinds.specs.Kinds.{KindValue, full_kind, blake2b_of_bits}
 pub use Rattle.sum_lines.specs.declared.line_format.Mode.{Mode}
 use Rattle.sum_lines.specs.declared.line_format.Style.{Style}
 pub use Rattle.sum_engine.specs.declared.settings.Report.{Report}
-use Rattle.sum_words.specs.Items.{Flag, Text, Item, option, fault, a_word, items_from, option_in, value_in, operand_in}
+use Rattle.sum_words.specs.Items.{Flag, ByteString, ItemValue, option, fault, a_word, items_from, option_in, value_in, operand_in}
 use Rattle.sum_words.specs.contracts.options.Flag.{the_type}
 pub use Rattle.sum_words.specs.declared.request.Request.{Request}
 pub use Rattle.sum_words.specs.declared.request.Request.TheVariants.{Work, Help, Version}
 pub use Rattle.sum_words.specs.declared.request.Job.{Job}
 pub use Rattle.sum_words.specs.declared.request.Job.TheVariants.{Generate, Check}
-use Rattle.sum_words.specs.WordFaults.{Fault, length_invalid, length_not_bytes, tag_with_text, zero_with_check, tag_with_check, mode_with_check, without_check, check_needed}
+use Rattle.sum_words.specs.WordFaults.{WordFaultValue, length_invalid, length_not_bytes, tag_with_text, zero_with_check, tag_with_check, mode_with_check, without_check, check_needed}
 use Rattle.sum_lines.specs.declared.line_format.Mode.TheVariants as modes
 use Rattle.sum_engine.specs.declared.settings.Report.TheVariants as reports
 use Rattle.sum_words.specs.declared.options.Flag.TheVariants as flags
@@ -47,21 +47,21 @@ report_flag reports.Warn = Some flags.Warn
 report_flag reports.Status = Some flags.Status
 
 -- one or more digits
-abbrev pub is_number : Text → Bool
+abbrev pub is_number : ByteString → Bool
 is_number value = not (bytes_eq value []) && all_ascii_digits value
 
 -- the fault of a length value, by the one of its bits
-abbrev pub length_fault : Text → LengthFault → Fault
+abbrev pub length_fault : ByteString → LengthFault → WordFaultValue
 length_fault value TooLong = length_invalid value
 length_fault value NotBytes = length_not_bytes value
 
 -- the kind that a length value asks for, in bits
-abbrev pub length_kind : Text → Result KindValue Fault
+abbrev pub length_kind : ByteString → Result KindValue WordFaultValue
 length_kind value = if not (is_number value) then Err (length_invalid value)
     else result_map_both (λ kind. kind) (length_fault value) (blake2b_of_bits (digits_value 10 value))
 
 -- the faults of the options in the order in which they count, each with when it holds
-abbrev pub faults : List Flag → List (Bool × Fault)
+abbrev pub faults : List Flag → List (Bool × WordFaultValue)
 faults given =
     let check = has flags.Check given in
     (has flags.Tag given && is_last flags.Text mode_flags given, tag_with_text)
@@ -82,13 +82,13 @@ report_of given = if is_last flags.Status report_flags given then reports.Status
     else if is_last flags.Warn report_flags given then reports.Warn
     else if is_last flags.Quiet report_flags given then reports.Quiet else reports.All
 
-abbrev pub generation_job : Algos → Option KindValue → List Flag → Result Job Fault
+abbrev pub generation_job : Algos → Option KindValue → List Flag → Result Job WordFaultValue
 generation_job Any kind given = Err check_needed
 generation_job (One algo) kind given =
     let style : Style = record { mode = mode_of given; zero = has flags.Zero given } in
     Ok (Generate (record { kind = unwrap_or kind (full_kind algo); style = style }))
 
-abbrev pub job_of : Algos → Option KindValue → List Flag → Result Job Fault
+abbrev pub job_of : Algos → Option KindValue → List Flag → Result Job WordFaultValue
 job_of algos kind given = if has flags.Check given then Ok (Check (record {
   algos = algos;
   report = report_of given;
@@ -97,23 +97,23 @@ job_of algos kind given = if has flags.Check given then Ok (Check (record {
 })) else generation_job algos kind given
 
 -- the kind that the last length value asks for; where it is at fault, that counts before the first of the faults above
-abbrev pub kind_asked : List Text → Result (Option KindValue) Fault
+abbrev pub kind_asked : List ByteString → Result (Option KindValue) WordFaultValue
 kind_asked values = option_transpose (option_map length_kind (last_or None values))
 
-abbrev pub job_or_fault : Algos → Result (Option KindValue) Fault → List Flag → Result Job Fault
+abbrev pub job_or_fault : Algos → Result (Option KindValue) WordFaultValue → List Flag → Result Job WordFaultValue
 job_or_fault algos (Err f) given = Err f
 job_or_fault algos (Ok kind) given =
     option_map_or Err (option_map (λ row. row.1) (find (λ row. row.0) (faults given))) (job_of algos kind given)
 
 -- the first fault among the items, --help or --version decides where there is one
-abbrev pub early_answer : List Item → Option (Result Request Fault)
+abbrev pub early_answer : List ItemValue → Option (Result Request WordFaultValue)
 early_answer [] = None
 early_answer (fault f ∷ xs) = Some (Err f)
 early_answer (option flags.Help ∷ xs) = Some (Ok Help)
 early_answer (option flags.Version ∷ xs) = Some (Ok Version)
 early_answer (x ∷ xs) = early_answer xs
 
-abbrev pub request : Tool → List Text → Result Request Fault
+abbrev pub request : Tool → List ByteString → Result Request WordFaultValue
 request t words =
     let xs = items_from t a_word words in
     unwrap_or (early_answer xs) (result_map_both (λ job. Work job (filter_map operand_in xs)) (λ f. f)

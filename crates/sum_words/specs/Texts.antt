@@ -7,11 +7,11 @@ use Rattle.digest_kinds.specs.Kinds.{tag}
 use Rattle.sum_lines.specs.Escape.{escape}
 use Rattle.sum_engine.specs.declared.stop.Stop.{Stop}
 use Rattle.sum_engine.specs.declared.stop.Stop.TheVariants.{Memory, Write}
-use Rattle.sum_words.specs.Items.{Long, Short, Flag, Text, row_of, full_name, takes_value, flags_of}
-use Rattle.sum_words.specs.WordFaults.{Fault, unknown_long, ambiguous_long, value_not_allowed, value_missing, unknown_short, length_invalid, length_not_bytes, tag_with_text, zero_with_check, tag_with_check, mode_with_check, without_check, check_needed}
+use Rattle.sum_words.specs.Items.{Long, Short, Flag, ByteString, row_of, full_name, takes_value, flags_of}
+use Rattle.sum_words.specs.WordFaults.{WordFaultValue, unknown_long, ambiguous_long, value_not_allowed, value_missing, unknown_short, length_invalid, length_not_bytes, tag_with_text, zero_with_check, tag_with_check, mode_with_check, without_check, check_needed}
 
 -- a fault: what its text shows of the words is escaped as names are
-abbrev pub wording : Fault → Text
+abbrev pub wording : WordFaultValue → ByteString
 wording (unknown_long name) = codes "unrecognized option '--" ++ escape name ++ codes "'"
 wording (ambiguous_long name) = codes "option '--" ++ escape name ++ codes "' is ambiguous"
 wording (value_not_allowed f) = codes "option '--" ++ full_name f ++ codes "' doesn't allow an argument"
@@ -28,31 +28,31 @@ wording (without_check f) = codes "the --" ++ full_name f ++ codes " option is m
 wording check_needed = codes "--check is required"
 
 -- the two lines of a tool for a fault
-abbrev pub fault_lines : Tool → Fault → Text
+abbrev pub fault_lines : Tool → WordFaultValue → ByteString
 fault_lines t f =
     name_of t ++ codes ": " ++ wording f ++ codes "\nTry '" ++ name_of t ++ codes " --help' for more information.\n"
 
 -- help: what the tool is for, and its options
-abbrev pub purpose : Algos → Text
+abbrev pub purpose : Algos → ByteString
 purpose (One algo) = codes "Print or check " ++ tag algo ++ codes " checksums."
 purpose Any = codes "Check checksums of tagged lines."
 
 -- an option's line of help: its letter, its full name in 18 columns, and what is said of it
-abbrev pub help_line : Flag → Text
+abbrev pub help_line : Flag → ByteString
 help_line flag =
     let name = codes "--" ++ full_name flag ++ (if takes_value flag then codes "=BITS" else []) in
     (if bytes_eq (row_of flag).0 [] then codes "      " else codes "  -" ++ (row_of flag).0 ++ codes ", ")
     ++ name ++ replicate (18 - length name) (byte " ") ++ (row_of flag).2 ++ codes "\n"
 
-abbrev pub help : Tool → Text
+abbrev pub help : Tool → ByteString
 help t =
     codes "Usage: " ++ name_of t ++ codes " [OPTION]... [FILE]...\n"
     ++ purpose (algos_of t) ++ codes " With no FILE, or when FILE is -, read standard input.\n"
     ++ flat_map help_line (flags_of t)
 
-abbrev pub version : Tool → Text
+abbrev pub version : Tool → ByteString
 version t = name_of t ++ codes " (digests), profile 2\n"
 
-abbrev pub stop_line : Tool → Stop → Text
+abbrev pub stop_line : Tool → Stop → ByteString
 stop_line t Memory = name_of t ++ codes ": memory exhausted\n"
 stop_line t Write = name_of t ++ codes ": write error\n"

@@ -4,17 +4,17 @@ use Rattle.std.specs.Prelude.{ℕ, List}
 use Rattle.sum_words.specs.declared.options.Flag.{Flag}
 use Rattle.sum_words.specs.declared.options.Spelling.{Spelling}
 
-pub data Fault : Type 0 where
-  unknown_long : List ℕ → Fault
-  ambiguous_long : List ℕ → Fault
-  value_not_allowed : Flag → Fault
-  value_missing : Spelling → Fault
-  unknown_short : ℕ → Fault
-  length_invalid : List ℕ → Fault
-  length_not_bytes : List ℕ → Fault
-  tag_with_text : Fault
-  zero_with_check : Fault
-  tag_with_check : Fault
-  mode_with_check : Fault
-  without_check : Flag → Fault
-  check_needed : Fault
+pub data WordFaultValue : Type 0 where
+  unknown_long : List ℕ → WordFaultValue
+  ambiguous_long : List ℕ → WordFaultValue
+  value_not_allowed : Flag → WordFaultValue
+  value_missing : Spelling → WordFaultValue
+  unknown_short : ℕ → WordFaultValue
+  length_invalid : List ℕ → WordFaultValue
+  length_not_bytes : List ℕ → WordFaultValue
+  tag_with_text : WordFaultValue
+  zero_with_check : WordFaultValue
+  tag_with_check : WordFaultValue
+  mode_with_check : WordFaultValue
+  without_check : Flag → WordFaultValue
+  check_needed : WordFaultValue

@@ -1,7 +1,7 @@
 //! The command line: which tool is asked for, and on which words.
 ghost use Rattle.std.specs.Prelude.{◌≡◌, ◌≤◌, ◌<◌, ◌*◌, vec_len, take, IfOk, IfSome, OnOk, OnErr};
 ghost use Rattle.std.specs.Option.{option_map};
-ghost use Rattle.sum_words.specs.refinement.Arguments.{ArgumentIs, WordsAre, IsNameOf, IsFirstWord, CallIs, call_of};
+ghost use Rattle.sum_words.specs.refinement.Arguments.{ArgumentIs, WordsAre, IsNameOf, IsFirstWord, IsCommandLine, command_line_value};
 ghost use Rattle.sum_words.specs.refinement.Arguments.{IsLonger, HasArgument, MayBeUnread};
 ghost use Rattle.sum_words.specs.CommandLines.{last_part};
 
@@ -36,7 +36,7 @@ pub fn read_command_line<A: Allocator + Copy, G: Arguments>(
     alloc: A,
     arguments: &G,
 ) -> Result<CommandLine<A>, NotRead>
-    ensures line { IfOk result (λ line. CallIs (G.known arguments.now) (call_of line)) }
+    ensures line { IfOk result (λ line. IsCommandLine (G.known arguments.now) (command_line_value line)) }
     ensures not_read { OnErr result (MayBeUnread (G.known arguments.now)) }
 {
     let mut room = Room {

@@ -1,9 +1,9 @@
 //! What the program itself writes on standard error: for a fault in the words, for a tool that it doesn't know, and for
 //! a run that stopped.
 ghost use Rattle.std.specs.Prelude.{◌≡◌, ◌++◌, codes};
-ghost use Rattle.sum_lines.specs.Sinks.{Writes};
+ghost use Rattle.sum_lines.specs.Sinks.{WritesAll};
 ghost use Rattle.sum_lines.specs.refinement.PartTexts.{part_text};
-ghost use Rattle.sum_words.specs.WordFaults.{Fault};
+ghost use Rattle.sum_words.specs.WordFaults.{WordFaultValue};
 ghost use Rattle.sum_words.specs.refinement.ItemIterator.{fault_of};
 ghost use Rattle.sum_words.specs.declared.tool.Tool.{Tool};
 ghost use Rattle.sum_words.specs.Tools.{name_of};
@@ -49,7 +49,7 @@ pub enum WordFault<'a> {
 /// Writes the two lines of a fault. A fault of the sink where a write failed; of what was held and of the lines a
 /// proper prefix is then handed on, and nothing is held.
 pub fn put_fault<E: Sink>(err: &mut E, tool: Tool, fault: &WordFault<'_>) -> Result<(), SinkFault>
-    ensures { Writes (E.state err.old) (E.state err.new) (fault_lines tool (fault_of fault.now)) result }
+    ensures { WritesAll (E.state err.old) (E.state err.new) (fault_lines tool (fault_of fault.now)) result }
 {
     let mut buffer = [0; 4];
     let (prefix, shown, suffix) = wording(*fault, &mut buffer);
@@ -64,8 +64,8 @@ fn put_lines<'a, E: Sink>(
     shown: Part<'a>,
     suffix: &'a str,
 ) -> Result<(), SinkFault>
-    ensures { (f : Fault) → prefix.now ++ part_text shown.entry ++ suffix.now ≡ wording f →
-        Writes (E.state err.old) (E.state err.new) (fault_lines tool f) result }
+    ensures { (f : WordFaultValue) → prefix.now ++ part_text shown.entry ++ suffix.now ≡ wording f →
+        WritesAll (E.state err.old) (E.state err.new) (fault_lines tool f) result }
 {
     let name = Part::Bytes(tool.name().as_bytes());
     let colon = Part::Bytes(b": ");
@@ -109,7 +109,7 @@ const NOTHING: Part<'static> = Part::Bytes(b"");
 /// Writes the line for an unknown or missing tool. A fault of the sink where a write failed; of what was held and of
 /// the line a proper prefix is then handed on, and nothing is held.
 pub fn put_unknown<E: Sink>(err: &mut E) -> Result<(), SinkFault>
-    ensures { Writes (E.state err.old) (E.state err.new) (codes "digests: unknown tool\n") result }
+    ensures { WritesAll (E.state err.old) (E.state err.new) (codes "digests: unknown tool\n") result }
 {
     put_all(err, b"digests: unknown tool\n")
 }
@@ -117,7 +117,7 @@ pub fn put_unknown<E: Sink>(err: &mut E) -> Result<(), SinkFault>
 /// Writes the line for a run of the tool that stopped. A fault of the sink where a write failed; of what was held and
 /// of the line a proper prefix is then handed on, and nothing is held.
 pub fn put_stop<E: Sink>(err: &mut E, tool: Tool, stop: Stop) -> Result<(), SinkFault>
-    ensures { Writes (E.state err.old) (E.state err.new) (stop_line tool stop) result }
+    ensures { WritesAll (E.state err.old) (E.state err.new) (stop_line tool stop) result }
 {
     let name = Part::Bytes(tool.name().as_bytes());
     put_parts(err, &[name, behind_name(stop)])

@@ -5,8 +5,8 @@ ghost use Rattle.std.specs.List.{starts_with};
 ghost use Rattle.std.specs.Str.{chars};
 ghost use Rattle.sum_words.specs.Items.{a_word, name_part, value_part, long_option, name_or_fault};
 ghost use Rattle.sum_words.specs.Items.{attached_value, cluster, is_option_word, is_readable, items_from, operand_in};
-ghost use Rattle.sum_words.specs.refinement.ItemIterator.{items_to_come, read_then, step_says, item_of, TakesFirst};
-ghost use Rattle.sum_words.specs.refinement.ItemIterator.{IsBehind};
+ghost use Rattle.sum_words.specs.refinement.ItemIterator.{remaining_items, read_then, step_items, item_of, TakesFirst};
+ghost use Rattle.sum_words.specs.refinement.ItemIterator.{IsAfterPrefix};
 ghost use Rattle.sum_words.specs.declared.tool.Tool.{Tool};
 
 use crate::faults::WordFault;
@@ -54,12 +54,12 @@ enum Step<'a> {
 
 impl<'a> Model for Items<'a> {
     ghost use Rattle.std.specs.Prelude.{List, drop};
-    ghost use Rattle.sum_words.specs.Items.{Item};
-    ghost use Rattle.sum_words.specs.refinement.ItemIterator.{items_to_come};
+    ghost use Rattle.sum_words.specs.Items.{ItemValue};
+    ghost use Rattle.sum_words.specs.refinement.ItemIterator.{remaining_items};
 
-    ghost Value = { List Item };
+    ghost Value = { List ItemValue };
 
-    ghost view = { λ i. items_to_come i.tool i.state (drop i.at i.words) };
+    ghost view = { λ i. remaining_items i.tool i.state (drop i.at i.words) };
 }
 
 impl<'a> Items<'a> {
@@ -108,8 +108,8 @@ fn say<'a>(
     state: &mut State<'a>,
     step: Step<'a>,
 ) -> Option<Item<'a>>
-    ensures { TakesFirst item_of (step_says tool step.entry (drop at.old words.now))
-        result (items_to_come tool state.new (drop at.new words.now)) }
+    ensures { TakesFirst item_of (step_items tool step.entry (drop at.old words.now))
+        result (remaining_items tool state.new (drop at.new words.now)) }
 {
     match step {
         Step::Say(item, next) => {
@@ -137,7 +137,7 @@ fn say<'a>(
 #[tactic(auto, using(crate::proofs::WordLemmas::option_text))]
 fn word_step<'a>(tool: Tool, word: &'a [u8]) -> Step<'a>
     requires { is_readable word.now ≡ true }
-    ensures { (ws : List (List ℕ)) → step_says tool result ws ≡ items_from tool a_word (word.now ∷ ws) }
+    ensures { (ws : List (List ℕ)) → step_items tool result ws ≡ items_from tool a_word (word.now ∷ ws) }
 {
     if !is_option_word(word) {
         return Step::Say(Item::Operand(word), State::Word);
@@ -158,7 +158,7 @@ fn is_option_word(word: &[u8]) -> bool
 // What such a word makes of reading.
 fn option_step<'a>(tool: Tool, word: &'a str) -> Step<'a>
     requires { is_option_word word.now ≡ true }
-    ensures { (ws : List (List ℕ)) → step_says tool result ws ≡ items_from tool a_word (word.now ∷ ws) }
+    ensures { (ws : List (List ℕ)) → step_items tool result ws ≡ items_from tool a_word (word.now ∷ ws) }
 {
     if word == "--" {
         return Step::OnlyOperands;
@@ -172,7 +172,7 @@ fn option_step<'a>(tool: Tool, word: &'a str) -> Step<'a>
 
 // What a long option makes of reading, its two dashes left out.
 fn long_step<'a>(tool: Tool, text: &'a str) -> Step<'a>
-    ensures { (ws : List (List ℕ)) → step_says tool result ws
+    ensures { (ws : List (List ℕ)) → step_items tool result ws
         ≡ read_then tool (long_option (name_or_fault tool (name_part text.now)) (value_part text.now)) ws }
 {
     let (name, value) = name_and_value(text);
@@ -190,7 +190,7 @@ fn long_step<'a>(tool: Tool, text: &'a str) -> Step<'a>
 
 // What a letter of a cluster makes of reading, with the rest of the word behind it.
 fn letter_step<'a>(tool: Tool, letter: char, rest: &'a str) -> Step<'a>
-    ensures { (ws : List (List ℕ)) → step_says tool result ws
+    ensures { (ws : List (List ℕ)) → step_items tool result ws
         ≡ read_then tool (cluster tool (letter ∷ chars rest.now)) ws }
 {
     match Flag::of_letter(tool, letter) {
@@ -204,7 +204,7 @@ fn letter_step<'a>(tool: Tool, letter: char, rest: &'a str) -> Step<'a>
 #[tactic(auto, using(crate::proofs::WordLemmas::no_value, crate::proofs::WordLemmas::own_value))]
 fn attached_value(rest: &str) -> Step<'_>
     ensures { (t : Tool) (ws : List (List ℕ)) →
-        step_says t result ws ≡ read_then t (attached_value (chars rest.now)) ws }
+        step_items t result ws ≡ read_then t (attached_value (chars rest.now)) ws }
 {
     if rest.is_empty() {
         Step::Value(Spelling::Short)
@@ -215,7 +215,7 @@ fn attached_value(rest: &str) -> Step<'_>
 
 // How reading goes on with the rest of a cluster.
 fn rest_of_cluster(letters: &str) -> State<'_>
-    ensures { (t : Tool) (ws : List (List ℕ)) → items_to_come t result ws
+    ensures { (t : Tool) (ws : List (List ℕ)) → remaining_items t result ws
         ≡ read_then t (cluster t (chars letters.now)) ws }
 {
     match first(letters) {
@@ -254,7 +254,7 @@ fn first(text: &str) -> Option<(char, &str)>
 #[tactic(auto, using(crate::proofs::WordLemmas::behind_prefix))]
 fn behind<'a>(prefix: &str, word: &'a str) -> Option<&'a str>
     ensures { MatchOption result (starts_with ◌==◌ word.now prefix.now ≡ false)
-        (λ rest. IsBehind prefix.now word.now rest.now) }
+        (λ rest. IsAfterPrefix prefix.now word.now rest.now) }
 {
     word.strip_prefix(prefix)
 }

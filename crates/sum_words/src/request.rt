@@ -2,10 +2,10 @@
 ghost use Rattle.std.specs.Prelude.{◌≡◌, ◌∷◌, List, [], Ok, filter_map, find};
 ghost use Rattle.std.specs.Option.{option_copied, option_map, option_transpose};
 ghost use Rattle.std.specs.Str.{all_ascii_digits};
-ghost use Rattle.sum_words.specs.Items.{Item as ItemSaid, a_word, items_from, option, option_in};
+ghost use Rattle.sum_words.specs.Items.{ItemValue as ItemSaid, a_word, items_from, option, option_in};
 ghost use Rattle.sum_words.specs.refinement.ItemIterator.{fault_of};
 ghost use Rattle.sum_words.specs.Request.{length_kind, mode_of, faults, job_or_fault, request};
-ghost use Rattle.sum_words.specs.refinement.RequestReading.{IsChosenBy, IsReadingOf, result_of, IsNumberOf};
+ghost use Rattle.sum_words.specs.refinement.RequestReading.{IsChosenBy, IsScanOf, result_of, IsNumberOf};
 
 use crate::faults::WordFault;
 use crate::items::{Item, Items, Operands};
@@ -83,7 +83,7 @@ enum Reading<'a> {
 }
 
 fn read_options<'a, A: Allocator>(tool: Tool, words: &'a Words<A>) -> Reading<'a>
-    ensures { IsReadingOf result (items_from tool a_word words.now) }
+    ensures { IsScanOf result (items_from tool a_word words.now) }
 {
     let mut items = Items::new(tool, words);
     let mut chosen = Chosen {

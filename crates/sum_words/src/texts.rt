@@ -1,6 +1,6 @@
 //! The help and the version text.
 ghost use Rattle.std.specs.Prelude.{◌≡◌, ◌++◌, flat_map};
-ghost use Rattle.sum_lines.specs.Sinks.{Writes};
+ghost use Rattle.sum_lines.specs.Sinks.{WritesAll};
 ghost use Rattle.sum_lines.specs.refinement.PartTexts.{part_text};
 ghost use Rattle.sum_words.specs.Items.{flags_of};
 ghost use Rattle.sum_words.specs.Texts.{help, help_line, purpose, version};
@@ -13,7 +13,7 @@ use sum_lines::{Part, Sink, SinkFault, put_parts};
 /// Writes the help text. A fault of the sink where a write failed; of what was held and of the text a proper prefix is
 /// then handed on, and nothing is held.
 pub fn put_help<O: Sink>(out: &mut O, tool: Tool) -> Result<(), SinkFault>
-    ensures { Writes (O.state out.old) (O.state out.new) (help tool) result }
+    ensures { WritesAll (O.state out.old) (O.state out.new) (help tool) result }
 {
     let usage = Part::Bytes(b"Usage: ");
     let name = Part::Bytes(tool.name().as_bytes());
@@ -57,7 +57,7 @@ fn options(tool: Tool) -> (Part<'static>, Part<'static>, Part<'static>)
 /// Writes the version text. A fault of the sink where a write failed; of what was held and of the text a proper prefix
 /// is then handed on, and nothing is held.
 pub fn put_version<O: Sink>(out: &mut O, tool: Tool) -> Result<(), SinkFault>
-    ensures { Writes (O.state out.old) (O.state out.new) (version tool) result }
+    ensures { WritesAll (O.state out.old) (O.state out.new) (version tool) result }
 {
     let name = Part::Bytes(tool.name().as_bytes());
     put_parts(out, &[name, Part::Bytes(b" (digests), profile 2\n")])

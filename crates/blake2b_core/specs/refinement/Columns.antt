@@ -20,8 +20,8 @@ words v =
     word v 2 0 ∷ word v 2 1 ∷ word v 2 2 ∷ word v 2 3 ∷ word v 3 0 ∷ word v 3 1 ∷ word v 3 2 ∷ word v 3 3 ∷ []
 
 -- the words of a row, turned to the left by k places
-abbrev pub turned : List ℕ → ℕ → List ℕ
-turned row k = map (λ j. row ! ((j + k) % 4)) (range_with_len 0 4)
+abbrev pub rotated_row : List ℕ → ℕ → List ℕ
+rotated_row row k = map (λ j. row ! ((j + k) % 4)) (range_with_len 0 4)
 
 -- the sixteen words of a block, each of eight bytes, the lowest first
 abbrev pub block_words : List ℕ → List ℕ

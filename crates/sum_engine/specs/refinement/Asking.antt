@@ -1,27 +1,27 @@
 -- Joins asking one name to the world.
 use Rattle.std.specs.Prelude.{ℕ, ◌≡◌, List, [], ◌∷◌, length, Option, None, Some, Ok, Err, ⊤}
 use Rattle.digest_kinds.specs.Kinds.{KindValue}
-use Rattle.sum_sources.specs.Contents.{Content, WhereTold, Reply, SourceState, Telling}
-use Rattle.sum_engine.specs.Moments.{Moment}
+use Rattle.sum_sources.specs.Contents.{Content, IfKnown, Reply, SourceState, KnownSource}
+use Rattle.sum_engine.specs.Moments.{StreamsState}
 use Rattle.digest_kinds.specs.Limits.{one_more}
 pub use Rattle.sum_engine.specs.declared.asking.Asked.{Asked}
 use Rattle.sum_engine.specs.Runs.{World, after, digest_or_fault, reply}
 use Rattle.sum_engine.specs.declared.asking.Asked.TheVariants as asked
 
 -- the world at a moment, where the source and standard input tell
-abbrev pub world_by : Option Telling → Option Content → Option World
+abbrev pub world_by : Option KnownSource → Option Content → Option World
 world_by None c = None
 world_by (Some t) None = None
 world_by (Some t) (Some c) = Some (record { answer = t.answer; asked = t.asked; input = c })
 
-abbrev pub world_of : {S : Type 0} → (S → SourceState) → Moment S → Option World
+abbrev pub world_of : {S : Type 0} → (S → SourceState) → StreamsState S → Option World
 world_of state m = world_by (state m.source).known m.input
 
 -- what came of a reply
-abbrev pub IsAsked : KindValue → Reply → Asked → Type 0
-IsAsked kind r (asked.Read d) = (c : Content) × (r ≡ Ok c) × (digest_or_fault kind (Ok c) ≡ Ok d)
-IsAsked kind r (asked.NotOpened f) = r ≡ Err f
-IsAsked kind r (asked.Broken f) = (c : Content) × (r ≡ Ok c) × (digest_or_fault kind (Ok c) ≡ Err f)
+abbrev pub IsHashOutcome : KindValue → Reply → Asked → Type 0
+IsHashOutcome kind r (asked.Read d) = (c : Content) × (r ≡ Ok c) × (digest_or_fault kind (Ok c) ≡ Ok d)
+IsHashOutcome kind r (asked.NotOpened f) = r ≡ Err f
+IsHashOutcome kind r (asked.Broken f) = (c : Content) × (r ≡ Ok c) × (digest_or_fault kind (Ok c) ≡ Err f)
 
 -- what was read of a content
 abbrev pub IsRead : KindValue → Content → Asked → Type 0
@@ -30,19 +30,19 @@ IsRead kind c (asked.NotOpened f) = ⊥
 IsRead kind c (asked.Broken f) = digest_or_fault kind (Ok c) ≡ Err f
 
 -- the name was asked, and this came of it; without memory it wasn't asked
-abbrev pub AskOf : KindValue → World → World → List ℕ → Option Asked → Type 0
-AskOf kind w v name None = v ≡ w
-AskOf kind w v name (Some a) = (v ≡ after w (name ∷ [])) × IsAsked kind (reply w name) a
+abbrev pub HashesName : KindValue → World → World → List ℕ → Option Asked → Type 0
+HashesName kind w v name None = v ≡ w
+HashesName kind w v name (Some a) = (v ≡ after w (name ∷ [])) × IsHashOutcome kind (reply w name) a
 
-abbrev pub AskGives : KindValue → Option World → Option World → List ℕ → Option Asked → Type 0
-AskGives kind w v name r = WhereTold w v (λ w v. AskOf kind w v name r)
+abbrev pub HashesNameIfKnown : KindValue → Option World → Option World → List ℕ → Option Asked → Type 0
+HashesNameIfKnown kind w v name r = IfKnown w v (λ w v. HashesName kind w v name r)
 
 -- a digest has the kind's length
-abbrev pub Sized : KindValue → Option Asked → Type 0
-Sized kind None = ⊤
-Sized kind (Some (asked.Read d)) = length d ≡ kind.len
-Sized kind (Some (asked.NotOpened f)) = ⊤
-Sized kind (Some (asked.Broken f)) = ⊤
+abbrev pub HasKindLen : KindValue → Option Asked → Type 0
+HasKindLen kind None = ⊤
+HasKindLen kind (Some (asked.Read d)) = length d ≡ kind.len
+HasKindLen kind (Some (asked.NotOpened f)) = ⊤
+HasKindLen kind (Some (asked.Broken f)) = ⊤
 
 -- the source was refused memory, once, where nothing is answered
 abbrev pub RefusedUnless : {A : Type 0} → SourceState → SourceState → Option A → Type 0

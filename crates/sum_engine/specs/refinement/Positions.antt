@@ -3,7 +3,7 @@ use Rattle.sum_engine.specs.declared.listing.Listing.{Listing}
 use Rattle.sum_engine.specs.declared.position.Position.{Position}
 use Rattle.sum_lines.specs.Escape.{present}
 use Rattle.sum_engine.specs.Verdicts.{Rules}
-use Rattle.sum_engine.specs.Steps.{Place}
+use Rattle.sum_engine.specs.Steps.{CursorValue}
 
 abbrev pub rules_in : Listing → Rules
 rules_in l = record {
@@ -14,5 +14,5 @@ rules_in l = record {
   from_stdin = l.from_stdin;
 }
 
-abbrev pub place_of : {I : Type 0} → Position I → Place I
-place_of p = record { rules = rules_in p.listing; reader = p.reader; form = p.form; counts = p.counts }
+abbrev pub cursor_value : {I : Type 0} → Position I → CursorValue I
+cursor_value p = record { rules = rules_in p.listing; reader = p.reader; form = p.form; counts = p.counts }

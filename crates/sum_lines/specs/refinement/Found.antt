@@ -2,10 +2,10 @@
 use Rattle.std.specs.Prelude.{ℕ, ◌≡◌, ◌==◌, ◌&&◌, nat_lt, not, List, [], ◌∷◌, ◌++◌, length, slice_range, Option, None, Some, if◌then◌else◌}
 use Rattle.std.specs.Str.Parse.{digits_value}
 use Rattle.sum_lines.specs.declared.scanning.LineParts.{LineParts}
-use Rattle.sum_lines.specs.PartsOfLines.{Parts}
+use Rattle.sum_lines.specs.PartsOfLines.{LinePartsValue}
 
 -- the parts of a line that these places stand for
-abbrev pub line_parts : List ℕ → LineParts → Parts
+abbrev pub line_parts : List ℕ → LineParts → LinePartsValue
 line_parts line p =
     record { escaped = p.escaped; kind = p.kind; digest = p.digest; text = slice_range line p.start p.stop }
 

@@ -1,7 +1,7 @@
 -- Joins the calls of a sink: what its known bytes grow by, how a buffer is emptied, and what is seen of a ToldSink.
 use Rattle.std.specs.Prelude.{ℕ, ◌-◌, List, [], take, Option, Some, Result, Ok, Err}
 use Rattle.std.specs.Io.KnownBytes.{Appends}
-use Rattle.sum_lines.specs.Sinks.{SinkState, IsPrefix, Wrote, Dropped}
+use Rattle.sum_lines.specs.Sinks.{SinkState, IsPrefix, Accepted, FlushFailed}
 use Rattle.sum_lines.specs.declared.told_sink.ToldSink.{ToldSink}
 
 -- known bytes stay, and more may come behind them
@@ -13,9 +13,9 @@ abbrev pub AppendsPrefix : Option (List ℕ) → Option (List ℕ) → List ℕ 
 AppendsPrefix old new text = (prefix : List ℕ) × IsPrefix prefix text × Appends old new prefix
 
 -- a call that takes nothing, or fails
-abbrev pub Empties : {E : Type 0} → SinkState → SinkState → Result (Unit {0}) E → Type 0
-Empties a b (Ok u) = Wrote a b []
-Empties a b (Err e) = Dropped a b
+abbrev pub FlushesBuffer : {E : Type 0} → SinkState → SinkState → Result (Unit {0}) E → Type 0
+FlushesBuffer a b (Ok u) = Accepted a b []
+FlushesBuffer a b (Err e) = FlushFailed a b
 
 -- ---- a ToldSink
 
@@ -24,9 +24,9 @@ abbrev pub bytes_of : {N : ℕ} → ToldSink N → List ℕ
 bytes_of s = take s.len s.bytes
 
 -- how many more bytes it takes before it fails
-abbrev pub room : {N : ℕ} → ToldSink N → ℕ
-room s = s.limit - s.len
+abbrev pub remaining_capacity : {N : ℕ} → ToldSink N → ℕ
+remaining_capacity s = s.limit - s.len
 
 -- how it stands as a sink: it holds nothing back
-abbrev pub told_state : {N : ℕ} → ToldSink N → SinkState
-told_state s = record { written = Some (bytes_of s); buffered = []; failures = s.failures }
+abbrev pub told_sink_state : {N : ℕ} → ToldSink N → SinkState
+told_sink_state s = record { written = Some (bytes_of s); buffered = []; failures = s.failures }

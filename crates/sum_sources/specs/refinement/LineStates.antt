@@ -7,27 +7,27 @@ use Rattle.sum_sources.specs.declared.lines.LineReader.TheInside.{Inside}
 use Rattle.sum_sources.specs.declared.lines.State.{State}
 use Rattle.sum_sources.specs.declared.lines.State.TheVariants.{Active, Ended, Stopped}
 use Rattle.sum_sources.specs.ManifestLines.{Next, NoMore, LineStop, NoNewline}
-use Rattle.sum_sources.specs.LineReaders.{Reader}
+use Rattle.sum_sources.specs.LineReaders.{LineReaderValue}
 use Rattle.sum_sources.specs.declared.lines.LineStop.TheVariants as stops
 
 -- what every later call answers again
-abbrev pub answer_at : State → Option (Result Next LineStop)
-answer_at Active = None
-answer_at Ended = Some (Ok NoMore)
-answer_at (Stopped e) = Some (Err e)
+abbrev pub final_answer_in : State → Option (Result Next LineStop)
+final_answer_in Active = None
+final_answer_in Ended = Some (Ok NoMore)
+final_answer_in (Stopped e) = Some (Err e)
 
 -- a reader, by its fields
-abbrev pub seen : {I : Type 0} → Inside I → Reader I
-seen s = record {
+abbrev pub line_reader_view : {I : Type 0} → Inside I → LineReaderValue I
+line_reader_view s = record {
   input = s.input;
   ahead = take (s.end - s.start) (drop s.start s.buf);
   taken = s.taken;
   lines = s.lines;
-  final_answer = answer_at s.state;
+  final_answer = final_answer_in s.state;
 }
 
 -- what the fields keep
-pub record Kept {I : Type 0} (s : Inside I) : Type 0 where
+pub record LineReaderInvariant {I : Type 0} (s : Inside I) : Type 0 where
   pub start_in : s.start ≤ s.end
   pub end_in : s.end ≤ PIECE
   pub each : s.lines + (s.end - s.start) ≤ s.taken

@@ -5,56 +5,56 @@ use Rattle.std.specs.declared.env.FillError.{FillError}
 use Rattle.std.specs.declared.env.FillError.TheVariants.{NotPresent, TooLong}
 use Rattle.sum_words.specs.Tools.{Tool, tool_called}
 use Rattle.sum_words.specs.declared.command_line.CommandLine.{CommandLine}
-use Rattle.sum_words.specs.Items.{Text, is_readable}
+use Rattle.sum_words.specs.Items.{ByteString, is_readable}
 use Rattle.sum_words.specs.declared.command_line.CommandLine.TheVariants.{UnknownTool, Invoke}
-use Rattle.sum_words.specs.CommandLines.{Call, unknown_tool, invoke, last_part, command_line, MayNotRead}
+use Rattle.sum_words.specs.CommandLines.{CommandLineValue, unknown_tool, invoke, last_part, command_line, MayNotRead}
 
 -- what one call does: the argument at the place stands in front of the buffer; there is none; or it is longer
-abbrev pub Fills : Option (List Text) → ℕ → List ℕ → Result ℕ FillError → Type 0
+abbrev pub Fills : Option (List ByteString) → ℕ → List ℕ → Result ℕ FillError → Type 0
 Fills None place buffer r = ⊤
 Fills (Some all) place buffer (Ok n) = slice_get all place ≡ Some (take n buffer)
 Fills (Some all) place buffer (Err NotPresent) = slice_get all place ≡ None
 Fills (Some all) place buffer (Err TooLong) = IsSomeAnd (slice_get all place) (λ a. length buffer < length a)
 
 -- the argument at a place, where there is one
-abbrev pub ArgumentIs : Option (List Text) → ℕ → Option Text → Type 0
+abbrev pub ArgumentIs : Option (List ByteString) → ℕ → Option ByteString → Type 0
 ArgumentIs told place o = IfSome told (λ all. slice_get all place ≡ o)
 
 -- the argument at a place, which there is, is longer than so many bytes
-abbrev pub IsLonger : Option (List Text) → ℕ → ℕ → Type 0
+abbrev pub IsLonger : Option (List ByteString) → ℕ → ℕ → Type 0
 IsLonger told place n = IfSome told (λ all. IsSomeAnd (slice_get all place) (λ a. n < length a))
 
 -- there is an argument at a place
-abbrev pub HasArgument : Option (List Text) → ℕ → Type 0
+abbrev pub HasArgument : Option (List ByteString) → ℕ → Type 0
 HasArgument told place = IfSome told (λ all. place < length all)
 
 -- the tool by the name that the program was called by
-abbrev pub IsNameOf : Option (List Text) → Option Tool → Type 0
+abbrev pub IsNameOf : Option (List ByteString) → Option Tool → Type 0
 IsNameOf told tool =
     IfSome told (λ all. tool ≡ option_and_then (λ name. tool_called (last_part name)) (slice_get all 0))
 
 -- the tool by the first word, which can be read
-abbrev pub IsFirstWord : Option (List Text) → Option Tool → Type 0
+abbrev pub IsFirstWord : Option (List ByteString) → Option Tool → Type 0
 IsFirstWord told tool = IfSome told (λ all.
     (tool ≡ option_and_then tool_called (slice_get all 1)) × (list_all is_readable (take 1 (drop 1 all)) ≡ true))
 
 -- the words from a place on, which can be read
-abbrev pub WordsAre : Option (List Text) → ℕ → List Text → Type 0
+abbrev pub WordsAre : Option (List ByteString) → ℕ → List ByteString → Type 0
 WordsAre told place words = IfSome told (λ all. (words ≡ drop place all) × (list_all is_readable words ≡ true))
 
 -- the words before a place are those read so far
-abbrev pub WordsUpTo : Option (List Text) → ℕ → ℕ → List Text → Type 0
+abbrev pub WordsUpTo : Option (List ByteString) → ℕ → ℕ → List ByteString → Type 0
 WordsUpTo told first place words =
     IfSome told (λ all. (drop first all ≡ words ++ drop place all) × (list_all is_readable words ≡ true))
 
 -- what the program's value calls for
-abbrev pub call_of : {A : Type 0} → CommandLine A → Call
-call_of UnknownTool = unknown_tool
-call_of (Invoke tool words) = invoke tool words
+abbrev pub command_line_value : {A : Type 0} → CommandLine A → CommandLineValue
+command_line_value UnknownTool = unknown_tool
+command_line_value (Invoke tool words) = invoke tool words
 
-abbrev pub CallIs : Option (List Text) → Call → Type 0
-CallIs told c = IfSome told (λ all. command_line all ≡ Some c)
+abbrev pub IsCommandLine : Option (List ByteString) → CommandLineValue → Type 0
+IsCommandLine told c = IfSome told (λ all. command_line all ≡ Some c)
 
 -- these arguments may be left unread
-abbrev pub MayBeUnread : Option (List Text) → Type 0
+abbrev pub MayBeUnread : Option (List ByteString) → Type 0
 MayBeUnread told = IfSome told MayNotRead

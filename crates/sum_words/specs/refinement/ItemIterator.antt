@@ -4,23 +4,23 @@ use Rattle.std.specs.Prelude.{◌≡◌, ◌==◌, ℕ, drop, length, true, map,
 use Rattle.std.specs.List.{starts_with}
 use Rattle.sum_words.specs.declared.tool.Tool.{Tool}
 use Rattle.sum_words.specs.declared.faults.WordFault.{WordFault}
-use Rattle.sum_words.specs.WordFaults.{Fault, unknown_long, ambiguous_long, value_not_allowed, value_missing, unknown_short, length_invalid, length_not_bytes, tag_with_text, zero_with_check, tag_with_check, mode_with_check, without_check, check_needed}
+use Rattle.sum_words.specs.WordFaults.{WordFaultValue, unknown_long, ambiguous_long, value_not_allowed, value_missing, unknown_short, length_invalid, length_not_bytes, tag_with_text, zero_with_check, tag_with_check, mode_with_check, without_check, check_needed}
 use Rattle.sum_words.specs.declared.items.Item.{Item as WordItem}
 use Rattle.sum_words.specs.declared.items.State.{State}
 use Rattle.sum_words.specs.declared.items.Step.{Step}
-use Rattle.sum_words.specs.Items.{Text, Item, option, length_value, operand, fault, NextWord, a_word, a_value, no_word, cluster, items_from}
+use Rattle.sum_words.specs.Items.{ByteString, ItemValue, option, length_value, operand, fault, NextWord, a_word, a_value, no_word, cluster, items_from}
 use Rattle.sum_words.specs.declared.faults.WordFault.TheVariants as words
 use Rattle.sum_words.specs.declared.items.Item.TheVariants as says
 use Rattle.sum_words.specs.declared.items.State.TheVariants as states
 use Rattle.sum_words.specs.declared.items.Step.TheVariants as steps
 
 -- a letter as a text, where there is one
-abbrev pub letter_text : Option ℕ → Text
+abbrev pub letter_text : Option ℕ → ByteString
 letter_text None = []
 letter_text (Some c) = c ∷ []
 
 -- the fault that the program's value says
-abbrev pub fault_of : WordFault → Fault
+abbrev pub fault_of : WordFault → WordFaultValue
 fault_of (words.UnknownLong name) = unknown_long name.now
 fault_of (words.AmbiguousLong name) = ambiguous_long name.now
 fault_of (words.ValueNotAllowed flag) = value_not_allowed flag
@@ -36,28 +36,28 @@ fault_of (words.NeedsCheck flag) = without_check flag
 fault_of words.CheckNeeded = check_needed
 
 -- the item that the program's value says
-abbrev pub item_of : WordItem → Item
+abbrev pub item_of : WordItem → ItemValue
 item_of (says.Flag flag) = option flag
 item_of (says.Length value) = length_value value.now
 item_of (says.Operand word) = operand word.now
 item_of (says.Fault f) = fault (fault_of f)
 
 -- what a word says, and then the words behind it
-abbrev pub read_then : Tool → List Item × NextWord → List Text → List Item
+abbrev pub read_then : Tool → List ItemValue × NextWord → List ByteString → List ItemValue
 read_then t r words = r.0 ++ items_from t r.1 words
 
 -- the items still to come where the iterator stands, before these words
-abbrev pub items_to_come : Tool → State → List Text → List Item
-items_to_come t states.Word words = items_from t a_word words
-items_to_come t (states.Cluster c rest) words = read_then t (cluster t (c ∷ chars rest.now)) words
-items_to_come t states.OnlyOperands words = map operand words
-items_to_come t states.Ended words = items_from t no_word words
+abbrev pub remaining_items : Tool → State → List ByteString → List ItemValue
+remaining_items t states.Word words = items_from t a_word words
+remaining_items t (states.Cluster c rest) words = read_then t (cluster t (c ∷ chars rest.now)) words
+remaining_items t states.OnlyOperands words = map operand words
+remaining_items t states.Ended words = items_from t no_word words
 
 -- the items that a step makes of these words
-abbrev pub step_says : Tool → Step → List Text → List Item
-step_says t (steps.Say x state) words = item_of x ∷ items_to_come t state words
-step_says t (steps.Value spelling) words = items_from t (a_value spelling) words
-step_says t steps.OnlyOperands words = map operand words
+abbrev pub step_items : Tool → Step → List ByteString → List ItemValue
+step_items t (steps.Say x state) words = item_of x ∷ remaining_items t state words
+step_items t (steps.Value spelling) words = items_from t (a_value spelling) words
+step_items t steps.OnlyOperands words = map operand words
 
 -- the first member was taken, as this says, or there is none
 abbrev pub TakesFirst : {X Y : Type 0} → (X → Y) → List Y → Option X → List Y → Type 0
@@ -65,5 +65,5 @@ TakesFirst f old None new = (old ≡ []) × (new ≡ [])
 TakesFirst f old (Some x) new = old ≡ f x ∷ new
 
 -- what stands behind a prefix of a word
-abbrev pub IsBehind : Text → Text → Text → Type 0
-IsBehind prefix word rest = (starts_with ◌==◌ word prefix ≡ true) × (rest ≡ drop (length prefix) word)
+abbrev pub IsAfterPrefix : ByteString → ByteString → ByteString → Type 0
+IsAfterPrefix prefix word rest = (starts_with ◌==◌ word prefix ≡ true) × (rest ≡ drop (length prefix) word)

@@ -1,10 +1,10 @@
 -- Joins `Words` to the list of words that it is seen as: bytes, cut at the places where the words end.
 use Rattle.std.specs.Prelude.{ℕ, ◌≡◌, ◌≤◌, ◌-◌, true, List, [], ◌∷◌, take, drop, length}
 use Rattle.std.specs.List.{list_all}
-use Rattle.sum_words.specs.Items.{Text, is_readable}
+use Rattle.sum_words.specs.Items.{ByteString, is_readable}
 
 -- the pieces that bytes are cut into, which end at these places, the first of them from here on
-abbrev pub pieces_cut : List ℕ → ℕ → List ℕ → List Text
+abbrev pub pieces_cut : List ℕ → ℕ → List ℕ → List ByteString
 pieces_cut bytes from [] = []
 pieces_cut bytes from (end ∷ ends) = take (end - from) (drop from bytes) ∷ pieces_cut bytes end ends
 

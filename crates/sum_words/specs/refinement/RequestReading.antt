@@ -3,12 +3,12 @@ use Rattle.std.specs.Prelude.{ℕ, ◌≡◌, ◌≤◌, ◌^◌, ◌||◌, true
 use Rattle.std.specs.List.{last_or}
 use Rattle.std.specs.Str.Parse.{digits_value}
 use Rattle.sum_words.specs.Request.{report_flag, Mode, early_answer, has, mode_flags, report_flags, is_number}
-use Rattle.sum_words.specs.Items.{Flag, Text, Item, option_in, value_in}
+use Rattle.sum_words.specs.Items.{Flag, ByteString, ItemValue, option_in, value_in}
 use Rattle.sum_words.specs.declared.faults.WordFault.{WordFault}
 use Rattle.sum_words.specs.declared.request.Chosen.{Chosen}
 use Rattle.sum_words.specs.declared.request.Reading.{Reading}
 use Rattle.sum_words.specs.declared.request.Reading.TheVariants.{Options, Answer}
-use Rattle.sum_words.specs.WordFaults.{Fault}
+use Rattle.sum_words.specs.WordFaults.{WordFaultValue}
 use Rattle.sum_words.specs.refinement.ItemIterator.{fault_of}
 use Rattle.sum_lines.specs.declared.line_format.Mode.TheVariants as modes
 use Rattle.sum_words.specs.declared.options.Flag.TheVariants as flags
@@ -24,11 +24,11 @@ abbrev pub last_after : List Flag → Option Flag → List Flag → Option Flag
 last_after kind earlier given = last_or earlier (filter (λ flag. has flag kind) given)
 
 -- an option was there earlier, or is in the rest, exactly where it is among all
-abbrev pub IsThere : Flag → Bool → List Item → List Item → Type 0
+abbrev pub IsThere : Flag → Bool → List ItemValue → List ItemValue → Type 0
 IsThere flag earlier rest all = (has flag (filter_map option_in rest) || earlier) ≡ has flag (filter_map option_in all)
 
 -- the running values and the rest, which is still to be read, say what all items say
-pub record IsChosenBy (c : Chosen) (rest all : List Item) : Type 0 where
+pub record IsChosenBy (c : Chosen) (rest all : List ItemValue) : Type 0 where
   pub mode : last_after mode_flags (option_map mode_flag c.mode) (filter_map option_in rest)
       ≡ last_after mode_flags None (filter_map option_in all)
   pub report : last_after report_flags (report_flag c.report) (filter_map option_in rest)
@@ -43,16 +43,16 @@ pub record IsChosenBy (c : Chosen) (rest all : List Item) : Type 0 where
   pub strict : IsThere flags.Strict c.strict rest all
 
 -- an answer whose fault is the program's value
-abbrev pub result_of : {X : Type 0} → Result X WordFault → Result X Fault
+abbrev pub result_of : {X : Type 0} → Result X WordFault → Result X WordFaultValue
 result_of (Ok x) = Ok x
 result_of (Err f) = Err (fault_of f)
 
 -- reading says what the options of all items say, where none of them decides the answer; else it says that answer
-abbrev pub IsReadingOf : Reading → List Item → Type 0
-IsReadingOf (Options c) xs = IsChosenBy c [] xs × (early_answer xs ≡ None)
-IsReadingOf (Answer r) xs = early_answer xs ≡ Some (result_of r)
+abbrev pub IsScanOf : Reading → List ItemValue → Type 0
+IsScanOf (Options c) xs = IsChosenBy c [] xs × (early_answer xs ≡ None)
+IsScanOf (Answer r) xs = early_answer xs ≡ Some (result_of r)
 
 -- whether a text is a number, and which, where a u64 holds it
-abbrev pub IsNumberOf : Text → Option ℕ → Type 0
+abbrev pub IsNumberOf : ByteString → Option ℕ → Type 0
 IsNumberOf value None = is_number value ≡ true → 2 ^ 64 ≤ digits_value 10 value
 IsNumberOf value (Some n) = (is_number value ≡ true) × (n ≡ digits_value 10 value)

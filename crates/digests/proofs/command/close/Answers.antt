@@ -1,4 +1,4 @@
-use Rattle.digests.specs.refinement.Endings.{line_of}
+use Rattle.digests.specs.refinement.Endings.{tool_stop_line}
 use Rattle.digests.proofs.EndingLemmas.{closes-stop}
 use Rattle.digests.proofs.command.close.Goals as goal
 
@@ -6,5 +6,5 @@ use Rattle.digests.proofs.command.close.Goals as goal
 pub returns-in-Err-clause-gives : goal.returns-in-Err-clause-gives
 returns-in-Err-clause-gives g c = λ out err.
     let bytes = c.in-Err.ensures.bytes out err in
-    closes-stop (line_of c.args.tool) c.args.answer c.in-Err.stop _ _ _ (g.E.Sink.state c.settle.new.err) _
+    closes-stop (tool_stop_line c.args.tool) c.args.answer c.in-Err.stop _ _ _ (g.E.Sink.state c.settle.new.err) _
     c.tell_stop.result c.in-Err.ensures.answer bytes.0 bytes.1 (c.in-Err.ensures.none out err).1 c.tell_stop.ensures

@@ -1,9 +1,9 @@
 use Rattle.std.proofs.Common.{Some, None, sym, subst}
 use Rattle.sum_engine.proofs.RunStateLemmas.{Runs}
-use Rattle.sum_engine.specs.Moments.{Moment, HoldNothing, Failures}
+use Rattle.sum_engine.specs.Moments.{StreamsState, IsFlushed, FailuresMatch}
 use Rattle.sum_words.specs.CommandLines.{invoke, unknown_tool}
 use Rattle.digests.specs.Meaning.{status_of}
-use Rattle.digests.specs.Program.{run_of}
+use Rattle.digests.specs.Program.{call_behavior}
 use Rattle.digests.proofs.OneTextLemmas.{told_on_err}
 use Rattle.digests.proofs.ProgramLemmas.{program_ends, program_told, program_read, program_unread}
 use Rattle.digests.proofs.command.command.Goals as goal
@@ -19,9 +19,9 @@ returns-in-Ok-Invoke-clause-gives g c =
     let is = sym c.streams.view_is in
     λ hold. program_read g.S.Source.state first _ c.close.result _ line read
     (program_ends g.S.Source.state c.close.result (Some line) first _ _ _ answer
-    (subst (λ m. Runs g.S.Source.state (run_of (Some line)) status_of first m answer) is (ran.gives hold))
-    (subst (λ (m : Moment g.row.S.Denot). Failures first m answer) is ran.failures)
-    (subst (λ (m : Moment g.row.S.Denot). HoldNothing m) is (ran.none hold)) c.close.ensures.gives)
+    (subst (λ m. Runs g.S.Source.state (call_behavior (Some line)) status_of first m answer) is (ran.gives hold))
+    (subst (λ (m : StreamsState g.row.S.Denot). FailuresMatch first m answer) is ran.failures)
+    (subst (λ (m : StreamsState g.row.S.Denot). IsFlushed m) is (ran.none hold)) c.close.ensures.gives)
 
 -- no tool of that name: a line says so
 pub returns-in-Ok-UnknownTool-clause-gives : goal.returns-in-Ok-UnknownTool-clause-gives

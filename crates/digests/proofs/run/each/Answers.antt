@@ -1,6 +1,6 @@
 use Rattle.std.proofs.Common.{◌≡◌, ◌∙◌, rules, ◌&&◌}
 use Rattle.sum_words.specs.Tools.{name_of}
-use Rattle.digests.specs.Meaning.{one_of, or_dash}
+use Rattle.digests.specs.Meaning.{operand_behavior, or_dash}
 use Rattle.digests.proofs.OperandLemmas.{Operands, reached_start, reached_step, reached_end, reached_stop}
 use Rattle.digests.proofs.run.each.Goals.{then-good, else-good}
 use Rattle.digests.proofs.run.each.Goals as goal
@@ -9,7 +9,7 @@ use Rattle.digests.proofs.run.each.Goals as goal
 pub operands-init : goal.operands-init
 operands-init g c =
     let all : Operands =
-    record { one = one_of c.args.job.now (name_of c.args.tool); names = or_dash c.args.operands } in
+    record { one = operand_behavior c.args.job.now (name_of c.args.tool); names = or_dash c.args.operands } in
     record {
       reached = λ hold. reached_start g.S.Source.state all c.args.streams.now c.first_name-name.ensures;
       so_far = search rules;
@@ -19,7 +19,7 @@ operands-init g c =
 pub returns-in-Err-clause-gives : goal.returns-in-Err-clause-gives
 returns-in-Err-clause-gives g c =
     let all : Operands =
-    record { one = one_of c.args.job.now (name_of c.args.tool); names = or_dash c.args.operands } in
+    record { one = operand_behavior c.args.job.now (name_of c.args.tool); names = or_dash c.args.operands } in
     let so_far = c.operands.invariant in
     λ hold. reached_stop g.S.Source.state all c.in-Err.stop c.operands.good c.operands.name.now c.operands.operands
     c.args.streams.now c.operands.streams c.one.new.streams (so_far.reached hold)
@@ -34,7 +34,7 @@ operands-preserved g c =
       | else-good w ↦ rw w.if-good.false (w.good-is ∙ w.if-good.false)
     ] in
     let all : Operands =
-    record { one = one_of c.args.job.now (name_of c.args.tool); names = or_dash c.args.operands } in
+    record { one = operand_behavior c.args.job.now (name_of c.args.tool); names = or_dash c.args.operands } in
     let so_far = c.operands.invariant in
     record {
       reached = λ hold. rw (is, ← c.in-Some.ensures) (reached_step g.S.Source.state all c.operands.good c.in-Ok.this
@@ -52,7 +52,7 @@ returns-in-None-clause-gives g c =
       | else-good w ↦ rw w.if-good.false (w.good-is ∙ w.if-good.false)
     ] in
     let all : Operands =
-    record { one = one_of c.args.job.now (name_of c.args.tool); names = or_dash c.args.operands } in
+    record { one = operand_behavior c.args.job.now (name_of c.args.tool); names = or_dash c.args.operands } in
     let so_far = c.operands.invariant in
     λ hold.
     let reached = reached_step g.S.Source.state all c.operands.good c.in-Ok.this c.operands.name.now c.operands.operands

@@ -2,7 +2,7 @@ use Rattle.std.proofs.Common.{refl, ap, is_none, inl, inr, Ok, Err}
 use Rattle.std.proofs.KnownBytes.{Appends-nil}
 use Rattle.std.proofs.lemmas.Result.{err_from_is_err_and}
 use Rattle.sum_engine.specs.Runs.{reply, digest_or_fault}
-use Rattle.sum_engine.specs.Generation.{generate_run}
+use Rattle.sum_engine.specs.Generation.{generate_behavior}
 use Rattle.sum_engine.proofs.RunStateLemmas.{known_refused}
 use Rattle.sum_engine.proofs.RunLemmas.{unasked}
 use Rattle.sum_engine.proofs.GenerateLemmas.{told, one_step}
@@ -15,7 +15,7 @@ returns-in-None-clause-gives g c =
     let settings = c.args.settings.now in
     let tool = c.args.tool.now in
     let name = c.args.name.now in
-    rw (← c.streams.view_is) (λ hold. unasked g.S.Source.state (λ w. generate_run settings tool w name) (λ g. g)
+    rw (← c.streams.view_is) (λ hold. unasked g.S.Source.state (λ w. generate_behavior settings tool w name) (λ g. g)
     _ _ (λ w. one_step settings tool name (digest_or_fault settings.kind (reply w name)))
     (known_refused g.S.Source.state _ _ c.in-None.ensures.gives (ap is_none c.in-None.ensures.kept) refl refl
     c.in-None.ensures.refusals))

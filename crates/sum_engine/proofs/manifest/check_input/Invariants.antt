@@ -1,8 +1,8 @@
 use Rattle.std.proofs.Common.{◌≡◌, ◌⊎◌, ◌^◌, ◌-◌, Bool, true, Ok, None, option_map}
 use Rattle.digest_kinds.specs.Limits.{one_more}
 use Rattle.sum_sources.specs.Contents.{clip}
-use Rattle.sum_engine.specs.Moments.{run_state, HoldNothing, Accounts}
-use Rattle.sum_engine.specs.Steps.{now_of}
+use Rattle.sum_engine.specs.Moments.{known_state, IsFlushed, StopHasCause}
+use Rattle.sum_engine.specs.Steps.{check_state}
 use Rattle.sum_engine.specs.refinement.Positions.{rules_in}
 use Rattle.sum_engine.proofs.ManifestLemmas.{Comes}
 use Rattle.sum_engine.proofs.manifest.check_input.Given as goal
@@ -12,12 +12,12 @@ invariant-lines g l =
     let r = rules_in l.fn.listing in
     let streams = l.fn.streams in
     record {
-      comes : HoldNothing streams → Comes r (option_map clip (g.I.Input.state l.fn.input).content)
-          (run_state g.S.Source.state streams)
-          (now_of g.I.Input.state l.checker.cursor (run_state g.S.Source.state l.streams));
+      comes : IsFlushed streams → Comes r (option_map clip (g.I.Input.state l.fn.input).content)
+          (known_state g.S.Source.state streams)
+          (check_state g.I.Input.state l.checker.cursor (known_state g.S.Source.state l.streams));
       rules : l.checker.cursor.rules ≡ r;
       going : l.checker.final_answer ≡ None;
-      so_far : Accounts {A = Bool} g.S.Source.state (λ n m. (m ≡ n) ⊎ (m ≡ one_more n)) streams l.streams (Ok true);
+      so_far : StopHasCause {A = Bool} g.S.Source.state (λ n m. (m ≡ n) ⊎ (m ≡ one_more n)) streams l.streams (Ok true);
     }
 
 abbrev pub decreases-lines : goal.decreases-lines

@@ -1,7 +1,7 @@
 use Rattle.std.proofs.Common.{◌≡◌, ◌&&◌, false, rules}
-use Rattle.sum_lines.specs.Entries.{Spelled}
+use Rattle.sum_lines.specs.Entries.{EntryValue}
 use Rattle.sum_engine.specs.Runs.{is_dash}
-use Rattle.sum_engine.specs.refinement.Judging.{spelled_by}
+use Rattle.sum_engine.specs.refinement.Judging.{listed_entry}
 use Rattle.sum_engine.specs.refinement.Positions.{rules_in}
 use Rattle.sum_engine.proofs.VerdictLemmas.{judged_entry}
 use Rattle.sum_engine.proofs.verdict.judge.Goals.{else-listing-via-then-listing+else-is_dash, else-listing-via-else-listing}
@@ -9,7 +9,7 @@ use Rattle.sum_engine.proofs.verdict.judge.Goals as goal
 
 pub returns-clause-gives : goal.returns-clause-gives
 returns-clause-gives g c =
-    let s : Spelled = spelled_by c.args.listed.now in
+    let s : EntryValue = listed_entry c.args.listed.now in
     let dash : c.args.listing.now.from_stdin && is_dash s.name ≡ false =
     elim c.else-listing.branch [
       | else-listing-via-then-listing+else-is_dash w ↦ search rules

@@ -1,5 +1,5 @@
 use Rattle.std.proofs.Common.{◌≡◌, ℕ, ◌^◌, ◌<◌, ◌-◌, List}
-use Rattle.sum_sources.specs.Contents.{WhereTold, clip, limit}
+use Rattle.sum_sources.specs.Contents.{IfKnown, clip, limit}
 use Rattle.sum_sources.specs.LineReaders.{clip_to}
 use Rattle.sum_sources.proofs.ContentLemmas.{Gave}
 use Rattle.sum_sources.proofs.hashing.hash_input_over.Given as goal
@@ -8,7 +8,7 @@ use Rattle.sum_sources.proofs.hashing.hash_input_over.Given as goal
 abbrev pub invariant-loop-hasher : goal.invariant-loop-hasher
 invariant-loop-hasher g l = record {
   came : (m : List ℕ) × g.H.Hasher.holds l.hasher m
-      × WhereTold (g.I.Input.state l.fn.input).content (g.I.Input.state l.input).content
+      × IfKnown (g.I.Input.state l.fn.input).content (g.I.Input.state l.input).content
       (λ c d. Gave (clip c) (clip_to (limit - l.taken) d) m);
   taken : g.H.Hasher.taken_of l.hasher ≡ l.taken;
   failed : (g.I.Input.state l.input).failed ≡ (g.I.Input.state l.fn.input).failed;

@@ -1,7 +1,7 @@
 use Rattle.std.proofs.Common.{rules, arith, ◌≡◌, ◌≤◌, length}
 use Rattle.std.proofs.lemmas.Result.{err_from_is_err_and}
 use Rattle.sum_sources.proofs.LimitLemmas.{clipped-bytes, clipped-fault, clipped-long, clipped-none}
-use Rattle.sum_sources.proofs.ToldLemmas.{WhereTold-map}
+use Rattle.sum_sources.proofs.ToldLemmas.{IfKnown-map}
 use Rattle.sum_sources.proofs.limited.read_limited.Goals as goal
 
 -- that it is too long was seen before
@@ -14,14 +14,14 @@ pub returns-in_err-n-clause-bytes : goal.returns-in_err-n-clause-bytes
 returns-in_err-n-clause-bytes g c =
     let fault = err_from_is_err_and c.from_residual.result c.from_residual.ensures.1 in
     rw (fault.1, fault.2)
-    (WhereTold-map _ _ (λ d e. clipped-fault d e _ _ (omega arith)) c.in_err-n.ensures.bytes)
+    (IfKnown-map _ _ (λ d e. clipped-fault d e _ _ (omega arith)) c.in_err-n.ensures.bytes)
 
 -- the byte that doesn't count was there
 pub returns-then-taken-eq-LIMIT-2-clause-bytes : goal.returns-then-taken-eq-LIMIT-2-clause-bytes
 returns-then-taken-eq-LIMIT-2-clause-bytes g c =
     let size : length c.read.new.buf ≡ c.max-size.result = search rules in
     let few = c.in_ok-n.ensures.count in
-    WhereTold-map _ _ (λ d e. clipped-long d e _ _ _ few (omega arith) c.if-taken-eq-LIMIT-2.true)
+    IfKnown-map _ _ (λ d e. clipped-long d e _ _ _ few (omega arith) c.if-taken-eq-LIMIT-2.true)
     c.in_ok-n.ensures.bytes
 
 -- bytes that count, or the end
@@ -29,5 +29,5 @@ pub returns-clause-bytes : goal.returns-clause-bytes
 returns-clause-bytes g c =
     let size : length c.read.new.buf ≡ c.max-size.result = search rules in
     let few : c.in_ok-n.n ≤ length c.read.new.buf = c.in_ok-n.ensures.count in
-    WhereTold-map _ _ (λ d e. clipped-bytes d e _ _ _ _ few (omega arith) (omega arith))
+    IfKnown-map _ _ (λ d e. clipped-bytes d e _ _ _ _ few (omega arith) (omega arith))
     c.in_ok-n.ensures.bytes

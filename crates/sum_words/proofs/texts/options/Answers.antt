@@ -1,7 +1,7 @@
 use Rattle.std.proofs.Common.{◌≡◌, ◌≢◌, refl, flat_map}
 use Rattle.sum_words.specs.declared.tool.Tool.{Tool}
 use Rattle.sum_words.specs.declared.tool.Tool.TheVariants.{Md5sum, B2sum}
-use Rattle.sum_words.specs.Items.{Text, flags_of}
+use Rattle.sum_words.specs.Items.{ByteString, flags_of}
 use Rattle.sum_words.specs.Texts.{help_line}
 use Rattle.sum_words.proofs.texts.options.Goals as goal
 
@@ -9,7 +9,7 @@ pub returns-in-B2sum : goal.returns-in-B2sum
 returns-in-B2sum c = rw c.in-B2sum.is refl
 
 -- the other tools have the same options
-same_lines : (t : Tool) (lines : Text) → t ≢ B2sum → lines ≡ flat_map help_line (flags_of Md5sum)
+same_lines : (t : Tool) (lines : ByteString) → t ≢ B2sum → lines ≡ flat_map help_line (flags_of Md5sum)
     → lines ≡ flat_map help_line (flags_of t)
 same_lines B2sum lines other h = absurd (other refl)
 same_lines t lines other h = h

@@ -1,6 +1,6 @@
 use Rattle.std.proofs.Common.{refl, ap, is_none}
-use Rattle.sum_engine.specs.LineVerdicts.{asking}
-use Rattle.sum_engine.specs.refinement.Positions.{place_of}
+use Rattle.sum_engine.specs.LineVerdicts.{lent_streams}
+use Rattle.sum_engine.specs.refinement.Positions.{cursor_value}
 use Rattle.sum_engine.proofs.RunStateLemmas.{known_refused}
 use Rattle.sum_engine.proofs.FindLemmas.{find_line, find_refused}
 use Rattle.sum_engine.proofs.position.Position.find.Goals as goal
@@ -11,9 +11,9 @@ returns-in-Some-clause-gives g c =
     let gives = rw c.in-Ok-Line.field-0-is at c.in-Ok-Line.ensures.gives in
     let number = rw c.in-Ok-Line.field-0-is at c.in-Ok-Line.ensures.lines in
     let done = c.in-Some.ensures in
-    let first = asking g.J.Input.state c.args.stdin.now c.args.source.now in
-    let then = asking g.J.Input.state c.judge_line.new.stdin c.judge_line.new.source in
-    find_line g.I.Input.state g.S.Source.state (place_of c.args.self.now) _ c.next_line.new.self first then
+    let first = lent_streams g.J.Input.state c.args.stdin.now c.args.source.now in
+    let then = lent_streams g.J.Input.state c.judge_line.new.stdin c.judge_line.new.source in
+    find_line g.I.Input.state g.S.Source.state (cursor_value c.args.self.now) _ c.next_line.new.self first then
     c.next_line.new.line.items c.judge_line.new.line.items c.in-Some.verdict
     (record { came = gives; using = c.in-Ok-Line.ensures.used; number = number; profile = refl })
     done.place done.held done.gives done.taken refl refl done.refusals
@@ -24,9 +24,9 @@ returns-in-None-clause-gives g c =
     let gives = rw c.in-Ok-Line.field-0-is at c.in-Ok-Line.ensures.gives in
     let number = rw c.in-Ok-Line.field-0-is at c.in-Ok-Line.ensures.lines in
     let done = c.in-None.ensures in
-    let first = asking g.J.Input.state c.args.stdin.now c.args.source.now in
-    let then = asking g.J.Input.state c.judge_line.new.stdin c.judge_line.new.source in
-    find_refused g.I.Input.state g.S.Source.state (place_of c.args.self.now) (place_of c.judge_line.new.self)
+    let first = lent_streams g.J.Input.state c.args.stdin.now c.args.source.now in
+    let then = lent_streams g.J.Input.state c.judge_line.new.stdin c.judge_line.new.source in
+    find_refused g.I.Input.state g.S.Source.state (cursor_value c.args.self.now) (cursor_value c.judge_line.new.self)
     c.next_line.new.self first then
     c.next_line.new.line.items c.judge_line.new.line.items
     (record { came = gives; using = c.in-Ok-Line.ensures.used; number = number; profile = refl })

@@ -4,7 +4,7 @@ use Rattle.std.proofs.lemmas.Result.{err_from_is_err_and}
 use Rattle.sum_sources.specs.declared.fault.Ending.TheVariants.{Whole, Broken}
 use Rattle.sum_lines.specs.Escape.{present}
 use Rattle.sum_engine.specs.Verdicts.{Rules}
-use Rattle.sum_engine.specs.refinement.Positions.{place_of}
+use Rattle.sum_engine.specs.refinement.Positions.{cursor_value}
 use Rattle.sum_engine.proofs.StepLemmas.{step_found, nothing_said, step_wants, step_end}
 use Rattle.sum_engine.proofs.position.Position.next.Goals as goal
 
@@ -12,7 +12,7 @@ use Rattle.sum_engine.proofs.position.Position.next.Goals as goal
 pub returns-in-Err-Memory-clause-gives : goal.returns-in-Err-Memory-clause-gives
 returns-in-Err-Memory-clause-gives g c =
     let found = rw c.in-Err-Memory.field-0-is at c.in-Err-Memory.ensures.gives in
-    λ hold. step_wants g.I.Input.state g.S.Source.state (place_of c.args.self.now) (place_of c.find.new.self)
+    λ hold. step_wants g.I.Input.state g.S.Source.state (cursor_value c.args.self.now) (cursor_value c.find.new.self)
     c.args.streams.now _ _ c.find.new.line.items c.streams.view_is found refl refl
 
 -- the manifest's fault was told
@@ -21,7 +21,7 @@ pub returns-in_ok-put_fault_line-in-Err-Fault-clause-gives :
 returns-in_ok-put_fault_line-in-Err-Fault-clause-gives g c =
     let found = rw c.in-Err-Fault.field-0-is at c.in-Err-Fault.ensures.gives in
     let told = rw c.in-Err-Fault.fault-is at c.in_ok-put_fault_line-in-Err-Fault.ensures in
-    step_end g.I.Input.state g.S.Source.state (place_of c.args.self.now) (place_of c.find.new.self)
+    step_end g.I.Input.state g.S.Source.state (cursor_value c.args.self.now) (cursor_value c.find.new.self)
     c.args.streams.now _ _ c.find.new.line.items (Broken c.in-Err-Fault.fault) false (Ok tt) c.streams.view_is found
     c.in-Err-Fault.ensures.reads.rules refl refl told
 
@@ -32,15 +32,15 @@ returns-in_err-put_fault_line-in-Err-Fault-clause-gives g c =
     let found = rw c.in-Err-Fault.field-0-is at c.in-Err-Fault.ensures.gives in
     let cut = rw c.in-Err-Fault.fault-is at c.in_err-put_fault_line-in-Err-Fault.ensures in
     let stop = err_from_is_err_and c.from_residual.result c.from_residual.ensures.1 in
-    rw (stop.1, stop.2) (step_end g.I.Input.state g.S.Source.state (place_of c.args.self.now)
-    (place_of c.find.new.self) c.args.streams.now _ _ c.find.new.line.items (Broken c.in-Err-Fault.fault) false (Err tt)
+    rw (stop.1, stop.2) (step_end g.I.Input.state g.S.Source.state (cursor_value c.args.self.now)
+    (cursor_value c.find.new.self) c.args.streams.now _ _ c.find.new.line.items (Broken c.in-Err-Fault.fault) false (Err tt)
     c.streams.view_is found c.in-Err-Fault.ensures.reads.rules refl refl cut)
 
 -- the summary was told
 pub returns-in_ok-put_summary-in-Ok-None-clause-gives : goal.returns-in_ok-put_summary-in-Ok-None-clause-gives
 returns-in_ok-put_summary-in-Ok-None-clause-gives g c =
     let found = rw c.in-Ok-None.field-0-is at c.in-Ok-None.ensures.gives in
-    step_end g.I.Input.state g.S.Source.state (place_of c.args.self.now) (place_of c.find.new.self)
+    step_end g.I.Input.state g.S.Source.state (cursor_value c.args.self.now) (cursor_value c.find.new.self)
     c.args.streams.now _ _ c.find.new.line.items Whole _ (Ok tt) c.streams.view_is found
     c.in-Ok-None.ensures.reads.rules c.is_good.ensures refl c.in_ok-put_summary-in-Ok-None.ensures
 
@@ -50,15 +50,15 @@ returns-in_err-put_summary-in-Ok-None-clause-gives g c =
     let found = rw c.in-Ok-None.field-0-is at c.in-Ok-None.ensures.gives in
     let back = c.from_residual-in_err-put_summary-in-Ok-None in
     let stop = err_from_is_err_and back.result back.ensures.1 in
-    rw (stop.1, stop.2) (step_end g.I.Input.state g.S.Source.state (place_of c.args.self.now)
-    (place_of c.find.new.self) c.args.streams.now _ _ c.find.new.line.items Whole _ (Err tt) c.streams.view_is found
+    rw (stop.1, stop.2) (step_end g.I.Input.state g.S.Source.state (cursor_value c.args.self.now)
+    (cursor_value c.find.new.self) c.args.streams.now _ _ c.find.new.line.items Whole _ (Err tt) c.streams.view_is found
     c.in-Ok-None.ensures.reads.rules refl refl c.in_err-put_summary-in-Ok-None.ensures)
 
 -- a line that says nothing was found, of which nothing is reported
 pub returns-in-Ignored-clause-gives : goal.returns-in-Ignored-clause-gives
 returns-in-Ignored-clause-gives g c =
     let found = rw c.in-Ok-Some.field-0-is at c.in-Ok-Some.ensures.gives in
-    λ hold. step_found g.I.Input.state g.S.Source.state (place_of c.args.self.now) (place_of c.find.new.self)
+    λ hold. step_found g.I.Input.state g.S.Source.state (cursor_value c.args.self.now) (cursor_value c.find.new.self)
     c.args.streams.now _ _ c.find.new.line.items c.in-Ok-Some.found (Ok tt) c.streams.view_is found
     (rw (c.in-Ignored.is, nothing_said present c.args.self.now.listing.settings.report _)
     (Appends-nil _, Appends-nil _))
@@ -72,7 +72,7 @@ returns-in_ok-put_report-in-Ok-Some g c =
     let texts = rw (is, report, c.deref.ensures.value) at c.in_ok-put_report-in-Ok-Some.ensures.texts in
     record {
       gives = rw (← c.streams.view_is) (λ hold. step_found g.I.Input.state g.S.Source.state
-          (place_of c.args.self.now) (place_of c.find.new.self) _ _ _ c.find.new.line.items c.in-Ok-Some.found (Ok tt)
+          (cursor_value c.args.self.now) (cursor_value c.find.new.self) _ _ _ c.find.new.line.items c.in-Ok-Some.found (Ok tt)
           refl found (texts hold.1 hold.0));
       none = search rules;
       wants = search rules;
@@ -92,7 +92,7 @@ returns-in_err-put_report-in-Ok-Some g c =
     let stop = err_from_is_err_and back.result back.ensures.1 in
     record {
       gives = rw (stop.1, stop.2, ← c.streams.view_is) (λ hold. step_found g.I.Input.state g.S.Source.state
-          (place_of c.args.self.now) (place_of c.find.new.self) _ _ _ c.find.new.line.items c.in-Ok-Some.found (Err tt)
+          (cursor_value c.args.self.now) (cursor_value c.find.new.self) _ _ _ c.find.new.line.items c.in-Ok-Some.found (Err tt)
           refl found (texts hold.1 hold.0));
       none = search rules;
       wants = search rules;

@@ -1,7 +1,7 @@
 use Rattle.std.proofs.Common.{rules, [], ◌≡◌}
 use Rattle.std.proofs.lemmas.List.{nil_from_length}
-use Rattle.sum_sources.proofs.LineLemmas.{LineOf-last, LineOf-none, LineOf-fault}
-use Rattle.sum_sources.proofs.ToldLemmas.{WhereTold-map}
+use Rattle.sum_sources.proofs.LineLemmas.{NextLineIs-last, NextLineIs-none, NextLineIs-fault}
+use Rattle.sum_sources.proofs.ToldLemmas.{IfKnown-map}
 use Rattle.sum_sources.proofs.ReadOnLemmas.{LineSoFar, LineSoFar-piece, ends_line, all_came, ends_last}
 use Rattle.sum_sources.proofs.lines.LineReader.read_on.Goals.{In-Ok-false}
 use Rattle.sum_sources.proofs.lines.LineReader.read_on.Given as given
@@ -26,17 +26,17 @@ returns-then-is_empty-clause-gives g c =
     let ended = rw (c.in-Ok-false-fill.field-0-test, ← c.self.view_is) at c.in-Ok-false-fill.ensures.gives in
     let so_far = moved g (goal.at.returns-then-is_empty-clause-gives g c).In-Ok-false in
     let none : c.take_piece.new.line.items ≡ [] = nil_from_length _ (search rules) in
-    ends_last _ _ _ so_far ended (λ d gave. LineOf-none d [] (rw none at gave))
+    ends_last _ _ _ so_far ended (λ d gave. NextLineIs-none d [] (rw none at gave))
 
 -- the input has ended behind something
 pub returns-in-Ok-false-fill-clause-gives : goal.returns-in-Ok-false-fill-clause-gives
 returns-in-Ok-false-fill-clause-gives g c =
     let ended = rw (c.in-Ok-false-fill.field-0-test, ← c.self.view_is) at c.in-Ok-false-fill.ensures.gives in
     let so_far = moved g (goal.at.returns-in-Ok-false-fill-clause-gives g c).In-Ok-false in
-    ends_last _ _ _ so_far ended (λ d. LineOf-last d _ so_far.plain (search rules))
+    ends_last _ _ _ so_far ended (λ d. NextLineIs-last d _ so_far.plain (search rules))
 
 -- the input has a fault
 pub returns-in-Err-fill-clause-gives : goal.returns-in-Err-fill-clause-gives
 returns-in-Err-fill-clause-gives g c =
     let so_far = moved g (goal.at.returns-in-Err-fill-clause-gives g c).In-Ok-false in
-    WhereTold-map _ _ (λ d e. LineOf-fault d e _ _ so_far.plain) (all_came _ _ so_far c.in-Err-fill.ensures.gives)
+    IfKnown-map _ _ (λ d e. NextLineIs-fault d e _ _ so_far.plain) (all_came _ _ so_far c.in-Err-fill.ensures.gives)

@@ -1,6 +1,6 @@
 use Rattle.std.proofs.Common.{◌≡◌, length, ◌^◌, ◌-◌, ◌+◌, ◌⊎◌}
-use Rattle.sum_sources.specs.Contents.{WhereTold}
-use Rattle.sum_sources.specs.LineReaders.{used}
+use Rattle.sum_sources.specs.Contents.{IfKnown}
+use Rattle.sum_sources.specs.LineReaders.{consumed}
 use Rattle.sum_sources.proofs.ReadOnLemmas.{LineSoFar}
 use Rattle.sum_sources.specs.ManifestLines.{NoNewline}
 use Rattle.sum_sources.proofs.lines.LineReader.read_on.Given as goal
@@ -9,9 +9,9 @@ use Rattle.sum_sources.proofs.lines.LineReader.read_on.Given as goal
 abbrev pub invariant-loop-self : goal.invariant-loop-self
 invariant-loop-self g l = record {
   so_far : LineSoFar g.I.Input.state l.fn.self l.self l.line.items;
-  input : WhereTold (g.I.Input.state l.fn.self.input).content (g.I.Input.state l.self.input).content
+  input : IfKnown (g.I.Input.state l.fn.self.input).content (g.I.Input.state l.self.input).content
       (λ c d. l.self.taken + length d.bytes ≡ l.fn.self.taken + length c.bytes);
-  used : used l.self ≡ used l.fn.self + length l.line.items;
+  used : consumed l.self ≡ consumed l.fn.self + length l.line.items;
   lines : l.self.lines ≡ l.fn.self.lines;
   unread : (l.self ≡ l.fn.self) ⊎ NoNewline l.fn.self.ahead;
   failed : (g.I.Input.state l.self.input).failed ≡ (g.I.Input.state l.fn.self.input).failed;
