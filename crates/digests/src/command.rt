@@ -29,9 +29,9 @@ pub fn command<A: Allocator + Copy, G: Arguments, I: Input + Drop, S: Source, O:
     arguments: &G,
     streams: &mut Streams<I, S, O, E>,
 ) -> u8
-    ensures gives { ProgramPerforms S.state (G.known arguments.now) streams.old streams.new result }
-    ensures none { IsFlushed streams.old → IsFlushed streams.new }
-    ensures kept { result ≡ 0 → FailuresMatch streams.old streams.new (Ok result) }
+    ensures behavior { ProgramPerforms S.state (G.known arguments.now) streams.old streams.new result }
+    ensures flushed { IsFlushed streams.old → IsFlushed streams.new }
+    ensures no_failures { result ≡ 0 → FailuresMatch streams.old streams.new (Ok result) }
 {
     match read_command_line(alloc, arguments) {
         Ok(CommandLine::Invoke(tool, words)) => {
@@ -57,11 +57,11 @@ fn close<O: Sink, E: Sink>(
     out: &mut O,
     err: &mut E,
 ) -> u8
-    ensures gives { (O.state out.old).buffered ≡ [] → (E.state err.old).buffered ≡ [] → FinishesRun (tool_stop_line tool) answer
+    ensures finish { (O.state out.old).buffered ≡ [] → (E.state err.old).buffered ≡ [] → FinishesRun (tool_stop_line tool) answer
         (O.state out.old) (O.state out.new) (E.state err.old) (E.state err.new) result }
-    ensures none { (O.state out.old).buffered ≡ [] → (E.state err.old).buffered ≡ []
+    ensures flushed { (O.state out.old).buffered ≡ [] → (E.state err.old).buffered ≡ []
         → ((O.state out.new).buffered ≡ []) × ((E.state err.new).buffered ≡ []) }
-    ensures kept { result ≡ 0
+    ensures no_failures { result ≡ 0
         → IsOk answer × NoneFailed (O.state out.old) (O.state out.new) (E.state err.old) (E.state err.new) }
 {
     match settle(answer, out, err) {

@@ -20,7 +20,7 @@ pub(crate) fn settle<O: Sink, E: Sink>(
     ensures bytes { (O.state out.old).buffered ≡ [] → (E.state err.old).buffered ≡ []
         → Keeps (O.state out.old).written (O.state out.new).written
         × Keeps (E.state err.old).written (E.state err.new).written }
-    ensures none { (O.state out.old).buffered ≡ [] → (E.state err.old).buffered ≡ []
+    ensures flushed { (O.state out.old).buffered ≡ [] → (E.state err.old).buffered ≡ []
         → ((O.state out.new).buffered ≡ []) × ((E.state err.new).buffered ≡ []) }
 {
     let status = answer?;

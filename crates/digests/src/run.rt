@@ -29,8 +29,8 @@ pub fn run<A: Allocator + Copy, I: Input + Drop, S: Source, O: Sink, E: Sink>(
     words: &Words<A>,
     streams: &mut Streams<I, S, O, E>,
 ) -> Result<u8, Stop>
-    ensures gives { Performs S.state (meaning tool words.now) status_of streams.old streams.new result }
-    ensures none { IsFlushed streams.old → IsFlushed streams.new }
+    ensures behavior { Performs S.state (meaning tool words.now) status_of streams.old streams.new result }
+    ensures flushed { IsFlushed streams.old → IsFlushed streams.new }
     ensures refusals { RefusalsMatch S.state (RefusalsOf (request tool words.now)) streams.old streams.new result }
     ensures failures { FailuresMatch streams.old streams.new result }
 {
@@ -43,8 +43,8 @@ fn answer<A: Allocator + Copy, I: Input + Drop, S: Source, O: Sink, E: Sink>(
     asked: Result<Request, WordFault>,
     streams: &mut Streams<I, S, O, E>,
 ) -> Result<u8, Stop>
-    ensures gives { Performs S.state (request_behavior tool (result_of asked.entry)) status_of streams.old streams.new result }
-    ensures accounts { StopHasCause S.state (RefusalsOf (result_of asked.entry)) streams.old streams.new result }
+    ensures behavior { Performs S.state (request_behavior tool (result_of asked.entry)) status_of streams.old streams.new result }
+    ensures cause { StopHasCause S.state (RefusalsOf (result_of asked.entry)) streams.old streams.new result }
 {
     match asked {
         Err(fault) => status_once(tell(&mut streams.err, Text::Fault(tool, &fault)), 1),
@@ -69,9 +69,9 @@ fn one<A: Allocator + Copy, I: Input + Drop, S: Source, O: Sink, E: Sink>(
     name: &[u8],
     streams: &mut Streams<I, S, O, E>,
 ) -> Result<bool, Stop>
-    ensures gives { Performs S.state (λ w. operand_behavior job.now (name_of tool) w name.now) (λ good. good)
+    ensures behavior { Performs S.state (λ w. operand_behavior job.now (name_of tool) w name.now) (λ good. good)
         streams.old streams.new result }
-    ensures accounts { StopHasCause S.state (RefusalsOfJob job.now) streams.old streams.new result }
+    ensures cause { StopHasCause S.state (RefusalsOfJob job.now) streams.old streams.new result }
 {
     match job {
         Job::Generate(settings) => generate_one(settings, tool.name(), name, streams),
@@ -96,9 +96,9 @@ fn each<A: Allocator + Copy, I: Input + Drop, S: Source, O: Sink, E: Sink>(
     operands: Operands,
     streams: &mut Streams<I, S, O, E>,
 ) -> Result<u8, Stop>
-    ensures gives { Performs S.state (λ w. operands_behavior (operand_behavior job.now (name_of tool)) w (or_dash operands.entry)) status_of
+    ensures behavior { Performs S.state (λ w. operands_behavior (operand_behavior job.now (name_of tool)) w (or_dash operands.entry)) status_of
         streams.old streams.new result }
-    ensures accounts { StopHasCause S.state (RefusalsOfJob job.now) streams.old streams.new result }
+    ensures cause { StopHasCause S.state (RefusalsOfJob job.now) streams.old streams.new result }
 {
     let mut operands = operands;
     let mut name = first_name(&mut operands);

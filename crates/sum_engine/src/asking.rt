@@ -35,12 +35,12 @@ pub(crate) fn ask<I: Input + Drop, S: Source>(
     source: &mut S,
     buffer: &mut [u8; PIECE],
 ) -> Option<Asked>
-    ensures gives { HashesNameIfKnown kind (world_of S.state (lent_streams I.state stdin.old source.old))
+    ensures outcome { HashesNameIfKnown kind (world_of S.state (lent_streams I.state stdin.old source.old))
         (world_of S.state (lent_streams I.state stdin.new source.new)) name.now result }
-    ensures taken { is_none stdin.new ≡ is_none stdin.old || is_dash name.now }
-    ensures kept { IfNone result (stdin.new ≡ stdin.old) }
+    ensures stdin_taken { is_none stdin.new ≡ is_none stdin.old || is_dash name.now }
+    ensures stdin_kept { IfNone result (stdin.new ≡ stdin.old) }
     ensures refusals { RefusedUnless (S.state source.old) (S.state source.new) result }
-    ensures sized { HasKindLen kind result }
+    ensures digest_len { HasKindLen kind result }
 {
     if is_dash(name) {
         return Some(read_digest(stdin.take(), AnyHasher::new(kind), buffer));
@@ -60,8 +60,8 @@ fn read_digest<F: Input + Drop, H: Hasher + Drop>(
     buffer: &mut [u8; PIECE],
 ) -> Asked
     requires { H.holds hasher [] }
-    ensures gives { IfSome (F.state file).content (λ c. IsRead (H.kind_of hasher) c result) }
-    ensures sized { HasKindLen (H.kind_of hasher) (Some result) }
+    ensures outcome { IfSome (F.state file).content (λ c. IsRead (H.kind_of hasher) c result) }
+    ensures digest_len { HasKindLen (H.kind_of hasher) (Some result) }
 {
     match hash_input_over(&mut file, hasher, buffer) {
         Ok(digest) => Asked::Read(digest),

@@ -59,8 +59,8 @@ impl<'a, I: Input> Checker<'a, I> {
           shown = shown.entry.now;
           from_stdin = from_stdin;
         } }
-        ensures begins { IsAtStart I.state result.cursor input }
-        ensures answer { result.final_answer ≡ None }
+        ensures start { IsAtStart I.state result.cursor input }
+        ensures final_answer { result.final_answer ≡ None }
     {
         let listing = Listing {
             settings,
@@ -74,8 +74,8 @@ impl<'a, I: Input> Checker<'a, I> {
     /// A checker of the manifest that `input` gives, by what it is listed as.
     pub(crate) fn over(listing: Listing<'a>, input: I) -> Self
         ensures rules { result.cursor.rules ≡ rules_in listing.entry }
-        ensures begins { IsAtStart I.state result.cursor input }
-        ensures answer { result.final_answer ≡ None }
+        ensures start { IsAtStart I.state result.cursor input }
+        ensures final_answer { result.final_answer ≡ None }
     {
         Checker {
             position: Position::new(listing, input),
@@ -103,18 +103,18 @@ impl<'a, I: Input> Checker<'a, I> {
         line: &mut Vec<u8, A>,
         streams: &mut Streams<J, S, O, E>,
     ) -> Result<Progress, Stop>
-        ensures gives { self.old.final_answer ≡ None → PerformsStep I.state S.state line.new.items self.old.cursor self.new.cursor
+        ensures step { self.old.final_answer ≡ None → PerformsStep I.state S.state line.new.items self.old.cursor self.new.cursor
             streams.old streams.new result }
-        ensures none { IsFlushed streams.old → IsFlushed streams.new }
-        ensures again { IfSome self.old.final_answer
+        ensures flushed { IsFlushed streams.old → IsFlushed streams.new }
+        ensures repeats { IfSome self.old.final_answer
             (λ r. (result ≡ r) × (self.new ≡ self.old) × (streams.new ≡ streams.old)) }
-        ensures answer { self.old.final_answer ≡ None → self.new.final_answer ≡ final_answer_of_step result }
-        ensures wants { self.old.final_answer ≡ None
+        ensures final_answer { self.old.final_answer ≡ None → self.new.final_answer ≡ final_answer_of_step result }
+        ensures out_of_memory { self.old.final_answer ≡ None
             → MemoryStopHasCause (S.state streams.old.source) (S.state streams.new.source)
             (remaining_content I.state self.old.cursor.reader) result }
         ensures failures { self.old.final_answer ≡ None → FailuresMatch streams.old streams.new result }
-        ensures untouched { NoOutputOnMemory streams.old streams.new result }
-        ensures reads { self.old.final_answer ≡ None → AdvancesReader I.state self.old.cursor self.new.cursor result }
+        ensures no_output_on_memory { NoOutputOnMemory streams.old streams.new result }
+        ensures reader { self.old.final_answer ≡ None → AdvancesReader I.state self.old.cursor self.new.cursor result }
     {
         if let Some(answer) = self.final_answer {
             return answer;

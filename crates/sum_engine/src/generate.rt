@@ -28,13 +28,13 @@ pub fn generate_one<I: Input + Drop, S: Source, O: Sink, E: Sink>(
     name: &[u8],
     streams: &mut Streams<I, S, O, E>,
 ) -> Result<bool, Stop>
-    ensures gives { Performs S.state (λ w. generate_behavior settings.now tool.now w name.now) (λ good. good)
+    ensures behavior { Performs S.state (λ w. generate_behavior settings.now tool.now w name.now) (λ good. good)
         streams.old streams.new result }
-    ensures none { IsFlushed streams.old → IsFlushed streams.new }
+    ensures flushed { IsFlushed streams.old → IsFlushed streams.new }
     ensures refusals { RefusalsMatch S.state (λ n m. m ≡ one_more n) streams.old streams.new result }
     ensures failures { FailuresMatch streams.old streams.new result }
-    ensures taken { OnOk result (streams.new.stdin_taken ≡ streams.old.stdin_taken || is_dash name.now) }
-    ensures untouched { NoOutputOnMemory streams.old streams.new result }
+    ensures stdin_taken { OnOk result (streams.new.stdin_taken ≡ streams.old.stdin_taken || is_dash name.now) }
+    ensures no_output_on_memory { NoOutputOnMemory streams.old streams.new result }
 {
     let mut buffer = [0; PIECE];
     let asked = ask(

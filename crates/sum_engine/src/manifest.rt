@@ -35,9 +35,9 @@ pub fn check_one<A: Allocator + Copy, J: Input + Drop, S: Source, O: Sink, E: Si
     name: &[u8],
     streams: &mut Streams<J, S, O, E>,
 ) -> Result<bool, Stop>
-    ensures gives { Performs S.state (λ w. check_behavior settings tool.now w name.now) (λ good. good)
+    ensures behavior { Performs S.state (λ w. check_behavior settings tool.now w name.now) (λ good. good)
         streams.old streams.new result }
-    ensures none { IsFlushed streams.old → IsFlushed streams.new }
+    ensures flushed { IsFlushed streams.old → IsFlushed streams.new }
     ensures refusals { RefusalsMatch S.state (λ n m. (m ≡ n) ⊎ (m ≡ one_more n)) streams.old streams.new result }
     ensures failures { FailuresMatch streams.old streams.new result }
 {
@@ -76,9 +76,9 @@ fn check_input<'a, A: Allocator, I: Input + Drop, J: Input + Drop, S: Source, O:
     input: I,
     streams: &mut Streams<J, S, O, E>,
 ) -> Result<bool, Stop>
-    ensures gives { ManifestPerforms S.state (rules_in listing.entry) (option_map clip (I.state input).content)
+    ensures behavior { ManifestPerforms S.state (rules_in listing.entry) (option_map clip (I.state input).content)
         streams.old streams.new result }
-    ensures accounts { StopHasCause S.state (λ n m. (m ≡ n) ⊎ (m ≡ one_more n)) streams.old streams.new result }
+    ensures cause { StopHasCause S.state (λ n m. (m ≡ n) ⊎ (m ≡ one_more n)) streams.old streams.new result }
 {
     let mut checker = Checker::over(listing, input);
     let mut line = Vec::new(alloc);

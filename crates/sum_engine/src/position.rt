@@ -46,7 +46,7 @@ impl<'a, I: Input> Position<'a, I> {
     /// In front of the first line of the manifest that `input` gives.
     pub(crate) fn new(listing: Listing<'a>, input: I) -> Self
         ensures rules { rules_in result.listing ≡ rules_in listing.entry }
-        ensures begins { IsAtStart I.state (cursor_value result) input }
+        ensures start { IsAtStart I.state (cursor_value result) input }
     {
         Position {
             listing,
@@ -78,14 +78,14 @@ impl<'a, I: Input> Position<'a, I> {
         line: &mut Vec<u8, A>,
         streams: &mut Streams<J, S, O, E>,
     ) -> Result<Progress, Stop>
-        ensures gives { PerformsStep I.state S.state line.new.items (cursor_value self.old) (cursor_value self.new)
+        ensures step { PerformsStep I.state S.state line.new.items (cursor_value self.old) (cursor_value self.new)
             streams.old streams.new result }
-        ensures none { IsFlushed streams.old → IsFlushed streams.new }
-        ensures wants { MemoryStopHasCause (S.state streams.old.source) (S.state streams.new.source)
+        ensures flushed { IsFlushed streams.old → IsFlushed streams.new }
+        ensures out_of_memory { MemoryStopHasCause (S.state streams.old.source) (S.state streams.new.source)
             (remaining_content I.state self.old.reader) result }
         ensures failures { FailuresMatch streams.old streams.new result }
-        ensures untouched { NoOutputOnMemory streams.old streams.new result }
-        ensures reads { AdvancesReader I.state (cursor_value self.old) (cursor_value self.new) result }
+        ensures no_output_on_memory { NoOutputOnMemory streams.old streams.new result }
+        ensures reader { AdvancesReader I.state (cursor_value self.old) (cursor_value self.new) result }
     {
         match self.find(line, &mut streams.stdin, &mut streams.source) {
             Err(LineStop::Memory) => Err(Stop::Memory),
@@ -126,13 +126,13 @@ impl<'a, I: Input> Position<'a, I> {
         stdin: &mut Stdin<J>,
         source: &mut S,
     ) -> Result<Option<LineVerdict>, LineStop>
-        ensures gives { NextVerdictIfKnown (rules_in self.old.listing) line.new.items
+        ensures verdict { NextVerdictIfKnown (rules_in self.old.listing) line.new.items
             (check_state I.state (cursor_value self.old) (known_state S.state (lent_streams J.state stdin.old source.old)))
             (check_state I.state (cursor_value self.new) (known_state S.state (lent_streams J.state stdin.new source.new))) result }
-        ensures names { IfOk result (λ found. IfSome found (λ v. HasNameRange line.new.items v)) }
-        ensures wants { MemoryStopHasCause (S.state source.old) (S.state source.new) (remaining_content I.state self.old.reader)
+        ensures name_range { IfOk result (λ found. IfSome found (λ v. HasNameRange line.new.items v)) }
+        ensures out_of_memory { MemoryStopHasCause (S.state source.old) (S.state source.new) (remaining_content I.state self.old.reader)
             (progress_of result) }
-        ensures reads { AdvancesReader I.state (cursor_value self.old) (cursor_value self.new) (progress_of result) }
+        ensures reader { AdvancesReader I.state (cursor_value self.old) (cursor_value self.new) (progress_of result) }
     {
         match self.reader.next_line(line) {
             Err(stop) => Err(stop),
@@ -153,12 +153,12 @@ impl<'a, I: Input> Position<'a, I> {
     ) -> Option<LineVerdict>
         requires room { total self.old.counts < self.old.reader.lines }
         requires few { self.old.reader.lines ≤ LIMIT }
-        ensures gives { IfKnown (world_of S.state (lent_streams J.state stdin.old source.old))
+        ensures verdict { IfKnown (world_of S.state (lent_streams J.state stdin.old source.old))
             (world_of S.state (lent_streams J.state stdin.new source.new))
             (λ w v. JudgeLineOf (cursor_value self.old) line.old.items self.new.counts line.new.items w v result) }
-        ensures taken { MatchOption result (stdin.new ≡ stdin.old) (λ v. is_none stdin.new
+        ensures stdin_taken { MatchOption result (stdin.new ≡ stdin.old) (λ v. is_none stdin.new
             ≡ is_none stdin.old || list_any is_dash (asks_of (line_verdict_value line.new.items v))) }
-        ensures names { IfSome result (λ v. HasNameRange line.new.items v) }
+        ensures name_range { IfSome result (λ v. HasNameRange line.new.items v) }
         ensures place { TakesLine (cursor_value self.old) (cursor_value self.new) line.old.items }
         ensures held { length line.new.items ≤ length line.old.items }
         ensures refusals { RefusedUnless (S.state source.old) (S.state source.new) result }

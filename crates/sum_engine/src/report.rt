@@ -63,7 +63,7 @@ pub(crate) fn put_report<O: Sink, E: Sink>(
         → WritesBoth (E.state err.old) (E.state err.new) (O.state out.old) (O.state out.new)
         (err_by (rules_in listing.now) number verdict name.now)
         (out_by present listing.now.settings.report verdict name.now) result }
-    ensures none { (E.state err.old).buffered ≡ [] → (O.state out.old).buffered ≡ []
+    ensures flushed { (E.state err.old).buffered ≡ [] → (O.state out.old).buffered ≡ []
         → ((E.state err.new).buffered ≡ []) × ((O.state out.new).buffered ≡ []) }
     ensures failures { MatchResult result
         (λ _. NoneFailed (O.state out.old) (O.state out.new) (E.state err.old) (E.state err.new))

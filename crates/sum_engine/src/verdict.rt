@@ -59,10 +59,10 @@ pub(crate) fn judge<I: Input + Drop, S: Source>(
     source: &mut S,
     buffer: &mut [u8; PIECE],
 ) -> Option<Verdict>
-    ensures gives { IfKnown (world_of S.state (lent_streams I.state stdin.old source.old))
+    ensures verdict { IfKnown (world_of S.state (lent_streams I.state stdin.old source.old))
         (world_of S.state (lent_streams I.state stdin.new source.new))
         (λ w v. JudgeOf (rules_in listing.now) w v (entry (listed_entry listed.now)) result) }
-    ensures taken { MatchOption result (stdin.new ≡ stdin.old)
+    ensures stdin_taken { MatchOption result (stdin.new ≡ stdin.old)
         (λ v. is_none stdin.new ≡ is_none stdin.old || list_any is_dash (asks_by v listed.now.name.now)) }
     ensures refusals { RefusedUnless (S.state source.old) (S.state source.new) result }
 {

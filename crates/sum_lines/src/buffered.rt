@@ -64,8 +64,8 @@ impl<S: Sink> Buffered<S> {
     // Hands on to the sink below what is held.
     fn empty(&mut self) -> Result<(), SinkFault>
         ensures bytes { FlushesBuffer (buffer_state S.state self.old) (buffer_state S.state self.new) result }
-        ensures none { self.new.buffered ≡ [] }
-        ensures hands { OffersWhole (S.offered self.old.sink) (S.offered self.new.sink) self.old.buffered }
+        ensures flushed { self.new.buffered ≡ [] }
+        ensures offers { OffersWhole (S.offered self.old.sink) (S.offered self.new.sink) self.old.buffered }
     {
         let len = self.len;
         self.len = 0;
@@ -76,7 +76,7 @@ impl<S: Sink> Buffered<S> {
     fn make_room(&mut self) -> Result<(), SinkFault>
         ensures bytes { FlushesBuffer (buffer_state S.state self.old) (buffer_state S.state self.new) result }
         ensures held { OnOk result (self.new.buffered ≡ kept_unless_full self.old.buffered) }
-        ensures hands { OffersWhole (S.offered self.old.sink) (S.offered self.new.sink) (flushed_if_full self.old.buffered) }
+        ensures offers { OffersWhole (S.offered self.old.sink) (S.offered self.new.sink) (flushed_if_full self.old.buffered) }
     {
         if self.len < ROOM {
             return Ok(());
@@ -95,7 +95,7 @@ impl<S: Sink> Sink for Buffered<S> {
     fn write(&mut self, piece: &[u8]) -> Result<usize, SinkFault>
         ensures bytes { WritesSome (buffer_state S.state self.old) (buffer_state S.state self.new) piece.now result }
         ensures empty { piece.now ≡ [] → result ≡ Ok 0 }
-        ensures hands { OffersWhole (S.offered self.old.sink) (S.offered self.new.sink) (flushed_before_write self.old.buffered piece.now) }
+        ensures offers { OffersWhole (S.offered self.old.sink) (S.offered self.new.sink) (flushed_before_write self.old.buffered piece.now) }
         ensures fits { IfOk result (λ n. n ≡ min (length piece.now) (ROOM - length (kept_unless_full self.old.buffered))) }
     {
         if piece.is_empty() {
@@ -111,7 +111,7 @@ impl<S: Sink> Sink for Buffered<S> {
     /// Hands on all that is held, which is offered in one piece, and flushes the sink below. A fault where that fails.
     fn flush(&mut self) -> Result<(), SinkFault>
         ensures bytes { Flushes (buffer_state S.state self.old) (buffer_state S.state self.new) result }
-        ensures hands { OffersWhole (S.offered self.old.sink) (S.offered self.new.sink) self.old.buffered }
+        ensures offers { OffersWhole (S.offered self.old.sink) (S.offered self.new.sink) self.old.buffered }
     {
         self.empty()?;
         self.sink.flush()

@@ -24,7 +24,7 @@ pub fn says_is()
 /// What comes behind a line has no part in what it says nor, where the line is plain, in the form.
 #[tactic(auto, using(crate::proofs::FormLemmas::same_said))]
 pub fn same_said()
-    ensures says { SameParse }
+    ensures parse { SameParse }
     ensures form { SameForm }
 {}
 

@@ -66,7 +66,7 @@ pub enum Reading {
 #[tactic(auto, using(crate::proofs::EntryLemmas::ignored_mute))]
 pub fn read_line<A: Allocator>(algos: Algos, form: Form, line: &mut Vec<u8, A>) -> (Reading, Form)
     ensures form { result.1 ≡ form_then form (line_form algos line.old.items) }
-    ensures says { parsed_line_by line.new.items result.0 ≡ parse_line present algos result.1 line.old.items }
+    ensures parsed { parsed_line_by line.new.items result.0 ≡ parse_line present algos result.1 line.old.items }
     ensures within { Within line.new.items result.0 }
     ensures ignored { result.0 ≡ Reading.Ignored → line.new ≡ line.old }
     ensures len { vec_len line.new ≤ vec_len line.old }
@@ -92,7 +92,7 @@ fn read_begun<A: Allocator>(
 ) -> (Reading, Form)
     requires { LeadsTo algos line.old.items beginning }
     ensures form { result.1 ≡ form_then form (line_form algos line.old.items) }
-    ensures says { parsed_line_by line.new.items result.0
+    ensures parsed { parsed_line_by line.new.items result.0
         ≡ option_map_or entry (entry_of present algos result.1 line.old.items) bad }
     ensures within { Within line.new.items result.0 }
     ensures len { vec_len line.new ≤ vec_len line.old }
@@ -125,7 +125,7 @@ fn read_tail<A: Allocator>(form: Form, line: &mut Vec<u8, A>, found: LineParts) 
     requires ordered { found.start ≤ found.stop }
     requires within { found.stop ≤ length line.old.items }
     ensures form { result.1 ≡ form_then form (form_of_tail (line_parts line.old.items found).text) }
-    ensures says { parsed_line_by line.new.items result.0 ≡ option_map_or entry
+    ensures parsed { parsed_line_by line.new.items result.0 ≡ option_map_or entry
         (option_and_then (entry_of_parts present) (with_raw result.1 (line_parts line.old.items found))) bad }
     ensures within { Within line.new.items result.0 }
     ensures len { vec_len line.new ≤ vec_len line.old }
@@ -165,7 +165,7 @@ fn read_name<A: Allocator>(line: &mut Vec<u8, A>, found: LineParts) -> Reading
     requires size { length found.digest ≡ found.kind.len }
     requires ordered { found.start ≤ found.stop }
     requires within { found.stop ≤ length line.old.items }
-    ensures says { parsed_line_by line.new.items result
+    ensures parsed { parsed_line_by line.new.items result
         ≡ option_map_or entry (entry_of_parts present (line_parts line.old.items found)) bad }
     ensures within { Within line.new.items result }
     ensures len { vec_len line.new ≤ vec_len line.old }

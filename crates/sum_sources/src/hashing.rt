@@ -11,7 +11,7 @@ use digest_kinds::{Digest, Hasher};
 /// bytes or more is `Fault::Other`. The hasher has to be a new one.
 pub fn hash_input<I: Input, H: Hasher + Drop>(input: &mut I, hasher: H) -> Result<Digest, Fault>
     requires { H.holds hasher [] }
-    ensures gives { IfSome (I.state input.old).content (λ c. Hashes (H.kind_of hasher) (clip c) result) }
+    ensures digest { IfSome (I.state input.old).content (λ c. Hashes (H.kind_of hasher) (clip c) result) }
     ensures len { IfOk result (λ d. length d ≡ (H.kind_of hasher).len) }
     ensures failed { IfOk result (λ _. (I.state input.new).failed ≡ (I.state input.old).failed) }
 {
@@ -27,7 +27,7 @@ pub fn hash_input_over<I: Input, H: Hasher + Drop>(
     buffer: &mut [u8; PIECE],
 ) -> Result<Digest, Fault>
     requires { H.holds hasher [] }
-    ensures gives { IfSome (I.state input.old).content (λ c. Hashes (H.kind_of hasher) (clip c) result) }
+    ensures digest { IfSome (I.state input.old).content (λ c. Hashes (H.kind_of hasher) (clip c) result) }
     ensures len { IfOk result (λ d. length d ≡ (H.kind_of hasher).len) }
     ensures failed { IfOk result (λ _. (I.state input.new).failed ≡ (I.state input.old).failed) }
 {

@@ -124,14 +124,14 @@ impl<I: Input> LineReader<I> {
     fn fill(&mut self) -> Result<bool, Fault>
         requires empty { self.old.ahead ≡ [] }
         requires going { self.old.final_answer ≡ None }
-        ensures gives { IfKnown (remaining_content I.state self.old) (remaining_content I.state self.new)
+        ensures content { IfKnown (remaining_content I.state self.old) (remaining_content I.state self.new)
             (λ c d. FillOf c d result) }
         ensures more { result ≡ Ok true → self.old.taken < self.new.taken }
-        ensures used { IfOk result (λ _. consumed self.new ≡ consumed self.old) }
+        ensures consumed { IfOk result (λ _. consumed self.new ≡ consumed self.old) }
         ensures input { IfKnown (I.state self.old.input).content (I.state self.new.input).content
             (λ c d. self.new.taken + length d.bytes ≡ self.old.taken + length c.bytes) }
         ensures lines { self.new.lines ≡ self.old.lines }
-        ensures answer { IfOk result (λ _. self.new.final_answer ≡ None) }
+        ensures final_answer { IfOk result (λ _. self.new.final_answer ≡ None) }
         ensures failed { IfOk result (λ _. (I.state self.new.input).failed ≡ (I.state self.old.input).failed) }
     {
         self.start = 0;
@@ -147,7 +147,7 @@ impl<I: Input> LineReader<I> {
         ensures piece { IfOk result (λ ended.
             TakesPiece ended self.old.ahead self.new.ahead line.old.items line.new.items) }
         ensures memory { IsErr result → (self.new ≡ self.old) × (0 < length self.old.ahead) }
-        ensures used { IfOk result (λ ended. consumed self.new + length line.old.items
+        ensures consumed { IfOk result (λ ended. consumed self.new + length line.old.items
             ≡ consumed self.old + length line.new.items + (if ended then 1 else 0)) }
         ensures same { self.new ≡ record self.old { ahead = self.new.ahead } }
     {
@@ -173,16 +173,16 @@ impl<I: Input> LineReader<I> {
     fn read_on<A: Allocator>(&mut self, line: &mut Vec<u8, A>) -> Result<Next, LineStop>
         requires empty { line.old.items ≡ [] }
         requires going { self.old.final_answer ≡ None }
-        ensures gives { IfKnown (remaining_content I.state self.old) (remaining_content I.state self.new)
+        ensures line { IfKnown (remaining_content I.state self.old) (remaining_content I.state self.new)
             (λ c d. NextLineIs c d result (strip_carriage_return line.new.items)) }
         ensures memory { result ≡ Err LineStop.Memory → 0 < length self.new.ahead }
-        ensures used { OnOk result (IfKnown (remaining_content I.state self.old) (remaining_content I.state self.new)
+        ensures consumed { OnOk result (IfKnown (remaining_content I.state self.old) (remaining_content I.state self.new)
             (λ c d. consumed self.new + length d.bytes ≡ consumed self.old + length c.bytes)) }
         ensures input { IfKnown (I.state self.old.input).content (I.state self.new.input).content
             (λ c d. self.new.taken + length d.bytes ≡ self.old.taken + length c.bytes) }
         ensures some { result ≡ Ok Next.Line → consumed self.old < consumed self.new }
         ensures lines { self.new.lines ≡ self.old.lines }
-        ensures answer { OnOk result (FinalAnswerAfter result self.new.final_answer) }
+        ensures final_answer { OnOk result (FinalAnswerAfter result self.new.final_answer) }
         ensures failed { OnOk result ((I.state self.new.input).failed ≡ (I.state self.old.input).failed) }
         ensures ahead { ¬ NoNewline self.old.ahead → self.new.input ≡ self.old.input }
     {
@@ -211,14 +211,14 @@ impl<I: Input> LineReader<I> {
     /// memory for the line was refused. Each of these is answered again by every later call. What `line` holds after
     /// them isn't said; what it held before doesn't matter.
     pub fn next_line<A: Allocator>(&mut self, line: &mut Vec<u8, A>) -> Result<Next, LineStop>
-        ensures gives { IfKnown (remaining_content I.state self.old) (remaining_content I.state self.new)
+        ensures line { IfKnown (remaining_content I.state self.old) (remaining_content I.state self.new)
             (λ c d. NextLineIs c d result line.new.items) }
-        ensures again { IfSome self.old.final_answer (λ answer. (result ≡ answer) × (self.new ≡ self.old)) }
-        ensures answer { FinalAnswerAfter result self.new.final_answer }
+        ensures repeats { IfSome self.old.final_answer (λ answer. (result ≡ answer) × (self.new ≡ self.old)) }
+        ensures final_answer { FinalAnswerAfter result self.new.final_answer }
         ensures lines { self.new.lines ≡ lines_after self.old.lines result }
-        ensures taken { IfKnown (I.state self.old.input).content (I.state self.new.input).content
+        ensures input { IfKnown (I.state self.old.input).content (I.state self.new.input).content
             (λ c d. self.new.taken + length d.bytes ≡ self.old.taken + length c.bytes) }
-        ensures used { OnOk result (IfKnown (remaining_content I.state self.old) (remaining_content I.state self.new)
+        ensures consumed { OnOk result (IfKnown (remaining_content I.state self.old) (remaining_content I.state self.new)
             (λ c d. consumed self.new + length d.bytes ≡ consumed self.old + length c.bytes)) }
         ensures failed { OnOk result ((I.state self.new.input).failed ≡ (I.state self.old.input).failed) }
         ensures ahead { ¬ NoNewline self.old.ahead → self.new.input ≡ self.old.input }

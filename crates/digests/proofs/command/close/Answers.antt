@@ -3,8 +3,8 @@ use Rattle.digests.proofs.EndingLemmas.{closes-stop}
 use Rattle.digests.proofs.command.close.Goals as goal
 
 -- the run stopped, or a flush failed at its end
-pub returns-in-Err-clause-gives : goal.returns-in-Err-clause-gives
-returns-in-Err-clause-gives g c = λ out err.
+pub returns-in-Err-clause-finish : goal.returns-in-Err-clause-finish
+returns-in-Err-clause-finish g c = λ out err.
     let bytes = c.in-Err.ensures.bytes out err in
     closes-stop (tool_stop_line c.args.tool) c.args.answer c.in-Err.stop _ _ _ (g.E.Sink.state c.settle.new.err) _
-    c.tell_stop.result c.in-Err.ensures.answer bytes.0 bytes.1 (c.in-Err.ensures.none out err).1 c.tell_stop.ensures
+    c.tell_stop.result c.in-Err.ensures.answer bytes.0 bytes.1 (c.in-Err.ensures.flushed out err).1 c.tell_stop.ensures

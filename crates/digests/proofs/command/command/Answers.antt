@@ -9,8 +9,8 @@ use Rattle.digests.proofs.ProgramLemmas.{program_ends, program_told, program_rea
 use Rattle.digests.proofs.command.command.Goals as goal
 
 -- the tool was run
-pub returns-in-Ok-Invoke-clause-gives : goal.returns-in-Ok-Invoke-clause-gives
-returns-in-Ok-Invoke-clause-gives g c =
+pub returns-in-Ok-Invoke-clause-behavior : goal.returns-in-Ok-Invoke-clause-behavior
+returns-in-Ok-Invoke-clause-behavior g c =
     let line = invoke c.in-Ok-Invoke.tool c.in-Ok-Invoke.words in
     let read = rw c.in-Ok-Invoke.field-0-is at c.in-Ok-Invoke.ensures.line in
     let first = c.args.streams.now in
@@ -19,15 +19,15 @@ returns-in-Ok-Invoke-clause-gives g c =
     let is = sym c.streams.view_is in
     λ hold. program_read g.S.Source.state first _ c.close.result _ line read
     (program_ends g.S.Source.state c.close.result (Some line) first _ _ _ answer
-    (subst (λ m. Runs g.S.Source.state (call_behavior (Some line)) status_of first m answer) is (ran.gives hold))
+    (subst (λ m. Runs g.S.Source.state (call_behavior (Some line)) status_of first m answer) is (ran.behavior hold))
     (subst (λ (m : StreamsState g.row.S.Denot). FailuresMatch first m answer) is ran.failures)
-    (subst (λ (m : StreamsState g.row.S.Denot). IsFlushed m) is (ran.none hold)) c.close.ensures.gives)
+    (subst (λ (m : StreamsState g.row.S.Denot). IsFlushed m) is (ran.flushed hold)) c.close.ensures.finish)
 
 -- no tool of that name: a line says so
-pub returns-in-Ok-UnknownTool-clause-gives : goal.returns-in-Ok-UnknownTool-clause-gives
-returns-in-Ok-UnknownTool-clause-gives g c =
+pub returns-in-Ok-UnknownTool-clause-behavior : goal.returns-in-Ok-UnknownTool-clause-behavior
+returns-in-Ok-UnknownTool-clause-behavior g c =
     let read = rw c.in-Ok-UnknownTool.field-0-is at c.in-Ok-UnknownTool.ensures.line in
-    let closed = rw c.status_once-answer.ensures at c.close-in-Ok-UnknownTool.ensures.gives in
+    let closed = rw c.status_once-answer.ensures at c.close-in-Ok-UnknownTool.ensures.finish in
     let told = c.tell.ensures in
     rw (← c.streams-in-Ok-UnknownTool.view_is) (λ hold. program_read g.S.Source.state _ _
     c.close-in-Ok-UnknownTool.result _ unknown_tool read
@@ -35,9 +35,9 @@ returns-in-Ok-UnknownTool-clause-gives g c =
     (told_on_err g.S.Source.state _ _ _ c.tell.result hold.1 told) closed))
 
 -- the words couldn't be read: another line says so
-pub returns-in-Err-clause-gives : goal.returns-in-Err-clause-gives
-returns-in-Err-clause-gives g c =
-    let closed = rw c.status_once-answer-in-Err.ensures at c.close-in-Err.ensures.gives in
+pub returns-in-Err-clause-behavior : goal.returns-in-Err-clause-behavior
+returns-in-Err-clause-behavior g c =
+    let closed = rw c.status_once-answer-in-Err.ensures at c.close-in-Err.ensures.finish in
     let told = c.tell-in-Err.ensures in
     rw (← c.streams-in-Err.view_is) (λ hold. program_unread g.S.Source.state _ _ c.close-in-Err.result _
     c.in-Err.ensures.not_read

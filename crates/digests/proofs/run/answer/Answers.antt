@@ -2,48 +2,48 @@ use Rattle.digests.proofs.OneTextLemmas.{told_on_out, told_on_err, accounts_on_o
 use Rattle.digests.proofs.run.answer.Goals as goal
 
 -- a fault is told on standard error
-pub returns-in-Err-clause-gives : goal.returns-in-Err-clause-gives
-returns-in-Err-clause-gives g c =
+pub returns-in-Err-clause-behavior : goal.returns-in-Err-clause-behavior
+returns-in-Err-clause-behavior g c =
     rw (c.in-Err.is, c.status_once.ensures, ← c.streams.view_is)
     (λ hold. told_on_err g.S.Source.state _ _ _ c.tell.result hold.1 c.tell.ensures)
 
 -- the help stands on standard output
-pub returns-in-Ok-Help-clause-gives : goal.returns-in-Ok-Help-clause-gives
-returns-in-Ok-Help-clause-gives g c =
+pub returns-in-Ok-Help-clause-behavior : goal.returns-in-Ok-Help-clause-behavior
+returns-in-Ok-Help-clause-behavior g c =
     let told = c.tell-in-Ok-Help in
     rw (c.in-Ok-Help.is, c.in-Ok-Help.field-0-is, c.status_once-in-Ok-Help.ensures) (rw (← c.streams-in-Ok-Help.view_is)
     (λ hold. told_on_out g.S.Source.state _ _ _ told.result hold.0 told.ensures))
 
 -- the version likewise
-pub returns-in-Ok-Version-clause-gives : goal.returns-in-Ok-Version-clause-gives
-returns-in-Ok-Version-clause-gives g c =
+pub returns-in-Ok-Version-clause-behavior : goal.returns-in-Ok-Version-clause-behavior
+returns-in-Ok-Version-clause-behavior g c =
     let told = c.tell-in-Ok-Version in
     rw (c.in-Ok-Version.is, c.in-Ok-Version.field-0-is, c.status_once-in-Ok-Version.ensures)
     (rw (← c.streams-in-Ok-Version.view_is)
     (λ hold. told_on_out g.S.Source.state _ _ _ told.result hold.0 told.ensures))
 
 -- the work is what `each` does
-pub returns-in-Ok-Work-clause-gives : goal.returns-in-Ok-Work-clause-gives
-returns-in-Ok-Work-clause-gives g c = rw (c.in-Ok-Work.is, c.in-Ok-Work.field-0-is) c.each.ensures.gives
+pub returns-in-Ok-Work-clause-behavior : goal.returns-in-Ok-Work-clause-behavior
+returns-in-Ok-Work-clause-behavior g c = rw (c.in-Ok-Work.is, c.in-Ok-Work.field-0-is) c.each.ensures.behavior
 
 -- and `each` accounts for it
-pub returns-in-Ok-Work-clause-accounts : goal.returns-in-Ok-Work-clause-accounts
-returns-in-Ok-Work-clause-accounts g c = rw (c.in-Ok-Work.is, c.in-Ok-Work.field-0-is) (record {
-  flushed = c.each.ensures.accounts.flushed;
-  refusals = c.each.ensures.accounts.refusals;
-  failures = c.each.ensures.accounts.failures;
+pub returns-in-Ok-Work-clause-cause : goal.returns-in-Ok-Work-clause-cause
+returns-in-Ok-Work-clause-cause g c = rw (c.in-Ok-Work.is, c.in-Ok-Work.field-0-is) (record {
+  flushed = c.each.ensures.cause.flushed;
+  refusals = c.each.ensures.cause.refusals;
+  failures = c.each.ensures.cause.failures;
 })
 
 -- one text that was told accounts for the stop
-pub returns-in-Err-clause-accounts : goal.returns-in-Err-clause-accounts
-returns-in-Err-clause-accounts g c = rw (c.status_once.ensures, ← c.streams.view_is)
+pub returns-in-Err-clause-cause : goal.returns-in-Err-clause-cause
+returns-in-Err-clause-cause g c = rw (c.status_once.ensures, ← c.streams.view_is)
     (accounts_on_err g.S.Source.state _ _ _ _ 1 c.tell.result c.tell.ensures)
 
-pub returns-in-Ok-Help-clause-accounts : goal.returns-in-Ok-Help-clause-accounts
-returns-in-Ok-Help-clause-accounts g c = rw (c.status_once-in-Ok-Help.ensures, ← c.streams-in-Ok-Help.view_is)
+pub returns-in-Ok-Help-clause-cause : goal.returns-in-Ok-Help-clause-cause
+returns-in-Ok-Help-clause-cause g c = rw (c.status_once-in-Ok-Help.ensures, ← c.streams-in-Ok-Help.view_is)
     (accounts_on_out g.S.Source.state _ _ _ _ 0 c.tell-in-Ok-Help.result c.tell-in-Ok-Help.ensures)
 
-pub returns-in-Ok-Version-clause-accounts : goal.returns-in-Ok-Version-clause-accounts
-returns-in-Ok-Version-clause-accounts g c =
+pub returns-in-Ok-Version-clause-cause : goal.returns-in-Ok-Version-clause-cause
+returns-in-Ok-Version-clause-cause g c =
     rw (c.status_once-in-Ok-Version.ensures, ← c.streams-in-Ok-Version.view_is)
     (accounts_on_out g.S.Source.state _ _ _ _ 0 c.tell-in-Ok-Version.result c.tell-in-Ok-Version.ensures)

@@ -16,14 +16,14 @@ operands-init g c =
     }
 
 -- an operand stopped the run
-pub returns-in-Err-clause-gives : goal.returns-in-Err-clause-gives
-returns-in-Err-clause-gives g c =
+pub returns-in-Err-clause-behavior : goal.returns-in-Err-clause-behavior
+returns-in-Err-clause-behavior g c =
     let all : Operands =
     record { one = operand_behavior c.args.job.now (name_of c.args.tool); names = or_dash c.args.operands } in
     let so_far = c.operands.invariant in
     λ hold. reached_stop g.S.Source.state all c.in-Err.stop c.operands.good c.operands.name.now c.operands.operands
     c.args.streams.now c.operands.streams c.one.new.streams (so_far.reached hold)
-    (c.in-Err.ensures.gives (so_far.so_far.flushed hold))
+    (c.in-Err.ensures.behavior (so_far.so_far.flushed hold))
 
 -- an operand happened, and another one is left
 pub operands-preserved : goal.operands-preserved
@@ -39,13 +39,13 @@ operands-preserved g c =
     record {
       reached = λ hold. rw (is, ← c.in-Some.ensures) (reached_step g.S.Source.state all c.operands.good c.in-Ok.this
           c.operands.name.now c.operands.operands c.args.streams.now c.operands.streams c.one.new.streams
-          (so_far.reached hold) (c.in-Ok.ensures.gives (so_far.so_far.flushed hold)));
+          (so_far.reached hold) (c.in-Ok.ensures.behavior (so_far.so_far.flushed hold)));
       so_far = search rules;
     }
 
 -- an operand happened, and it was the last
-pub returns-in-None-clause-gives : goal.returns-in-None-clause-gives
-returns-in-None-clause-gives g c =
+pub returns-in-None-clause-behavior : goal.returns-in-None-clause-behavior
+returns-in-None-clause-behavior g c =
     let is : c.if-good.good ≡ (c.operands.good && c.in-Ok.this) =
     elim c.if-good.branch [
       | then-good w ↦ rw w.if-good.true w.good-is
@@ -57,6 +57,6 @@ returns-in-None-clause-gives g c =
     λ hold.
     let reached = reached_step g.S.Source.state all c.operands.good c.in-Ok.this c.operands.name.now c.operands.operands
     c.args.streams.now c.operands.streams c.one.new.streams (so_far.reached hold)
-    (c.in-Ok.ensures.gives (so_far.so_far.flushed hold)) in
+    (c.in-Ok.ensures.behavior (so_far.so_far.flushed hold)) in
     rw c.status.ensures (reached_end g.S.Source.state all _ c.args.streams.now c.one.new.streams
     (rw (← is, c.in-None.ensures.0) at reached))

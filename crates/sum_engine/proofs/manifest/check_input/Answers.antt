@@ -5,26 +5,26 @@ use Rattle.sum_engine.proofs.manifest.check_input.Goals as goal
 
 pub lines-init : goal.lines-init
 lines-init g c = record {
-  comes = λ hold. rw c.over-checker.ensures.begins.1 (comes_none (rules_in c.args.listing) _ _);
+  comes = λ hold. rw c.over-checker.ensures.start.1 (comes_none (rules_in c.args.listing) _ _);
   rules = c.over-checker.ensures.rules;
-  going = c.over-checker.ensures.answer;
+  going = c.over-checker.ensures.final_answer;
   so_far = search rules;
 }
 
 -- a step stopped
-pub returns-in-Err-clause-gives : goal.returns-in-Err-clause-gives
-returns-in-Err-clause-gives g c =
+pub returns-in-Err-clause-behavior : goal.returns-in-Err-clause-behavior
+returns-in-Err-clause-behavior g c =
     let so_far = c.lines.invariant in
     λ hold. comes_last g.I.Input.state g.S.Source.state _ (rules_in c.args.listing) _ c.args.streams.now
     c.step.new.streams _ c.step.new.self.cursor c.step.new.line.items (Err c.in-Err.stop)
-    so_far.rules (so_far.comes hold) (c.in-Err.ensures.gives so_far.going (so_far.so_far.flushed hold))
+    so_far.rules (so_far.comes hold) (c.in-Err.ensures.step so_far.going (so_far.so_far.flushed hold))
 
 -- the end was handled
-pub returns-in-Ok-Ended-clause-gives : goal.returns-in-Ok-Ended-clause-gives
-returns-in-Ok-Ended-clause-gives g c =
+pub returns-in-Ok-Ended-clause-behavior : goal.returns-in-Ok-Ended-clause-behavior
+returns-in-Ok-Ended-clause-behavior g c =
     let so_far = c.lines.invariant in
     λ hold.
-    let ended = rw c.in-Ok-Ended.field-0-is at (c.in-Ok-Ended.ensures.gives so_far.going (so_far.so_far.flushed hold)) in
+    let ended = rw c.in-Ok-Ended.field-0-is at (c.in-Ok-Ended.ensures.step so_far.going (so_far.so_far.flushed hold)) in
     comes_last g.I.Input.state g.S.Source.state _ (rules_in c.args.listing) _ c.args.streams.now
     c.step.new.streams _ c.step.new.self.cursor c.step.new.line.items (Ok c.in-Ok-Ended.good)
     so_far.rules (so_far.comes hold) ended
@@ -34,10 +34,10 @@ lines-preserved g c =
     let so_far = c.lines.invariant in
     record {
       comes = λ hold.
-          let gone = c.in-Ok-Going.ensures.gives so_far.going (so_far.so_far.flushed hold) in
+          let gone = c.in-Ok-Going.ensures.step so_far.going (so_far.so_far.flushed hold) in
           comes_more _ (rules_in c.args.listing) _ _ _ _ c.step.new.line.items so_far.rules (so_far.comes hold)
           (rw c.in-Ok-Going.field-0-is at gone);
-      rules = (c.in-Ok-Going.ensures.reads so_far.going).rules ∙ so_far.rules;
-      going = c.in-Ok-Going.ensures.answer so_far.going ∙ search rules;
+      rules = (c.in-Ok-Going.ensures.reader so_far.going).rules ∙ so_far.rules;
+      going = c.in-Ok-Going.ensures.final_answer so_far.going ∙ search rules;
       so_far = search rules;
     }

@@ -5,17 +5,17 @@ use Rattle.sum_engine.proofs.ManifestLemmas.{Call, check_dash, check_file, refus
 use Rattle.sum_engine.proofs.manifest.check_one.Goals as goal
 
 -- the manifest is standard input
-pub returns-then-is_dash-clause-gives : goal.returns-then-is_dash-clause-gives
-returns-then-is_dash-clause-gives g c =
+pub returns-then-is_dash-clause-behavior : goal.returns-then-is_dash-clause-behavior
+returns-then-is_dash-clause-behavior g c =
     let call : Call = record { settings = c.args.settings; tool = c.args.tool.now; name = c.args.name.now } in
     let dash : is_dash call.name ≡ true = search rules in
     rw (← c.streams.view_is) (λ hold.
-    let run = rw (c.take-input.ensures.given, c.take-input.ensures.taken) at (c.check_input.ensures.gives hold) in
+    let run = rw (c.take-input.ensures.given, c.take-input.ensures.taken) at (c.check_input.ensures.behavior hold) in
     check_dash g.S.Source.state call _ _ _ dash run)
 
 -- there was no memory to open it
-pub returns-in-Err-Memory-clause-gives : goal.returns-in-Err-Memory-clause-gives
-returns-in-Err-Memory-clause-gives g c =
+pub returns-in-Err-Memory-clause-behavior : goal.returns-in-Err-Memory-clause-behavior
+returns-in-Err-Memory-clause-behavior g c =
     let call : Call = record { settings = c.args.settings; tool = c.args.tool.now; name = c.args.name.now } in
     let answer = rw c.in-Err-Memory.field-0-is at c.in-Err-Memory.ensures.answer in
     let refused = rw c.in-Err-Memory.field-0-is at c.in-Err-Memory.ensures.refusals in
@@ -23,9 +23,9 @@ returns-in-Err-Memory-clause-gives g c =
     (λ hold. no_room g.S.File.Input.state g.S.Source.state call _ _ answer refused)
 
 -- it could not be opened, and that was told
-pub returns-in_ok-put_fault_line-in-Err-Fault-clause-gives :
-    goal.returns-in_ok-put_fault_line-in-Err-Fault-clause-gives
-returns-in_ok-put_fault_line-in-Err-Fault-clause-gives g c =
+pub returns-in_ok-put_fault_line-in-Err-Fault-clause-behavior :
+    goal.returns-in_ok-put_fault_line-in-Err-Fault-clause-behavior
+returns-in_ok-put_fault_line-in-Err-Fault-clause-behavior g c =
     let call : Call = record { settings = c.args.settings; tool = c.args.tool.now; name = c.args.name.now } in
     let dash : is_dash call.name ≡ false = search rules in
     let answer = rw c.in-Err-Fault.field-0-is at c.in-Err-Fault.ensures.answer in
@@ -35,9 +35,9 @@ returns-in_ok-put_fault_line-in-Err-Fault-clause-gives g c =
     c.in-Err-Fault.fault _ (Ok tt) dash answer refusals (told.1 hold.1).1)
 
 -- the line of its fault was cut off
-pub returns-in_err-put_fault_line-in-Err-Fault-clause-gives :
-    goal.returns-in_err-put_fault_line-in-Err-Fault-clause-gives
-returns-in_err-put_fault_line-in-Err-Fault-clause-gives g c =
+pub returns-in_err-put_fault_line-in-Err-Fault-clause-behavior :
+    goal.returns-in_err-put_fault_line-in-Err-Fault-clause-behavior
+returns-in_err-put_fault_line-in-Err-Fault-clause-behavior g c =
     let call : Call = record { settings = c.args.settings; tool = c.args.tool.now; name = c.args.name.now } in
     let dash : is_dash call.name ≡ false = search rules in
     let answer = rw c.in-Err-Fault.field-0-is at c.in-Err-Fault.ensures.answer in
@@ -48,10 +48,10 @@ returns-in_err-put_fault_line-in-Err-Fault-clause-gives g c =
     _ _ c.in-Err-Fault.fault _ (Err tt) dash answer refusals (cut.1 hold.1).1)
 
 -- it is a file
-pub returns-in-Ok-clause-gives : goal.returns-in-Ok-clause-gives
-returns-in-Ok-clause-gives g c =
+pub returns-in-Ok-clause-behavior : goal.returns-in-Ok-clause-behavior
+returns-in-Ok-clause-behavior g c =
     let call : Call = record { settings = c.args.settings; tool = c.args.tool.now; name = c.args.name.now } in
     let dash : is_dash call.name ≡ false = search rules in
     rw (← c.streams-2.view_is) (λ hold. check_file g.S.File.Input.state g.S.Source.state call _ _
     _ c.in-Ok.file _ dash c.in-Ok.ensures.answer c.in-Ok.ensures.refusals
-    (c.check_input-in-Ok.ensures.gives hold))
+    (c.check_input-in-Ok.ensures.behavior hold))

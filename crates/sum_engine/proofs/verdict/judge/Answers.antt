@@ -7,8 +7,8 @@ use Rattle.sum_engine.proofs.VerdictLemmas.{judged_entry}
 use Rattle.sum_engine.proofs.verdict.judge.Goals.{else-listing-via-then-listing+else-is_dash, else-listing-via-else-listing}
 use Rattle.sum_engine.proofs.verdict.judge.Goals as goal
 
-pub returns-clause-gives : goal.returns-clause-gives
-returns-clause-gives g c =
+pub returns-clause-verdict : goal.returns-clause-verdict
+returns-clause-verdict g c =
     let s : EntryValue = listed_entry c.args.listed.now in
     let dash : c.args.listing.now.from_stdin && is_dash s.name ≡ false =
     elim c.else-listing.branch [
@@ -16,4 +16,4 @@ returns-clause-gives g c =
       | else-listing-via-else-listing
           w ↦ search rules
     ] in
-    judged_entry (rules_in c.args.listing.now) _ _ s c.in-Some.asked _ dash c.in-Some.ensures.gives c.compare.ensures
+    judged_entry (rules_in c.args.listing.now) _ _ s c.in-Some.asked _ dash c.in-Some.ensures.outcome c.compare.ensures

@@ -4,9 +4,9 @@ use Rattle.sum_lines.specs.ParsedLines.{entry_of}
 use Rattle.sum_lines.proofs.line_reading.read_line.Goals as goal
 
 -- what neither a tag nor digits begin is a bad line
-pub returns-in-None-clause-says : goal.returns-in-None-clause-says
+pub returns-in-None-clause-parsed : goal.returns-in-None-clause-parsed
 unfolding entry_of
-returns-in-None-clause-says g c =
+returns-in-None-clause-parsed g c =
     let heard : is_ignored c.args.line.now.items ≡ false =
     rw c.deref.ensures.value at (sym c.is_ignored.ensures ∙ c.if-is_ignored.false) in
     let tagged = rw c.deref-2.ensures.value at c.in-None.ensures.tagged in

@@ -5,8 +5,8 @@ use Rattle.sum_lines.proofs.line_reading.read_name.Goals.{else-unspell-via-then-
 use Rattle.sum_lines.proofs.line_reading.read_name.Goals as goal
 
 -- the raw name was replaced by its name
-pub returns-then-not-has_nul-clause-says : goal.returns-then-not-has_nul-clause-says
-returns-then-not-has_nul-clause-says g c =
+pub returns-then-not-has_nul-clause-parsed : goal.returns-then-not-has_nul-clause-parsed
+returns-then-not-has_nul-clause-parsed g c =
     let raw = part_of c.args.line.now.items c.args.found.start c.args.found.stop c.requires.ordered in
     let name = rw (c.truncate.ensures.items, raw, c.if-unspell.true) at c.unspell.ensures.name in
     let rest = take_rest c.unspell.new.line.items c.args.found.start in
@@ -14,8 +14,8 @@ returns-then-not-has_nul-clause-says g c =
     rw (← name, ← all, c.len.ensures, ← c.deref.ensures.len, c.deref.ensures.value, rest) refl
 
 -- the name holds a NUL, or the raw name is no name's escape
-pub returns-else-unspell-clause-says : goal.returns-else-unspell-clause-says
-returns-else-unspell-clause-says g c =
+pub returns-else-unspell-clause-parsed : goal.returns-else-unspell-clause-parsed
+returns-else-unspell-clause-parsed g c =
     let raw = part_of c.args.line.now.items c.args.found.start c.args.found.stop c.requires.ordered in
     let name = rw (c.truncate.ensures.items, raw) at c.unspell.ensures.name in
     elim c.else-unspell.branch [

@@ -5,4 +5,4 @@ use Rattle.sum_lines.proofs.buffered.BufferedSink.flush.Goals as goal
 pub returns-clause-bytes : goal.returns-clause-bytes
 returns-clause-bytes g c =
     let emptied = rw (← c.self.view_is) at c.in_ok-empty.ensures in
-    Flushed-below _ _ _ c.flush.result emptied.bytes emptied.none c.flush.ensures.bytes
+    Flushed-below _ _ _ c.flush.result emptied.bytes emptied.flushed c.flush.ensures.bytes

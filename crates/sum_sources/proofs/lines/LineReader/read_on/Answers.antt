@@ -8,8 +8,8 @@ use Rattle.sum_sources.proofs.lines.LineReader.read_on.Given as given
 use Rattle.sum_sources.proofs.lines.LineReader.read_on.Goals as goal
 
 -- a newline ended the line
-pub returns-in-Ok-true-clause-gives : goal.returns-in-Ok-true-clause-gives
-returns-in-Ok-true-clause-gives g c =
+pub returns-in-Ok-true-clause-line : goal.returns-in-Ok-true-clause-line
+returns-in-Ok-true-clause-line g c =
     let piece = rw c.in-Ok-true.field-0-test at c.in-Ok-true.ensures.piece in
     ends_line c.loop-self.invariant.so_far c.in-Ok-true.ensures.same piece
 
@@ -21,22 +21,22 @@ moved g c =
     LineSoFar-piece c.loop-self.invariant.so_far c.in-Ok-false.ensures.same piece
 
 -- the input has ended, and nothing came
-pub returns-then-is_empty-clause-gives : goal.returns-then-is_empty-clause-gives
-returns-then-is_empty-clause-gives g c =
-    let ended = rw (c.in-Ok-false-fill.field-0-test, ← c.self.view_is) at c.in-Ok-false-fill.ensures.gives in
-    let so_far = moved g (goal.at.returns-then-is_empty-clause-gives g c).In-Ok-false in
+pub returns-then-is_empty-clause-line : goal.returns-then-is_empty-clause-line
+returns-then-is_empty-clause-line g c =
+    let ended = rw (c.in-Ok-false-fill.field-0-test, ← c.self.view_is) at c.in-Ok-false-fill.ensures.content in
+    let so_far = moved g (goal.at.returns-then-is_empty-clause-line g c).In-Ok-false in
     let none : c.take_piece.new.line.items ≡ [] = nil_from_length _ (search rules) in
     ends_last _ _ _ so_far ended (λ d gave. NextLineIs-none d [] (rw none at gave))
 
 -- the input has ended behind something
-pub returns-in-Ok-false-fill-clause-gives : goal.returns-in-Ok-false-fill-clause-gives
-returns-in-Ok-false-fill-clause-gives g c =
-    let ended = rw (c.in-Ok-false-fill.field-0-test, ← c.self.view_is) at c.in-Ok-false-fill.ensures.gives in
-    let so_far = moved g (goal.at.returns-in-Ok-false-fill-clause-gives g c).In-Ok-false in
+pub returns-in-Ok-false-fill-clause-line : goal.returns-in-Ok-false-fill-clause-line
+returns-in-Ok-false-fill-clause-line g c =
+    let ended = rw (c.in-Ok-false-fill.field-0-test, ← c.self.view_is) at c.in-Ok-false-fill.ensures.content in
+    let so_far = moved g (goal.at.returns-in-Ok-false-fill-clause-line g c).In-Ok-false in
     ends_last _ _ _ so_far ended (λ d. NextLineIs-last d _ so_far.plain (search rules))
 
 -- the input has a fault
-pub returns-in-Err-fill-clause-gives : goal.returns-in-Err-fill-clause-gives
-returns-in-Err-fill-clause-gives g c =
-    let so_far = moved g (goal.at.returns-in-Err-fill-clause-gives g c).In-Ok-false in
-    IfKnown-map _ _ (λ d e. NextLineIs-fault d e _ _ so_far.plain) (all_came _ _ so_far c.in-Err-fill.ensures.gives)
+pub returns-in-Err-fill-clause-line : goal.returns-in-Err-fill-clause-line
+returns-in-Err-fill-clause-line g c =
+    let so_far = moved g (goal.at.returns-in-Err-fill-clause-line g c).In-Ok-false in
+    IfKnown-map _ _ (λ d e. NextLineIs-fault d e _ _ so_far.plain) (all_came _ _ so_far c.in-Err-fill.ensures.content)
