@@ -43,7 +43,7 @@ pub(crate) fn mixed_columns(v: [u64x4; 4], x: u64x4, y: u64x4) -> [u64x4; 4]
 
 // The words of a row, turned to the left by so many places.
 #[inline(always)]
-fn turned(row: u64x4, places: usize) -> u64x4
+fn rotated_row(row: u64x4, places: usize) -> u64x4
     requires some { 0 < places }
     requires few { places < 4 }
     ensures { result ≡ rotated_row row places }
@@ -62,7 +62,7 @@ pub(crate) fn mixed_diagonals(v: [u64x4; 4], x: u64x4, y: u64x4) -> [u64x4; 4]
     ensures { words result ≡ diagonals (words v) x y }
 {
     let [a, b, c, d] = v;
-    let v = [turned(a, 3), b, turned(c, 1), turned(d, 2)];
-    let [a, b, c, d] = mixed_columns(v, turned(x, 3), turned(y, 3));
-    [turned(a, 1), b, turned(c, 3), turned(d, 2)]
+    let v = [rotated_row(a, 3), b, rotated_row(c, 1), rotated_row(d, 2)];
+    let [a, b, c, d] = mixed_columns(v, rotated_row(x, 3), rotated_row(y, 3));
+    [rotated_row(a, 1), b, rotated_row(c, 3), rotated_row(d, 2)]
 }

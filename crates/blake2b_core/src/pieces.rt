@@ -63,7 +63,7 @@ impl Blake2b {
     }
 
     // Appends bytes to those that are held.
-    fn hold(&mut self, bytes: &[u8])
+    fn buffer_bytes(&mut self, bytes: &[u8])
         requires room { self.old.buffer_len + length bytes.now ≤ 128 }
         requires fits { self.old.taken + length bytes.now < LIMIT }
         ensures holds { (m : List ℕ) → HoldsSoFar self.old m → HoldsSoFar self.new (m ++ bytes.now) }
@@ -93,7 +93,7 @@ impl Blake2b {
         if self.buffer_len == 0 || piece.len() <= room {
             return 0;
         }
-        self.hold(&piece[..room]);
+        self.buffer_bytes(&piece[..room]);
         self.h = compress(&self.h, &self.buffer, u128::from(self.taken), false);
         self.buffer_len = 0;
         room
@@ -132,7 +132,7 @@ impl Blake2b {
         let filled = self.fill(piece);
         let rest = &piece[filled..];
         let absorbed = self.absorb(rest);
-        self.hold(&rest[absorbed..]);
+        self.buffer_bytes(&rest[absorbed..]);
     }
 
     /// The digest of the message (RFC 7693, 3.3).

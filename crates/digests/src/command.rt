@@ -5,9 +5,9 @@ ghost use Rattle.sum_engine.specs.refinement.Telling.{NoneFailed};
 ghost use Rattle.digests.specs.Program.{ProgramPerforms};
 ghost use Rattle.digests.specs.refinement.Endings.{FinishesRun, tool_stop_line};
 
-use crate::ending::{settle, tell_stop};
-use crate::run::{run, status_once};
-use crate::telling::{Text, tell};
+use crate::ending::{flush_both, put_stop_message};
+use crate::run::{run, status_after_write};
+use crate::telling::{Message, put_message};
 use std::alloc::Allocator;
 use sum_engine::{Stop, Streams};
 use sum_lines::Sink;
@@ -36,22 +36,22 @@ pub fn command<A: Allocator + Copy, G: Arguments, I: Input + Drop, S: Source, O:
     match read_command_line(alloc, arguments) {
         Ok(CommandLine::Invoke(tool, words)) => {
             let answer = run(alloc, tool, &words, streams);
-            close(Some(tool), answer, &mut streams.out, &mut streams.err)
+            finish_run(Some(tool), answer, &mut streams.out, &mut streams.err)
         }
         Ok(CommandLine::UnknownTool) => {
-            let answer = status_once(tell(&mut streams.err, Text::UnknownTool), 1);
-            close(None, answer, &mut streams.out, &mut streams.err)
+            let answer = status_after_write(put_message(&mut streams.err, Message::UnknownTool), 1);
+            finish_run(None, answer, &mut streams.out, &mut streams.err)
         }
         Err(NotRead) => {
-            let answer = status_once(tell(&mut streams.err, Text::NotRead), 1);
-            close(None, answer, &mut streams.out, &mut streams.err)
+            let answer = status_after_write(put_message(&mut streams.err, Message::NotRead), 1);
+            finish_run(None, answer, &mut streams.out, &mut streams.err)
         }
     }
 }
 
 // Ends a run that answered so: flushes both outputs once more, unless it stopped, and tells of a stop. Answers
 // the exit status: that of the run, or 1 after a stop or a flush that failed.
-fn close<O: Sink, E: Sink>(
+fn finish_run<O: Sink, E: Sink>(
     tool: Option<Tool>,
     answer: Result<u8, Stop>,
     out: &mut O,
@@ -64,10 +64,10 @@ fn close<O: Sink, E: Sink>(
     ensures no_failures { result ≡ 0
         → IsOk answer × NoneFailed (O.state out.old) (O.state out.new) (E.state err.old) (E.state err.new) }
 {
-    match settle(answer, out, err) {
+    match flush_both(answer, out, err) {
         Ok(status) => status,
         Err(stop) => {
-            let _ = tell_stop(tool, stop, err);
+            let _ = put_stop_message(tool, stop, err);
             1
         }
     }

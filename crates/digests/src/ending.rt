@@ -4,14 +4,14 @@ ghost use Rattle.std.specs.Io.KnownBytes.{Keeps};
 ghost use Rattle.sum_engine.specs.refinement.Telling.{WritesAndFlushes};
 ghost use Rattle.digests.specs.refinement.Endings.{FlushesBoth, tool_stop_line};
 
-use crate::telling::{Text, tell};
+use crate::telling::{Message, put_message};
 use sum_engine::Stop;
 use sum_lines::{Sink, SinkFault};
 use sum_words::Tool;
 
 /// Flushes both outputs, unless the run stopped or the first flush fails. Answers as the run did, or `Stop::Write`
 /// where a flush failed, which can be though nothing was held.
-pub(crate) fn settle<O: Sink, E: Sink>(
+pub(crate) fn flush_both<O: Sink, E: Sink>(
     answer: Result<u8, Stop>,
     out: &mut O,
     err: &mut E,
@@ -30,7 +30,7 @@ pub(crate) fn settle<O: Sink, E: Sink>(
 }
 
 /// Writes the line for a stop and hands it on, where there is a tool to tell of it.
-pub(crate) fn tell_stop<E: Sink>(
+pub(crate) fn put_stop_message<E: Sink>(
     tool: Option<Tool>,
     stop: Stop,
     err: &mut E,
@@ -39,6 +39,6 @@ pub(crate) fn tell_stop<E: Sink>(
 {
     match tool {
         None => Ok(()),
-        Some(tool) => tell(err, Text::Stop(tool, stop)),
+        Some(tool) => put_message(err, Message::Stop(tool, stop)),
     }
 }

@@ -8,7 +8,7 @@ ghost use Rattle.digests.specs.Meaning.{operands_behavior, request_behavior, ope
 ghost use Rattle.digests.specs.Refusals.{RefusalsOfJob, RefusalsOf};
 ghost use Rattle.digests.specs.refinement.Operands.{status_after_write};
 
-use crate::telling::{Text, tell};
+use crate::telling::{Message, put_message};
 use std::alloc::Allocator;
 use sum_engine::{Stop, Streams, check_one, generate_one};
 use sum_lines::{Sink, SinkFault};
@@ -34,10 +34,10 @@ pub fn run<A: Allocator + Copy, I: Input + Drop, S: Source, O: Sink, E: Sink>(
     ensures refusals { RefusalsMatch S.state (RefusalsOf (request tool words.now)) streams.old streams.new result }
     ensures failures { FailuresMatch streams.old streams.new result }
 {
-    answer(alloc, tool, read_words(tool, words), streams)
+    run_request(alloc, tool, read_words(tool, words), streams)
 }
 
-fn answer<A: Allocator + Copy, I: Input + Drop, S: Source, O: Sink, E: Sink>(
+fn run_request<A: Allocator + Copy, I: Input + Drop, S: Source, O: Sink, E: Sink>(
     alloc: A,
     tool: Tool,
     asked: Result<Request, WordFault>,
@@ -47,22 +47,22 @@ fn answer<A: Allocator + Copy, I: Input + Drop, S: Source, O: Sink, E: Sink>(
     ensures cause { StopHasCause S.state (RefusalsOf (result_of asked.entry)) streams.old streams.new result }
 {
     match asked {
-        Err(fault) => status_once(tell(&mut streams.err, Text::Fault(tool, &fault)), 1),
-        Ok(Request::Help) => status_once(tell(&mut streams.out, Text::Help(tool)), 0),
-        Ok(Request::Version) => status_once(tell(&mut streams.out, Text::Version(tool)), 0),
-        Ok(Request::Work(job, operands)) => each(alloc, &job, tool, operands, streams),
+        Err(fault) => status_after_write(put_message(&mut streams.err, Message::Fault(tool, &fault)), 1),
+        Ok(Request::Help) => status_after_write(put_message(&mut streams.out, Message::Help(tool)), 0),
+        Ok(Request::Version) => status_after_write(put_message(&mut streams.out, Message::Version(tool)), 0),
+        Ok(Request::Work(job, operands)) => run_operands(alloc, &job, tool, operands, streams),
     }
 }
 
 // The end of a run that wrote one text.
-pub(crate) fn status_once(told: Result<(), SinkFault>, status: u8) -> Result<u8, Stop>
+pub(crate) fn status_after_write(told: Result<(), SinkFault>, status: u8) -> Result<u8, Stop>
     ensures { result ≡ status_after_write told status }
 {
     told?;
     Ok(status)
 }
 
-fn one<A: Allocator + Copy, I: Input + Drop, S: Source, O: Sink, E: Sink>(
+fn run_operand<A: Allocator + Copy, I: Input + Drop, S: Source, O: Sink, E: Sink>(
     alloc: A,
     job: &Job,
     tool: Tool,
@@ -89,7 +89,7 @@ fn first_name<'a>(operands: &mut Operands<'a>) -> &'a [u8]
     }
 }
 
-fn each<A: Allocator + Copy, I: Input + Drop, S: Source, O: Sink, E: Sink>(
+fn run_operands<A: Allocator + Copy, I: Input + Drop, S: Source, O: Sink, E: Sink>(
     alloc: A,
     job: &Job,
     tool: Tool,
@@ -104,7 +104,7 @@ fn each<A: Allocator + Copy, I: Input + Drop, S: Source, O: Sink, E: Sink>(
     let mut name = first_name(&mut operands);
     let mut good = true;
     'operands: loop {
-        match one(alloc, job, tool, name, streams) {
+        match run_operand(alloc, job, tool, name, streams) {
             Ok(this) => good = good && this,
             Err(stop) => return Err(stop),
         }

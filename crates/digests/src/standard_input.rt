@@ -7,7 +7,7 @@ use std::os::fd::AsFd;
 use sum_sources::{Closable, FromRead};
 
 /// The system's number for "bad file descriptor", `EBADF`.
-const NOT_OPEN: i32 = 9;
+const EBADF: i32 = 9;
 
 /// Standard input. A closed one is found out here, before any file is opened: the system would give its number to the
 /// next file, whose bytes would then stand for those of standard input. Of an open one nothing is read.
@@ -21,5 +21,5 @@ pub fn standard_input(stdin: Stdin) -> Closable<FromRead<Stdin>>
 }
 
 fn is_closed(error: &Error) -> bool {
-    error.raw_os_error() == Some(NOT_OPEN)
+    error.raw_os_error() == Some(EBADF)
 }

@@ -8,7 +8,7 @@ use sum_words::{Tool, WordFault, put_fault, put_help, put_stop, put_unknown, put
 
 /// A text of the program.
 #[derive(Clone, Copy)]
-pub(crate) enum Text<'a> {
+pub(crate) enum Message<'a> {
     /// The two lines of a fault in the words.
     Fault(Tool, &'a WordFault<'a>),
     Help(Tool),
@@ -24,22 +24,22 @@ pub(crate) enum Text<'a> {
 ghost use Rattle.digests.specs.refinement.WholeTexts.{message_text};
 
 /// Writes a text, and hands it on. A fault where that failed; a prefix of the text is then handed on.
-pub(crate) fn tell<S: Sink>(sink: &mut S, text: Text) -> Result<(), SinkFault>
+pub(crate) fn put_message<S: Sink>(sink: &mut S, text: Message) -> Result<(), SinkFault>
     ensures { WritesAndFlushes (S.state sink.old) (S.state sink.new) (message_text text.entry) result }
 {
-    put(sink, text)?;
+    buffer_message(sink, text)?;
     sink.flush()
 }
 
-fn put<S: Sink>(sink: &mut S, text: Text) -> Result<(), SinkFault>
+fn buffer_message<S: Sink>(sink: &mut S, text: Message) -> Result<(), SinkFault>
     ensures { WritesAll (S.state sink.old) (S.state sink.new) (message_text text.entry) result }
 {
     match text {
-        Text::Fault(tool, fault) => put_fault(sink, tool, fault),
-        Text::Help(tool) => put_help(sink, tool),
-        Text::Version(tool) => put_version(sink, tool),
-        Text::UnknownTool => put_unknown(sink),
-        Text::NotRead => put_all(sink, b"digests: words not read\n"),
-        Text::Stop(tool, stop) => put_stop(sink, tool, stop),
+        Message::Fault(tool, fault) => put_fault(sink, tool, fault),
+        Message::Help(tool) => put_help(sink, tool),
+        Message::Version(tool) => put_version(sink, tool),
+        Message::UnknownTool => put_unknown(sink),
+        Message::NotRead => put_all(sink, b"digests: words not read\n"),
+        Message::Stop(tool, stop) => put_stop(sink, tool, stop),
     }
 }

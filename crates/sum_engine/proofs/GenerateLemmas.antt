@@ -4,29 +4,29 @@ use Rattle.std.proofs.Math.Bool.{or-false}
 use Rattle.digest_kinds.specs.Kinds.{KindValue}
 use Rattle.sum_engine.specs.Runs.{Fault, is_dash, reply, digest_or_fault, Step, single_step}
 use Rattle.sum_sources.specs.Contents.{Reply, SourceState}
-use Rattle.sum_engine.specs.refinement.Asking.{Asked, HashesNameIfKnown, IsHashOutcome, world_of}
+use Rattle.sum_engine.specs.refinement.Asking.{HashOutcome, HashesNameIfKnown, IsHashOutcome, world_of}
 use Rattle.sum_engine.specs.Generation.{Settings, generate_behavior, generate_behavior_by}
 use Rattle.sum_engine.specs.Moments.{StreamsState}
 use Rattle.sum_engine.specs.refinement.Telling.{WritesBoth}
 use Rattle.sum_engine.proofs.RunStateLemmas.{Runs, Writing}
 use Rattle.sum_engine.proofs.RunLemmas.{answered, once}
-use Rattle.sum_engine.specs.declared.asking.Asked.TheVariants as asked
+use Rattle.sum_engine.specs.declared.asking.HashOutcome.TheVariants as asked
 
 -- what came of a name: its digest, or the fault of opening or reading it
-abbrev pub found : Asked → Result (List ℕ) Fault
+abbrev pub found : HashOutcome → Result (List ℕ) Fault
 found (asked.Read d) = Ok d
 found (asked.NotOpened f) = Err f
 found (asked.Broken f) = Err f
 
 -- it is what the definitions say of the reply
-found_is : (kind : KindValue) (r : Reply) (a : Asked) → IsHashOutcome kind r a → digest_or_fault kind r ≡ found a
+found_is : (kind : KindValue) (r : Reply) (a : HashOutcome) → IsHashOutcome kind r a → digest_or_fault kind r ≡ found a
 found_is kind r (asked.Read d) h = ap (digest_or_fault kind) h.1 ∙ h.2
 found_is kind r (asked.NotOpened f) h = ap (digest_or_fault kind) h
 found_is kind r (asked.Broken f) h = ap (digest_or_fault kind) h.1 ∙ h.2
 
 -- the name was asked, and its line or that of its fault was handed on, or a prefix of it
 pub told : {S : Type 0} (state : S → SourceState) (settings : Settings) (tool name err out : List ℕ) (good : Bool)
-    (a b : StreamsState S) (came : Asked) (x : Writing)
+    (a b : StreamsState S) (came : HashOutcome) (x : Writing)
     → HashesNameIfKnown settings.kind (world_of state a) (world_of state b) name (Some came)
     → b.stdin_taken ≡ a.stdin_taken || is_dash name → (state b.source).refusals ≡ (state a.source).refusals
     → generate_behavior_by settings tool name (found came) ≡ single_step (name ∷ []) err out good

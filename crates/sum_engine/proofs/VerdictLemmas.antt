@@ -5,19 +5,19 @@ use Rattle.digest_kinds.specs.Kinds.{KindValue}
 use Rattle.sum_sources.specs.declared.fault.Fault.TheVariants.{NotFound}
 use Rattle.sum_sources.specs.Contents.{IfKnown, Reply}
 use Rattle.sum_lines.specs.Entries.{EntryValue}
-use Rattle.sum_engine.specs.refinement.Asking.{Asked, HashesNameIfKnown, IsHashOutcome}
+use Rattle.sum_engine.specs.refinement.Asking.{HashOutcome, HashesNameIfKnown, IsHashOutcome}
 use Rattle.sum_engine.specs.Verdicts.{Verdict, Right, Wrong, Missing, Unread, Rules, verdict_of, not_found, digest_verdict, asks_by}
 use Rattle.sum_engine.specs.Runs.{World, is_dash, reply, digest_or_fault}
 use Rattle.sum_lines.specs.ParsedLines.{entry}
 use Rattle.sum_engine.specs.refinement.Judging.{IsJudged, verdict_of_outcome}
-use Rattle.sum_engine.specs.declared.asking.Asked.TheVariants as asked
+use Rattle.sum_engine.specs.declared.asking.HashOutcome.TheVariants as asked
 
 -- a reply against the line's digest
 abbrev verdict_by : Bool → KindValue → List ℕ → Reply → Verdict
 verdict_by ignore kind d r = cond (ignore && not_found r) Missing (digest_verdict d (digest_or_fault kind r))
 
 -- the verdict by a reply is the verdict by what came of asking
-by_asked : (ignore : Bool) (kind : KindValue) (d : List ℕ) (r : Reply) (a : Asked) → IsHashOutcome kind r a
+by_asked : (ignore : Bool) (kind : KindValue) (d : List ℕ) (r : Reply) (a : HashOutcome) → IsHashOutcome kind r a
     → verdict_by ignore kind d r ≡ verdict_of_outcome ignore d a
 by_asked ignore kind d r (asked.Read x) h = rw (h.1, h.2, and-false) refl
 by_asked ignore kind d r (asked.Broken f) h = rw (h.1, h.2, and-false) refl
@@ -31,19 +31,19 @@ asks_either true x y name h k = h
 asks_either false x y name h k = k
 
 -- whatever came of asking, the name was asked
-asks_compared : (ignore : Bool) (d : List ℕ) (a : Asked) (name : List ℕ)
+asks_compared : (ignore : Bool) (d : List ℕ) (a : HashOutcome) (name : List ℕ)
     → asks_by (verdict_of_outcome ignore d a) name ≡ name ∷ []
 asks_compared ignore d (asked.Read x) name = asks_either (bytes_eq x d) Right Wrong name refl refl
 asks_compared ignore d (asked.NotOpened NotFound) name = asks_either ignore Missing (Unread NotFound) name refl refl
 asks_compared ignore d a name = refl
 
 -- so is the verdict of an entry
-verdict_is : (r : Rules) (w : World) (s : EntryValue) (a : Asked) → r.from_stdin && is_dash s.name ≡ false
+verdict_is : (r : Rules) (w : World) (s : EntryValue) (a : HashOutcome) → r.from_stdin && is_dash s.name ≡ false
     → IsHashOutcome s.kind (reply w s.name) a → verdict_of r w s ≡ verdict_of_outcome r.settings.ignore_missing s.digest a
 verdict_is r w s a dash h = search rules
 
 -- an entry's verdict, by what came of asking its name
-pub judged_entry : (r : Rules) (w v : Option World) (s : EntryValue) (a : Asked) (verdict : Verdict)
+pub judged_entry : (r : Rules) (w v : Option World) (s : EntryValue) (a : HashOutcome) (verdict : Verdict)
     → r.from_stdin && is_dash s.name ≡ false → HashesNameIfKnown s.kind w v s.name (Some a)
     → verdict ≡ verdict_of_outcome r.settings.ignore_missing s.digest a
     → IfKnown w v (λ w v. IsJudged r w v (entry s) verdict)

@@ -8,7 +8,7 @@ use sum_sources::{Fault, Input, OpenFault, PIECE, Source, Stdin, hash_input_over
 
 /// What came of a name that was asked.
 #[derive(Drop)]
-pub(crate) enum Asked {
+pub(crate) enum HashOutcome {
     /// It was read whole, and this is its digest.
     Read(Digest),
     /// It could not be opened.
@@ -28,13 +28,13 @@ ghost use Rattle.sum_engine.specs.refinement.Asking.{HashesNameIfKnown, IsRead, 
 
 /// Opens the name, where `-` is standard input, and reads it to its end, by way of the buffer. None where the source
 /// had no memory to open it; the name then doesn't count as asked.
-pub(crate) fn ask<I: Input + Drop, S: Source>(
+pub(crate) fn hash_name<I: Input + Drop, S: Source>(
     kind: Kind,
     name: &[u8],
     stdin: &mut Stdin<I>,
     source: &mut S,
     buffer: &mut [u8; PIECE],
-) -> Option<Asked>
+) -> Option<HashOutcome>
     ensures outcome { HashesNameIfKnown kind (world_of S.state (lent_streams I.state stdin.old source.old))
         (world_of S.state (lent_streams I.state stdin.new source.new)) name.now result }
     ensures stdin_taken { is_none stdin.new ≡ is_none stdin.old || is_dash name.now }
@@ -47,7 +47,7 @@ pub(crate) fn ask<I: Input + Drop, S: Source>(
     }
     match source.open_file(name) {
         Ok(file) => Some(read_digest(file, AnyHasher::new(kind), buffer)),
-        Err(OpenFault::Fault(fault)) => Some(Asked::NotOpened(fault)),
+        Err(OpenFault::Fault(fault)) => Some(HashOutcome::NotOpened(fault)),
         Err(OpenFault::Memory) => None,
     }
 }
@@ -58,13 +58,13 @@ fn read_digest<F: Input + Drop, H: Hasher + Drop>(
     mut file: F,
     hasher: H,
     buffer: &mut [u8; PIECE],
-) -> Asked
+) -> HashOutcome
     requires { H.holds hasher [] }
     ensures outcome { IfSome (F.state file).content (λ c. IsRead (H.kind_of hasher) c result) }
     ensures digest_len { HasKindLen (H.kind_of hasher) (Some result) }
 {
     match hash_input_over(&mut file, hasher, buffer) {
-        Ok(digest) => Asked::Read(digest),
-        Err(fault) => Asked::Broken(fault),
+        Ok(digest) => HashOutcome::Read(digest),
+        Err(fault) => HashOutcome::Broken(fault),
     }
 }

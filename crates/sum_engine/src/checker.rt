@@ -3,8 +3,8 @@ ghost use Rattle.std.specs.Prelude.{◌≡◌, ◌≤◌, [], None, Some, Err, O
 ghost use Rattle.sum_lines.specs.Escape.{present};
 ghost use Rattle.sum_engine.specs.Steps.{MemoryStopHasCause};
 
-use crate::listing::Listing;
-use crate::position::Position;
+use crate::listing::CheckRules;
+use crate::position::CheckCursor;
 use crate::progress::Progress;
 use crate::settings::CheckSettings;
 use crate::stop::Stop;
@@ -18,7 +18,7 @@ use sum_sources::{Input, Source};
 /// A manifest that is being checked. It takes a line, handles it, and only then takes the next.
 #[derive(Drop)]
 pub struct Checker<'a, I> {
-    position: Position<'a, I>,
+    position: CheckCursor<'a, I>,
     // what every later step answers again, where there is such an answer
     final_answer: Option<Result<Progress, Stop>>,
 }
@@ -62,7 +62,7 @@ impl<'a, I: Input> Checker<'a, I> {
         ensures start { IsAtStart I.state result.cursor input }
         ensures final_answer { result.final_answer ≡ None }
     {
-        let listing = Listing {
+        let listing = CheckRules {
             settings,
             tool,
             shown,
@@ -72,13 +72,13 @@ impl<'a, I: Input> Checker<'a, I> {
     }
 
     /// A checker of the manifest that `input` gives, by what it is listed as.
-    pub(crate) fn over(listing: Listing<'a>, input: I) -> Self
+    pub(crate) fn over(listing: CheckRules<'a>, input: I) -> Self
         ensures rules { result.cursor.rules ≡ rules_in listing.entry }
         ensures start { IsAtStart I.state result.cursor input }
         ensures final_answer { result.final_answer ≡ None }
     {
         Checker {
-            position: Position::new(listing, input),
+            position: CheckCursor::new(listing, input),
             final_answer: None,
         }
     }

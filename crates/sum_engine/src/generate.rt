@@ -7,7 +7,7 @@ ghost use Rattle.sum_engine.specs.refinement.Telling.{WritesAndFlushes};
 ghost use Rattle.digest_kinds.specs.Limits.{one_more};
 ghost use Rattle.sum_engine.specs.Moments.{IsFlushed, FailuresMatch, RefusalsMatch, NoOutputOnMemory, Performs};
 
-use crate::asking::{Asked, ask};
+use crate::asking::{HashOutcome, hash_name};
 use crate::report::put_fault_line;
 use crate::settings::Settings;
 use crate::stop::Stop;
@@ -37,7 +37,7 @@ pub fn generate_one<I: Input + Drop, S: Source, O: Sink, E: Sink>(
     ensures no_output_on_memory { NoOutputOnMemory streams.old streams.new result }
 {
     let mut buffer = [0; PIECE];
-    let asked = ask(
+    let asked = hash_name(
         settings.kind,
         name,
         &mut streams.stdin,
@@ -46,15 +46,15 @@ pub fn generate_one<I: Input + Drop, S: Source, O: Sink, E: Sink>(
     );
     match asked {
         None => Err(Stop::Memory),
-        Some(Asked::Read(digest)) => {
-            tell_line(&mut streams.out, settings, name, &digest)?;
+        Some(HashOutcome::Read(digest)) => {
+            put_line_flushed(&mut streams.out, settings, name, &digest)?;
             Ok(true)
         }
-        Some(Asked::NotOpened(fault)) => {
+        Some(HashOutcome::NotOpened(fault)) => {
             put_fault_line(&mut streams.err, tool, name, fault)?;
             Ok(false)
         }
-        Some(Asked::Broken(fault)) => {
+        Some(HashOutcome::Broken(fault)) => {
             put_fault_line(&mut streams.err, tool, name, fault)?;
             Ok(false)
         }
@@ -62,7 +62,7 @@ pub fn generate_one<I: Input + Drop, S: Source, O: Sink, E: Sink>(
 }
 
 // Writes the line of a name and its digest, and hands it on.
-fn tell_line<O: Sink>(
+fn put_line_flushed<O: Sink>(
     out: &mut O,
     settings: &Settings,
     name: &[u8],

@@ -10,7 +10,7 @@ ghost use Rattle.sum_engine.specs.refinement.Positions.{rules_in};
 
 use crate::asking::is_dash;
 use crate::checker::Checker;
-use crate::listing::Listing;
+use crate::listing::CheckRules;
 use crate::progress::Progress;
 use crate::report::put_fault_line;
 use crate::settings::CheckSettings;
@@ -43,7 +43,7 @@ pub fn check_one<A: Allocator + Copy, J: Input + Drop, S: Source, O: Sink, E: Si
 {
     if is_dash(name) {
         let input = streams.stdin.take();
-        let listing = Listing {
+        let listing = CheckRules {
             settings,
             tool,
             shown: b"standard input",
@@ -58,7 +58,7 @@ pub fn check_one<A: Allocator + Copy, J: Input + Drop, S: Source, O: Sink, E: Si
             Ok(false)
         }
         Ok(file) => {
-            let listing = Listing {
+            let listing = CheckRules {
                 settings,
                 tool,
                 shown: name,
@@ -72,7 +72,7 @@ pub fn check_one<A: Allocator + Copy, J: Input + Drop, S: Source, O: Sink, E: Si
 // Checks a manifest that was opened.
 fn check_input<'a, A: Allocator, I: Input + Drop, J: Input + Drop, S: Source, O: Sink, E: Sink>(
     alloc: A,
-    listing: Listing<'a>,
+    listing: CheckRules<'a>,
     input: I,
     streams: &mut Streams<J, S, O, E>,
 ) -> Result<bool, Stop>

@@ -4,13 +4,13 @@ ghost use Rattle.std.specs.Prelude.{is_none, IfSome, IfOk};
 ghost use Rattle.digest_kinds.specs.Limits.{LIMIT};
 ghost use Rattle.sum_engine.specs.Reports.{total, counts_with};
 
-use crate::listing::Listing;
+use crate::listing::CheckRules;
 use crate::progress::Progress;
 use crate::report::{put_fault_line, put_report};
 use crate::stop::Stop;
 use crate::streams::Streams;
 use crate::summary::{Counts, is_good, put_summary};
-use crate::verdict::{LineVerdict, Listed, Verdict, judge};
+use crate::verdict::{LineVerdict, ListedEntry, Verdict, judge};
 use digest_kinds::LIMIT;
 use std::alloc::Allocator;
 use sum_lines::{Form, Reading, Sink, read_line};
@@ -18,8 +18,8 @@ use sum_sources::{Input, LineReader, LineStop, Next, PIECE, Source, Stdin};
 
 /// A manifest, its lines so far, and what is still to come of it.
 #[derive(Drop)]
-pub(crate) struct Position<'a, I> {
-    listing: Listing<'a>,
+pub(crate) struct CheckCursor<'a, I> {
+    listing: CheckRules<'a>,
     reader: LineReader<I>,
     form: Form,
     counts: Counts,
@@ -28,7 +28,7 @@ pub(crate) struct Position<'a, I> {
     ghost few: { total counts ≤ reader.lines },
 }
 
-impl<'a, I: Input> Position<'a, I> {
+impl<'a, I: Input> CheckCursor<'a, I> {
     ghost use Rattle.sum_sources.specs.Contents.{IfKnown};
     ghost use Rattle.sum_sources.specs.LineReaders.{remaining_content};
     ghost use Rattle.sum_engine.specs.Moments.{known_state, IsFlushed, FailuresMatch, NoOutputOnMemory};
@@ -44,11 +44,11 @@ impl<'a, I: Input> Position<'a, I> {
     ghost use Rattle.sum_engine.specs.refinement.Positions.{rules_in, cursor_value};
 
     /// In front of the first line of the manifest that `input` gives.
-    pub(crate) fn new(listing: Listing<'a>, input: I) -> Self
+    pub(crate) fn new(listing: CheckRules<'a>, input: I) -> Self
         ensures rules { rules_in result.listing ≡ rules_in listing.entry }
         ensures start { IsAtStart I.state (cursor_value result) input }
     {
-        Position {
+        CheckCursor {
             listing,
             reader: LineReader::new(input),
             form: Form::Undecided,
@@ -87,7 +87,7 @@ impl<'a, I: Input> Position<'a, I> {
         ensures no_output_on_memory { NoOutputOnMemory streams.old streams.new result }
         ensures reader { AdvancesReader I.state (cursor_value self.old) (cursor_value self.new) result }
     {
-        match self.find(line, &mut streams.stdin, &mut streams.source) {
+        match self.next_verdict(line, &mut streams.stdin, &mut streams.source) {
             Err(LineStop::Memory) => Err(Stop::Memory),
             Err(LineStop::Fault(fault)) => {
                 put_fault_line(
@@ -120,7 +120,7 @@ impl<'a, I: Input> Position<'a, I> {
     }
 
     /// The verdict of the next line, or None where no line is left. Nothing is written.
-    pub(crate) fn find<A: Allocator, J: Input + Drop, S: Source>(
+    pub(crate) fn next_verdict<A: Allocator, J: Input + Drop, S: Source>(
         &mut self,
         line: &mut Vec<u8, A>,
         stdin: &mut Stdin<J>,
@@ -166,15 +166,15 @@ impl<'a, I: Input> Position<'a, I> {
         let (reading, form) = read_line(self.listing.settings.algos, self.form, line);
         self.form = form;
         match reading {
-            Reading::Ignored => Some(self.found(Verdict::Ignored, 0, 0)),
-            Reading::Bad => Some(self.found(Verdict::Bad, 0, 0)),
+            Reading::Ignored => Some(self.count_verdict(Verdict::Ignored, 0, 0)),
+            Reading::Bad => Some(self.count_verdict(Verdict::Bad, 0, 0)),
             Reading::Entry {
                 kind,
                 digest,
                 start,
                 stop,
             } => {
-                let listed = Listed {
+                let listed = ListedEntry {
                     kind,
                     digest: &digest,
                     name: &line[start..stop],
@@ -183,13 +183,13 @@ impl<'a, I: Input> Position<'a, I> {
                 let Some(verdict) = judge(listing, &listed, stdin, source, &mut self.buffer) else {
                     return None;
                 };
-                Some(self.found(verdict, start, stop))
+                Some(self.count_verdict(verdict, start, stop))
             }
         }
     }
 
     // The verdict of the line that was read last, which is counted, and where its name stands.
-    fn found(&mut self, verdict: Verdict, start: usize, stop: usize) -> LineVerdict
+    fn count_verdict(&mut self, verdict: Verdict, start: usize, stop: usize) -> LineVerdict
         requires room { total self.old.counts < self.old.reader.lines }
         requires few { self.old.reader.lines ≤ LIMIT }
         ensures is { result

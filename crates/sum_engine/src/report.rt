@@ -8,9 +8,9 @@ ghost use Rattle.sum_engine.specs.Reports.{verdict_line, bad_line, err_by};
 ghost use Rattle.sum_engine.specs.refinement.Positions.{rules_in};
 ghost use Rattle.sum_engine.specs.refinement.Telling.{out_by, WritesAndFlushes, WritesBoth, NoneFailed, OneFailed};
 
-use crate::listing::Listing;
+use crate::listing::CheckRules;
 use crate::settings::Report;
-use crate::telling::tell;
+use crate::telling::put_parts_flushed;
 use crate::verdict::Verdict;
 use digest_kinds::Algos;
 use sum_lines::{Part, Sink, SinkFault, needs_escape};
@@ -25,7 +25,7 @@ pub(crate) fn put_tool_line<'a, E: Sink>(
 ) -> Result<(), SinkFault>
     ensures { WritesAndFlushes (E.state err.old) (E.state err.new) (tool_line present tool.now name.now text.now) result }
 {
-    tell(
+    put_parts_flushed(
         err,
         &[
             Part::Bytes(tool.as_bytes()),
@@ -54,7 +54,7 @@ pub(crate) fn put_fault_line<E: Sink>(
 pub(crate) fn put_report<O: Sink, E: Sink>(
     out: &mut O,
     err: &mut E,
-    listing: &Listing,
+    listing: &CheckRules,
     number: u64,
     verdict: Verdict,
     name: &[u8],
@@ -84,17 +84,17 @@ fn put_out<O: Sink>(
     ensures { WritesAndFlushes (O.state out.old) (O.state out.new) (out_by present report verdict name.now) result }
 {
     match report {
-        Report::All => put_said(out, verdict, name),
-        Report::Warn => put_said(out, verdict, name),
+        Report::All => put_verdict(out, verdict, name),
+        Report::Warn => put_verdict(out, verdict, name),
         Report::Quiet => match verdict {
             Verdict::Right => Ok(()),
-            _ => put_said(out, verdict, name),
+            _ => put_verdict(out, verdict, name),
         },
         Report::Status => Ok(()),
     }
 }
 
-fn put_said<O: Sink>(out: &mut O, verdict: Verdict, name: &[u8]) -> Result<(), SinkFault>
+fn put_verdict<O: Sink>(out: &mut O, verdict: Verdict, name: &[u8]) -> Result<(), SinkFault>
     ensures { WritesAndFlushes (O.state out.old) (O.state out.new) (verdict_line present verdict name.now) result }
 {
     match verdict {
@@ -111,17 +111,17 @@ fn put_name_line<'a, O: Sink>(out: &mut O, name: &'a [u8], rest: &'a [u8]) -> Re
         (concat (mark (escape_differs present name.now) ∷ escape name.now ∷ rest.now ∷ [])) result }
 {
     if needs_escape(name) {
-        return tell(
+        return put_parts_flushed(
             out,
             &[Part::Bytes(b"\\"), Part::Escaped(name), Part::Bytes(rest)],
         );
     }
-    tell(out, &[Part::Bytes(name), Part::Bytes(rest)])
+    put_parts_flushed(out, &[Part::Bytes(name), Part::Bytes(rest)])
 }
 
 fn put_err<E: Sink>(
     err: &mut E,
-    listing: &Listing,
+    listing: &CheckRules,
     number: u64,
     verdict: Verdict,
     name: &[u8],
@@ -139,11 +139,11 @@ fn put_err<E: Sink>(
     }
 }
 
-fn put_bad_line<E: Sink>(err: &mut E, listing: &Listing, number: u64) -> Result<(), SinkFault>
+fn put_bad_line<E: Sink>(err: &mut E, listing: &CheckRules, number: u64) -> Result<(), SinkFault>
     ensures { WritesAndFlushes (E.state err.old) (E.state err.new) (bad_line (rules_in listing.now) number) result }
 {
     let word = tag_word(listing.settings.algos);
-    tell(
+    put_parts_flushed(
         err,
         &[
             Part::Bytes(listing.tool.as_bytes()),

@@ -1,10 +1,10 @@
 //! The end of a manifest.
 ghost use Rattle.std.specs.Prelude.{◌≡◌, ◌<◌, ◌^◌};
 
-use crate::listing::Listing;
+use crate::listing::CheckRules;
 use crate::report::put_tool_line;
 use crate::settings::Report;
-use crate::telling::tell;
+use crate::telling::put_parts_flushed;
 use crate::verdict::Verdict;
 use sum_lines::{Part, Sink, SinkFault};
 
@@ -60,7 +60,7 @@ impl Counts {
 }
 
 /// Whether a manifest that was read whole is good.
-pub(crate) fn is_good(listing: &Listing, counts: Counts) -> bool
+pub(crate) fn is_good(listing: &CheckRules, counts: Counts) -> bool
     ensures { result ≡ good (rules_in listing.now) Whole counts }
 {
     counts.right != 0
@@ -72,7 +72,7 @@ pub(crate) fn is_good(listing: &Listing, counts: Counts) -> bool
 /// Writes the end of a manifest that was read whole.
 pub(crate) fn put_summary<E: Sink>(
     err: &mut E,
-    listing: &Listing,
+    listing: &CheckRules,
     counts: Counts,
 ) -> Result<(), SinkFault>
     requires { total counts < 2 ^ 63 }
@@ -88,7 +88,7 @@ pub(crate) fn put_summary<E: Sink>(
     }
 }
 
-fn put_warnings<E: Sink>(err: &mut E, listing: &Listing, counts: Counts) -> Result<(), SinkFault>
+fn put_warnings<E: Sink>(err: &mut E, listing: &CheckRules, counts: Counts) -> Result<(), SinkFault>
     ensures { WritesAndFlushes (E.state err.old) (E.state err.new) (warnings (rules_in listing.now) counts) result }
 {
     let tool = listing.tool;
@@ -129,7 +129,7 @@ fn put_warning<'a, E: Sink>(
         return Ok(());
     }
     let text = if count == 1 { one } else { many };
-    tell(
+    put_parts_flushed(
         err,
         &[
             Part::Bytes(tool.as_bytes()),
@@ -141,7 +141,7 @@ fn put_warning<'a, E: Sink>(
     )
 }
 
-fn put_unverified<E: Sink>(err: &mut E, listing: &Listing, counts: Counts) -> Result<(), SinkFault>
+fn put_unverified<E: Sink>(err: &mut E, listing: &CheckRules, counts: Counts) -> Result<(), SinkFault>
     ensures { WritesAndFlushes (E.state err.old) (E.state err.new) (unverified_line (rules_in listing.now) counts) result }
 {
     if listing.settings.ignore_missing && counts.right == 0 {

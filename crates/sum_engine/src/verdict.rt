@@ -7,8 +7,8 @@ ghost use Rattle.sum_lines.specs.ParsedLines.{entry};
 ghost use Rattle.sum_engine.specs.LineVerdicts.{lent_streams};
 ghost use Rattle.sum_engine.specs.refinement.Asking.{RefusedUnless, world_of};
 
-use crate::asking::{Asked, ask, is_dash};
-use crate::listing::Listing;
+use crate::asking::{HashOutcome, hash_name, is_dash};
+use crate::listing::CheckRules;
 use digest_kinds::{Digest, Kind};
 use sum_sources::{Fault, Input, PIECE, Source, Stdin};
 
@@ -45,7 +45,7 @@ ghost use Rattle.sum_engine.specs.refinement.Judging.{JudgeOf, verdict_of_outcom
 
 /// An entry of a manifest: the digest of a file, with its kind, and the file's name.
 #[derive(Clone, Copy)]
-pub(crate) struct Listed<'a> {
+pub(crate) struct ListedEntry<'a> {
     pub kind: Kind,
     pub digest: &'a Digest,
     pub name: &'a [u8],
@@ -53,8 +53,8 @@ pub(crate) struct Listed<'a> {
 
 /// The verdict of an entry. None where the source had no memory to open the name; nothing was then asked.
 pub(crate) fn judge<I: Input + Drop, S: Source>(
-    listing: &Listing,
-    listed: &Listed,
+    listing: &CheckRules,
+    listed: &ListedEntry,
     stdin: &mut Stdin<I>,
     source: &mut S,
     buffer: &mut [u8; PIECE],
@@ -69,25 +69,25 @@ pub(crate) fn judge<I: Input + Drop, S: Source>(
     if listing.from_stdin && is_dash(listed.name) {
         return Some(Verdict::Bad);
     }
-    let Some(asked) = ask(listed.kind, listed.name, stdin, source, buffer) else {
+    let Some(asked) = hash_name(listed.kind, listed.name, stdin, source, buffer) else {
         return None;
     };
     Some(compare(&asked, listed.digest, listing.settings.ignore_missing))
 }
 
-fn compare(asked: &Asked, digest: &Digest, ignore_missing: bool) -> Verdict
+fn compare(asked: &HashOutcome, digest: &Digest, ignore_missing: bool) -> Verdict
     ensures { result ≡ verdict_of_outcome ignore_missing digest.now asked.now }
 {
     match asked {
-        Asked::Read(found) => {
+        HashOutcome::Read(found) => {
             if found.same(digest) {
                 Verdict::Right
             } else {
                 Verdict::Wrong
             }
         }
-        Asked::NotOpened(Fault::NotFound) if ignore_missing => Verdict::Missing,
-        Asked::NotOpened(fault) => Verdict::Unread(*fault),
-        Asked::Broken(fault) => Verdict::Unread(*fault),
+        HashOutcome::NotOpened(Fault::NotFound) if ignore_missing => Verdict::Missing,
+        HashOutcome::NotOpened(fault) => Verdict::Unread(*fault),
+        HashOutcome::Broken(fault) => Verdict::Unread(*fault),
     }
 }

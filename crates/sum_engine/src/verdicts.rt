@@ -5,8 +5,8 @@ ghost use Rattle.sum_lines.specs.Escape.{present};
 ghost use Rattle.sum_engine.specs.LineVerdicts.{final_answer_of_next};
 ghost use Rattle.sum_engine.specs.Steps.{MemoryStopHasCause};
 
-use crate::listing::Listing;
-use crate::position::Position;
+use crate::listing::CheckRules;
+use crate::position::CheckCursor;
 use crate::settings::CheckSettings;
 use crate::summary::is_good;
 use crate::verdict::LineVerdict;
@@ -19,7 +19,7 @@ use sum_sources::{Input, LineStop, Source, Stdin};
 /// what the settings say of reports doesn't matter.
 #[derive(Drop)]
 pub struct Verdicts<I> {
-    position: Position<'static, I>,
+    position: CheckCursor<'static, I>,
     // what every later call answers again, where there is such an answer
     final_answer: Option<Result<Option<LineVerdict>, LineStop>>,
     ghost again: { option_and_then final_answer_of_next final_answer ≡ final_answer },
@@ -57,14 +57,14 @@ impl<I: Input> Verdicts<I> {
         ensures start { IsAtStart I.state result.cursor input }
         ensures final_answer { result.final_answer ≡ None }
     {
-        let listing = Listing {
+        let listing = CheckRules {
             settings,
             tool: "",
             shown: b"",
             from_stdin,
         };
         Verdicts {
-            position: Position::new(listing, input),
+            position: CheckCursor::new(listing, input),
             final_answer: None,
         }
     }
@@ -104,7 +104,7 @@ impl<I: Input> Verdicts<I> {
         if let Some(answer) = self.final_answer {
             return answer;
         }
-        let found = self.position.find(line, stdin, source);
+        let found = self.position.next_verdict(line, stdin, source);
         self.final_answer = match found {
             Ok(Some(_)) => None,
             _ => Some(found),

@@ -1,7 +1,7 @@
 -- What a buffer over a sink holds and hands on.
 use Rattle.std.specs.Prelude.{ℕ, ◌==◌, List, [], ◌∷◌, ◌++◌, length, if◌then◌else◌}
 use Rattle.sum_lines.specs.Sinks.{SinkState}
-use Rattle.sum_lines.specs.declared.buffered.TheConstants.{ROOM}
+use Rattle.sum_lines.specs.declared.buffered.TheConstants.{CAPACITY}
 
 -- a buffer: the sink below, and what is held
 pub record BufferedValue (S : Type 0) : Type 0 where
@@ -18,11 +18,11 @@ buffer_state state b = with_buffered (state b.sink) b.buffered
 
 -- what is held, where there is no room for more
 abbrev pub flushed_if_full : List ℕ → List ℕ
-flushed_if_full held = if length held == ROOM then held else []
+flushed_if_full held = if length held == CAPACITY then held else []
 
 -- and where there is
 abbrev pub kept_unless_full : List ℕ → List ℕ
-kept_unless_full held = if length held == ROOM then [] else held
+kept_unless_full held = if length held == CAPACITY then [] else held
 
 -- what is handed on before a piece is taken
 abbrev pub flushed_before_write : List ℕ → List ℕ → List ℕ

@@ -6,28 +6,28 @@ use crate::sink::{Sink, SinkFault, put_all};
 use std::marker::Model;
 
 /// How many bytes a buffer has room for.
-pub const ROOM: usize = 8192;
+pub const CAPACITY: usize = 8192;
 
 /// A buffer over a sink. It holds what it takes until it is flushed, or a byte comes that it has no room for; then it
-/// offers the sink all that it holds, in one piece. So a line of at most [`ROOM`] bytes is offered in one piece, where
+/// offers the sink all that it holds, in one piece. So a line of at most [`CAPACITY`] bytes is offered in one piece, where
 /// nothing was held before it and it is flushed at its end.
 #[derive(Drop)]
 pub struct Buffered<S> {
     sink: S,
-    buffer: [u8; ROOM],
+    buffer: [u8; CAPACITY],
     len: usize,
 }
 
 impl<S> Model for Buffered<S> {
     ghost use Rattle.std.specs.Prelude.{◌≤◌, take};
     ghost use Rattle.sum_lines.specs.Buffers.{BufferedValue};
-    ghost use Rattle.sum_lines.specs.declared.buffered.TheConstants.{ROOM};
+    ghost use Rattle.sum_lines.specs.declared.buffered.TheConstants.{CAPACITY};
 
     ghost Value = { BufferedValue S };
 
     ghost view = { λ s. record { sink = s.sink; buffered = take s.len s.buffer } };
 
-    ghost invariant = { λ s. s.len ≤ ROOM };
+    ghost invariant = { λ s. s.len ≤ CAPACITY };
 }
 
 impl<S> Buffered<S> {
@@ -37,7 +37,7 @@ impl<S> Buffered<S> {
     {
         Buffered {
             sink,
-            buffer: [0; ROOM],
+            buffer: [0; CAPACITY],
             len: 0,
         }
     }
@@ -62,7 +62,7 @@ impl<S: Sink> Buffered<S> {
     ghost use Rattle.sum_lines.specs.refinement.GrowingSinks.{FlushesBuffer};
 
     // Hands on to the sink below what is held.
-    fn empty(&mut self) -> Result<(), SinkFault>
+    fn flush_buffer(&mut self) -> Result<(), SinkFault>
         ensures bytes { FlushesBuffer (buffer_state S.state self.old) (buffer_state S.state self.new) result }
         ensures flushed { self.new.buffered ≡ [] }
         ensures offers { OffersWhole (S.offered self.old.sink) (S.offered self.new.sink) self.old.buffered }
@@ -78,10 +78,10 @@ impl<S: Sink> Buffered<S> {
         ensures held { OnOk result (self.new.buffered ≡ kept_unless_full self.old.buffered) }
         ensures offers { OffersWhole (S.offered self.old.sink) (S.offered self.new.sink) (flushed_if_full self.old.buffered) }
     {
-        if self.len < ROOM {
+        if self.len < CAPACITY {
             return Ok(());
         }
-        self.empty()
+        self.flush_buffer()
     }
 }
 
@@ -96,7 +96,7 @@ impl<S: Sink> Sink for Buffered<S> {
         ensures bytes { WritesSome (buffer_state S.state self.old) (buffer_state S.state self.new) piece.now result }
         ensures empty { piece.now ≡ [] → result ≡ Ok 0 }
         ensures offers { OffersWhole (S.offered self.old.sink) (S.offered self.new.sink) (flushed_before_write self.old.buffered piece.now) }
-        ensures fits { IfOk result (λ n. n ≡ min (length piece.now) (ROOM - length (kept_unless_full self.old.buffered))) }
+        ensures fits { IfOk result (λ n. n ≡ min (length piece.now) (CAPACITY - length (kept_unless_full self.old.buffered))) }
     {
         if piece.is_empty() {
             return Ok(0);
@@ -113,7 +113,7 @@ impl<S: Sink> Sink for Buffered<S> {
         ensures bytes { Flushes (buffer_state S.state self.old) (buffer_state S.state self.new) result }
         ensures offers { OffersWhole (S.offered self.old.sink) (S.offered self.new.sink) self.old.buffered }
     {
-        self.empty()?;
+        self.flush_buffer()?;
         self.sink.flush()
     }
 }

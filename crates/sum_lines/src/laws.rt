@@ -17,13 +17,13 @@ pub fn one_form()
 
 /// What a line says, as it is computed, is what the line grammar has, whichever the profile: nothing exactly where the
 /// line is ignored; otherwise the entry that the grammar has or, where it has none, something improper.
-pub fn says_is()
+pub fn parse_is_grammar()
     ensures { ParseIsGrammar }
 {}
 
 /// What comes behind a line has no part in what it says nor, where the line is plain, in the form.
 #[tactic(auto, using(crate::proofs::FormLemmas::same_said))]
-pub fn same_said()
+pub fn same_parse()
     ensures parse { SameParse }
     ensures form { SameForm }
 {}

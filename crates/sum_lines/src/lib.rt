@@ -15,7 +15,7 @@ mod sink;
 mod tagged;
 mod told_sink;
 
-pub use buffered::{Buffered, ROOM};
+pub use buffered::{Buffered, CAPACITY};
 pub use escape::{needs_escape, put_escaped, unescape_in};
 pub use from_write::FromWrite;
 pub use line_format::{Mode, Style, put_line};

@@ -48,12 +48,12 @@ pub fn put_line<S: Sink>(
     let mut buffer = [0; 128];
     let digits = digits_of(digest, &mut buffer);
     if style.zero {
-        put_form(sink, style.mode, kind, Part::Bytes(name), digits)?;
+        put_layout(sink, style.mode, kind, Part::Bytes(name), digits)?;
         return put_all(sink, b"\0");
     }
     let (mark, name) = mark_and_name(name);
     put_all(sink, mark)?;
-    put_form(sink, style.mode, kind, name, digits)?;
+    put_layout(sink, style.mode, kind, name, digits)?;
     put_all(sink, b"\n")
 }
 
@@ -78,7 +78,7 @@ fn mark_and_name(name: &[u8]) -> (&'static [u8], Part<'_>)
 }
 
 // Writes a line without its end and without a backslash before it.
-fn put_form<'a, S: Sink>(
+fn put_layout<'a, S: Sink>(
     sink: &mut S,
     mode: Mode,
     kind: Kind,

@@ -6,7 +6,7 @@ ghost use Rattle.sum_sources.specs.ManifestLines.{NoNewline, bytes_of_lines, las
 /// Any bytes are pieces without a newline, each ended by one, and then a tail without a newline; and where bytes are
 /// such pieces and a tail, their lines, before a carriage return is dropped, are just these pieces and then the tail
 /// where it counts as the last line.
-pub fn pieces_of_bytes()
+pub fn raw_lines_of_bytes()
     ensures exist { (bytes : List ℕ) → (ended : List (List ℕ)) × (tail : List ℕ)
         × (bytes ≡ bytes_of_lines ended tail) × All NoNewline ended × NoNewline tail }
     ensures are { (ending : EndingValue) (ended : List (List ℕ)) (tail : List ℕ)

@@ -32,7 +32,7 @@ pub enum LineStop {
 }
 
 #[derive(Clone, Copy, Debug, PartialEq, Eq)]
-enum State {
+enum ReaderState {
     Active,
     Ended,
     Stopped(LineStop),
@@ -49,7 +49,7 @@ pub struct LineReader<I> {
     start: usize,
     end: usize,
     lines: u64,
-    state: State,
+    state: ReaderState,
 }
 
 impl<I> Model for LineReader<I> {
@@ -93,7 +93,7 @@ impl<I: Input> LineReader<I> {
             start: 0,
             end: 0,
             lines: 0,
-            state: State::Active,
+            state: ReaderState::Active,
         }
     }
 
@@ -195,7 +195,7 @@ impl<I: Input> LineReader<I> {
             match self.fill() {
                 Ok(true) => {}
                 Ok(false) => {
-                    self.state = State::Ended;
+                    self.state = ReaderState::Ended;
                     if line.is_empty() {
                         return Ok(Next::NoMore);
                     }
@@ -225,9 +225,9 @@ impl<I: Input> LineReader<I> {
         ensures bounds { Bounded self.new }
     {
         match self.state {
-            State::Ended => return Ok(Next::NoMore),
-            State::Stopped(stop) => return Err(stop),
-            State::Active => {}
+            ReaderState::Ended => return Ok(Next::NoMore),
+            ReaderState::Stopped(stop) => return Err(stop),
+            ReaderState::Active => {}
         }
         line.clear();
         let result = self.read_on(line);
@@ -237,7 +237,7 @@ impl<I: Input> LineReader<I> {
                 self.lines += 1;
             }
             Ok(Next::NoMore) => {}
-            Err(stop) => self.state = State::Stopped(stop),
+            Err(stop) => self.state = ReaderState::Stopped(stop),
         }
         result
     }

@@ -94,7 +94,7 @@ impl<'a, A: Allocator + Copy> ToldSource<'a, A> {
     }
 
     // Adds the name to those asked, or counts the refusal.
-    fn ask(&mut self, name: &[u8]) -> Result<(), NoRoom>
+    fn record_asked(&mut self, name: &[u8]) -> Result<(), NoRoom>
         ensures ok { OnOk result (self.new ≡ record self.old { asked = self.old.asked ++ name.now ∷ [] }) }
         ensures err { OnErr result (self.new ≡ record self.old { refusals = one_more self.old.refusals }) }
     {
@@ -135,7 +135,7 @@ impl<'a, A: Allocator + Copy> Source for ToldSource<'a, A> {
         ensures piece { IfOk result (λ file. file.piece ≡ max self.old.piece 1) }
         ensures same { (self.new.pairs ≡ self.old.pairs) × (self.new.piece ≡ self.old.piece) }
     {
-        let Ok(()) = self.ask(name) else {
+        let Ok(()) = self.record_asked(name) else {
             return Err(OpenFault::Memory);
         };
         match answer_to(&self.pairs, name) {

@@ -9,13 +9,13 @@ use std::rt::Env;
 /// A list of arguments, the name by which the program was called first.
 pub trait Arguments {
     /// The arguments, where they are told.
-    ghost told: { Self → Option (List (List ℕ)) } = { λ _. None };
+    ghost known: { Self → Option (List (List ℕ)) } = { λ _. None };
 
     /// Copies the argument at this place, counted from 0, to the front of the buffer, and answers its length.
     /// `FillError::NotPresent` past the last argument, `FillError::TooLong` where the buffer can't hold it.
     fn fill(&self, place: usize, buffer: &mut [u8]) -> Result<usize, FillError>
         ensures count { IfOk result (λ n. n ≤ length buffer.new) }
-        ensures bytes { Fills (told self.now) place buffer.new result };
+        ensures bytes { Fills (known self.now) place buffer.new result };
 }
 
 /// The arguments that the system hands over. Nothing of them is told.
@@ -63,7 +63,7 @@ impl<'a> ToldArguments<'a> {
 impl<'a> Arguments for ToldArguments<'a> {
     ghost use Rattle.std.specs.Prelude.{Some};
 
-    ghost told = { λ s. Some s };
+    ghost known = { λ s. Some s };
 
     fn fill(&self, place: usize, buffer: &mut [u8]) -> Result<usize, FillError> {
         let Some(argument) = self.arguments.get(place) else {

@@ -31,12 +31,12 @@ pub struct Items<'a> {
     tool: Tool,
     words: LentWords<'a>,
     at: usize,
-    state: State<'a>,
+    state: ParserState<'a>,
 }
 
 // How reading goes on: with a whole word, with the rest of a cluster, with operands alone, or not at all.
 #[derive(Clone, Copy)]
-enum State<'a> {
+enum ParserState<'a> {
     Word,
     Cluster(char, &'a str),
     OnlyOperands,
@@ -46,8 +46,8 @@ enum State<'a> {
 // What one option or word makes of reading: it says an item, it wants the next word as the value of an option that was
 // written so, or it makes operands of all that come.
 #[derive(Clone, Copy)]
-enum Step<'a> {
-    Say(Item<'a>, State<'a>),
+enum ParserStep<'a> {
+    Say(Item<'a>, ParserState<'a>),
     Value(Spelling),
     OnlyOperands,
 }
@@ -71,7 +71,7 @@ impl<'a> Items<'a> {
             tool,
             words: words.lent(),
             at: 0,
-            state: State::Word,
+            state: ParserState::Word,
         }
     }
 
@@ -80,10 +80,10 @@ impl<'a> Items<'a> {
         ensures { TakesFirst item_of self.old result self.new }
     {
         let step = match self.state {
-            State::Ended => return None,
-            State::OnlyOperands => Step::OnlyOperands,
-            State::Cluster(letter, rest) => letter_step(self.tool, letter, rest),
-            State::Word => word_step(self.tool, take_word(&self.words, &mut self.at)?),
+            ParserState::Ended => return None,
+            ParserState::OnlyOperands => ParserStep::OnlyOperands,
+            ParserState::Cluster(letter, rest) => letter_step(self.tool, letter, rest),
+            ParserState::Word => word_step(self.tool, take_word(&self.words, &mut self.at)?),
         };
         say(self.tool, &self.words, &mut self.at, &mut self.state, step)
     }
@@ -105,29 +105,29 @@ fn say<'a>(
     tool: Tool,
     words: &LentWords<'a>,
     at: &mut usize,
-    state: &mut State<'a>,
-    step: Step<'a>,
+    state: &mut ParserState<'a>,
+    step: ParserStep<'a>,
 ) -> Option<Item<'a>>
     ensures { TakesFirst item_of (step_items tool step.entry (drop at.old words.now))
         result (remaining_items tool state.new (drop at.new words.now)) }
 {
     match step {
-        Step::Say(item, next) => {
+        ParserStep::Say(item, next) => {
             *state = next;
             Some(item)
         }
-        Step::Value(spelling) => match take_word(words, at) {
+        ParserStep::Value(spelling) => match take_word(words, at) {
             Some(value) => {
-                *state = State::Word;
+                *state = ParserState::Word;
                 Some(Item::Length(value))
             }
             None => {
-                *state = State::Ended;
+                *state = ParserState::Ended;
                 Some(Item::Fault(WordFault::ValueMissing(spelling)))
             }
         },
-        Step::OnlyOperands => {
-            *state = State::OnlyOperands;
+        ParserStep::OnlyOperands => {
+            *state = ParserState::OnlyOperands;
             Some(Item::Operand(take_word(words, at)?))
         }
     }
@@ -135,12 +135,12 @@ fn say<'a>(
 
 // What a whole word makes of reading.
 #[tactic(auto, using(crate::proofs::WordLemmas::option_text))]
-fn word_step<'a>(tool: Tool, word: &'a [u8]) -> Step<'a>
+fn word_step<'a>(tool: Tool, word: &'a [u8]) -> ParserStep<'a>
     requires { is_readable word.now ≡ true }
     ensures { (ws : List (List ℕ)) → step_items tool result ws ≡ items_from tool a_word (word.now ∷ ws) }
 {
     if !is_option_word(word) {
-        return Step::Say(Item::Operand(word), State::Word);
+        return ParserStep::Say(Item::Operand(word), ParserState::Word);
     }
     match str::from_utf8(word) {
         Ok(text) => option_step(tool, text),
@@ -156,14 +156,14 @@ fn is_option_word(word: &[u8]) -> bool
 }
 
 // What such a word makes of reading.
-fn option_step<'a>(tool: Tool, word: &'a str) -> Step<'a>
+fn option_step<'a>(tool: Tool, word: &'a str) -> ParserStep<'a>
     requires { is_option_word word.now ≡ true }
     ensures { (ws : List (List ℕ)) → step_items tool result ws ≡ items_from tool a_word (word.now ∷ ws) }
 {
     if word == "--" {
-        return Step::OnlyOperands;
+        return ParserStep::OnlyOperands;
     }
-    if let Some(text) = behind("--", word) {
+    if let Some(text) = after_prefix("--", word) {
         return long_step(tool, text);
     }
     let (letter, rest) = letters_of(word);
@@ -171,56 +171,56 @@ fn option_step<'a>(tool: Tool, word: &'a str) -> Step<'a>
 }
 
 // What a long option makes of reading, its two dashes left out.
-fn long_step<'a>(tool: Tool, text: &'a str) -> Step<'a>
+fn long_step<'a>(tool: Tool, text: &'a str) -> ParserStep<'a>
     ensures { (ws : List (List ℕ)) → step_items tool result ws
         ≡ read_then tool (long_option (name_or_fault tool (name_part text.now)) (value_part text.now)) ws }
 {
     let (name, value) = name_and_value(text);
     let flag = match Flag::of_name(tool, name) {
         Ok(flag) => flag,
-        Err(fault) => return Step::Say(Item::Fault(fault), State::Ended),
+        Err(fault) => return ParserStep::Say(Item::Fault(fault), ParserState::Ended),
     };
     match (flag.takes_value(), value) {
-        (true, Some(value)) => Step::Say(Item::Length(value.as_bytes()), State::Word),
-        (true, None) => Step::Value(Spelling::Long),
-        (false, Some(_)) => Step::Say(Item::Fault(WordFault::ValueNotAllowed(flag)), State::Ended),
-        (false, None) => Step::Say(Item::Flag(flag), State::Word),
+        (true, Some(value)) => ParserStep::Say(Item::Length(value.as_bytes()), ParserState::Word),
+        (true, None) => ParserStep::Value(Spelling::Long),
+        (false, Some(_)) => ParserStep::Say(Item::Fault(WordFault::ValueNotAllowed(flag)), ParserState::Ended),
+        (false, None) => ParserStep::Say(Item::Flag(flag), ParserState::Word),
     }
 }
 
 // What a letter of a cluster makes of reading, with the rest of the word behind it.
-fn letter_step<'a>(tool: Tool, letter: char, rest: &'a str) -> Step<'a>
+fn letter_step<'a>(tool: Tool, letter: char, rest: &'a str) -> ParserStep<'a>
     ensures { (ws : List (List ℕ)) → step_items tool result ws
         ≡ read_then tool (cluster tool (letter ∷ chars rest.now)) ws }
 {
     match Flag::of_letter(tool, letter) {
-        None => Step::Say(Item::Fault(WordFault::UnknownShort(letter)), State::Ended),
+        None => ParserStep::Say(Item::Fault(WordFault::UnknownShort(letter)), ParserState::Ended),
         Some(Flag::Length) => attached_value(rest),
-        Some(flag) => Step::Say(Item::Flag(flag), rest_of_cluster(rest)),
+        Some(flag) => ParserStep::Say(Item::Flag(flag), rest_of_cluster(rest)),
     }
 }
 
 // What the letter of an option that takes a value makes of reading: the rest of the word is the value, if any is left.
 #[tactic(auto, using(crate::proofs::WordLemmas::no_value, crate::proofs::WordLemmas::own_value))]
-fn attached_value(rest: &str) -> Step<'_>
+fn attached_value(rest: &str) -> ParserStep<'_>
     ensures { (t : Tool) (ws : List (List ℕ)) →
         step_items t result ws ≡ read_then t (attached_value (chars rest.now)) ws }
 {
     if rest.is_empty() {
-        Step::Value(Spelling::Short)
+        ParserStep::Value(Spelling::Short)
     } else {
-        Step::Say(Item::Length(rest.as_bytes()), State::Word)
+        ParserStep::Say(Item::Length(rest.as_bytes()), ParserState::Word)
     }
 }
 
 // How reading goes on with the rest of a cluster.
-fn rest_of_cluster(letters: &str) -> State<'_>
+fn rest_of_cluster(letters: &str) -> ParserState<'_>
     ensures { (t : Tool) (ws : List (List ℕ)) → remaining_items t result ws
         ≡ read_then t (cluster t (chars letters.now)) ws }
 {
     match first(letters) {
-        Some((letter, rest)) => State::Cluster(letter, rest),
-        None => State::Word,
+        Some((letter, rest)) => ParserState::Cluster(letter, rest),
+        None => ParserState::Word,
     }
 }
 
@@ -230,7 +230,7 @@ fn letters_of(word: &str) -> (char, &str)
     requires { is_option_word word.now ≡ true }
     ensures { chars (drop 1 word.now) ≡ result.0 ∷ chars result.1.now }
 {
-    let Some(rest) = behind("-", word) else {
+    let Some(rest) = after_prefix("-", word) else {
         unreachable!()
     };
     match first(rest) {
@@ -252,7 +252,7 @@ fn first(text: &str) -> Option<(char, &str)>
 
 // What stands behind a prefix of a word.
 #[tactic(auto, using(crate::proofs::WordLemmas::behind_prefix))]
-fn behind<'a>(prefix: &str, word: &'a str) -> Option<&'a str>
+fn after_prefix<'a>(prefix: &str, word: &'a str) -> Option<&'a str>
     ensures { MatchOption result (starts_with ◌==◌ word.now prefix.now ≡ false)
         (λ rest. IsAfterPrefix prefix.now word.now rest.now) }
 {

@@ -47,8 +47,8 @@ pub fn read_words<'a, A: Allocator>(
     ensures { result_of result ≡ request tool words.now }
 {
     let chosen = match read_options(tool, words) {
-        Reading::Options(chosen) => chosen,
-        Reading::Answer(answer) => return answer,
+        ScannedOptions::Options(chosen) => chosen,
+        ScannedOptions::Answer(answer) => return answer,
     };
     let kind = match asked_kind(chosen.length) {
         Ok(kind) => kind,
@@ -77,12 +77,12 @@ struct Chosen<'a> {
 
 // What reading all words comes to: what their options say, or the answer where one of the words decides it.
 #[derive(Drop)]
-enum Reading<'a> {
+enum ScannedOptions<'a> {
     Options(Chosen<'a>),
     Answer(Result<Request<'a>, WordFault<'a>>),
 }
 
-fn read_options<'a, A: Allocator>(tool: Tool, words: &'a Words<A>) -> Reading<'a>
+fn read_options<'a, A: Allocator>(tool: Tool, words: &'a Words<A>) -> ScannedOptions<'a>
     ensures { IsScanOf result (items_from tool a_word words.now) }
 {
     let mut items = Items::new(tool, words);
@@ -100,17 +100,17 @@ fn read_options<'a, A: Allocator>(tool: Tool, words: &'a Words<A>) -> Reading<'a
     };
     while let Some(item) = items.next() {
         match item {
-            Item::Fault(fault) => return Reading::Answer(Err(fault)),
+            Item::Fault(fault) => return ScannedOptions::Answer(Err(fault)),
             Item::Flag(flag) => match flag {
-                Flag::Help => return Reading::Answer(Ok(Request::Help)),
-                Flag::Version => return Reading::Answer(Ok(Request::Version)),
+                Flag::Help => return ScannedOptions::Answer(Ok(Request::Help)),
+                Flag::Version => return ScannedOptions::Answer(Ok(Request::Version)),
                 _ => chosen = with_flag(chosen, flag),
             },
             Item::Length(value) => chosen.length = Some(value),
             Item::Operand(_) => {}
         }
     }
-    Reading::Options(chosen)
+    ScannedOptions::Options(chosen)
 }
 
 fn with_flag(chosen: Chosen<'_>, flag: Flag) -> Chosen<'_>

@@ -4,9 +4,9 @@ use Rattle.digest_kinds.specs.Kinds.{KindValue}
 use Rattle.sum_sources.specs.Contents.{Content, IfKnown, Reply, SourceState, KnownSource}
 use Rattle.sum_engine.specs.Moments.{StreamsState}
 use Rattle.digest_kinds.specs.Limits.{one_more}
-pub use Rattle.sum_engine.specs.declared.asking.Asked.{Asked}
+pub use Rattle.sum_engine.specs.declared.asking.HashOutcome.{HashOutcome}
 use Rattle.sum_engine.specs.Runs.{World, after, digest_or_fault, reply}
-use Rattle.sum_engine.specs.declared.asking.Asked.TheVariants as asked
+use Rattle.sum_engine.specs.declared.asking.HashOutcome.TheVariants as asked
 
 -- the world at a moment, where the source and standard input tell
 abbrev pub world_by : Option KnownSource → Option Content → Option World
@@ -18,27 +18,27 @@ abbrev pub world_of : {S : Type 0} → (S → SourceState) → StreamsState S �
 world_of state m = world_by (state m.source).known m.input
 
 -- what came of a reply
-abbrev pub IsHashOutcome : KindValue → Reply → Asked → Type 0
+abbrev pub IsHashOutcome : KindValue → Reply → HashOutcome → Type 0
 IsHashOutcome kind r (asked.Read d) = (c : Content) × (r ≡ Ok c) × (digest_or_fault kind (Ok c) ≡ Ok d)
 IsHashOutcome kind r (asked.NotOpened f) = r ≡ Err f
 IsHashOutcome kind r (asked.Broken f) = (c : Content) × (r ≡ Ok c) × (digest_or_fault kind (Ok c) ≡ Err f)
 
 -- what was read of a content
-abbrev pub IsRead : KindValue → Content → Asked → Type 0
+abbrev pub IsRead : KindValue → Content → HashOutcome → Type 0
 IsRead kind c (asked.Read d) = digest_or_fault kind (Ok c) ≡ Ok d
 IsRead kind c (asked.NotOpened f) = ⊥
 IsRead kind c (asked.Broken f) = digest_or_fault kind (Ok c) ≡ Err f
 
 -- the name was asked, and this came of it; without memory it wasn't asked
-abbrev pub HashesName : KindValue → World → World → List ℕ → Option Asked → Type 0
+abbrev pub HashesName : KindValue → World → World → List ℕ → Option HashOutcome → Type 0
 HashesName kind w v name None = v ≡ w
 HashesName kind w v name (Some a) = (v ≡ after w (name ∷ [])) × IsHashOutcome kind (reply w name) a
 
-abbrev pub HashesNameIfKnown : KindValue → Option World → Option World → List ℕ → Option Asked → Type 0
+abbrev pub HashesNameIfKnown : KindValue → Option World → Option World → List ℕ → Option HashOutcome → Type 0
 HashesNameIfKnown kind w v name r = IfKnown w v (λ w v. HashesName kind w v name r)
 
 -- a digest has the kind's length
-abbrev pub HasKindLen : KindValue → Option Asked → Type 0
+abbrev pub HasKindLen : KindValue → Option HashOutcome → Type 0
 HasKindLen kind None = ⊤
 HasKindLen kind (Some (asked.Read d)) = length d ≡ kind.len
 HasKindLen kind (Some (asked.NotOpened f)) = ⊤

@@ -2,18 +2,18 @@
 use Rattle.std.specs.Prelude.{ℕ, ◌≡◌, Bool, List, [], Option, None, Some, if◌then◌else◌, bytes_eq}
 use Rattle.sum_sources.specs.declared.fault.Fault.TheVariants.{NotFound, Denied, Other}
 use Rattle.sum_lines.specs.Entries.{EntryValue, form_then, line_form}
-use Rattle.sum_engine.specs.declared.verdict.Listed.{Listed}
-use Rattle.sum_engine.specs.declared.asking.Asked.{Asked}
+use Rattle.sum_engine.specs.declared.verdict.ListedEntry.{ListedEntry}
+use Rattle.sum_engine.specs.declared.asking.HashOutcome.{HashOutcome}
 use Rattle.sum_engine.specs.Verdicts.{Verdict, Right, Wrong, Missing, Unread, Rules, judge, asks_by, asks_of}
 use Rattle.sum_lines.specs.ParsedLines.{ParsedLine, ignored, bad, entry, parse_line}
 use Rattle.sum_engine.specs.Runs.{World, after}
 use Rattle.sum_engine.specs.Reports.{Counts, counts_with}
 use Rattle.sum_engine.specs.LineVerdicts.{LineVerdict, line_verdict_value}
 use Rattle.sum_engine.specs.Steps.{CursorValue}
-use Rattle.sum_engine.specs.declared.asking.Asked.TheVariants as asked
+use Rattle.sum_engine.specs.declared.asking.HashOutcome.TheVariants as asked
 
 -- what an entry spells
-abbrev pub listed_entry : Listed → EntryValue
+abbrev pub listed_entry : ListedEntry → EntryValue
 listed_entry l = record { kind = l.kind; digest = l.digest.now; name = l.name.now }
 
 -- the name in what a line says, or nothing
@@ -23,7 +23,7 @@ name_in_line bad = []
 name_in_line (entry s) = s.name
 
 -- the verdict by what came of asking the name
-abbrev pub verdict_of_outcome : Bool → List ℕ → Asked → Verdict
+abbrev pub verdict_of_outcome : Bool → List ℕ → HashOutcome → Verdict
 verdict_of_outcome ignore d (asked.Read found) = if bytes_eq found d then Right else Wrong
 verdict_of_outcome ignore d (asked.NotOpened NotFound) = if ignore then Missing else Unread NotFound
 verdict_of_outcome ignore d (asked.NotOpened Denied) = Unread Denied

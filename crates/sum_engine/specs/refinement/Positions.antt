@@ -1,11 +1,11 @@
 -- Joins what a manifest is listed as to its rules, and a position to the place that callers see.
-use Rattle.sum_engine.specs.declared.listing.Listing.{Listing}
-use Rattle.sum_engine.specs.declared.position.Position.{Position}
+use Rattle.sum_engine.specs.declared.listing.CheckRules.{CheckRules}
+use Rattle.sum_engine.specs.declared.position.CheckCursor.{CheckCursor}
 use Rattle.sum_lines.specs.Escape.{present}
 use Rattle.sum_engine.specs.Verdicts.{Rules}
 use Rattle.sum_engine.specs.Steps.{CursorValue}
 
-abbrev pub rules_in : Listing → Rules
+abbrev pub rules_in : CheckRules → Rules
 rules_in l = record {
   profile = present;
   settings = l.settings;
@@ -14,5 +14,5 @@ rules_in l = record {
   from_stdin = l.from_stdin;
 }
 
-abbrev pub cursor_value : {I : Type 0} → Position I → CursorValue I
+abbrev pub cursor_value : {I : Type 0} → CheckCursor I → CursorValue I
 cursor_value p = record { rules = rules_in p.listing; reader = p.reader; form = p.form; counts = p.counts }

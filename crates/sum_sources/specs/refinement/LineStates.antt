@@ -4,14 +4,14 @@ use Rattle.digest_kinds.specs.Limits.{LIMIT}
 use Rattle.sum_sources.specs.declared.input.TheConstants.{PIECE}
 use Rattle.sum_sources.specs.Contents.{Fault, Broken, Content, empty_content}
 use Rattle.sum_sources.specs.declared.lines.LineReader.TheInside.{Inside}
-use Rattle.sum_sources.specs.declared.lines.State.{State}
-use Rattle.sum_sources.specs.declared.lines.State.TheVariants.{Active, Ended, Stopped}
+use Rattle.sum_sources.specs.declared.lines.ReaderState.{ReaderState}
+use Rattle.sum_sources.specs.declared.lines.ReaderState.TheVariants.{Active, Ended, Stopped}
 use Rattle.sum_sources.specs.ManifestLines.{Next, NoMore, LineStop, NoNewline}
 use Rattle.sum_sources.specs.LineReaders.{LineReaderValue}
 use Rattle.sum_sources.specs.declared.lines.LineStop.TheVariants as stops
 
 -- what every later call answers again
-abbrev pub final_answer_in : State → Option (Result Next LineStop)
+abbrev pub final_answer_in : ReaderState → Option (Result Next LineStop)
 final_answer_in Active = None
 final_answer_in Ended = Some (Ok NoMore)
 final_answer_in (Stopped e) = Some (Err e)

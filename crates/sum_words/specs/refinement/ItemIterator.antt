@@ -6,13 +6,13 @@ use Rattle.sum_words.specs.declared.tool.Tool.{Tool}
 use Rattle.sum_words.specs.declared.faults.WordFault.{WordFault}
 use Rattle.sum_words.specs.WordFaults.{WordFaultValue, unknown_long, ambiguous_long, value_not_allowed, value_missing, unknown_short, length_invalid, length_not_bytes, tag_with_text, zero_with_check, tag_with_check, mode_with_check, without_check, check_needed}
 use Rattle.sum_words.specs.declared.items.Item.{Item as WordItem}
-use Rattle.sum_words.specs.declared.items.State.{State}
-use Rattle.sum_words.specs.declared.items.Step.{Step}
+use Rattle.sum_words.specs.declared.items.ParserState.{ParserState}
+use Rattle.sum_words.specs.declared.items.ParserStep.{ParserStep}
 use Rattle.sum_words.specs.Items.{ByteString, ItemValue, option, length_value, operand, fault, NextWord, a_word, a_value, no_word, cluster, items_from}
 use Rattle.sum_words.specs.declared.faults.WordFault.TheVariants as words
 use Rattle.sum_words.specs.declared.items.Item.TheVariants as says
-use Rattle.sum_words.specs.declared.items.State.TheVariants as states
-use Rattle.sum_words.specs.declared.items.Step.TheVariants as steps
+use Rattle.sum_words.specs.declared.items.ParserState.TheVariants as states
+use Rattle.sum_words.specs.declared.items.ParserStep.TheVariants as steps
 
 -- a letter as a text, where there is one
 abbrev pub letter_text : Option ℕ → ByteString
@@ -47,14 +47,14 @@ abbrev pub read_then : Tool → List ItemValue × NextWord → List ByteString �
 read_then t r words = r.0 ++ items_from t r.1 words
 
 -- the items still to come where the iterator stands, before these words
-abbrev pub remaining_items : Tool → State → List ByteString → List ItemValue
+abbrev pub remaining_items : Tool → ParserState → List ByteString → List ItemValue
 remaining_items t states.Word words = items_from t a_word words
 remaining_items t (states.Cluster c rest) words = read_then t (cluster t (c ∷ chars rest.now)) words
 remaining_items t states.OnlyOperands words = map operand words
 remaining_items t states.Ended words = items_from t no_word words
 
 -- the items that a step makes of these words
-abbrev pub step_items : Tool → Step → List ByteString → List ItemValue
+abbrev pub step_items : Tool → ParserStep → List ByteString → List ItemValue
 step_items t (steps.Say x state) words = item_of x ∷ remaining_items t state words
 step_items t (steps.Value spelling) words = items_from t (a_value spelling) words
 step_items t steps.OnlyOperands words = map operand words

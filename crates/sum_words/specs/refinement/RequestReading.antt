@@ -6,8 +6,8 @@ use Rattle.sum_words.specs.Request.{report_flag, Mode, early_answer, has, mode_f
 use Rattle.sum_words.specs.Items.{Flag, ByteString, ItemValue, option_in, value_in}
 use Rattle.sum_words.specs.declared.faults.WordFault.{WordFault}
 use Rattle.sum_words.specs.declared.request.Chosen.{Chosen}
-use Rattle.sum_words.specs.declared.request.Reading.{Reading}
-use Rattle.sum_words.specs.declared.request.Reading.TheVariants.{Options, Answer}
+use Rattle.sum_words.specs.declared.request.ScannedOptions.{ScannedOptions}
+use Rattle.sum_words.specs.declared.request.ScannedOptions.TheVariants.{Options, Answer}
 use Rattle.sum_words.specs.WordFaults.{WordFaultValue}
 use Rattle.sum_words.specs.refinement.ItemIterator.{fault_of}
 use Rattle.sum_lines.specs.declared.line_format.Mode.TheVariants as modes
@@ -48,7 +48,7 @@ result_of (Ok x) = Ok x
 result_of (Err f) = Err (fault_of f)
 
 -- reading says what the options of all items say, where none of them decides the answer; else it says that answer
-abbrev pub IsScanOf : Reading → List ItemValue → Type 0
+abbrev pub IsScanOf : ScannedOptions → List ItemValue → Type 0
 IsScanOf (Options c) xs = IsChosenBy c [] xs × (early_answer xs ≡ None)
 IsScanOf (Answer r) xs = early_answer xs ≡ Some (result_of r)
 

@@ -5,5 +5,5 @@ use Rattle.blake2b_core.proofs.columns.mixed_diagonals.Goals as goal
 pub returns : goal.returns
 returns c =
     diagonals-rows c.args.v c.mixed_columns.result c.args.x c.args.y
-    c.turned.ensures c.turned-2.ensures c.turned-3.ensures c.turned-4.ensures c.turned-5.ensures
-    c.mixed_columns.ensures c.turned-6.ensures c.turned-7.ensures c.turned-8.ensures
+    c.rotated_row.ensures c.rotated_row-2.ensures c.rotated_row-3.ensures c.rotated_row-4.ensures c.rotated_row-5.ensures
+    c.mixed_columns.ensures c.rotated_row-6.ensures c.rotated_row-7.ensures c.rotated_row-8.ensures

@@ -17,29 +17,29 @@ returns-in-Ok-Invoke-clause-behavior g c =
     let ran = c.run-answer.ensures in
     let answer = c.run-answer.result in
     let is = sym c.streams.view_is in
-    λ hold. program_read g.S.Source.state first _ c.close.result _ line read
-    (program_ends g.S.Source.state c.close.result (Some line) first _ _ _ answer
+    λ hold. program_read g.S.Source.state first _ c.finish_run.result _ line read
+    (program_ends g.S.Source.state c.finish_run.result (Some line) first _ _ _ answer
     (subst (λ m. Runs g.S.Source.state (call_behavior (Some line)) status_of first m answer) is (ran.behavior hold))
     (subst (λ (m : StreamsState g.row.S.Denot). FailuresMatch first m answer) is ran.failures)
-    (subst (λ (m : StreamsState g.row.S.Denot). IsFlushed m) is (ran.flushed hold)) c.close.ensures.finish)
+    (subst (λ (m : StreamsState g.row.S.Denot). IsFlushed m) is (ran.flushed hold)) c.finish_run.ensures.finish)
 
 -- no tool of that name: a line says so
 pub returns-in-Ok-UnknownTool-clause-behavior : goal.returns-in-Ok-UnknownTool-clause-behavior
 returns-in-Ok-UnknownTool-clause-behavior g c =
     let read = rw c.in-Ok-UnknownTool.field-0-is at c.in-Ok-UnknownTool.ensures.line in
-    let closed = rw c.status_once-answer.ensures at c.close-in-Ok-UnknownTool.ensures.finish in
-    let told = c.tell.ensures in
+    let closed = rw c.status_after_write-answer.ensures at c.finish_run-in-Ok-UnknownTool.ensures.finish in
+    let told = c.put_message.ensures in
     rw (← c.streams-in-Ok-UnknownTool.view_is) (λ hold. program_read g.S.Source.state _ _
-    c.close-in-Ok-UnknownTool.result _ unknown_tool read
-    (program_told g.S.Source.state c.close-in-Ok-UnknownTool.result (Some unknown_tool) _ _ _ _ _ c.tell.result hold told
-    (told_on_err g.S.Source.state _ _ _ c.tell.result hold.1 told) closed))
+    c.finish_run-in-Ok-UnknownTool.result _ unknown_tool read
+    (program_told g.S.Source.state c.finish_run-in-Ok-UnknownTool.result (Some unknown_tool) _ _ _ _ _ c.put_message.result hold told
+    (told_on_err g.S.Source.state _ _ _ c.put_message.result hold.1 told) closed))
 
 -- the words couldn't be read: another line says so
 pub returns-in-Err-clause-behavior : goal.returns-in-Err-clause-behavior
 returns-in-Err-clause-behavior g c =
-    let closed = rw c.status_once-answer-in-Err.ensures at c.close-in-Err.ensures.finish in
-    let told = c.tell-in-Err.ensures in
-    rw (← c.streams-in-Err.view_is) (λ hold. program_unread g.S.Source.state _ _ c.close-in-Err.result _
+    let closed = rw c.status_after_write-answer-in-Err.ensures at c.finish_run-in-Err.ensures.finish in
+    let told = c.put_message-in-Err.ensures in
+    rw (← c.streams-in-Err.view_is) (λ hold. program_unread g.S.Source.state _ _ c.finish_run-in-Err.result _
     c.in-Err.ensures.not_read
-    (program_told g.S.Source.state c.close-in-Err.result None _ _ _ _ _ c.tell-in-Err.result hold told
-    (told_on_err g.S.Source.state _ _ _ c.tell-in-Err.result hold.1 told) closed))
+    (program_told g.S.Source.state c.finish_run-in-Err.result None _ _ _ _ _ c.put_message-in-Err.result hold told
+    (told_on_err g.S.Source.state _ _ _ c.put_message-in-Err.result hold.1 told) closed))

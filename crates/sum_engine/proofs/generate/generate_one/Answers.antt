@@ -6,7 +6,7 @@ use Rattle.sum_engine.specs.Generation.{generate_behavior}
 use Rattle.sum_engine.proofs.RunStateLemmas.{known_refused}
 use Rattle.sum_engine.proofs.RunLemmas.{unasked}
 use Rattle.sum_engine.proofs.GenerateLemmas.{told, one_step}
-use Rattle.sum_engine.specs.declared.asking.Asked.TheVariants as asked
+use Rattle.sum_engine.specs.declared.asking.HashOutcome.TheVariants as asked
 use Rattle.sum_engine.proofs.generate.generate_one.Goals as goal
 
 -- there was no memory to open the name
@@ -21,23 +21,23 @@ returns-in-None-clause-behavior g c =
     c.in-None.ensures.refusals))
 
 -- the name was read, and its line failed
-pub returns-in_err-tell_line-in-Some-Read-clause-behavior : goal.returns-in_err-tell_line-in-Some-Read-clause-behavior
-returns-in_err-tell_line-in-Some-Read-clause-behavior g c =
+pub returns-in_err-put_line_flushed-in-Some-Read-clause-behavior : goal.returns-in_err-put_line_flushed-in-Some-Read-clause-behavior
+returns-in_err-put_line_flushed-in-Some-Read-clause-behavior g c =
     let stop = err_from_is_err_and c.from_residual.result c.from_residual.ensures.1 in
     let done = c.in-Some-Read.ensures in
     let gives = rw c.in-Some-Read.field-0-is at done.outcome in
     rw (stop.1, stop.2, ← c.streams.view_is) (λ hold. told g.S.Source.state c.args.settings.now c.args.tool.now
     c.args.name.now _ _ _ _ _ (asked.Read c.in-Some-Read.digest) (Err tt) gives done.stdin_taken done.refusals refl
-    (inr (Appends-nil _, (c.in_err-tell_line-in-Some-Read.ensures.1 hold.0).1)))
+    (inr (Appends-nil _, (c.in_err-put_line_flushed-in-Some-Read.ensures.1 hold.0).1)))
 
 -- its line was handed on
-pub returns-in_ok-tell_line-in-Some-Read-clause-behavior : goal.returns-in_ok-tell_line-in-Some-Read-clause-behavior
-returns-in_ok-tell_line-in-Some-Read-clause-behavior g c =
+pub returns-in_ok-put_line_flushed-in-Some-Read-clause-behavior : goal.returns-in_ok-put_line_flushed-in-Some-Read-clause-behavior
+returns-in_ok-put_line_flushed-in-Some-Read-clause-behavior g c =
     let done = c.in-Some-Read.ensures in
     let gives = rw c.in-Some-Read.field-0-is at done.outcome in
     rw (← c.streams.view_is) (λ hold. told g.S.Source.state c.args.settings.now c.args.tool.now
     c.args.name.now _ _ _ _ _ (asked.Read c.in-Some-Read.digest) (Ok tt) gives done.stdin_taken done.refusals refl
-    (Appends-nil _, (c.in_ok-tell_line-in-Some-Read.ensures.1 hold.0).1))
+    (Appends-nil _, (c.in_ok-put_line_flushed-in-Some-Read.ensures.1 hold.0).1))
 
 -- the name could not be opened, and the line of its fault failed
 pub returns-in_err-put_fault_line-in-Some-NotOpened-clause-behavior :

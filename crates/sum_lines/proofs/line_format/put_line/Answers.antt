@@ -4,16 +4,16 @@ use Rattle.sum_lines.proofs.SinkLemmas.{Left-all, Left-step, Left-stop, Left-las
 use Rattle.sum_lines.proofs.line_format.put_line.Goals as goal
 
 -- a line that ends with NUL: its form failed
-pub returns-in_err-put_form : goal.returns-in_err-put_form
-returns-in_err-put_form g c =
+pub returns-in_err-put_layout : goal.returns-in_err-put_layout
+returns-in_err-put_layout g c =
     let failed = err_from_is_err_and c.from_residual.result c.from_residual.ensures.1 in
-    let form = rw c.digits_of-digits.ensures at c.in_err-put_form.ensures in
+    let form = rw c.digits_of-digits.ensures at c.in_err-put_layout.ensures in
     rw (failed.1, c.if-style.true) (Left-stop _ Left-all refl form)
 
 -- its form was written, and then its end
 pub returns-then-style : goal.returns-then-style
 returns-then-style g c =
-    let form = rw c.digits_of-digits.ensures at c.in_ok-put_form.ensures in
+    let form = rw c.digits_of-digits.ensures at c.in_ok-put_layout.ensures in
     rw c.if-style.true (Left-last _ c.put_all.result (Left-step _ Left-all refl form) c.put_all.ensures.text)
 
 -- a line that ends with a newline: its mark failed
@@ -25,18 +25,18 @@ returns-in_err-put_all g c =
     rw (failed.1, c.if-style.false, append_assoc) (Left-stop _ Left-all refl marked)
 
 -- its mark was written, and its form failed
-pub returns-in_err-put_form-2 : goal.returns-in_err-put_form-2
-returns-in_err-put_form-2 g c =
-    let result = c.from_residual-in_err-put_form-2 in
+pub returns-in_err-put_layout-2 : goal.returns-in_err-put_layout-2
+returns-in_err-put_layout-2 g c =
+    let result = c.from_residual-in_err-put_layout-2 in
     let failed = err_from_is_err_and result.result result.ensures.1 in
     let marked = rw c.mark_and_name.ensures.mark at c.in_ok-put_all.ensures.text in
-    let form = rw (c.digits_of-digits.ensures, c.mark_and_name.ensures.name) at c.in_err-put_form-2.ensures in
+    let form = rw (c.digits_of-digits.ensures, c.mark_and_name.ensures.name) at c.in_err-put_layout-2.ensures in
     rw (failed.1, c.if-style.false, append_assoc) (Left-stop _ (Left-step _ Left-all refl marked) refl form)
 
 -- its mark, its form and its end were written
 pub returns : goal.returns
 returns g c =
     let marked = rw c.mark_and_name.ensures.mark at c.in_ok-put_all.ensures.text in
-    let form = rw (c.digits_of-digits.ensures, c.mark_and_name.ensures.name) at c.in_ok-put_form-2.ensures in
+    let form = rw (c.digits_of-digits.ensures, c.mark_and_name.ensures.name) at c.in_ok-put_layout-2.ensures in
     let left = Left-step _ (Left-step _ Left-all refl marked) refl form in
     rw (c.if-style.false, append_assoc) (Left-last _ c.put_all-3.result left c.put_all-3.ensures.text)

@@ -6,13 +6,13 @@ use Rattle.blake2b_core.proofs.pieces.Blake2b.fill.Goals as goal
 -- the block that was held is full, and is compressed
 pub returns-clause-holds : goal.returns-clause-holds
 returns-clause-holds c = λ m before.
-    let s = c.hold.new.self in
+    let s = c.buffer_bytes.new.self in
     let all = m ++ take (128 - c.args.self.now.buffer_len) c.args.piece.now in
-    let held = c.hold.ensures.holds m before in
+    let held = c.buffer_bytes.ensures.holds m before in
     let part = length-take-le (128 - c.args.self.now.buffer_len) c.args.piece.now (omega arith) in
-    let full : s.buffer_len ≡ 128 = omega (arith, c.hold.ensures.used, part) in
+    let full : s.buffer_len ≡ 128 = omega (arith, c.buffer_bytes.ensures.used, part) in
     let counted : 128 * held.done + s.buffer_len ≡ length all = held.count in
-    let hash = hash_after-full s.len s.buffer all held.done c.hold.ensures.size full
+    let hash = hash_after-full s.len s.buffer all held.done c.buffer_bytes.ensures.size full
     (c.from.ensures ∙ held.taken) counted held.hash held.rest in
     record {
       taken = held.taken;

@@ -16,13 +16,13 @@ returns-clause-holds c = λ m held.
     let end : last ≡ drop b rest = take_rest rest b in
     let filled = c.fill-filled.ensures.holds m held.so_far in
     let absorbed = c.absorb-absorbed.ensures.holds (m ++ take a piece) filled in
-    let all = c.hold.ensures.holds ((m ++ take a piece) ++ take b rest) absorbed in
+    let all = c.buffer_bytes.ensures.holds ((m ++ take a piece) ++ take b rest) absorbed in
     record {
-      so_far = subst (HoldsSoFar c.hold.new.self) (three_parts m piece a b behind end) all;
+      so_far = subst (HoldsSoFar c.buffer_bytes.new.self) (three_parts m piece a b behind end) all;
       empty_buffer = λ none.
           let rest_size : length rest ≡ length piece - a = omega (arith, ap length behind, length-drop a piece) in
           let last_size : length last ≡ length rest - b = omega (arith, ap length end, length-drop b rest) in
-          let used : c.hold.new.self.buffer_len ≡ c.absorb-absorbed.new.self.buffer_len + length last = c.hold.ensures.used in
+          let used : c.buffer_bytes.new.self.buffer_len ≡ c.absorb-absorbed.new.self.buffer_len + length last = c.buffer_bytes.ensures.used in
           let no_piece : length piece ≡ 0 =
           none_left (length piece) a b rest_size c.fill-filled.ensures.some_left
           c.absorb-absorbed.ensures.some_left (omega arith) in

@@ -4,5 +4,5 @@ use Rattle.sum_lines.proofs.buffered.BufferedSink.flush.Goals as goal
 -- nothing is held in the buffer any more, and the sink below was flushed, or that failed
 pub returns-clause-bytes : goal.returns-clause-bytes
 returns-clause-bytes g c =
-    let emptied = rw (← c.self.view_is) at c.in_ok-empty.ensures in
+    let emptied = rw (← c.self.view_is) at c.in_ok-flush_buffer.ensures in
     Flushed-below _ _ _ c.flush.result emptied.bytes emptied.flushed c.flush.ensures.bytes

@@ -1,5 +1,5 @@
 use Rattle.std.proofs.Common.{[], ap, arith, ◌∙◌}
-use Rattle.sum_sources.specs.declared.lines.State.TheVariants.{Stopped}
+use Rattle.sum_sources.specs.declared.lines.ReaderState.TheVariants.{Stopped}
 use Rattle.sum_sources.proofs.PieceLemmas.{some_buffered}
 use Rattle.sum_sources.proofs.LineLemmas.{gives_ended, gives_stopped, gives_stop}
 use Rattle.sum_sources.proofs.lines.LineReader.next_line.Goals as goal

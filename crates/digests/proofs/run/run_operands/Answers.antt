@@ -1,0 +1,62 @@
+use Rattle.std.proofs.Common.{◌≡◌, ◌∙◌, rules, ◌&&◌}
+use Rattle.sum_words.specs.Tools.{name_of}
+use Rattle.digests.specs.Meaning.{operand_behavior, or_dash}
+use Rattle.digests.proofs.OperandLemmas.{Operands, reached_start, reached_step, reached_end, reached_stop}
+use Rattle.digests.proofs.run.run_operands.Goals.{then-good, else-good}
+use Rattle.digests.proofs.run.run_operands.Goals as goal
+
+-- before the first operand nothing happened
+pub operands-init : goal.operands-init
+operands-init g c =
+    let all : Operands =
+    record { one = operand_behavior c.args.job.now (name_of c.args.tool); names = or_dash c.args.operands } in
+    record {
+      reached = λ hold. reached_start g.S.Source.state all c.args.streams.now c.first_name-name.ensures;
+      so_far = search rules;
+    }
+
+-- an operand stopped the run
+pub returns-in-Err-clause-behavior : goal.returns-in-Err-clause-behavior
+returns-in-Err-clause-behavior g c =
+    let all : Operands =
+    record { one = operand_behavior c.args.job.now (name_of c.args.tool); names = or_dash c.args.operands } in
+    let so_far = c.operands.invariant in
+    λ hold. reached_stop g.S.Source.state all c.in-Err.stop c.operands.good c.operands.name.now c.operands.operands
+    c.args.streams.now c.operands.streams c.run_operand.new.streams (so_far.reached hold)
+    (c.in-Err.ensures.behavior (so_far.so_far.flushed hold))
+
+-- an operand happened, and another one is left
+pub operands-preserved : goal.operands-preserved
+operands-preserved g c =
+    let is : c.if-good.good ≡ (c.operands.good && c.in-Ok.this) =
+    elim c.if-good.branch [
+      | then-good w ↦ rw w.if-good.true w.good-is
+      | else-good w ↦ rw w.if-good.false (w.good-is ∙ w.if-good.false)
+    ] in
+    let all : Operands =
+    record { one = operand_behavior c.args.job.now (name_of c.args.tool); names = or_dash c.args.operands } in
+    let so_far = c.operands.invariant in
+    record {
+      reached = λ hold. rw (is, ← c.in-Some.ensures) (reached_step g.S.Source.state all c.operands.good c.in-Ok.this
+          c.operands.name.now c.operands.operands c.args.streams.now c.operands.streams c.run_operand.new.streams
+          (so_far.reached hold) (c.in-Ok.ensures.behavior (so_far.so_far.flushed hold)));
+      so_far = search rules;
+    }
+
+-- an operand happened, and it was the last
+pub returns-in-None-clause-behavior : goal.returns-in-None-clause-behavior
+returns-in-None-clause-behavior g c =
+    let is : c.if-good.good ≡ (c.operands.good && c.in-Ok.this) =
+    elim c.if-good.branch [
+      | then-good w ↦ rw w.if-good.true w.good-is
+      | else-good w ↦ rw w.if-good.false (w.good-is ∙ w.if-good.false)
+    ] in
+    let all : Operands =
+    record { one = operand_behavior c.args.job.now (name_of c.args.tool); names = or_dash c.args.operands } in
+    let so_far = c.operands.invariant in
+    λ hold.
+    let reached = reached_step g.S.Source.state all c.operands.good c.in-Ok.this c.operands.name.now c.operands.operands
+    c.args.streams.now c.operands.streams c.run_operand.new.streams (so_far.reached hold)
+    (c.in-Ok.ensures.behavior (so_far.so_far.flushed hold)) in
+    rw c.status.ensures (reached_end g.S.Source.state all _ c.args.streams.now c.run_operand.new.streams
+    (rw (← is, c.in-None.ensures.0) at reached))

@@ -1,0 +1,19 @@
+use Rattle.std.proofs.Common.{◌∷◌, length, Ok}
+use Rattle.sum_engine.specs.Moments.{IsFlushed, StopHasCause}
+use Rattle.sum_words.specs.Tools.{name_of}
+use Rattle.digests.specs.Meaning.{operand_behavior, or_dash}
+use Rattle.digests.specs.Refusals.{RefusalsOfJob}
+use Rattle.digests.specs.refinement.Operands.{OperandsDoneIfKnown}
+use Rattle.digests.proofs.run.run_operands.Given as goal
+
+-- the operands before this one happened; the source was refused nothing, and no write failed
+abbrev pub invariant-operands : goal.invariant-operands
+invariant-operands g l = record {
+  reached : IsFlushed l.fn.streams → OperandsDoneIfKnown g.S.Source.state (operand_behavior l.job (name_of l.tool))
+      (or_dash l.fn.operands) (l.name ∷ l.operands) l.fn.streams l.streams l.good;
+  so_far : StopHasCause g.S.Source.state (RefusalsOfJob l.job) l.fn.streams l.streams (Ok l.good);
+}
+
+-- one operand less is left
+abbrev pub decreases-operands : goal.decreases-operands
+decreases-operands g l = length l.operands

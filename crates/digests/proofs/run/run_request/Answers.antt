@@ -1,0 +1,49 @@
+use Rattle.digests.proofs.OneTextLemmas.{told_on_out, told_on_err, accounts_on_out, accounts_on_err}
+use Rattle.digests.proofs.run.run_request.Goals as goal
+
+-- a fault is told on standard error
+pub returns-in-Err-clause-behavior : goal.returns-in-Err-clause-behavior
+returns-in-Err-clause-behavior g c =
+    rw (c.in-Err.is, c.status_after_write.ensures, ← c.streams.view_is)
+    (λ hold. told_on_err g.S.Source.state _ _ _ c.put_message.result hold.1 c.put_message.ensures)
+
+-- the help stands on standard output
+pub returns-in-Ok-Help-clause-behavior : goal.returns-in-Ok-Help-clause-behavior
+returns-in-Ok-Help-clause-behavior g c =
+    let told = c.put_message-in-Ok-Help in
+    rw (c.in-Ok-Help.is, c.in-Ok-Help.field-0-is, c.status_after_write-in-Ok-Help.ensures) (rw (← c.streams-in-Ok-Help.view_is)
+    (λ hold. told_on_out g.S.Source.state _ _ _ told.result hold.0 told.ensures))
+
+-- the version likewise
+pub returns-in-Ok-Version-clause-behavior : goal.returns-in-Ok-Version-clause-behavior
+returns-in-Ok-Version-clause-behavior g c =
+    let told = c.put_message-in-Ok-Version in
+    rw (c.in-Ok-Version.is, c.in-Ok-Version.field-0-is, c.status_after_write-in-Ok-Version.ensures)
+    (rw (← c.streams-in-Ok-Version.view_is)
+    (λ hold. told_on_out g.S.Source.state _ _ _ told.result hold.0 told.ensures))
+
+-- the work is what `each` does
+pub returns-in-Ok-Work-clause-behavior : goal.returns-in-Ok-Work-clause-behavior
+returns-in-Ok-Work-clause-behavior g c = rw (c.in-Ok-Work.is, c.in-Ok-Work.field-0-is) c.run_operands.ensures.behavior
+
+-- and `each` accounts for it
+pub returns-in-Ok-Work-clause-cause : goal.returns-in-Ok-Work-clause-cause
+returns-in-Ok-Work-clause-cause g c = rw (c.in-Ok-Work.is, c.in-Ok-Work.field-0-is) (record {
+  flushed = c.run_operands.ensures.cause.flushed;
+  refusals = c.run_operands.ensures.cause.refusals;
+  failures = c.run_operands.ensures.cause.failures;
+})
+
+-- one text that was told accounts for the stop
+pub returns-in-Err-clause-cause : goal.returns-in-Err-clause-cause
+returns-in-Err-clause-cause g c = rw (c.status_after_write.ensures, ← c.streams.view_is)
+    (accounts_on_err g.S.Source.state _ _ _ _ 1 c.put_message.result c.put_message.ensures)
+
+pub returns-in-Ok-Help-clause-cause : goal.returns-in-Ok-Help-clause-cause
+returns-in-Ok-Help-clause-cause g c = rw (c.status_after_write-in-Ok-Help.ensures, ← c.streams-in-Ok-Help.view_is)
+    (accounts_on_out g.S.Source.state _ _ _ _ 0 c.put_message-in-Ok-Help.result c.put_message-in-Ok-Help.ensures)
+
+pub returns-in-Ok-Version-clause-cause : goal.returns-in-Ok-Version-clause-cause
+returns-in-Ok-Version-clause-cause g c =
+    rw (c.status_after_write-in-Ok-Version.ensures, ← c.streams-in-Ok-Version.view_is)
+    (accounts_on_out g.S.Source.state _ _ _ _ 0 c.put_message-in-Ok-Version.result c.put_message-in-Ok-Version.ensures)

@@ -1,0 +1,6 @@
+use Rattle.sum_engine.proofs.TellLemmas.{told_flushed}
+use Rattle.digests.proofs.telling.put_message.Goals as goal
+
+-- the text was written, and then the sink was flushed
+pub returns : goal.returns
+returns g c = told_flushed _ _ _ _ c.flush.result c.in_ok-buffer_message.ensures c.flush.ensures.bytes

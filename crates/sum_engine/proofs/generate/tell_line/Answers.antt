@@ -1,6 +1,0 @@
-use Rattle.sum_engine.proofs.TellLemmas.{told_flushed}
-use Rattle.sum_engine.proofs.generate.tell_line.Goals as goal
-
--- the line was written, and then the sink was flushed
-pub returns : goal.returns
-returns g c = told_flushed _ _ _ _ c.flush.result c.in_ok-put_line.ensures c.flush.ensures.bytes

@@ -1,0 +1,24 @@
+use Rattle.std.proofs.Common.{◌≡◌, slice_range, refl, ap, sym, ◌∙◌}
+use Rattle.sum_lines.specs.Escape.{present}
+use Rattle.sum_lines.specs.Entries.{EntryValue, form_then, line_form}
+use Rattle.sum_lines.specs.ParsedLines.{parse_line, entry}
+use Rattle.sum_engine.specs.refinement.Positions.{cursor_value}
+use Rattle.sum_engine.proofs.FindLemmas.{line_found}
+use Rattle.sum_engine.proofs.position.CheckCursor.judge_line.Goals as goal
+
+-- an entry was judged
+pub returns-in-Some-clause-verdict : goal.returns-in-Some-clause-verdict
+returns-in-Some-clause-verdict g c =
+    let old = c.args.self.now in
+    let line = c.args.line.now.items in
+    let algos = old.listing.settings.algos in
+    let vector = c.read_line-reading.new.line.items in
+    let listed = c.in-Entry in
+    let name = slice_range vector listed.start listed.stop in
+    let s : EntryValue = record { kind = listed.kind; digest = listed.digest; name = name } in
+    let said : parse_line present algos (form_then old.form (line_form algos line)) line ≡ entry s =
+    sym (rw listed.is at (c.read_line-reading.ensures.parsed
+    ∙ ap (λ f. parse_line present algos f line) c.read_line-reading.ensures.form)) in
+    let judged = rw c.deref.ensures.value at c.in-Some.ensures.verdict in
+    rw c.count_verdict-in-Entry.ensures.is (line_found (cursor_value old) line (entry s) _ _ vector _ _ _ _ _ said judged
+    c.count_verdict-in-Entry.ensures.counts refl refl)
