@@ -62,7 +62,8 @@ columns-rows r v x y mixes =
 -- four diagonals, as the columns of rows of which all but the second are turned against it (a, c and d), and turned
 -- back (a', c' and d')
 pub diagonals-rows : {a c d x' y' a' c' d' : List ℕ} (v r : List (List ℕ)) (x y : List ℕ)
-    → a ≡ rotated_row (row v 0) 3 → c ≡ rotated_row (row v 2) 1 → d ≡ rotated_row (row v 3) 2 → x' ≡ rotated_row x 3 → y' ≡ rotated_row y 3
+    → a ≡ rotated_row (row v 0) 3 → c ≡ rotated_row (row v 2) 1 → d ≡ rotated_row (row v 3) 2 → x' ≡ rotated_row x 3
+    → y' ≡ rotated_row y 3
     → words r ≡ columns (words (a ∷ row v 1 ∷ c ∷ d ∷ [])) x' y'
     → a' ≡ rotated_row (row r 0) 1 → c' ≡ rotated_row (row r 2) 3 → d' ≡ rotated_row (row r 3) 2
     → words (a' ∷ row r 1 ∷ c' ∷ d' ∷ []) ≡ diagonals (words v) x y

@@ -64,7 +64,8 @@ long_words t (flag ∷ fs) more all =
 -- ---- the words of a check
 
 -- they are those options and an operand
-items-are : (t : Tool) (check : CheckSettings) (manifest : ByteString) → list_all takes_none (check_options check) ≡ true
+items-are : (t : Tool) (check : CheckSettings) (manifest : ByteString)
+    → list_all takes_none (check_options check) ≡ true
     → is_plain manifest ≡ true
     → items_from t a_word (check_words check manifest) ≡ map option (check_options check) ++ operand manifest ∷ []
 items-are t check manifest all plain =

@@ -34,7 +34,8 @@ tells-stop line a b (Err x) none h = let part = (h.1 none).1 in (part.0, part.2,
 -- a run that answered so was settled, and stopped then or before: from a to b and from c to e; then the line was told
 pub closes-stop : {E : Type 0} (line : Stop → ByteString) (answer : Result ℕ Stop) (stop : Stop) (a b c e d : SinkState)
     (r : Result (Unit {0}) E) → FlushesBoth a b c e answer (Err stop) → Keeps a.written b.written
-    → Keeps c.written e.written → e.buffered ≡ [] → WritesAndFlushes e d (line stop) r → FinishesRun line answer a b c d 1
+    → Keeps c.written e.written → e.buffered ≡ [] → WritesAndFlushes e d (line stop) r
+    → FinishesRun line answer a b c d 1
 closes-stop line (Ok x) Memory a b c e d r settled kept still none told = absurd settled
 closes-stop line (Ok x) Write a b c e d r settled kept still none told = search rules
 closes-stop line (Err s) stop a b c e d r settled kept still none told = search rules

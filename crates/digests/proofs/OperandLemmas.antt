@@ -48,7 +48,8 @@ reached_start state o {rest = rest} a is = started o rest (known_state state a) 
 -- one operand more happened
 pub reached_step : {S : Type 0} (state : S → SourceState) (o : Operands) (good this : Bool) (name : ByteString)
     (rest : List ByteString) (x y z : StreamsState S) → OperandsDoneIfKnown state o.one o.names (name ∷ rest) x y good
-    → Runs state (λ w. o.one w name) (λ g. g) y z (Ok this) → OperandsDoneIfKnown state o.one o.names rest x z (good && this)
+    → Runs state (λ w. o.one w name) (λ g. g) y z (Ok this) → OperandsDoneIfKnown state o.one o.names rest x z
+    (good && this)
 reached_step state o good this name rest x y z h k =
     IfKnown-then (known_state state x) (known_state state y) (known_state state z) (λ a b c p q.
     let run = o.one b.world name in

@@ -28,19 +28,22 @@ failed_since a b out err x y h (inl k) = inl (k.0 ∙ ap one_more h.0, k.1 ∙ h
 failed_since a b out err x y h (inr k) = inr (k.0 ∙ h.0, k.1 ∙ ap one_more h.1)
 
 -- nothing more was done
-did_kept : {a b : KnownState} (es : List Event) (out err : SinkState) → Happened a b es → Keeps b.out.written out.written
+did_kept : {a b : KnownState} (es : List Event) (out err : SinkState) → Happened a b es
+    → Keeps b.out.written out.written
     → Keeps b.err.written err.written → Happened a (record b { out = out; err = err }) es
 did_kept {a} {b} es out err h o e = search rules
 
 -- so a run that answered is still done, once both outputs were flushed; or that failed behind all events
-runs-kept : {S : Type 0} (state : S → SourceState) (run : World → Behavior) (a b : StreamsState S) (out err : SinkState) (x : ℕ)
+runs-kept : {S : Type 0} (state : S → SourceState) (run : World → Behavior) (a b : StreamsState S) (out err : SinkState)
+    (x : ℕ)
     → Runs state run status_of a b (Ok x) → Keeps b.out.written out.written → Keeps b.err.written err.written
     → Runs state run status_of a (record b { out = out; err = err }) (Ok x)
     × Runs state run status_of a (record b { out = out; err = err }) (Err Write)
 runs-kept state run a b out err x ran o e = search rules
 
 -- by the run's answer
-ends : {S : Type 0} (state : S → SourceState) (status : ℕ) (line : Option CommandLineValue) (a b : StreamsState S) (out err : SinkState)
+ends : {S : Type 0} (state : S → SourceState) (status : ℕ) (line : Option CommandLineValue) (a b : StreamsState S)
+    (out err : SinkState)
     (answer : Result ℕ Stop) → Runs state (call_behavior line) status_of a b answer → FailuresMatch a b answer
     → FinishesRun (call_stop_line line) answer b.out out b.err err status
     → CallPerforms state line a (record b { out = out; err = err }) status
@@ -62,7 +65,8 @@ ends state status line a b out err (Err stop) ran failed told =
     (Err stop, b, λ hold. ran, failed, (told.1, rw told.0 refl, told.2))
 
 -- the same; b is how things stood after the run, and held nothing
-pub program_ends : {S : Type 0} (state : S → SourceState) (status : ℕ) (line : Option CommandLineValue) (a b : StreamsState S)
+pub program_ends : {S : Type 0} (state : S → SourceState) (status : ℕ) (line : Option CommandLineValue)
+    (a b : StreamsState S)
     (out err : SinkState) (answer : Result ℕ Stop) → Runs state (call_behavior line) status_of a b answer
     → FailuresMatch a b answer → IsFlushed b
     → (b.out.buffered ≡ [] → b.err.buffered ≡ [] → FinishesRun (call_stop_line line) answer b.out out b.err err status)
@@ -71,10 +75,13 @@ program_ends state status line a b out err answer ran failed none closed =
     ends state status line a b out err answer ran failed (closed none.0 none.1)
 
 -- of a run that wrote one text on standard error
-pub program_told : {S E : Type 0} (state : S → SourceState) (status : ℕ) (line : Option CommandLineValue) (a : StreamsState S)
-    (err out last : SinkState) (text : ByteString) (r : Result (Unit {0}) E) → IsFlushed a → WritesAndFlushes a.err err text r
+pub program_told : {S E : Type 0} (state : S → SourceState) (status : ℕ) (line : Option CommandLineValue)
+    (a : StreamsState S)
+    (err out last : SinkState) (text : ByteString) (r : Result (Unit {0}) E) → IsFlushed a
+    → WritesAndFlushes a.err err text r
     → Runs state (call_behavior line) status_of a (record a { err = err }) (status_after_write r 1)
-    → (a.out.buffered ≡ [] → err.buffered ≡ [] → FinishesRun (call_stop_line line) (status_after_write r 1) a.out out err last status)
+    → (a.out.buffered ≡ [] → err.buffered ≡ [] → FinishesRun (call_stop_line line) (status_after_write r 1) a.out out
+    err last status)
     → CallPerforms state line a (record a { out = out; err = last }) status
 program_told state status line a err out last text r none told ran closed =
     program_ends state status line a (record a { err = err }) out last (status_after_write r 1) ran
@@ -83,12 +90,15 @@ program_told state status line a err out last text r none told ran closed =
 -- ---- by what was read of the arguments
 
 -- what a program gives, whatever the outputs hold
-abbrev pub Gives : {S : Type 0} → (S → SourceState) → Option (List ByteString) → StreamsState S → StreamsState S → ℕ → Type 0
+abbrev pub Gives : {S : Type 0} → (S → SourceState) → Option (List ByteString) → StreamsState S → StreamsState S → ℕ
+    → Type 0
 Gives state told a b status = IfSome told (λ arguments.
-    CallPerforms state (command_line arguments) a b status ⊎ (NeedsMemory arguments × CallPerforms state None a b status))
+    CallPerforms state (command_line arguments) a b status
+    ⊎ (NeedsMemory arguments × CallPerforms state None a b status))
 
 -- the command line is what they say
-pub program_read : {S : Type 0} (state : S → SourceState) (a b : StreamsState S) (status : ℕ) (told : Option (List ByteString))
+pub program_read : {S : Type 0} (state : S → SourceState) (a b : StreamsState S) (status : ℕ)
+    (told : Option (List ByteString))
     (c : CommandLineValue) → IsCommandLine told c → CallPerforms state (Some c) a b status → Gives state told a b status
 program_read state a b status None c is h = tt
 program_read state a b status (Some arguments) c is h =
@@ -96,7 +106,8 @@ program_read state a b status (Some arguments) c is h =
 
 -- it couldn't be read
 pub program_unread : {S : Type 0} (state : S → SourceState) (a b : StreamsState S) (status : ℕ)
-    (told : Option (List ByteString)) → MayBeUnread told → CallPerforms state None a b status → Gives state told a b status
+    (told : Option (List ByteString)) → MayBeUnread told → CallPerforms state None a b status
+    → Gives state told a b status
 program_unread state a b status None is h = tt
 program_unread state a b status (Some arguments) (inl none) h =
     inl (subst (λ line. CallPerforms state line a b status) (sym none) h)

@@ -48,13 +48,15 @@ line-is w s tool name newlines h = rw (read-is w s name h, newlines, append-nil)
 -- and for all names their lines, one behind the other; what a name answers doesn't depend on what was asked before
 lines-are : (s : Settings) (tool : ByteString) (names : List ByteString) (w : World)
     → s.style.zero ≡ false → All (Listable w.answer) names
-    → out_text (operands_behavior (generate_behavior s tool) w names) ≡ flat_map written_text (map (item w.answer s) names)
+    → out_text (operands_behavior (generate_behavior s tool) w names) ≡ flat_map written_text
+    (map (item w.answer s) names)
 lines-are s tool [] w newlines all = refl
 lines-are s tool (name ∷ names) w newlines all =
     let next : World = after w (asks (generate_behavior s tool w name)) in
     let first = line-is w s tool name newlines (All-head (Listable w.answer) name names all) in
     let others = lines-are s tool names next newlines (All-tail (Listable w.answer) name names all) in
-    flat_map-append (λ st. st.out) (generate_behavior s tool w name).steps (operands_behavior (generate_behavior s tool) next names).steps
+    flat_map-append (λ st. st.out) (generate_behavior s tool w name).steps (operands_behavior (generate_behavior s tool)
+    next names).steps
     ∙ rw (first, others) refl
 
 -- ---- they are read back, and their files are the same
@@ -79,7 +81,8 @@ run-listed algos w v g c =
 -- ---- a manifest of such lines
 
 -- a manifest that holds the lines for some names is good
-lines-good : (t : Tool) (check : CheckSettings) (manifest : ByteString) (v : World) (xs : List Item) (names : List ByteString)
+lines-good : (t : Tool) (check : CheckSettings) (manifest : ByteString) (v : World) (xs : List Item)
+    (names : List ByteString)
     (text : ByteString) → ChecksBy t check manifest
     → All (Listed check.algos v.answer) xs → map (λ i. i.name) xs ≡ names → flat_map written_text xs ≡ text
     → 0 < length names → length text < limit

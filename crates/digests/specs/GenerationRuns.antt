@@ -60,7 +60,8 @@ check_words check manifest = map (λ flag. codes "--" ++ full_name flag) (check_
 
 -- A tool, called with these words, ends with the status 0; it writes `NAME: OK` for each name, where the report setting
 -- has such lines, and nothing else.
-pub record ReportsAllOk (t : Tool) (check : CheckSettings) (v : World) (manifest : ByteString) (names : List ByteString) : Type 0 where
+pub record ReportsAllOk (t : Tool) (check : CheckSettings) (v : World) (manifest : ByteString)
+    (names : List ByteString) : Type 0 where
   pub status : status_of (meaning t (check_words check manifest) v).good ≡ 0
   pub out : out_text (meaning t (check_words check manifest) v) ≡ flat_map (right_line check.report) names
   pub err : err_text (meaning t (check_words check manifest) v) ≡ []

@@ -57,7 +57,8 @@ fn finish_run<O: Sink, E: Sink>(
     out: &mut O,
     err: &mut E,
 ) -> u8
-    ensures finish { (O.state out.old).buffered ≡ [] → (E.state err.old).buffered ≡ [] → FinishesRun (tool_stop_line tool) answer
+    ensures finish { (O.state out.old).buffered ≡ [] → (E.state err.old).buffered ≡ []
+        → FinishesRun (tool_stop_line tool) answer
         (O.state out.old) (O.state out.new) (E.state err.old) (E.state err.new) result }
     ensures flushed { (O.state out.old).buffered ≡ [] → (E.state err.old).buffered ≡ []
         → ((O.state out.new).buffered ≡ []) × ((E.state err.new).buffered ≡ []) }

@@ -43,13 +43,23 @@ fn run_request<A: Allocator + Copy, I: Input + Drop, S: Source, O: Sink, E: Sink
     asked: Result<Request, WordFault>,
     streams: &mut Streams<I, S, O, E>,
 ) -> Result<u8, Stop>
-    ensures behavior { Performs S.state (request_behavior tool (result_of asked.entry)) status_of streams.old streams.new result }
+    ensures behavior { Performs S.state (request_behavior tool (result_of asked.entry)) status_of streams.old
+        streams.new result }
     ensures cause { StopHasCause S.state (RefusalsOf (result_of asked.entry)) streams.old streams.new result }
 {
     match asked {
-        Err(fault) => status_after_write(put_message(&mut streams.err, Message::Fault(tool, &fault)), 1),
-        Ok(Request::Help) => status_after_write(put_message(&mut streams.out, Message::Help(tool)), 0),
-        Ok(Request::Version) => status_after_write(put_message(&mut streams.out, Message::Version(tool)), 0),
+        Err(fault) => status_after_write(
+            put_message(&mut streams.err, Message::Fault(tool, &fault)),
+            1,
+        ),
+        Ok(Request::Help) => status_after_write(
+            put_message(&mut streams.out, Message::Help(tool)),
+            0,
+        ),
+        Ok(Request::Version) => status_after_write(
+            put_message(&mut streams.out, Message::Version(tool)),
+            0,
+        ),
         Ok(Request::Work(job, operands)) => run_operands(alloc, &job, tool, operands, streams),
     }
 }
@@ -96,7 +106,8 @@ fn run_operands<A: Allocator + Copy, I: Input + Drop, S: Source, O: Sink, E: Sin
     operands: Operands,
     streams: &mut Streams<I, S, O, E>,
 ) -> Result<u8, Stop>
-    ensures behavior { Performs S.state (λ w. operands_behavior (operand_behavior job.now (name_of tool)) w (or_dash operands.entry)) status_of
+    ensures behavior { Performs S.state (λ w. operands_behavior (operand_behavior job.now (name_of tool)) w
+        (or_dash operands.entry)) status_of
         streams.old streams.new result }
     ensures cause { StopHasCause S.state (RefusalsOfJob job.now) streams.old streams.new result }
 {

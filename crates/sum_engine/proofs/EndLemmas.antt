@@ -17,12 +17,14 @@ no_lines true e = lines-nil e
 no_lines false e = pieces-nil e
 
 -- nor a verdict
-none_left : (r : Rules) (e : Ending) (b : CheckState) → b.rest ≡ record { bytes = []; ending = e } → remaining_verdicts r b ≡ []
+none_left : (r : Rules) (e : Ending) (b : CheckState) → b.rest ≡ record { bytes = []; ending = e }
+    → remaining_verdicts r b ≡ []
 none_left r e b rest =
     let ls : lines_by r.profile b.rest ≡ [] = rw rest (no_lines r.profile.drops_return e) in
     ap (λ l. verdicts r (form_then b.form (form r.settings.algos l)) b.known_state.world b.number l) ls
 
-pub end_stays : (r : Rules) (e : Ending) (vector : List ℕ) (a b c : CheckState) (x : Result (Option LineVerdict) LineStop)
+pub end_stays : (r : Rules) (e : Ending) (vector : List ℕ) (a b c : CheckState)
+    (x : Result (Option LineVerdict) LineStop)
     → NoVerdictLeft r e a b → NextVerdictIs r vector b c x → x ≡ ended_by e
 end_stays r e vector a b c (Ok (Some v)) ended found =
     let size : 0 ≡ length (remaining_verdicts r b) = ap length (sym (none_left r e b ended.rest)) in

@@ -20,7 +20,8 @@ use Rattle.sum_engine.proofs.RestLemmas.{rest_on}
 use Rattle.sum_engine.proofs.StepLemmas.{now_at, now-told, ReadsLine, read_line, moves_by}
 
 -- a line was judged, and its name stands in the vector
-pub line_found : {I : Type 0} (p : CursorValue I) (line : List ℕ) (said : ParsedLine) (k : ℕ) (d : Counts) (vector : List ℕ)
+pub line_found : {I : Type 0} (p : CursorValue I) (line : List ℕ) (said : ParsedLine) (k : ℕ) (d : Counts)
+    (vector : List ℕ)
     (w v : Option World) (verdict : Verdict) (start stop : ℕ) → parsed_at p line ≡ said
     → IfKnown w v (λ w v. IsJudged p.rules w v said verdict) → d ≡ counts_with p.counts verdict
     → slice_range vector start stop ≡ name_in_line said → k ≡ p.reader.lines
@@ -34,9 +35,11 @@ pub find_line : {I S : Type 0} (input : I → InputState) (state : S → SourceS
     → ReadsLine input p reader line → TakesLine (record p { reader = reader }) q line → length vector ≤ length line
     → IfKnown (world_of state a) (world_of state b)
     (λ w w'. JudgeLineOf (record p { reader = reader }) line q.counts vector w w' (Some v))
-    → b.stdin_taken ≡ a.stdin_taken || list_any is_dash (asks_of (line_verdict_value vector v)) → b.err ≡ a.err → b.out ≡ a.out
+    → b.stdin_taken ≡ a.stdin_taken || list_any is_dash (asks_of (line_verdict_value vector v)) → b.err ≡ a.err
+    → b.out ≡ a.out
     → (state b.source).refusals ≡ (state a.source).refusals
-    → NextVerdictIfKnown p.rules vector (check_state input p (known_state state a)) (check_state input q (known_state state b)) (Ok (Some v))
+    → NextVerdictIfKnown p.rules vector (check_state input p (known_state state a))
+    (check_state input q (known_state state b)) (Ok (Some v))
 find_line {I} input state p q reader a b line vector v reads takes few h taken err out refusals =
     let then : CursorValue I = record q { reader = reader } in
     let names = asks_of (line_verdict_value vector v) in
@@ -49,7 +52,8 @@ find_line {I} input state p q reader a b line vector v reads takes few h taken e
       judged.2,
     )) in
     let took = read_line input p reader line reads in
-    rw takes.reader (now-told input p then (known_state state a) (known_state state b) _ took found (λ c d s t took found.
+    rw takes.reader (now-told input p then (known_state state a) (known_state state b) _ took found
+    (λ c d s t took found.
     let found' = rw reads.number at found in
     let first : CheckState = now_at p c s in
     let next : CheckState = now_at then d t in
@@ -69,7 +73,8 @@ find_line {I} input state p q reader a b line vector v reads takes few h taken e
 pub find_refused : {I S : Type 0} (input : I → InputState) (state : S → SourceState) (p q : CursorValue I)
     (reader : LineReader I) (a b : StreamsState S) (line vector : List ℕ) → ReadsLine input p reader line
     → q.reader ≡ reader → IfKnown (known_state state a) (known_state state b) OnlyRefused
-    → NextVerdictIfKnown p.rules vector (check_state input p (known_state state a)) (check_state input q (known_state state b)) (Err Memory)
+    → NextVerdictIfKnown p.rules vector (check_state input p (known_state state a))
+    (check_state input q (known_state state b)) (Err Memory)
 find_refused {I} input state p q reader a b line vector reads is refused =
     let then : CursorValue I = record q { reader = reader } in
     rw is (now-told input p then (known_state state a) (known_state state b) _ reads.came refused

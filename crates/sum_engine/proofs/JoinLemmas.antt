@@ -45,11 +45,14 @@ along {r} {c} {s} {b} {k} h = record {
 }
 
 -- one more was handled
-joined_more : {r : Rules} {c : Content} {s : KnownState} {b d : CheckState} {v : List ℕ} {k : ℕ} → StateAfterLines r c s b k
-    → StepDone (remaining_behavior r b) (remaining_behavior r d) b.known_state d.known_state → LineHandled r b d v → StateAfterLines r c s d (suc k)
+joined_more : {r : Rules} {c : Content} {s : KnownState} {b d : CheckState} {v : List ℕ} {k : ℕ}
+    → StateAfterLines r c s b k
+    → StepDone (remaining_behavior r b) (remaining_behavior r d) b.known_state d.known_state → LineHandled r b d v
+    → StateAfterLines r c s d (suc k)
 joined_more {r} {c} {s} {b} {d} {v} {k} h step moves =
     let all = (whole r c s).steps in
-    let left = drop_next k all (remaining_behavior r d).steps step.step (sym h.remaining ∙ ap (λ (q : Behavior). q.steps) step.is) in
+    let left = drop_next k all (remaining_behavior r d).steps step.step
+    (sym h.remaining ∙ ap (λ (q : Behavior). q.steps) step.is) in
     let rest = moves.rest ∙ ap past_line h.rest ∙ past_next k c in
     record {
       rest = rest;
@@ -64,7 +67,8 @@ joined_more {r} {c} {s} {b} {d} {v} {k} h step moves =
     }
 
 -- so many were, one after another
-joined_times : (r : Rules) (c : Content) (s : KnownState) (a b : CheckState) (i k : ℕ) → StateAfterLines r c s a i → LinesHandled r a b k
+joined_times : (r : Rules) (c : Content) (s : KnownState) (a b : CheckState) (i k : ℕ) → StateAfterLines r c s a i
+    → LinesHandled r a b k
     → StateAfterLines r c s b (i + k)
 joined_times r c s a b i zero h is = search rules
 joined_times r c s a b i (suc k) h more =
@@ -76,7 +80,8 @@ joined_times r c s a b i (suc k) h more =
 -- so many lines handled one after another are the first so many steps
 pub steps_join : StepsJoin
 steps_join r c s b k h =
-    let same : 0 + k ≡ k = omega arith in rw same at (joined_times r c s (initial_state c s) b 0 k (joined_none r c s) h)
+    let same : 0 + k ≡ k = omega arith in rw same at (joined_times r c s (initial_state c s) b 0 k (joined_none r c s)
+    h)
 
 -- there are as many verdicts as lines
 length_verdicts : (r : Rules) (f : Form) (w : World) (n : ℕ) (ls : List (List ℕ))
@@ -99,7 +104,8 @@ steps_end r c s b z k x times e =
     let js = all_verdicts r s.world c in
     let ls = lines_by r.profile c in
     let all = (whole r c s).steps in
-    let one : length all - k ≡ 1 = sym (length-drop k all) ∙ ap length (sym h.remaining ∙ ap (λ (q : Behavior). q.steps) e.is) in
+    let one : length all - k ≡ 1 = sym (length-drop k all) ∙ ap length (sym h.remaining ∙ ap (λ (q : Behavior). q.steps)
+    e.is) in
     let len : length all ≡ length js + 1 = length_steps r (end_text r c.ending (counts no_counts js)) c js in
     let size = length_verdicts r (form r.settings.algos ls) s.world 0 ls in
     let end = along_end (along h) e in

@@ -30,7 +30,8 @@ abbrev pub Comes : Rules → Option Content → Option KnownState → Option Che
 Comes r None s b = Unit {0}
 Comes r (Some c) None b = Unit {0}
 Comes r (Some c) (Some s) None = ⊥
-Comes r (Some c) (Some s) (Some b) = Along (content_behavior r c (all_verdicts r s.world c)) (remaining_behavior r b) s b.known_state
+Comes r (Some c) (Some s) (Some b) = Along (content_behavior r c (all_verdicts r s.world c)) (remaining_behavior r b) s
+    b.known_state
 
 -- it begins so
 pub comes_none : (r : Rules) (c : Option Content) (s : Option KnownState)
@@ -80,8 +81,10 @@ comes_last_by state q r (Some c) (Some s) z (Some a) p held (Err Memory) rules k
     along_waits (manifest_run r c s.world).good k (rw rules at waits))
 
 pub comes_last : {I S : Type 0} (input : I → InputState) (state : S → SourceState) (q r : Rules) (c : Option Content)
-    (first last : StreamsState S) (a : Option CheckState) (p : CursorValue I) (held : List ℕ) (x : Result Bool Stop) → q ≡ r
-    → Comes r c (known_state state first) a → StepIsIfKnown q held a (check_state input p (known_state state last)) (ends x)
+    (first last : StreamsState S) (a : Option CheckState) (p : CursorValue I) (held : List ℕ) (x : Result Bool Stop)
+    → q ≡ r
+    → Comes r c (known_state state first) a → StepIsIfKnown q held a (check_state input p (known_state state last))
+    (ends x)
     → Checks state r c first last x
 comes_last input state q r c first last a p held x rules k h =
     comes_last_by input q r c (known_state state first) (known_state state last) a p held x rules k h
@@ -118,7 +121,8 @@ IsOpened name c a b =
     (d : Content) × (c ≡ Some d) × (reply a.world name ≡ Ok d) × Happened a b (events_of (opening name))
 
 -- what a call gives
-abbrev pub CheckGives : {S : Type 0} → (S → SourceState) → Call → StreamsState S → StreamsState S → Result Bool Stop → Type 0
+abbrev pub CheckGives : {S : Type 0} → (S → SourceState) → Call → StreamsState S → StreamsState S → Result Bool Stop
+    → Type 0
 CheckGives state k a b x = Runs state (λ w. check_behavior k.settings k.tool w k.name) (λ g. g) a b x
 
 -- the next, by run states
@@ -234,7 +238,8 @@ pub refused : {F S : Type 0} (content : F → InputState) (state : S → SourceS
     → CheckGives state k a (record a { source = source; err = err }) (answered x false)
 refused {S = S} content state k a source f err x dash h refusals hands =
     let next : StreamsState S = record a { source = source; err = err } in
-    once state (λ w. check_behavior k.settings k.tool w k.name) (k.name ∷ []) (fault_line present k.tool k.name f) [] false
+    once state (λ w. check_behavior k.settings k.tool w k.name) (k.name ∷ []) (fault_line present k.tool k.name f) []
+    false
     (λ g. g) a next x
     (opens content k.name (state a.source).known (state source).known a.input (Err (open_faults.Fault f)) h)
     (λ w v is. (

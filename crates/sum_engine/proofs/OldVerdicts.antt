@@ -106,7 +106,8 @@ said_same (Unread f) name free = name_line_same name (codes "FAILED open or read
 said_same v name free = refl
 
 -- what is the same for each verdict without one is the same for all
-all_same : (f g : LineVerdictValue → List ℕ) → ((j : LineVerdictValue) → CleanName j → f j ≡ g j) → (js : List LineVerdictValue) → All CleanName js
+all_same : (f g : LineVerdictValue → List ℕ) → ((j : LineVerdictValue) → CleanName j → f j ≡ g j)
+    → (js : List LineVerdictValue) → All CleanName js
     → map f js ≡ map g js
 all_same f g same [] all = refl
 all_same f g same (j ∷ js) all =

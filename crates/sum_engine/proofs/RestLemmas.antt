@@ -59,7 +59,8 @@ first_step r e k c (j ∷ js) =
     (line_step r (length c.bytes) j, run_by r e (counts_with k j.verdict) (past_line c) js, refl, refl)
 
 -- a line was found, which is the first of those that are to come
-pub found_first : (r : Rules) (a b : CheckState) (j : LineVerdictValue) → remaining_verdicts r a ≡ j ∷ remaining_verdicts r b
+pub found_first : (r : Rules) (a b : CheckState) (j : LineVerdictValue)
+    → remaining_verdicts r a ≡ j ∷ remaining_verdicts r b
     → b.counts ≡ counts_with a.counts j.verdict → b.rest ≡ past_line a.rest
     → remaining_behavior r a ≡ step_then (line_step r (length a.rest.bytes) j) (remaining_behavior r b)
 found_first r a b j first counted rest = search rules

@@ -14,7 +14,8 @@ use Rattle.sum_engine.specs.refinement.Telling.{WritesBoth}
 use Rattle.sum_engine.proofs.RunStateLemmas.{Runs, Asks, Writing, where_known, names-by, err-by, out-by, did_nothing, did_both, came_by, prefix_behind, known}
 
 -- one more of the steps happened
-pub steps_more : {a b c : KnownState} (done : List Step) (next : Step) → Happened a b (trace done) → Happened b c (events_of next)
+pub steps_more : {a b c : KnownState} (done : List Step) (next : Step) → Happened a b (trace done)
+    → Happened b c (events_of next)
     → Happened a c (trace (done ++ next ∷ []))
 steps_more done next h k = rw (flat_map-append events_of done (next ∷ []), append-nil (events_of next))
     (did_both (trace done) (events_of next) h k)
@@ -43,7 +44,8 @@ along_more {next = next} h k = record {
 }
 
 -- the last step: all happened
-pub along_end : {a b c : KnownState} {whole left : Behavior} {answer : Bool} → Along whole left a b → LastStepDone left answer b c
+pub along_end : {a b c : KnownState} {whole left : Behavior} {answer : Bool} → Along whole left a b
+    → LastStepDone left answer b c
     → (answer ≡ whole.good) × Happened a c (trace whole.steps)
 along_end h k =
     let all = h.steps ∙ ap (λ r. h.done ++ r.steps) k.is in
@@ -71,7 +73,8 @@ pub behavior_then-did : {a b c : KnownState} (r s : List Step) → Happened a b 
 behavior_then-did r s h k = rw (flat_map-append events_of r s) (did_both (trace r) (trace s) h k)
 
 -- the first happened, and the second stopped
-pub behavior_then-second : {A B : Type 0} {a b : KnownState} (c : KnownState) (x : A) (y : B) (r s : List Step) (stop : Stop)
+pub behavior_then-second : {A B : Type 0} {a b : KnownState} (c : KnownState) (x : A) (y : B) (r s : List Step)
+    (stop : Stop)
     → Happened a b (trace r) → PerformsSteps s y b c (Err stop) → PerformsSteps (r ++ s) x a c (Err stop)
 behavior_then-second c x y r s Write h k = (
   trace r ++ k.0,
@@ -113,7 +116,8 @@ behavior_then-first a b x y r s Memory h = (
 )
 
 -- a run behind its first step, which happened
-pub behind_step : {A : Type 0} {a b : KnownState} (c : KnownState) (x : A) (s : Step) (r : List Step) (y : Result A Stop)
+pub behind_step : {A : Type 0} {a b : KnownState} (c : KnownState) (x : A) (s : Step) (r : List Step)
+    (y : Result A Stop)
     → Happened a b (events_of s) → PerformsSteps r x b c y → PerformsSteps (s ∷ r) x a c y
 behind_step c x s r (Ok good) h k = (k.0, did_both (events_of s) (trace r) h k.1)
 behind_step c x s r (Err stop) h k = behavior_then-second c x x (s ∷ []) r stop (rw (append-nil (events_of s)) h) k
@@ -129,7 +133,8 @@ answered (Err e) x = Err Write
 pub once : {S A : Type 0} (state : S → SourceState) (run : World → Behavior) (names : List (List ℕ)) (err out : List ℕ)
     (good : Bool) (answer : Bool → A) (a b : StreamsState S) {P : World → World → Type 0} (x : Writing)
     → IfKnown (world_of state a) (world_of state b) P
-    → ((w v : World) → P w v → (run w ≡ single_step names err out good) × Asks (known state a w) (known state b v) names)
+    → ((w v : World) → P w v → (run w ≡ single_step names err out good)
+    × Asks (known state a w) (known state b v) names)
     → WritesBoth a.err b.err a.out b.out err out x → Runs state run answer a b (answered x (answer good))
 once state run names err out good answer a b (Ok u) h is told = where_known state a b _ h (λ w v p.
     rw ((is w v p).0, append-nil) (refl, came_by _ _ names err out (Ok u) (is w v p).1 told))
@@ -137,7 +142,8 @@ once state run names err out good answer a b (Err e) h is told = where_known sta
     rw ((is w v p).0, append-nil) (came_by _ _ names err out (Err e) (is w v p).1 told))
 
 -- the source had no memory to open the first step's name
-pub unasked : {S A : Type 0} (state : S → SourceState) (run : World → Behavior) (answer : Bool → A) (a b : StreamsState S)
+pub unasked : {S A : Type 0} (state : S → SourceState) (run : World → Behavior) (answer : Bool
+    → A) (a b : StreamsState S)
     → ((w : World) → (s : Step) × (rest : List Step) × ((run w).steps ≡ s ∷ rest))
     → IfKnown (known_state state a) (known_state state b) OnlyRefused
     → Runs state run answer a b (Err Memory)

@@ -75,7 +75,8 @@ pub record Asks (a b : KnownState) (names : List (List ℕ)) : Type 0 where
   pub refusals : b.refusals ≡ a.refusals
 
 -- no name was
-pub asks_none : {a b : KnownState} → b.world ≡ a.world → b.stdin_taken ≡ a.stdin_taken → b.refusals ≡ a.refusals → Asks a b []
+pub asks_none : {a b : KnownState} → b.world ≡ a.world → b.stdin_taken ≡ a.stdin_taken → b.refusals ≡ a.refusals
+    → Asks a b []
 asks_none {a} world taken refusals = search rules
 
 -- so it is where they were opened, and nothing was written
@@ -234,7 +235,8 @@ pub known_refused : {S : Type 0} (state : S → SourceState) (a b : StreamsState
 known_refused state a b world taken err out refused = search rules
 
 -- standard error handed on a text or a prefix of it, and nothing else was done
-pub err_came : {S : Type 0} (state : S → SourceState) (a : StreamsState S) (err : SinkState) (text : List ℕ) (x : Writing)
+pub err_came : {S : Type 0} (state : S → SourceState) (a : StreamsState S) (err : SinkState) (text : List ℕ)
+    (x : Writing)
     → WritesOrPrefix a.err.written err.written text x
     → IfKnown (known_state state a) (known_state state (record a { err = err }))
     (λ s t. Came x s t (events_by [] text []))

@@ -40,7 +40,8 @@ now_where p c s = check_state_from c p.reader.lines (consumed p.reader) p.form p
 
 -- the next, by contents and run states themselves
 now_made : {I : Type 0} (p q : CursorValue I) (x y : Option Content) (s t : Option KnownState)
-    {P : Content → Content → Type 0} {Q : KnownState → KnownState → Type 0} (R : CheckState → CheckState → Type 0) → IfKnown x y P
+    {P : Content → Content → Type 0} {Q : KnownState → KnownState → Type 0} (R : CheckState → CheckState → Type 0)
+    → IfKnown x y P
     → IfKnown s t Q → ((c d : Content) (s t : KnownState) → P c d → Q s t → R (now_at p c s) (now_at q d t))
     → IfKnown (now_where p x s) (now_where q y t) R
 now_made p q None y s t R h k f = tt
@@ -55,10 +56,12 @@ pub now-told : {I : Type 0} (state : I → InputState) (p q : CursorValue I) (s 
     → IfKnown (remaining_content state p.reader) (remaining_content state q.reader) P → IfKnown s t Q
     → ((c d : Content) (s t : KnownState) → P c d → Q s t → R (now_at p c s) (now_at q d t))
     → IfKnown (check_state state p s) (check_state state q t) R
-now-told state p q s t R h k f = now_made p q (remaining_content state p.reader) (remaining_content state q.reader) s t R h k f
+now-told state p q s t R h k f = now_made p q (remaining_content state p.reader) (remaining_content state q.reader) s t
+    R h k f
 
 -- the next likewise
-run_state_made : {I : Type 0} (q : CursorValue I) (d : Option Content) (z : Option KnownState) (a : CheckState) (s : KnownState)
+run_state_made : {I : Type 0} (q : CursorValue I) (d : Option Content) (z : Option KnownState) (a : CheckState)
+    (s : KnownState)
     (P : CheckState → CheckState → Type 0) (R : KnownState → KnownState → Type 0) → IfKnown (Some a) (now_where q d z) P
     → ((d : Content) (z : KnownState) → P a (now_at q d z) → R s z) → IfKnown (Some s) z R
 run_state_made q None z a s P R h f = absurd h
@@ -66,8 +69,10 @@ run_state_made q (Some d) None a s P R h f = absurd h
 run_state_made q (Some d) (Some z) a s P R h f = f d z h
 
 -- what follows of the run state alone
-pub now-run_state : {I : Type 0} (state : I → InputState) (q : CursorValue I) (z : Option KnownState) (a : CheckState) (s : KnownState)
-    (P : CheckState → CheckState → Type 0) (R : KnownState → KnownState → Type 0) → IfKnown (Some a) (check_state state q z) P
+pub now-run_state : {I : Type 0} (state : I → InputState) (q : CursorValue I) (z : Option KnownState) (a : CheckState)
+    (s : KnownState)
+    (P : CheckState → CheckState → Type 0) (R : KnownState → KnownState → Type 0)
+    → IfKnown (Some a) (check_state state q z) P
     → ((d : Content) (z : KnownState) → P a (now_at q d z) → R s z) → IfKnown (Some s) z R
 now-run_state state q z a s P R h f = run_state_made q (remaining_content state q.reader) z a s P R h f
 
@@ -76,7 +81,8 @@ now-run_state state q z a s P R h f = run_state_made q (remaining_content state 
 -- the reader of a place became this one, which has read a line more
 pub record ReadsLine {I : Type 0} (state : I → InputState) (p : CursorValue I) (reader : LineReader I) (line : List ℕ)
     : Type 0 where
-  pub came : IfKnown (remaining_content state p.reader) (remaining_content state reader) (λ c d. NextLineIs c d (Ok Line) line)
+  pub came : IfKnown (remaining_content state p.reader) (remaining_content state reader)
+      (λ c d. NextLineIs c d (Ok Line) line)
   pub using : IfKnown (remaining_content state p.reader) (remaining_content state reader)
       (λ c d. consumed reader + length d.bytes ≡ consumed p.reader + length c.bytes)
   pub number : reader.lines ≡ p.reader.lines + 1
@@ -119,8 +125,10 @@ asked m =
     record m { err = silent; out = silent }
 
 -- the next, by contents and worlds themselves
-lent_made : {I : Type 0} (p q : CursorValue I) (x y : Option Content) (w v : Option World) (f g h k : World → KnownState)
-    (P R : CheckState → CheckState → Type 0) → IfKnown (now_where p x (option_map f w)) (now_where q y (option_map g v)) P
+lent_made : {I : Type 0} (p q : CursorValue I) (x y : Option Content) (w v : Option World) (f g h k : World
+    → KnownState)
+    (P R : CheckState → CheckState → Type 0) → IfKnown (now_where p x (option_map f w)) (now_where q y (option_map g v))
+    P
     → ((c d : Content) (w v : World) → P (now_at p c (f w)) (now_at q d (g v))
     → R (now_at p c (h w)) (now_at q d (k v)))
     → IfKnown (now_where p x (option_map h w)) (now_where q y (option_map k v)) R
@@ -142,19 +150,29 @@ lent input state p q a b P R is to = search rules
 
 -- one more step was done, or a prefix of its events
 step_by : (r : Rules) (a b : CheckState) (vector : List ℕ) (step : Step) (x : Writing)
-    → remaining_behavior r a ≡ step_then step (remaining_behavior r b) → LineHandled r a b vector → Came x a.known_state b.known_state (events_of step)
+    → remaining_behavior r a ≡ step_then step (remaining_behavior r b) → LineHandled r a b vector
+    → Came x a.known_state b.known_state (events_of step)
     → StepIs r vector a b (answered x Going)
 step_by r a b vector step (Ok u) is moves did = (record { step = step; is = is; happened = did }, moves)
-step_by r a b vector step (Err e) is moves cut = record { step = step; rest = remaining_behavior r b; is = is; happened = cut }
+step_by r a b vector step (Err e) is moves cut = record {
+  step = step;
+  rest = remaining_behavior r b;
+  is =
+      is;
+  happened = cut;
+}
 
 -- a line was found, and its report was handed on, or a prefix of it; a is how things stood, by m
-pub step_found : {I S : Type 0} (input : I → InputState) (state : S → SourceState) (p q : CursorValue I) (a m b : StreamsState S)
+pub step_found : {I S : Type 0} (input : I → InputState) (state : S → SourceState) (p q : CursorValue I)
+    (a m b : StreamsState S)
     (vector : List ℕ) (v : LineVerdict) (x : Writing) → m ≡ a
-    → NextVerdictIfKnown p.rules vector (check_state input p (known_state state (asked m))) (check_state input q (known_state state (asked b)))
+    → NextVerdictIfKnown p.rules vector (check_state input p (known_state state (asked m)))
+    (check_state input q (known_state state (asked b)))
     (Ok (Some v))
     → WritesBoth m.err b.err m.out b.out (err_by p.rules v.number v.verdict (line_verdict_value vector v).name)
     (out_by p.rules.profile p.rules.settings.report v.verdict (line_verdict_value vector v).name) x
-    → StepIsIfKnown p.rules vector (check_state input p (known_state state a)) (check_state input q (known_state state b))
+    → StepIsIfKnown p.rules vector (check_state input p (known_state state a))
+    (check_state input q (known_state state b))
     (answered x Going)
 step_found input state p q a m b vector v x is found hands =
     rw (← is) (lent input state p q m b _ _ found (λ c d w v' f.
@@ -186,11 +204,14 @@ nothing_said p reports.Warn name = refl
 nothing_said p reports.Status name = refl
 
 -- memory was wanted, and both outputs stayed
-pub step_wants : {I S : Type 0} (input : I → InputState) (state : S → SourceState) (p q : CursorValue I) (a m b : StreamsState S)
+pub step_wants : {I S : Type 0} (input : I → InputState) (state : S → SourceState) (p q : CursorValue I)
+    (a m b : StreamsState S)
     (vector : List ℕ) → m ≡ a
-    → NextVerdictIfKnown p.rules vector (check_state input p (known_state state (asked m))) (check_state input q (known_state state (asked b)))
+    → NextVerdictIfKnown p.rules vector (check_state input p (known_state state (asked m)))
+    (check_state input q (known_state state (asked b)))
     (Err line_stops.Memory) → b.err ≡ m.err → b.out ≡ m.out
-    → StepIsIfKnown p.rules vector (check_state input p (known_state state a)) (check_state input q (known_state state b)) (Err Memory)
+    → StepIsIfKnown p.rules vector (check_state input p (known_state state a))
+    (check_state input q (known_state state b)) (Err Memory)
 step_wants input state p q a m b vector is found err out = rw (← is) (lent input state p q m b _ _ found (λ c d w v f.
     let s = first_step p.rules c.ending p.counts c (remaining_verdicts p.rules (now_at p c (known state m w))) in
     record {
@@ -215,12 +236,14 @@ last_by r a b vector step answer (Err e) is cut =
     record { step = step; rest = record { steps = []; good = answer }; is = is; happened = cut }
 
 -- the end was found, and its text was handed on, or a prefix of it
-pub step_end : {I S : Type 0} (input : I → InputState) (state : S → SourceState) (p q : CursorValue I) (a m b : StreamsState S)
+pub step_end : {I S : Type 0} (input : I → InputState) (state : S → SourceState) (p q : CursorValue I)
+    (a m b : StreamsState S)
     (vector : List ℕ) (e : Ending) (answer : Bool) (x : Writing) → m ≡ a
     → IfKnown (check_state input p (known_state state (asked m))) (check_state input q (known_state state (asked b)))
     (NoVerdictLeft p.rules e) → q.rules ≡ p.rules → answer ≡ good q.rules e q.counts → b.out ≡ m.out
     → WritesAndFlushes m.err b.err (end_text q.rules e q.counts) x → IsFlushed a
-    → StepIsIfKnown p.rules vector (check_state input p (known_state state a)) (check_state input q (known_state state b))
+    → StepIsIfKnown p.rules vector (check_state input p (known_state state a))
+    (check_state input q (known_state state b))
     (answered x (Ended answer))
 step_end input state p q a m b vector e answer x is found rules sum out told hold =
     let none = rw (← is) at hold.1 in

@@ -39,7 +39,8 @@ asks_compared ignore d a name = refl
 
 -- so is the verdict of an entry
 verdict_is : (r : Rules) (w : World) (s : EntryValue) (a : HashOutcome) → r.from_stdin && is_dash s.name ≡ false
-    → IsHashOutcome s.kind (reply w s.name) a → verdict_of r w s ≡ verdict_of_outcome r.settings.ignore_missing s.digest a
+    → IsHashOutcome s.kind (reply w s.name) a → verdict_of r w s ≡ verdict_of_outcome r.settings.ignore_missing s.digest
+    a
 verdict_is r w s a dash h = search rules
 
 -- an entry's verdict, by what came of asking its name

@@ -16,7 +16,13 @@ rules_of settings tool name =
 -- a step for each line of the content, by these verdicts, one after another, and one for the end, which has that text
 abbrev pub line_steps : Rules → List ℕ → Content → List LineVerdictValue → List Step
 line_steps r end c [] = record { names = []; err = end; out = []; remaining = length c.bytes } ∷ []
-line_steps r end c (j ∷ js) = record { names = asks_of j; err = err_of r j; out = out_of r j; remaining = length c.bytes }
+line_steps r end c (j ∷ js) = record {
+  names = asks_of j;
+  err = err_of r j;
+  out = out_of r j;
+  remaining =
+      length c.bytes;
+}
     ∷ line_steps r end (past_line c) js
 
 -- a manifest that was opened, whose lines have these verdicts
@@ -31,4 +37,5 @@ check_behavior_by r name w (Ok c) =
     behavior_then (single_step (name ∷ []) [] [] true) (content_behavior r (clip c) (all_verdicts r w (clip c)))
 
 abbrev pub check_behavior : CheckSettings → List ℕ → World → List ℕ → Behavior
-check_behavior settings tool w name = check_behavior_by (rules_of settings tool name) name (after w (name ∷ [])) (reply w name)
+check_behavior settings tool w name = check_behavior_by (rules_of settings tool name) name (after w (name ∷ []))
+    (reply w name)

@@ -15,9 +15,11 @@ abbrev pub fault_line : Profile → List ℕ → List ℕ → Fault → List ℕ
 fault_line p tool name fault = tool_line p tool name (fault_text fault)
 
 abbrev pub generate_behavior_by : Settings → List ℕ → List ℕ → Result (List ℕ) Fault → Behavior
-generate_behavior_by settings tool name (Ok d) = single_step (name ∷ []) [] (line settings.style settings.kind name d) true
+generate_behavior_by settings tool name (Ok d) = single_step (name ∷ []) [] (line settings.style settings.kind name d)
+    true
 generate_behavior_by settings tool name (Err f) = single_step (name ∷ []) (fault_line present tool name f) [] false
 
 -- a name that is read gives its line, any other the line of its fault
 abbrev pub generate_behavior : Settings → List ℕ → World → List ℕ → Behavior
-generate_behavior settings tool w name = generate_behavior_by settings tool name (digest_or_fault settings.kind (reply w name))
+generate_behavior settings tool w name =
+    generate_behavior_by settings tool name (digest_or_fault settings.kind (reply w name))

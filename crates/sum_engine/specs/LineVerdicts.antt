@@ -21,11 +21,23 @@ VerdictResult = Result (Option LineVerdict) LineStop
 abbrev pub lent_streams : {I S : Type 0} → (I → InputState) → Option I → S → StreamsState S
 lent_streams state stdin source =
     let silent : SinkState = record { written = None; buffered = []; failures = 0 } in
-    record { source = source; input = (stdin_state state stdin).content; stdin_taken = is_none stdin; err = silent; out = silent }
+    record {
+      source = source;
+      input = (stdin_state state stdin).content;
+      stdin_taken = is_none stdin;
+      err =
+          silent;
+      out = silent;
+    }
 
 -- the judged line: its name stands in the vector
 abbrev pub line_verdict_value : List ℕ → LineVerdict → LineVerdictValue
-line_verdict_value vector v = record { number = v.number; verdict = v.verdict; name = slice_range vector v.start v.stop }
+line_verdict_value vector v = record {
+  number = v.number;
+  verdict = v.verdict;
+  name =
+      slice_range vector v.start v.stop;
+}
 
 -- its name stands within the vector
 pub record HasNameRange (vector : List ℕ) (v : LineVerdict) : Type 0 where

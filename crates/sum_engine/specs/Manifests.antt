@@ -15,7 +15,8 @@ use Rattle.sum_engine.specs.LineVerdicts.{LineStop, LineVerdict, NoVerdictLeft, 
 
 -- a new checker that was run to its end, from outputs that held nothing
 abbrev pub ManifestPerforms :
-    {S : Type 0} → (S → SourceState) → Rules → Option Content → StreamsState S → StreamsState S → Result Bool Stop → Type 0
+    {S : Type 0} → (S → SourceState) → Rules → Option Content → StreamsState S → StreamsState S → Result Bool Stop
+    → Type 0
 ManifestPerforms state r c a b x = IsFlushed a → IfSome c (λ c. IfKnown (known_state state a) (known_state state b)
     (λ s t. let run = content_behavior r c (all_verdicts r s.world c) in PerformsSteps run.steps run.good s t x))
 
@@ -38,7 +39,8 @@ StepsReport = (r : Rules) (end : List ℕ) (c : Content) (js : List LineVerdictV
 -- so many lines were handled, one after another
 abbrev pub LinesHandled : Rules → CheckState → CheckState → ℕ → Type 0
 LinesHandled r a b zero = b ≡ a
-LinesHandled r a b (suc k) = (m : CheckState) × (vector : List ℕ) × StepDone (remaining_behavior r a) (remaining_behavior r m) a.known_state m.known_state
+LinesHandled r a b (suc k) = (m : CheckState) × (vector : List ℕ)
+    × StepDone (remaining_behavior r a) (remaining_behavior r m) a.known_state m.known_state
     × LineHandled r a m vector × LinesHandled r m b k
 
 -- after k lines of a new checker the first k of the manifest's steps are done and nothing else, the others are to come,
@@ -66,8 +68,10 @@ StepsEnd = (r : Rules) (c : Content) (s : KnownState) (b : CheckState) (z : Know
 
 -- after a step that a write fault cut off one prefix of all events happened
 abbrev pub StepsCut : Type 0
-StepsCut = (r : Rules) (c : Content) (s : KnownState) (b : CheckState) (z : KnownState) (k : ℕ) → LinesHandled r (initial_state c s) b k
-    → StepFailed (remaining_behavior r b) b.known_state z → PrefixHappened s z (trace (content_behavior r c (all_verdicts r s.world c)).steps)
+StepsCut = (r : Rules) (c : Content) (s : KnownState) (b : CheckState) (z : KnownState) (k : ℕ)
+    → LinesHandled r (initial_state c s) b k
+    → StepFailed (remaining_behavior r b) b.known_state z
+    → PrefixHappened s z (trace (content_behavior r c (all_verdicts r s.world c)).steps)
 
 -- what comes behind some lines has no part in their verdicts, whatever was asked before; nor has the name of the
 -- manifest, where both or neither came from standard input

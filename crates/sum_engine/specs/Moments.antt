@@ -29,7 +29,8 @@ FailuresMatch a b (Err Write) = ((b.out.failures ≡ one_more a.out.failures) ×
 FailuresMatch a b r = (b.out.failures ≡ a.out.failures) × (b.err.failures ≡ a.err.failures)
 
 -- the source's refusals: want of memory changes their count in this way, and any other answer leaves it
-abbrev pub RefusalsMatch : {S A : Type 0} → (S → SourceState) → (ℕ → ℕ → Type 0) → StreamsState S → StreamsState S → Result A Stop
+abbrev pub RefusalsMatch : {S A : Type 0} → (S → SourceState) → (ℕ → ℕ → Type 0) → StreamsState S → StreamsState S
+    → Result A Stop
     → Type 0
 RefusalsMatch state Changes a b (Err Memory) = Changes (state a.source).refusals (state b.source).refusals
 RefusalsMatch state Changes a b r = (state b.source).refusals ≡ (state a.source).refusals
@@ -59,7 +60,14 @@ known_state state m = do
   told ← (state m.source).known
   input ← m.input
   let world : World = record { answer = told.answer; asked = told.asked; input = input }
-  Some (record { world = world; refusals = (state m.source).refusals; stdin_taken = m.stdin_taken; err = m.err; out = m.out })
+  Some (record {
+    world = world;
+    refusals = (state m.source).refusals;
+    stdin_taken = m.stdin_taken;
+    err = m.err;
+    out =
+        m.out;
+  })
 
 -- these events happened: the names were asked, and the bytes were handed on; the source was refused no memory
 pub record Happened (a b : KnownState) (es : List Event) : Type 0 where
@@ -83,12 +91,14 @@ RefusedAt s a b = (b ≡ record a { refusals = one_more a.refusals }) ⊎ ((b �
 abbrev pub PerformsSteps : {A : Type 0} → List Step → A → KnownState → KnownState → Result A Stop → Type 0
 PerformsSteps steps x a b (Ok answer) = (answer ≡ x) × Happened a b (trace steps)
 PerformsSteps steps x a b (Err Write) = PrefixHappened a b (trace steps)
-PerformsSteps steps x a b (Err Memory) = (done : List Step) × (next : Step) × (rest : List Step) × (between : KnownState)
+PerformsSteps steps x a b (Err Memory) = (done : List Step) × (next : Step) × (rest : List Step)
+    × (between : KnownState)
     × (steps ≡ done ++ next ∷ rest) × Happened a between (trace done) × RefusedAt next between b
 
 -- the same from one moment, at which both outputs hold nothing, to another, of a run in whatever world it begins, where
 -- that is told; its answer goes by whether all is good
-abbrev pub Performs : {S A : Type 0} → (S → SourceState) → (World → Behavior) → (Bool → A) → StreamsState S → StreamsState S
+abbrev pub Performs : {S A : Type 0} → (S → SourceState) → (World → Behavior) → (Bool → A) → StreamsState S
+    → StreamsState S
     → Result A Stop → Type 0
 Performs state run answer a b r = IsFlushed a → IfKnown (known_state state a) (known_state state b)
     (λ s t. PerformsSteps (run s.world).steps (answer (run s.world).good) s t r)

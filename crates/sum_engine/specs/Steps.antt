@@ -54,7 +54,8 @@ remaining_verdicts r a =
 -- the run that is still to come
 abbrev pub remaining_behavior : Rules → CheckState → Behavior
 remaining_behavior r a = record {
-  steps = line_steps r (end_text r a.rest.ending (counts a.counts (remaining_verdicts r a))) a.rest (remaining_verdicts r a);
+  steps = line_steps r (end_text r a.rest.ending (counts a.counts (remaining_verdicts r a))) a.rest
+      (remaining_verdicts r a);
   good = good r a.rest.ending (counts a.counts (remaining_verdicts r a));
 }
 
@@ -102,7 +103,8 @@ pub record LineHandled (r : Rules) (a b : CheckState) (vector : List ℕ) : Type
   pub vector_len : length vector ≤ length line
 
 abbrev pub StepIs : Rules → List ℕ → CheckState → CheckState → Result Progress Stop → Type 0
-StepIs r vector a b (Ok Going) = StepDone (remaining_behavior r a) (remaining_behavior r b) a.known_state b.known_state × LineHandled r a b vector
+StepIs r vector a b (Ok Going) = StepDone (remaining_behavior r a) (remaining_behavior r b) a.known_state b.known_state
+    × LineHandled r a b vector
 StepIs r vector a b (Ok (Ended answer)) = LastStepDone (remaining_behavior r a) answer a.known_state b.known_state
 StepIs r vector a b (Err Write) = StepFailed (remaining_behavior r a) a.known_state b.known_state
 StepIs r vector a b (Err Memory) = StepRefused (remaining_behavior r a) a.known_state b.known_state
@@ -139,17 +141,20 @@ final_answer_of_step x = Some x
 
 -- where it stands in its manifest, where that and the run state tell
 abbrev pub check_state : {I : Type 0} → (I → InputState) → CursorValue I → Option KnownState → Option CheckState
-check_state state p known_state = check_state_from (remaining_content state p.reader) p.reader.lines (consumed p.reader) p.form p.counts known_state
+check_state state p known_state = check_state_from (remaining_content state p.reader) p.reader.lines (consumed p.reader)
+    p.form p.counts known_state
 
 -- it stands in front of the first line of that input, of which nothing was read
 abbrev pub IsAtStart : {I : Type 0} → (I → InputState) → CursorValue I → I → Type 0
 IsAtStart state p input = (p.reader ≡ record { input = input; ahead = []; taken = 0; lines = 0; final_answer = None })
-    × ((s : Option KnownState) → check_state state p s ≡ initial_state_if_known (option_map clip (state input).content) s)
+    × ((s : Option KnownState) → check_state state p s ≡ initial_state_if_known (option_map clip (state input).content)
+    s)
 
 -- what a step does to the place, told or not: it is checked by the same; what the input has given and what is left of
 -- it stay the same in sum; a line that was handled is one more; no read failed where a line was handled or the manifest
 -- is good; where a whole line is ahead already, the input isn't read; and the reader's bounds hold
-pub record AdvancesReader {I : Type 0} (state : I → InputState) (a b : CursorValue I) (x : Result Progress Stop) : Type 0 where
+pub record AdvancesReader {I : Type 0} (state : I → InputState) (a b : CursorValue I) (x : Result Progress Stop) : Type
+    0 where
   pub rules : b.rules ≡ a.rules
   pub taken : IfKnown (state a.reader.input).content (state b.reader.input).content
       (λ c d. b.reader.taken + length d.bytes ≡ a.reader.taken + length c.bytes)
@@ -160,7 +165,8 @@ pub record AdvancesReader {I : Type 0} (state : I → InputState) (a b : CursorV
   pub bounds : Bounded b.reader
 
 -- a step from one place and moment, at which both outputs hold nothing, to another, where manifest and world tell
-abbrev pub PerformsStep : {I S : Type 0} → (I → InputState) → (S → SourceState) → List ℕ → CursorValue I → CursorValue I → StreamsState S
+abbrev pub PerformsStep : {I S : Type 0} → (I → InputState) → (S → SourceState) → List ℕ → CursorValue I → CursorValue I
+    → StreamsState S
     → StreamsState S → Result Progress Stop → Type 0
 PerformsStep input source vector p q a b r = IsFlushed a → StepIsIfKnown p.rules vector
     (check_state input p (known_state source a)) (check_state input q (known_state source b)) r

@@ -103,7 +103,8 @@ impl<'a, I: Input> Checker<'a, I> {
         line: &mut Vec<u8, A>,
         streams: &mut Streams<J, S, O, E>,
     ) -> Result<Progress, Stop>
-        ensures step { self.old.final_answer ≡ None → PerformsStep I.state S.state line.new.items self.old.cursor self.new.cursor
+        ensures step { self.old.final_answer ≡ None → PerformsStep I.state S.state line.new.items self.old.cursor
+            self.new.cursor
             streams.old streams.new result }
         ensures flushed { IsFlushed streams.old → IsFlushed streams.new }
         ensures repeats { IfSome self.old.final_answer

@@ -130,7 +130,8 @@ impl<'a, I: Input> CheckCursor<'a, I> {
             (check_state I.state (cursor_value self.old) (known_state S.state (lent_streams J.state stdin.old source.old)))
             (check_state I.state (cursor_value self.new) (known_state S.state (lent_streams J.state stdin.new source.new))) result }
         ensures name_range { IfOk result (λ found. IfSome found (λ v. HasNameRange line.new.items v)) }
-        ensures out_of_memory { MemoryStopHasCause (S.state source.old) (S.state source.new) (remaining_content I.state self.old.reader)
+        ensures out_of_memory { MemoryStopHasCause (S.state source.old) (S.state source.new)
+            (remaining_content I.state self.old.reader)
             (progress_of result) }
         ensures reader { AdvancesReader I.state (cursor_value self.old) (cursor_value self.new) (progress_of result) }
     {

@@ -141,8 +141,13 @@ fn put_warning<'a, E: Sink>(
     )
 }
 
-fn put_unverified<E: Sink>(err: &mut E, listing: &CheckRules, counts: Counts) -> Result<(), SinkFault>
-    ensures { WritesAndFlushes (E.state err.old) (E.state err.new) (unverified_line (rules_in listing.now) counts) result }
+fn put_unverified<E: Sink>(
+    err: &mut E,
+    listing: &CheckRules,
+    counts: Counts,
+) -> Result<(), SinkFault>
+    ensures { WritesAndFlushes (E.state err.old) (E.state err.new) (unverified_line (rules_in listing.now) counts)
+        result }
 {
     if listing.settings.ignore_missing && counts.right == 0 {
         return put_tool_line(err, listing.tool, listing.shown, b"no file was verified");

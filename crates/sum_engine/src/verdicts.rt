@@ -94,12 +94,15 @@ impl<I: Input> Verdicts<I> {
             (check_state I.state self.old.cursor (known_state S.state (lent_streams J.state stdin.old source.old)))
             (check_state I.state self.new.cursor (known_state S.state (lent_streams J.state stdin.new source.new))) result }
         ensures name_range { IfOk result (λ found. IfSome found (λ v. HasNameRange line.new.items v)) }
-        ensures repeats { IfSome self.old.final_answer (λ r. (result ≡ r) × (self.new ≡ self.old) × (stdin.new ≡ stdin.old)
+        ensures repeats { IfSome self.old.final_answer (λ r. (result ≡ r) × (self.new ≡ self.old)
+            × (stdin.new ≡ stdin.old)
             × (source.new ≡ source.old)) }
         ensures final_answer { self.old.final_answer ≡ None → self.new.final_answer ≡ final_answer_of_next result }
-        ensures out_of_memory { self.old.final_answer ≡ None → MemoryStopHasCause (S.state source.old) (S.state source.new)
+        ensures out_of_memory { self.old.final_answer ≡ None
+            → MemoryStopHasCause (S.state source.old) (S.state source.new)
             (remaining_content I.state self.old.cursor.reader) (progress_of result) }
-        ensures reader { self.old.final_answer ≡ None → AdvancesReader I.state self.old.cursor self.new.cursor (progress_of result) }
+        ensures reader { self.old.final_answer ≡ None → AdvancesReader I.state self.old.cursor self.new.cursor
+            (progress_of result) }
     {
         if let Some(answer) = self.final_answer {
             return answer;

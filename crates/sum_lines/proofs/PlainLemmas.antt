@@ -52,7 +52,8 @@ cut-within {s = s} cut =
     omega (arith, some, rest)
 
 -- a line that is read as plain is plain
-pub read_is_plain : {algos : Algos} {line : List ℕ} {p : LinePartsValue} → plain_parts algos line ≡ Some p → IsPlain algos line p
+pub read_is_plain : {algos : Algos} {line : List ℕ} {p : LinePartsValue} → plain_parts algos line ≡ Some p
+    → IsPlain algos line p
 unfolding plain_parts
 read_is_plain {algos = One a} {line} {p} h =
     let s : List ℕ = (mark_and_rest (after_while is_blank line)).1 in
@@ -126,7 +127,8 @@ module _ {algos : Algos} {line : List ℕ} {e : Bool} {kind : KindValue} {d tail
       ∙ mark_and_rest-prefix t.blanks e t.digits (t.blank ∷ tail) t.are_blanks digits.begins
 
 -- so the line is read as its parts
-pub plain_is_read : {algos : Algos} {line : List ℕ} (p : LinePartsValue) → IsPlain algos line p → plain_parts algos line ≡ Some p
+pub plain_is_read : {algos : Algos} {line : List ℕ} (p : LinePartsValue) → IsPlain algos line p
+    → plain_parts algos line ≡ Some p
 unfolding plain_parts
 plain_is_read p t =
     let digits = plain-digits t in

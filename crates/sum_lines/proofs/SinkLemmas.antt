@@ -45,7 +45,8 @@ handed_some (Some x) b c held_before held_after text grows taken handed =
 -- a text was taken, and then a proper prefix of what was held and of one more piece was handed on
 handed_part : (a b c : Option (List ℕ)) (held_before held_after text piece later : List ℕ) → Grows a b
     → Appends (append_known a held_before) (append_known b held_after) text → 0 < length piece
-    → AppendsProperPrefix b c (held_after ++ piece) → AppendsProperPrefix a c (held_before ++ (text ++ (piece ++ later)))
+    → AppendsProperPrefix b c (held_after ++ piece)
+    → AppendsProperPrefix a c (held_before ++ (text ++ (piece ++ later)))
 handed_part None b c held_before held_after text piece later grows taken some handed =
     ([], held_before ++ (text ++ (piece ++ later)), refl, grind (arith, length-append), tt)
 handed_part (Some x) b c held_before held_after text piece later grows taken some handed =

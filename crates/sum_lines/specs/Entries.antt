@@ -64,13 +64,14 @@ pub record ByTag (escape : List ℕ → List ℕ) (algos : Algos) (line : List �
   pub tagged : Tagged algos line escaped s.kind s.digest raw
   pub spells : Spells escape escaped raw s.name
 
-pub record ByTail (escape : List ℕ → List ℕ) (algos : Algos) (form : Form) (line : List ℕ) (s : EntryValue) : Type 0 where
-  pub escaped : Bool
-  pub tail : List ℕ
-  pub raw : List ℕ
-  pub plain : Plain algos line escaped s.kind s.digest tail
-  pub is_raw : RawOf form tail raw
-  pub spells : Spells escape escaped raw s.name
+pub record ByTail (escape : List ℕ → List ℕ) (algos : Algos) (form : Form) (line : List ℕ) (s : EntryValue) : Type 0
+  where
+    pub escaped : Bool
+    pub tail : List ℕ
+    pub raw : List ℕ
+    pub plain : Plain algos line escaped s.kind s.digest tail
+    pub is_raw : RawOf form tail raw
+    pub spells : Spells escape escaped raw s.name
 
 -- An entry: what a line spells in a list of that form. Names are escaped by `escape`.
 abbrev pub IsEntry : (List ℕ → List ℕ) → Algos → Form → List ℕ → EntryValue → Type 0

@@ -76,7 +76,8 @@ impl<S: Sink> Buffered<S> {
     fn make_room(&mut self) -> Result<(), SinkFault>
         ensures bytes { FlushesBuffer (buffer_state S.state self.old) (buffer_state S.state self.new) result }
         ensures held { OnOk result (self.new.buffered ≡ kept_unless_full self.old.buffered) }
-        ensures offers { OffersWhole (S.offered self.old.sink) (S.offered self.new.sink) (flushed_if_full self.old.buffered) }
+        ensures offers { OffersWhole (S.offered self.old.sink) (S.offered self.new.sink)
+            (flushed_if_full self.old.buffered) }
     {
         if self.len < CAPACITY {
             return Ok(());
@@ -95,8 +96,10 @@ impl<S: Sink> Sink for Buffered<S> {
     fn write(&mut self, piece: &[u8]) -> Result<usize, SinkFault>
         ensures bytes { WritesSome (buffer_state S.state self.old) (buffer_state S.state self.new) piece.now result }
         ensures empty { piece.now ≡ [] → result ≡ Ok 0 }
-        ensures offers { OffersWhole (S.offered self.old.sink) (S.offered self.new.sink) (flushed_before_write self.old.buffered piece.now) }
-        ensures fits { IfOk result (λ n. n ≡ min (length piece.now) (CAPACITY - length (kept_unless_full self.old.buffered))) }
+        ensures offers { OffersWhole (S.offered self.old.sink) (S.offered self.new.sink)
+            (flushed_before_write self.old.buffered piece.now) }
+        ensures fits { IfOk result
+            (λ n. n ≡ min (length piece.now) (CAPACITY - length (kept_unless_full self.old.buffered))) }
     {
         if piece.is_empty() {
             return Ok(0);

@@ -85,7 +85,8 @@ fn put_layout<'a, S: Sink>(
     name: Part<'a>,
     digits: &'a [u8],
 ) -> Result<(), SinkFault>
-    ensures { WritesAll (S.state sink.old) (S.state sink.new) (layout mode kind (part_text name.entry) digits.now) result }
+    ensures { WritesAll (S.state sink.old) (S.state sink.new) (layout mode kind (part_text name.entry) digits.now)
+        result }
 {
     let digits = Part::Bytes(digits);
     match mode {

@@ -64,7 +64,8 @@ NextLineIs-last c (b ∷ bs) none some gave =
     (ap (map strip_carriage_return) (pieces-last Whole (b ∷ bs) none), refl)
 
 -- where nothing is left, there is no line
-pub NextLineIs-none : (c : Content) (line : List ℕ) → Gave c empty_content [] → NextLineIs c empty_content (Ok NoMore) line
+pub NextLineIs-none : (c : Content) (line : List ℕ) → Gave c empty_content []
+    → NextLineIs c empty_content (Ok NoMore) line
 NextLineIs-none c line gave = rw (Gave-is c empty_content [] gave) (lines-nil Whole, refl)
 
 -- a fault leaves no line, whatever stands before it

@@ -40,7 +40,8 @@ LineSoFar-piece {s = s} {line = line} h same (plain, none, is) = record {
 pub ends_line : {I : Type 0} {state : I → InputState} {old s s' : LineReaderValue I} {line line' : List ℕ}
     → LineSoFar state old s line → s' ≡ record s { ahead = s'.ahead }
     → TakesPiece true s.ahead s'.ahead line line'
-    → IfKnown (remaining_content state old) (remaining_content state s') (λ c d. NextLineIs c d (Ok Line) (strip_carriage_return line'))
+    → IfKnown (remaining_content state old) (remaining_content state s')
+    (λ c d. NextLineIs c d (Ok Line) (strip_carriage_return line'))
 ends_line {state = state} {old = old} {s' = s'} {line = line} h same (piece, plain, cut, is) =
     rw is (IfKnown-map (remaining_content state old) (remaining_content state s') (λ c d gave.
     NextLineIs-ended c d (line ++ piece) (All-append (λ b. (b == 10) ≡ false) line piece h.plain plain)
@@ -61,5 +62,6 @@ pub ends_last : {I : Type 0} {state : I → InputState} {old s : LineReaderValue
     → ((c : Content) → Gave c empty_content line → Q c empty_content)
     → IfKnown (remaining_content state old) (option_map (λ _. empty_content) z) Q
 ends_last {state = state} {old = old} {line = line} z f Q h ended all =
-    IfKnown-remade (remaining_content state old) z f (λ _. empty_content) (λ c d. Gave c empty_content line) Q (λ c d. all c)
+    IfKnown-remade (remaining_content state old) z f (λ _. empty_content) (λ c d. Gave c empty_content line) Q
+    (λ c d. all c)
     (all_came (option_map f z) empty_content h ended)

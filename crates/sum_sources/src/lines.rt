@@ -176,7 +176,8 @@ impl<I: Input> LineReader<I> {
         ensures line { IfKnown (remaining_content I.state self.old) (remaining_content I.state self.new)
             (λ c d. NextLineIs c d result (strip_carriage_return line.new.items)) }
         ensures memory { result ≡ Err LineStop.Memory → 0 < length self.new.ahead }
-        ensures consumed { OnOk result (IfKnown (remaining_content I.state self.old) (remaining_content I.state self.new)
+        ensures consumed { OnOk result (IfKnown (remaining_content I.state self.old)
+            (remaining_content I.state self.new)
             (λ c d. consumed self.new + length d.bytes ≡ consumed self.old + length c.bytes)) }
         ensures input { IfKnown (I.state self.old.input).content (I.state self.new.input).content
             (λ c d. self.new.taken + length d.bytes ≡ self.old.taken + length c.bytes) }
@@ -218,7 +219,8 @@ impl<I: Input> LineReader<I> {
         ensures lines { self.new.lines ≡ lines_after self.old.lines result }
         ensures input { IfKnown (I.state self.old.input).content (I.state self.new.input).content
             (λ c d. self.new.taken + length d.bytes ≡ self.old.taken + length c.bytes) }
-        ensures consumed { OnOk result (IfKnown (remaining_content I.state self.old) (remaining_content I.state self.new)
+        ensures consumed { OnOk result (IfKnown (remaining_content I.state self.old)
+            (remaining_content I.state self.new)
             (λ c d. consumed self.new + length d.bytes ≡ consumed self.old + length c.bytes)) }
         ensures failed { OnOk result ((I.state self.new.input).failed ≡ (I.state self.old.input).failed) }
         ensures ahead { ¬ NoNewline self.old.ahead → self.new.input ≡ self.old.input }

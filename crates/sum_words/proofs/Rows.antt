@@ -114,7 +114,8 @@ unfolding chars encode name_or_fault option_of_letter tool_called is_utf8
 odd_words = (refl, refl, refl, refl, refl)
 
 -- no argument of these is longer than the page
-not_longer : (all : List ByteString) → AllByRecursion (λ a. length a ≤ PAGE) all → SomeOne (λ a. PAGE < length a) all → ⊥
+not_longer : (all : List ByteString) → AllByRecursion (λ a. length a ≤ PAGE) all → SomeOne (λ a. PAGE < length a) all
+    → ⊥
 not_longer all short (k, a, less, at, long) =
     let fits = All-from_recursion (λ a. length a ≤ PAGE) all short k a less in
     absurd (omega (arith, rw at at fits, long))

@@ -15,4 +15,5 @@ PlainWordsAreOperands = (t : Tool) (words more : List ByteString) → AllPass is
 
 -- behind two dashes that are no option's value every word is one
 abbrev pub WordsBehindAreOperands : Type 0
-WordsBehindAreOperands = (t : Tool) (words : List ByteString) → items_from t a_word (codes "--" ∷ words) ≡ map operand words
+WordsBehindAreOperands = (t : Tool) (words : List ByteString) → items_from t a_word (codes "--" ∷ words) ≡ map operand
+    words

@@ -183,7 +183,10 @@ fn long_step<'a>(tool: Tool, text: &'a str) -> ParserStep<'a>
     match (flag.takes_value(), value) {
         (true, Some(value)) => ParserStep::Say(Item::Length(value.as_bytes()), ParserState::Word),
         (true, None) => ParserStep::Value(Spelling::Long),
-        (false, Some(_)) => ParserStep::Say(Item::Fault(WordFault::ValueNotAllowed(flag)), ParserState::Ended),
+        (false, Some(_)) => ParserStep::Say(
+            Item::Fault(WordFault::ValueNotAllowed(flag)),
+            ParserState::Ended,
+        ),
         (false, None) => ParserStep::Say(Item::Flag(flag), ParserState::Word),
     }
 }
@@ -194,7 +197,10 @@ fn letter_step<'a>(tool: Tool, letter: char, rest: &'a str) -> ParserStep<'a>
         ≡ read_then tool (cluster tool (letter ∷ chars rest.now)) ws }
 {
     match Flag::of_letter(tool, letter) {
-        None => ParserStep::Say(Item::Fault(WordFault::UnknownShort(letter)), ParserState::Ended),
+        None => ParserStep::Say(
+            Item::Fault(WordFault::UnknownShort(letter)),
+            ParserState::Ended,
+        ),
         Some(Flag::Length) => attached_value(rest),
         Some(flag) => ParserStep::Say(Item::Flag(flag), rest_of_cluster(rest)),
     }

@@ -24,7 +24,8 @@ FlushesBoth a b c d (Ok status) (Err Memory) = ⊥
 FlushesBoth a b c d (Err stop) r = (r ≡ Err stop) × (b ≡ a) × (d ≡ c)
 
 -- a run that answered so is ended: standard output goes from a to b, and standard error from c to d
-abbrev pub FinishesRun : (Stop → ByteString) → Result ℕ Stop → SinkState → SinkState → SinkState → SinkState → ℕ → Type 0
+abbrev pub FinishesRun : (Stop → ByteString) → Result ℕ Stop → SinkState → SinkState → SinkState → SinkState → ℕ
+    → Type 0
 FinishesRun line (Ok answer) a b c d status = ((status ≡ answer) × Keeps a.written b.written × Keeps c.written d.written
     × NoneFailed a b c d) ⊎ ((e : SinkState) × Keeps a.written b.written × Keeps c.written e.written
     × OneFailed a b c e × (status ≡ 1) × WritesLine (line Write) e d)

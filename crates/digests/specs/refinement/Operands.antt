@@ -9,14 +9,16 @@ use Rattle.sum_words.specs.Items.{ByteString}
 use Rattle.digests.specs.Meaning.{operands_behavior}
 
 -- the operands before the rest happened, and were good or not
-pub record OperandsDone (one : World → ByteString → Behavior) (names rest : List ByteString) (a b : KnownState) (good : Bool) : Type 0 where
+pub record OperandsDone (one : World → ByteString → Behavior) (names rest : List ByteString) (a b : KnownState)
+    (good : Bool) : Type 0 where
   pub done : Behavior
   pub total : operands_behavior one a.world names ≡ behavior_then done (operands_behavior one b.world rest)
   pub happened : Happened a b (trace done.steps)
   pub is : good ≡ done.good
 
 -- the same where it is told
-abbrev pub OperandsDoneIfKnown : {S : Type 0} → (S → SourceState) → (World → ByteString → Behavior) → List ByteString → List ByteString → StreamsState S
+abbrev pub OperandsDoneIfKnown : {S : Type 0} → (S → SourceState) → (World → ByteString → Behavior) → List ByteString
+    → List ByteString → StreamsState S
     → StreamsState S → Bool → Type 0
 OperandsDoneIfKnown state one names rest a b good =
     IfKnown (known_state state a) (known_state state b) (λ s t. OperandsDone one names rest s t good)

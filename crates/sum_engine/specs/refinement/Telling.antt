@@ -28,7 +28,8 @@ OneFailed a b c d = ((b.failures ≡ one_more a.failures) × (d.failures ≡ c.f
 
 -- a call that writes the text and hands it on, where nothing was held; then nothing is held
 abbrev pub WritesAndFlushes : {E : Type 0} → SinkState → SinkState → List ℕ → Result (Unit {0}) E → Type 0
-WritesAndFlushes a b text r = FailureMatches a b r × (a.buffered ≡ [] → (b.buffered ≡ []) × WritesOrPrefix a.written b.written text r)
+WritesAndFlushes a b text r = FailureMatches a b r × (a.buffered ≡ [] → (b.buffered ≡ [])
+    × WritesOrPrefix a.written b.written text r)
 
 -- a line's report on standard output, before its number is known
 abbrev pub out_by : Profile → Report → Verdict → List ℕ → List ℕ

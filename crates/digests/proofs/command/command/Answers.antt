@@ -31,7 +31,8 @@ returns-in-Ok-UnknownTool-clause-behavior g c =
     let told = c.put_message.ensures in
     rw (← c.streams-in-Ok-UnknownTool.view_is) (λ hold. program_read g.S.Source.state _ _
     c.finish_run-in-Ok-UnknownTool.result _ unknown_tool read
-    (program_told g.S.Source.state c.finish_run-in-Ok-UnknownTool.result (Some unknown_tool) _ _ _ _ _ c.put_message.result hold told
+    (program_told g.S.Source.state c.finish_run-in-Ok-UnknownTool.result (Some unknown_tool) _ _ _ _ _
+    c.put_message.result hold told
     (told_on_err g.S.Source.state _ _ _ c.put_message.result hold.1 told) closed))
 
 -- the words couldn't be read: another line says so

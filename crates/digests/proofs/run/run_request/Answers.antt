@@ -11,7 +11,8 @@ returns-in-Err-clause-behavior g c =
 pub returns-in-Ok-Help-clause-behavior : goal.returns-in-Ok-Help-clause-behavior
 returns-in-Ok-Help-clause-behavior g c =
     let told = c.put_message-in-Ok-Help in
-    rw (c.in-Ok-Help.is, c.in-Ok-Help.field-0-is, c.status_after_write-in-Ok-Help.ensures) (rw (← c.streams-in-Ok-Help.view_is)
+    rw (c.in-Ok-Help.is, c.in-Ok-Help.field-0-is, c.status_after_write-in-Ok-Help.ensures)
+    (rw (← c.streams-in-Ok-Help.view_is)
     (λ hold. told_on_out g.S.Source.state _ _ _ told.result hold.0 told.ensures))
 
 -- the version likewise

@@ -48,7 +48,8 @@ returns-in_err-put_fault_line-in-Some-NotOpened-clause-behavior g c =
     let done = c.in-Some-NotOpened.ensures in
     let gives = rw c.in-Some-NotOpened.field-0-is at done.outcome in
     rw (stop.1, stop.2, ← c.streams.view_is) (λ hold. told g.S.Source.state c.args.settings.now c.args.tool.now
-    c.args.name.now _ _ _ _ _ (asked.NotOpened c.in-Some-NotOpened.fault) (Err tt) gives done.stdin_taken done.refusals refl
+    c.args.name.now _ _ _ _ _ (asked.NotOpened c.in-Some-NotOpened.fault) (Err tt) gives done.stdin_taken done.refusals
+    refl
     (inl ((c.in_err-put_fault_line-in-Some-NotOpened.ensures.1 hold.1).1, refl)))
 
 -- that line was handed on
@@ -58,7 +59,8 @@ returns-in_ok-put_fault_line-in-Some-NotOpened-clause-behavior g c =
     let done = c.in-Some-NotOpened.ensures in
     let gives = rw c.in-Some-NotOpened.field-0-is at done.outcome in
     rw (← c.streams.view_is) (λ hold. told g.S.Source.state c.args.settings.now c.args.tool.now
-    c.args.name.now _ _ _ _ _ (asked.NotOpened c.in-Some-NotOpened.fault) (Ok tt) gives done.stdin_taken done.refusals refl
+    c.args.name.now _ _ _ _ _ (asked.NotOpened c.in-Some-NotOpened.fault) (Ok tt) gives done.stdin_taken done.refusals
+    refl
     ((c.in_ok-put_fault_line-in-Some-NotOpened.ensures.1 hold.1).1, Appends-nil _))
 
 -- the name could not be read to its end, and the line of its fault failed

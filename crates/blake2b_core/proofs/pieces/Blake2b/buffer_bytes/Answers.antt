@@ -16,5 +16,6 @@ returns-clause-holds c = λ m held.
       done = held.done;
       count = omega (arith, length-append m bytes);
       hash = held.hash ∙ sym (hash_after-append s.len m bytes held.done within);
-      rest = held-more s.buffer_len _ (128 * held.done) s.buffer m room c.copy_from_slice.ensures.after within held.rest;
+      rest = held-more s.buffer_len _ (128 * held.done) s.buffer m room c.copy_from_slice.ensures.after within
+          held.rest;
     }

@@ -10,7 +10,11 @@ returns-clause-digest c = λ m held.
     let done = held.so_far.done in
     let counted : 128 * done + s.buffer_len ≡ length m = held.so_far.count in
     let last : IsLast m done =
-    record { starts = omega arith; ends = omega arith; some = some_held m done s.buffer_len counted held.empty_buffer } in
+    record {
+      starts = omega arith;
+      ends = omega arith;
+      some = some_held m done s.buffer_len counted held.empty_buffer;
+    } in
     let total = c.from.ensures ∙ held.so_far.taken in
     rw (c.of_state.ensures.value, c.compress-h.ensures)
     (blake2b-from s.len last held.so_far.hash c.zero_filled-last.ensures held.so_far.rest total)

@@ -22,7 +22,8 @@ returns-clause-holds c = λ m held.
       empty_buffer = λ none.
           let rest_size : length rest ≡ length piece - a = omega (arith, ap length behind, length-drop a piece) in
           let last_size : length last ≡ length rest - b = omega (arith, ap length end, length-drop b rest) in
-          let used : c.buffer_bytes.new.self.buffer_len ≡ c.absorb-absorbed.new.self.buffer_len + length last = c.buffer_bytes.ensures.used in
+          let used : c.buffer_bytes.new.self.buffer_len ≡ c.absorb-absorbed.new.self.buffer_len + length last =
+          c.buffer_bytes.ensures.used in
           let no_piece : length piece ≡ 0 =
           none_left (length piece) a b rest_size c.fill-filled.ensures.some_left
           c.absorb-absorbed.ensures.some_left (omega arith) in

@@ -20,5 +20,6 @@ returns-in-Some-clause-verdict g c =
     sym (rw listed.is at (c.read_line-reading.ensures.parsed
     ∙ ap (λ f. parse_line present algos f line) c.read_line-reading.ensures.form)) in
     let judged = rw c.deref.ensures.value at c.in-Some.ensures.verdict in
-    rw c.count_verdict-in-Entry.ensures.is (line_found (cursor_value old) line (entry s) _ _ vector _ _ _ _ _ said judged
+    rw c.count_verdict-in-Entry.ensures.is (line_found (cursor_value old) line (entry s) _ _ vector _ _ _ _ _ said
+    judged
     c.count_verdict-in-Entry.ensures.counts refl refl)
