@@ -3,8 +3,8 @@ ghost use Rattle.std.specs.Prelude.{◌≡◌, ◌↔◌, ◌⊎◌, ℕ, ◌+�
 ghost use Rattle.std.specs.Prelude.{take, IsNone, IfSome};
 
 use crate::compression::compress;
+use crate::one_shot::{BLOCK, chained, followed_blocks, initial, zero_filled};
 use crate::output::Output;
-use crate::whole::{BLOCK, chained, followed_blocks, initial, zero_filled};
 
 /// A message that comes in pieces has fewer bytes than this. FIPS 180-4 defines SHA-1, SHA-224 and SHA-256 for messages
 /// of fewer than 2^64 bits, which is 2^61 bytes; BLAKE2b would allow more, and has the same bound here.

@@ -4,15 +4,15 @@
 
 mod columns;
 mod compression;
+mod incremental;
 pub mod laws;
+mod one_shot;
 mod output;
-mod pieces;
-mod whole;
 
 pub use compression::compress;
+pub use incremental::{Blake2b, LIMIT};
+pub use one_shot::blake2b;
 pub use output::Output;
-pub use pieces::{Blake2b, LIMIT};
-pub use whole::blake2b;
 
 #[cfg(test)]
 mod tests;

@@ -1,6 +1,6 @@
 -- The bounds of counts, as code has them, for the definitions of the crates above.
 use Rattle.std.specs.Prelude.{ℕ, ◌+◌, ◌-◌, ◌^◌, min}
-pub use Rattle.blake2b_core.specs.declared.pieces.TheConstants.{LIMIT}
+pub use Rattle.blake2b_core.specs.declared.incremental.TheConstants.{LIMIT}
 
 -- a count after one more: it rises by one, and stays at the last value of a u64
 abbrev pub one_more : ℕ → ℕ

@@ -6,21 +6,18 @@
 #![tactic(auto)]
 
 mod algo;
-mod any_hasher;
-mod blake2b_hasher;
 mod digest;
-mod hasher;
+mod hashers;
 mod kind;
-mod kit_hashers;
 pub mod laws;
 #[cfg(test)]
 mod tests;
 
 pub use algo::{Algo, Algos};
-pub use any_hasher::AnyHasher;
 pub use digest::Digest;
-pub use hasher::{Hasher, LIMIT};
-pub use kind::{Kind, LengthFault};
-pub use kit_hashers::{
+pub use hashers::any_hasher::AnyHasher;
+pub use hashers::hasher::{Hasher, LIMIT};
+pub use hashers::kit_hashers::{
     Md5Hasher, Sha1Hasher, Sha224Hasher, Sha256Hasher, Sha384Hasher, Sha512Hasher,
 };
+pub use kind::{Kind, LengthFault};

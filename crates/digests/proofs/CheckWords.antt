@@ -6,11 +6,11 @@ use Rattle.std.proofs.lemmas.Bool.{and_parts}
 use Rattle.std.proofs.lemmas.List.Elements.{All-nil, All-cons}
 use Rattle.sum_engine.specs.declared.settings.CheckSettings.{CheckSettings}
 use Rattle.sum_words.specs.Request.{Report, request, early_answer, job_or_fault, kind_asked}
-use Rattle.sum_words.specs.declared.options.Flag.{Flag}
+use Rattle.sum_words.specs.declared.parsing.options.Flag.{Flag}
 use Rattle.sum_words.specs.declared.tool.Tool.{Tool}
-use Rattle.sum_words.specs.declared.request.Request.{Request}
-use Rattle.sum_words.specs.declared.request.Request.TheVariants.{Work}
-use Rattle.sum_words.specs.declared.request.Job.TheVariants.{Check}
+use Rattle.sum_words.specs.declared.parsing.request.Request.{Request}
+use Rattle.sum_words.specs.declared.parsing.request.Request.TheVariants.{Work}
+use Rattle.sum_words.specs.declared.parsing.request.Job.TheVariants.{Check}
 use Rattle.sum_words.specs.Tools.{algos_of}
 use Rattle.sum_words.specs.WordFaults.{WordFaultValue}
 use Rattle.sum_words.specs.Items.{ByteString, ItemValue, option, operand, a_word, items_from, full_name, flags_of, takes_value, name_part, value_part, name_or_fault, option_in, value_in, operand_in}
@@ -18,7 +18,7 @@ use Rattle.sum_words.specs.PlainWords.{is_plain}
 use Rattle.sum_words.proofs.PlainWordLemmas.{plain_words}
 use Rattle.digests.specs.GenerationRuns.{check_options, check_words, ChecksBy}
 use Rattle.sum_engine.specs.declared.settings.Report.TheVariants as reports
-use Rattle.sum_words.specs.declared.options.Flag.TheVariants as flags
+use Rattle.sum_words.specs.declared.parsing.options.Flag.TheVariants as flags
 use Rattle.sum_words.specs.declared.tool.Tool.TheVariants as tools
 
 -- ---- long options that every tool has, and that take no value

@@ -1,6 +1,6 @@
-mod OneTextLemmas
+mod MessageLemmas
 mod OperandLemmas
-mod EndingLemmas
+mod FinishRunLemmas
 mod ProgramLemmas
 mod CheckWords
 mod WrittenIsGood

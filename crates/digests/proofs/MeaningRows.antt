@@ -9,12 +9,12 @@ use Rattle.md5.specs.Md5.{block_words as md5_words, rounds as md5_rounds, compre
 use Rattle.blake2b_core.specs.Compression.{mix, round, start, compress}
 use Rattle.blake2b_core.specs.Digest.{blocks, blake2b}
 use Rattle.sum_sources.specs.declared.fault.Fault.TheVariants.{NotFound, Other}
-use Rattle.sum_engine.specs.Runs.{Whole, Broken, World, out_text, err_text, asks}
+use Rattle.sum_engine.specs.Behavior.{Whole, Broken, World, out_text, err_text, asks}
 use Rattle.std.specs.Fmt.{digits}
 use Rattle.hex.specs.Hex.{encode_with, decode_pairs}
-use Rattle.sum_lines.specs.PartsOfLines.{plain_parts, tagged_parts}
+use Rattle.sum_lines.specs.grammar.LineParts.{plain_parts, tagged_parts}
 use Rattle.sum_sources.specs.ManifestLines.{raw_lines}
-use Rattle.sum_lines.specs.ParsedLines.{entry_of}
+use Rattle.sum_lines.specs.grammar.ParsedLines.{entry_of}
 use Rattle.sum_sources.specs.Contents.{Content, limit, Reply}
 use Rattle.sum_words.specs.declared.tool.Tool.{Tool}
 use Rattle.sum_words.specs.declared.tool.Tool.TheVariants.{Md5sum, B2sum, Anysum}

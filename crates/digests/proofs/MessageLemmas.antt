@@ -2,11 +2,11 @@
 use Rattle.std.proofs.Common.{rules, ◌≡◌, ℕ, true, false, [], Result, Ok, Err, refl, append-nil}
 use Rattle.std.proofs.KnownBytes.{Appends-nil}
 use Rattle.sum_sources.specs.Contents.{SourceState}
-use Rattle.sum_lines.specs.Sinks.{SinkState}
-use Rattle.sum_engine.specs.Moments.{StreamsState, StopHasCause}
-use Rattle.sum_engine.specs.Runs.{single_step}
-use Rattle.sum_engine.specs.refinement.Telling.{WritesAndFlushes}
-use Rattle.sum_engine.proofs.RunStateLemmas.{events_by, Runs, where_known, same_told, asks_none, did_by, prefix_err, prefix_out}
+use Rattle.sum_lines.specs.sinks.Sinks.{SinkState}
+use Rattle.sum_engine.specs.Execution.{StreamsState, StopHasCause}
+use Rattle.sum_engine.specs.Behavior.{single_step}
+use Rattle.sum_engine.specs.refinement.FlushedWrites.{WritesAndFlushes}
+use Rattle.sum_engine.proofs.ExecutionLemmas.{events_by, Runs, where_known, same_told, asks_none, did_by, prefix_err, prefix_out}
 use Rattle.sum_words.specs.Items.{ByteString}
 use Rattle.digests.specs.Meaning.{status_of}
 use Rattle.digests.specs.refinement.Operands.{status_after_write}

@@ -5,10 +5,10 @@ use Rattle.std.proofs.lemmas.List.{append-nil}
 use Rattle.sum_sources.specs.Contents.{IfKnown, SourceState}
 use Rattle.sum_sources.proofs.ToldLemmas.{IfKnown-then}
 use Rattle.sum_engine.specs.declared.stop.Stop.{Stop}
-use Rattle.sum_engine.specs.Runs.{World, after, Behavior, behavior_then, asks}
-use Rattle.sum_engine.specs.Moments.{StreamsState, KnownState, known_state, PerformsSteps}
-use Rattle.sum_engine.proofs.RunStateLemmas.{Runs, did_nothing}
-use Rattle.sum_engine.proofs.RunLemmas.{behavior_then-did, behavior_then-first, behavior_then-second, events_extend}
+use Rattle.sum_engine.specs.Behavior.{World, after, Behavior, behavior_then, asks}
+use Rattle.sum_engine.specs.Execution.{StreamsState, KnownState, known_state, PerformsSteps}
+use Rattle.sum_engine.proofs.ExecutionLemmas.{Runs, did_nothing}
+use Rattle.sum_engine.proofs.BehaviorLemmas.{behavior_then-did, behavior_then-first, behavior_then-second, events_extend}
 use Rattle.sum_words.specs.Items.{ByteString}
 use Rattle.digests.specs.Meaning.{operands_behavior, status_of}
 use Rattle.digests.specs.refinement.Operands.{OperandsDone, OperandsDoneIfKnown}

@@ -2,22 +2,22 @@
 use Rattle.std.proofs.Common.{rules, ◌≡◌, ℕ, List, [], Option, None, Some, Result, Ok, Err, ap, sym, ◌∙◌, inl, inr, refl, ◌⊎◌, subst, IfSome}
 use Rattle.std.specs.Io.KnownBytes.{Keeps}
 use Rattle.sum_sources.specs.Contents.{SourceState}
-use Rattle.sum_lines.specs.Sinks.{SinkState}
+use Rattle.sum_lines.specs.sinks.Sinks.{SinkState}
 use Rattle.digest_kinds.specs.Limits.{one_more}
 use Rattle.sum_engine.specs.declared.stop.Stop.{Stop}
 use Rattle.sum_engine.specs.declared.stop.Stop.TheVariants.{Write}
-use Rattle.sum_engine.specs.Runs.{World, Event, Behavior}
-use Rattle.sum_engine.specs.Moments.{StreamsState, KnownState, IsFlushed, FailuresMatch, Happened}
-use Rattle.sum_engine.specs.refinement.Telling.{OneFailed, WritesAndFlushes}
-use Rattle.sum_engine.proofs.RunStateLemmas.{Runs}
+use Rattle.sum_engine.specs.Behavior.{World, Event, Behavior}
+use Rattle.sum_engine.specs.Execution.{StreamsState, KnownState, IsFlushed, FailuresMatch, Happened}
+use Rattle.sum_engine.specs.refinement.FlushedWrites.{OneFailed, WritesAndFlushes}
+use Rattle.sum_engine.proofs.ExecutionLemmas.{Runs}
 use Rattle.sum_words.specs.Items.{ByteString}
 use Rattle.sum_words.specs.CommandLines.{CommandLineValue, command_line, NeedsMemory}
 use Rattle.sum_words.specs.refinement.Arguments.{IsCommandLine, MayBeUnread}
 use Rattle.digests.specs.Meaning.{status_of}
 use Rattle.digests.specs.Program.{CallPerforms, call_behavior, call_stop_line}
-use Rattle.digests.specs.refinement.Endings.{FinishesRun}
+use Rattle.digests.specs.refinement.FinishRun.{FinishesRun}
 use Rattle.digests.specs.refinement.Operands.{status_after_write}
-use Rattle.digests.proofs.OneTextLemmas.{accounts_on_err}
+use Rattle.digests.proofs.MessageLemmas.{accounts_on_err}
 
 -- ---- a run that answered, and its end
 

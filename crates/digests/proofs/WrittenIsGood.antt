@@ -5,13 +5,13 @@ use Rattle.std.proofs.lemmas.List.Concat.{flat_map-append}
 use Rattle.std.proofs.lemmas.List.Folds.{flat_map-map}
 use Rattle.std.proofs.lemmas.List.Elements.{All-nil, All-head, All-tail, All-append, All-map, All-weaker, All-contains, All-contains_itself}
 use Rattle.digest_kinds.specs.Kinds.{digest}
-use Rattle.sum_engine.specs.Reports.{Algos, right_line}
-use Rattle.sum_engine.specs.Runs.{Whole, World, reply, after, digest_or_fault, out_text, asks}
+use Rattle.sum_engine.specs.check.Reports.{Algos, right_line}
+use Rattle.sum_engine.specs.Behavior.{Whole, World, reply, after, digest_or_fault, out_text, asks}
 use Rattle.sum_sources.specs.Contents.{limit, Reply}
 use Rattle.sum_engine.specs.declared.settings.Settings.{Settings}
 use Rattle.sum_engine.specs.declared.settings.CheckSettings.{CheckSettings}
 use Rattle.sum_engine.specs.Generation.{generate_behavior}
-use Rattle.sum_engine.proofs.ListedLemmas.{Item, written_text, Listed}
+use Rattle.sum_engine.proofs.ListedEntryLemmas.{Item, written_text, Listed}
 use Rattle.sum_engine.proofs.GoodLemmas.{manifest_good}
 use Rattle.sum_words.specs.declared.tool.Tool.{Tool}
 use Rattle.sum_words.specs.Tools.{name_of}

@@ -1,21 +1,21 @@
 -- What is written is good: manifests that generation wrote, checked while the files stay as they were.
 use Rattle.std.specs.Prelude.{ℕ, ◌≡◌, ◌<◌, true, false, List, [], ◌∷◌, ◌++◌, IsTrue, length, map, flat_map, codes, if◌then◌else◌, All, Ok, option_to_list}
 use Rattle.digest_kinds.specs.Kinds.{has_len}
-use Rattle.sum_engine.specs.Reports.{Algos, right_line}
-use Rattle.sum_engine.specs.Runs.{Whole, World, is_dash, reply, out_text, err_text}
+use Rattle.sum_engine.specs.check.Reports.{Algos, right_line}
+use Rattle.sum_engine.specs.Behavior.{Whole, World, is_dash, reply, out_text, err_text}
 use Rattle.sum_sources.specs.Contents.{limit, Reply}
-use Rattle.sum_lines.specs.LineLaws.{ReadBy}
+use Rattle.sum_lines.specs.grammar.LineLaws.{ReadBy}
 use Rattle.sum_engine.specs.declared.settings.Settings.{Settings}
 use Rattle.sum_engine.specs.declared.settings.CheckSettings.{CheckSettings}
 use Rattle.sum_engine.specs.Generation.{generate_behavior}
-use Rattle.sum_words.specs.declared.options.Flag.{Flag}
+use Rattle.sum_words.specs.declared.parsing.options.Flag.{Flag}
 use Rattle.sum_words.specs.declared.tool.Tool.{Tool}
 use Rattle.sum_words.specs.Tools.{algos_of}
 use Rattle.sum_words.specs.Items.{ByteString, full_name}
 use Rattle.sum_words.specs.Request.{report_flag}
 use Rattle.sum_words.specs.PlainWords.{is_plain}
 use Rattle.digests.specs.Meaning.{operands_behavior, meaning, status_of}
-use Rattle.sum_words.specs.declared.options.Flag.TheVariants as flags
+use Rattle.sum_words.specs.declared.parsing.options.Flag.TheVariants as flags
 
 -- a name that isn't empty, holds no NUL and isn't `-`, and whose file is whole and not too long
 pub record Listable (answer : ByteString → Reply) (name : ByteString) : Type 0 where

@@ -1,14 +1,14 @@
 -- What a command line means: a run, which opens names and writes to both outputs, and whether all is good, which the
 -- status tells.
 use Rattle.std.specs.Prelude.{ℕ, Bool, true, false, List, [], ◌∷◌, Result, Ok, Err, codes, if◌then◌else◌}
-use Rattle.sum_engine.specs.Runs.{World, after, Behavior, behavior_then, single_step, asks}
+use Rattle.sum_engine.specs.Behavior.{World, after, Behavior, behavior_then, single_step, asks}
 use Rattle.sum_engine.specs.Generation.{generate_behavior}
-use Rattle.sum_engine.specs.Checking.{check_behavior}
+use Rattle.sum_engine.specs.check.Checking.{check_behavior}
 use Rattle.sum_words.specs.declared.tool.Tool.{Tool}
-use Rattle.sum_words.specs.declared.request.Request.{Request}
-use Rattle.sum_words.specs.declared.request.Request.TheVariants.{Work, Help, Version}
-use Rattle.sum_words.specs.declared.request.Job.{Job}
-use Rattle.sum_words.specs.declared.request.Job.TheVariants.{Generate, Check}
+use Rattle.sum_words.specs.declared.parsing.request.Request.{Request}
+use Rattle.sum_words.specs.declared.parsing.request.Request.TheVariants.{Work, Help, Version}
+use Rattle.sum_words.specs.declared.parsing.request.Job.{Job}
+use Rattle.sum_words.specs.declared.parsing.request.Job.TheVariants.{Generate, Check}
 use Rattle.sum_words.specs.Tools.{name_of}
 use Rattle.sum_words.specs.WordFaults.{WordFaultValue}
 use Rattle.sum_words.specs.Items.{ByteString}

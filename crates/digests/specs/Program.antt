@@ -2,11 +2,11 @@
 use Rattle.std.specs.Prelude.{ℕ, ◌≡◌, ◌⊎◌, false, List, [], Option, None, Some, Result, Ok, Err, codes, IfSome}
 use Rattle.std.specs.Io.KnownBytes.{Appends}
 use Rattle.sum_sources.specs.Contents.{SourceState}
-use Rattle.sum_lines.specs.Sinks.{SinkState, IsPrefix}
+use Rattle.sum_lines.specs.sinks.Sinks.{SinkState, IsPrefix}
 use Rattle.digest_kinds.specs.Limits.{one_more}
 use Rattle.sum_engine.specs.declared.stop.Stop.{Stop}
-use Rattle.sum_engine.specs.Runs.{World, Behavior, single_step}
-use Rattle.sum_engine.specs.Moments.{StreamsState, IsFlushed, FailuresMatch, Performs}
+use Rattle.sum_engine.specs.Behavior.{World, Behavior, single_step}
+use Rattle.sum_engine.specs.Execution.{StreamsState, IsFlushed, FailuresMatch, Performs}
 use Rattle.sum_words.specs.Items.{ByteString}
 use Rattle.sum_words.specs.CommandLines.{CommandLineValue, unknown_tool, invoke, command_line, NeedsMemory}
 use Rattle.sum_words.specs.Texts.{stop_line}

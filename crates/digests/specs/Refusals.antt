@@ -1,11 +1,11 @@
 -- How want of memory may change the count of a source's refusals, told or not.
 use Rattle.std.specs.Prelude.{ℕ, ◌≡◌, ◌⊎◌, Result, Ok}
 use Rattle.digest_kinds.specs.Limits.{one_more}
-use Rattle.sum_words.specs.declared.request.Job.{Job}
-use Rattle.sum_words.specs.declared.request.Request.{Request}
+use Rattle.sum_words.specs.declared.parsing.request.Job.{Job}
+use Rattle.sum_words.specs.declared.parsing.request.Request.{Request}
 use Rattle.sum_words.specs.WordFaults.{WordFaultValue}
-use Rattle.sum_words.specs.declared.request.Job.TheVariants as jobs
-use Rattle.sum_words.specs.declared.request.Request.TheVariants as requests
+use Rattle.sum_words.specs.declared.parsing.request.Job.TheVariants as jobs
+use Rattle.sum_words.specs.declared.parsing.request.Request.TheVariants as requests
 
 -- in generation it is one more; in checking it may be, or it was a line that wanted memory
 abbrev pub RefusalsOfJob : Job → ℕ → ℕ → Type 0

@@ -1,13 +1,13 @@
 //! The whole program, from the list of its arguments to its exit status.
 ghost use Rattle.std.specs.Prelude.{◌≡◌, [], Ok, IsOk};
-ghost use Rattle.sum_engine.specs.Moments.{IsFlushed, FailuresMatch};
-ghost use Rattle.sum_engine.specs.refinement.Telling.{NoneFailed};
+ghost use Rattle.sum_engine.specs.Execution.{IsFlushed, FailuresMatch};
+ghost use Rattle.sum_engine.specs.refinement.FlushedWrites.{NoneFailed};
 ghost use Rattle.digests.specs.Program.{ProgramPerforms};
-ghost use Rattle.digests.specs.refinement.Endings.{FinishesRun, tool_stop_line};
+ghost use Rattle.digests.specs.refinement.FinishRun.{FinishesRun, tool_stop_line};
 
-use crate::ending::{flush_both, put_stop_message};
+use crate::finish::{flush_both, put_stop_message};
+use crate::messages::{Message, put_message};
 use crate::run::{run, status_after_write};
-use crate::telling::{Message, put_message};
 use std::alloc::Allocator;
 use sum_engine::{Stop, Streams};
 use sum_lines::Sink;

@@ -1,10 +1,10 @@
 //! The end of a run: both outputs are flushed once more, and a stop is told.
 ghost use Rattle.std.specs.Prelude.{◌≡◌, []};
 ghost use Rattle.std.specs.Io.KnownBytes.{Keeps};
-ghost use Rattle.sum_engine.specs.refinement.Telling.{WritesAndFlushes};
-ghost use Rattle.digests.specs.refinement.Endings.{FlushesBoth, tool_stop_line};
+ghost use Rattle.sum_engine.specs.refinement.FlushedWrites.{WritesAndFlushes};
+ghost use Rattle.digests.specs.refinement.FinishRun.{FlushesBoth, tool_stop_line};
 
-use crate::telling::{Message, put_message};
+use crate::messages::{Message, put_message};
 use sum_engine::Stop;
 use sum_lines::{Sink, SinkFault};
 use sum_words::Tool;

@@ -2,11 +2,11 @@
 #![tactic(auto)]
 
 pub mod command;
-mod ending;
+mod finish;
 pub mod laws;
+mod messages;
 pub mod run;
 pub mod standard_input;
-mod telling;
 #[cfg(test)]
 mod tests;
 

@@ -1,6 +1,6 @@
 //! The texts that the program writes as a whole.
-ghost use Rattle.sum_lines.specs.Sinks.{WritesAll};
-ghost use Rattle.sum_engine.specs.refinement.Telling.{WritesAndFlushes};
+ghost use Rattle.sum_lines.specs.sinks.Sinks.{WritesAll};
+ghost use Rattle.sum_engine.specs.refinement.FlushedWrites.{WritesAndFlushes};
 
 use sum_engine::Stop;
 use sum_lines::{Sink, SinkFault, put_all};
@@ -21,7 +21,7 @@ pub(crate) enum Message<'a> {
     Stop(Tool, Stop),
 }
 
-ghost use Rattle.digests.specs.refinement.WholeTexts.{message_text};
+ghost use Rattle.digests.specs.refinement.Messages.{message_text};
 
 /// Writes a text, and hands it on. A fault where that failed; a prefix of the text is then handed on.
 pub(crate) fn put_message<S: Sink>(sink: &mut S, text: Message) -> Result<(), SinkFault>

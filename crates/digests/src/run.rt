@@ -1,14 +1,14 @@
 //! What a whole command line does.
 ghost use Rattle.std.specs.Prelude.{◌≡◌, ◌∷◌};
-ghost use Rattle.sum_engine.specs.Moments.{IsFlushed, FailuresMatch, RefusalsMatch, StopHasCause, Performs};
+ghost use Rattle.sum_engine.specs.Execution.{IsFlushed, FailuresMatch, RefusalsMatch, StopHasCause, Performs};
 ghost use Rattle.sum_words.specs.Tools.{name_of};
-ghost use Rattle.sum_words.specs.refinement.RequestReading.{result_of};
+ghost use Rattle.sum_words.specs.refinement.OptionScan.{result_of};
 ghost use Rattle.sum_words.specs.Request.{request};
 ghost use Rattle.digests.specs.Meaning.{operands_behavior, request_behavior, operand_behavior, or_dash, meaning, status_of};
 ghost use Rattle.digests.specs.Refusals.{RefusalsOfJob, RefusalsOf};
 ghost use Rattle.digests.specs.refinement.Operands.{status_after_write};
 
-use crate::telling::{Message, put_message};
+use crate::messages::{Message, put_message};
 use std::alloc::Allocator;
 use sum_engine::{Stop, Streams, check_one, generate_one};
 use sum_lines::{Sink, SinkFault};

@@ -1,6 +1,6 @@
 //! Standard input as the program is started with it.
 ghost use Rattle.std.specs.Prelude.{◌≡◌, ◌⊎◌, false};
-ghost use Rattle.sum_sources.specs.declared.closable.Closable.TheVariants.{Open, Closed};
+ghost use Rattle.sum_sources.specs.declared.inputs.closable.Closable.TheVariants.{Open, Closed};
 
 use std::io::{Error, Stdin};
 use std::os::fd::AsFd;

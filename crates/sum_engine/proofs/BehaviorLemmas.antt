@@ -4,14 +4,14 @@ use Rattle.std.proofs.lemmas.Grind.{flat_map-append}
 use Rattle.std.proofs.lemmas.List.Elements.{filter_map-append}
 use Rattle.sum_sources.specs.Contents.{IfKnown, SourceState}
 use Rattle.sum_sources.proofs.ToldLemmas.{IfKnown-map}
-use Rattle.sum_engine.specs.Moments.{Stop, Memory, Write, StreamsState, KnownState, known_state, Happened, PrefixHappened, PerformsSteps}
-use Rattle.sum_engine.specs.Runs.{World, Event, Step, Behavior, trace, events_of, single_step, name_in, err_in, out_in}
-use Rattle.sum_engine.specs.refinement.Asking.{world_of}
-use Rattle.sum_engine.specs.LineVerdicts.{OnlyRefused}
-use Rattle.sum_engine.specs.Steps.{StepDone, LastStepDone, StepFailed, StepRefused}
-use Rattle.sum_engine.specs.Manifests.{EventsExtend}
-use Rattle.sum_engine.specs.refinement.Telling.{WritesBoth}
-use Rattle.sum_engine.proofs.RunStateLemmas.{Runs, Asks, Writing, where_known, names-by, err-by, out-by, did_nothing, did_both, came_by, prefix_behind, known}
+use Rattle.sum_engine.specs.Execution.{Stop, Memory, Write, StreamsState, KnownState, known_state, Happened, PrefixHappened, PerformsSteps}
+use Rattle.sum_engine.specs.Behavior.{World, Event, Step, Behavior, trace, events_of, single_step, name_in, err_in, out_in}
+use Rattle.sum_engine.specs.refinement.HashName.{world_of}
+use Rattle.sum_engine.specs.check.NextVerdict.{OnlyRefused}
+use Rattle.sum_engine.specs.check.CheckerSteps.{StepDone, LastStepDone, StepFailed, StepRefused}
+use Rattle.sum_engine.specs.check.CheckerLaws.{EventsExtend}
+use Rattle.sum_engine.specs.refinement.FlushedWrites.{WritesBoth}
+use Rattle.sum_engine.proofs.ExecutionLemmas.{Runs, Asks, Writing, where_known, names-by, err-by, out-by, did_nothing, did_both, came_by, prefix_behind, known}
 
 -- one more of the steps happened
 pub steps_more : {a b c : KnownState} (done : List Step) (next : Step) → Happened a b (trace done)

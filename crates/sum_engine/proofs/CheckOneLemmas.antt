@@ -1,27 +1,27 @@
 -- A new checker that runs to its end, and one manifest that is asked and checked.
 use Rattle.std.proofs.Common.{rules, ◌++◌, ◌≡◌, ℕ, ◌||◌, Bool, true, false, List, [], ◌∷◌, Option, None, Some, Result, Ok, Err, cond, refl, sym, ◌∙◌, subst, codes, option_map, IfSome}
 use Rattle.std.proofs.Math.Bool.{or-false}
-use Rattle.sum_engine.specs.Runs.{Fault, World, is_dash, reply, after, Step, Behavior, events_of}
-use Rattle.sum_sources.specs.declared.source.OpenFault.{OpenFault}
+use Rattle.sum_engine.specs.Behavior.{Fault, World, is_dash, reply, after, Step, Behavior, events_of}
+use Rattle.sum_sources.specs.declared.sources.source.OpenFault.{OpenFault}
 use Rattle.sum_sources.specs.Contents.{Content, InputState, IfKnown, clip, SourceState, Reply, KnownSource, OpenOf, empty_content}
-use Rattle.sum_lines.specs.Sinks.{SinkState}
+use Rattle.sum_lines.specs.sinks.Sinks.{SinkState}
 use Rattle.sum_sources.proofs.ToldLemmas.{IfKnown-map}
 use Rattle.digest_kinds.specs.Limits.{one_more}
-use Rattle.sum_lines.specs.declared.line_reading.Form.TheVariants.{Undecided}
+use Rattle.sum_lines.specs.declared.reading.read_line.Form.TheVariants.{Undecided}
 use Rattle.sum_lines.specs.Escape.{present}
-use Rattle.sum_engine.specs.Steps.{Progress, Going, Ended, CheckState, check_state_from, StepIsIfKnown, remaining_behavior, CursorValue, check_state}
-use Rattle.sum_engine.specs.Verdicts.{CheckSettings, Rules, all_verdicts}
-use Rattle.sum_engine.specs.Moments.{Stop, Memory, Write, StreamsState, KnownState, known_state, Happened, PerformsSteps}
-use Rattle.sum_engine.specs.refinement.Telling.{WritesOrPrefix}
+use Rattle.sum_engine.specs.check.CheckerSteps.{Progress, Going, Ended, CheckState, check_state_from, StepIsIfKnown, remaining_behavior, CursorValue, check_state}
+use Rattle.sum_engine.specs.check.Verdicts.{CheckSettings, Rules, all_verdicts}
+use Rattle.sum_engine.specs.Execution.{Stop, Memory, Write, StreamsState, KnownState, known_state, Happened, PerformsSteps}
+use Rattle.sum_engine.specs.refinement.FlushedWrites.{WritesOrPrefix}
 use Rattle.sum_engine.specs.Generation.{fault_line}
-use Rattle.sum_engine.specs.Reports.{no_counts}
-use Rattle.sum_engine.specs.Checking.{rules_of, content_behavior, check_behavior_by, check_behavior}
-use Rattle.sum_engine.specs.refinement.Asking.{world_by, world_of}
+use Rattle.sum_engine.specs.check.Reports.{no_counts}
+use Rattle.sum_engine.specs.check.Checking.{rules_of, content_behavior, check_behavior_by, check_behavior}
+use Rattle.sum_engine.specs.refinement.HashName.{world_by, world_of}
 use Rattle.sum_engine.proofs.WorldLemmas.{dash_asked}
-use Rattle.sum_engine.proofs.RunStateLemmas.{Runs, Writing, known_refused, names-by, err_alone}
+use Rattle.sum_engine.proofs.ExecutionLemmas.{Runs, Writing, known_refused, names-by, err_alone}
 use Rattle.sum_engine.proofs.StepLemmas.{now-run_state}
-use Rattle.sum_engine.proofs.RunLemmas.{answered, once, unasked, Along, along_none, along_more, along_end, along_breaks, along_waits, behind_step}
-use Rattle.sum_sources.specs.declared.source.OpenFault.TheVariants as open_faults
+use Rattle.sum_engine.proofs.BehaviorLemmas.{answered, once, unasked, Along, along_none, along_more, along_end, along_breaks, along_waits, behind_step}
+use Rattle.sum_sources.specs.declared.sources.source.OpenFault.TheVariants as open_faults
 
 -- ---- a new checker, run to its end
 

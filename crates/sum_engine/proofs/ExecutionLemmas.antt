@@ -9,14 +9,14 @@ use Rattle.std.proofs.lemmas.List.Elements.{filter_map-append}
 use Rattle.std.proofs.lemmas.List.Folds.{list_any-append}
 use Rattle.sum_sources.specs.Contents.{IfKnown, SourceState, KnownSource, Content}
 use Rattle.digest_kinds.specs.Limits.{one_more}
-use Rattle.sum_lines.specs.Sinks.{SinkState}
-use Rattle.sum_lines.specs.refinement.GrowingSinks.{AppendsPrefix}
-use Rattle.sum_engine.specs.Runs.{World, is_dash, after, Behavior, Event, open_name, write_err, write_out, name_in, err_in, out_in}
-use Rattle.sum_engine.specs.refinement.Telling.{WritesOrPrefix, WritesBoth}
-use Rattle.sum_lines.specs.PartsOfLines.{◌>>=◌}
-use Rattle.sum_engine.specs.Moments.{StreamsState, KnownState, known_state, Stop, Happened, PrefixHappened, PerformsSteps}
-use Rattle.sum_engine.specs.refinement.Asking.{world_by, world_of}
-use Rattle.sum_engine.specs.LineVerdicts.{OnlyRefused}
+use Rattle.sum_lines.specs.sinks.Sinks.{SinkState}
+use Rattle.sum_lines.specs.refinement.SinkStates.{AppendsPrefix}
+use Rattle.sum_engine.specs.Behavior.{World, is_dash, after, Behavior, Event, open_name, write_err, write_out, name_in, err_in, out_in}
+use Rattle.sum_engine.specs.refinement.FlushedWrites.{WritesOrPrefix, WritesBoth}
+use Rattle.sum_lines.specs.grammar.LineParts.{◌>>=◌}
+use Rattle.sum_engine.specs.Execution.{StreamsState, KnownState, known_state, Stop, Happened, PrefixHappened, PerformsSteps}
+use Rattle.sum_engine.specs.refinement.HashName.{world_by, world_of}
+use Rattle.sum_engine.specs.check.NextVerdict.{OnlyRefused}
 use Rattle.sum_engine.proofs.WorldLemmas.{after-append}
 
 -- ---- what of a step's events is of each kind

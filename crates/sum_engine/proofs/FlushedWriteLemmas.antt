@@ -2,11 +2,11 @@
 use Rattle.std.proofs.Common.{rules, ℕ, List, ◌++◌, Option, Result, Ok, Err, ap, sym, ◌∙◌, append_assoc, subst}
 use Rattle.std.specs.Io.KnownBytes.{Appends}
 use Rattle.std.proofs.KnownBytes.{Appends-trans}
-use Rattle.sum_lines.specs.Sinks.{SinkState, Accepted, WriteFailed, Flushes}
+use Rattle.sum_lines.specs.sinks.Sinks.{SinkState, Accepted, WriteFailed, Flushes}
 use Rattle.digest_kinds.specs.Limits.{one_more}
-use Rattle.sum_lines.specs.refinement.GrowingSinks.{AppendsPrefix}
+use Rattle.sum_lines.specs.refinement.SinkStates.{AppendsPrefix}
 use Rattle.sum_lines.proofs.SinkLemmas.{Accepted-dropped}
-use Rattle.sum_engine.specs.refinement.Telling.{WritesAndFlushes}
+use Rattle.sum_engine.specs.refinement.FlushedWrites.{WritesAndFlushes}
 
 -- ---- known bytes
 

@@ -2,15 +2,15 @@
 use Rattle.std.proofs.Common.{◌≡◌, ℕ, ◌||◌, Bool, List, [], ◌∷◌, Some, Result, Ok, Err, refl, ap, sym, ◌∙◌}
 use Rattle.std.proofs.Math.Bool.{or-false}
 use Rattle.digest_kinds.specs.Kinds.{KindValue}
-use Rattle.sum_engine.specs.Runs.{Fault, is_dash, reply, digest_or_fault, Step, single_step}
+use Rattle.sum_engine.specs.Behavior.{Fault, is_dash, reply, digest_or_fault, Step, single_step}
 use Rattle.sum_sources.specs.Contents.{Reply, SourceState}
-use Rattle.sum_engine.specs.refinement.Asking.{HashOutcome, HashesNameIfKnown, IsHashOutcome, world_of}
+use Rattle.sum_engine.specs.refinement.HashName.{HashOutcome, HashesNameIfKnown, IsHashOutcome, world_of}
 use Rattle.sum_engine.specs.Generation.{Settings, generate_behavior, generate_behavior_by}
-use Rattle.sum_engine.specs.Moments.{StreamsState}
-use Rattle.sum_engine.specs.refinement.Telling.{WritesBoth}
-use Rattle.sum_engine.proofs.RunStateLemmas.{Runs, Writing}
-use Rattle.sum_engine.proofs.RunLemmas.{answered, once}
-use Rattle.sum_engine.specs.declared.asking.HashOutcome.TheVariants as asked
+use Rattle.sum_engine.specs.Execution.{StreamsState}
+use Rattle.sum_engine.specs.refinement.FlushedWrites.{WritesBoth}
+use Rattle.sum_engine.proofs.ExecutionLemmas.{Runs, Writing}
+use Rattle.sum_engine.proofs.BehaviorLemmas.{answered, once}
+use Rattle.sum_engine.specs.declared.hash_name.HashOutcome.TheVariants as asked
 
 -- what came of a name: its digest, or the fault of opening or reading it
 abbrev pub found : HashOutcome → Result (List ℕ) Fault

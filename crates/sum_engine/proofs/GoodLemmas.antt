@@ -5,20 +5,20 @@ use Rattle.std.proofs.Math.Bool.{and-false, or-true}
 use Rattle.std.proofs.lemmas.List.Elements.{All-head, All-tail}
 use Rattle.std.proofs.lemmas.Slice.Eq.{bytes_eq-Decides}
 use Rattle.digest_kinds.specs.Kinds.{digest}
-use Rattle.sum_engine.specs.Reports.{Algos, Report, Counts, no_counts, out_of, err_of, right_line, counts, unless_status, end_text, good}
-use Rattle.sum_engine.specs.Verdicts.{Form, CheckSettings, Right, Rules, LineVerdictValue, digest_verdict, verdict_of, judge, verdicts, all_verdicts}
+use Rattle.sum_engine.specs.check.Reports.{Algos, Report, Counts, no_counts, out_of, err_of, right_line, counts, unless_status, end_text, good}
+use Rattle.sum_engine.specs.check.Verdicts.{Form, CheckSettings, Right, Rules, LineVerdictValue, digest_verdict, verdict_of, judge, verdicts, all_verdicts}
 use Rattle.sum_lines.specs.Escape.{present, escape}
-use Rattle.sum_lines.specs.Entries.{IsEntry, form}
-use Rattle.sum_engine.specs.Runs.{Whole, World, reply, after, digest_or_fault, Behavior, out_text, err_text}
+use Rattle.sum_lines.specs.grammar.Entries.{IsEntry, form}
+use Rattle.sum_engine.specs.Behavior.{Whole, World, reply, after, digest_or_fault, Behavior, out_text, err_text}
 use Rattle.sum_sources.specs.Contents.{Content, limit, Reply}
 use Rattle.sum_sources.proofs.ContentLemmas.{limit-value, clip-short}
-use Rattle.sum_engine.specs.Steps.{step_then}
-use Rattle.sum_lines.specs.ParsedLines.{parse_line}
+use Rattle.sum_engine.specs.check.CheckerSteps.{step_then}
+use Rattle.sum_lines.specs.grammar.ParsedLines.{parse_line}
 use Rattle.sum_sources.specs.ManifestLines.{past_line}
-use Rattle.sum_engine.specs.Checking.{line_steps, rules_of, content_behavior, check_behavior_by, check_behavior}
+use Rattle.sum_engine.specs.check.Checking.{line_steps, rules_of, content_behavior, check_behavior_by, check_behavior}
 use Rattle.sum_lines.proofs.ParsedLineLemmas.{says_is}
-use Rattle.sum_engine.proofs.ListedLemmas.{Item, written_text, Listed, prefix, spelled_for, ReadableSoFar, back, whole, lines-are}
-use Rattle.sum_engine.proofs.ManifestLemmas.{opening}
+use Rattle.sum_engine.proofs.ListedEntryLemmas.{Item, written_text, Listed, prefix, spelled_for, ReadableSoFar, back, whole, lines-are}
+use Rattle.sum_engine.proofs.CheckOneLemmas.{opening}
 use Rattle.sum_engine.specs.declared.settings.Report.TheVariants as reports
 
 -- ---- each verdict is Right

@@ -3,17 +3,17 @@ use Rattle.std.proofs.Common.{rules, ◌≡◌, ℕ, zero, suc, ◌+◌, ◌≤�
 use Rattle.std.proofs.lemmas.List.{take-append-drop}
 use Rattle.sum_sources.specs.Contents.{Content}
 use Rattle.sum_sources.specs.ManifestLines.{past_line}
-use Rattle.sum_engine.specs.Verdicts.{Form, lines_by, Rules, LineVerdictValue, asks_of, verdicts, all_verdicts, judge}
-use Rattle.sum_lines.specs.Entries.{form}
-use Rattle.sum_lines.specs.ParsedLines.{parse_line}
-use Rattle.sum_engine.specs.Runs.{World, after, Behavior, out_text, err_text, asks}
-use Rattle.sum_engine.specs.Reports.{no_counts, out_of, err_of, counts, end_text}
-use Rattle.sum_engine.specs.Checking.{line_steps, content_behavior}
-use Rattle.sum_engine.specs.Moments.{KnownState}
-use Rattle.sum_engine.specs.Steps.{CheckState, LineHandled, StepDone, remaining_behavior, initial_state}
-use Rattle.sum_engine.specs.Manifests.{LinesHandled, StepsJoin, StepsEnd, StepsCut, StepsReport, StateAfterLines}
+use Rattle.sum_engine.specs.check.Verdicts.{Form, lines_by, Rules, LineVerdictValue, asks_of, verdicts, all_verdicts, judge}
+use Rattle.sum_lines.specs.grammar.Entries.{form}
+use Rattle.sum_lines.specs.grammar.ParsedLines.{parse_line}
+use Rattle.sum_engine.specs.Behavior.{World, after, Behavior, out_text, err_text, asks}
+use Rattle.sum_engine.specs.check.Reports.{no_counts, out_of, err_of, counts, end_text}
+use Rattle.sum_engine.specs.check.Checking.{line_steps, content_behavior}
+use Rattle.sum_engine.specs.Execution.{KnownState}
+use Rattle.sum_engine.specs.check.CheckerSteps.{CheckState, LineHandled, StepDone, remaining_behavior, initial_state}
+use Rattle.sum_engine.specs.check.CheckerLaws.{LinesHandled, StepsJoin, StepsEnd, StepsCut, StepsReport, StateAfterLines}
 use Rattle.sum_engine.proofs.RestLemmas.{past_next}
-use Rattle.sum_engine.proofs.RunLemmas.{Along, steps_more, along_end, along_breaks}
+use Rattle.sum_engine.proofs.BehaviorLemmas.{Along, steps_more, along_end, along_breaks}
 
 -- ---- a new checker
 

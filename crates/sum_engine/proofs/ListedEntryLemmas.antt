@@ -7,18 +7,18 @@ use Rattle.std.proofs.lemmas.List.Elements.{All-nil, All-map, All-weaker}
 use Rattle.digest_kinds.specs.Kinds.{KindValue, has_len, digest}
 use Rattle.digest_kinds.specs.declared.algo.Algos.{Algos}
 use Rattle.digest_kinds.proofs.DigestLemmas.{length-digest, IsBytes-digest}
-use Rattle.sum_lines.specs.declared.line_reading.Form.TheVariants.{Undecided, Standard}
-use Rattle.sum_lines.specs.declared.line_format.Mode.{Mode}
+use Rattle.sum_lines.specs.declared.reading.read_line.Form.TheVariants.{Undecided, Standard}
+use Rattle.sum_lines.specs.declared.writing.put_line.Mode.{Mode}
 use Rattle.sum_lines.specs.Escape.{escape}
 use Rattle.sum_lines.specs.Lines.{line}
-use Rattle.sum_lines.specs.Entries.{EntryValue, IsEntry, form}
-use Rattle.sum_lines.specs.LineLaws.{ReadBy, Writable}
-use Rattle.sum_lines.proofs.LineFormatLemmas.{prefix_of, read_back}
-use Rattle.sum_engine.specs.Runs.{Whole, is_dash}
+use Rattle.sum_lines.specs.grammar.Entries.{EntryValue, IsEntry, form}
+use Rattle.sum_lines.specs.grammar.LineLaws.{ReadBy, Writable}
+use Rattle.sum_lines.proofs.PutLineLemmas.{prefix_of, read_back}
+use Rattle.sum_engine.specs.Behavior.{Whole, is_dash}
 use Rattle.sum_sources.specs.Contents.{Content, limit, Reply}
 use Rattle.sum_sources.specs.ManifestLines.{NoNewline, lines, raw_lines}
 use Rattle.sum_sources.proofs.CutLemmas.{raw_lines-joined}
-use Rattle.sum_engine.specs.OldVerdicts.{NoReturn}
+use Rattle.sum_engine.specs.check.OldVerdicts.{NoReturn}
 use Rattle.sum_engine.proofs.ReturnLemmas.{strips-kept}
 
 -- ---- what is written

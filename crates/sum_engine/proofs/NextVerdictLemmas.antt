@@ -2,20 +2,20 @@
 use Rattle.std.proofs.Common.{rules, ◌≡◌, ℕ, ◌≤◌, ◌||◌, List, [], length, map, slice_range, Option, Some, Ok, Err, refl, ap, sym, ◌∙◌, inl, append-nil}
 use Rattle.std.specs.List.{list_any}
 use Rattle.std.proofs.KnownBytes.{Appends-nil}
-use Rattle.sum_sources.specs.declared.lines.LineStop.TheVariants.{Memory}
+use Rattle.sum_sources.specs.declared.line_reader.LineStop.TheVariants.{Memory}
 use Rattle.sum_sources.specs.Contents.{InputState, IfKnown, SourceState}
-use Rattle.sum_sources.specs.declared.lines.LineReader.{LineReader}
+use Rattle.sum_sources.specs.declared.line_reader.LineReader.{LineReader}
 use Rattle.sum_sources.proofs.LineLemmas.{line-some}
-use Rattle.sum_lines.specs.ParsedLines.{ParsedLine}
-use Rattle.sum_engine.specs.Reports.{Counts, counts_with}
-use Rattle.sum_engine.specs.LineVerdicts.{LineVerdict, OnlyRefused, line_verdict_value, NextVerdictIfKnown}
-use Rattle.sum_engine.specs.Verdicts.{Verdict, LineVerdictValue, judge, asks_of}
-use Rattle.sum_engine.specs.Runs.{World, is_dash, open_name}
-use Rattle.sum_engine.specs.Moments.{StreamsState, known_state, Happened}
-use Rattle.sum_engine.specs.refinement.Asking.{world_of}
-use Rattle.sum_engine.specs.Steps.{CursorValue, check_state, CheckState, next_judged}
+use Rattle.sum_lines.specs.grammar.ParsedLines.{ParsedLine}
+use Rattle.sum_engine.specs.check.Reports.{Counts, counts_with}
+use Rattle.sum_engine.specs.check.NextVerdict.{LineVerdict, OnlyRefused, line_verdict_value, NextVerdictIfKnown}
+use Rattle.sum_engine.specs.check.Verdicts.{Verdict, LineVerdictValue, judge, asks_of}
+use Rattle.sum_engine.specs.Behavior.{World, is_dash, open_name}
+use Rattle.sum_engine.specs.Execution.{StreamsState, known_state, Happened}
+use Rattle.sum_engine.specs.refinement.HashName.{world_of}
+use Rattle.sum_engine.specs.check.CheckerSteps.{CursorValue, check_state, CheckState, next_judged}
 use Rattle.sum_engine.specs.refinement.Judging.{IsJudged, name_in_line, TakesLine, JudgeLineOf, parsed_at}
-use Rattle.sum_engine.proofs.RunStateLemmas.{events_by, where_known, names-by, did_by}
+use Rattle.sum_engine.proofs.ExecutionLemmas.{events_by, where_known, names-by, did_by}
 use Rattle.sum_engine.proofs.RestLemmas.{rest_on}
 use Rattle.sum_engine.proofs.StepLemmas.{now_at, now-told, ReadsLine, read_line, moves_by}
 

@@ -4,16 +4,16 @@ use Rattle.std.proofs.lemmas.Bool.Decides.{nat_tests}
 use Rattle.std.proofs.lemmas.List.{take_at, drop_at}
 use Rattle.std.proofs.lemmas.List.Elements.{All-nil, All-cons, All-head, All-tail, All-take, All-drop}
 use Rattle.digest_kinds.specs.Kinds.{tag}
-use Rattle.sum_lines.specs.Shapes.{Algos, Plain, Tagged, mark, optional}
-use Rattle.sum_lines.specs.declared.line_reading.Form.{Form}
-use Rattle.sum_lines.specs.declared.line_reading.Form.TheVariants.{Undecided, Standard, Reversed}
+use Rattle.sum_lines.specs.grammar.Shapes.{Algos, Plain, Tagged, mark, optional}
+use Rattle.sum_lines.specs.declared.reading.read_line.Form.{Form}
+use Rattle.sum_lines.specs.declared.reading.read_line.Form.TheVariants.{Undecided, Standard, Reversed}
 use Rattle.sum_lines.specs.Escape.{present, escape, escape_of, escape_by}
-use Rattle.sum_lines.specs.Entries.{EntryValue, is_ignored_by, RawOf, ByTag, ByTail, IsEntry}
-use Rattle.sum_lines.specs.ParsedLines.{ParsedLine, ignored, bad, entry, parse_line}
+use Rattle.sum_lines.specs.grammar.Entries.{EntryValue, is_ignored_by, RawOf, ByTag, ByTail, IsEntry}
+use Rattle.sum_lines.specs.grammar.ParsedLines.{ParsedLine, ignored, bad, entry, parse_line}
 use Rattle.sum_lines.proofs.ParsedLineLemmas.{says_is}
-use Rattle.sum_engine.specs.OldVerdicts.{older, NoReturn, HasEscapedReturn, NoEscapedReturn}
+use Rattle.sum_engine.specs.check.OldVerdicts.{older, NoReturn, HasEscapedReturn, NoEscapedReturn}
 use Rattle.sum_engine.proofs.ReturnLemmas.{NotReturn}
-use Rattle.sum_lines.specs.Entries as entries
+use Rattle.sum_lines.specs.grammar.Entries as entries
 
 -- ---- parts of what has no carriage return
 

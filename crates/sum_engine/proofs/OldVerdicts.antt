@@ -2,25 +2,25 @@
 use Rattle.std.proofs.Common.{◌≡◌, ℕ, ◌+◌, ◌<◌, false, not, cond, List, [], ◌∷◌, length, map, refl, ap, sym, ◌∙◌, subst, codes, append_assoc, ◌++◌, bytes_eq, All, flat_map, Ok, Err}
 use Rattle.std.specs.List.{concat}
 use Rattle.std.proofs.lemmas.List.Elements.{All-nil, All-cons, All-head, All-tail}
-use Rattle.sum_engine.specs.Reports.{Algos, Counts, no_counts, name_line, verdict_line, is_hidden, out_of, err_by, err_of, counts, end_text, good}
-use Rattle.sum_engine.specs.Runs.{Ending, Whole, Broken, Fault, World, after, single_step}
+use Rattle.sum_engine.specs.check.Reports.{Algos, Counts, no_counts, name_line, verdict_line, is_hidden, out_of, err_by, err_of, counts, end_text, good}
+use Rattle.sum_engine.specs.Behavior.{Ending, Whole, Broken, Fault, World, after, single_step}
 use Rattle.sum_sources.specs.Contents.{Content, clip}
 use Rattle.sum_sources.specs.ManifestLines.{raw_lines, last_line, past_line, bytes_of_lines}
 use Rattle.sum_sources.proofs.CutLemmas.{cut, raw_lines-joined}
-use Rattle.sum_engine.specs.Verdicts.{Form, Verdict, Bad, Right, Wrong, Unread, lines_by, Rules, LineVerdictValue, judge, asks_of, verdicts, all_verdicts}
-use Rattle.sum_lines.specs.Shapes.{mark}
-use Rattle.sum_lines.specs.Entries.{form}
+use Rattle.sum_engine.specs.check.Verdicts.{Form, Verdict, Bad, Right, Wrong, Unread, lines_by, Rules, LineVerdictValue, judge, asks_of, verdicts, all_verdicts}
+use Rattle.sum_lines.specs.grammar.Shapes.{mark}
+use Rattle.sum_lines.specs.grammar.Entries.{form}
 use Rattle.sum_lines.specs.Escape.{present}
-use Rattle.sum_engine.specs.Steps.{step_then}
-use Rattle.sum_lines.specs.ParsedLines.{ParsedLine, ignored, bad, entry, parse_line}
+use Rattle.sum_engine.specs.check.CheckerSteps.{step_then}
+use Rattle.sum_lines.specs.grammar.ParsedLines.{ParsedLine, ignored, bad, entry, parse_line}
 use Rattle.sum_engine.specs.Generation.{fault_line}
-use Rattle.sum_engine.specs.Checking.{line_steps, content_behavior}
-use Rattle.sum_engine.specs.OldVerdicts.{older, rules_under, NoReturn, NoEscapedReturn, IsOldManifest, OldVerdicts, OldOutcomes, OlderDiffers}
+use Rattle.sum_engine.specs.check.Checking.{line_steps, content_behavior}
+use Rattle.sum_engine.specs.check.OldVerdicts.{older, rules_under, NoReturn, NoEscapedReturn, IsOldManifest, OldVerdicts, OldOutcomes, OlderDiffers}
 use Rattle.sum_lines.proofs.ParsedLineLemmas.{says_is}
 use Rattle.sum_engine.proofs.OldNames.{all_left, all_right, same_escape, CleanParsedLine, parse_line_same}
 use Rattle.sum_engine.proofs.SamePrefix.{judge_under}
 use Rattle.sum_engine.proofs.ReturnLemmas.{NotReturn, strips-kept}
-use Rattle.sum_engine.proofs.ManifestLemmas.{opening}
+use Rattle.sum_engine.proofs.CheckOneLemmas.{opening}
 
 -- ---- the lines
 

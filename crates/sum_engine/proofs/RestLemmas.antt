@@ -2,14 +2,14 @@
 use Rattle.std.proofs.Common.{rules, ◌≡◌, ℕ, zero, suc, ◌+◌, List, [], ◌∷◌, length, refl, ap, ◌∙◌}
 use Rattle.sum_sources.specs.Contents.{Content}
 use Rattle.sum_sources.specs.ManifestLines.{past_line, past_lines}
-use Rattle.sum_lines.specs.Entries.{form, form_then, line_form}
+use Rattle.sum_lines.specs.grammar.Entries.{form, form_then, line_form}
 use Rattle.sum_lines.proofs.FormLemmas.{form_next, said_stays}
-use Rattle.sum_engine.specs.Runs.{after, Ending, Step, Behavior}
-use Rattle.sum_engine.specs.Verdicts.{lines_by, Rules, LineVerdictValue, asks_of, verdicts}
-use Rattle.sum_lines.specs.ParsedLines.{parse_line}
-use Rattle.sum_engine.specs.Reports.{Counts, counts, out_of, err_of, end_text, good, counts_with}
-use Rattle.sum_engine.specs.Checking.{line_steps}
-use Rattle.sum_engine.specs.Steps.{step_then, CheckState, LineHandled, next_judged, remaining_verdicts, remaining_behavior}
+use Rattle.sum_engine.specs.Behavior.{after, Ending, Step, Behavior}
+use Rattle.sum_engine.specs.check.Verdicts.{lines_by, Rules, LineVerdictValue, asks_of, verdicts}
+use Rattle.sum_lines.specs.grammar.ParsedLines.{parse_line}
+use Rattle.sum_engine.specs.check.Reports.{Counts, counts, out_of, err_of, end_text, good, counts_with}
+use Rattle.sum_engine.specs.check.Checking.{line_steps}
+use Rattle.sum_engine.specs.check.CheckerSteps.{step_then, CheckState, LineHandled, next_judged, remaining_verdicts, remaining_behavior}
 
 -- what a line says by the form of all lines is what it says by the form so far and its own
 parse_line_now : (r : Rules) (a : CheckState) (l : List ℕ) (ls : List (List ℕ)) →

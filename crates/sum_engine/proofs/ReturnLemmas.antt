@@ -2,7 +2,7 @@
 use Rattle.std.proofs.Common.{rules, ◌≡◌, ◌≢◌, ℕ, List, [], ◌∷◌, map, refl, ap, ◌∙◌, All}
 use Rattle.std.specs.Str.Lines.{strip_carriage_return}
 use Rattle.std.proofs.lemmas.List.Elements.{All-head, All-tail}
-use Rattle.sum_engine.specs.OldVerdicts.{NoReturn}
+use Rattle.sum_engine.specs.check.OldVerdicts.{NoReturn}
 
 -- the byte is no carriage return
 abbrev pub NotReturn : ℕ → Type 0

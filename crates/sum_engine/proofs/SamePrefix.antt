@@ -1,12 +1,12 @@
 -- What comes behind a line has no part in what the line says.
 use Rattle.std.proofs.Common.{rules, ◌≡◌, ℕ, suc, ◌+◌, List, [], ◌∷◌, ◌++◌, length, take, refl, ap, sym, ◌∙◌}
-use Rattle.sum_engine.specs.Verdicts.{Form, Rules, LineVerdictValue, judge, asks_of, verdicts}
-use Rattle.sum_lines.specs.declared.line_reading.Form.TheVariants.{Undecided}
-use Rattle.sum_lines.specs.Entries.{form, form_then, line_form}
-use Rattle.sum_engine.specs.Runs.{World, after}
+use Rattle.sum_engine.specs.check.Verdicts.{Form, Rules, LineVerdictValue, judge, asks_of, verdicts}
+use Rattle.sum_lines.specs.declared.reading.read_line.Form.TheVariants.{Undecided}
+use Rattle.sum_lines.specs.grammar.Entries.{form, form_then, line_form}
+use Rattle.sum_engine.specs.Behavior.{World, after}
 use Rattle.sum_lines.specs.Escape.{Profile}
-use Rattle.sum_lines.specs.ParsedLines.{ParsedLine, ignored, bad, entry, parse_line}
-use Rattle.sum_engine.specs.Manifests.{SameVerdicts}
+use Rattle.sum_lines.specs.grammar.ParsedLines.{ParsedLine, ignored, bad, entry, parse_line}
+use Rattle.sum_engine.specs.check.CheckerLaws.{SameVerdicts}
 use Rattle.sum_lines.proofs.FormLemmas.{form_next, said_stays}
 
 -- the verdicts of the first lines, by the form so far

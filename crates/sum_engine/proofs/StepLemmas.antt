@@ -1,24 +1,24 @@
 -- Where a checker stands, and one step of it by what it found.
 use Rattle.std.proofs.Common.{◌≡◌, ℕ, ◌+◌, ◌≤◌, ◌<◌, Bool, List, [], ◌∷◌, length, Option, None, Some, Ok, Err, refl, ap, sym, inl, inr, ◌∙◌, subst, rules, option_map}
-use Rattle.sum_sources.specs.declared.lines.Next.TheVariants.{Line}
-use Rattle.sum_sources.specs.declared.lines.LineReader.{LineReader}
-use Rattle.sum_engine.specs.Runs.{Ending, World, Step, events_of}
+use Rattle.sum_sources.specs.declared.line_reader.Next.TheVariants.{Line}
+use Rattle.sum_sources.specs.declared.line_reader.LineReader.{LineReader}
+use Rattle.sum_engine.specs.Behavior.{Ending, World, Step, events_of}
 use Rattle.sum_sources.specs.Contents.{Content, InputState, IfKnown, SourceState}
 use Rattle.sum_sources.specs.ManifestLines.{NextLineIs, lines}
 use Rattle.sum_sources.specs.LineReaders.{remaining_content, consumed}
-use Rattle.sum_lines.specs.Sinks.{SinkState}
+use Rattle.sum_lines.specs.sinks.Sinks.{SinkState}
 use Rattle.sum_lines.specs.Escape.{Profile, present}
-use Rattle.sum_engine.specs.Reports.{Report, err_by, end_text, good, counts_with}
-use Rattle.sum_engine.specs.Verdicts.{Ignored, lines_by, Rules, asks_of}
-use Rattle.sum_engine.specs.Steps.{CursorValue, check_state, Going, Ended, CheckState, check_state_from, step_then, LineHandled, StepIs, StepIsIfKnown, next_judged, remaining_verdicts, remaining_behavior}
-use Rattle.sum_engine.specs.Moments.{Memory, StreamsState, KnownState, IsFlushed, known_state}
-use Rattle.sum_engine.specs.LineVerdicts.{LineVerdict, line_verdict_value, NextVerdictIfKnown, NoVerdictLeft}
+use Rattle.sum_engine.specs.check.Reports.{Report, err_by, end_text, good, counts_with}
+use Rattle.sum_engine.specs.check.Verdicts.{Ignored, lines_by, Rules, asks_of}
+use Rattle.sum_engine.specs.check.CheckerSteps.{CursorValue, check_state, Going, Ended, CheckState, check_state_from, step_then, LineHandled, StepIs, StepIsIfKnown, next_judged, remaining_verdicts, remaining_behavior}
+use Rattle.sum_engine.specs.Execution.{Memory, StreamsState, KnownState, IsFlushed, known_state}
+use Rattle.sum_engine.specs.check.NextVerdict.{LineVerdict, line_verdict_value, NextVerdictIfKnown, NoVerdictLeft}
 use Rattle.sum_engine.specs.refinement.Judging.{TakesLine}
-use Rattle.sum_engine.specs.refinement.Telling.{WritesAndFlushes, out_by, WritesBoth}
-use Rattle.sum_engine.proofs.RunStateLemmas.{Asks, Writing, Came, known, asks_by, asks_none, came_by, err_alone}
-use Rattle.sum_engine.proofs.RunLemmas.{answered}
+use Rattle.sum_engine.specs.refinement.FlushedWrites.{WritesAndFlushes, out_by, WritesBoth}
+use Rattle.sum_engine.proofs.ExecutionLemmas.{Asks, Writing, Came, known, asks_by, asks_none, came_by, err_alone}
+use Rattle.sum_engine.proofs.BehaviorLemmas.{answered}
 use Rattle.sum_engine.proofs.RestLemmas.{line_step, run_by, first_step, found_first}
-use Rattle.sum_sources.specs.declared.lines.LineStop.TheVariants as line_stops
+use Rattle.sum_sources.specs.declared.line_reader.LineStop.TheVariants as line_stops
 use Rattle.sum_engine.specs.declared.settings.Report.TheVariants as reports
 
 -- ---- where a checker stands

@@ -4,13 +4,13 @@ use Rattle.std.proofs.Math.Bool.{and-false, and-true}
 use Rattle.digest_kinds.specs.Kinds.{KindValue}
 use Rattle.sum_sources.specs.declared.fault.Fault.TheVariants.{NotFound}
 use Rattle.sum_sources.specs.Contents.{IfKnown, Reply}
-use Rattle.sum_lines.specs.Entries.{EntryValue}
-use Rattle.sum_engine.specs.refinement.Asking.{HashOutcome, HashesNameIfKnown, IsHashOutcome}
-use Rattle.sum_engine.specs.Verdicts.{Verdict, Right, Wrong, Missing, Unread, Rules, verdict_of, not_found, digest_verdict, asks_by}
-use Rattle.sum_engine.specs.Runs.{World, is_dash, reply, digest_or_fault}
-use Rattle.sum_lines.specs.ParsedLines.{entry}
+use Rattle.sum_lines.specs.grammar.Entries.{EntryValue}
+use Rattle.sum_engine.specs.refinement.HashName.{HashOutcome, HashesNameIfKnown, IsHashOutcome}
+use Rattle.sum_engine.specs.check.Verdicts.{Verdict, Right, Wrong, Missing, Unread, Rules, verdict_of, not_found, digest_verdict, asks_by}
+use Rattle.sum_engine.specs.Behavior.{World, is_dash, reply, digest_or_fault}
+use Rattle.sum_lines.specs.grammar.ParsedLines.{entry}
 use Rattle.sum_engine.specs.refinement.Judging.{IsJudged, verdict_of_outcome}
-use Rattle.sum_engine.specs.declared.asking.HashOutcome.TheVariants as asked
+use Rattle.sum_engine.specs.declared.hash_name.HashOutcome.TheVariants as asked
 
 -- a reply against the line's digest
 abbrev verdict_by : Bool → KindValue → List ℕ → Reply → Verdict

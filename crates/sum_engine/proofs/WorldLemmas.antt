@@ -4,7 +4,7 @@ use Rattle.std.proofs.lemmas.List.{append-nil}
 use Rattle.std.proofs.lemmas.List.Elements.{filter-append}
 use Rattle.std.proofs.lemmas.List.Folds.{list_any-append}
 use Rattle.sum_sources.specs.Contents.{Content, Reply, empty_content}
-use Rattle.sum_engine.specs.Runs.{World, is_dash, after}
+use Rattle.sum_engine.specs.Behavior.{World, is_dash, after}
 
 -- standard input gives its content once
 given_then : (x y : Bool) (c : Content) → cond y empty_content (cond x empty_content c) ≡ cond (x || y) empty_content c

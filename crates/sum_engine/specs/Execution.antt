@@ -4,11 +4,11 @@ use Rattle.std.specs.List.{list_any}
 use Rattle.std.specs.Io.KnownBytes.{Appends}
 use Rattle.digest_kinds.specs.Limits.{one_more}
 use Rattle.sum_sources.specs.Contents.{Content, SourceState, IfKnown}
-use Rattle.sum_lines.specs.Sinks.{SinkState, IsPrefix}
-use Rattle.sum_lines.specs.PartsOfLines.{◌>>=◌}
+use Rattle.sum_lines.specs.sinks.Sinks.{SinkState, IsPrefix}
+use Rattle.sum_lines.specs.grammar.LineParts.{◌>>=◌}
 pub use Rattle.sum_engine.specs.declared.stop.Stop.{Stop}
 pub use Rattle.sum_engine.specs.declared.stop.Stop.TheVariants.{Memory, Write}
-use Rattle.sum_engine.specs.Runs.{World, is_dash, after, Event, Step, Behavior, trace, name_in, err_in, out_in}
+use Rattle.sum_engine.specs.Behavior.{World, is_dash, after, Event, Step, Behavior, trace, name_in, err_in, out_in}
 
 -- the source itself; what standard input has still to give, where it tells that, and whether it was taken; both outputs
 pub record StreamsState (S : Type 0) : Type 0 where

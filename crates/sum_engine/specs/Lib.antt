@@ -1,11 +1,5 @@
-pub mod Runs
+pub mod Behavior
 pub mod Generation
-pub mod Verdicts
-pub mod Reports
-pub mod Checking
-pub mod Moments
-pub mod Steps
-pub mod LineVerdicts
-pub mod Manifests
-pub mod OldVerdicts
+pub mod check
+pub mod Execution
 pub mod refinement

@@ -1,14 +1,14 @@
 //! Hashing one name.
 ghost use Rattle.std.specs.Prelude.{◌≡◌, ◌||◌, Err, OnOk, length};
-ghost use Rattle.sum_engine.specs.Runs.{is_dash};
+ghost use Rattle.sum_engine.specs.Behavior.{is_dash};
 ghost use Rattle.sum_lines.specs.Lines.{line};
 ghost use Rattle.sum_engine.specs.Generation.{generate_behavior};
-ghost use Rattle.sum_engine.specs.refinement.Telling.{WritesAndFlushes};
+ghost use Rattle.sum_engine.specs.refinement.FlushedWrites.{WritesAndFlushes};
 ghost use Rattle.digest_kinds.specs.Limits.{one_more};
-ghost use Rattle.sum_engine.specs.Moments.{IsFlushed, FailuresMatch, RefusalsMatch, NoOutputOnMemory, Performs};
+ghost use Rattle.sum_engine.specs.Execution.{IsFlushed, FailuresMatch, RefusalsMatch, NoOutputOnMemory, Performs};
 
-use crate::asking::{HashOutcome, hash_name};
-use crate::report::put_fault_line;
+use crate::check::report::put_fault_line;
+use crate::hash_name::{HashOutcome, hash_name};
 use crate::settings::Settings;
 use crate::stop::Stop;
 use crate::streams::Streams;

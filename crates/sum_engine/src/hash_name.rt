@@ -1,7 +1,7 @@
 //! Asking one name.
 ghost use Rattle.std.specs.Prelude.{◌≡◌, ◌||◌, [], IfNone, IfSome, is_none};
-ghost use Rattle.sum_engine.specs.Runs.{is_dash};
-ghost use Rattle.sum_engine.specs.LineVerdicts.{lent_streams};
+ghost use Rattle.sum_engine.specs.Behavior.{is_dash};
+ghost use Rattle.sum_engine.specs.check.NextVerdict.{lent_streams};
 
 use digest_kinds::{AnyHasher, Digest, Hasher, Kind};
 use sum_sources::{Fault, Input, OpenFault, PIECE, Source, Stdin, hash_input_over};
@@ -24,7 +24,7 @@ pub(crate) fn is_dash(name: &[u8]) -> bool
     name == b"-".as_slice()
 }
 
-ghost use Rattle.sum_engine.specs.refinement.Asking.{HashesNameIfKnown, IsRead, RefusedUnless, HasKindLen, world_of};
+ghost use Rattle.sum_engine.specs.refinement.HashName.{HashesNameIfKnown, IsRead, RefusedUnless, HasKindLen, world_of};
 
 /// Opens the name, where `-` is standard input, and reads it to its end, by way of the buffer. None where the source
 /// had no memory to open it; the name then doesn't count as asked.

@@ -1,7 +1,7 @@
 //! Laws over whole checks: what the steps of a [`Checker`](crate::Checker) come to together.
-ghost use Rattle.sum_engine.specs.Manifests.{SameVerdicts, EndStays};
-ghost use Rattle.sum_engine.specs.OldVerdicts.{OldVerdicts, OldOutcomes, OlderDiffers};
-ghost use Rattle.sum_engine.specs.Manifests.{StepsJoin, StepsEnd, StepsCut, StepsReport, EventsExtend};
+ghost use Rattle.sum_engine.specs.check.CheckerLaws.{SameVerdicts, EndStays};
+ghost use Rattle.sum_engine.specs.check.OldVerdicts.{OldVerdicts, OldOutcomes, OlderDiffers};
+ghost use Rattle.sum_engine.specs.check.CheckerLaws.{StepsJoin, StepsEnd, StepsCut, StepsReport, EventsExtend};
 
 /// After k calls of `step` that each handled a line, exactly the first k steps of the manifest's run happened, the
 /// bytes up to the end of line k are used, and the other steps are still to come. The call that ends comes after all

@@ -1,6 +1,6 @@
 //! Lines that are written and handed on at once.
 ghost use Rattle.sum_lines.specs.refinement.PartTexts.{parts_text};
-ghost use Rattle.sum_engine.specs.refinement.Telling.{WritesAndFlushes};
+ghost use Rattle.sum_engine.specs.refinement.FlushedWrites.{WritesAndFlushes};
 
 use sum_lines::{Part, Sink, SinkFault, put_parts};
 

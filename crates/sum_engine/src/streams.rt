@@ -19,7 +19,7 @@ pub struct Streams<I: Input, S, O: Sink, E: Sink> {
 impl<I: Input, S, O: Sink, E: Sink> Model for Streams<I, S, O, E> {
     ghost use Rattle.std.specs.Prelude.{is_none};
     ghost use Rattle.sum_sources.specs.Contents.{stdin_state};
-    ghost use Rattle.sum_engine.specs.Moments.{StreamsState};
+    ghost use Rattle.sum_engine.specs.Execution.{StreamsState};
 
     ghost Value = { StreamsState S };
 

@@ -6,8 +6,8 @@ use Rattle.std.proofs.lemmas.Bool.{lt-ltb, false_from_ne_true}
 use Rattle.std.proofs.lemmas.List.{get_or-take, length-take}
 use Rattle.std.proofs.lemmas.List.Sums.{passes_at_first, position_or_len_is}
 use Rattle.memchr.specs.Find.{IsFirstByte, is_byte2}
-use Rattle.sum_lines.specs.Shapes.{Algo, is_blank, Algos, One}
-use Rattle.sum_lines.specs.PartsOfLines.{after_while, mark_and_rest, plain_parts, tag_in, tagged_parts}
+use Rattle.sum_lines.specs.grammar.Shapes.{Algo, is_blank, Algos, One}
+use Rattle.sum_lines.specs.grammar.LineParts.{after_while, mark_and_rest, plain_parts, tag_in, tagged_parts}
 use Rattle.sum_lines.proofs.PlainLemmas.{cut-within, no_prefix, plain-digits, plain-prefix, read_is_plain}
 use Rattle.sum_lines.proofs.ScanLemmas.{decoded-size, decoded-digits}
 use Rattle.std.proofs.lemmas.List.Elements.{All-get_or}
@@ -23,7 +23,7 @@ use Rattle.sum_lines.specs.refinement.Beginnings.{Cut, EndsAt, EndsDigits, Leads
 use Rattle.sum_lines.proofs.PrefixLemmas.{none_of}
 use Rattle.sum_lines.proofs.TaggedLemmas.{hex-no_blank, tag_in-some}
 use Rattle.sum_lines.proofs.BitsLemmas.{has_len-range}
-use Rattle.sum_lines.specs.declared.beginnings.Beginning.TheVariants as beginnings
+use Rattle.sum_lines.specs.declared.reading.beginnings.Beginning.TheVariants as beginnings
 
 -- a cut has two digits for each byte of its digest, and so few that the search meets its blank
 cut-size : {a : Algo} {s d : List ℕ} → Cut a s d → (position_or_len is_blank s ≡ 2 * length d) × (length d ≤ 64)

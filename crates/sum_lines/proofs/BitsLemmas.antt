@@ -10,8 +10,8 @@ use Rattle.std.proofs.lemmas.Option.{cond_some}
 use Rattle.std.proofs.lemmas.Slice.Eq.{bytes_eq-Decides}
 use Rattle.std.proofs.lemmas.Str.Parse.{IsDigitsTest, IsNumeralModel, digits_value_short, numerals_by_value}
 use Rattle.digest_kinds.specs.Kinds.{KindValue, blake2b_kind, has_len, blake2b_of_bits}
-use Rattle.sum_lines.specs.PartsOfLines.{kind_at}
-use Rattle.sum_lines.specs.refinement.Found.{number_of}
+use Rattle.sum_lines.specs.grammar.LineParts.{kind_at}
+use Rattle.sum_lines.specs.refinement.LinePartRanges.{number_of}
 use Rattle.sum_lines.proofs.PrefixLemmas.{map_some, none_of}
 use Rattle.digest_kinds.specs.declared.algo.Algo.{Algo}
 use Rattle.std.specs.Str.Parse.{digits_value}

@@ -1,8 +1,8 @@
 -- What a buffer over a sink does to what was taken, by what the sink below answers.
 use Rattle.std.proofs.Common.{ℕ, ◌≡◌, List, [], Result, Ok, Err, ◌∙◌, append_assoc, append-nil, arith}
-use Rattle.sum_lines.specs.Sinks.{SinkState, Accepted, Flushes, WritesAll}
-use Rattle.sum_lines.specs.Buffers.{with_buffered}
-use Rattle.sum_lines.specs.refinement.GrowingSinks.{FlushesBuffer}
+use Rattle.sum_lines.specs.sinks.Sinks.{SinkState, Accepted, Flushes, WritesAll}
+use Rattle.sum_lines.specs.sinks.Buffers.{with_buffered}
+use Rattle.sum_lines.specs.refinement.SinkStates.{FlushesBuffer}
 use Rattle.sum_lines.proofs.SinkLemmas.{Flushes-with_buffered}
 
 -- the buffer was emptied into the sink below

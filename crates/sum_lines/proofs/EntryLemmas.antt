@@ -3,10 +3,10 @@ use Rattle.std.proofs.Common.{ℕ, ◌≡◌, Bool, true, false, cond, List, [],
 use Rattle.std.specs.List.{AllPass}
 use Rattle.std.proofs.lemmas.List.Elements.{All-head}
 use Rattle.digest_kinds.specs.Kinds.{KindValue, tag}
-use Rattle.sum_lines.specs.Shapes.{Algos, is_blank, mark, Plain, Tagged}
-use Rattle.sum_lines.specs.Entries.{Form, Undecided, Standard, Reversed, is_ignored, begins_standard, form_of_tail, DecidesForm, IsForm, EntryValue, ByTag, ByTail, form_then, line_form, form}
-use Rattle.sum_lines.specs.PartsOfLines.{LinePartsValue, plain_parts}
-use Rattle.sum_lines.specs.LineLaws.{OneForm}
+use Rattle.sum_lines.specs.grammar.Shapes.{Algos, is_blank, mark, Plain, Tagged}
+use Rattle.sum_lines.specs.grammar.Entries.{Form, Undecided, Standard, Reversed, is_ignored, begins_standard, form_of_tail, DecidesForm, IsForm, EntryValue, ByTag, ByTail, form_then, line_form, form}
+use Rattle.sum_lines.specs.grammar.LineParts.{LinePartsValue, plain_parts}
+use Rattle.sum_lines.specs.grammar.LineLaws.{OneForm}
 use Rattle.sum_lines.proofs.PrefixLemmas.{none_of}
 use Rattle.sum_lines.proofs.TaggedLemmas.{Begins, tag-begins, passes-other}
 use Rattle.sum_lines.proofs.PlainLemmas.{plain-digits, plain_is_read, read_is_plain}

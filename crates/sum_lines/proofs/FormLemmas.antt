@@ -2,11 +2,11 @@
 use Rattle.std.proofs.Common.{◌≡◌, ℕ, Bool, cond, List, ◌∷◌, ◌++◌, Option, None, Some, refl, ap, sym, ◌∙◌, arith}
 use Rattle.std.specs.Option.{option_map_or}
 use Rattle.digest_kinds.specs.declared.algo.Algos.{Algos}
-use Rattle.sum_lines.specs.Entries.{Form, Undecided, Standard, Reversed, form, form_then, line_form, form_of_tail, is_ignored_by, begins_standard}
+use Rattle.sum_lines.specs.grammar.Entries.{Form, Undecided, Standard, Reversed, form, form_then, line_form, form_of_tail, is_ignored_by, begins_standard}
 use Rattle.sum_lines.specs.Escape.{Profile}
-use Rattle.sum_lines.specs.PartsOfLines.{◌>>=◌, LinePartsValue, tagged_parts, plain_parts}
-use Rattle.sum_lines.specs.ParsedLines.{with_raw, entry_of_parts, entry_of, ignored, bad, entry, parse_line}
-use Rattle.sum_lines.specs.LineLaws.{SameParse, SameForm}
+use Rattle.sum_lines.specs.grammar.LineParts.{◌>>=◌, LinePartsValue, tagged_parts, plain_parts}
+use Rattle.sum_lines.specs.grammar.ParsedLines.{with_raw, entry_of_parts, entry_of, ignored, bad, entry, parse_line}
+use Rattle.sum_lines.specs.grammar.LineLaws.{SameParse, SameForm}
 use Rattle.sum_lines.proofs.PlainLemmas.{plain_is_read}
 use Rattle.sum_lines.proofs.EntryLemmas.{form_at}
 pub use Rattle.sum_lines.proofs.EntryLemmas.{form_next, form_on}

@@ -7,11 +7,11 @@ use Rattle.std.proofs.lemmas.List.{drop-drop, drop-take, length-take}
 use Rattle.std.proofs.lemmas.List.Elements.{All-from_get_or}
 use Rattle.std.proofs.lemmas.List.Folds.{list_all_at}
 use Rattle.memchr.specs.Find.{IsFirstByte, is_byte}
-use Rattle.sum_lines.specs.Entries.{Standard, begins_standard}
-use Rattle.sum_lines.specs.declared.scanning.LineParts.{LineParts}
+use Rattle.sum_lines.specs.grammar.Entries.{Standard, begins_standard}
+use Rattle.sum_lines.specs.declared.reading.line_parts.LineParts.{LineParts}
 use Rattle.sum_lines.specs.Escape.{present, escape}
-use Rattle.sum_lines.specs.ParsedLines.{unescape, with_raw}
-use Rattle.sum_lines.specs.refinement.Found.{line_parts}
+use Rattle.sum_lines.specs.grammar.ParsedLines.{unescape, with_raw}
+use Rattle.sum_lines.specs.refinement.LinePartRanges.{line_parts}
 use Rattle.sum_lines.proofs.PrefixLemmas.{none_of}
 use Rattle.sum_lines.proofs.UnescapeLemmas.{all-of, unescape-escape, escape-unescape}
 use Rattle.std.proofs.lemmas.Grind.{common_steps}

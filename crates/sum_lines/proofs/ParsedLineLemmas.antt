@@ -3,12 +3,12 @@ use Rattle.std.proofs.Common.{◌≡◌, ℕ, Bool, true, false, List, [], ◌�
 use Rattle.std.specs.Option.{option_or, option_map_or}
 use Rattle.std.proofs.lemmas.Option.{cond_some, same_Some}
 use Rattle.digest_kinds.specs.Kinds.{KindValue}
-use Rattle.sum_lines.specs.Shapes.{Algos, Plain}
-use Rattle.sum_lines.specs.Entries.{Form, Undecided, Standard, Reversed, EntryValue, IsEntry, RawOf, begins_standard, is_ignored_by}
+use Rattle.sum_lines.specs.grammar.Shapes.{Algos, Plain}
+use Rattle.sum_lines.specs.grammar.Entries.{Form, Undecided, Standard, Reversed, EntryValue, IsEntry, RawOf, begins_standard, is_ignored_by}
 use Rattle.sum_lines.specs.Escape.{Profile, present, escape_by}
-use Rattle.sum_lines.specs.PartsOfLines.{◌>>=◌, LinePartsValue, tagged_parts, plain_parts}
-use Rattle.sum_lines.specs.ParsedLines.{with_raw, entry_of_parts, entry_of, ignored, bad, entry}
-use Rattle.sum_lines.specs.LineLaws.{OneEntry, ParseIsGrammar}
+use Rattle.sum_lines.specs.grammar.LineParts.{◌>>=◌, LinePartsValue, tagged_parts, plain_parts}
+use Rattle.sum_lines.specs.grammar.ParsedLines.{with_raw, entry_of_parts, entry_of, ignored, bad, entry}
+use Rattle.sum_lines.specs.grammar.LineLaws.{OneEntry, ParseIsGrammar}
 use Rattle.sum_lines.proofs.PrefixLemmas.{bind_some, none_of}
 use Rattle.sum_lines.proofs.PlainLemmas.{apart, plain_is_read, read_is_plain}
 use Rattle.sum_lines.proofs.TaggedLemmas.{tagged_is_read, read_is_tagged}

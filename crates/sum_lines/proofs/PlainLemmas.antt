@@ -11,8 +11,8 @@ use Rattle.std.proofs.lemmas.Option.{cond_some}
 use Rattle.hex.specs.Hex.{decode_of, is_hex_digit}
 use Rattle.hex.proofs.HexLemmas.{decode_of-ok}
 use Rattle.digest_kinds.specs.Kinds.{KindValue, has_len, tag}
-use Rattle.sum_lines.specs.Shapes.{Algo, Algos, One, Any, is_blank, Plain, Tagged}
-use Rattle.sum_lines.specs.PartsOfLines.{LinePartsValue, after_while, mark_and_rest, plain_parts}
+use Rattle.sum_lines.specs.grammar.Shapes.{Algo, Algos, One, Any, is_blank, Plain, Tagged}
+use Rattle.sum_lines.specs.grammar.LineParts.{LinePartsValue, after_while, mark_and_rest, plain_parts}
 use Rattle.sum_lines.specs.refinement.Beginnings.{Cut}
 use Rattle.sum_lines.proofs.PrefixLemmas.{bind_some, none_of, ok_some, prefix_passes, prefix-and-rest, prefix_len-stop, rest-seam, mark_and_rest-is}
 use Rattle.sum_lines.proofs.TaggedLemmas.{Begins, begins-by, passes-other, behind_tag, hex-no_blank, tagged-prefix, mark_and_rest-prefix}

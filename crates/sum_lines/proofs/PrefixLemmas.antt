@@ -12,8 +12,8 @@ use Rattle.std.proofs.lemmas.List.Sums.{take_while-cons}
 use Rattle.std.proofs.lemmas.List.Elements.{All-cons, All-get_or, All-head, All-tail, All-nil}
 use Rattle.std.proofs.lemmas.Option.{cond_some, same_Some}
 use Rattle.std.proofs.lemmas.Slice.Eq.{starts_is}
-use Rattle.sum_lines.specs.PartsOfLines.{◌>>=◌, after_while, strip_prefix, mark_and_rest}
-use Rattle.sum_lines.specs.Shapes.{mark, optional}
+use Rattle.sum_lines.specs.grammar.LineParts.{◌>>=◌, after_while, strip_prefix, mark_and_rest}
+use Rattle.sum_lines.specs.grammar.Shapes.{mark, optional}
 use Rattle.std.proofs.lemmas.Grind.{common_steps}
 
 -- a step that gives something had something to go on with

@@ -3,18 +3,18 @@ use Rattle.std.proofs.Common.{ℕ, ◌≡◌, Bool, true, List, [], ◌∷◌, �
 use Rattle.std.proofs.lemmas.List.{append-nil}
 use Rattle.hex.specs.Hex.{encode_lower}
 use Rattle.digest_kinds.specs.Kinds.{KindValue, tag}
-use Rattle.sum_lines.specs.Shapes.{Algo, Algos, One, Any, mark, Width, Allows, Tagged}
-use Rattle.sum_lines.specs.Entries.{Form, Undecided, Standard, EntryValue, IsEntry, line_form, form}
-use Rattle.sum_lines.specs.declared.line_format.Mode.{Mode}
+use Rattle.sum_lines.specs.grammar.Shapes.{Algo, Algos, One, Any, mark, Width, Allows, Tagged}
+use Rattle.sum_lines.specs.grammar.Entries.{Form, Undecided, Standard, EntryValue, IsEntry, line_form, form}
+use Rattle.sum_lines.specs.declared.writing.put_line.Mode.{Mode}
 use Rattle.sum_lines.specs.Escape.{present, escape, escape_differs}
-use Rattle.sum_lines.specs.PartsOfLines.{plain_parts}
-use Rattle.sum_lines.specs.LineLaws.{ReadBy, Writable, SpellsBack, ReadBack}
+use Rattle.sum_lines.specs.grammar.LineParts.{plain_parts}
+use Rattle.sum_lines.specs.grammar.LineLaws.{ReadBy, Writable, SpellsBack, ReadBack}
 use Rattle.sum_lines.proofs.PlainLemmas.{apart, read_is_plain}
 use Rattle.sum_lines.proofs.PrefixLemmas.{none_of}
 use Rattle.sum_lines.proofs.EntryLemmas.{form_at}
 use Rattle.sum_lines.proofs.ParsedLineLemmas.{one_entry}
-use Rattle.sum_lines.proofs.LineFormatShapes.{Inline, inline, line_width, width-is, plain_line, tagged_line, written_for, is_space_or_star, plain-form, plain-entry, tagged-written, tagged-entry, Inline-plain, Inline-tagged}
-use Rattle.sum_lines.specs.declared.line_format.Mode.TheVariants as modes
+use Rattle.sum_lines.proofs.PutLineShapes.{Inline, inline, line_width, width-is, plain_line, tagged_line, written_for, is_space_or_star, plain-form, plain-entry, tagged-written, tagged-entry, Inline-plain, Inline-tagged}
+use Rattle.sum_lines.specs.declared.writing.put_line.Mode.TheVariants as modes
 use Rattle.sum_lines.specs.Lines as lines
 
 -- a line that ends with a newline, without it

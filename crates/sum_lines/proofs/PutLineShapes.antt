@@ -8,7 +8,7 @@ use Rattle.std.proofs.lemmas.Bool.{eqb-true}
 use Rattle.std.proofs.lemmas.Bool.Decides.{eqb_tells}
 use Rattle.std.proofs.lemmas.List.Elements.{All-weaker, All-cons, All-nil}
 use Rattle.digest_kinds.specs.Kinds.{KindValue, tag, full_len, has_len}
-use Rattle.sum_lines.specs.Shapes.{Algo, mark, Width, is_blank, Allows, Plain, Tagged, Algos, One}
+use Rattle.sum_lines.specs.grammar.Shapes.{Algo, mark, Width, is_blank, Allows, Plain, Tagged, Algos, One}
 use Rattle.digest_kinds.specs.declared.algo.Algo.TheVariants.{Md5, Blake2b}
 use Rattle.sum_lines.specs.Escape.{present, escape, escape_of, escape_differs}
 use Rattle.std.specs.Char.{is_ascii_digit}
@@ -17,9 +17,9 @@ use Rattle.sum_lines.proofs.TaggedLemmas.{passes-other}
 use Rattle.std.proofs.lemmas.Slice.Eq.{bytes_eq-Decides}
 use Rattle.hex.specs.Hex.{encode_lower, is_hex_digit}
 use Rattle.hex.proofs.HexLemmas.{decode_of-encode_lower}
-use Rattle.sum_lines.specs.Entries.{Form, Standard, begins_standard, line_form, Spells, EntryValue, IsEntry}
-use Rattle.sum_lines.specs.PartsOfLines.{LinePartsValue}
-use Rattle.sum_lines.specs.LineLaws.{Writable}
+use Rattle.sum_lines.specs.grammar.Entries.{Form, Standard, begins_standard, line_form, Spells, EntryValue, IsEntry}
+use Rattle.sum_lines.specs.grammar.LineParts.{LinePartsValue}
+use Rattle.sum_lines.specs.grammar.LineLaws.{Writable}
 use Rattle.sum_lines.proofs.PlainLemmas.{Digits, digits-of, plain_is_read}
 use Rattle.sum_lines.proofs.EntryLemmas.{plain-speaks, tagged-speaks}
 use Rattle.sum_lines.proofs.EscapeLemmas.{length-escape}

@@ -8,10 +8,10 @@ use Rattle.memchr.specs.Find.{Nowhere, Passes, IsLastByte, is_byte}
 use Rattle.hex.specs.Hex.{decode_of}
 use Rattle.hex.proofs.HexLemmas.{decode_of-ok}
 use Rattle.digest_kinds.specs.Kinds.{KindValue, tag, IsDigits}
-use Rattle.sum_lines.specs.Shapes.{Algo, One, is_blank, mark, optional}
+use Rattle.sum_lines.specs.grammar.Shapes.{Algo, One, is_blank, mark, optional}
 use Rattle.std.proofs.lemmas.List.{take-append-drop}
-use Rattle.sum_lines.specs.PartsOfLines.{after_while, strip_prefix, mark_and_rest, tag_in, width_at, tagged_parts}
-use Rattle.sum_lines.specs.refinement.Found.{EndsIn}
+use Rattle.sum_lines.specs.grammar.LineParts.{after_while, strip_prefix, mark_and_rest, tag_in, width_at, tagged_parts}
+use Rattle.sum_lines.specs.refinement.LinePartRanges.{EndsIn}
 use Rattle.sum_lines.proofs.PrefixLemmas.{bind_none, none_of, ok_some, strip_prefix-some, strip_prefix-append, prefix-and-rest, opened-some, rfind-at, rfind-none, mark_and_rest-is, rsplit-some}
 use Rattle.sum_lines.proofs.TaggedLemmas.{width_at-some}
 use Rattle.std.proofs.lemmas.Grind.{common_steps}

@@ -4,9 +4,9 @@ use Rattle.std.proofs.Common.{ℕ, ◌≡◌, ◌<◌, ◌-◌, List, [], ◌++�
 use Rattle.std.proofs.lemmas.List.{take_rest, append_cancel_left}
 use Rattle.std.specs.Io.KnownBytes.{Appends, append_known}
 use Rattle.std.proofs.KnownBytes.{Appends-nil, Appends-trans}
-use Rattle.sum_lines.specs.Sinks.{AppendsProperPrefix, SinkState, Accepted, WriteFailed, FlushFailed, WritesAll, Flushes}
+use Rattle.sum_lines.specs.sinks.Sinks.{AppendsProperPrefix, SinkState, Accepted, WriteFailed, FlushFailed, WritesAll, Flushes}
 use Rattle.digest_kinds.specs.Limits.{one_more}
-use Rattle.sum_lines.specs.refinement.GrowingSinks.{Grows, AppendsPrefix}
+use Rattle.sum_lines.specs.refinement.SinkStates.{Grows, AppendsPrefix}
 
 -- ---- two calls, one behind the other
 

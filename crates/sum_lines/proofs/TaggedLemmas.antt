@@ -14,9 +14,9 @@ use Rattle.std.proofs.lemmas.Option.{cond_some, same_Some}
 use Rattle.hex.specs.Hex.{decode_of, is_hex_digit}
 use Rattle.digest_kinds.specs.Kinds.{KindValue, all_algos, full_kind, has_len, tag}
 use Rattle.digest_kinds.proofs.TagLemmas.{IfSome-find-begins, find-begins}
-use Rattle.sum_lines.specs.Shapes.{Algo, Algos, One, Any, is_blank, Width, Allows, Tagged, mark, optional}
+use Rattle.sum_lines.specs.grammar.Shapes.{Algo, Algos, One, Any, is_blank, Width, Allows, Tagged, mark, optional}
 use Rattle.digest_kinds.specs.declared.algo.Algo.TheVariants.{Blake2b, Md5}
-use Rattle.sum_lines.specs.PartsOfLines.{LinePartsValue, after_while, strip_prefix, mark_and_rest, tag_in, kind_at, width_at, tagged_parts}
+use Rattle.sum_lines.specs.grammar.LineParts.{LinePartsValue, after_while, strip_prefix, mark_and_rest, tag_in, kind_at, width_at, tagged_parts}
 use Rattle.sum_lines.proofs.PrefixLemmas.{bind_some, map_some, ok_some, prefix_passes, prefix-and-rest, mark_and_rest-is, strip_prefix-some, opened-some, rsplit-some, parts-at, prefix_len-all, starts-append, opened-at, rsplit-at}
 use Rattle.sum_lines.proofs.BitsLemmas.{kind_at-some, kind_at-bits, decimal-digits, has_len-range}
 use Rattle.std.proofs.lemmas.List.{append-nil, drop_all, drop_at}

@@ -8,9 +8,9 @@ use Rattle.std.proofs.lemmas.List.Elements.{All-weaker}
 use Rattle.std.proofs.lemmas.List.Sums.{AllPass-from_list_all, list_all-from_AllPass}
 use Rattle.std.proofs.lemmas.Slice.Eq.{bytes_eq-Decides}
 use Rattle.sum_lines.specs.Escape.{Profile, present, escape_of, escape_by, escape, IsEscaped}
-use Rattle.sum_lines.specs.Entries.{Spells, EntryValue}
-use Rattle.sum_lines.specs.ParsedLines.{unescaped_bytes, unescape, entry_of_parts}
-use Rattle.sum_lines.specs.PartsOfLines.{LinePartsValue}
+use Rattle.sum_lines.specs.grammar.Entries.{Spells, EntryValue}
+use Rattle.sum_lines.specs.grammar.ParsedLines.{unescaped_bytes, unescape, entry_of_parts}
+use Rattle.sum_lines.specs.grammar.LineParts.{LinePartsValue}
 use Rattle.sum_lines.proofs.PrefixLemmas.{bind_some}
 use Rattle.std.proofs.lemmas.Grind.{flat_map-append, common_steps}
 use Rattle.std.proofs.Math.Seq.{take-append-add}

@@ -1,10 +1,5 @@
 pub mod Escape
-pub mod Shapes
-pub mod Entries
-pub mod PartsOfLines
-pub mod ParsedLines
-pub mod LineLaws
-pub mod Sinks
-pub mod Buffers
+pub mod grammar
+pub mod sinks
 pub mod Lines
 pub mod refinement

@@ -3,11 +3,11 @@ use Rattle.std.specs.Prelude.{ℕ, ◌*◌, ◌==◌, List, [], ◌∷◌, ◌++
 use Rattle.std.specs.List.{concat}
 use Rattle.hex.specs.Hex.{encode_lower}
 use Rattle.digest_kinds.specs.Kinds.{KindValue, full_len, tag}
-pub use Rattle.sum_lines.specs.declared.line_format.Style.{Style}
-pub use Rattle.sum_lines.specs.declared.line_format.Mode.{Mode}
-use Rattle.sum_lines.specs.declared.line_format.Mode.TheVariants.{Text, Binary, Tag}
+pub use Rattle.sum_lines.specs.declared.writing.put_line.Style.{Style}
+pub use Rattle.sum_lines.specs.declared.writing.put_line.Mode.{Mode}
+use Rattle.sum_lines.specs.declared.writing.put_line.Mode.TheVariants.{Text, Binary, Tag}
 use Rattle.sum_lines.specs.Escape.{present, escape, escape_differs}
-use Rattle.sum_lines.specs.Shapes.{mark}
+use Rattle.sum_lines.specs.grammar.Shapes.{mark}
 
 -- the tag, for a BLAKE2b digest that isn't full with its bits, as `BLAKE2b-256`
 abbrev pub line_tag : KindValue → List ℕ

@@ -1,10 +1,10 @@
 //! The escape of names in lines and diagnostics.
 ghost use Rattle.std.specs.Prelude.{◌≡◌, ◌≢◌, ◌↔◌, ◌+◌, ◌<◌, ◌≤◌, ◌++◌, ℕ, List, length, vec_len, take, drop};
 ghost use Rattle.std.specs.Prelude.{slice_index, is_some, true, IfSome, IfNone, MatchOption};
-ghost use Rattle.sum_lines.specs.Sinks.{WritesAll};
+ghost use Rattle.sum_lines.specs.sinks.Sinks.{WritesAll};
 ghost use Rattle.sum_lines.specs.Escape.{present, IsEscaped, escape, escape_of, escape_differs};
 
-use crate::sink::{Sink, SinkFault, put_all};
+use crate::sinks::sink::{Sink, SinkFault, put_all};
 use memchr::memchr3;
 use std::alloc::Allocator;
 

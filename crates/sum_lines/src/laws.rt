@@ -1,6 +1,6 @@
 //! Laws of the line grammar: what holds of its definitions, whatever the code does.
 
-ghost use Rattle.sum_lines.specs.LineLaws.{Apart, OneEntry, OneForm, ReadBack, SameForm, SameParse, ParseIsGrammar};
+ghost use Rattle.sum_lines.specs.grammar.LineLaws.{Apart, OneEntry, OneForm, ReadBack, SameForm, SameParse, ParseIsGrammar};
 
 /// For given algorithms and a given form a line spells at most one entry; and no line is both plain and tagged,
 /// whichever algorithms these are.
@@ -31,7 +31,7 @@ pub fn same_parse()
 /// A line that was written, not in zero style, for a name that isn't empty and holds no NUL, is read back by its own
 /// algorithm's tool and, where it is tagged, by the one that takes any algorithm, where no line before it makes the
 /// manifest `Reversed`. It spells the kind, the digest and the name that it was written for.
-#[tactic(auto, using(crate::proofs::LineFormatLemmas::read_back))]
+#[tactic(auto, using(crate::proofs::PutLineLemmas::read_back))]
 pub fn read_back()
     ensures { ReadBack }
 {}

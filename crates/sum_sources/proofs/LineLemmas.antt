@@ -10,7 +10,7 @@ use Rattle.sum_sources.specs.ManifestLines.{Next, Line, NoMore, LineStop, last_l
 use Rattle.sum_sources.specs.LineReaders.{left_by}
 use Rattle.sum_sources.proofs.ContentLemmas.{Gave, Gave-is}
 use Rattle.sum_sources.proofs.ToldLemmas.{IfKnown-remade}
-use Rattle.sum_sources.specs.declared.lines.LineStop.TheVariants as stops
+use Rattle.sum_sources.specs.declared.line_reader.LineStop.TheVariants as stops
 
 -- a newline ends the first piece
 pub pieces-newline : (e : Ending) (piece rest : List ℕ) → NoNewline piece

@@ -6,10 +6,10 @@ pub use Rattle.sum_sources.specs.declared.fault.Fault.{Fault}
 pub use Rattle.sum_sources.specs.declared.fault.Fault.TheVariants.{Other, NotFound, Denied}
 pub use Rattle.sum_sources.specs.declared.fault.Ending.{Ending}
 pub use Rattle.sum_sources.specs.declared.fault.Ending.TheVariants.{Whole, Broken}
-use Rattle.sum_sources.specs.declared.closable.Closable.{Closable}
-use Rattle.sum_sources.specs.declared.closable.Closable.TheVariants.{Open, Closed}
-use Rattle.sum_sources.specs.declared.source.OpenFault.{OpenFault}
-use Rattle.sum_sources.specs.declared.source.OpenFault.TheVariants as faults
+use Rattle.sum_sources.specs.declared.inputs.closable.Closable.{Closable}
+use Rattle.sum_sources.specs.declared.inputs.closable.Closable.TheVariants.{Open, Closed}
+use Rattle.sum_sources.specs.declared.sources.source.OpenFault.{OpenFault}
+use Rattle.sum_sources.specs.declared.sources.source.OpenFault.TheVariants as faults
 
 -- bytes that come, and how they end
 pub record Content : Type 0 where

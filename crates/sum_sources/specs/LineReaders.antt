@@ -1,10 +1,10 @@
 -- A reader of lines, as its callers see it.
 use Rattle.std.specs.Prelude.{ℕ, ◌≡◌, ◌+◌, ◌-◌, ◌≤◌, ◌⊎◌, List, [], ◌++◌, take, length, nat_lt, if◌then◌else◌, Option, None, Some, Result, Ok, Err, option_map}
 use Rattle.digest_kinds.specs.Limits.{LIMIT}
-use Rattle.sum_sources.specs.declared.input.TheConstants.{PIECE}
+use Rattle.sum_sources.specs.declared.inputs.input.TheConstants.{PIECE}
 use Rattle.sum_sources.specs.Contents.{Other, Broken, Content, InputState, limit, empty_content}
 use Rattle.sum_sources.specs.ManifestLines.{Next, Line, NoMore, LineStop}
-use Rattle.sum_sources.specs.declared.lines.LineStop.TheVariants as stops
+use Rattle.sum_sources.specs.declared.line_reader.LineStop.TheVariants as stops
 
 -- a reader of lines
 pub record LineReaderValue (I : Type 0) : Type 0 where

@@ -3,10 +3,10 @@ use Rattle.std.specs.Prelude.{ℕ, zero, suc, ◌≡◌, ◌+◌, ◌==◌, fals
 use Rattle.std.specs.List.{slice_split, after_first}
 use Rattle.std.specs.Str.Lines.{strip_carriage_return}
 use Rattle.sum_sources.specs.Contents.{Ending, Whole, Broken, Content}
-pub use Rattle.sum_sources.specs.declared.lines.Next.{Next}
-pub use Rattle.sum_sources.specs.declared.lines.Next.TheVariants.{Line, NoMore}
-pub use Rattle.sum_sources.specs.declared.lines.LineStop.{LineStop}
-use Rattle.sum_sources.specs.declared.lines.LineStop.TheVariants as stops
+pub use Rattle.sum_sources.specs.declared.line_reader.Next.{Next}
+pub use Rattle.sum_sources.specs.declared.line_reader.Next.TheVariants.{Line, NoMore}
+pub use Rattle.sum_sources.specs.declared.line_reader.LineStop.{LineStop}
+use Rattle.sum_sources.specs.declared.line_reader.LineStop.TheVariants as stops
 
 -- the last piece, which no newline ended, is a line where it isn't empty and the content ends whole
 abbrev pub last_line : Ending → List ℕ → List (List ℕ)

@@ -2,28 +2,20 @@
 //! input, and the lines of a manifest.
 #![tactic(auto)]
 
-mod closable;
 mod fault;
-mod files;
-mod from_read;
-mod hashing;
-mod input;
+mod inputs;
 pub mod laws;
-mod limited;
-mod lines;
-mod source;
-mod standard;
-mod told;
-mod told_source;
+mod line_reader;
+mod sources;
 
-pub use closable::Closable;
 pub use fault::{Ending, Fault, NoRoom};
-pub use files::Files;
-pub use from_read::FromRead;
-pub use hashing::{hash_input, hash_input_over};
-pub use input::{Input, PIECE};
-pub use lines::{LineReader, LineStop, Next};
-pub use source::{OpenFault, Source};
-pub use standard::{Given, Stdin};
-pub use told::Told;
-pub use told_source::{Answer, ToldSource};
+pub use inputs::closable::Closable;
+pub use inputs::from_read::FromRead;
+pub use inputs::hash_input::{hash_input, hash_input_over};
+pub use inputs::input::{Input, PIECE};
+pub use inputs::stdin::{Given, Stdin};
+pub use inputs::told::Told;
+pub use line_reader::{LineReader, LineStop, Next};
+pub use sources::files::Files;
+pub use sources::source::{OpenFault, Source};
+pub use sources::told_source::{Answer, ToldSource};

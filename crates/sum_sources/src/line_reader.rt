@@ -5,7 +5,7 @@ ghost use Rattle.std.specs.Str.Lines.{strip_carriage_return};
 ghost use Rattle.digest_kinds.specs.Limits.{LIMIT};
 ghost use Rattle.sum_sources.specs.Contents.{IfKnown};
 
-use crate::limited::read_limited;
+use crate::inputs::size_limit::read_limited;
 use crate::{Fault, Input, PIECE};
 use memchr::memchr;
 use std::alloc::{AllocError, Allocator};

@@ -1,6 +1,6 @@
 mod ToolLemmas
 mod CommandLineLemmas
-mod PieceLemmas
+mod WordBytesLemmas
 mod WordLemmas
 mod RequestLemmas
 mod TextLemmas

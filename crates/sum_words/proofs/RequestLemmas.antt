@@ -8,8 +8,8 @@ use Rattle.std.proofs.lemmas.Str.{IsUtf8-from_ascii}
 use Rattle.std.proofs.lemmas.Str.Parse.{IsNumeralModel, numerals_by_value, tells_all_ascii_digits, parse_digits}
 use Rattle.sum_words.specs.Items.{Flag, ByteString, ItemValue, option}
 use Rattle.sum_words.specs.Request.{early_answer}
-use Rattle.sum_words.specs.refinement.RequestReading.{IsNumberOf}
-use Rattle.sum_words.specs.declared.options.Flag.TheVariants as flags
+use Rattle.sum_words.specs.refinement.OptionScan.{IsNumberOf}
+use Rattle.sum_words.specs.declared.parsing.options.Flag.TheVariants as flags
 
 -- an option that doesn't end the matter
 pub ending_not : (flag : Flag) (rest : List ItemValue) → flag ≢ flags.Help → flag ≢ flags.Version

@@ -5,7 +5,7 @@ use Rattle.std.proofs.lemmas.List.Elements.{All-from_recursion}
 use Rattle.std.specs.Str.{byte, chars, is_utf8}
 use Prim.Native.String.{String}
 use lib.Utf8.{encode}
-use Rattle.sum_lines.specs.Shapes.{Algo, One, Any}
+use Rattle.sum_lines.specs.grammar.Shapes.{Algo, One, Any}
 use Rattle.digest_kinds.specs.declared.algo.Algo.TheVariants.{Md5, Sha256, Blake2b}
 use Rattle.sum_words.specs.Request.{Mode, Request, Work, Help, Version, Generate, Check, request}
 use Rattle.sum_words.specs.Items.{Long, Short, ByteString, name_or_fault, option_of_letter}
@@ -14,9 +14,9 @@ use Rattle.sum_words.specs.declared.tool.Tool.TheVariants.{Md5sum, Sha256sum, B2
 use Rattle.sum_words.specs.WordFaults.{WordFaultValue, unknown_long, ambiguous_long, value_not_allowed, value_missing, unknown_short, length_invalid, length_not_bytes, tag_with_text, zero_with_check, tag_with_check, mode_with_check, without_check, check_needed}
 use Rattle.sum_words.specs.CommandLines.{unknown_tool, invoke, last_part, command_line, NeedsMemory, MayNotRead}
 use Rattle.sum_words.specs.declared.command_line.TheConstants.{PAGE}
-use Rattle.sum_lines.specs.declared.line_format.Mode.TheVariants as modes
+use Rattle.sum_lines.specs.declared.writing.put_line.Mode.TheVariants as modes
 use Rattle.sum_engine.specs.declared.settings.Report.TheVariants as reports
-use Rattle.sum_words.specs.declared.options.Flag.TheVariants as flags
+use Rattle.sum_words.specs.declared.parsing.options.Flag.TheVariants as flags
 
 -- the words of a line that has one blank between each two
 abbrev pub words : String → List ByteString

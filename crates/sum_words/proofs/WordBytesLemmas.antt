@@ -11,7 +11,7 @@ use Rattle.std.proofs.lemmas.Option.{get_or_from_slice_get, slice_get_within}
 use Rattle.std.proofs.Math.Bool.{or-true}
 use Rattle.std.proofs.Math.Seq.{drop-append_seam, take-length}
 use Rattle.sum_words.specs.Items.{ByteString, is_readable}
-use Rattle.sum_words.specs.refinement.Pieces.{pieces_cut, CutsAt, AreWords}
+use Rattle.sum_words.specs.refinement.WordBytes.{pieces_cut, CutsAt, AreWords}
 
 -- ---- what can be read
 

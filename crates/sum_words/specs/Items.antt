@@ -5,14 +5,14 @@ use Rattle.std.specs.List.{starts_with, before_first}
 use Rattle.std.specs.Option.{option_map_or}
 use Rattle.std.specs.Str.{byte, is_utf8}
 use Rattle.sum_words.specs.declared.tool.Tool.{Tool}
-pub use Rattle.sum_words.specs.declared.options.Flag.{Flag}
+pub use Rattle.sum_words.specs.declared.parsing.options.Flag.{Flag}
 use Rattle.sum_words.specs.contracts.tool.Tool.{the_type as tool_type}
-use Rattle.sum_words.specs.contracts.options.Flag.{the_type as flag_type}
-pub use Rattle.sum_words.specs.declared.options.Spelling.{Spelling}
-pub use Rattle.sum_words.specs.declared.options.Spelling.TheVariants.{Long, Short}
+use Rattle.sum_words.specs.contracts.parsing.options.Flag.{the_type as flag_type}
+pub use Rattle.sum_words.specs.declared.parsing.options.Spelling.{Spelling}
+pub use Rattle.sum_words.specs.declared.parsing.options.Spelling.TheVariants.{Long, Short}
 use Rattle.sum_words.specs.WordFaults.{WordFaultValue, unknown_long, ambiguous_long, value_not_allowed, value_missing, unknown_short}
 use Rattle.sum_words.specs.declared.tool.Tool.TheVariants as tools
-use Rattle.sum_words.specs.declared.options.Flag.TheVariants as flags
+use Rattle.sum_words.specs.declared.parsing.options.Flag.TheVariants as flags
 
 -- a list of bytes
 abbrev pub ByteString : Type 0

@@ -11,19 +11,19 @@ use Rattle.digest_kinds.specs.declared.algo.Algos.TheVariants.{One, Any}
 use Rattle.digest_kinds.specs.declared.kind.LengthFault.{LengthFault}
 use Rattle.digest_kinds.specs.declared.kind.LengthFault.TheVariants.{TooLong, NotBytes}
 use Rattle.digest_kinds.specs.Kinds.{KindValue, full_kind, blake2b_of_bits}
-pub use Rattle.sum_lines.specs.declared.line_format.Mode.{Mode}
-use Rattle.sum_lines.specs.declared.line_format.Style.{Style}
+pub use Rattle.sum_lines.specs.declared.writing.put_line.Mode.{Mode}
+use Rattle.sum_lines.specs.declared.writing.put_line.Style.{Style}
 pub use Rattle.sum_engine.specs.declared.settings.Report.{Report}
 use Rattle.sum_words.specs.Items.{Flag, ByteString, ItemValue, option, fault, a_word, items_from, option_in, value_in, operand_in}
-use Rattle.sum_words.specs.contracts.options.Flag.{the_type}
-pub use Rattle.sum_words.specs.declared.request.Request.{Request}
-pub use Rattle.sum_words.specs.declared.request.Request.TheVariants.{Work, Help, Version}
-pub use Rattle.sum_words.specs.declared.request.Job.{Job}
-pub use Rattle.sum_words.specs.declared.request.Job.TheVariants.{Generate, Check}
+use Rattle.sum_words.specs.contracts.parsing.options.Flag.{the_type}
+pub use Rattle.sum_words.specs.declared.parsing.request.Request.{Request}
+pub use Rattle.sum_words.specs.declared.parsing.request.Request.TheVariants.{Work, Help, Version}
+pub use Rattle.sum_words.specs.declared.parsing.request.Job.{Job}
+pub use Rattle.sum_words.specs.declared.parsing.request.Job.TheVariants.{Generate, Check}
 use Rattle.sum_words.specs.WordFaults.{WordFaultValue, length_invalid, length_not_bytes, tag_with_text, zero_with_check, tag_with_check, mode_with_check, without_check, check_needed}
-use Rattle.sum_lines.specs.declared.line_format.Mode.TheVariants as modes
+use Rattle.sum_lines.specs.declared.writing.put_line.Mode.TheVariants as modes
 use Rattle.sum_engine.specs.declared.settings.Report.TheVariants as reports
-use Rattle.sum_words.specs.declared.options.Flag.TheVariants as flags
+use Rattle.sum_words.specs.declared.parsing.options.Flag.TheVariants as flags
 
 -- whether an option is among these (by `sameb`, as `==` answers), and whether it is the last of its kind among them
 abbrev pub has : Flag → List Flag → Bool

@@ -1,8 +1,8 @@
 -- What may be wrong with the words of a command line. Each holds what its text shows: a long option's name as it was
 -- typed, an option, how an option was written, a character, or a value.
 use Rattle.std.specs.Prelude.{ℕ, List}
-use Rattle.sum_words.specs.declared.options.Flag.{Flag}
-use Rattle.sum_words.specs.declared.options.Spelling.{Spelling}
+use Rattle.sum_words.specs.declared.parsing.options.Flag.{Flag}
+use Rattle.sum_words.specs.declared.parsing.options.Spelling.{Spelling}
 
 pub data WordFaultValue : Type 0 where
   unknown_long : List ℕ → WordFaultValue

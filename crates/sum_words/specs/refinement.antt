@@ -1,6 +1,6 @@
 -- How the code's values stand for those of the definitions. The headline reaches little of it; contracts of calls that
 -- a user of the crate meets by themselves name some.
 pub mod ItemIterator
-pub mod RequestReading
+pub mod OptionScan
 pub mod Arguments
-pub mod Pieces
+pub mod WordBytes

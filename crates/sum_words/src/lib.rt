@@ -4,21 +4,18 @@
 
 mod arguments;
 mod command_line;
-mod faults;
-mod items;
 pub mod laws;
-mod options;
-mod request;
-mod texts;
+mod messages;
+mod parsing;
 mod tool;
 mod words;
 
 pub use arguments::{Arguments, SystemArguments, ToldArguments};
 pub use command_line::{CommandLine, NotRead, read_command_line};
-pub use faults::{WordFault, put_fault, put_stop, put_unknown};
-pub use items::{Item, Items, Operands};
-pub use options::{Flag, Spelling};
-pub use request::{Job, Request, read_words};
-pub use texts::{put_help, put_version};
+pub use messages::help::{put_help, put_version};
+pub use messages::word_faults::{WordFault, put_fault, put_stop, put_unknown};
+pub use parsing::items::{Item, Items, Operands};
+pub use parsing::options::{Flag, Spelling};
+pub use parsing::request::{Job, Request, read_words};
 pub use tool::Tool;
 pub use words::{LentWords, NoRoom, Words, is_readable};

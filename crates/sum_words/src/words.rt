@@ -4,7 +4,7 @@ ghost use Rattle.std.specs.Prelude.{slice_get, slice_index};
 ghost use Rattle.std.specs.Option.{option_copied};
 ghost use Rattle.std.specs.Str.{is_utf8};
 ghost use Rattle.sum_words.specs.Items.{is_readable};
-ghost use Rattle.sum_words.specs.refinement.Pieces.{pieces_cut, CutsAt};
+ghost use Rattle.sum_words.specs.refinement.WordBytes.{pieces_cut, CutsAt};
 
 use std::alloc::Allocator;
 use std::marker::Model;
@@ -32,7 +32,7 @@ pub struct Words<A: Allocator> {
 
 impl<A: Allocator> Model for Words<A> {
     ghost use Rattle.std.specs.Prelude.{List, ℕ};
-    ghost use Rattle.sum_words.specs.refinement.Pieces.{pieces_cut, AreWords};
+    ghost use Rattle.sum_words.specs.refinement.WordBytes.{pieces_cut, AreWords};
 
     ghost Value = { List (List ℕ) };
 
@@ -55,7 +55,7 @@ impl<A: Allocator + Copy> Words<A> {
 
 impl<A: Allocator> Words<A> {
     /// Adds a text at the end. `NoRoom` where memory is refused; the list is then as it was.
-    #[tactic(auto, using(crate::proofs::PieceLemmas::readable_text))]
+    #[tactic(auto, using(crate::proofs::WordBytesLemmas::readable_text))]
     pub fn add(&mut self, word: &str) -> Result<(), NoRoom>
         ensures ok { OnOk result (self.new ≡ self.old ++ word.now ∷ []) }
         ensures err { OnErr result (self.new ≡ self.old) }
@@ -65,7 +65,7 @@ impl<A: Allocator> Words<A> {
 
     /// Adds a word that can be read ([`is_readable`]) at the end. `NoRoom` where memory is refused; the list is then as
     /// it was.
-    #[tactic(auto, using(crate::proofs::PieceLemmas::pushed))]
+    #[tactic(auto, using(crate::proofs::WordBytesLemmas::pushed))]
     pub fn add_bytes(&mut self, word: &[u8]) -> Result<(), NoRoom>
         requires { is_readable word.now ≡ true }
         ensures ok { OnOk result (self.new ≡ self.old ++ word.now ∷ []) }
@@ -110,7 +110,7 @@ pub struct LentWords<'a> {
 
 impl<'a> Model for LentWords<'a> {
     ghost use Rattle.std.specs.Prelude.{List, ℕ};
-    ghost use Rattle.sum_words.specs.refinement.Pieces.{pieces_cut, AreWords};
+    ghost use Rattle.sum_words.specs.refinement.WordBytes.{pieces_cut, AreWords};
 
     ghost Value = { List (List ℕ) };
 
@@ -121,7 +121,7 @@ impl<'a> Model for LentWords<'a> {
 
 impl<'a> LentWords<'a> {
     /// The word at this place, counted from 0; `None` past the last.
-    #[tactic(auto, using(crate::proofs::PieceLemmas::readable_at))]
+    #[tactic(auto, using(crate::proofs::WordBytesLemmas::readable_at))]
     pub fn get(&self, i: usize) -> Option<&'a [u8]>
         ensures word { option_copied result ≡ slice_get self.now i }
         ensures readable { IfSome result (λ word. is_readable word.now ≡ true) }
@@ -132,7 +132,7 @@ impl<'a> LentWords<'a> {
 }
 
 // The piece of the bytes at a place, `None` past the last.
-#[tactic(auto, using(crate::proofs::PieceLemmas::piece_read))]
+#[tactic(auto, using(crate::proofs::WordBytesLemmas::piece_read))]
 fn piece_at<'a>(bytes: &'a [u8], ends: &'a [usize], i: usize) -> Option<&'a [u8]>
     requires { CutsAt bytes.now 0 ends.now }
     ensures piece { option_copied result ≡ slice_get (pieces_cut bytes.now 0 ends.now) i }

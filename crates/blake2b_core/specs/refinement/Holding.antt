@@ -2,7 +2,7 @@
 use Rattle.std.specs.Prelude.{◌≡◌, ℕ, ◌+◌, ◌*◌, ◌<◌, List, [], length, take, drop, slice_index_or}
 use Rattle.blake2b_core.specs.Digest.{blocks}
 use Rattle.blake2b_core.specs.refinement.Chaining.{hash_after}
-use Rattle.blake2b_core.specs.declared.pieces.Blake2b.{Blake2b}
+use Rattle.blake2b_core.specs.declared.incremental.Blake2b.{Blake2b}
 
 -- bs are blocks of the message m, one after another from block k on
 abbrev pub AreBlocksFrom : List ℕ → ℕ → List (List ℕ) → Type 0

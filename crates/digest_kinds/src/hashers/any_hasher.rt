@@ -4,11 +4,11 @@ ghost use Rattle.std.specs.Prelude.{◌≡◌, []};
 
 use crate::algo::Algo;
 use crate::digest::Digest;
-use crate::hasher::Hasher;
-use crate::kind::Kind;
-use crate::kit_hashers::{
+use crate::hashers::hasher::Hasher;
+use crate::hashers::kit_hashers::{
     Md5Hasher, Sha1Hasher, Sha224Hasher, Sha256Hasher, Sha384Hasher, Sha512Hasher,
 };
+use crate::kind::Kind;
 use blake2b_core::Blake2b;
 
 /// Computes digests of one kind, which is chosen when it is made.

@@ -4,7 +4,7 @@ ghost use Rattle.digest_kinds.specs.Kinds.{blake2b_kind};
 ghost use Rattle.blake2b_core.specs.refinement.Holding.{Holds, digest_len, taken};
 
 use crate::digest::Digest;
-use crate::hasher::Hasher;
+use crate::hashers::hasher::Hasher;
 use crate::kind::Kind;
 use blake2b_core::Blake2b;
 

@@ -3,8 +3,8 @@ use Rattle.std.specs.Prelude.{ℕ, ◌≡◌, ◌⊎◌, [], Option, None, Some,
 use Rattle.std.specs.Io.KnownBytes.{Keeps}
 use Rattle.sum_engine.specs.declared.stop.Stop.{Stop}
 use Rattle.sum_engine.specs.declared.stop.Stop.TheVariants.{Memory, Write}
-use Rattle.sum_lines.specs.Sinks.{SinkState}
-use Rattle.sum_engine.specs.refinement.Telling.{NoneFailed, OneFailed}
+use Rattle.sum_lines.specs.sinks.Sinks.{SinkState}
+use Rattle.sum_engine.specs.refinement.FlushedWrites.{NoneFailed, OneFailed}
 use Rattle.sum_words.specs.Items.{ByteString}
 use Rattle.sum_words.specs.Texts.{stop_line}
 use Rattle.sum_words.specs.declared.tool.Tool.{Tool}

@@ -3,8 +3,8 @@ use Rattle.std.specs.Prelude.{codes}
 use Rattle.sum_words.specs.Items.{ByteString as Bytes}
 use Rattle.sum_words.specs.Texts.{fault_lines, help, version, stop_line}
 use Rattle.sum_words.specs.refinement.ItemIterator.{fault_of}
-use Rattle.digests.specs.declared.telling.Message.{Message}
-use Rattle.digests.specs.declared.telling.Message.TheVariants as texts
+use Rattle.digests.specs.declared.messages.Message.{Message}
+use Rattle.digests.specs.declared.messages.Message.TheVariants as texts
 
 abbrev pub message_text : Message → Bytes
 message_text (texts.Fault tool fault) = fault_lines tool (fault_of fault.now)

@@ -3,8 +3,8 @@ use Rattle.std.specs.Prelude.{ℕ, ◌≡◌, Bool, List, Result, Ok, Err}
 use Rattle.sum_sources.specs.Contents.{SourceState, IfKnown}
 use Rattle.sum_engine.specs.declared.stop.Stop.{Stop}
 use Rattle.sum_engine.specs.declared.stop.Stop.TheVariants.{Write}
-use Rattle.sum_engine.specs.Runs.{World, Behavior, behavior_then, trace}
-use Rattle.sum_engine.specs.Moments.{StreamsState, KnownState, known_state, Happened}
+use Rattle.sum_engine.specs.Behavior.{World, Behavior, behavior_then, trace}
+use Rattle.sum_engine.specs.Execution.{StreamsState, KnownState, known_state, Happened}
 use Rattle.sum_words.specs.Items.{ByteString}
 use Rattle.digests.specs.Meaning.{operands_behavior}
 

@@ -1,17 +1,17 @@
 -- What a checker's steps come to: a whole manifest; and the laws of its steps, of what comes first, and of the end.
 use Rattle.std.specs.Prelude.{ℕ, zero, suc, ◌≡◌, ◌+◌, ◌≤◌, Bool, true, List, take, drop, length, flat_map, Option, Result, IfSome, ◌++◌, None, Ok, Err}
 use Rattle.std.specs.Io.KnownBytes.{Appends}
-use Rattle.sum_sources.specs.declared.lines.LineStop.TheVariants.{Fault}
+use Rattle.sum_sources.specs.declared.line_reader.LineStop.TheVariants.{Fault}
 use Rattle.sum_sources.specs.Contents.{Content, IfKnown, SourceState}
 use Rattle.sum_sources.specs.ManifestLines.{past_lines}
-use Rattle.sum_lines.specs.Entries.{form}
-use Rattle.sum_engine.specs.Moments.{Stop, StreamsState, IsFlushed, KnownState, known_state, Happened, PrefixHappened, PerformsSteps}
-use Rattle.sum_engine.specs.Runs.{after, Behavior, trace, out_text, err_text, asks, Ending, Whole, Broken, World}
-use Rattle.sum_engine.specs.Verdicts.{lines_by, Rules, LineVerdictValue, asks_of, all_verdicts, verdicts}
-use Rattle.sum_engine.specs.Reports.{out_of, err_of}
-use Rattle.sum_engine.specs.Checking.{line_steps, content_behavior}
-use Rattle.sum_engine.specs.Steps.{CheckState, LineHandled, StepDone, LastStepDone, StepFailed, remaining_behavior, initial_state}
-use Rattle.sum_engine.specs.LineVerdicts.{LineStop, LineVerdict, NoVerdictLeft, NextVerdictIs}
+use Rattle.sum_lines.specs.grammar.Entries.{form}
+use Rattle.sum_engine.specs.Execution.{Stop, StreamsState, IsFlushed, KnownState, known_state, Happened, PrefixHappened, PerformsSteps}
+use Rattle.sum_engine.specs.Behavior.{after, Behavior, trace, out_text, err_text, asks, Ending, Whole, Broken, World}
+use Rattle.sum_engine.specs.check.Verdicts.{lines_by, Rules, LineVerdictValue, asks_of, all_verdicts, verdicts}
+use Rattle.sum_engine.specs.check.Reports.{out_of, err_of}
+use Rattle.sum_engine.specs.check.Checking.{line_steps, content_behavior}
+use Rattle.sum_engine.specs.check.CheckerSteps.{CheckState, LineHandled, StepDone, LastStepDone, StepFailed, remaining_behavior, initial_state}
+use Rattle.sum_engine.specs.check.NextVerdict.{LineStop, LineVerdict, NoVerdictLeft, NextVerdictIs}
 
 -- a new checker that was run to its end, from outputs that held nothing
 abbrev pub ManifestPerforms :

@@ -1,20 +1,20 @@
 -- A checker: where it stands in its manifest, what is still to come there, and what its next step does.
 use Rattle.std.specs.Prelude.{ℕ, ◌≡◌, ◌+◌, ◌≤◌, ◌⊎◌, ◌<◌, Bool, List, [], ◌∷◌, length, Option, None, Some, Result, Ok, Err, IfSome, true, option_map}
 use Rattle.digest_kinds.specs.Limits.{one_more}
-use Rattle.sum_sources.specs.declared.lines.LineReader.{LineReader}
+use Rattle.sum_sources.specs.declared.line_reader.LineReader.{LineReader}
 use Rattle.sum_sources.specs.Contents.{Content, IfKnown, SourceState, InputState, clip}
 use Rattle.sum_sources.specs.ManifestLines.{past_line, NoNewline}
 use Rattle.sum_sources.specs.LineReaders.{remaining_content, consumed, Bounded}
-use Rattle.sum_lines.specs.declared.line_reading.Form.TheVariants.{Undecided}
-use Rattle.sum_lines.specs.Entries.{form_then, line_form, form}
-use Rattle.sum_lines.specs.ParsedLines.{parse_line}
-pub use Rattle.sum_engine.specs.declared.progress.Progress.{Progress}
-pub use Rattle.sum_engine.specs.declared.progress.Progress.TheVariants.{Going, Ended}
-use Rattle.sum_engine.specs.Verdicts.{Form, lines_by, Rules, LineVerdictValue, judge, verdicts}
-use Rattle.sum_engine.specs.Moments.{Stop, Memory, Write, KnownState, Happened, PrefixHappened, RefusedAt, StreamsState, IsFlushed, known_state}
-use Rattle.sum_engine.specs.Reports.{Counts, counts, end_text, good, counts_with, no_counts}
-use Rattle.sum_engine.specs.Runs.{Step, Behavior, events_of}
-use Rattle.sum_engine.specs.Checking.{line_steps}
+use Rattle.sum_lines.specs.declared.reading.read_line.Form.TheVariants.{Undecided}
+use Rattle.sum_lines.specs.grammar.Entries.{form_then, line_form, form}
+use Rattle.sum_lines.specs.grammar.ParsedLines.{parse_line}
+pub use Rattle.sum_engine.specs.declared.check.progress.Progress.{Progress}
+pub use Rattle.sum_engine.specs.declared.check.progress.Progress.TheVariants.{Going, Ended}
+use Rattle.sum_engine.specs.check.Verdicts.{Form, lines_by, Rules, LineVerdictValue, judge, verdicts}
+use Rattle.sum_engine.specs.Execution.{Stop, Memory, Write, KnownState, Happened, PrefixHappened, RefusedAt, StreamsState, IsFlushed, known_state}
+use Rattle.sum_engine.specs.check.Reports.{Counts, counts, end_text, good, counts_with, no_counts}
+use Rattle.sum_engine.specs.Behavior.{Step, Behavior, events_of}
+use Rattle.sum_engine.specs.check.Checking.{line_steps}
 
 -- what is still to come of the manifest, the lines handled and the bytes that they used, the form and the counts
 -- so far, and the run state

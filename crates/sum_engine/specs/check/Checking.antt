@@ -2,11 +2,11 @@
 use Rattle.std.specs.Prelude.{ℕ, true, false, List, [], ◌∷◌, length, codes, if◌then◌else◌, Ok, Err}
 use Rattle.sum_sources.specs.Contents.{Content, clip, Reply}
 use Rattle.sum_sources.specs.ManifestLines.{past_line}
-use Rattle.sum_engine.specs.Verdicts.{CheckSettings, Rules, LineVerdictValue, asks_of, all_verdicts}
-use Rattle.sum_engine.specs.Runs.{World, is_dash, reply, after, behavior_then, Step, Behavior, single_step}
+use Rattle.sum_engine.specs.check.Verdicts.{CheckSettings, Rules, LineVerdictValue, asks_of, all_verdicts}
+use Rattle.sum_engine.specs.Behavior.{World, is_dash, reply, after, behavior_then, Step, Behavior, single_step}
 use Rattle.sum_lines.specs.Escape.{present}
 use Rattle.sum_engine.specs.Generation.{fault_line}
-use Rattle.sum_engine.specs.Reports.{no_counts, out_of, err_of, counts, end_text, good}
+use Rattle.sum_engine.specs.check.Reports.{no_counts, out_of, err_of, counts, end_text, good}
 
 abbrev pub rules_of : CheckSettings → List ℕ → List ℕ → Rules
 rules_of settings tool name =

@@ -1,16 +1,16 @@
 -- What judging the lines of a manifest gives, one after the other, with no text written.
 use Rattle.std.specs.Prelude.{ℕ, ◌≡◌, ◌≤◌, ◌<◌, ◌⊎◌, List, [], ◌∷◌, map, length, slice_range, Bool, true, false, is_none, Option, None, Some, Result, Ok, Err}
-use Rattle.sum_engine.specs.Runs.{Ending, Whole, Broken, open_name}
-pub use Rattle.sum_sources.specs.declared.lines.LineStop.{LineStop}
-use Rattle.sum_sources.specs.declared.lines.LineStop.TheVariants.{Fault, Memory}
+use Rattle.sum_engine.specs.Behavior.{Ending, Whole, Broken, open_name}
+pub use Rattle.sum_sources.specs.declared.line_reader.LineStop.{LineStop}
+use Rattle.sum_sources.specs.declared.line_reader.LineStop.TheVariants.{Fault, Memory}
 use Rattle.sum_sources.specs.Contents.{InputState, IfKnown, stdin_state}
-use Rattle.sum_lines.specs.Sinks.{SinkState}
+use Rattle.sum_lines.specs.sinks.Sinks.{SinkState}
 use Rattle.digest_kinds.specs.Limits.{one_more}
-use Rattle.sum_engine.specs.Moments.{StreamsState, KnownState, Stop, Happened}
-use Rattle.sum_engine.specs.Steps.{Progress, Going, Ended, CheckState, LineHandled, remaining_verdicts}
-pub use Rattle.sum_engine.specs.declared.verdict.LineVerdict.{LineVerdict}
-use Rattle.sum_engine.specs.Verdicts.{Rules, LineVerdictValue, asks_of}
-use Rattle.sum_engine.specs.Reports.{counts_with}
+use Rattle.sum_engine.specs.Execution.{StreamsState, KnownState, Stop, Happened}
+use Rattle.sum_engine.specs.check.CheckerSteps.{Progress, Going, Ended, CheckState, LineHandled, remaining_verdicts}
+pub use Rattle.sum_engine.specs.declared.check.judge.LineVerdict.{LineVerdict}
+use Rattle.sum_engine.specs.check.Verdicts.{Rules, LineVerdictValue, asks_of}
+use Rattle.sum_engine.specs.check.Reports.{counts_with}
 use Rattle.sum_engine.specs.declared.stop.Stop.TheVariants as stops
 
 -- what is answered where the next verdict is asked for

@@ -1,15 +1,15 @@
 -- What the law of old verdicts says: a manifest of the time of older versions is checked alike under both profiles.
 use Rattle.std.specs.Prelude.{ℕ, ◌≡◌, ◌≢◌, ◌<◌, ◌⊎◌, true, false, List, [], ◌∷◌, ◌++◌, length, map, codes, All, Ok}
 use Rattle.digest_kinds.specs.Kinds.{KindValue}
-use Rattle.sum_engine.specs.Reports.{Algos, no_counts, out_of, err_of, counts, end_text, good}
-use Rattle.sum_engine.specs.Runs.{Whole, World}
+use Rattle.sum_engine.specs.check.Reports.{Algos, no_counts, out_of, err_of, counts, end_text, good}
+use Rattle.sum_engine.specs.Behavior.{Whole, World}
 use Rattle.sum_sources.specs.Contents.{Content, clip, Reply}
 use Rattle.sum_sources.specs.ManifestLines.{raw_lines}
-use Rattle.sum_engine.specs.Verdicts.{Form, lines_by, Rules, all_verdicts}
+use Rattle.sum_engine.specs.check.Verdicts.{Form, lines_by, Rules, all_verdicts}
 use Rattle.sum_lines.specs.Escape.{Profile, present, escape, escape_by}
-use Rattle.sum_lines.specs.Shapes.{Plain, Tagged}
-use Rattle.sum_lines.specs.ParsedLines.{bad, parse_line}
-use Rattle.sum_engine.specs.Checking.{check_behavior_by}
+use Rattle.sum_lines.specs.grammar.Shapes.{Plain, Tagged}
+use Rattle.sum_lines.specs.grammar.ParsedLines.{bad, parse_line}
+use Rattle.sum_engine.specs.check.Checking.{check_behavior_by}
 
 -- the profile of older versions
 abbrev pub older : Profile

@@ -2,13 +2,13 @@
 use Rattle.std.specs.Prelude.{ℕ, ◌+◌, ◌==◌, ◌&&◌, ◌||◌, Bool, true, false, not, List, [], ◌∷◌, ◌++◌, decimal, codes, fold, if◌then◌else◌}
 use Rattle.std.specs.List.{concat}
 pub use Rattle.digest_kinds.specs.declared.algo.Algos.{Algos}
-use Rattle.sum_lines.specs.Shapes.{One, Any, mark}
+use Rattle.sum_lines.specs.grammar.Shapes.{One, Any, mark}
 use Rattle.digest_kinds.specs.Kinds.{tag}
-use Rattle.sum_engine.specs.Runs.{Ending, Whole, Broken}
+use Rattle.sum_engine.specs.Behavior.{Ending, Whole, Broken}
 pub use Rattle.sum_engine.specs.declared.settings.Report.{Report}
 use Rattle.sum_engine.specs.declared.settings.Report.TheVariants.{Quiet, Warn, Status}
-pub use Rattle.sum_engine.specs.declared.summary.Counts.{Counts}
-use Rattle.sum_engine.specs.Verdicts.{Verdict, Ignored, Bad, Right, Wrong, Missing, Unread, Rules, LineVerdictValue}
+pub use Rattle.sum_engine.specs.declared.check.summary.Counts.{Counts}
+use Rattle.sum_engine.specs.check.Verdicts.{Verdict, Ignored, Bad, Right, Wrong, Missing, Unread, Rules, LineVerdictValue}
 use Rattle.sum_lines.specs.Escape.{Profile, present, escape_by, escape_differs}
 use Rattle.sum_engine.specs.Generation.{tool_line, fault_line}
 

@@ -1,16 +1,16 @@
 -- The verdicts of a manifest's lines.
 use Rattle.std.specs.Prelude.{ℕ, ◌+◌, ◌&&◌, Bool, true, false, List, [], ◌∷◌, Result, Ok, Err, if◌then◌else◌, bytes_eq}
-use Rattle.sum_engine.specs.Runs.{Fault, World, is_dash, reply, after, digest_or_fault}
+use Rattle.sum_engine.specs.Behavior.{Fault, World, is_dash, reply, after, digest_or_fault}
 use Rattle.sum_sources.specs.declared.fault.Fault.TheVariants.{NotFound}
 use Rattle.sum_sources.specs.Contents.{Content, Reply}
 use Rattle.sum_sources.specs.ManifestLines.{lines, raw_lines}
-pub use Rattle.sum_lines.specs.declared.line_reading.Form.{Form}
-use Rattle.sum_lines.specs.Entries.{EntryValue, form}
+pub use Rattle.sum_lines.specs.declared.reading.read_line.Form.{Form}
+use Rattle.sum_lines.specs.grammar.Entries.{EntryValue, form}
 pub use Rattle.sum_engine.specs.declared.settings.CheckSettings.{CheckSettings}
-pub use Rattle.sum_engine.specs.declared.verdict.Verdict.{Verdict}
-pub use Rattle.sum_engine.specs.declared.verdict.Verdict.TheVariants.{Ignored, Bad, Right, Wrong, Missing, Unread}
+pub use Rattle.sum_engine.specs.declared.check.judge.Verdict.{Verdict}
+pub use Rattle.sum_engine.specs.declared.check.judge.Verdict.TheVariants.{Ignored, Bad, Right, Wrong, Missing, Unread}
 use Rattle.sum_lines.specs.Escape.{Profile}
-use Rattle.sum_lines.specs.ParsedLines.{ParsedLine, ignored, bad, entry, parse_line}
+use Rattle.sum_lines.specs.grammar.ParsedLines.{ParsedLine, ignored, bad, entry, parse_line}
 
 -- what a manifest is checked by, the name under which it is shown, and whether it came from standard input
 pub record Rules : Type 0 where

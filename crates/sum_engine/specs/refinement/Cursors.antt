@@ -1,9 +1,9 @@
 -- Joins what a manifest is listed as to its rules, and a position to the place that callers see.
-use Rattle.sum_engine.specs.declared.listing.CheckRules.{CheckRules}
-use Rattle.sum_engine.specs.declared.position.CheckCursor.{CheckCursor}
+use Rattle.sum_engine.specs.declared.check.rules.CheckRules.{CheckRules}
+use Rattle.sum_engine.specs.declared.check.cursor.CheckCursor.{CheckCursor}
 use Rattle.sum_lines.specs.Escape.{present}
-use Rattle.sum_engine.specs.Verdicts.{Rules}
-use Rattle.sum_engine.specs.Steps.{CursorValue}
+use Rattle.sum_engine.specs.check.Verdicts.{Rules}
+use Rattle.sum_engine.specs.check.CheckerSteps.{CursorValue}
 
 abbrev pub rules_in : CheckRules → Rules
 rules_in l = record {

@@ -1,12 +1,12 @@
 -- Joins the writing of a text to its being handed on at once, by outputs that hold nothing.
 use Rattle.std.specs.Prelude.{ℕ, ◌≡◌, ◌⊎◌, List, [], Option, Result, Ok, Err, if◌then◌else◌}
 use Rattle.std.specs.Io.KnownBytes.{Appends}
-use Rattle.sum_lines.specs.Sinks.{SinkState}
+use Rattle.sum_lines.specs.sinks.Sinks.{SinkState}
 use Rattle.digest_kinds.specs.Limits.{one_more}
-use Rattle.sum_lines.specs.refinement.GrowingSinks.{AppendsPrefix}
+use Rattle.sum_lines.specs.refinement.SinkStates.{AppendsPrefix}
 use Rattle.sum_lines.specs.Escape.{Profile}
-use Rattle.sum_engine.specs.Reports.{Report, is_hidden, verdict_line}
-use Rattle.sum_engine.specs.declared.verdict.Verdict.{Verdict}
+use Rattle.sum_engine.specs.check.Reports.{Report, is_hidden, verdict_line}
+use Rattle.sum_engine.specs.declared.check.judge.Verdict.{Verdict}
 
 -- all of the text was handed on, or a prefix of it where a call failed
 abbrev pub WritesOrPrefix : {E : Type 0} → Option (List ℕ) → Option (List ℕ) → List ℕ → Result (Unit {0}) E → Type 0

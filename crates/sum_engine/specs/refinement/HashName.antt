@@ -2,11 +2,11 @@
 use Rattle.std.specs.Prelude.{ℕ, ◌≡◌, List, [], ◌∷◌, length, Option, None, Some, Ok, Err, ⊤}
 use Rattle.digest_kinds.specs.Kinds.{KindValue}
 use Rattle.sum_sources.specs.Contents.{Content, IfKnown, Reply, SourceState, KnownSource}
-use Rattle.sum_engine.specs.Moments.{StreamsState}
+use Rattle.sum_engine.specs.Execution.{StreamsState}
 use Rattle.digest_kinds.specs.Limits.{one_more}
-pub use Rattle.sum_engine.specs.declared.asking.HashOutcome.{HashOutcome}
-use Rattle.sum_engine.specs.Runs.{World, after, digest_or_fault, reply}
-use Rattle.sum_engine.specs.declared.asking.HashOutcome.TheVariants as asked
+pub use Rattle.sum_engine.specs.declared.hash_name.HashOutcome.{HashOutcome}
+use Rattle.sum_engine.specs.Behavior.{World, after, digest_or_fault, reply}
+use Rattle.sum_engine.specs.declared.hash_name.HashOutcome.TheVariants as asked
 
 -- the world at a moment, where the source and standard input tell
 abbrev pub world_by : Option KnownSource → Option Content → Option World

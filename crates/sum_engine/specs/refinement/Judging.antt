@@ -1,16 +1,16 @@
 -- Joins what the code finds of a line to what the line says, and to its verdict.
 use Rattle.std.specs.Prelude.{ℕ, ◌≡◌, Bool, List, [], Option, None, Some, if◌then◌else◌, bytes_eq}
 use Rattle.sum_sources.specs.declared.fault.Fault.TheVariants.{NotFound, Denied, Other}
-use Rattle.sum_lines.specs.Entries.{EntryValue, form_then, line_form}
-use Rattle.sum_engine.specs.declared.verdict.ListedEntry.{ListedEntry}
-use Rattle.sum_engine.specs.declared.asking.HashOutcome.{HashOutcome}
-use Rattle.sum_engine.specs.Verdicts.{Verdict, Right, Wrong, Missing, Unread, Rules, judge, asks_by, asks_of}
-use Rattle.sum_lines.specs.ParsedLines.{ParsedLine, ignored, bad, entry, parse_line}
-use Rattle.sum_engine.specs.Runs.{World, after}
-use Rattle.sum_engine.specs.Reports.{Counts, counts_with}
-use Rattle.sum_engine.specs.LineVerdicts.{LineVerdict, line_verdict_value}
-use Rattle.sum_engine.specs.Steps.{CursorValue}
-use Rattle.sum_engine.specs.declared.asking.HashOutcome.TheVariants as asked
+use Rattle.sum_lines.specs.grammar.Entries.{EntryValue, form_then, line_form}
+use Rattle.sum_engine.specs.declared.check.judge.ListedEntry.{ListedEntry}
+use Rattle.sum_engine.specs.declared.hash_name.HashOutcome.{HashOutcome}
+use Rattle.sum_engine.specs.check.Verdicts.{Verdict, Right, Wrong, Missing, Unread, Rules, judge, asks_by, asks_of}
+use Rattle.sum_lines.specs.grammar.ParsedLines.{ParsedLine, ignored, bad, entry, parse_line}
+use Rattle.sum_engine.specs.Behavior.{World, after}
+use Rattle.sum_engine.specs.check.Reports.{Counts, counts_with}
+use Rattle.sum_engine.specs.check.NextVerdict.{LineVerdict, line_verdict_value}
+use Rattle.sum_engine.specs.check.CheckerSteps.{CursorValue}
+use Rattle.sum_engine.specs.declared.hash_name.HashOutcome.TheVariants as asked
 
 -- what an entry spells
 abbrev pub listed_entry : ListedEntry → EntryValue

@@ -1,18 +1,18 @@
 //! Checking one manifest.
 ghost use Rattle.std.specs.Option.{option_map};
 ghost use Rattle.sum_sources.specs.Contents.{clip};
-ghost use Rattle.sum_engine.specs.Checking.{check_behavior};
+ghost use Rattle.sum_engine.specs.check.Checking.{check_behavior};
 ghost use Rattle.std.specs.Prelude.{◌≡◌, ◌⊎◌};
 ghost use Rattle.digest_kinds.specs.Limits.{one_more};
-ghost use Rattle.sum_engine.specs.Moments.{IsFlushed, FailuresMatch, RefusalsMatch, StopHasCause, Performs};
-ghost use Rattle.sum_engine.specs.Manifests.{ManifestPerforms};
-ghost use Rattle.sum_engine.specs.refinement.Positions.{rules_in};
+ghost use Rattle.sum_engine.specs.Execution.{IsFlushed, FailuresMatch, RefusalsMatch, StopHasCause, Performs};
+ghost use Rattle.sum_engine.specs.check.CheckerLaws.{ManifestPerforms};
+ghost use Rattle.sum_engine.specs.refinement.Cursors.{rules_in};
 
-use crate::asking::is_dash;
-use crate::checker::Checker;
-use crate::listing::CheckRules;
-use crate::progress::Progress;
-use crate::report::put_fault_line;
+use crate::check::checker::Checker;
+use crate::check::progress::Progress;
+use crate::check::report::put_fault_line;
+use crate::check::rules::CheckRules;
+use crate::hash_name::is_dash;
 use crate::settings::CheckSettings;
 use crate::stop::Stop;
 use crate::streams::Streams;

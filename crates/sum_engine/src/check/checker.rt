@@ -1,11 +1,11 @@
 //! Checking a manifest, a line at a time.
 ghost use Rattle.std.specs.Prelude.{◌≡◌, ◌≤◌, [], None, Some, Err, Ok, Option, IfSome};
 ghost use Rattle.sum_lines.specs.Escape.{present};
-ghost use Rattle.sum_engine.specs.Steps.{MemoryStopHasCause};
+ghost use Rattle.sum_engine.specs.check.CheckerSteps.{MemoryStopHasCause};
 
-use crate::listing::CheckRules;
-use crate::position::CheckCursor;
-use crate::progress::Progress;
+use crate::check::cursor::CheckCursor;
+use crate::check::progress::Progress;
+use crate::check::rules::CheckRules;
 use crate::settings::CheckSettings;
 use crate::stop::Stop;
 use crate::streams::Streams;
@@ -25,22 +25,22 @@ pub struct Checker<'a, I> {
 
 impl<'a, I> Model for Checker<'a, I> {
     ghost use Rattle.std.specs.Prelude.{Result};
-    ghost use Rattle.sum_engine.specs.declared.progress.Progress.{Progress};
+    ghost use Rattle.sum_engine.specs.declared.check.progress.Progress.{Progress};
     ghost use Rattle.sum_engine.specs.declared.stop.Stop.{Stop};
-    ghost use Rattle.sum_engine.specs.Steps.{CheckerValue};
+    ghost use Rattle.sum_engine.specs.check.CheckerSteps.{CheckerValue};
 
     ghost Value = { CheckerValue I (Result Progress Stop) };
 
-    ghost use Rattle.sum_engine.specs.refinement.Positions.{cursor_value};
+    ghost use Rattle.sum_engine.specs.refinement.Cursors.{cursor_value};
 
     ghost view = { λ c. record { cursor = cursor_value c.position; final_answer = c.final_answer } };
 }
 
 impl<'a, I: Input> Checker<'a, I> {
     ghost use Rattle.sum_sources.specs.LineReaders.{remaining_content};
-    ghost use Rattle.sum_engine.specs.Moments.{IsFlushed, FailuresMatch, NoOutputOnMemory};
-    ghost use Rattle.sum_engine.specs.Steps.{IsAtStart, final_answer_of_step, PerformsStep, AdvancesReader};
-    ghost use Rattle.sum_engine.specs.refinement.Positions.{rules_in};
+    ghost use Rattle.sum_engine.specs.Execution.{IsFlushed, FailuresMatch, NoOutputOnMemory};
+    ghost use Rattle.sum_engine.specs.check.CheckerSteps.{IsAtStart, final_answer_of_step, PerformsStep, AdvancesReader};
+    ghost use Rattle.sum_engine.specs.refinement.Cursors.{rules_in};
 
     /// A checker of the manifest that `input` gives. Its diagnostics begin with `tool`, as with `md5sum`, and call the
     /// manifest `shown`; `from_stdin` says whether it came from standard input, where a line that names `-` is

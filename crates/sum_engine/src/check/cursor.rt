@@ -2,15 +2,15 @@
 ghost use Rattle.std.specs.Prelude.{◌≡◌, ◌≤◌, ◌<◌, ◌||◌, Ok, Err, None, [], length, Option, MatchOption};
 ghost use Rattle.std.specs.Prelude.{is_none, IfSome, IfOk};
 ghost use Rattle.digest_kinds.specs.Limits.{LIMIT};
-ghost use Rattle.sum_engine.specs.Reports.{total, counts_with};
+ghost use Rattle.sum_engine.specs.check.Reports.{total, counts_with};
 
-use crate::listing::CheckRules;
-use crate::progress::Progress;
-use crate::report::{put_fault_line, put_report};
+use crate::check::judge::{LineVerdict, ListedEntry, Verdict, judge};
+use crate::check::progress::Progress;
+use crate::check::report::{put_fault_line, put_report};
+use crate::check::rules::CheckRules;
+use crate::check::summary::{Counts, is_good, put_summary};
 use crate::stop::Stop;
 use crate::streams::Streams;
-use crate::summary::{Counts, is_good, put_summary};
-use crate::verdict::{LineVerdict, ListedEntry, Verdict, judge};
 use digest_kinds::LIMIT;
 use std::alloc::Allocator;
 use sum_lines::{Form, Reading, Sink, read_line};
@@ -31,17 +31,17 @@ pub(crate) struct CheckCursor<'a, I> {
 impl<'a, I: Input> CheckCursor<'a, I> {
     ghost use Rattle.sum_sources.specs.Contents.{IfKnown};
     ghost use Rattle.sum_sources.specs.LineReaders.{remaining_content};
-    ghost use Rattle.sum_engine.specs.Moments.{known_state, IsFlushed, FailuresMatch, NoOutputOnMemory};
-    ghost use Rattle.sum_engine.specs.Steps.{MemoryStopHasCause, IsAtStart, check_state, PerformsStep, AdvancesReader};
+    ghost use Rattle.sum_engine.specs.Execution.{known_state, IsFlushed, FailuresMatch, NoOutputOnMemory};
+    ghost use Rattle.sum_engine.specs.check.CheckerSteps.{MemoryStopHasCause, IsAtStart, check_state, PerformsStep, AdvancesReader};
     ghost use Rattle.sum_sources.specs.declared.fault.Ending.TheVariants.{Whole};
-    ghost use Rattle.sum_engine.specs.Reports.{good};
+    ghost use Rattle.sum_engine.specs.check.Reports.{good};
     ghost use Rattle.std.specs.List.{list_any};
-    ghost use Rattle.sum_engine.specs.Runs.{is_dash};
-    ghost use Rattle.sum_engine.specs.Verdicts.{asks_of};
-    ghost use Rattle.sum_engine.specs.refinement.Asking.{RefusedUnless, world_of};
-    ghost use Rattle.sum_engine.specs.LineVerdicts.{line_verdict_value, HasNameRange, NextVerdictIfKnown, progress_of, lent_streams};
+    ghost use Rattle.sum_engine.specs.Behavior.{is_dash};
+    ghost use Rattle.sum_engine.specs.check.Verdicts.{asks_of};
+    ghost use Rattle.sum_engine.specs.refinement.HashName.{RefusedUnless, world_of};
+    ghost use Rattle.sum_engine.specs.check.NextVerdict.{line_verdict_value, HasNameRange, NextVerdictIfKnown, progress_of, lent_streams};
     ghost use Rattle.sum_engine.specs.refinement.Judging.{TakesLine, JudgeLineOf};
-    ghost use Rattle.sum_engine.specs.refinement.Positions.{rules_in, cursor_value};
+    ghost use Rattle.sum_engine.specs.refinement.Cursors.{rules_in, cursor_value};
 
     /// In front of the first line of the manifest that `input` gives.
     pub(crate) fn new(listing: CheckRules<'a>, input: I) -> Self

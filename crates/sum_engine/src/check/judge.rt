@@ -1,14 +1,14 @@
 //! The verdict of a line.
 ghost use Rattle.std.specs.Prelude.{◌≡◌, ◌||◌, MatchOption, is_none};
 ghost use Rattle.std.specs.List.{list_any};
-ghost use Rattle.sum_engine.specs.Runs.{is_dash};
-ghost use Rattle.sum_engine.specs.Verdicts.{asks_by};
-ghost use Rattle.sum_lines.specs.ParsedLines.{entry};
-ghost use Rattle.sum_engine.specs.LineVerdicts.{lent_streams};
-ghost use Rattle.sum_engine.specs.refinement.Asking.{RefusedUnless, world_of};
+ghost use Rattle.sum_engine.specs.Behavior.{is_dash};
+ghost use Rattle.sum_engine.specs.check.Verdicts.{asks_by};
+ghost use Rattle.sum_lines.specs.grammar.ParsedLines.{entry};
+ghost use Rattle.sum_engine.specs.check.NextVerdict.{lent_streams};
+ghost use Rattle.sum_engine.specs.refinement.HashName.{RefusedUnless, world_of};
 
-use crate::asking::{HashOutcome, hash_name, is_dash};
-use crate::listing::CheckRules;
+use crate::check::rules::CheckRules;
+use crate::hash_name::{HashOutcome, hash_name, is_dash};
 use digest_kinds::{Digest, Kind};
 use sum_sources::{Fault, Input, PIECE, Source, Stdin};
 
@@ -39,7 +39,7 @@ pub struct LineVerdict {
     pub stop: usize,
 }
 
-ghost use Rattle.sum_engine.specs.refinement.Positions.{rules_in};
+ghost use Rattle.sum_engine.specs.refinement.Cursors.{rules_in};
 ghost use Rattle.sum_sources.specs.Contents.{IfKnown};
 ghost use Rattle.sum_engine.specs.refinement.Judging.{JudgeOf, verdict_of_outcome, listed_entry};
 

@@ -2,16 +2,16 @@
 ghost use Rattle.std.specs.Prelude.{◌≡◌, [], ◌∷◌, MatchResult};
 ghost use Rattle.std.specs.List.{concat};
 ghost use Rattle.sum_lines.specs.Escape.{present, escape, escape_differs};
-ghost use Rattle.sum_lines.specs.Shapes.{mark};
+ghost use Rattle.sum_lines.specs.grammar.Shapes.{mark};
 ghost use Rattle.sum_engine.specs.Generation.{tool_line, fault_line};
-ghost use Rattle.sum_engine.specs.Reports.{verdict_line, bad_line, err_by};
-ghost use Rattle.sum_engine.specs.refinement.Positions.{rules_in};
-ghost use Rattle.sum_engine.specs.refinement.Telling.{out_by, WritesAndFlushes, WritesBoth, NoneFailed, OneFailed};
+ghost use Rattle.sum_engine.specs.check.Reports.{verdict_line, bad_line, err_by};
+ghost use Rattle.sum_engine.specs.refinement.Cursors.{rules_in};
+ghost use Rattle.sum_engine.specs.refinement.FlushedWrites.{out_by, WritesAndFlushes, WritesBoth, NoneFailed, OneFailed};
 
-use crate::listing::CheckRules;
+use crate::check::judge::Verdict;
+use crate::check::rules::CheckRules;
+use crate::put_flushed::put_parts_flushed;
 use crate::settings::Report;
-use crate::telling::put_parts_flushed;
-use crate::verdict::Verdict;
 use digest_kinds::Algos;
 use sum_lines::{Part, Sink, SinkFault, needs_escape};
 use sum_sources::Fault;
@@ -158,7 +158,7 @@ fn put_bad_line<E: Sink>(err: &mut E, listing: &CheckRules, number: u64) -> Resu
     )
 }
 
-ghost use Rattle.sum_engine.specs.Reports.{tag_word};
+ghost use Rattle.sum_engine.specs.check.Reports.{tag_word};
 
 // What stands for the tag in a report.
 fn tag_word(algos: Algos) -> &'static str

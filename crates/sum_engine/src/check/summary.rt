@@ -1,11 +1,11 @@
 //! The end of a manifest.
 ghost use Rattle.std.specs.Prelude.{◌≡◌, ◌<◌, ◌^◌};
 
-use crate::listing::CheckRules;
-use crate::report::put_tool_line;
+use crate::check::judge::Verdict;
+use crate::check::report::put_tool_line;
+use crate::check::rules::CheckRules;
+use crate::put_flushed::put_parts_flushed;
 use crate::settings::Report;
-use crate::telling::put_parts_flushed;
-use crate::verdict::Verdict;
 use sum_lines::{Part, Sink, SinkFault};
 
 /// How many lines of a manifest have each verdict but `Ignored`.
@@ -18,10 +18,10 @@ pub(crate) struct Counts {
     pub bad: u64,
 }
 
-ghost use Rattle.sum_engine.specs.Reports.{warning, warnings, unverified_line, end_text, good};
-ghost use Rattle.sum_engine.specs.Reports.{entries, total, counts_with, no_counts};
-ghost use Rattle.sum_engine.specs.refinement.Positions.{rules_in};
-ghost use Rattle.sum_engine.specs.refinement.Telling.{WritesAndFlushes};
+ghost use Rattle.sum_engine.specs.check.Reports.{warning, warnings, unverified_line, end_text, good};
+ghost use Rattle.sum_engine.specs.check.Reports.{entries, total, counts_with, no_counts};
+ghost use Rattle.sum_engine.specs.refinement.Cursors.{rules_in};
+ghost use Rattle.sum_engine.specs.refinement.FlushedWrites.{WritesAndFlushes};
 ghost use Rattle.sum_sources.specs.declared.fault.Ending.TheVariants.{Whole};
 
 impl Counts {

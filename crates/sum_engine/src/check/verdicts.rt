@@ -2,14 +2,14 @@
 ghost use Rattle.std.specs.Prelude.{◌≡◌, ◌≤◌, ◌&&◌, [], None, IfOk, IfSome};
 ghost use Rattle.std.specs.Option.{option_and_then};
 ghost use Rattle.sum_lines.specs.Escape.{present};
-ghost use Rattle.sum_engine.specs.LineVerdicts.{final_answer_of_next};
-ghost use Rattle.sum_engine.specs.Steps.{MemoryStopHasCause};
+ghost use Rattle.sum_engine.specs.check.NextVerdict.{final_answer_of_next};
+ghost use Rattle.sum_engine.specs.check.CheckerSteps.{MemoryStopHasCause};
 
-use crate::listing::CheckRules;
-use crate::position::CheckCursor;
+use crate::check::cursor::CheckCursor;
+use crate::check::judge::LineVerdict;
+use crate::check::rules::CheckRules;
+use crate::check::summary::is_good;
 use crate::settings::CheckSettings;
-use crate::summary::is_good;
-use crate::verdict::LineVerdict;
 use digest_kinds::LIMIT;
 use std::alloc::Allocator;
 use std::marker::Model;
@@ -26,12 +26,12 @@ pub struct Verdicts<I> {
 }
 
 impl<I> Model for Verdicts<I> {
-    ghost use Rattle.sum_engine.specs.Steps.{CheckerValue};
-    ghost use Rattle.sum_engine.specs.LineVerdicts.{VerdictResult};
+    ghost use Rattle.sum_engine.specs.check.CheckerSteps.{CheckerValue};
+    ghost use Rattle.sum_engine.specs.check.NextVerdict.{VerdictResult};
 
     ghost Value = { CheckerValue I VerdictResult };
 
-    ghost use Rattle.sum_engine.specs.refinement.Positions.{cursor_value};
+    ghost use Rattle.sum_engine.specs.refinement.Cursors.{cursor_value};
 
     ghost view = { λ v. record { cursor = cursor_value v.position; final_answer = v.final_answer } };
 }
@@ -39,10 +39,10 @@ impl<I> Model for Verdicts<I> {
 impl<I: Input> Verdicts<I> {
     ghost use Rattle.sum_sources.specs.declared.fault.Ending.TheVariants.{Whole};
     ghost use Rattle.sum_sources.specs.LineReaders.{remaining_content};
-    ghost use Rattle.sum_engine.specs.Reports.{good};
-    ghost use Rattle.sum_engine.specs.Moments.{known_state};
-    ghost use Rattle.sum_engine.specs.Steps.{IsAtStart, check_state, AdvancesReader};
-    ghost use Rattle.sum_engine.specs.LineVerdicts.{lent_streams, HasNameRange, NextVerdictIfKnown, progress_of, final_answer_of_next, is_whole};
+    ghost use Rattle.sum_engine.specs.check.Reports.{good};
+    ghost use Rattle.sum_engine.specs.Execution.{known_state};
+    ghost use Rattle.sum_engine.specs.check.CheckerSteps.{IsAtStart, check_state, AdvancesReader};
+    ghost use Rattle.sum_engine.specs.check.NextVerdict.{lent_streams, HasNameRange, NextVerdictIfKnown, progress_of, final_answer_of_next, is_whole};
 
     /// In front of the first line of the manifest that `input` gives; `from_stdin` says whether it came from standard
     /// input, where a line that names `-` is improperly formatted.

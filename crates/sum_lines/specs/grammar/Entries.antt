@@ -2,11 +2,11 @@
 use Rattle.std.specs.Prelude.{ℕ, ◌≡◌, ◌<◌, ◌⊎◌, ◌==◌, ◌||◌, Bool, false, List, [], ◌∷◌, IsTrue, if◌then◌else◌, All}
 use Rattle.std.specs.Option.{option_map_or}
 use Rattle.digest_kinds.specs.Kinds.{KindValue}
-use Rattle.sum_lines.specs.Shapes.{Algos, Plain, Tagged}
+use Rattle.sum_lines.specs.grammar.Shapes.{Algos, Plain, Tagged}
 use Rattle.sum_lines.specs.Escape.{Profile, present}
-use Rattle.sum_lines.specs.PartsOfLines.{plain_parts}
-pub use Rattle.sum_lines.specs.declared.line_reading.Form.{Form}
-pub use Rattle.sum_lines.specs.declared.line_reading.Form.TheVariants.{Undecided, Standard, Reversed}
+use Rattle.sum_lines.specs.grammar.LineParts.{plain_parts}
+pub use Rattle.sum_lines.specs.declared.reading.read_line.Form.{Form}
+pub use Rattle.sum_lines.specs.declared.reading.read_line.Form.TheVariants.{Undecided, Standard, Reversed}
 
 -- a line that says nothing: `#` (35) stands first, or it is empty, unless the profile holds that to be improper
 abbrev pub is_ignored_by : Profile → List ℕ → Bool

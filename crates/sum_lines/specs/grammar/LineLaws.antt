@@ -2,12 +2,12 @@
 use Rattle.std.specs.Prelude.{ℕ, ◌≡◌, ◌≢◌, ◌<◌, ◌↔◌, ◌⊎◌, Bool, true, false, List, [], ◌∷◌, ◌++◌, length, codes, IsTrue, All}
 use Rattle.hex.specs.Hex.{IsBytes}
 use Rattle.digest_kinds.specs.Kinds.{KindValue, has_len}
-use Rattle.sum_lines.specs.Shapes.{Algo, Algos, One, Any, Plain, Tagged}
-use Rattle.sum_lines.specs.Entries.{Form, Undecided, Standard, EntryValue, IsEntry, IsForm, is_ignored_by, form}
+use Rattle.sum_lines.specs.grammar.Shapes.{Algo, Algos, One, Any, Plain, Tagged}
+use Rattle.sum_lines.specs.grammar.Entries.{Form, Undecided, Standard, EntryValue, IsEntry, IsForm, is_ignored_by, form}
 use Rattle.sum_lines.specs.Lines.{Mode, line}
-use Rattle.sum_lines.specs.declared.line_format.Mode.TheVariants.{Tag}
+use Rattle.sum_lines.specs.declared.writing.put_line.Mode.TheVariants.{Tag}
 use Rattle.sum_lines.specs.Escape.{Profile, escape, escape_by}
-use Rattle.sum_lines.specs.ParsedLines.{ignored, bad, entry, parse_line}
+use Rattle.sum_lines.specs.grammar.ParsedLines.{ignored, bad, entry, parse_line}
 
 -- for given algorithms and a given form a line spells at most one entry
 abbrev pub OneEntry : Type 0

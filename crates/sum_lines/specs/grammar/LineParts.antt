@@ -7,7 +7,7 @@ use Rattle.std.specs.List.{prefix_len, range_with_len, starts_with, before_first
 use Rattle.std.specs.Path.{rsplit_once}
 use Rattle.hex.specs.Hex.{decode_of}
 use Rattle.digest_kinds.specs.Kinds.{KindValue, all_algos, full_kind, blake2b_kind, has_len, tag}
-use Rattle.sum_lines.specs.Shapes.{Algo, Algos, One, Any, is_blank}
+use Rattle.sum_lines.specs.grammar.Shapes.{Algo, Algos, One, Any, is_blank}
 use Rattle.digest_kinds.specs.declared.algo.Algo.TheVariants.{Blake2b}
 
 infixl 10 ◌>>=◌

@@ -4,11 +4,11 @@ use Rattle.std.specs.Prelude.{ℕ, ◌≡◌, ◌≤◌, ◌==◌, List, ◌∷�
 use Rattle.std.specs.Option.{option_or, option_map_or}
 use Rattle.std.specs.List.{list_all}
 use Rattle.digest_kinds.specs.declared.algo.Algos.{Algos}
-use Rattle.sum_lines.specs.Entries.{Form, Undecided, Standard, Reversed, EntryValue, begins_standard, is_ignored_by}
-use Rattle.sum_lines.specs.declared.line_reading.Reading.{Reading}
+use Rattle.sum_lines.specs.grammar.Entries.{Form, Undecided, Standard, Reversed, EntryValue, begins_standard, is_ignored_by}
+use Rattle.sum_lines.specs.declared.reading.read_line.Reading.{Reading}
 use Rattle.sum_lines.specs.Escape.{Profile, escape_by}
-use Rattle.sum_lines.specs.PartsOfLines.{◌>>=◌, LinePartsValue, tagged_parts, plain_parts}
-use Rattle.sum_lines.specs.declared.line_reading.Reading.TheVariants as readings
+use Rattle.sum_lines.specs.grammar.LineParts.{◌>>=◌, LinePartsValue, tagged_parts, plain_parts}
+use Rattle.sum_lines.specs.declared.reading.read_line.Reading.TheVariants as readings
 
 -- the bytes, where a backslash (92) and the byte behind it stand for one
 abbrev pub unescaped_bytes : List ℕ → List ℕ

@@ -3,10 +3,10 @@ use Rattle.std.specs.Prelude.{ℕ, ◌≡◌, ◌+◌, ◌<◌, List, true, leng
 use Rattle.std.specs.List.{position_or_len, before_first, after_first}
 use Rattle.hex.specs.Hex.{decode_of}
 use Rattle.digest_kinds.specs.Kinds.{has_len}
-use Rattle.sum_lines.specs.Shapes.{Algo, Algos, One, is_blank}
-use Rattle.sum_lines.specs.declared.beginnings.Beginning.{Beginning}
-use Rattle.sum_lines.specs.PartsOfLines.{after_while, mark_and_rest, plain_parts, tag_in, tagged_parts}
-use Rattle.sum_lines.specs.declared.beginnings.Beginning.TheVariants as beginnings
+use Rattle.sum_lines.specs.grammar.Shapes.{Algo, Algos, One, is_blank}
+use Rattle.sum_lines.specs.declared.reading.beginnings.Beginning.{Beginning}
+use Rattle.sum_lines.specs.grammar.LineParts.{after_while, mark_and_rest, plain_parts, tag_in, tagged_parts}
+use Rattle.sum_lines.specs.declared.reading.beginnings.Beginning.TheVariants as beginnings
 
 -- a plain line's text: its digits, up to the first blank, spell that digest, and something stands behind that
 pub record Cut (a : Algo) (s digest : List ℕ) : Type 0 where

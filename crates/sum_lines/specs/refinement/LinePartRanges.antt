@@ -1,8 +1,8 @@
 -- Joins what the scanning functions answer to what a line was found to hold.
 use Rattle.std.specs.Prelude.{ℕ, ◌≡◌, ◌==◌, ◌&&◌, nat_lt, not, List, [], ◌∷◌, ◌++◌, length, slice_range, Option, None, Some, if◌then◌else◌}
 use Rattle.std.specs.Str.Parse.{digits_value}
-use Rattle.sum_lines.specs.declared.scanning.LineParts.{LineParts}
-use Rattle.sum_lines.specs.PartsOfLines.{LinePartsValue}
+use Rattle.sum_lines.specs.declared.reading.line_parts.LineParts.{LineParts}
+use Rattle.sum_lines.specs.grammar.LineParts.{LinePartsValue}
 
 -- the parts of a line that these places stand for
 abbrev pub line_parts : List ℕ → LineParts → LinePartsValue

@@ -1,7 +1,7 @@
 -- Joins `put_parts` to its callers: the text of a list of parts, one after another.
 use Rattle.std.specs.Prelude.{ℕ, List, flat_map, decimal}
-use Rattle.sum_lines.specs.declared.parts.Part.{Part}
-use Rattle.sum_lines.specs.declared.parts.Part.TheVariants.{Bytes, Escaped, Number}
+use Rattle.sum_lines.specs.declared.writing.parts.Part.{Part}
+use Rattle.sum_lines.specs.declared.writing.parts.Part.TheVariants.{Bytes, Escaped, Number}
 use Rattle.sum_lines.specs.Escape.{escape}
 
 abbrev pub part_text : Part → List ℕ

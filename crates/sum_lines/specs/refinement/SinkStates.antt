@@ -1,8 +1,8 @@
 -- Joins the calls of a sink: what its known bytes grow by, how a buffer is emptied, and what is seen of a ToldSink.
 use Rattle.std.specs.Prelude.{ℕ, ◌-◌, List, [], take, Option, Some, Result, Ok, Err}
 use Rattle.std.specs.Io.KnownBytes.{Appends}
-use Rattle.sum_lines.specs.Sinks.{SinkState, IsPrefix, Accepted, FlushFailed}
-use Rattle.sum_lines.specs.declared.told_sink.ToldSink.{ToldSink}
+use Rattle.sum_lines.specs.sinks.Sinks.{SinkState, IsPrefix, Accepted, FlushFailed}
+use Rattle.sum_lines.specs.declared.sinks.told_sink.ToldSink.{ToldSink}
 
 -- known bytes stay, and more may come behind them
 abbrev pub Grows : Option (List ℕ) → Option (List ℕ) → Type 0

@@ -1,7 +1,7 @@
 -- What a buffer over a sink holds and hands on.
 use Rattle.std.specs.Prelude.{ℕ, ◌==◌, List, [], ◌∷◌, ◌++◌, length, if◌then◌else◌}
-use Rattle.sum_lines.specs.Sinks.{SinkState}
-use Rattle.sum_lines.specs.declared.buffered.TheConstants.{CAPACITY}
+use Rattle.sum_lines.specs.sinks.Sinks.{SinkState}
+use Rattle.sum_lines.specs.declared.sinks.buffered.TheConstants.{CAPACITY}
 
 -- a buffer: the sink below, and what is held
 pub record BufferedValue (S : Type 0) : Type 0 where

@@ -1,10 +1,10 @@
 //! What a line begins with. Most bad lines are told by that, and none of the rest is read.
 
 ghost use Rattle.std.specs.Prelude.{◌≡◌, ℕ, List, IfNone, IfSome, None};
-ghost use Rattle.sum_lines.specs.PartsOfLines.{plain_parts, tag_in, tagged_parts};
+ghost use Rattle.sum_lines.specs.grammar.LineParts.{plain_parts, tag_in, tagged_parts};
 ghost use Rattle.sum_lines.specs.refinement.Beginnings.{Cut, LeadsTo, EndsAt, EndsDigits};
 
-use crate::scanning::{is_blank, text_in};
+use crate::reading::line_parts::{is_blank, text_in};
 use digest_kinds::{Algo, Algos, Kind};
 use memchr::memchr2;
 
@@ -23,7 +23,7 @@ pub(crate) enum Beginning {
 /// What a line of these algorithms begins with. None only where it is neither tagged nor plain. A call of its own, so
 /// that an ignored line needs no room for it.
 #[inline(never)]
-#[tactic(auto, unfolding(crate::specs::PartsOfLines::plain_parts))]
+#[tactic(auto, unfolding(crate::specs::grammar::LineParts::plain_parts))]
 pub(crate) fn find_beginning(algos: Algos, line: &[u8]) -> Option<Beginning>
     ensures tagged { IfNone result (None ≡ tagged_parts algos line.now) }
     ensures plain { IfNone result (None ≡ plain_parts algos line.now) }

@@ -3,12 +3,12 @@
 ghost use Rattle.std.specs.Prelude.{◌≡◌, ◌≤◌, IfSome, if◌then◌else◌, length, Some, None};
 ghost use Rattle.std.specs.Option.{option_map};
 ghost use Rattle.digest_kinds.specs.Kinds.{has_len};
-ghost use Rattle.sum_lines.specs.Shapes.{is_blank};
-ghost use Rattle.sum_lines.specs.PartsOfLines.{after_while, mark_and_rest, plain_parts};
+ghost use Rattle.sum_lines.specs.grammar.Shapes.{is_blank};
+ghost use Rattle.sum_lines.specs.grammar.LineParts.{after_while, mark_and_rest, plain_parts};
 ghost use Rattle.sum_lines.specs.refinement.Beginnings.{EndsDigits};
-ghost use Rattle.sum_lines.specs.refinement.Found.{line_parts};
+ghost use Rattle.sum_lines.specs.refinement.LinePartRanges.{line_parts};
 
-use crate::scanning::{LineParts, text_in};
+use crate::reading::line_parts::{LineParts, text_in};
 use digest_kinds::{Algo, Algos, Digest, Kind};
 
 /// Reads a plain line of that algorithm, which has the blank behind its digits at that place of its text. None where

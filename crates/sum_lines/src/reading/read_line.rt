@@ -3,18 +3,18 @@
 ghost use Rattle.std.specs.Prelude.{◌≡◌, ◌≤◌, None, Some, drop, if◌then◌else◌, length, nat_lt, not, take, vec_len};
 ghost use Rattle.std.specs.List.{list_all};
 ghost use Rattle.std.specs.Option.{option_and_then, option_map_or};
-ghost use Rattle.sum_lines.specs.Entries.{begins_standard, form_of_tail, form_then, is_ignored, line_form};
-ghost use Rattle.sum_lines.specs.ParsedLines.{bad, entry, entry_of, entry_of_parts, parse_line, unescape};
-ghost use Rattle.sum_lines.specs.ParsedLines.{with_raw, Within, parsed_line_by};
+ghost use Rattle.sum_lines.specs.grammar.Entries.{begins_standard, form_of_tail, form_then, is_ignored, line_form};
+ghost use Rattle.sum_lines.specs.grammar.ParsedLines.{bad, entry, entry_of, entry_of_parts, parse_line, unescape};
+ghost use Rattle.sum_lines.specs.grammar.ParsedLines.{with_raw, Within, parsed_line_by};
 ghost use Rattle.sum_lines.specs.Escape.{present};
 ghost use Rattle.sum_lines.specs.refinement.Beginnings.{LeadsTo};
-ghost use Rattle.sum_lines.specs.refinement.Found.{line_parts};
+ghost use Rattle.sum_lines.specs.refinement.LinePartRanges.{line_parts};
 
-use crate::beginnings::{Beginning, find_beginning};
 use crate::escape::unescape_in;
-use crate::plain::plain;
-use crate::scanning::LineParts;
-use crate::tagged::tagged;
+use crate::reading::beginnings::{Beginning, find_beginning};
+use crate::reading::line_parts::LineParts;
+use crate::reading::plain::plain;
+use crate::reading::tagged::tagged;
 use digest_kinds::{Algos, Digest, Kind};
 use memchr::memchr;
 use std::alloc::Allocator;
@@ -83,7 +83,7 @@ pub fn read_line<A: Allocator>(algos: Algos, form: Form, line: &mut Vec<u8, A>) 
 // Reads a line that isn't ignored and begins so, which most bad ones don't. A call of its own, since it clears room for
 // all that an entry holds.
 #[inline(never)]
-#[tactic(auto, unfolding(crate::specs::ParsedLines::entry_of))]
+#[tactic(auto, unfolding(crate::specs::grammar::ParsedLines::entry_of))]
 fn read_begun<A: Allocator>(
     algos: Algos,
     form: Form,

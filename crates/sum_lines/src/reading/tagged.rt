@@ -5,16 +5,16 @@ ghost use Rattle.std.specs.Char.{is_ascii_digit as is_digit};
 ghost use Rattle.std.specs.List.{AllPass, prefix_len, take_while};
 ghost use Rattle.std.specs.Option.{option_copied, option_map, option_or};
 ghost use Rattle.digest_kinds.specs.Kinds.{tag};
-ghost use Rattle.sum_lines.specs.Shapes.{is_blank};
-ghost use Rattle.sum_lines.specs.PartsOfLines.{after_while, mark_and_rest, strip_prefix, tag_in};
-ghost use Rattle.sum_lines.specs.PartsOfLines.{kind_at, tagged_parts, width_at};
-ghost use Rattle.sum_lines.specs.refinement.Found.{line_parts, number_of};
+ghost use Rattle.sum_lines.specs.grammar.Shapes.{is_blank};
+ghost use Rattle.sum_lines.specs.grammar.LineParts.{after_while, mark_and_rest, strip_prefix, tag_in};
+ghost use Rattle.sum_lines.specs.grammar.LineParts.{kind_at, tagged_parts, width_at};
+ghost use Rattle.sum_lines.specs.refinement.LinePartRanges.{line_parts, number_of};
 
-use crate::scanning::{LineParts, past_text, skip_blanks, split_at_last, text_in};
+use crate::reading::line_parts::{LineParts, past_text, skip_blanks, split_at_last, text_in};
 use digest_kinds::{Algo, Algos, Digest, Kind};
 
 /// Reads a line whose text that algorithm's tag begins. None where the line isn't tagged.
-#[tactic(auto, unfolding(crate::specs::PartsOfLines::tagged_parts))]
+#[tactic(auto, unfolding(crate::specs::grammar::LineParts::tagged_parts))]
 pub(crate) fn tagged(algo: Algo, line: &[u8]) -> Option<LineParts>
     requires { tag_in (Algos.One algo) (mark_and_rest (after_while is_blank line.now)).1 ≡ Some algo }
     ensures parts { option_map (line_parts line.now) result ≡ tagged_parts (Algos.One algo) line.now }

@@ -1,8 +1,8 @@
 //! A buffer over a sink.
 ghost use Rattle.std.specs.Prelude.{◌≡◌, ◌≤◌, ◌-◌, ◌+◌, ◌++◌, [], length, min, take, Ok, IfOk, OnOk};
-ghost use Rattle.sum_lines.specs.Sinks.{WritesSome, Flushes, OffersWhole};
+ghost use Rattle.sum_lines.specs.sinks.Sinks.{WritesSome, Flushes, OffersWhole};
 
-use crate::sink::{Sink, SinkFault, put_all};
+use crate::sinks::sink::{Sink, SinkFault, put_all};
 use std::marker::Model;
 
 /// How many bytes a buffer has room for.
@@ -20,8 +20,8 @@ pub struct Buffered<S> {
 
 impl<S> Model for Buffered<S> {
     ghost use Rattle.std.specs.Prelude.{◌≤◌, take};
-    ghost use Rattle.sum_lines.specs.Buffers.{BufferedValue};
-    ghost use Rattle.sum_lines.specs.declared.buffered.TheConstants.{CAPACITY};
+    ghost use Rattle.sum_lines.specs.sinks.Buffers.{BufferedValue};
+    ghost use Rattle.sum_lines.specs.declared.sinks.buffered.TheConstants.{CAPACITY};
 
     ghost Value = { BufferedValue S };
 
@@ -58,8 +58,8 @@ impl<S> Buffered<S> {
 }
 
 impl<S: Sink> Buffered<S> {
-    ghost use Rattle.sum_lines.specs.Buffers.{buffer_state, flushed_if_full, kept_unless_full};
-    ghost use Rattle.sum_lines.specs.refinement.GrowingSinks.{FlushesBuffer};
+    ghost use Rattle.sum_lines.specs.sinks.Buffers.{buffer_state, flushed_if_full, kept_unless_full};
+    ghost use Rattle.sum_lines.specs.refinement.SinkStates.{FlushesBuffer};
 
     // Hands on to the sink below what is held.
     fn flush_buffer(&mut self) -> Result<(), SinkFault>
@@ -87,7 +87,7 @@ impl<S: Sink> Buffered<S> {
 }
 
 impl<S: Sink> Sink for Buffered<S> {
-    ghost use Rattle.sum_lines.specs.Buffers.{buffer_state, kept_unless_full, flushed_before_write};
+    ghost use Rattle.sum_lines.specs.sinks.Buffers.{buffer_state, kept_unless_full, flushed_before_write};
 
     ghost state = { buffer_state S.state };
 

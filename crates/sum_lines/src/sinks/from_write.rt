@@ -2,7 +2,7 @@
 ghost use Rattle.std.specs.Prelude.{◌≡◌, []};
 ghost use Rattle.digest_kinds.specs.Limits.{one_more};
 
-use crate::sink::{Sink, SinkFault};
+use crate::sinks::sink::{Sink, SinkFault};
 use std::io::{ErrorKind, Write};
 
 /// How often in a row one call tries to write before interruptions count as a fault.

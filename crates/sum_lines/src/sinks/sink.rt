@@ -1,6 +1,6 @@
 //! Where bytes are written: the trait of a sink, and the call that writes all of a piece.
 ghost use Rattle.std.specs.Prelude.{◌≡◌, ℕ, List, [], ◌∷◌, Option, None, Ok};
-ghost use Rattle.sum_lines.specs.Sinks.{SinkState, WritesSome, Flushes, Offers, OffersWhole, WritesAll};
+ghost use Rattle.sum_lines.specs.sinks.Sinks.{SinkState, WritesSome, Flushes, Offers, OffersWhole, WritesAll};
 
 use thiserror::Error;
 

@@ -1,7 +1,7 @@
 //! A sink that keeps its bytes in an array.
 ghost use Rattle.std.specs.Prelude.{◌≡◌, ◌≤◌, ◌+◌, ◌<◌, [], length, min, IfOk, IsErr, OnErr, ◌↔◌};
 
-use crate::sink::{Sink, SinkFault};
+use crate::sinks::sink::{Sink, SinkFault};
 
 /// A sink that keeps up to N bytes, tells them, and fails once it is full.
 #[derive(Drop)]
@@ -14,7 +14,7 @@ pub struct ToldSink<const N: usize> {
 }
 
 impl<const N: usize> ToldSink<N> {
-    ghost use Rattle.sum_lines.specs.refinement.GrowingSinks.{bytes_of, remaining_capacity};
+    ghost use Rattle.sum_lines.specs.refinement.SinkStates.{bytes_of, remaining_capacity};
 
     /// An empty sink that takes `stop` bytes, or N where that is less, and then fails.
     pub fn new(stop: usize) -> Self
@@ -40,8 +40,8 @@ impl<const N: usize> ToldSink<N> {
 
 impl<const N: usize> Sink for ToldSink<N> {
     ghost use Rattle.std.specs.Prelude.{Ok};
-    ghost use Rattle.sum_lines.specs.Sinks.{WritesSome, Flushes};
-    ghost use Rattle.sum_lines.specs.refinement.GrowingSinks.{remaining_capacity, told_sink_state};
+    ghost use Rattle.sum_lines.specs.sinks.Sinks.{WritesSome, Flushes};
+    ghost use Rattle.sum_lines.specs.refinement.SinkStates.{remaining_capacity, told_sink_state};
 
     ghost state = { told_sink_state };
 

@@ -1,9 +1,9 @@
 //! Texts that are written part after part.
 ghost use Rattle.std.specs.Prelude.{decimal};
-ghost use Rattle.sum_lines.specs.Sinks.{WritesAll};
+ghost use Rattle.sum_lines.specs.sinks.Sinks.{WritesAll};
 
 use crate::escape::put_escaped;
-use crate::sink::{Sink, SinkFault, put_all};
+use crate::sinks::sink::{Sink, SinkFault, put_all};
 use itoa::Buffer;
 
 /// A part of a text.

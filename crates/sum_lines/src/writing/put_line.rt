@@ -1,10 +1,10 @@
 //! The line that is written for a name and its digest.
 ghost use Rattle.std.specs.Prelude.{◌≡◌, length};
-ghost use Rattle.sum_lines.specs.Sinks.{WritesAll};
+ghost use Rattle.sum_lines.specs.sinks.Sinks.{WritesAll};
 
 use crate::escape::needs_escape;
-use crate::parts::{Part, put_parts};
-use crate::sink::{Sink, SinkFault, put_all};
+use crate::sinks::sink::{Sink, SinkFault, put_all};
+use crate::writing::parts::{Part, put_parts};
 use digest_kinds::{Digest, Kind};
 
 /// The form of a line (coreutils manual, "md5sum invocation").
@@ -31,7 +31,7 @@ ghost use Rattle.sum_lines.specs.Lines.{layout, line, line_tag};
 ghost use Rattle.hex.specs.Hex.{encode_lower};
 ghost use Rattle.sum_lines.specs.refinement.PartTexts.{part_text};
 ghost use Rattle.sum_lines.specs.Escape.{present, escape, escape_differs};
-ghost use Rattle.sum_lines.specs.Shapes.{mark};
+ghost use Rattle.sum_lines.specs.grammar.Shapes.{mark};
 
 /// Writes the line of a name and its digest, which has the kind's length. A fault where a write failed; of what was
 /// held and of the line a proper prefix is then handed on, and nothing is held.

@@ -1,14 +1,14 @@
 -- Joins the line reader's fields and steps to what its callers see of it, and says what the fields keep.
 use Rattle.std.specs.Prelude.{◌≡◌, ◌+◌, ◌-◌, ◌<◌, ◌≤◌, take, drop, Option, None, Some, Result, Ok, Err, Bool, true, false, ℕ, List, [], ◌∷◌, ◌++◌}
 use Rattle.digest_kinds.specs.Limits.{LIMIT}
-use Rattle.sum_sources.specs.declared.input.TheConstants.{PIECE}
+use Rattle.sum_sources.specs.declared.inputs.input.TheConstants.{PIECE}
 use Rattle.sum_sources.specs.Contents.{Fault, Broken, Content, empty_content}
-use Rattle.sum_sources.specs.declared.lines.LineReader.TheInside.{Inside}
-use Rattle.sum_sources.specs.declared.lines.ReaderState.{ReaderState}
-use Rattle.sum_sources.specs.declared.lines.ReaderState.TheVariants.{Active, Ended, Stopped}
+use Rattle.sum_sources.specs.declared.line_reader.LineReader.TheInside.{Inside}
+use Rattle.sum_sources.specs.declared.line_reader.ReaderState.{ReaderState}
+use Rattle.sum_sources.specs.declared.line_reader.ReaderState.TheVariants.{Active, Ended, Stopped}
 use Rattle.sum_sources.specs.ManifestLines.{Next, NoMore, LineStop, NoNewline}
 use Rattle.sum_sources.specs.LineReaders.{LineReaderValue}
-use Rattle.sum_sources.specs.declared.lines.LineStop.TheVariants as stops
+use Rattle.sum_sources.specs.declared.line_reader.LineStop.TheVariants as stops
 
 -- what every later call answers again
 abbrev pub final_answer_in : ReaderState → Option (Result Next LineStop)

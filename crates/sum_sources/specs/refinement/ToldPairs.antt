@@ -1,10 +1,10 @@
 -- What the answers of a told source say, and the pairs that it stores.
 use Rattle.std.specs.Prelude.{Ok, Err}
-use Rattle.sum_sources.specs.declared.told_source.Answer.{Answer}
-use Rattle.sum_sources.specs.declared.told_source.StoredPair.{StoredPair}
+use Rattle.sum_sources.specs.declared.sources.told_source.Answer.{Answer}
+use Rattle.sum_sources.specs.declared.sources.told_source.StoredPair.{StoredPair}
 use Rattle.sum_sources.specs.InMemory.{Pair}
 use Rattle.sum_sources.specs.Contents.{Reply}
-use Rattle.sum_sources.specs.declared.told_source.Answer.TheVariants as answers
+use Rattle.sum_sources.specs.declared.sources.told_source.Answer.TheVariants as answers
 
 abbrev pub reply_of : Answer → Reply
 reply_of (answers.Fault f) = Err f

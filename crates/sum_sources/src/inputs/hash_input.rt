@@ -2,7 +2,7 @@
 ghost use Rattle.std.specs.Prelude.{◌≡◌, [], length, IfOk, IfSome};
 ghost use Rattle.sum_sources.specs.Contents.{clip, Hashes};
 
-use crate::limited::read_limited;
+use crate::inputs::size_limit::read_limited;
 use crate::{Fault, Input, PIECE};
 use digest_kinds::{Digest, Hasher};
 

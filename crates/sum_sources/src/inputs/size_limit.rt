@@ -3,7 +3,7 @@ ghost use Rattle.std.specs.Prelude.{◌≡◌, ◌≤◌, ◌<◌, ◌+◌, ◌-
 ghost use Rattle.digest_kinds.specs.Limits.{LIMIT};
 ghost use Rattle.sum_sources.specs.Contents.{IfKnown, ReadsFrom, limit};
 ghost use Rattle.sum_sources.specs.LineReaders.{clip_to};
-ghost use Rattle.sum_sources.specs.declared.input.TheConstants.{PIECE};
+ghost use Rattle.sum_sources.specs.declared.inputs.input.TheConstants.{PIECE};
 
 use crate::{Fault, Input, PIECE};
 use digest_kinds::LIMIT;

@@ -3,7 +3,7 @@ ghost use Rattle.std.specs.Prelude.{◌≡◌};
 ghost use Rattle.std.specs.Str.{IsUtf8};
 ghost use Rattle.sum_sources.specs.Contents.{refusals_after};
 
-use crate::from_read::fault_of;
+use crate::inputs::from_read::fault_of;
 use crate::{Fault, FromRead, OpenFault, Source};
 use std::io::{ErrorKind, Read};
 use std::marker::Model;

@@ -3,16 +3,16 @@
 use Rattle.std.specs.Prelude.{◌≡◌, ◌==◌, ℕ, drop, length, true, map, List, [], ◌∷◌, ◌++◌, Option, None, Some, chars}
 use Rattle.std.specs.List.{starts_with}
 use Rattle.sum_words.specs.declared.tool.Tool.{Tool}
-use Rattle.sum_words.specs.declared.faults.WordFault.{WordFault}
+use Rattle.sum_words.specs.declared.messages.word_faults.WordFault.{WordFault}
 use Rattle.sum_words.specs.WordFaults.{WordFaultValue, unknown_long, ambiguous_long, value_not_allowed, value_missing, unknown_short, length_invalid, length_not_bytes, tag_with_text, zero_with_check, tag_with_check, mode_with_check, without_check, check_needed}
-use Rattle.sum_words.specs.declared.items.Item.{Item as WordItem}
-use Rattle.sum_words.specs.declared.items.ParserState.{ParserState}
-use Rattle.sum_words.specs.declared.items.ParserStep.{ParserStep}
+use Rattle.sum_words.specs.declared.parsing.items.Item.{Item as WordItem}
+use Rattle.sum_words.specs.declared.parsing.items.ParserState.{ParserState}
+use Rattle.sum_words.specs.declared.parsing.items.ParserStep.{ParserStep}
 use Rattle.sum_words.specs.Items.{ByteString, ItemValue, option, length_value, operand, fault, NextWord, a_word, a_value, no_word, cluster, items_from}
-use Rattle.sum_words.specs.declared.faults.WordFault.TheVariants as words
-use Rattle.sum_words.specs.declared.items.Item.TheVariants as says
-use Rattle.sum_words.specs.declared.items.ParserState.TheVariants as states
-use Rattle.sum_words.specs.declared.items.ParserStep.TheVariants as steps
+use Rattle.sum_words.specs.declared.messages.word_faults.WordFault.TheVariants as words
+use Rattle.sum_words.specs.declared.parsing.items.Item.TheVariants as says
+use Rattle.sum_words.specs.declared.parsing.items.ParserState.TheVariants as states
+use Rattle.sum_words.specs.declared.parsing.items.ParserStep.TheVariants as steps
 
 -- a letter as a text, where there is one
 abbrev pub letter_text : Option ℕ → ByteString

@@ -4,14 +4,14 @@ use Rattle.std.specs.List.{last_or}
 use Rattle.std.specs.Str.Parse.{digits_value}
 use Rattle.sum_words.specs.Request.{report_flag, Mode, early_answer, has, mode_flags, report_flags, is_number}
 use Rattle.sum_words.specs.Items.{Flag, ByteString, ItemValue, option_in, value_in}
-use Rattle.sum_words.specs.declared.faults.WordFault.{WordFault}
-use Rattle.sum_words.specs.declared.request.Chosen.{Chosen}
-use Rattle.sum_words.specs.declared.request.ScannedOptions.{ScannedOptions}
-use Rattle.sum_words.specs.declared.request.ScannedOptions.TheVariants.{Options, Answer}
+use Rattle.sum_words.specs.declared.messages.word_faults.WordFault.{WordFault}
+use Rattle.sum_words.specs.declared.parsing.request.Chosen.{Chosen}
+use Rattle.sum_words.specs.declared.parsing.request.ScannedOptions.{ScannedOptions}
+use Rattle.sum_words.specs.declared.parsing.request.ScannedOptions.TheVariants.{Options, Answer}
 use Rattle.sum_words.specs.WordFaults.{WordFaultValue}
 use Rattle.sum_words.specs.refinement.ItemIterator.{fault_of}
-use Rattle.sum_lines.specs.declared.line_format.Mode.TheVariants as modes
-use Rattle.sum_words.specs.declared.options.Flag.TheVariants as flags
+use Rattle.sum_lines.specs.declared.writing.put_line.Mode.TheVariants as modes
+use Rattle.sum_words.specs.declared.parsing.options.Flag.TheVariants as flags
 
 -- the option that sets a mode
 abbrev pub mode_flag : Mode → Flag

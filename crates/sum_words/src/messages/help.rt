@@ -1,6 +1,6 @@
 //! The help and the version text.
 ghost use Rattle.std.specs.Prelude.{◌≡◌, ◌++◌, flat_map};
-ghost use Rattle.sum_lines.specs.Sinks.{WritesAll};
+ghost use Rattle.sum_lines.specs.sinks.Sinks.{WritesAll};
 ghost use Rattle.sum_lines.specs.refinement.PartTexts.{part_text};
 ghost use Rattle.sum_words.specs.Items.{flags_of};
 ghost use Rattle.sum_words.specs.Texts.{help, help_line, purpose, version};

@@ -1,7 +1,7 @@
 //! What the program itself writes on standard error: for a fault in the words, for a tool that it doesn't know, and for
 //! a run that stopped.
 ghost use Rattle.std.specs.Prelude.{◌≡◌, ◌++◌, codes};
-ghost use Rattle.sum_lines.specs.Sinks.{WritesAll};
+ghost use Rattle.sum_lines.specs.sinks.Sinks.{WritesAll};
 ghost use Rattle.sum_lines.specs.refinement.PartTexts.{part_text};
 ghost use Rattle.sum_words.specs.WordFaults.{WordFaultValue};
 ghost use Rattle.sum_words.specs.refinement.ItemIterator.{fault_of};
@@ -9,7 +9,7 @@ ghost use Rattle.sum_words.specs.declared.tool.Tool.{Tool};
 ghost use Rattle.sum_words.specs.Tools.{name_of};
 ghost use Rattle.sum_words.specs.Texts.{wording, fault_lines, stop_line};
 
-use crate::options::{Flag, Spelling};
+use crate::parsing::options::{Flag, Spelling};
 use crate::tool::Tool;
 use sum_engine::Stop;
 use sum_lines::{Part, Sink, SinkFault, put_all, put_parts};

@@ -9,8 +9,8 @@ ghost use Rattle.sum_words.specs.refinement.ItemIterator.{remaining_items, read_
 ghost use Rattle.sum_words.specs.refinement.ItemIterator.{IsAfterPrefix};
 ghost use Rattle.sum_words.specs.declared.tool.Tool.{Tool};
 
-use crate::faults::WordFault;
-use crate::options::{Flag, Spelling};
+use crate::messages::word_faults::WordFault;
+use crate::parsing::options::{Flag, Spelling};
 use crate::tool::Tool;
 use crate::words::{LentWords, Words};
 use std::alloc::Allocator;

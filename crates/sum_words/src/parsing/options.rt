@@ -5,9 +5,9 @@ ghost use Rattle.std.specs.Str.{bytes_eq};
 ghost use Rattle.sum_words.specs.Items.{row_of, full_name, flags_of, takes_value};
 ghost use Rattle.sum_words.specs.Items.{option_of_letter, the_one, name_or_fault};
 ghost use Rattle.sum_words.specs.refinement.ItemIterator.{letter_text};
-ghost use Rattle.sum_words.specs.refinement.RequestReading.{result_of};
+ghost use Rattle.sum_words.specs.refinement.OptionScan.{result_of};
 
-use crate::faults::WordFault;
+use crate::messages::word_faults::WordFault;
 use crate::tool::Tool;
 
 /// An option. `Length` alone takes a value, and b2sum alone has it.

@@ -5,11 +5,11 @@ ghost use Rattle.std.specs.Str.{all_ascii_digits};
 ghost use Rattle.sum_words.specs.Items.{ItemValue as ItemSaid, a_word, items_from, option, option_in};
 ghost use Rattle.sum_words.specs.refinement.ItemIterator.{fault_of};
 ghost use Rattle.sum_words.specs.Request.{length_kind, mode_of, faults, job_or_fault, request};
-ghost use Rattle.sum_words.specs.refinement.RequestReading.{IsChosenBy, IsScanOf, result_of, IsNumberOf};
+ghost use Rattle.sum_words.specs.refinement.OptionScan.{IsChosenBy, IsScanOf, result_of, IsNumberOf};
 
-use crate::faults::WordFault;
-use crate::items::{Item, Items, Operands};
-use crate::options::Flag;
+use crate::messages::word_faults::WordFault;
+use crate::parsing::items::{Item, Items, Operands};
+use crate::parsing::options::Flag;
 use crate::tool::Tool;
 use crate::words::Words;
 use digest_kinds::{Algos, Kind, LengthFault};

@@ -4,7 +4,7 @@ use Rattle.blake2b_core.specs.Digest.{blocks}
 use Rattle.blake2b_core.specs.refinement.Chaining.{hash_after}
 use Rattle.blake2b_core.specs.refinement.Holding.{AreBlocksFrom}
 use Rattle.blake2b_core.proofs.BlockLemmas.{IsLast, are_blocks, blake2b-from}
-use Rattle.blake2b_core.proofs.whole.blake2b.Goals as goal
+use Rattle.blake2b_core.proofs.one_shot.blake2b.Goals as goal
 
 -- the blocks before the last, and then that
 pub returns-clause-digest : goal.returns-clause-digest

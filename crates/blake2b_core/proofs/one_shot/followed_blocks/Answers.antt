@@ -2,7 +2,7 @@ use Rattle.std.proofs.Common.{◌≡◌, ℕ, ◌-◌, ◌*◌, ◌/◌, ◌≤�
 use Rattle.std.proofs.lemmas.List.{length-take-le}
 use Rattle.std.specs.Simd.{first_chunks}
 use Rattle.blake2b_core.proofs.BlockLemmas.{first_chunks-take}
-use Rattle.blake2b_core.proofs.whole.followed_blocks.Goals as goal
+use Rattle.blake2b_core.proofs.one_shot.followed_blocks.Goals as goal
 
 -- the whole blocks that bytes follow
 pub returns-clause-value : goal.returns-clause-value

@@ -1,10 +1,10 @@
 use Rattle.std.proofs.Common.{Some, None, sym, subst}
-use Rattle.sum_engine.proofs.RunStateLemmas.{Runs}
-use Rattle.sum_engine.specs.Moments.{StreamsState, IsFlushed, FailuresMatch}
+use Rattle.sum_engine.proofs.ExecutionLemmas.{Runs}
+use Rattle.sum_engine.specs.Execution.{StreamsState, IsFlushed, FailuresMatch}
 use Rattle.sum_words.specs.CommandLines.{invoke, unknown_tool}
 use Rattle.digests.specs.Meaning.{status_of}
 use Rattle.digests.specs.Program.{call_behavior}
-use Rattle.digests.proofs.OneTextLemmas.{told_on_err}
+use Rattle.digests.proofs.MessageLemmas.{told_on_err}
 use Rattle.digests.proofs.ProgramLemmas.{program_ends, program_told, program_read, program_unread}
 use Rattle.digests.proofs.command.command.Goals as goal
 

@@ -1,5 +1,5 @@
-use Rattle.digests.specs.refinement.Endings.{tool_stop_line}
-use Rattle.digests.proofs.EndingLemmas.{closes-stop}
+use Rattle.digests.specs.refinement.FinishRun.{tool_stop_line}
+use Rattle.digests.proofs.FinishRunLemmas.{closes-stop}
 use Rattle.digests.proofs.command.finish_run.Goals as goal
 
 -- the run stopped, or a flush failed at its end

@@ -1,6 +1,6 @@
 use Rattle.std.proofs.KnownBytes.{Keeps-refl}
-use Rattle.digests.proofs.EndingLemmas.{flushed-none, dropped-none}
-use Rattle.digests.proofs.ending.flush_both.Goals as goal
+use Rattle.digests.proofs.FinishRunLemmas.{flushed-none, dropped-none}
+use Rattle.digests.proofs.finish.flush_both.Goals as goal
 
 -- the flush of standard output failed
 pub returns-in_err-flush-clause-bytes : goal.returns-in_err-flush-clause-bytes

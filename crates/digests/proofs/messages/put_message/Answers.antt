@@ -1,5 +1,5 @@
-use Rattle.sum_engine.proofs.TellLemmas.{told_flushed}
-use Rattle.digests.proofs.telling.put_message.Goals as goal
+use Rattle.sum_engine.proofs.FlushedWriteLemmas.{told_flushed}
+use Rattle.digests.proofs.messages.put_message.Goals as goal
 
 -- the text was written, and then the sink was flushed
 pub returns : goal.returns

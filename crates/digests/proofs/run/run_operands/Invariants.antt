@@ -1,5 +1,5 @@
 use Rattle.std.proofs.Common.{◌∷◌, length, Ok}
-use Rattle.sum_engine.specs.Moments.{IsFlushed, StopHasCause}
+use Rattle.sum_engine.specs.Execution.{IsFlushed, StopHasCause}
 use Rattle.sum_words.specs.Tools.{name_of}
 use Rattle.digests.specs.Meaning.{operand_behavior, or_dash}
 use Rattle.digests.specs.Refusals.{RefusalsOfJob}

@@ -1,4 +1,4 @@
-use Rattle.digests.proofs.OneTextLemmas.{told_on_out, told_on_err, accounts_on_out, accounts_on_err}
+use Rattle.digests.proofs.MessageLemmas.{told_on_out, told_on_err, accounts_on_out, accounts_on_err}
 use Rattle.digests.proofs.run.run_request.Goals as goal
 
 -- a fault is told on standard error

@@ -1,12 +1,12 @@
 use Rattle.std.proofs.Common.{refl, ap, is_none, inl, inr, Ok, Err}
 use Rattle.std.proofs.KnownBytes.{Appends-nil}
 use Rattle.std.proofs.lemmas.Result.{err_from_is_err_and}
-use Rattle.sum_engine.specs.Runs.{reply, digest_or_fault}
+use Rattle.sum_engine.specs.Behavior.{reply, digest_or_fault}
 use Rattle.sum_engine.specs.Generation.{generate_behavior}
-use Rattle.sum_engine.proofs.RunStateLemmas.{known_refused}
-use Rattle.sum_engine.proofs.RunLemmas.{unasked}
+use Rattle.sum_engine.proofs.ExecutionLemmas.{known_refused}
+use Rattle.sum_engine.proofs.BehaviorLemmas.{unasked}
 use Rattle.sum_engine.proofs.GenerateLemmas.{told, one_step}
-use Rattle.sum_engine.specs.declared.asking.HashOutcome.TheVariants as asked
+use Rattle.sum_engine.specs.declared.hash_name.HashOutcome.TheVariants as asked
 use Rattle.sum_engine.proofs.generate.generate_one.Goals as goal
 
 -- there was no memory to open the name

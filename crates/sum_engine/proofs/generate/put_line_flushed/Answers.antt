@@ -1,4 +1,4 @@
-use Rattle.sum_engine.proofs.TellLemmas.{told_flushed}
+use Rattle.sum_engine.proofs.FlushedWriteLemmas.{told_flushed}
 use Rattle.sum_engine.proofs.generate.put_line_flushed.Goals as goal
 
 -- the line was written, and then the sink was flushed

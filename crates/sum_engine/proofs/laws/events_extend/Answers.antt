@@ -1,4 +1,4 @@
-use Rattle.sum_engine.proofs.RunLemmas.{events_extend}
+use Rattle.sum_engine.proofs.BehaviorLemmas.{events_extend}
 use Rattle.sum_engine.proofs.laws.events_extend.Goals as goal
 
 pub returns : goal.returns

@@ -1,5 +1,5 @@
-use Rattle.sum_engine.proofs.TellLemmas.{told_flushed}
-use Rattle.sum_engine.proofs.telling.put_parts_flushed.Goals as goal
+use Rattle.sum_engine.proofs.FlushedWriteLemmas.{told_flushed}
+use Rattle.sum_engine.proofs.put_flushed.put_parts_flushed.Goals as goal
 
 -- the parts were written, and then the sink was flushed
 pub returns : goal.returns

@@ -1,7 +1,7 @@
 use Rattle.std.proofs.Common.{◌≤◌, length, sym}
 use Rattle.std.proofs.lemmas.Option.{slice_get_past}
-use Rattle.sum_words.specs.refinement.Pieces.{pieces_cut}
-use Rattle.sum_words.proofs.PieceLemmas.{piece_read, pieces_cut-length}
+use Rattle.sum_words.specs.refinement.WordBytes.{pieces_cut}
+use Rattle.sum_words.proofs.WordBytesLemmas.{piece_read, pieces_cut-length}
 use Rattle.sum_words.proofs.words.piece_at.Goals as goal
 
 -- there is no such place

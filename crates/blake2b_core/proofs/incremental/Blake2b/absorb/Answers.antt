@@ -3,7 +3,7 @@ use Rattle.std.proofs.lemmas.List.{drop_all, drop_at, length-take-le}
 use Rattle.std.specs.Simd.{first_chunks}
 use Rattle.blake2b_core.specs.refinement.Holding.{AreBlocksFrom}
 use Rattle.blake2b_core.proofs.BlockLemmas.{are_blocks, first_chunks-take, hash_after-append}
-use Rattle.blake2b_core.proofs.pieces.Blake2b.absorb.Goals as goal
+use Rattle.blake2b_core.proofs.incremental.Blake2b.absorb.Goals as goal
 
 -- whole blocks that stand at the front of a piece are the next blocks of the message with them
 next_blocks : {bs : List (List ℕ)} (m piece : List ℕ) (k count : ℕ) → 128 * k ≡ length m → 128 * count ≤ length piece

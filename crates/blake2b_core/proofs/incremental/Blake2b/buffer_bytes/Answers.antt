@@ -1,7 +1,7 @@
 use Rattle.std.proofs.Common.{◌≡◌, ◌+◌, ◌*◌, ◌≤◌, length, sym, ◌∙◌, arith, length-append, rules}
 use Rattle.blake2b_core.proofs.BlockLemmas.{hash_after-append}
 use Rattle.blake2b_core.proofs.HeldLemmas.{held-more}
-use Rattle.blake2b_core.proofs.pieces.Blake2b.buffer_bytes.Goals as goal
+use Rattle.blake2b_core.proofs.incremental.Blake2b.buffer_bytes.Goals as goal
 
 -- the bytes are held behind the others, and the blocks stay
 pub returns-clause-holds : goal.returns-clause-holds

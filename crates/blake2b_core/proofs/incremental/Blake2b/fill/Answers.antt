@@ -1,7 +1,7 @@
 use Rattle.std.proofs.Common.{◌≡◌, ◌+◌, ◌-◌, ◌*◌, ◌++◌, length, take, sym, ◌∙◌, arith}
 use Rattle.std.proofs.lemmas.List.{drop_all, length-take-le}
 use Rattle.blake2b_core.proofs.BlockLemmas.{hash_after-full}
-use Rattle.blake2b_core.proofs.pieces.Blake2b.fill.Goals as goal
+use Rattle.blake2b_core.proofs.incremental.Blake2b.fill.Goals as goal
 
 -- the block that was held is full, and is compressed
 pub returns-clause-holds : goal.returns-clause-holds

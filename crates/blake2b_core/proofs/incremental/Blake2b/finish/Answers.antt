@@ -1,7 +1,7 @@
 use Rattle.std.proofs.Common.{◌≡◌, ◌+◌, ◌*◌, length, ◌∙◌, arith}
 use Rattle.blake2b_core.proofs.BlockLemmas.{IsLast, blake2b-from}
 use Rattle.blake2b_core.proofs.HeldLemmas.{some_held}
-use Rattle.blake2b_core.proofs.pieces.Blake2b.finish.Goals as goal
+use Rattle.blake2b_core.proofs.incremental.Blake2b.finish.Goals as goal
 
 -- what is held is the last block
 pub returns-clause-digest : goal.returns-clause-digest

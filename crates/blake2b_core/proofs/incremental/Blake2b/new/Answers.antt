@@ -1,6 +1,6 @@
 use Rattle.std.proofs.Common.{refl}
 use Rattle.blake2b_core.specs.refinement.Chaining.{hash_after}
-use Rattle.blake2b_core.proofs.pieces.Blake2b.new.Goals as goal
+use Rattle.blake2b_core.proofs.incremental.Blake2b.new.Goals as goal
 
 -- a new state holds the empty message
 pub returns-clause-holds : goal.returns-clause-holds

@@ -2,7 +2,7 @@ use Rattle.std.proofs.Common.{◌≡◌, ℕ, ◌+◌, ◌-◌, List, ◌++◌, 
 use Rattle.std.proofs.lemmas.List.{length-drop, nil_from_length, take_rest}
 use Rattle.blake2b_core.specs.refinement.Holding.{HoldsSoFar}
 use Rattle.blake2b_core.proofs.HeldLemmas.{three_parts, none_left}
-use Rattle.blake2b_core.proofs.pieces.Blake2b.update.Goals as goal
+use Rattle.blake2b_core.proofs.incremental.Blake2b.update.Goals as goal
 
 -- the piece goes in three parts: what fills the block that is held, whole blocks, and the rest, which is held
 pub returns-clause-holds : goal.returns-clause-holds

@@ -1,7 +1,7 @@
 use Rattle.std.proofs.Common.{Ok, Err, ◌∙◌, rules}
-use Rattle.sum_engine.specs.refinement.Positions.{rules_in}
-use Rattle.sum_engine.proofs.ManifestLemmas.{comes_none, comes_more, comes_last}
-use Rattle.sum_engine.proofs.manifest.check_input.Goals as goal
+use Rattle.sum_engine.specs.refinement.Cursors.{rules_in}
+use Rattle.sum_engine.proofs.CheckOneLemmas.{comes_none, comes_more, comes_last}
+use Rattle.sum_engine.proofs.check.check_one.check_input.Goals as goal
 
 pub lines-init : goal.lines-init
 lines-init g c = record {

@@ -1,11 +1,11 @@
 use Rattle.std.proofs.Common.{◌≡◌, ◌⊎◌, ◌^◌, ◌-◌, Bool, true, Ok, None, option_map}
 use Rattle.digest_kinds.specs.Limits.{one_more}
 use Rattle.sum_sources.specs.Contents.{clip}
-use Rattle.sum_engine.specs.Moments.{known_state, IsFlushed, StopHasCause}
-use Rattle.sum_engine.specs.Steps.{check_state}
-use Rattle.sum_engine.specs.refinement.Positions.{rules_in}
-use Rattle.sum_engine.proofs.ManifestLemmas.{Comes}
-use Rattle.sum_engine.proofs.manifest.check_input.Given as goal
+use Rattle.sum_engine.specs.Execution.{known_state, IsFlushed, StopHasCause}
+use Rattle.sum_engine.specs.check.CheckerSteps.{check_state}
+use Rattle.sum_engine.specs.refinement.Cursors.{rules_in}
+use Rattle.sum_engine.proofs.CheckOneLemmas.{Comes}
+use Rattle.sum_engine.proofs.check.check_one.check_input.Given as goal
 
 abbrev pub invariant-lines : goal.invariant-lines
 invariant-lines g l =

@@ -1,8 +1,8 @@
 use Rattle.std.proofs.Common.{◌≡◌, true, false, Ok, Err, rules}
 use Rattle.std.proofs.lemmas.Result.{err_from_is_err_and}
-use Rattle.sum_engine.specs.Runs.{is_dash}
-use Rattle.sum_engine.proofs.ManifestLemmas.{Call, check_dash, check_file, refused, no_room}
-use Rattle.sum_engine.proofs.manifest.check_one.Goals as goal
+use Rattle.sum_engine.specs.Behavior.{is_dash}
+use Rattle.sum_engine.proofs.CheckOneLemmas.{Call, check_dash, check_file, refused, no_room}
+use Rattle.sum_engine.proofs.check.check_one.check_one.Goals as goal
 
 -- the manifest is standard input
 pub returns-then-is_dash-clause-behavior : goal.returns-then-is_dash-clause-behavior

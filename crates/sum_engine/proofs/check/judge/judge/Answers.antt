@@ -1,11 +1,11 @@
 use Rattle.std.proofs.Common.{◌≡◌, ◌&&◌, false, rules}
-use Rattle.sum_lines.specs.Entries.{EntryValue}
-use Rattle.sum_engine.specs.Runs.{is_dash}
+use Rattle.sum_lines.specs.grammar.Entries.{EntryValue}
+use Rattle.sum_engine.specs.Behavior.{is_dash}
 use Rattle.sum_engine.specs.refinement.Judging.{listed_entry}
-use Rattle.sum_engine.specs.refinement.Positions.{rules_in}
+use Rattle.sum_engine.specs.refinement.Cursors.{rules_in}
 use Rattle.sum_engine.proofs.VerdictLemmas.{judged_entry}
-use Rattle.sum_engine.proofs.verdict.judge.Goals.{else-listing-via-then-listing+else-is_dash, else-listing-via-else-listing}
-use Rattle.sum_engine.proofs.verdict.judge.Goals as goal
+use Rattle.sum_engine.proofs.check.judge.judge.Goals.{else-listing-via-then-listing+else-is_dash, else-listing-via-else-listing}
+use Rattle.sum_engine.proofs.check.judge.judge.Goals as goal
 
 pub returns-clause-verdict : goal.returns-clause-verdict
 returns-clause-verdict g c =

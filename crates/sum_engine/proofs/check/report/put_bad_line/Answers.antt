@@ -1,4 +1,4 @@
-use Rattle.sum_engine.proofs.report.put_bad_line.Goals as goal
+use Rattle.sum_engine.proofs.check.report.put_bad_line.Goals as goal
 
 pub returns : goal.returns
 returns g c =

@@ -1,12 +1,12 @@
 use Rattle.std.proofs.Common.{◌≡◌, ◌==◌, List, ℕ, refl, ◌∙◌}
 use Rattle.sum_sources.specs.declared.fault.Ending.TheVariants.{Whole}
-use Rattle.sum_engine.specs.Reports.{Counts, Report, entries, unless_status, warnings, end_text}
+use Rattle.sum_engine.specs.check.Reports.{Counts, Report, entries, unless_status, warnings, end_text}
 use Rattle.std.proofs.lemmas.Bool.{cond-false, ne_eqb}
 use Rattle.sum_engine.specs.declared.settings.Report.TheVariants.{Status}
-use Rattle.sum_engine.specs.Verdicts.{Rules}
-use Rattle.sum_engine.specs.refinement.Positions.{rules_in}
+use Rattle.sum_engine.specs.check.Verdicts.{Rules}
+use Rattle.sum_engine.specs.refinement.Cursors.{rules_in}
 use Rattle.sum_engine.specs.declared.settings.Report.TheVariants as reports
-use Rattle.sum_engine.proofs.summary.put_summary.Goals as goal
+use Rattle.sum_engine.proofs.check.summary.put_summary.Goals as goal
 
 -- warnings that aren't left out
 unless-shown : (report : Report) (text : List ℕ) → (report ≡ Status → ⊥) → unless_status report text ≡ text

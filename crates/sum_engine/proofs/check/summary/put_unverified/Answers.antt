@@ -1,4 +1,4 @@
-use Rattle.sum_engine.proofs.summary.put_unverified.Goals as goal
+use Rattle.sum_engine.proofs.check.summary.put_unverified.Goals as goal
 
 pub returns-then-counts-eq0 : goal.returns-then-counts-eq0
 returns-then-counts-eq0 g c =

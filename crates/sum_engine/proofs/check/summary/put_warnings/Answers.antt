@@ -1,7 +1,7 @@
 use Rattle.std.proofs.Common.{Err}
 use Rattle.std.proofs.lemmas.Result.{err_from_is_err_and}
-use Rattle.sum_engine.proofs.TellLemmas.{tells_then, part_more}
-use Rattle.sum_engine.proofs.summary.put_warnings.Goals as goal
+use Rattle.sum_engine.proofs.FlushedWriteLemmas.{tells_then, part_more}
+use Rattle.sum_engine.proofs.check.summary.put_warnings.Goals as goal
 
 pub returns-in_err-put_warning : goal.returns-in_err-put_warning
 returns-in_err-put_warning g c =

@@ -1,6 +1,6 @@
 use Rattle.std.proofs.Common.{arith}
 use Rattle.sum_lines.proofs.BeginningLemmas.{end-none}
-use Rattle.sum_lines.proofs.beginnings.digits_end.Goals as goal
+use Rattle.sum_lines.proofs.reading.beginnings.digits_end.Goals as goal
 
 -- nothing behind it
 pub returns-in_default-clause-none : goal.returns-in_default-clause-none

@@ -1,6 +1,6 @@
 use Rattle.std.proofs.Common.{◌*◌, refl}
 use Rattle.sum_lines.proofs.BeginningLemmas.{fixed-len, search-none, search-some}
-use Rattle.sum_lines.proofs.beginnings.digits_len.Goals as goal
+use Rattle.sum_lines.proofs.reading.beginnings.digits_len.Goals as goal
 
 -- the first blank among so many bytes ends BLAKE2b's digits
 pub returns-in-Blake2b-clause-none : goal.returns-in-Blake2b-clause-none

@@ -1,7 +1,7 @@
 use Rattle.std.proofs.Common.{refl, sym}
 use Rattle.sum_lines.proofs.BeginningLemmas.{by-tag, untagged}
 use Rattle.sum_lines.proofs.PlainLemmas.{uncut}
-use Rattle.sum_lines.proofs.beginnings.find_beginning.Goals as goal
+use Rattle.sum_lines.proofs.reading.beginnings.find_beginning.Goals as goal
 
 -- a tag stands in front
 pub returns-in-Some-clause-leads : goal.returns-in-Some-clause-leads

@@ -1,5 +1,5 @@
 use Rattle.digest_kinds.proofs.TagLemmas.{search-is}
-use Rattle.sum_lines.proofs.beginnings.tag_in.Goals as goal
+use Rattle.sum_lines.proofs.reading.beginnings.tag_in.Goals as goal
 
 -- the algorithm is the one that the search by tags finds
 pub returns-in-Any : goal.returns-in-Any

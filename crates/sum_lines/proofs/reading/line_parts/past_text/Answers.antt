@@ -1,7 +1,7 @@
 use Rattle.std.proofs.lemmas.Bool.Decides.{Decides-eqb}
 use Rattle.std.proofs.lemmas.Slice.Eq.{strip_prefix_is}
 use Rattle.sum_lines.proofs.ScanLemmas.{behind_is}
-use Rattle.sum_lines.proofs.scanning.past_text.Goals as goal
+use Rattle.sum_lines.proofs.reading.line_parts.past_text.Goals as goal
 
 -- std's comparison passes over the text where it stands in front
 pub returns : goal.returns

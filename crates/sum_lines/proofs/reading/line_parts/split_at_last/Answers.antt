@@ -1,7 +1,7 @@
 use Rattle.std.proofs.Common.{refl, sym, ◌+◌}
 use Rattle.std.proofs.lemmas.List.{take_rest}
 use Rattle.sum_lines.proofs.ScanLemmas.{last_none, last_some}
-use Rattle.sum_lines.proofs.scanning.split_at_last.Goals as goal
+use Rattle.sum_lines.proofs.reading.line_parts.split_at_last.Goals as goal
 
 -- the byte is nowhere
 pub returns-in_err-at : goal.returns-in_err-at

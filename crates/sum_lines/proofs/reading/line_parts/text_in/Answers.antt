@@ -1,5 +1,5 @@
 use Rattle.sum_lines.proofs.ScanLemmas.{text_ends}
-use Rattle.sum_lines.proofs.scanning.text_in.Goals as goal
+use Rattle.sum_lines.proofs.reading.line_parts.text_in.Goals as goal
 
 -- the text ends the line
 pub returns-clause-ends : goal.returns-clause-ends

@@ -3,7 +3,7 @@ use Rattle.std.proofs.lemmas.List.{take-append-drop, take_rest}
 use Rattle.sum_lines.proofs.BeginningLemmas.{digits-none, kind-none, plain-read}
 use Rattle.sum_lines.proofs.PlainLemmas.{read_is_plain, uncut}
 use Rattle.sum_lines.proofs.ScanLemmas.{ends-behind, tail-place}
-use Rattle.sum_lines.proofs.plain.plain.Goals as goal
+use Rattle.sum_lines.proofs.reading.plain.plain.Goals as goal
 
 -- no digest has that length
 pub returns-in_err-kind-clause-parts : goal.returns-in_err-kind-clause-parts

@@ -1,7 +1,7 @@
 use Rattle.std.proofs.Common.{◌≡◌, false, refl, sym, ◌∙◌}
-use Rattle.sum_lines.specs.Entries.{is_ignored}
-use Rattle.sum_lines.specs.ParsedLines.{entry_of}
-use Rattle.sum_lines.proofs.line_reading.read_line.Goals as goal
+use Rattle.sum_lines.specs.grammar.Entries.{is_ignored}
+use Rattle.sum_lines.specs.grammar.ParsedLines.{entry_of}
+use Rattle.sum_lines.proofs.reading.read_line.read_line.Goals as goal
 
 -- what neither a tag nor digits begin is a bad line
 pub returns-in-None-clause-parsed : goal.returns-in-None-clause-parsed

@@ -1,8 +1,8 @@
 use Rattle.std.proofs.Common.{refl}
 use Rattle.std.proofs.lemmas.List.{take_rest}
 use Rattle.sum_lines.proofs.NameLemmas.{part_of}
-use Rattle.sum_lines.proofs.line_reading.read_name.Goals.{else-unspell-via-then-unspell+else-not-has_nul, else-unspell-via-else-unspell}
-use Rattle.sum_lines.proofs.line_reading.read_name.Goals as goal
+use Rattle.sum_lines.proofs.reading.read_line.read_name.Goals.{else-unspell-via-then-unspell+else-not-has_nul, else-unspell-via-else-unspell}
+use Rattle.sum_lines.proofs.reading.read_line.read_name.Goals as goal
 
 -- the raw name was replaced by its name
 pub returns-then-not-has_nul-clause-parsed : goal.returns-then-not-has_nul-clause-parsed

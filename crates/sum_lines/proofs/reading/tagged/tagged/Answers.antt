@@ -1,7 +1,7 @@
 use Rattle.std.proofs.Common.{sym, arith, length, ◌∙◌}
 use Rattle.std.proofs.lemmas.Bool.{eqb-false}
 use Rattle.sum_lines.proofs.ScanLemmas.{decoded-size, digest_none, digest_other, name_place, tagged-none, tagged-read}
-use Rattle.sum_lines.proofs.tagged.tagged.Goals as goal
+use Rattle.sum_lines.proofs.reading.tagged.tagged.Goals as goal
 
 -- another number of digits than the kind's digests have
 pub returns-then-digits-len-clause-parts : goal.returns-then-digits-len-clause-parts

@@ -1,5 +1,5 @@
 use Rattle.sum_lines.proofs.BeginningLemmas.{tag-within}
-use Rattle.sum_lines.proofs.tagged.width.Goals as goal
+use Rattle.sum_lines.proofs.reading.tagged.width.Goals as goal
 
 -- the tag fits in the text
 pub slice_bounds-rest-start : goal.slice_bounds-rest-start

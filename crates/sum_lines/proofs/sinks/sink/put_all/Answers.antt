@@ -2,8 +2,8 @@ use Rattle.std.proofs.Common.{rules, ◌<◌, [], length, sym, append-nil}
 use Rattle.std.proofs.lemmas.List.{take_rest, nil_from_length}
 use Rattle.std.proofs.lemmas.Result.{err_from_is_err_and}
 use Rattle.sum_lines.proofs.SinkLemmas.{FlushFailed-broke, Left-step, Left-stop, Left-none, cut_at}
-use Rattle.sum_lines.proofs.HandOnLemmas.{Offered-more, Offered-last, Offered-none}
-use Rattle.sum_lines.proofs.sink.put_all.Goals as goal
+use Rattle.sum_lines.proofs.OfferLemmas.{Offered-more, Offered-last, Offered-none}
+use Rattle.sum_lines.proofs.sinks.sink.put_all.Goals as goal
 
 -- a write failed
 pub returns-in_err-count-clause-text : goal.returns-in_err-count-clause-text

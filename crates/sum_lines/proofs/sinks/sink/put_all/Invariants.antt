@@ -1,7 +1,7 @@
 use Rattle.std.proofs.Common.{length}
 use Rattle.sum_lines.proofs.SinkLemmas.{Left}
-use Rattle.sum_lines.proofs.HandOnLemmas.{Offered}
-use Rattle.sum_lines.proofs.sink.put_all.Given as goal
+use Rattle.sum_lines.proofs.OfferLemmas.{Offered}
+use Rattle.sum_lines.proofs.sinks.sink.put_all.Given as goal
 
 abbrev pub invariant-loop-rest : goal.invariant-loop-rest
 invariant-loop-rest g l = record {

@@ -3,7 +3,7 @@ use Rattle.std.proofs.lemmas.List.{at_drop_more}
 use Rattle.std.proofs.lemmas.Result.{err_from_is_err_and}
 use Rattle.sum_lines.specs.refinement.PartTexts.{parts_text}
 use Rattle.sum_lines.proofs.SinkLemmas.{Left-step, Left-stop}
-use Rattle.sum_lines.proofs.parts.put_parts.Goals as goal
+use Rattle.sum_lines.proofs.writing.parts.put_parts.Goals as goal
 
 -- a part failed
 pub returns-in_err-put_part : goal.returns-in_err-put_part

@@ -1,7 +1,7 @@
 use Rattle.std.proofs.Common.{drop}
 use Rattle.sum_lines.specs.refinement.PartTexts.{parts_text}
 use Rattle.sum_lines.proofs.SinkLemmas.{Left}
-use Rattle.sum_lines.proofs.parts.put_parts.Given as goal
+use Rattle.sum_lines.proofs.writing.parts.put_parts.Given as goal
 
 abbrev pub invariant-loop-part : goal.invariant-loop-part
 invariant-loop-part g l =

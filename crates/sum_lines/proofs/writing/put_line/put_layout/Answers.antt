@@ -1,7 +1,7 @@
 use Rattle.std.proofs.Common.{refl}
 use Rattle.std.proofs.lemmas.Result.{err_from_is_err_and}
 use Rattle.sum_lines.proofs.SinkLemmas.{Left-all, Left-step, Left-stop, Left-last}
-use Rattle.sum_lines.proofs.line_format.put_layout.Goals as goal
+use Rattle.sum_lines.proofs.writing.put_line.put_layout.Goals as goal
 
 -- the tag failed
 pub returns-in_err-put_tag-in-Tag : goal.returns-in_err-put_tag-in-Tag

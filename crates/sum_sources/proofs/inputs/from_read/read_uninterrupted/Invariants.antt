@@ -1,5 +1,5 @@
 use Rattle.std.specs.Io.KnownBytes.{Keeps}
-use Rattle.sum_sources.proofs.from_read.read_uninterrupted.Given as goal
+use Rattle.sum_sources.proofs.inputs.from_read.read_uninterrupted.Given as goal
 
 -- interruptions take no byte
 abbrev pub invariant-loop : goal.invariant-loop

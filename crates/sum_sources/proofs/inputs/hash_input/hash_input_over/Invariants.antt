@@ -2,7 +2,7 @@ use Rattle.std.proofs.Common.{◌≡◌, ℕ, ◌^◌, ◌<◌, ◌-◌, List}
 use Rattle.sum_sources.specs.Contents.{IfKnown, clip, limit}
 use Rattle.sum_sources.specs.LineReaders.{clip_to}
 use Rattle.sum_sources.proofs.ContentLemmas.{Gave}
-use Rattle.sum_sources.proofs.hashing.hash_input_over.Given as goal
+use Rattle.sum_sources.proofs.inputs.hash_input.hash_input_over.Given as goal
 
 -- the hasher holds the bytes that the input has given
 abbrev pub invariant-loop-hasher : goal.invariant-loop-hasher

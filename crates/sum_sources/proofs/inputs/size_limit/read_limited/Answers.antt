@@ -2,7 +2,7 @@ use Rattle.std.proofs.Common.{rules, arith, ◌≡◌, ◌≤◌, length}
 use Rattle.std.proofs.lemmas.Result.{err_from_is_err_and}
 use Rattle.sum_sources.proofs.LimitLemmas.{clipped-bytes, clipped-fault, clipped-long, clipped-none}
 use Rattle.sum_sources.proofs.ToldLemmas.{IfKnown-map}
-use Rattle.sum_sources.proofs.limited.read_limited.Goals as goal
+use Rattle.sum_sources.proofs.inputs.size_limit.read_limited.Goals as goal
 
 -- that it is too long was seen before
 pub returns-then-taken-eq-LIMIT-clause-bytes : goal.returns-then-taken-eq-LIMIT-clause-bytes

@@ -1,8 +1,8 @@
 use Rattle.std.proofs.Common.{[], ap, arith, ◌∙◌}
-use Rattle.sum_sources.specs.declared.lines.ReaderState.TheVariants.{Stopped}
+use Rattle.sum_sources.specs.declared.line_reader.ReaderState.TheVariants.{Stopped}
 use Rattle.sum_sources.proofs.PieceLemmas.{some_buffered}
 use Rattle.sum_sources.proofs.LineLemmas.{gives_ended, gives_stopped, gives_stop}
-use Rattle.sum_sources.proofs.lines.LineReader.next_line.Goals as goal
+use Rattle.sum_sources.proofs.line_reader.LineReader.next_line.Goals as goal
 
 -- the end is answered again
 pub returns-in-Ended-clause-line : goal.returns-in-Ended-clause-line

@@ -3,9 +3,9 @@ use Rattle.std.proofs.lemmas.List.{nil_from_length}
 use Rattle.sum_sources.proofs.LineLemmas.{NextLineIs-last, NextLineIs-none, NextLineIs-fault}
 use Rattle.sum_sources.proofs.ToldLemmas.{IfKnown-map}
 use Rattle.sum_sources.proofs.ReadOnLemmas.{LineSoFar, LineSoFar-piece, ends_line, all_came, ends_last}
-use Rattle.sum_sources.proofs.lines.LineReader.read_on.Goals.{In-Ok-false}
-use Rattle.sum_sources.proofs.lines.LineReader.read_on.Given as given
-use Rattle.sum_sources.proofs.lines.LineReader.read_on.Goals as goal
+use Rattle.sum_sources.proofs.line_reader.LineReader.read_on.Goals.{In-Ok-false}
+use Rattle.sum_sources.proofs.line_reader.LineReader.read_on.Given as given
+use Rattle.sum_sources.proofs.line_reader.LineReader.read_on.Goals as goal
 
 -- a newline ended the line
 pub returns-in-Ok-true-clause-line : goal.returns-in-Ok-true-clause-line

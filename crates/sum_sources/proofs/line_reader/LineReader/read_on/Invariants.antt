@@ -3,7 +3,7 @@ use Rattle.sum_sources.specs.Contents.{IfKnown}
 use Rattle.sum_sources.specs.LineReaders.{consumed}
 use Rattle.sum_sources.proofs.ReadOnLemmas.{LineSoFar}
 use Rattle.sum_sources.specs.ManifestLines.{NoNewline}
-use Rattle.sum_sources.proofs.lines.LineReader.read_on.Given as goal
+use Rattle.sum_sources.proofs.line_reader.LineReader.read_on.Given as goal
 
 -- what came of the line so far, and the sums that stay
 abbrev pub invariant-loop-self : goal.invariant-loop-self

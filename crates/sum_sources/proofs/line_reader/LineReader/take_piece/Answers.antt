@@ -1,7 +1,7 @@
 use Rattle.std.proofs.Common.{arith}
 use Rattle.std.proofs.lemmas.Bool.{eqb-true}
 use Rattle.sum_sources.proofs.PieceLemmas.{length-buffered, plain_piece, plain_prefix, cut_buffer}
-use Rattle.sum_sources.proofs.lines.LineReader.take_piece.Goals as goal
+use Rattle.sum_sources.proofs.line_reader.LineReader.take_piece.Goals as goal
 
 -- the piece up to the newline
 pub returns-in_ok-extend_from_slice-in-Some-clause-piece : goal.returns-in_ok-extend_from_slice-in-Some-clause-piece

@@ -1,7 +1,7 @@
 use Rattle.std.proofs.Common.{◌≡◌, drop, map}
 use Rattle.sum_sources.specs.InMemory.{first_reply}
 use Rattle.sum_sources.specs.refinement.ToldPairs.{pair_of}
-use Rattle.sum_sources.proofs.told_source.answer_to.Given as goal
+use Rattle.sum_sources.proofs.sources.told_source.answer_to.Given as goal
 
 -- none of the pairs so far has the name
 abbrev pub invariant-loop-pair : goal.invariant-loop-pair

@@ -3,7 +3,7 @@ use Rattle.sum_words.specs.declared.tool.Tool.{Tool}
 use Rattle.sum_words.specs.declared.tool.Tool.TheVariants.{Md5sum, B2sum}
 use Rattle.sum_words.specs.Items.{ByteString, flags_of}
 use Rattle.sum_words.specs.Texts.{help_line}
-use Rattle.sum_words.proofs.texts.options.Goals as goal
+use Rattle.sum_words.proofs.messages.help.options.Goals as goal
 
 pub returns-in-B2sum : goal.returns-in-B2sum
 returns-in-B2sum c = rw c.in-B2sum.is refl

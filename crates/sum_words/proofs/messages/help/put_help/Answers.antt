@@ -1,6 +1,6 @@
 use Rattle.std.proofs.Common.{◌∙◌}
 use Rattle.sum_words.proofs.TextLemmas.{help_parts}
-use Rattle.sum_words.proofs.texts.put_help.Goals as goal
+use Rattle.sum_words.proofs.messages.help.put_help.Goals as goal
 
 -- the parts make the help text
 pub returns : goal.returns

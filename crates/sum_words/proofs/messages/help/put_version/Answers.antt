@@ -1,4 +1,4 @@
-use Rattle.sum_words.proofs.texts.put_version.Goals as goal
+use Rattle.sum_words.proofs.messages.help.put_version.Goals as goal
 
 -- the parts make the version text
 pub returns : goal.returns

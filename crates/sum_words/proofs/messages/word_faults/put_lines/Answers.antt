@@ -1,6 +1,6 @@
 use Rattle.std.proofs.Common.{◌∙◌}
 use Rattle.sum_words.proofs.TextLemmas.{fault_parts}
-use Rattle.sum_words.proofs.faults.put_lines.Goals as goal
+use Rattle.sum_words.proofs.messages.word_faults.put_lines.Goals as goal
 
 -- the parts make the two lines
 pub returns : goal.returns

@@ -1,7 +1,7 @@
 use Rattle.std.proofs.Common.{◌≡◌, ◌==◌, List, drop, filter}
 use Rattle.std.specs.List.{starts_with, cons_option}
 use Rattle.sum_words.specs.Items.{Flag, full_name, the_one}
-use Rattle.sum_words.proofs.options.only_begun.Given as goal
+use Rattle.sum_words.proofs.parsing.options.only_begun.Given as goal
 
 -- what was found and the options still to come mean the same as all
 abbrev pub invariant-loop-flag : goal.invariant-loop-flag

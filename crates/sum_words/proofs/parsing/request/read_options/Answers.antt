@@ -3,7 +3,7 @@ use Rattle.sum_words.specs.Items.{a_word, items_from, option}
 use Rattle.sum_words.specs.refinement.ItemIterator.{item_of}
 use Rattle.sum_words.specs.Request.{early_answer}
 use Rattle.sum_words.proofs.RequestLemmas.{ending_not}
-use Rattle.sum_words.proofs.request.read_options.Goals as goal
+use Rattle.sum_words.proofs.parsing.request.read_options.Goals as goal
 
 -- before the first item nothing was chosen
 pub loop-item-init : goal.loop-item-init

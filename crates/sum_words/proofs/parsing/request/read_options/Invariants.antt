@@ -1,8 +1,8 @@
 use Rattle.std.proofs.Common.{◌≡◌, length}
 use Rattle.sum_words.specs.Items.{a_word, items_from}
 use Rattle.sum_words.specs.Request.{early_answer}
-use Rattle.sum_words.specs.refinement.RequestReading.{IsChosenBy}
-use Rattle.sum_words.proofs.request.read_options.Given as goal
+use Rattle.sum_words.specs.refinement.OptionScan.{IsChosenBy}
+use Rattle.sum_words.proofs.parsing.request.read_options.Given as goal
 
 -- the running values and the items still to come say what all items say
 abbrev pub invariant-loop-item : goal.invariant-loop-item

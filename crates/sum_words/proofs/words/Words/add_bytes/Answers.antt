@@ -1,5 +1,5 @@
 use Rattle.std.proofs.Common.{◌≡◌, length, ◌∙◌}
-use Rattle.sum_words.proofs.PieceLemmas.{AreWords-push}
+use Rattle.sum_words.proofs.WordBytesLemmas.{AreWords-push}
 use Rattle.sum_words.proofs.words.Words.add_bytes.Goals as goal
 
 -- with one more place the bytes still are words

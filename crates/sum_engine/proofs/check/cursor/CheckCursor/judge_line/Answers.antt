@@ -1,10 +1,10 @@
 use Rattle.std.proofs.Common.{◌≡◌, slice_range, refl, ap, sym, ◌∙◌}
 use Rattle.sum_lines.specs.Escape.{present}
-use Rattle.sum_lines.specs.Entries.{EntryValue, form_then, line_form}
-use Rattle.sum_lines.specs.ParsedLines.{parse_line, entry}
-use Rattle.sum_engine.specs.refinement.Positions.{cursor_value}
-use Rattle.sum_engine.proofs.FindLemmas.{line_found}
-use Rattle.sum_engine.proofs.position.CheckCursor.judge_line.Goals as goal
+use Rattle.sum_lines.specs.grammar.Entries.{EntryValue, form_then, line_form}
+use Rattle.sum_lines.specs.grammar.ParsedLines.{parse_line, entry}
+use Rattle.sum_engine.specs.refinement.Cursors.{cursor_value}
+use Rattle.sum_engine.proofs.NextVerdictLemmas.{line_found}
+use Rattle.sum_engine.proofs.check.cursor.CheckCursor.judge_line.Goals as goal
 
 -- an entry was judged
 pub returns-in-Some-clause-verdict : goal.returns-in-Some-clause-verdict

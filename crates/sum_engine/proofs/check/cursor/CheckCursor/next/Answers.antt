@@ -3,10 +3,10 @@ use Rattle.std.proofs.KnownBytes.{Appends-nil}
 use Rattle.std.proofs.lemmas.Result.{err_from_is_err_and}
 use Rattle.sum_sources.specs.declared.fault.Ending.TheVariants.{Whole, Broken}
 use Rattle.sum_lines.specs.Escape.{present}
-use Rattle.sum_engine.specs.Verdicts.{Rules}
-use Rattle.sum_engine.specs.refinement.Positions.{cursor_value}
+use Rattle.sum_engine.specs.check.Verdicts.{Rules}
+use Rattle.sum_engine.specs.refinement.Cursors.{cursor_value}
 use Rattle.sum_engine.proofs.StepLemmas.{step_found, nothing_said, step_wants, step_end}
-use Rattle.sum_engine.proofs.position.CheckCursor.next.Goals as goal
+use Rattle.sum_engine.proofs.check.cursor.CheckCursor.next.Goals as goal
 
 -- there was no memory for the line, or for opening the file that it names
 pub returns-in-Err-Memory-clause-step : goal.returns-in-Err-Memory-clause-step

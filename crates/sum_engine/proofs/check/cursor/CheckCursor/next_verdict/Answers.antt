@@ -1,9 +1,9 @@
 use Rattle.std.proofs.Common.{refl, ap, is_none}
-use Rattle.sum_engine.specs.LineVerdicts.{lent_streams}
-use Rattle.sum_engine.specs.refinement.Positions.{cursor_value}
-use Rattle.sum_engine.proofs.RunStateLemmas.{known_refused}
-use Rattle.sum_engine.proofs.FindLemmas.{find_line, find_refused}
-use Rattle.sum_engine.proofs.position.CheckCursor.next_verdict.Goals as goal
+use Rattle.sum_engine.specs.check.NextVerdict.{lent_streams}
+use Rattle.sum_engine.specs.refinement.Cursors.{cursor_value}
+use Rattle.sum_engine.proofs.ExecutionLemmas.{known_refused}
+use Rattle.sum_engine.proofs.NextVerdictLemmas.{find_line, find_refused}
+use Rattle.sum_engine.proofs.check.cursor.CheckCursor.next_verdict.Goals as goal
 
 -- a line was judged
 pub returns-in-Some-clause-verdict : goal.returns-in-Some-clause-verdict

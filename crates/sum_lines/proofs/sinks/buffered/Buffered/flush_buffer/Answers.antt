@@ -1,5 +1,5 @@
 use Rattle.sum_lines.proofs.BufferLemmas.{Emptied}
-use Rattle.sum_lines.proofs.buffered.Buffered.flush_buffer.Goals as goal
+use Rattle.sum_lines.proofs.sinks.buffered.Buffered.flush_buffer.Goals as goal
 
 -- all of the buffer was written to the sink below, or that failed
 pub returns-clause-bytes : goal.returns-clause-bytes

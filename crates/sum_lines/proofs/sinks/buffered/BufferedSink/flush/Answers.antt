@@ -1,5 +1,5 @@
 use Rattle.sum_lines.proofs.BufferLemmas.{Flushed-below}
-use Rattle.sum_lines.proofs.buffered.BufferedSink.flush.Goals as goal
+use Rattle.sum_lines.proofs.sinks.buffered.BufferedSink.flush.Goals as goal
 
 -- nothing is held in the buffer any more, and the sink below was flushed, or that failed
 pub returns-clause-bytes : goal.returns-clause-bytes

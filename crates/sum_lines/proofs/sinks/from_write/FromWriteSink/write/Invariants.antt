@@ -1,6 +1,6 @@
 use Rattle.std.proofs.Common.{◌≡◌}
 use Rattle.std.specs.Io.KnownBytes.{Keeps}
-use Rattle.sum_lines.proofs.from_write.FromWriteSink.write.Given as goal
+use Rattle.sum_lines.proofs.sinks.from_write.FromWriteSink.write.Given as goal
 
 abbrev pub invariant-loop : goal.invariant-loop
 invariant-loop g l = record {

@@ -1,7 +1,7 @@
 use Rattle.std.proofs.Common.{rules, arith}
 use Rattle.std.proofs.lemmas.Grind.{common_steps}
 use Rattle.sum_lines.proofs.SinkLemmas.{Accepted-told}
-use Rattle.sum_lines.proofs.told_sink.ToldSinkSink.write.Goals as goal
+use Rattle.sum_lines.proofs.sinks.told_sink.ToldSinkSink.write.Goals as goal
 
 -- what there is room for stands behind the bytes
 pub returns-clause-bytes : goal.returns-clause-bytes

@@ -1,0 +1,6 @@
+//! Hashers: the trait, one for each of the kit's digests and for BLAKE2b, and the one of any kind.
+
+pub(crate) mod any_hasher;
+pub(crate) mod blake2b_hasher;
+pub(crate) mod hasher;
+pub(crate) mod kit_hashers;

@@ -1,0 +1,6 @@
+-- The line grammar: the shapes of a manifest's lines, the entries that they spell, and the laws of these.
+pub mod Shapes
+pub mod Entries
+pub mod LineParts
+pub mod ParsedLines
+pub mod LineLaws

@@ -1,0 +1,7 @@
+//! How a line of a manifest is read.
+
+pub(crate) mod beginnings;
+pub(crate) mod line_parts;
+pub(crate) mod plain;
+pub(crate) mod read_line;
+pub(crate) mod tagged;

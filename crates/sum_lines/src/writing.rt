@@ -1,0 +1,4 @@
+//! How a line is written.
+
+pub(crate) mod parts;
+pub(crate) mod put_line;

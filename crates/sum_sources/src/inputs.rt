@@ -1,0 +1,9 @@
+//! What can be read: the trait of an input, the inputs, and the digest of one.
+
+pub(crate) mod closable;
+pub(crate) mod from_read;
+pub(crate) mod hash_input;
+pub(crate) mod input;
+pub(crate) mod size_limit;
+pub(crate) mod stdin;
+pub(crate) mod told;

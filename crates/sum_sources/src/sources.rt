@@ -1,0 +1,5 @@
+//! Where files are opened: the trait of a source, and the sources.
+
+pub(crate) mod files;
+pub(crate) mod source;
+pub(crate) mod told_source;
