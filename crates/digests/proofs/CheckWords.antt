@@ -79,7 +79,7 @@ asked t xs = unwrap_or (early_answer xs) (result_map_both (λ job. Work job (fil
     (job_or_fault (algos_of t) (kind_asked (filter_map value_in xs)) (filter_map option_in xs)))
 
 abbrev settings : Tool → Report → Bool → Bool → CheckSettings
-settings t r s i = record { algos = algos_of t; report = r; strict = s; ignore_missing = i }
+settings t r s i = record { algo = algos_of t; report = r; strict = s; ignore_missing = i }
 
 -- no option of a check takes a value, and what they ask for is the check
 checked : (t : Tool) (m : ByteString) (r : Report) (s i : Bool)
@@ -109,4 +109,4 @@ pub request-check_words : (t : Tool) (check : CheckSettings) (manifest : ByteStr
 request-check_words t check manifest h =
     let is = checked t manifest check.report check.strict check.ignore_missing in
     ap (asked t) (items-are t check manifest is.0 h.operand) ∙ is.1
-    ∙ ap (λ a. Ok (Work (Check (record check { algos = a })) (manifest ∷ []))) (sym h.algo)
+    ∙ ap (λ a. Ok (Work (Check (record check { algo = a })) (manifest ∷ []))) (sym h.algo)

@@ -84,7 +84,7 @@ run-listed algos w v g c =
 lines-good : (t : Tool) (check : CheckSettings) (manifest : ByteString) (v : World) (xs : List Item)
     (names : List ByteString)
     (text : ByteString) → ChecksBy t check manifest
-    → All (Listed check.algos v.answer) xs → map (λ i. i.name) xs ≡ names → flat_map written_text xs ≡ text
+    → All (Listed check.algo v.answer) xs → map (λ i. i.name) xs ≡ names → flat_map written_text xs ≡ text
     → 0 < length names → length text < limit
     → reply v manifest ≡ Ok (record { bytes = text; ending = Whole })
     → ReportsAllOk t check v manifest names
@@ -115,8 +115,8 @@ names-are answer s (name ∷ names) = ap (λ l. name ∷ l) (names-are answer s 
 -- the law of one run
 pub written_is_good : WrittenIsGood
 written_is_good t check manifest w v g by c =
-    lines-good t check manifest v (items w.answer g) g.names (generation_output w g) by (run-listed check.algos w v g c)
-    (names-are w.answer g.settings g.names) (run-text check.algos w v g c)
+    lines-good t check manifest v (items w.answer g) g.names (generation_output w g) by (run-listed check.algo w v g c)
+    (names-are w.answer g.settings g.names) (run-text check.algo w v g c)
 
 -- ---- several runs: the same of each, one behind the other
 
@@ -148,5 +148,5 @@ runs-names answer (g ∷ gs) = rw (map-append, names-are answer g.settings g.nam
 pub joined_is_good : JoinedIsGood
 joined_is_good t check manifest w v gs by all =
     lines-good t check manifest v (flat_map (items w.answer) gs) (flat_map names_of gs)
-    (flat_map (generation_output w) gs) by (runs-listed check.algos w v gs all) (runs-names w.answer gs)
-    (runs-text check.algos w v gs all)
+    (flat_map (generation_output w) gs) by (runs-listed check.algo w v gs all) (runs-names w.answer gs)
+    (runs-text check.algo w v gs all)

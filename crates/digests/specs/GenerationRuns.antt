@@ -68,13 +68,13 @@ pub record ReportsAllOk (t : Tool) (check : CheckSettings) (v : World) (manifest
 
 -- the settings are some of that tool's, and the manifest's name is taken for an operand
 pub record ChecksBy (t : Tool) (check : CheckSettings) (manifest : ByteString) : Type 0 where
-  pub algo : check.algos ≡ algos_of t
+  pub algo : check.algo ≡ algos_of t
   pub operand : is_plain manifest ≡ true
 
 -- what generation wrote for one name or more is good as a manifest, where it isn't too long
 abbrev pub WrittenIsGood : Type 0
 WrittenIsGood = (t : Tool) (check : CheckSettings) (manifest : ByteString) (w v : World) (g : GenerationRun)
-    → ChecksBy t check manifest → Checkable check.algos w v g → 0 < length g.names
+    → ChecksBy t check manifest → Checkable check.algo w v g → 0 < length g.names
     → length (generation_output w g) < limit
     → reply v manifest ≡ Ok (record { bytes = generation_output w g; ending = Whole })
     → ReportsAllOk t check v manifest g.names
@@ -82,7 +82,7 @@ WrittenIsGood = (t : Tool) (check : CheckSettings) (manifest : ByteString) (w v 
 -- so is what several runs wrote, one behind the other
 abbrev pub JoinedIsGood : Type 0
 JoinedIsGood = (t : Tool) (check : CheckSettings) (manifest : ByteString) (w v : World) (gs : List GenerationRun)
-    → ChecksBy t check manifest → All (Checkable check.algos w v) gs → 0 < length (flat_map names_of gs)
+    → ChecksBy t check manifest → All (Checkable check.algo w v) gs → 0 < length (flat_map names_of gs)
     → length (flat_map (generation_output w) gs) < limit
     → reply v manifest ≡ Ok (record { bytes = flat_map (generation_output w) gs; ending = Whole })
     → ReportsAllOk t check v manifest (flat_map names_of gs)

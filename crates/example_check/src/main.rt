@@ -7,7 +7,7 @@ use sum_sources::{Fault, Files, FromRead, Stdin};
 
 fn main(rt: HostRuntime) -> anyhow::Result<()> {
     let settings = CheckSettings {
-        algos: Algos::One(Algo::Sha256),
+        algo: Algos::One(Algo::Sha256),
         report: Report::Status, // nothing is reported, whatever stands here
         strict: true,
         ignore_missing: false,

@@ -21,7 +21,7 @@ none_left : (r : Rules) (e : Ending) (b : CheckState) → b.rest ≡ record { by
     → remaining_verdicts r b ≡ []
 none_left r e b rest =
     let ls : lines_by r.profile b.rest ≡ [] = rw rest (no_lines r.profile.drops_return e) in
-    ap (λ l. verdicts r (form_then b.form (form r.settings.algos l)) b.known_state.world b.number l) ls
+    ap (λ l. verdicts r (form_then b.form (form r.settings.algo l)) b.known_state.world b.number l) ls
 
 pub end_stays : (r : Rules) (e : Ending) (vector : List ℕ) (a b c : CheckState)
     (x : Result (Option LineVerdict) LineStop)

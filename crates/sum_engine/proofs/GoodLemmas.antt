@@ -37,10 +37,10 @@ digest_verdict-right algos answer i h =
     rw (short, (bytes_eq-Decides d d).1 refl) refl
 
 -- so the verdict is Right
-verdict-right : (r : Rules) (w : World) (i : Item) → Listed r.settings.algos w.answer i
+verdict-right : (r : Rules) (w : World) (i : Item) → Listed r.settings.algo w.answer i
     → verdict_of r w (spelled_for i) ≡ Right
 verdict-right r w i h =
-    simp (h.no_dash, h.content, and-false) (digest_verdict-right r.settings.algos w.answer i h)
+    simp (h.no_dash, h.content, and-false) (digest_verdict-right r.settings.algo w.answer i h)
 
 -- the verdict of an item on line n
 abbrev right : ℕ → Item → LineVerdictValue
@@ -52,20 +52,20 @@ rights n [] = []
 rights n (i ∷ is) = right (n + 1) i ∷ rights (n + 1) is
 
 -- a written line is judged so
-judged : (r : Rules) (w : World) (n : ℕ) (f : Form) (i : Item) → Listed r.settings.algos w.answer i
-    → IsEntry escape r.settings.algos f (prefix i) (spelled_for i)
-    → judge r w n (parse_line present r.settings.algos f (prefix i)) ≡ right n i
+judged : (r : Rules) (w : World) (n : ℕ) (f : Form) (i : Item) → Listed r.settings.algo w.answer i
+    → IsEntry escape r.settings.algo f (prefix i) (spelled_for i)
+    → judge r w n (parse_line present r.settings.algo f (prefix i)) ≡ right n i
 judged r w n f i h e =
-    let is = says_is present r.settings.algos f (prefix i) in
+    let is = says_is present r.settings.algo f (prefix i) in
     rw ((is.when_entry (spelled_for i)).1 (e.0, e), verdict-right r w i h) refl
 
 -- and all of them, each in the world that those before it leave
 right-verdicts : (r : Rules) (before : List (List ℕ)) (is : List Item) (w : World) (n : ℕ)
-    → ReadableSoFar r.settings.algos before → All (Listed r.settings.algos w.answer) is
-    → verdicts (now r) (form r.settings.algos (before ++ map prefix is)) w n (map prefix is) ≡ rights n is
+    → ReadableSoFar r.settings.algo before → All (Listed r.settings.algo w.answer) is
+    → verdicts (now r) (form r.settings.algo (before ++ map prefix is)) w n (map prefix is) ≡ rights n is
 right-verdicts r before [] w n u all = refl
 right-verdicts r before (i ∷ is) w n u all =
-    let algos : Algos = r.settings.algos in
+    let algos : Algos = r.settings.algo in
     let h : Listed algos w.answer i = All-head (Listed algos w.answer) i is all in
     let b = back algos w.answer before (map prefix is) i h u in
     let rest = right-verdicts r (before ++ (prefix i ∷ [])) is (after w (i.name ∷ [])) (n + 1) b.2
@@ -131,13 +131,13 @@ pub record Found (check : CheckSettings) (tool : List ℕ) (w : World) (manifest
   pub err : err_text (check_behavior check tool w manifest) ≡ []
 
 -- the verdicts of its lines
-all-right : (r : Rules) (w : World) (is : List Item) → All (Listed r.settings.algos w.answer) is
+all-right : (r : Rules) (w : World) (is : List Item) → All (Listed r.settings.algo w.answer) is
     → all_verdicts (now r) w (whole is) ≡ rights 0 is
-all-right r w is all = rw (lines-are r.settings.algos w.answer is all) (right-verdicts r [] is w 0 (inl refl) all)
+all-right r w is all = rw (lines-are r.settings.algo w.answer is all) (right-verdicts r [] is w 0 (inl refl) all)
 
 -- what checking it comes to, by these verdicts
 check_behavior-is : (check : CheckSettings) (tool manifest : List ℕ) (w : World) (is : List Item)
-    → All (Listed check.algos w.answer) is → length (flat_map written_text is) < limit
+    → All (Listed check.algo w.answer) is → length (flat_map written_text is) < limit
     → reply w manifest ≡ Ok (whole is)
     → check_behavior check tool w manifest
     ≡ step_then (opening manifest) (content_behavior (rules_of check tool manifest) (whole is) (rights 0 is))
@@ -149,7 +149,7 @@ check_behavior-is check tool manifest w is all fits given =
 
 -- a manifest with at least one line is good, and each of its names is reported as right
 pub manifest_good : (check : CheckSettings) (tool manifest : List ℕ) (w : World) (is : List Item)
-    → All (Listed check.algos w.answer) is → 0 < length is → length (flat_map written_text is) < limit
+    → All (Listed check.algo w.answer) is → 0 < length is → length (flat_map written_text is) < limit
     → reply w manifest ≡ Ok (whole is) → Found check tool w manifest is
 manifest_good check tool manifest w [] all some fits given = absurd (omega arith)
 manifest_good check tool manifest w (i ∷ is) all some fits given =

@@ -88,7 +88,7 @@ length_verdicts : (r : Rules) (f : Form) (w : World) (n : ℕ) (ls : List (List 
     → length (verdicts r f w n ls) ≡ length ls
 length_verdicts r f w n [] = refl
 length_verdicts r f w n (l ∷ ls) =
-    ap suc (length_verdicts r f (after w (asks_of (judge r w (n + 1) (parse_line r.profile r.settings.algos f l))))
+    ap suc (length_verdicts r f (after w (asks_of (judge r w (n + 1) (parse_line r.profile r.settings.algo f l))))
     (n + 1) ls)
 
 -- and one step more
@@ -107,7 +107,7 @@ steps_end r c s b z k x times e =
     let one : length all - k ≡ 1 = sym (length-drop k all) ∙ ap length (sym h.remaining ∙ ap (λ (q : Behavior). q.steps)
     e.is) in
     let len : length all ≡ length js + 1 = length_steps r (end_text r c.ending (counts no_counts js)) c js in
-    let size = length_verdicts r (form r.settings.algos ls) s.world 0 ls in
+    let size = length_verdicts r (form r.settings.algo ls) s.world 0 ls in
     let end = along_end (along h) e in
     (omega (arith, one, len, size), end.0, end.1)
 

@@ -71,12 +71,12 @@ pub record Alike (algos : Algos) (line : List ℕ) : Type 0 where
   pub some : 0 < length line
 
 -- the verdicts are the same
-verdicts_same : (r : Rules) (f : Form) (w : World) (n : ℕ) (ls : List (List ℕ)) → All (Alike r.settings.algos) ls
+verdicts_same : (r : Rules) (f : Form) (w : World) (n : ℕ) (ls : List (List ℕ)) → All (Alike r.settings.algo) ls
     → (verdicts (rules_under older r) f w n ls ≡ verdicts (rules_under present r) f w n ls)
     × All CleanName (verdicts (rules_under present r) f w n ls)
 verdicts_same r f w n [] all = (refl, All-nil CleanName)
 verdicts_same r f w n (l ∷ ls) all =
-    let algos = r.settings.algos in
+    let algos = r.settings.algo in
     let here = All-head (Alike algos) l ls all in
     let s = parse_line_same algos f l here.no_byte here.no_escape here.some in
     let old = rules_under older r in
@@ -156,12 +156,12 @@ found_same : (r : Rules) (w : World) (c : Content) → IsOldManifest r c
     × All CleanName (all_verdicts (rules_under present r) w c)
 found_same r w c h =
     let clean = pieces_clean c h.no_byte in
-    let all : All (Alike r.settings.algos) (raw_lines c) =
+    let all : All (Alike r.settings.algo) (raw_lines c) =
     λ k d lt. record { no_byte = clean k d lt; no_escape = h.no_escape k d lt; some = h.no_empty k d lt } in
     let Same : List (List ℕ) → Type 0 = λ ls.
-    (all_verdicts (rules_under older r) w c ≡ verdicts (rules_under present r) (form r.settings.algos ls) w 0 ls)
-    × All CleanName (verdicts (rules_under present r) (form r.settings.algos ls) w 0 ls) in
-    subst Same (lines_same c h.no_byte) (verdicts_same r (form r.settings.algos (raw_lines c)) w 0 (raw_lines c) all)
+    (all_verdicts (rules_under older r) w c ≡ verdicts (rules_under present r) (form r.settings.algo ls) w 0 ls)
+    × All CleanName (verdicts (rules_under present r) (form r.settings.algo ls) w 0 ls) in
+    subst Same (lines_same c h.no_byte) (verdicts_same r (form r.settings.algo (raw_lines c)) w 0 (raw_lines c) all)
 
 -- so are its reports
 pub old_verdicts : OldVerdicts

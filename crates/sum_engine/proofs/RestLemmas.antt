@@ -13,16 +13,16 @@ use Rattle.sum_engine.specs.check.CheckerSteps.{step_then, CheckState, LineHandl
 
 -- what a line says by the form of all lines is what it says by the form so far and its own
 parse_line_now : (r : Rules) (a : CheckState) (l : List ℕ) (ls : List (List ℕ)) →
-    parse_line r.profile r.settings.algos (form_then a.form (form r.settings.algos (l ∷ ls))) l
-    ≡ parse_line r.profile r.settings.algos (form_then a.form (line_form r.settings.algos l)) l
+    parse_line r.profile r.settings.algo (form_then a.form (form r.settings.algo (l ∷ ls))) l
+    ≡ parse_line r.profile r.settings.algo (form_then a.form (line_form r.settings.algo l)) l
 parse_line_now r a l ls =
-    let algo = r.settings.algos in
+    let algo = r.settings.algo in
     ap (λ g. parse_line r.profile algo g l) (form_next algo a.form l ls)
     ∙ said_stays r.profile algo a.form (form algo ls) l
 
 -- the first of what is left
 pub rest_head : (r : Rules) (a : CheckState) (l : List ℕ) (ls : List (List ℕ)) → lines_by r.profile a.rest ≡ l ∷ ls
-    → remaining_verdicts r a ≡ next_judged r a l ∷ verdicts r (form_then a.form (form r.settings.algos (l ∷ ls)))
+    → remaining_verdicts r a ≡ next_judged r a l ∷ verdicts r (form_then a.form (form r.settings.algo (l ∷ ls)))
     (after a.known_state.world (asks_of (next_judged r a l))) (a.number + 1) ls
 rest_head r a l ls h = rw (h, parse_line_now r a l ls) refl
 

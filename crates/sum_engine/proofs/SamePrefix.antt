@@ -13,17 +13,17 @@ use Rattle.sum_lines.proofs.FormLemmas.{form_next, said_stays}
 abbrev running : Rules → World → ℕ → Form → List (List ℕ) → List LineVerdictValue
 running r w n f [] = []
 running r w n f (l ∷ ls) =
-    let here = form_then f (line_form r.settings.algos l) in
-    let j = judge r w (n + 1) (parse_line r.profile r.settings.algos here l) in
+    let here = form_then f (line_form r.settings.algo l) in
+    let j = judge r w (n + 1) (parse_line r.profile r.settings.algo here l) in
     j ∷ running r (after w (asks_of j)) (n + 1) here ls
 
 -- the verdicts of the first lines are these, whatever comes behind
 prefix_verdicts : (r : Rules) (w : World) (n : ℕ) (f : Form) (prefix later : List (List ℕ)) →
-    take (length prefix) (verdicts r (form_then f (form r.settings.algos (prefix ++ later))) w n
+    take (length prefix) (verdicts r (form_then f (form r.settings.algo (prefix ++ later))) w n
     (prefix ++ later)) ≡ running r w n f prefix
 prefix_verdicts r w n f [] later = refl
 prefix_verdicts r w n f (l ∷ ls) later =
-    let algo = r.settings.algos in
+    let algo = r.settings.algo in
     let here = form_then f (line_form algo l) in
     let rest = form algo (ls ++ later) in
     let all : form_then f (form algo (l ∷ (ls ++ later))) ≡ form_then here rest = form_next algo f l (ls ++ later) in

@@ -29,7 +29,7 @@ pub enum Report {
 #[derive(Clone, Copy, Debug, PartialEq, Eq)]
 pub struct CheckSettings {
     /// The algorithms that lines may name.
-    pub algos: Algos,
+    pub algo: Algos,
     /// What is reported.
     pub report: Report,
     /// Whether an improperly formatted line makes a manifest bad.

@@ -8,7 +8,7 @@ use sum_lines::ToldSink;
 use sum_sources::{Answer, Ending, Fault, NoRoom, Stdin, Told, ToldSource};
 
 pub(crate) const CHECK: CheckSettings = CheckSettings {
-    algos: Algos::One(Algo::Md5),
+    algo: Algos::One(Algo::Md5),
     report: Report::All,
     strict: false,
     ignore_missing: false,
@@ -253,7 +253,7 @@ fn blake2b(rt: HostRuntime) -> Result<(), Fail> {
         0e5 e\n\
         BLAKE2b-256 (e) = 0e5751c026e543b2e8ab2eb06099daa1d1e5df47778f7787faab45cdf12fe3\n";
     let mut settings = CHECK;
-    settings.algos = Algos::One(Algo::Blake2b);
+    settings.algo = Algos::One(Algo::Blake2b);
     let err = "b2sum: WARNING: 2 lines are improperly formatted\n";
     let want = (true, "e: OK\ne: OK\n", err);
     checks(&rt, ("b2sum", settings), b"l", l7, Ending::Whole, want)
@@ -268,7 +268,7 @@ fn mixed_tags(rt: HostRuntime) -> Result<(), Fail> {
         SHA256 (e) = d41d8cd98f00b204e9800998ecf8427e\n";
     let out = "a: OK\na: OK\ne: OK\n";
     let mut settings = CHECK;
-    settings.algos = Algos::Any;
+    settings.algo = Algos::Any;
     for strict in [false, true] {
         settings.strict = strict;
         let err = "anysum: WARNING: 2 lines are improperly formatted\n";

@@ -96,9 +96,9 @@ checking :
     × (request Anysum (words "-c -l 8 m") ≡ Err (unknown_short 108))
     × (request Anysum (words "-c --length=8 m") ≡ Err (unknown_long (codes "length")))
     × (request Anysum (words "-c --strict -w m n") ≡ Ok (Work (Check
-    (record { algos = Any; report = reports.Warn; strict = true; ignore_missing = false })) (words "m n")))
+    (record { algo = Any; report = reports.Warn; strict = true; ignore_missing = false })) (words "m n")))
     × (request B2sum (words "-c -l 8 --status --quiet --ignore-missing - l") ≡ Ok (Work (Check
-    (record { algos = One Blake2b; report = reports.Quiet; strict = false; ignore_missing = true })) (words "- l")))
+    (record { algo = One Blake2b; report = reports.Quiet; strict = false; ignore_missing = true })) (words "- l")))
 unfolding chars encode name_or_fault option_of_letter
 checking = (refl, refl, refl, refl, refl, refl, refl, refl, refl)
 

@@ -90,7 +90,7 @@ generation_job (One algo) kind given =
 
 abbrev pub job_of : Algos → Option KindValue → List Flag → Result Job WordFaultValue
 job_of algos kind given = if has flags.Check given then Ok (Check (record {
-  algos = algos;
+  algo = algos;
   report = report_of given;
   strict = has flags.Strict given;
   ignore_missing = has flags.IgnoreMissing given;

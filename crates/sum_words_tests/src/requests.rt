@@ -90,7 +90,7 @@ fn assert_checks(
 #[test]
 fn settings_of_checking(rt: HostRuntime) -> Result<(), Fail> {
     let all = CheckSettings {
-        algos: Algos::One(Algo::Md5),
+        algo: Algos::One(Algo::Md5),
         report: Report::Warn,
         strict: true,
         ignore_missing: true,
@@ -98,7 +98,7 @@ fn settings_of_checking(rt: HostRuntime) -> Result<(), Fail> {
     let line = "-c --ignore-missing -w --strict l";
     assert_checks(&rt, (Tool::Md5sum, line), all, &[b"l"])?;
     let last = CheckSettings {
-        algos: Algos::Any,
+        algo: Algos::Any,
         report: Report::Status,
         strict: false,
         ignore_missing: false,

@@ -227,7 +227,7 @@ fn long_line_refused(rt: HostRuntime) -> Result<(), Fail> {
 }
 
 const CHECK: CheckSettings = CheckSettings {
-    algos: Algos::One(Algo::Md5),
+    algo: Algos::One(Algo::Md5),
     report: Report::All,
     strict: false,
     ignore_missing: false,

@@ -77,9 +77,9 @@ StepsCut = (r : Rules) (c : Content) (s : KnownState) (b : CheckState) (z : Know
 -- manifest, where both or neither came from standard input
 abbrev pub SameVerdicts : Type 0
 SameVerdicts = (r : Rules) (other : List ℕ) (w : World) (prefix later others : List (List ℕ)) →
-    take (length prefix) (verdicts r (form r.settings.algos (prefix ++ later)) w 0 (prefix ++ later))
+    take (length prefix) (verdicts r (form r.settings.algo (prefix ++ later)) w 0 (prefix ++ later))
     ≡ take (length prefix)
-    (verdicts (record r { shown = other }) (form r.settings.algos (prefix ++ others)) w 0 (prefix ++ others))
+    (verdicts (record r { shown = other }) (form r.settings.algo (prefix ++ others)) w 0 (prefix ++ others))
 
 -- what is answered where no verdict is left and the manifest ends so
 abbrev pub ended_by : Ending → Result (Option LineVerdict) LineStop

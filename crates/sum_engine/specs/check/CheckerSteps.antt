@@ -42,14 +42,14 @@ initial_state c s = record { rest = c; number = 0; consumed = 0; form = Undecide
 -- the next line's verdict
 abbrev pub next_judged : Rules → CheckState → List ℕ → LineVerdictValue
 next_judged r a l =
-    let f = form_then a.form (line_form r.settings.algos l) in
-    judge r a.known_state.world (a.number + 1) (parse_line r.profile r.settings.algos f l)
+    let f = form_then a.form (line_form r.settings.algo l) in
+    judge r a.known_state.world (a.number + 1) (parse_line r.profile r.settings.algo f l)
 
 -- the verdicts that are still to be found
 abbrev pub remaining_verdicts : Rules → CheckState → List LineVerdictValue
 remaining_verdicts r a =
     let ls = lines_by r.profile a.rest in
-    verdicts r (form_then a.form (form r.settings.algos ls)) a.known_state.world a.number ls
+    verdicts r (form_then a.form (form r.settings.algo ls)) a.known_state.world a.number ls
 
 -- the run that is still to come
 abbrev pub remaining_behavior : Rules → CheckState → Behavior
@@ -98,7 +98,7 @@ pub record LineHandled (r : Rules) (a b : CheckState) (vector : List ℕ) : Type
   pub rest : b.rest ≡ past_line a.rest
   pub consumed : b.consumed + length b.rest.bytes ≡ a.consumed + length a.rest.bytes
   pub number : b.number ≡ a.number + 1
-  pub form : b.form ≡ form_then a.form (line_form r.settings.algos line)
+  pub form : b.form ≡ form_then a.form (line_form r.settings.algo line)
   pub counts : b.counts ≡ counts_with a.counts (next_judged r a line).verdict
   pub vector_len : length vector ≤ length line
 

@@ -37,7 +37,7 @@ NoEscapedReturn algos line = (kind : KindValue) (digest name : List ℕ)
 pub record IsOldManifest (r : Rules) (c : Content) : Type 0 where
   pub own_name : NoReturn r.shown
   pub no_byte : NoReturn c.bytes
-  pub no_escape : All (NoEscapedReturn r.settings.algos) (raw_lines c)
+  pub no_escape : All (NoEscapedReturn r.settings.algo) (raw_lines c)
   pub no_empty : All (λ line. 0 < length line) (raw_lines c)
 
 -- two kinds of rules find the same verdicts in a manifest, write the same of each of its lines and of its end, and

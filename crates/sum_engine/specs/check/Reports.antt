@@ -43,7 +43,7 @@ tag_word Any = codes "tagged"
 -- TOOL: LIST: N: improperly formatted TAG checksum line
 abbrev pub bad_line : Rules → ℕ → List ℕ
 bad_line r n = concat (r.tool ∷ codes ": " ∷ escape_by r.profile r.shown ∷ codes ": " ∷ decimal n
-    ∷ codes ": improperly formatted " ∷ tag_word r.settings.algos ∷ codes " checksum line\n" ∷ [])
+    ∷ codes ": improperly formatted " ∷ tag_word r.settings.algo ∷ codes " checksum line\n" ∷ [])
 
 abbrev pub if_warned : Report → List ℕ → List ℕ
 if_warned Warn text = text

@@ -64,9 +64,9 @@ lines_by p c = if p.drops_return then lines c else raw_lines c
 abbrev pub verdicts : Rules → Form → World → ℕ → List (List ℕ) → List LineVerdictValue
 verdicts r f w n [] = []
 verdicts r f w n (l ∷ ls) =
-    let j = judge r w (n + 1) (parse_line r.profile r.settings.algos f l) in
+    let j = judge r w (n + 1) (parse_line r.profile r.settings.algo f l) in
     j ∷ verdicts r f (after w (asks_of j)) (n + 1) ls
 
 -- a whole manifest, whose form is that of all its lines
 abbrev pub all_verdicts : Rules → World → Content → List LineVerdictValue
-all_verdicts r w c = verdicts r (form r.settings.algos (lines_by r.profile c)) w 0 (lines_by r.profile c)
+all_verdicts r w c = verdicts r (form r.settings.algo (lines_by r.profile c)) w 0 (lines_by r.profile c)

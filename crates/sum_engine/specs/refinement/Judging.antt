@@ -42,12 +42,12 @@ JudgeOf r w v x (Some verdict) = IsJudged r w v x verdict
 -- what a line says that was read at a place
 abbrev pub parsed_at : {I : Type 0} → CursorValue I → List ℕ → ParsedLine
 parsed_at p line =
-    let algos = p.rules.settings.algos in
+    let algos = p.rules.settings.algo in
     parse_line p.rules.profile algos (form_then p.form (line_form algos line)) line
 
 -- from place a to b the line's form was taken over, and the rules and the reader stayed
 pub record TakesLine {I : Type 0} (a b : CursorValue I) (line : List ℕ) : Type 0 where
-  pub form : b.form ≡ form_then a.form (line_form a.rules.settings.algos line)
+  pub form : b.form ≡ form_then a.form (line_form a.rules.settings.algo line)
   pub reader : b.reader ≡ a.reader
   pub rules : b.rules ≡ a.rules
 

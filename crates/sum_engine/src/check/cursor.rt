@@ -164,7 +164,7 @@ impl<'a, I: Input> CheckCursor<'a, I> {
         ensures held { length line.new.items ≤ length line.old.items }
         ensures refusals { RefusedUnless (S.state source.old) (S.state source.new) result }
     {
-        let (reading, form) = read_line(self.listing.settings.algos, self.form, line);
+        let (reading, form) = read_line(self.listing.settings.algo, self.form, line);
         self.form = form;
         match reading {
             Reading::Ignored => Some(self.count_verdict(Verdict::Ignored, 0, 0)),

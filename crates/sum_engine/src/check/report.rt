@@ -142,7 +142,7 @@ fn put_err<E: Sink>(
 fn put_bad_line<E: Sink>(err: &mut E, listing: &CheckRules, number: u64) -> Result<(), SinkFault>
     ensures { WritesAndFlushes (E.state err.old) (E.state err.new) (bad_line (rules_in listing.now) number) result }
 {
-    let word = tag_word(listing.settings.algos);
+    let word = tag_word(listing.settings.algo);
     put_parts_flushed(
         err,
         &[

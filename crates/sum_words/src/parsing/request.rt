@@ -242,7 +242,7 @@ fn asked_job(
     }
     if chosen.check {
         return Ok(Job::Check(CheckSettings {
-            algos,
+            algo: algos,
             report: chosen.report,
             strict: chosen.strict,
             ignore_missing: chosen.ignore_missing,

@@ -11,7 +11,7 @@ pub returns-in-Some-clause-verdict : goal.returns-in-Some-clause-verdict
 returns-in-Some-clause-verdict g c =
     let old = c.args.self.now in
     let line = c.args.line.now.items in
-    let algos = old.listing.settings.algos in
+    let algos = old.listing.settings.algo in
     let vector = c.read_line-reading.new.line.items in
     let listed = c.in-Entry in
     let name = slice_range vector listed.start listed.stop in
