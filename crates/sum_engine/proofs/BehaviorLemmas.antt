@@ -63,7 +63,15 @@ along_breaks {whole = whole} h k =
 -- a step that memory was wanted for
 pub along_waits : {A : Type 0} {a b c : KnownState} {whole left : Behavior} (x : A) → Along whole left a b
     → StepRefused left b c → PerformsSteps whole.steps x a c (Err Memory)
-along_waits {b = b} {whole = whole} x h k = search rules
+along_waits {b = b} x h k = record {
+  done = h.done;
+  next = k.step;
+  later = k.rest.steps;
+  between = b;
+  are = h.steps ∙ ap (λ r. h.done ++ r.steps) k.is;
+  happened = h.did;
+  refused = k.refused;
+}
 
 -- ---- a run behind a step, and one run after another
 
@@ -84,15 +92,15 @@ behavior_then-second c x y r s Write h k = (
   ),
   did_both (trace r) k.0 h k.2,
 )
-behavior_then-second c x y r s Memory h k = (
-  r ++ k.0,
-  k.1,
-  k.2,
-  k.3,
-  ap (λ l. r ++ l) k.4 ∙ sym (append_assoc r k.0 (k.1 ∷ k.2)),
-  rw (flat_map-append events_of r k.0) (did_both (trace r) (trace k.0) h k.5),
-  k.6,
-)
+behavior_then-second c x y r s Memory h k = record {
+  done = r ++ k.done;
+  next = k.next;
+  later = k.later;
+  between = k.between;
+  are = ap (λ l. r ++ l) k.are ∙ sym (append_assoc r k.done (k.next ∷ k.later));
+  happened = rw (flat_map-append events_of r k.done) (did_both (trace r) (trace k.done) h k.happened);
+  refused = k.refused;
+}
 
 -- the first stopped
 pub behavior_then-first : {A B : Type 0} (a b : KnownState) (x : A) (y : B) (r s : List Step) (stop : Stop)
@@ -105,15 +113,15 @@ behavior_then-first a b x y r s Write h = (
   ),
   h.2,
 )
-behavior_then-first a b x y r s Memory h = (
-  h.0,
-  h.1,
-  h.2 ++ s,
-  h.3,
-  ap (λ l. l ++ s) h.4 ∙ append_assoc h.0 (h.1 ∷ h.2) s,
-  h.5,
-  h.6,
-)
+behavior_then-first a b x y r s Memory h = record {
+  done = h.done;
+  next = h.next;
+  later = h.later ++ s;
+  between = h.between;
+  are = ap (λ l. l ++ s) h.are ∙ append_assoc h.done (h.next ∷ h.later) s;
+  happened = h.happened;
+  refused = h.refused;
+}
 
 -- a run behind its first step, which happened
 pub behind_step : {A : Type 0} {a b : KnownState} (c : KnownState) (x : A) (s : Step) (r : List Step)
@@ -149,7 +157,15 @@ pub unasked : {S A : Type 0} (state : S → SourceState) (run : World → Behavi
     → Runs state run answer a b (Err Memory)
 unasked state run answer a b first h = IfKnown-map (known_state state a) (known_state state b) (λ s t refused.
     let next = first s.world in
-    ([], next.0, next.1, s, next.2, did_nothing s, inl refused)) h
+    record {
+      done = [];
+      next = next.0;
+      later = next.1;
+      between = s;
+      are = next.2;
+      happened = did_nothing s;
+      refused = inl refused;
+    }) h
 
 -- ---- what a run's events come to
 

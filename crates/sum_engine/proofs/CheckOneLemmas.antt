@@ -1,4 +1,4 @@
--- A new checker that runs to its end, and one manifest that is asked and checked.
+-- `check_one`: a new checker that runs to its end, by induction on its steps, after its manifest was opened.
 use Rattle.std.proofs.Common.{rules, ◌++◌, ◌≡◌, ℕ, ◌||◌, Bool, true, false, List, [], ◌∷◌, Option, None, Some, Result, Ok, Err, cond, refl, sym, ◌∙◌, subst, codes, option_map, IfSome}
 use Rattle.std.proofs.Math.Bool.{or-false}
 use Rattle.sum_engine.specs.Behavior.{Fault, World, is_dash, reply, after, Step, Behavior, events_of}
@@ -7,89 +7,109 @@ use Rattle.sum_sources.specs.Contents.{Content, InputState, IfKnown, clip, Sourc
 use Rattle.sum_lines.specs.sinks.Sinks.{SinkState}
 use Rattle.sum_sources.proofs.ToldLemmas.{IfKnown-map}
 use Rattle.digest_kinds.specs.Limits.{one_more}
-use Rattle.sum_lines.specs.declared.reading.read_line.Form.TheVariants.{Undecided}
 use Rattle.sum_lines.specs.Escape.{present}
-use Rattle.sum_engine.specs.check.CheckerSteps.{Progress, Going, Ended, CheckState, check_state_from, StepIsIfKnown, remaining_behavior, CursorValue, check_state}
-use Rattle.sum_engine.specs.check.Verdicts.{CheckSettings, Rules, all_verdicts}
+use Rattle.sum_engine.specs.check.CheckerSteps.{Progress, Going, Ended, CheckState, initial_state, IsAtStart, state_at, StepIsIfKnown, remaining_behavior, CursorValue, check_state}
+use Rattle.sum_engine.specs.check.Verdicts.{Rules, all_verdicts}
 use Rattle.sum_engine.specs.Execution.{Stop, Memory, Write, StreamsState, KnownState, known_state, Happened, PerformsSteps}
 use Rattle.sum_engine.specs.refinement.FlushedWrites.{WritesOrPrefix}
 use Rattle.sum_engine.specs.Generation.{fault_line}
-use Rattle.sum_engine.specs.check.Reports.{no_counts}
-use Rattle.sum_engine.specs.check.Checking.{rules_of, content_behavior, check_behavior_by, check_behavior}
+use Rattle.sum_engine.specs.check.Reports.{LabelsValue}
+use Rattle.sum_engine.proofs.CountLemmas.{counts_then-none}
+use Rattle.sum_lines.specs.grammar.LineParts.{◌>>=◌}
+use Rattle.sum_engine.specs.check.Checking.{CheckSettings, rules_of, labels_of, content_behavior, check_behavior_by, check_behavior}
 use Rattle.sum_engine.specs.refinement.HashName.{world_by, world_of}
 use Rattle.sum_engine.proofs.WorldLemmas.{dash_asked}
 use Rattle.sum_engine.proofs.ExecutionLemmas.{Runs, Writing, known_refused, names-by, err_alone}
-use Rattle.sum_engine.proofs.StepLemmas.{now-run_state}
+use Rattle.sum_engine.proofs.StepLemmas.{known_state-made}
 use Rattle.sum_engine.proofs.BehaviorLemmas.{answered, once, unasked, Along, along_none, along_more, along_end, along_breaks, along_waits, behind_step}
 use Rattle.sum_sources.specs.declared.sources.source.OpenFault.TheVariants as open_faults
 
 -- ---- a new checker, run to its end
 
--- it came so far, where its manifest and the run state tell
-abbrev pub Comes : Rules → Option Content → Option KnownState → Option CheckState → Type 0
-Comes r None s b = Unit {0}
-Comes r (Some c) None b = Unit {0}
-Comes r (Some c) (Some s) None = ⊥
-Comes r (Some c) (Some s) (Some b) = Along (content_behavior r c (all_verdicts r s.world c)) (remaining_behavior r b) s
-    b.known_state
+-- all of a new checker's behavior remains
+pub remaining-initial : (r : Rules) (labels : LabelsValue) (c : Content) (s : KnownState)
+    → remaining_behavior r labels (initial_state c s) ≡ content_behavior r labels c (all_verdicts r s.world c)
+remaining-initial r labels c s = rw counts_then-none refl
+
+-- it came so far, if its manifest and the streams are known
+abbrev pub Comes : Rules → LabelsValue → Option Content → Option KnownState → Option CheckState → Type 0
+Comes r labels None s b = Unit {0}
+Comes r labels (Some c) None b = Unit {0}
+Comes r labels (Some c) (Some s) None = ⊥
+Comes r labels (Some c) (Some s) (Some b) =
+    Along (content_behavior r labels c (all_verdicts r s.world c)) (remaining_behavior r labels b) s b.known_state
 
 -- it begins so
-pub comes_none : (r : Rules) (c : Option Content) (s : Option KnownState)
-    → Comes r c s (check_state_from c 0 0 Undecided no_counts s)
-comes_none r None s = tt
-comes_none r (Some c) None = tt
-comes_none r (Some c) (Some s) = along_none (content_behavior r c (all_verdicts r s.world c)) s
+comes_initial : {I : Type 0} (r : Rules) (labels : LabelsValue) (p : CursorValue I) (c : Option Content)
+    (s : Option KnownState) → ((c : Content) (s : KnownState) → state_at p c s ≡ initial_state c s)
+    → Comes r labels c s (c >>= (λ c. s >>= (λ s. Some (state_at p c s))))
+comes_initial r labels p None s is = tt
+comes_initial r labels p (Some c) None is = tt
+comes_initial r labels p (Some c) (Some s) is =
+    let whole = content_behavior r labels c (all_verdicts r s.world c) in
+    subst (λ a. Along whole (remaining_behavior r labels a) s a.known_state) (sym (is c s))
+    (subst (λ b. Along whole b s s) (sym (remaining-initial r labels c s)) (along_none whole s))
+
+pub comes_none : {I : Type 0} (state : I → InputState) (r : Rules) (labels : LabelsValue) (p : CursorValue I) (input : I)
+    (s : Option KnownState) → IsAtStart state p input
+    → Comes r labels (option_map clip (state input).content) s (check_state state p s)
+comes_none state r labels p input s start = rw start.remaining
+    (comes_initial r labels p (option_map clip (state input).content) s
+    (λ c s. rw (start.reader, start.form, start.counts) refl))
 
 -- a step that goes on comes one line further
-pub comes_more : (q r : Rules) (c : Option Content) (s : Option KnownState) (b d : Option CheckState) (held : List ℕ)
-    → q ≡ r → Comes r c s b → StepIsIfKnown q held b d (Ok Going) → Comes r c s d
-comes_more q r None s b d held rules p h = tt
-comes_more q r (Some c) None b d held rules p h = tt
-comes_more q r (Some c) (Some s) None d held rules p h = absurd p
-comes_more q r (Some c) (Some s) (Some b) None held rules p h = absurd h
-comes_more q r (Some c) (Some s) (Some b) (Some d) held rules p h = along_more p (rw rules at h.0)
+pub comes_more : (q r : Rules) (own labels : LabelsValue) (c : Option Content) (s : Option KnownState)
+    (b d : Option CheckState) (vector : List ℕ) → q ≡ r → own ≡ labels → Comes r labels c s b
+    → StepIsIfKnown q own vector b d (Ok Going) → Comes r labels c s d
+comes_more q r own labels None s b d vector rules same p h = tt
+comes_more q r own labels (Some c) None b d vector rules same p h = tt
+comes_more q r own labels (Some c) (Some s) None d vector rules same p h = absurd p
+comes_more q r own labels (Some c) (Some s) (Some b) None vector rules same p h = absurd h
+comes_more q r own labels (Some c) (Some s) (Some b) (Some d) vector rules same p h =
+    along_more p (rw (rules, same) at h.0)
 
--- what a step answers that ends a manifest's check so
+-- what a step returns that ends a manifest's check so
 abbrev pub ends : Result Bool Stop → Result Progress Stop
 ends (Ok good) = Ok (Ended good)
 ends (Err stop) = Err stop
 
--- the run of a manifest
-abbrev pub manifest_run : Rules → Content → World → Behavior
-manifest_run r c w = content_behavior r c (all_verdicts r w c)
+-- the behavior of a manifest
+abbrev pub manifest_behavior : Rules → LabelsValue → Content → World → Behavior
+manifest_behavior r labels c w = content_behavior r labels c (all_verdicts r w c)
 
--- that of a manifest that may not tell, from one moment to another
-abbrev pub Checks : {S : Type 0} → (S → SourceState) → Rules → Option Content → StreamsState S → StreamsState S
-    → Result Bool Stop → Type 0
-Checks state r c a b x = IfSome c (λ c. Runs state (manifest_run r c) (λ g. g) a b x)
+-- that of a manifest that may not be known, from one state to another
+abbrev pub Checks : {S : Type 0} → (S → SourceState) → Rules → LabelsValue → Option Content → StreamsState S
+    → StreamsState S → Result Bool Stop → Type 0
+Checks state r labels c a b x = IfSome c (λ c. Runs state (manifest_behavior r labels c) (λ g. g) a b x)
 
--- the step that ends leaves all that the manifest comes to; one that stops leaves a prefix of it where a write failed,
--- and whole steps where memory was wanted
-comes_last_by : {I : Type 0} (state : I → InputState) (q r : Rules) (c : Option Content) (s z : Option KnownState)
-    (a : Option CheckState) (p : CursorValue I) (held : List ℕ) (x : Result Bool Stop) → q ≡ r → Comes r c s a
-    → StepIsIfKnown q held a (check_state state p z) (ends x) → IfSome c (λ c. IfKnown s z (λ s t.
-    let run = manifest_run r c s.world in PerformsSteps run.steps run.good s t x))
-comes_last_by state q r None s z a p held x rules k h = tt
-comes_last_by state q r (Some c) None z a p held x rules k h = tt
-comes_last_by state q r (Some c) (Some s) z None p held x rules k h = absurd k
-comes_last_by state q r (Some c) (Some s) z (Some a) p held (Ok good) rules k h =
-    now-run_state state p z a s _ _ h (λ d z ended. along_end k (rw rules at ended))
-comes_last_by state q r (Some c) (Some s) z (Some a) p held (Err Write) rules k h =
-    now-run_state state p z a s _ _ h (λ d z cut. along_breaks k (rw rules at cut))
-comes_last_by state q r (Some c) (Some s) z (Some a) p held (Err Memory) rules k h =
-    now-run_state state p z a s _ _ h (λ d z waits.
-    along_waits (manifest_run r c s.world).good k (rw rules at waits))
+-- the step that ends completes the manifest's behavior; one that stops leaves a prefix of it after a write fault, and
+-- whole steps if memory ran out
+comes_last_by : {I : Type 0} (state : I → InputState) (q r : Rules) (own labels : LabelsValue) (c : Option Content)
+    (s z : Option KnownState) (a : Option CheckState) (p : CursorValue I) (vector : List ℕ) (x : Result Bool Stop)
+    → q ≡ r → own ≡ labels → Comes r labels c s a → StepIsIfKnown q own vector a (check_state state p z) (ends x)
+    → IfSome c (λ c. IfKnown s z (λ s t. let all = manifest_behavior r labels c s.world in
+    PerformsSteps all.steps all.good s t x))
+comes_last_by state q r own labels None s z a p vector x rules same k h = tt
+comes_last_by state q r own labels (Some c) None z a p vector x rules same k h = tt
+comes_last_by state q r own labels (Some c) (Some s) z None p vector x rules same k h = absurd k
+comes_last_by state q r own labels (Some c) (Some s) z (Some a) p vector (Ok good) rules same k h =
+    known_state-made state p z a s _ _ h (λ d z ended. along_end k (rw (rules, same) at ended))
+comes_last_by state q r own labels (Some c) (Some s) z (Some a) p vector (Err Write) rules same k h =
+    known_state-made state p z a s _ _ h (λ d z cut. along_breaks k (rw (rules, same) at cut))
+comes_last_by state q r own labels (Some c) (Some s) z (Some a) p vector (Err Memory) rules same k h =
+    known_state-made state p z a s _ _ h (λ d z waits.
+    along_waits (manifest_behavior r labels c s.world).good k (rw (rules, same) at waits))
 
-pub comes_last : {I S : Type 0} (input : I → InputState) (state : S → SourceState) (q r : Rules) (c : Option Content)
-    (first last : StreamsState S) (a : Option CheckState) (p : CursorValue I) (held : List ℕ) (x : Result Bool Stop)
-    → q ≡ r
-    → Comes r c (known_state state first) a → StepIsIfKnown q held a (check_state input p (known_state state last))
-    (ends x)
-    → Checks state r c first last x
-comes_last input state q r c first last a p held x rules k h =
-    comes_last_by input q r c (known_state state first) (known_state state last) a p held x rules k h
+pub comes_last : {I S : Type 0} (input : I → InputState) (state : S → SourceState) (q r : Rules)
+    (own labels : LabelsValue) (c : Option Content) (first last : StreamsState S) (a : Option CheckState)
+    (p : CursorValue I) (vector : List ℕ) (x : Result Bool Stop) → q ≡ r → own ≡ labels
+    → Comes r labels c (known_state state first) a
+    → StepIsIfKnown q own vector a (check_state input p (known_state state last)) (ends x)
+    → Checks state r labels c first last x
+comes_last input state q r own labels c first last a p vector x rules same k h =
+    comes_last_by input q r own labels c (known_state state first) (known_state state last) a p vector x rules same k h
 
--- ---- a manifest that was asked
+-- ---- a manifest that was opened
 
 -- a call that checks one manifest
 pub record Call : Type 0 where
@@ -97,18 +117,21 @@ pub record Call : Type 0 where
   pub tool : List ℕ
   pub name : List ℕ
 
--- what its manifest is checked by
-abbrev pub rules_of_call : Call → Rules
-rules_of_call k = rules_of k.settings k.tool k.name
-
--- the same, by whether it is standard input
-abbrev rules_where : Call → Bool → Rules
-rules_where k dash = record {
+-- its rules and labels, by whether the manifest is standard input
+abbrev pub rules_if : Call → Bool → Rules
+rules_if k dash = record {
   profile = present;
-  settings = k.settings;
-  tool = k.tool;
-  shown = cond dash (codes "standard input") k.name;
+  algo = k.settings.algo;
+  ignore_missing = k.settings.ignore_missing;
+  strict = k.settings.strict;
   from_stdin = dash;
+}
+
+abbrev pub labels_if : Call → Bool → LabelsValue
+labels_if k dash = record {
+  tool = k.tool;
+  list = cond dash (codes "standard input") k.name;
+  report = k.settings.report;
 }
 
 -- a manifest is opened, by that name
@@ -129,14 +152,15 @@ CheckGives state k a b x = Runs state (λ w. check_behavior k.settings k.tool w 
 check_gives_by : (k : Call) (dash : Bool) (c : Option Content) (a asked b : Option KnownState) (x : Result Bool Stop)
     → is_dash k.name ≡ dash → IfKnown a asked (IsOpened k.name c)
     → IfSome (option_map clip c) (λ c. IfKnown asked b (λ s t.
-    let run = manifest_run (rules_where k dash) c s.world in PerformsSteps run.steps run.good s t x))
+    let run = manifest_behavior (rules_if k dash) (labels_if k dash) c s.world in PerformsSteps run.steps run.good s t x))
     → IfKnown a b (λ s t.
     let run = check_behavior k.settings k.tool s.world k.name in PerformsSteps run.steps run.good s t x)
 check_gives_by k dash c None asked b x is h run = tt
 check_gives_by k dash c (Some a) None b x is h run = absurd h
 check_gives_by k dash c (Some a) (Some asked) None x is h run = absurd (rw h.1 at run)
 check_gives_by k dash c (Some a) (Some asked) (Some b) x is h run =
-    let of : World → Behavior = manifest_run (rules_of_call k) (clip h.0) in
+    let of : World → Behavior = manifest_behavior (rules_of k.settings k.name) (labels_of k.settings k.tool k.name)
+    (clip h.0) in
     let later : World = after a.world (k.name ∷ []) in
     let world : asked.world ≡ later = rw (names-by (k.name ∷ []) [] []) at h.3.world in
     let rest = subst (λ w. PerformsSteps (of w).steps (of w).good asked b x) world (rw (← is, h.1) at run) in
@@ -146,7 +170,7 @@ check_gives_by k dash c (Some a) (Some asked) (Some b) x is h run =
 check_gives : {S : Type 0} (state : S → SourceState) (k : Call) (dash : Bool) (c : Option Content)
     (a asked b : StreamsState S) (x : Result Bool Stop) → is_dash k.name ≡ dash
     → IfKnown (known_state state a) (known_state state asked) (IsOpened k.name c)
-    → Checks state (rules_where k dash) (option_map clip c) asked b x → CheckGives state k a b x
+    → Checks state (rules_if k dash) (labels_if k dash) (option_map clip c) asked b x → CheckGives state k a b x
 check_gives state k dash c a asked b x is h run =
     check_gives_by k dash c (known_state state a) (known_state state asked) (known_state state b) x is h run
 
@@ -172,11 +196,13 @@ dash_opened {S} state name a dash = search rules
 
 -- so what the checker does with standard input is what the call does
 pub check_dash : {S : Type 0} (state : S → SourceState) (k : Call) (a b : StreamsState S) (x : Result Bool Stop)
-    → is_dash k.name ≡ true → Checks state (rules_where k true) (option_map clip a.input)
+    (r : Rules) → r ≡ rules_if k true → is_dash k.name ≡ true
+    → Checks state r (labels_if k true) (option_map clip a.input)
     (record a { input = Some empty_content; stdin_taken = true }) b x → CheckGives state k a b x
-check_dash {S} state k a b x dash run =
+check_dash {S} state k a b x r rules dash run =
     let asked : StreamsState S = record a { input = Some empty_content; stdin_taken = true } in
-    check_gives state k true a.input a asked b x dash (dash_opened state k.name a dash) run
+    check_gives state k true a.input a asked b x dash (dash_opened state k.name a dash)
+    (subst (λ r. Checks state r (labels_if k true) (option_map clip a.input) asked b x) rules run)
 
 -- opening a name, as the world sees it
 abbrev OpensIn : {F : Type 0} → (F → InputState) → List ℕ → Result F OpenFault → World → World → Type 0
@@ -219,15 +245,16 @@ file_opened content state name a source file dash h refusals = search rules
 
 -- so what the checker does with it is what the call does
 pub check_file : {F S : Type 0} (content : F → InputState) (state : S → SourceState) (k : Call) (a b : StreamsState S)
-    (source : S) (file : F) (x : Result Bool Stop) → is_dash k.name ≡ false
+    (source : S) (file : F) (x : Result Bool Stop) (r : Rules) → r ≡ rules_if k false → is_dash k.name ≡ false
     → IfKnown (state a.source).known (state source).known (λ s t. OpenOf content s t k.name (Ok file))
     → (state source).refusals ≡ (state a.source).refusals
-    → Checks state (rules_where k false) (option_map clip (content file).content)
+    → Checks state r (labels_if k false) (option_map clip (content file).content)
     (record a { source = source }) b x → CheckGives state k a b x
-check_file {S = S} content state k a b source file x dash h refusals run =
+check_file {S = S} content state k a b source file x r rules dash h refusals run =
     let asked : StreamsState S = record a { source = source } in
     check_gives state k false (content file).content a asked b x dash
-    (file_opened content state k.name a source file dash h refusals) run
+    (file_opened content state k.name a source file dash h refusals)
+    (subst (λ r. Checks state r (labels_if k false) (option_map clip (content file).content) asked b x) rules run)
 
 -- the manifest could not be opened, and the line of its fault was handed on, or a prefix of it
 pub refused : {F S : Type 0} (content : F → InputState) (state : S → SourceState) (k : Call) (a : StreamsState S)
@@ -252,10 +279,10 @@ refused {S = S} content state k a source f err x dash h refusals hands =
     )) (err_alone a.err err a.out _ x hands)
 
 -- checking begins with a step
-begins : (r : Rules) (name : List ℕ) (w : World) (reply : Reply)
-    → (next : Step) × (rest : List Step) × ((check_behavior_by r name w reply).steps ≡ next ∷ rest)
-begins r name w (Err f) = (_, [], refl)
-begins r name w (Ok c) = (opening name, _, refl)
+begins : (r : Rules) (labels : LabelsValue) (name : List ℕ) (w : World) (reply : Reply)
+    → (next : Step) × (rest : List Step) × ((check_behavior_by r labels name w reply).steps ≡ next ∷ rest)
+begins r labels name w (Err f) = (_, [], refl)
+begins r labels name w (Ok c) = (opening name, _, refl)
 
 -- the source had no memory to open it
 pub no_room : {F S : Type 0} (content : F → InputState) (state : S → SourceState) (k : Call) (a : StreamsState S)
@@ -266,7 +293,7 @@ pub no_room : {F S : Type 0} (content : F → InputState) (state : S → SourceS
 no_room {S = S} content state k a source h refused =
     let next : StreamsState S = record a { source = source } in
     unasked state (λ w. check_behavior k.settings k.tool w k.name) (λ g. g) a next
-    (λ w. begins (rules_of_call k) k.name (after w (k.name ∷ [])) (reply w k.name))
+    (λ w. begins (rules_of k.settings k.name) (labels_of k.settings k.tool k.name) k.name (after w (k.name ∷ [])) (reply w k.name))
     (known_refused state a next (IfKnown-map (world_of state a) (world_of state next) (λ w v is. is)
     (opens content k.name (state a.source).known (state source).known a.input (Err open_faults.Memory) h))
     refl refl refl refused)

@@ -1,4 +1,4 @@
--- What is answered behind the end of a manifest's verdicts.
+-- What is returned after the end of a manifest's verdicts.
 use Rattle.std.proofs.Common.{rules, ◌≡◌, ℕ, Bool, true, false, List, [], length, Option, None, Some, Result, Ok, Err, ap, sym, arith, if◌then◌else◌}
 use Rattle.sum_sources.specs.declared.fault.Ending.{Ending}
 use Rattle.sum_engine.specs.check.NextVerdict.{LineStop, LineVerdict, NoVerdictLeft, NextVerdictIs}
@@ -21,7 +21,7 @@ none_left : (r : Rules) (e : Ending) (b : CheckState) → b.rest ≡ record { by
     → remaining_verdicts r b ≡ []
 none_left r e b rest =
     let ls : lines_by r.profile b.rest ≡ [] = rw rest (no_lines r.profile.drops_return e) in
-    ap (λ l. verdicts r (form_then b.form (form r.settings.algo l)) b.known_state.world b.number l) ls
+    ap (λ l. verdicts r (form_then b.form (form r.algo l)) b.known_state.world b.number l) ls
 
 pub end_stays : (r : Rules) (e : Ending) (vector : List ℕ) (a b c : CheckState)
     (x : Result (Option LineVerdict) LineStop)

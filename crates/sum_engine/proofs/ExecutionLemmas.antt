@@ -1,4 +1,4 @@
--- What happened at a run state, one thing after another; and moments whose run states tell or don't.
+-- What happened from one state to another, one event after another; and states of streams that are known or not.
 use Rattle.std.proofs.Common.{rules, ◌≡◌, ℕ, ◌||◌, Bool, List, [], ◌∷◌, ◌++◌, map, Option, None, Some, Result, Ok, Err, refl, ap, ◌∙◌, inl, inr, append_assoc, append-nil, filter_map, option_map}
 use Rattle.std.specs.List.{list_any}
 use Rattle.std.specs.Io.KnownBytes.{Appends}
@@ -79,7 +79,7 @@ pub asks_none : {a b : KnownState} → b.world ≡ a.world → b.stdin_taken ≡
     → Asks a b []
 asks_none {a} world taken refusals = search rules
 
--- so it is where they were opened, and nothing was written
+-- so it is if they were opened, and nothing was written
 pub asks_by : {a b : KnownState} (names : List (List ℕ)) → Happened a b (map open_name names) → Asks a b names
 asks_by names h = record {
   world = rw (kind-all open_name name_in (λ x. refl) names) at h.world;
@@ -87,7 +87,7 @@ asks_by names h = record {
   refusals = h.refusals;
 }
 
--- these names were asked and these texts handed on
+-- these names were asked and these texts written
 pub did_by : {a b : KnownState} (names : List (List ℕ)) (err out : List ℕ) → Asks a b names
     → Appends a.err.written b.err.written err → Appends a.out.written b.out.written out
     → Happened a b (events_by names err out)
@@ -118,7 +118,7 @@ did_both {a} {b} {c} p q h k = record {
 
 -- ---- a prefix of it
 
--- the names were asked, and of the text on standard error a prefix was handed on
+-- the names were asked, and of the text on standard error a prefix was written
 pub prefix_err : {a b : KnownState} (names : List (List ℕ)) (err out : List ℕ) → Asks a b names
     → AppendsPrefix a.err.written b.err.written err → b.out.written ≡ a.out.written
     → PrefixHappened a b (events_by names err out)
@@ -145,12 +145,12 @@ prefix_out {a} {b} names err out asked all h = (
 abbrev pub Writing : Type 0
 Writing = Result (Unit {0}) (Unit {0})
 
--- what it wrote happened, or a prefix of it where it failed
+-- what it wrote happened, or a prefix of it if it failed
 abbrev pub Came : Writing → KnownState → KnownState → List Event → Type 0
 Came (Ok u) a b es = Happened a b es
 Came (Err e) a b es = PrefixHappened a b es
 
--- the names were asked, and the two texts handed on or a prefix of them
+-- the names were asked, and the two texts or a prefix of them were written
 pub came_by : (a b : KnownState) (names : List (List ℕ)) (err out : List ℕ) (x : Writing) → Asks a b names
     → WritesBoth a.err b.err a.out b.out err out x → Came x a b (events_by names err out)
 came_by a b names err out (Ok u) asked h = did_by names err out asked h.0 h.1
@@ -163,7 +163,7 @@ pub err_alone : (a b out : SinkState) (text : List ℕ) (x : Writing) → Writes
 err_alone a b out text (Ok u) h = (h, Appends-nil out.written)
 err_alone a b out text (Err e) h = inl (h, refl)
 
--- a prefix of what comes next, behind what happened
+-- a prefix of what comes next, after what happened
 pub prefix_behind : {a b c : KnownState} (p es more : List Event) → Happened a b p → PrefixHappened b c es
     → PrefixHappened a c (p ++ (es ++ more))
 prefix_behind p es more done h = (
@@ -172,16 +172,16 @@ prefix_behind p es more done h = (
   did_both p h.0 done h.2,
 )
 
--- ---- moments whose run states tell or don't
+-- ---- states that are known or not
 
--- what follows of values that are made of told ones
+-- what follows of values that are made of known ones
 IfKnown-made : {A B : Type 0} (x y : Option A) (f g : A → B) {P : A → A → Type 0} (R : B → B → Type 0)
     → IfKnown x y P → ((a b : A) → P a b → R (f a) (g b)) → IfKnown (option_map f x) (option_map g y) R
 IfKnown-made None y f g R h k = tt
 IfKnown-made (Some a) None f g R h k = h
 IfKnown-made (Some a) (Some b) f g R h k = k a b h
 
--- the run state at a moment, once its world is known
+-- the known state of these streams, by their world
 abbrev pub known : {S : Type 0} → (S → SourceState) → StreamsState S → World → KnownState
 known state m w = record {
   world = w;
@@ -191,7 +191,7 @@ known state m w = record {
   out = m.out;
 }
 
--- the run state, by the world
+-- known_state by the world, if that is known
 by_world : (f : World → KnownState) (t : Option KnownSource) (c : Option Content)
     → (t >>= (λ t. c >>= (λ c. Some (f (record { answer = t.answer; asked = t.asked; input = c })))))
     ≡ option_map f (world_by t c)
@@ -199,23 +199,23 @@ by_world f None c = refl
 by_world f (Some t) None = refl
 by_world f (Some t) (Some c) = refl
 
-pub run_state-known : {S : Type 0} (state : S → SourceState) (m : StreamsState S)
+pub known_state-by_world : {S : Type 0} (state : S → SourceState) (m : StreamsState S)
     → known_state state m ≡ option_map (known state m) (world_of state m)
-run_state-known state m = by_world (known state m) (state m.source).known m.input
+known_state-by_world state m = by_world (known state m) (state m.source).known m.input
 
--- what follows of two moments from what holds of their worlds, where these tell
+-- what follows of two states from what holds of their worlds, if these are known
 pub where_known : {S : Type 0} (state : S → SourceState) (a b : StreamsState S) {P : World → World → Type 0}
     (R : KnownState → KnownState → Type 0) → IfKnown (world_of state a) (world_of state b) P
     → ((w v : World) → P w v → R (known state a w) (known state b v))
     → IfKnown (known_state state a) (known_state state b) R
 where_known state a b R h f = search rules
 
--- and what holds of their worlds from what holds of the moments
-told-of : {A B : Type 0} (x y : Option A) (f g : A → B) (R : B → B → Type 0)
+-- and what holds of their worlds from what holds of the states
+known-of : {A B : Type 0} (x y : Option A) (f g : A → B) (R : B → B → Type 0)
     → IfKnown (option_map f x) (option_map g y) R → IfKnown x y (λ a b. R (f a) (g b))
-told-of None y f g R h = tt
-told-of (Some a) None f g R h = h
-told-of (Some a) (Some b) f g R h = h
+known-of None y f g R h = tt
+known-of (Some a) None f g R h = h
+known-of (Some a) (Some b) f g R h = h
 
 pub known_worlds : {S : Type 0} (state : S → SourceState) (a b : StreamsState S) (R : KnownState → KnownState → Type 0)
     → IfKnown (known_state state a) (known_state state b) R
@@ -223,9 +223,9 @@ pub known_worlds : {S : Type 0} (state : S → SourceState) (a b : StreamsState 
 known_worlds state a b R h = search rules
 
 -- a value that stayed
-pub same_told : {A : Type 0} (x : Option A) → IfKnown x x (λ a b. b ≡ a)
-same_told None = tt
-same_told (Some a) = refl
+pub same_known : {A : Type 0} (x : Option A) → IfKnown x x (λ a b. b ≡ a)
+same_known None = tt
+same_known (Some a) = refl
 
 -- the source was refused memory, and nothing else was done
 pub known_refused : {S : Type 0} (state : S → SourceState) (a b : StreamsState S)
@@ -234,16 +234,16 @@ pub known_refused : {S : Type 0} (state : S → SourceState) (a b : StreamsState
     → IfKnown (known_state state a) (known_state state b) OnlyRefused
 known_refused state a b world taken err out refused = search rules
 
--- standard error handed on a text or a prefix of it, and nothing else was done
+-- standard error wrote a text or a prefix of it, and nothing else was done
 pub err_came : {S : Type 0} (state : S → SourceState) (a : StreamsState S) (err : SinkState) (text : List ℕ)
     (x : Writing)
     → WritesOrPrefix a.err.written err.written text x
     → IfKnown (known_state state a) (known_state state (record a { err = err }))
     (λ s t. Came x s t (events_by [] text []))
-err_came state a err text x h = where_known state a (record a { err = err }) _ (same_told (world_of state a))
+err_came state a err text x h = where_known state a (record a { err = err }) _ (same_known (world_of state a))
     (λ w v same. came_by _ _ [] text [] x (asks_none same refl refl) (err_alone a.err err a.out text x h))
 
--- a run from one moment to another, whatever the outputs hold
+-- a behavior from one state to another, whatever the outputs buffer
 abbrev pub Runs : {S A : Type 0} → (S → SourceState) → (World → Behavior) → (Bool → A) → StreamsState S → StreamsState S
     → Result A Stop → Type 0
 Runs state run answer a b r =

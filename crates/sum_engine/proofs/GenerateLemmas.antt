@@ -1,10 +1,10 @@
--- Hashing one name.
+-- `generate_one`: the behavior of hashing one name, by the outcome of `hash_name` and what was then written.
 use Rattle.std.proofs.Common.{◌≡◌, ℕ, ◌||◌, Bool, List, [], ◌∷◌, Some, Result, Ok, Err, refl, ap, sym, ◌∙◌}
 use Rattle.std.proofs.Math.Bool.{or-false}
 use Rattle.digest_kinds.specs.Kinds.{KindValue}
 use Rattle.sum_engine.specs.Behavior.{Fault, is_dash, reply, digest_or_fault, Step, single_step}
 use Rattle.sum_sources.specs.Contents.{Reply, SourceState}
-use Rattle.sum_engine.specs.refinement.HashName.{HashOutcome, HashesNameIfKnown, IsHashOutcome, world_of}
+use Rattle.sum_engine.specs.refinement.HashName.{HashOutcome, digest_of_outcome, HashesNameIfKnown, IsHashOutcome, world_of}
 use Rattle.sum_engine.specs.Generation.{Settings, generate_behavior, generate_behavior_by}
 use Rattle.sum_engine.specs.Execution.{StreamsState}
 use Rattle.sum_engine.specs.refinement.FlushedWrites.{WritesBoth}
@@ -12,35 +12,32 @@ use Rattle.sum_engine.proofs.ExecutionLemmas.{Runs, Writing}
 use Rattle.sum_engine.proofs.BehaviorLemmas.{answered, once}
 use Rattle.sum_engine.specs.declared.hash_name.HashOutcome.TheVariants as asked
 
--- what came of a name: its digest, or the fault of opening or reading it
-abbrev pub found : HashOutcome → Result (List ℕ) Fault
-found (asked.Read d) = Ok d
-found (asked.NotOpened f) = Err f
-found (asked.Broken f) = Err f
+-- the outcome is what the definitions say of the reply
+digest_or_fault-is : (kind : KindValue) (r : Reply) (a : HashOutcome) → IsHashOutcome kind r a
+    → digest_or_fault kind r ≡ digest_of_outcome a
+digest_or_fault-is kind r (asked.Read d) h = ap (digest_or_fault kind) h.1 ∙ h.2
+digest_or_fault-is kind r (asked.NotOpened f) h = ap (digest_or_fault kind) h
+digest_or_fault-is kind r (asked.Broken f) h = ap (digest_or_fault kind) h.1 ∙ h.2
 
--- it is what the definitions say of the reply
-found_is : (kind : KindValue) (r : Reply) (a : HashOutcome) → IsHashOutcome kind r a → digest_or_fault kind r ≡ found a
-found_is kind r (asked.Read d) h = ap (digest_or_fault kind) h.1 ∙ h.2
-found_is kind r (asked.NotOpened f) h = ap (digest_or_fault kind) h
-found_is kind r (asked.Broken f) h = ap (digest_or_fault kind) h.1 ∙ h.2
-
--- the name was asked, and its line or that of its fault was handed on, or a prefix of it
-pub told : {S : Type 0} (state : S → SourceState) (settings : Settings) (tool name err out : List ℕ) (good : Bool)
-    (a b : StreamsState S) (came : HashOutcome) (x : Writing)
-    → HashesNameIfKnown settings.kind (world_of state a) (world_of state b) name (Some came)
+-- the name was asked, with this digest or fault, and the line of that was written, or a prefix of it
+pub generate-performed : {S : Type 0} (state : S → SourceState) (settings : Settings) (tool name err out : List ℕ)
+    (good : Bool) (a b : StreamsState S) (outcome : HashOutcome) (found : Result (List ℕ) Fault) (x : Writing)
+    → HashesNameIfKnown settings.kind (world_of state a) (world_of state b) name (Some outcome)
     → b.stdin_taken ≡ a.stdin_taken || is_dash name → (state b.source).refusals ≡ (state a.source).refusals
-    → generate_behavior_by settings tool name (found came) ≡ single_step (name ∷ []) err out good
+    → found ≡ digest_of_outcome outcome
+    → generate_behavior_by settings tool name found ≡ single_step (name ∷ []) err out good
     → WritesBoth a.err b.err a.out b.out err out x
     → Runs state (λ w. generate_behavior settings tool w name) (λ g. g) a b (answered x good)
-told state settings tool name err out good a b came x h taken refusals is hands =
+generate-performed state settings tool name err out good a b outcome found x h taken refusals same is writes =
     once state (λ w. generate_behavior settings tool w name) (name ∷ []) err out good (λ g. g) a b x h (λ w v asked. (
-      ap (generate_behavior_by settings tool name) (found_is settings.kind (reply w name) came asked.1) ∙ is,
+      ap (generate_behavior_by settings tool name)
+          (digest_or_fault-is settings.kind (reply w name) outcome asked.1 ∙ sym same) ∙ is,
       record {
         world = asked.0;
         taken = taken ∙ ap (λ t. a.stdin_taken || t) (sym (or-false (is_dash name)));
         refusals = refusals;
       },
-    )) hands
+    )) writes
 
 -- generation is one step
 pub one_step : (settings : Settings) (tool name : List ℕ) (x : Result (List ℕ) Fault)

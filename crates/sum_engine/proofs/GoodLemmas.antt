@@ -1,12 +1,12 @@
--- A manifest of lines that were written for whole files is good.
+-- A manifest of lines that were written for whole files is good: by induction on its lines.
 use Rattle.std.proofs.Common.{rules, ◌≡◌, ℕ, suc, ◌+◌, ◌<◌, true, List, [], ◌∷◌, ◌++◌, length, map, refl, ap, ◌∙◌, append_assoc, arith, inl, append-nil, sym, flat_map, All, Ok}
 use Rattle.std.proofs.lemmas.Bool.{ne_eqb}
 use Rattle.std.proofs.Math.Bool.{and-false, or-true}
 use Rattle.std.proofs.lemmas.List.Elements.{All-head, All-tail}
 use Rattle.std.proofs.lemmas.Slice.Eq.{bytes_eq-Decides}
 use Rattle.digest_kinds.specs.Kinds.{digest}
-use Rattle.sum_engine.specs.check.Reports.{Algos, Report, Counts, no_counts, out_of, err_of, right_line, counts, unless_status, end_text, good}
-use Rattle.sum_engine.specs.check.Verdicts.{Form, CheckSettings, Right, Rules, LineVerdictValue, digest_verdict, verdict_of, judge, verdicts, all_verdicts}
+use Rattle.sum_engine.specs.check.Reports.{Report, LabelsValue, CountsValue, out_by, out_of, err_of, counts_of, unless_status, end_text, good}
+use Rattle.sum_engine.specs.check.Verdicts.{Algos, Form, Right, Rules, LineVerdictValue, digest_verdict, verdict_of, judge, verdicts, all_verdicts}
 use Rattle.sum_lines.specs.Escape.{present, escape}
 use Rattle.sum_lines.specs.grammar.Entries.{IsEntry, form}
 use Rattle.sum_engine.specs.Behavior.{Whole, World, reply, after, digest_or_fault, Behavior, out_text, err_text}
@@ -15,7 +15,7 @@ use Rattle.sum_sources.proofs.ContentLemmas.{limit-value, clip-short}
 use Rattle.sum_engine.specs.check.CheckerSteps.{step_then}
 use Rattle.sum_lines.specs.grammar.ParsedLines.{parse_line}
 use Rattle.sum_sources.specs.ManifestLines.{past_line}
-use Rattle.sum_engine.specs.check.Checking.{line_steps, rules_of, content_behavior, check_behavior_by, check_behavior}
+use Rattle.sum_engine.specs.check.Checking.{CheckSettings, line_steps, rules_of, labels_of, content_behavior, check_behavior_by, check_behavior}
 use Rattle.sum_lines.proofs.ParsedLineLemmas.{says_is}
 use Rattle.sum_engine.proofs.ListedEntryLemmas.{Item, written_text, Listed, prefix, spelled_for, ReadableSoFar, back, whole, lines-are}
 use Rattle.sum_engine.proofs.CheckOneLemmas.{opening}
@@ -37,10 +37,10 @@ digest_verdict-right algos answer i h =
     rw (short, (bytes_eq-Decides d d).1 refl) refl
 
 -- so the verdict is Right
-verdict-right : (r : Rules) (w : World) (i : Item) → Listed r.settings.algo w.answer i
+verdict-right : (r : Rules) (w : World) (i : Item) → Listed r.algo w.answer i
     → verdict_of r w (spelled_for i) ≡ Right
 verdict-right r w i h =
-    simp (h.no_dash, h.content, and-false) (digest_verdict-right r.settings.algo w.answer i h)
+    simp (h.no_dash, h.content, and-false) (digest_verdict-right r.algo w.answer i h)
 
 -- the verdict of an item on line n
 abbrev right : ℕ → Item → LineVerdictValue
@@ -52,20 +52,20 @@ rights n [] = []
 rights n (i ∷ is) = right (n + 1) i ∷ rights (n + 1) is
 
 -- a written line is judged so
-judged : (r : Rules) (w : World) (n : ℕ) (f : Form) (i : Item) → Listed r.settings.algo w.answer i
-    → IsEntry escape r.settings.algo f (prefix i) (spelled_for i)
-    → judge r w n (parse_line present r.settings.algo f (prefix i)) ≡ right n i
+judged : (r : Rules) (w : World) (n : ℕ) (f : Form) (i : Item) → Listed r.algo w.answer i
+    → IsEntry escape r.algo f (prefix i) (spelled_for i)
+    → judge r w n (parse_line present r.algo f (prefix i)) ≡ right n i
 judged r w n f i h e =
-    let is = says_is present r.settings.algo f (prefix i) in
+    let is = says_is present r.algo f (prefix i) in
     rw ((is.when_entry (spelled_for i)).1 (e.0, e), verdict-right r w i h) refl
 
 -- and all of them, each in the world that those before it leave
 right-verdicts : (r : Rules) (before : List (List ℕ)) (is : List Item) (w : World) (n : ℕ)
-    → ReadableSoFar r.settings.algo before → All (Listed r.settings.algo w.answer) is
-    → verdicts (now r) (form r.settings.algo (before ++ map prefix is)) w n (map prefix is) ≡ rights n is
+    → ReadableSoFar r.algo before → All (Listed r.algo w.answer) is
+    → verdicts (now r) (form r.algo (before ++ map prefix is)) w n (map prefix is) ≡ rights n is
 right-verdicts r before [] w n u all = refl
 right-verdicts r before (i ∷ is) w n u all =
-    let algos : Algos = r.settings.algo in
+    let algos : Algos = r.algo in
     let h : Listed algos w.answer i = All-head (Listed algos w.answer) i is all in
     let b = back algos w.answer before (map prefix is) i h u in
     let rest = right-verdicts r (before ++ (prefix i ∷ [])) is (after w (i.name ∷ [])) (n + 1) b.2
@@ -74,38 +74,45 @@ right-verdicts r before (i ∷ is) w n u all =
 
 -- ---- what is reported, and the end
 
+-- the report of a right name
+abbrev pub right_line : Report → List ℕ → List ℕ
+right_line report name = out_by present report Right name
+
 -- each name is reported as right
-rights-out : (r : Rules) (n : ℕ) (is : List Item)
-    → flat_map (out_of (now r)) (rights n is) ≡ flat_map (λ (i : Item). right_line r.settings.report i.name) is
-rights-out r n [] = refl
-rights-out r n (i ∷ is) = ap (λ t. right_line r.settings.report i.name ++ t) (rights-out r (n + 1) is)
+rights-out : (r : Rules) (labels : LabelsValue) (n : ℕ) (is : List Item)
+    → flat_map (out_of (now r) labels) (rights n is) ≡ flat_map (λ (i : Item). right_line labels.report i.name) is
+rights-out r labels n [] = refl
+rights-out r labels n (i ∷ is) = ap (λ t. right_line labels.report i.name ++ t) (rights-out r labels (n + 1) is)
 
 -- and nothing on standard error
-rights-err : (r : Rules) (n : ℕ) (is : List Item) → flat_map (err_of r) (rights n is) ≡ []
-rights-err r n [] = refl
-rights-err r n (i ∷ is) = rights-err r (n + 1) is
+rights-err : (r : Rules) (labels : LabelsValue) (n : ℕ) (is : List Item)
+    → flat_map (err_of r labels) (rights n is) ≡ []
+rights-err r labels n [] = refl
+rights-err r labels n (i ∷ is) = rights-err r labels (n + 1) is
 
--- a manifest's run writes on standard output the reports of its lines
-pub outs_of_lines : (r : Rules) (end : List ℕ) (c : Content) (js : List LineVerdictValue)
-    → flat_map (λ s. s.out) (line_steps r end c js) ≡ flat_map (out_of r) js
-outs_of_lines r end c [] = refl
-outs_of_lines r end c (j ∷ js) = ap (λ l. out_of r j ++ l) (outs_of_lines r end (past_line c) js)
+-- a manifest's behavior writes on standard output the reports of its lines
+pub out_text-line_steps : (r : Rules) (labels : LabelsValue) (end : List ℕ) (c : Content) (js : List LineVerdictValue)
+    → flat_map (λ s. s.out) (line_steps r labels end c js) ≡ flat_map (out_of r labels) js
+out_text-line_steps r labels end c [] = refl
+out_text-line_steps r labels end c (j ∷ js) =
+    ap (λ l. out_of r labels j ++ l) (out_text-line_steps r labels end (past_line c) js)
 
 -- on standard error these, and then the end
-pub errs_of_lines : (r : Rules) (end : List ℕ) (c : Content) (js : List LineVerdictValue)
-    → flat_map (λ s. s.err) (line_steps r end c js) ≡ flat_map (err_of r) js ++ end
-errs_of_lines r end c [] = append-nil end
-errs_of_lines r end c (j ∷ js) = ap (λ l. err_of r j ++ l) (errs_of_lines r end (past_line c) js)
-    ∙ sym (append_assoc (err_of r j) (flat_map (err_of r) js) end)
+pub err_text-line_steps : (r : Rules) (labels : LabelsValue) (end : List ℕ) (c : Content) (js : List LineVerdictValue)
+    → flat_map (λ s. s.err) (line_steps r labels end c js) ≡ flat_map (err_of r labels) js ++ end
+err_text-line_steps r labels end c [] = append-nil end
+err_text-line_steps r labels end c (j ∷ js) =
+    ap (λ l. err_of r labels j ++ l) (err_text-line_steps r labels end (past_line c) js)
+    ∙ sym (append_assoc (err_of r labels j) (flat_map (err_of r labels) js) end)
 
 -- the counts of k right lines
-abbrev right_counts : ℕ → Counts
+abbrev right_counts : ℕ → CountsValue
 right_counts k = record { right = k; wrong = 0; missing = 0; unread = 0; bad = 0 }
 
--- behind k right lines come as many more as there are items
-counts-are : (k n : ℕ) (is : List Item) → counts (right_counts k) (rights n is) ≡ right_counts (k + length is)
-counts-are k n [] = ap right_counts (omega arith)
-counts-are k n (i ∷ is) = counts-are (k + 1) (n + 1) is ∙ ap right_counts (omega arith)
+-- as many as there are items
+counts-are : (n : ℕ) (is : List Item) → counts_of (rights n is) ≡ right_counts (length is)
+counts-are n [] = refl
+counts-are n (i ∷ is) = ap (λ (c : CountsValue). record c { right = suc c.right }) (counts-are (n + 1) is)
 
 -- a summary that is empty stays so
 silent : (report : Report) → unless_status report [] ≡ []
@@ -115,8 +122,8 @@ silent reports.Warn = refl
 silent reports.Status = refl
 
 -- the whole summary is empty
-no-summary : (r : Rules) (k : ℕ) → end_text r Whole (right_counts (suc k)) ≡ []
-no-summary r k = search rules
+no-summary : (r : Rules) (labels : LabelsValue) (k : ℕ) → end_text r labels Whole (right_counts (suc k)) ≡ []
+no-summary r labels k = search rules
 
 -- and the list is good
 is-good : (r : Rules) (k : ℕ) → good r Whole (right_counts (suc k)) ≡ true
@@ -124,27 +131,27 @@ is-good r k = rw (ne_eqb (suc k) 0 (λ e. omega (arith, e)), or-true) refl
 
 -- ---- the whole manifest
 
--- what checking such a manifest comes to
+-- the behavior of checking such a manifest
 pub record Found (check : CheckSettings) (tool : List ℕ) (w : World) (manifest : List ℕ) (is : List Item) : Type 0 where
   pub good : (check_behavior check tool w manifest).good ≡ true
   pub out : out_text (check_behavior check tool w manifest) ≡ flat_map (λ (i : Item). right_line check.report i.name) is
   pub err : err_text (check_behavior check tool w manifest) ≡ []
 
 -- the verdicts of its lines
-all-right : (r : Rules) (w : World) (is : List Item) → All (Listed r.settings.algo w.answer) is
+all-right : (r : Rules) (w : World) (is : List Item) → All (Listed r.algo w.answer) is
     → all_verdicts (now r) w (whole is) ≡ rights 0 is
-all-right r w is all = rw (lines-are r.settings.algo w.answer is all) (right-verdicts r [] is w 0 (inl refl) all)
+all-right r w is all = rw (lines-are r.algo w.answer is all) (right-verdicts r [] is w 0 (inl refl) all)
 
--- what checking it comes to, by these verdicts
+-- the behavior, by these verdicts
 check_behavior-is : (check : CheckSettings) (tool manifest : List ℕ) (w : World) (is : List Item)
     → All (Listed check.algo w.answer) is → length (flat_map written_text is) < limit
     → reply w manifest ≡ Ok (whole is)
-    → check_behavior check tool w manifest
-    ≡ step_then (opening manifest) (content_behavior (rules_of check tool manifest) (whole is) (rights 0 is))
+    → check_behavior check tool w manifest ≡ step_then (opening manifest)
+    (content_behavior (rules_of check manifest) (labels_of check tool manifest) (whole is) (rights 0 is))
 check_behavior-is check tool manifest w is all fits given =
-    let r : Rules = rules_of check tool manifest in
+    let r : Rules = rules_of check manifest in
     let next : World = after w (manifest ∷ []) in
-    ap (check_behavior_by r manifest next) given
+    ap (check_behavior_by r (labels_of check tool manifest) manifest next) given
     ∙ rw (clip-short (whole is) (rw limit-value at fits), all-right r next is all) refl
 
 -- a manifest with at least one line is good, and each of its names is reported as right
@@ -153,17 +160,16 @@ pub manifest_good : (check : CheckSettings) (tool manifest : List ℕ) (w : Worl
     → reply w manifest ≡ Ok (whole is) → Found check tool w manifest is
 manifest_good check tool manifest w [] all some fits given = absurd (omega arith)
 manifest_good check tool manifest w (i ∷ is) all some fits given =
-    let r : Rules = rules_of check tool manifest in
+    let r : Rules = rules_of check manifest in
+    let labels : LabelsValue = labels_of check tool manifest in
     let here = check_behavior-is check tool manifest w (i ∷ is) all fits given in
-    let c : counts no_counts (rights 0 (i ∷ is)) ≡ right_counts (suc (length is)) =
-    counts-are 0 0 (i ∷ is) ∙ ap right_counts (omega arith) in
     let js = rights 0 (i ∷ is) in
-    let end = end_text r Whole (counts no_counts js) in
+    let c : counts_of js ≡ right_counts (suc (length is)) = counts-are 0 (i ∷ is) in
+    let end = end_text r labels Whole (counts_of js) in
     record {
       good = ap (λ (q : Behavior). q.good) here ∙ ap (good r Whole) c ∙ is-good r (length is);
-      out = ap out_text here ∙ outs_of_lines r end (whole (i ∷ is)) js ∙ rights-out r 0 (i ∷ is);
-      err =
-          ap err_text here ∙ errs_of_lines r end (whole (i ∷ is)) js
-          ∙ ap (λ t. t ++ end) (rights-err r 0 (i ∷ is))
-          ∙ ap (end_text r Whole) c ∙ no-summary r (length is);
+      out = ap out_text here ∙ out_text-line_steps r labels end (whole (i ∷ is)) js ∙ rights-out r labels 0 (i ∷ is);
+      err = ap err_text here ∙ err_text-line_steps r labels end (whole (i ∷ is)) js
+          ∙ ap (λ t. t ++ end) (rights-err r labels 0 (i ∷ is))
+          ∙ ap (end_text r labels Whole) c ∙ no-summary r labels (length is);
     }

@@ -1,31 +1,61 @@
--- Steps of a new checker, one after another.
-use Rattle.std.proofs.Common.{rules, ◌≡◌, ℕ, zero, suc, ◌+◌, ◌≤◌, true, List, [], ◌∷◌, ◌++◌, length, take, drop, refl, ap, sym, ◌∙◌, ◌-◌, arith, length-drop, flat_map}
+-- `steps_join`: the steps of a new checker, one after another, by induction on the list of their vectors.
+use Rattle.std.proofs.Common.{rules, ◌≡◌, ℕ, zero, suc, ◌+◌, ◌-◌, ◌≤◌, ◌<◌, Bool, true, List, [], ◌∷◌, ◌++◌, length, take, drop, refl, ap, sym, ◌∙◌, arith, length-drop, flat_map, slice_index_or, subst, append-nil}
+use Rattle.std.specs.Io.KnownBytes.{Appends}
 use Rattle.std.proofs.lemmas.List.{take-append-drop}
 use Rattle.sum_sources.specs.Contents.{Content}
-use Rattle.sum_sources.specs.ManifestLines.{past_line}
+use Rattle.sum_sources.specs.ManifestLines.{past_line, past_lines}
 use Rattle.sum_engine.specs.check.Verdicts.{Form, lines_by, Rules, LineVerdictValue, asks_of, verdicts, all_verdicts, judge}
 use Rattle.sum_lines.specs.grammar.Entries.{form}
 use Rattle.sum_lines.specs.grammar.ParsedLines.{parse_line}
-use Rattle.sum_engine.specs.Behavior.{World, after, Behavior, out_text, err_text, asks}
-use Rattle.sum_engine.specs.check.Reports.{no_counts, out_of, err_of, counts, end_text}
+use Rattle.sum_engine.specs.Behavior.{World, after, Behavior, Step, events_of, trace, out_text, err_text, asks}
+use Rattle.sum_engine.specs.check.Reports.{LabelsValue, out_of, err_of, counts_of, end_text, good}
 use Rattle.sum_engine.specs.check.Checking.{line_steps, content_behavior}
-use Rattle.sum_engine.specs.Execution.{KnownState}
-use Rattle.sum_engine.specs.check.CheckerSteps.{CheckState, LineHandled, StepDone, remaining_behavior, initial_state}
-use Rattle.sum_engine.specs.check.CheckerLaws.{LinesHandled, StepsJoin, StepsEnd, StepsCut, StepsReport, StateAfterLines}
+use Rattle.sum_engine.specs.Execution.{KnownState, Happened}
+use Rattle.sum_engine.specs.check.CheckerSteps.{CheckState, LineHandled, StepDone, LastStepDone, counts_then, remaining_verdicts, remaining_behavior, initial_state}
+use Rattle.sum_engine.specs.check.CheckerLaws.{StepsGoing, StepsJoin, AfterSteps, EndsManifest}
 use Rattle.sum_engine.proofs.RestLemmas.{past_next}
-use Rattle.sum_engine.proofs.BehaviorLemmas.{Along, steps_more, along_end, along_breaks}
+use Rattle.sum_engine.proofs.ExecutionLemmas.{did_nothing, err-by, out-by, names-by}
+use Rattle.sum_engine.proofs.WorldLemmas.{after-none}
+use Rattle.sum_engine.proofs.BehaviorLemmas.{Along, steps_more, along_end, along_breaks, events_extend}
+use Rattle.sum_engine.proofs.CheckOneLemmas.{remaining-initial}
 
--- ---- a new checker
+-- ---- the reports of the first steps
 
--- the manifest's run
-abbrev whole : Rules → Content → KnownState → Behavior
-whole r c s = content_behavior r c (all_verdicts r s.world c)
+-- by the lines
+reports : (r : Rules) (labels : LabelsValue) (end : List ℕ) (c : Content) (js : List LineVerdictValue) (k : ℕ)
+    → k ≤ length js → let some : Behavior = record { steps = take k (line_steps r labels end c js); good = true } in
+    (out_text some ≡ flat_map (out_of r labels) (take k js)) × (err_text some ≡ flat_map (err_of r labels) (take k js))
+    × (asks some ≡ flat_map asks_of (take k js))
+reports r labels end c js zero few = (refl, refl, refl)
+reports r labels end c [] (suc k) few = absurd (omega (arith, few))
+reports r labels end c (j ∷ js) (suc k) few =
+    let more = reports r labels end (past_line c) js k (omega (arith, few)) in (
+      ap (λ l. out_of r labels j ++ l) more.0,
+      ap (λ l. err_of r labels j ++ l) more.1,
+      ap (λ l. asks_of j ++ l) more.2,
+    )
 
--- of none nothing happened
-joined_none : (r : Rules) (c : Content) (s : KnownState) → StateAfterLines r c s (initial_state c s) 0
-joined_none r c s = search rules
+-- there are as many verdicts as lines
+length_verdicts : (r : Rules) (f : Form) (w : World) (n : ℕ) (ls : List (List ℕ))
+    → length (verdicts r f w n ls) ≡ length ls
+length_verdicts r f w n [] = refl
+length_verdicts r f w n (l ∷ ls) =
+    ap suc (length_verdicts r f (after w (asks_of (judge r w (n + 1) (parse_line r.profile r.algo f l)))) (n + 1) ls)
 
--- what is left and what is done behind one more
+-- and one step more
+length_steps : (r : Rules) (labels : LabelsValue) (end : List ℕ) (c : Content) (js : List LineVerdictValue)
+    → length (line_steps r labels end c js) ≡ length js + 1
+length_steps r labels end c [] = refl
+length_steps r labels end c (j ∷ js) = omega (arith, length_steps r labels end (past_line c) js)
+
+-- the last step is that of the end
+last_step : (r : Rules) (labels : LabelsValue) (end : List ℕ) (c : Content) (js : List LineVerdictValue)
+    → (n : ℕ) × (drop (length js) (line_steps r labels end c js)
+    ≡ record { names = []; err = end; out = []; remaining = n } ∷ [])
+last_step r labels end c [] = (length c.bytes, refl)
+last_step r labels end c (j ∷ js) = last_step r labels end (past_line c) js
+
+-- what remains and what is done after one more
 drop_next : {X : Type 0} (k : ℕ) (xs ys : List X) (y : X) → drop k xs ≡ y ∷ ys
     → (drop (suc k) xs ≡ ys) × (take (suc k) xs ≡ take k xs ++ y ∷ [])
 drop_next zero [] ys y h = cc
@@ -34,103 +64,148 @@ drop_next (suc k) [] ys y h = cc
 drop_next (suc k) (x ∷ xs) ys y h =
     let next = drop_next k xs ys y h in (next.0, ap (λ l. x ∷ l) next.1)
 
--- the whole run is what was done and what is left
-along : {r : Rules} {c : Content} {s : KnownState} {b : CheckState} {k : ℕ} → StateAfterLines r c s b k
-    → Along (whole r c s) (remaining_behavior r b) s b.known_state
-along {r} {c} {s} {b} {k} h = record {
-  done = take k (whole r c s).steps;
-  steps = sym (take-append-drop k (whole r c s).steps) ∙ ap (λ l. take k (whole r c s).steps ++ l) (sym h.remaining);
-  good = h.good;
-  did = h.done;
-}
+-- a list of which something remains after k of it is longer
+drop_within : {X : Type 0} (k : ℕ) (xs ys : List X) (y : X) → drop k xs ≡ y ∷ ys → k < length xs
+drop_within k xs ys y h =
+    let size : length xs - k ≡ suc (length ys) = sym (length-drop k xs) ∙ ap length h in
+    omega (arith, size)
 
--- one more was handled
-joined_more : {r : Rules} {c : Content} {s : KnownState} {b d : CheckState} {v : List ℕ} {k : ℕ}
-    → StateAfterLines r c s b k
-    → StepDone (remaining_behavior r b) (remaining_behavior r d) b.known_state d.known_state → LineHandled r b d v
-    → StateAfterLines r c s d (suc k)
-joined_more {r} {c} {s} {b} {d} {v} {k} h step moves =
-    let all = (whole r c s).steps in
-    let left = drop_next k all (remaining_behavior r d).steps step.step
-    (sym h.remaining ∙ ap (λ (q : Behavior). q.steps) step.is) in
-    let rest = moves.rest ∙ ap past_line h.rest ∙ past_next k c in
-    record {
-      rest = rest;
-      lines =
-          sym (drop_next k (lines_by r.profile c) (lines_by r.profile d.rest) moves.line (sym h.lines ∙ moves.lines)).0;
-      number = omega (arith, moves.number, h.number);
-      consumed = ap (λ (x : Content). d.consumed + length x.bytes) (sym rest) ∙ moves.consumed
-          ∙ ap (λ (x : Content). b.consumed + length x.bytes) h.rest ∙ h.consumed;
-      done = rw left.1 (steps_more (take k all) step.step h.done step.happened);
-      remaining = sym left.0;
-      good = sym (ap (λ (q : Behavior). q.good) step.is) ∙ h.good;
-    }
+-- ---- k steps of a new checker
 
--- so many were, one after another
-joined_times : (r : Rules) (c : Content) (s : KnownState) (a b : CheckState) (i k : ℕ) → StateAfterLines r c s a i
-    → LinesHandled r a b k
-    → StateAfterLines r c s b (i + k)
-joined_times r c s a b i zero h is = search rules
-joined_times r c s a b i (suc k) h more =
-    let next : i + suc k ≡ suc i + k = omega arith in
-    rw next (joined_times r c s more.0 b (suc i) k (joined_more h more.2 more.3) more.4)
+module _ (r : Rules) (labels : LabelsValue) (c : Content) (s : KnownState) where
+  -- the manifest's verdicts and its behavior
+  abbrev js : List LineVerdictValue
+  js = all_verdicts r s.world c
 
--- ---- the laws of steps
+  abbrev whole : Behavior
+  whole = content_behavior r labels c js
 
--- so many lines handled one after another are the first so many steps
+  abbrev end : List ℕ
+  end = end_text r labels c.ending (counts_of js)
+
+  -- exactly the first k steps happened, and the others remain; the bytes consumed are those up to the end of line k
+  pub record After (b : CheckState) (k : ℕ) : Type 0 where
+    pub rest : b.rest ≡ past_lines k c
+    pub lines : lines_by r.profile b.rest ≡ drop k (lines_by r.profile c)
+    pub consumed : b.consumed + length (past_lines k c).bytes ≡ length c.bytes
+    pub taken : b.taken ≤ b.consumed + 8192
+    pub done : Happened s b.known_state (trace (take k whole.steps))
+    pub remaining : (remaining_behavior r labels b).steps ≡ drop k whole.steps
+    pub good : (remaining_behavior r labels b).good ≡ whole.good
+
+  -- no step yet
+  after_none : After (initial_state c s) 0
+  after_none =
+      let all = remaining-initial r labels c s in
+      record {
+        rest = refl;
+        lines = refl;
+        consumed = omega arith;
+        taken = omega arith;
+        done = did_nothing s;
+        remaining = ap (λ (q : Behavior). q.steps) all;
+        good = ap (λ (q : Behavior). q.good) all;
+      }
+
+  -- one more
+  after_more : {b d : CheckState} {v : List ℕ} {k : ℕ} → After b k
+      → StepDone (remaining_behavior r labels b) (remaining_behavior r labels d) b.known_state d.known_state
+      → LineHandled r b d v → After d (suc k)
+  after_more {b} {d} {v} {k} h step moves =
+      let remaining = drop_next k whole.steps (remaining_behavior r labels d).steps step.step
+      (sym h.remaining ∙ ap (λ (q : Behavior). q.steps) step.is) in
+      let rest = moves.rest ∙ ap past_line h.rest ∙ past_next k c in
+      let line = drop_next k (lines_by r.profile c) (lines_by r.profile d.rest) moves.line (sym h.lines ∙ moves.lines) in
+      record {
+        rest = rest;
+        lines = sym line.0;
+        consumed = ap (λ (x : Content). d.consumed + length x.bytes) (sym rest) ∙ moves.consumed
+            ∙ ap (λ (x : Content). b.consumed + length x.bytes) h.rest ∙ h.consumed;
+        taken = moves.taken;
+        done = rw remaining.1 (steps_more (take k whole.steps) step.step h.done step.happened);
+        remaining = sym remaining.0;
+        good = sym (ap (λ (q : Behavior). q.good) step.is) ∙ h.good;
+      }
+
+  -- all, one after another
+  after_all : (a b : CheckState) (i : ℕ) (vectors : List (List ℕ)) → After a i → StepsGoing r labels a b vectors
+      → After b (i + length vectors)
+  after_all a b i [] h is = let none : i + 0 ≡ i = omega arith in rw (is, none) h
+  after_all a b i (v ∷ vectors) h more =
+      let next : i + suc (length vectors) ≡ suc i + length vectors = omega arith in
+      rw next (after_all more.0 b (suc i) vectors (after_more h more.1.0 more.1.1) more.2)
+
+  -- the whole behavior is what was done and what remains
+  along : {b : CheckState} {k : ℕ} → After b k → Along whole (remaining_behavior r labels b) s b.known_state
+  along {b} {k} h = record {
+    done = take k whole.steps;
+    steps = sym (take-append-drop k whole.steps) ∙ ap (λ l. take k whole.steps ++ l) (sym h.remaining);
+    good = h.good;
+    did = h.done;
+  }
+
+  -- a step is left after k steps only if k is at most the number of lines
+  few : {b : CheckState} {k : ℕ} → After b k → k ≤ length js
+  few {b} {k} h =
+      let first = drop_first k h.remaining (remaining_some b) in
+      omega (arith, first, length_steps r labels end c js)
+    where
+      remaining_some : (b : CheckState) → 0 < length (remaining_behavior r labels b).steps
+      remaining_some b =
+          let ks = remaining_verdicts r b in
+          let text = end_text r labels b.rest.ending (counts_then b.counts (counts_of ks)) in
+          omega (arith, length_steps r labels text b.rest ks)
+
+      drop_first : {xs : List Step} (k : ℕ) → xs ≡ drop k whole.steps → 0 < length xs → k < length whole.steps
+      drop_first k is some = omega (arith, some, ap length is ∙ length-drop k whole.steps)
+
+  -- the step that ends
+  ends : {b : CheckState} {k : ℕ} → After b k → (answer : Bool) (z : KnownState)
+      → LastStepDone (remaining_behavior r labels b) answer b.known_state z
+      → EndsManifest r labels c js k b.known_state z answer
+  ends {b} {k} h answer z e =
+      let size = length_verdicts r (form r.algo (lines_by r.profile c)) s.world 0 (lines_by r.profile c) in
+      let last = sym h.remaining ∙ ap (λ (q : Behavior). q.steps) e.is in
+      let one : length whole.steps - k ≡ 1 = sym (length-drop k whole.steps) ∙ ap length last in
+      let number : k ≡ length js = omega (arith, one, length_steps r labels end c js) in
+      let step = last_step r labels end c js in
+      let same : e.step ∷ [] ≡ record { names = []; err = end; out = []; remaining = step.0 } ∷ [] =
+      sym last ∙ ap (λ n. drop n whole.steps) number ∙ step.1 in
+      let is : e.step ≡ record { names = []; err = end; out = []; remaining = step.0 } = cc in
+      let did = rw is at e.happened in
+      record {
+        lines = number ∙ size;
+        good = (along_end (along h) e).0;
+        err = rw (err-by [] end []) at did.err;
+        out = rw (out-by [] end []) at did.out;
+        world = rw (names-by [] end []) at did.world ∙ sym (after-none b.known_state.world);
+      }
+
+-- no vector is longer than its line
+vectors_fit : (r : Rules) (labels : LabelsValue) (a b : CheckState) (vectors : List (List ℕ))
+    → StepsGoing r labels a b vectors → (i : ℕ)
+    → length (slice_index_or vectors i []) ≤ length (slice_index_or (lines_by r.profile a.rest) i [])
+vectors_fit r labels a b [] is i = omega arith
+vectors_fit r labels a b (v ∷ vectors) more zero = rw more.1.1.lines more.1.1.vector_len
+vectors_fit r labels a b (v ∷ vectors) more (suc i) =
+    rw more.1.1.lines (vectors_fit r labels more.0 b vectors more.2 i)
+
+-- the law
 pub steps_join : StepsJoin
-steps_join r c s b k h =
-    let same : 0 + k ≡ k = omega arith in rw same at (joined_times r c s (initial_state c s) b 0 k (joined_none r c s)
-    h)
-
--- there are as many verdicts as lines
-length_verdicts : (r : Rules) (f : Form) (w : World) (n : ℕ) (ls : List (List ℕ))
-    → length (verdicts r f w n ls) ≡ length ls
-length_verdicts r f w n [] = refl
-length_verdicts r f w n (l ∷ ls) =
-    ap suc (length_verdicts r f (after w (asks_of (judge r w (n + 1) (parse_line r.profile r.settings.algo f l))))
-    (n + 1) ls)
-
--- and one step more
-length_steps : (r : Rules) (end : List ℕ) (c : Content) (js : List LineVerdictValue)
-    → length (line_steps r end c js) ≡ length js + 1
-length_steps r end c [] = refl
-length_steps r end c (j ∷ js) = omega (arith, length_steps r end (past_line c) js)
-
--- the step that ends comes after all lines, and then all happened
-pub steps_end : StepsEnd
-steps_end r c s b z k x times e =
-    let h = steps_join r c s b k times in
+steps_join r labels c s b vectors going =
     let js = all_verdicts r s.world c in
-    let ls = lines_by r.profile c in
-    let all = (whole r c s).steps in
-    let one : length all - k ≡ 1 = sym (length-drop k all) ∙ ap length (sym h.remaining ∙ ap (λ (q : Behavior). q.steps)
-    e.is) in
-    let len : length all ≡ length js + 1 = length_steps r (end_text r c.ending (counts no_counts js)) c js in
-    let size = length_verdicts r (form r.settings.algo ls) s.world 0 ls in
-    let end = along_end (along h) e in
-    (omega (arith, one, len, size), end.0, end.1)
-
--- a step that was cut off leaves a prefix
-pub steps_cut : StepsCut
-steps_cut r c s b z k times e = along_breaks (along (steps_join r c s b k times)) e
-
--- ---- the reports of the first steps
-
--- by the lines
-reports : (r : Rules) (end : List ℕ) (c : Content) (js : List LineVerdictValue) (k : ℕ) → k ≤ length js →
-    let some : Behavior = record { steps = take k (line_steps r end c js); good = true } in
-    (out_text some ≡ flat_map (out_of r) (take k js)) × (err_text some ≡ flat_map (err_of r) (take k js))
-    × (asks some ≡ flat_map asks_of (take k js))
-reports r end c js zero few = (refl, refl, refl)
-reports r end c [] (suc k) few = absurd (omega (arith, few))
-reports r end c (j ∷ js) (suc k) few =
-    let more = reports r end (past_line c) js k (omega (arith, few)) in (
-      ap (λ l. out_of r j ++ l) more.0,
-      ap (λ l. err_of r j ++ l) more.1,
-      ap (λ l. asks_of j ++ l) more.2,
-    )
-
--- their texts and their names
-pub steps_report : StepsReport
-steps_report r end c js k few = (reports r end c js k few, length_steps r end c js)
+    let k = length vectors in
+    let start : 0 + k ≡ k = omega arith in
+    let h : After r labels c s b k = rw start at (after_all r labels c s (initial_state c s) b 0 vectors (after_none r labels c s) going) in
+    let some : Behavior = record { steps = take k (content_behavior r labels c js).steps; good = true } in
+    let texts = events_extend some s b.known_state h.done in
+    let by = reports r labels (end_text r labels c.ending (counts_of js)) c js k (few r labels c s h) in
+    record {
+      err = rw by.1 at texts.1;
+      out = rw by.0 at texts.2;
+      world = rw by.2 at texts.0;
+      taken = omega (arith, h.taken, h.consumed);
+      vector_lens = vectors_fit r labels (initial_state c s) b vectors going;
+      end = ends r labels c s h;
+      cut = λ z e. along_breaks (along r labels c s h) e;
+    }

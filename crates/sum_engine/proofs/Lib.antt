@@ -3,6 +3,7 @@ pub mod ExecutionLemmas
 pub mod GenerateLemmas
 pub mod FlushedWriteLemmas
 pub mod VerdictLemmas
+pub mod CountLemmas
 pub mod RestLemmas
 pub mod StepLemmas
 pub mod EndLemmas

@@ -1,5 +1,5 @@
--- The next verdict of a manifest, by what reading and judging its line did.
-use Rattle.std.proofs.Common.{rules, ◌≡◌, ℕ, ◌≤◌, ◌||◌, List, [], length, map, slice_range, Option, Some, Ok, Err, refl, ap, sym, ◌∙◌, inl, append-nil}
+-- `CheckCursor::next_verdict`: the next verdict of a manifest, by what reading and judging its line did.
+use Rattle.std.proofs.Common.{rules, ◌≡◌, ℕ, ◌≤◌, ◌||◌, List, [], ◌∷◌, length, map, slice_range, Option, Some, Ok, Err, refl, ap, sym, ◌∙◌, inl, append-nil}
 use Rattle.std.specs.List.{list_any}
 use Rattle.std.proofs.KnownBytes.{Appends-nil}
 use Rattle.sum_sources.specs.declared.line_reader.LineStop.TheVariants.{Memory}
@@ -7,30 +7,30 @@ use Rattle.sum_sources.specs.Contents.{InputState, IfKnown, SourceState}
 use Rattle.sum_sources.specs.declared.line_reader.LineReader.{LineReader}
 use Rattle.sum_sources.proofs.LineLemmas.{line-some}
 use Rattle.sum_lines.specs.grammar.ParsedLines.{ParsedLine}
-use Rattle.sum_engine.specs.check.Reports.{Counts, counts_with}
+use Rattle.sum_engine.specs.check.Reports.{CountsValue}
 use Rattle.sum_engine.specs.check.NextVerdict.{LineVerdict, OnlyRefused, line_verdict_value, NextVerdictIfKnown}
 use Rattle.sum_engine.specs.check.Verdicts.{Verdict, LineVerdictValue, judge, asks_of}
-use Rattle.sum_engine.specs.Behavior.{World, is_dash, open_name}
+use Rattle.sum_engine.specs.Behavior.{World, is_dash, after, open_name}
 use Rattle.sum_engine.specs.Execution.{StreamsState, known_state, Happened}
 use Rattle.sum_engine.specs.refinement.HashName.{world_of}
-use Rattle.sum_engine.specs.check.CheckerSteps.{CursorValue, check_state, CheckState, next_judged}
+use Rattle.sum_engine.specs.check.CheckerSteps.{CursorValue, counts_with, state_at, check_state, CheckState, next_judged, remaining_verdicts}
 use Rattle.sum_engine.specs.refinement.Judging.{IsJudged, name_in_line, TakesLine, JudgeLineOf, parsed_at}
 use Rattle.sum_engine.proofs.ExecutionLemmas.{events_by, where_known, names-by, did_by}
 use Rattle.sum_engine.proofs.RestLemmas.{rest_on}
-use Rattle.sum_engine.proofs.StepLemmas.{now_at, now-told, ReadsLine, read_line, moves_by}
+use Rattle.sum_engine.proofs.StepLemmas.{check_state-made, ReadsLine, read_line, line_handled}
 
--- a line was judged, and its name stands in the vector
-pub line_found : {I : Type 0} (p : CursorValue I) (line : List ℕ) (said : ParsedLine) (k : ℕ) (d : Counts)
+-- a line was judged, and its name is at a range of the vector
+pub judged-line : {I : Type 0} (p : CursorValue I) (line : List ℕ) (said : ParsedLine) (k : ℕ) (d : CountsValue)
     (vector : List ℕ)
     (w v : Option World) (verdict : Verdict) (start stop : ℕ) → parsed_at p line ≡ said
     → IfKnown w v (λ w v. IsJudged p.rules w v said verdict) → d ≡ counts_with p.counts verdict
     → slice_range vector start stop ≡ name_in_line said → k ≡ p.reader.lines
     → IfKnown w v (λ w v. JudgeLineOf p line d vector w v
     (Some (record { number = k; verdict = verdict; start = start; stop = stop })))
-line_found p line said k d vector w v verdict start stop is h count place number = search rules
+judged-line p line said k d vector w v verdict start stop is h count place number = search rules
 
--- it is the first of those that were to come; q is the place then
-pub find_line : {I S : Type 0} (input : I → InputState) (state : S → SourceState) (p q : CursorValue I)
+-- it is the first of those that remained; q is the place then
+pub next_verdict-line : {I S : Type 0} (input : I → InputState) (state : S → SourceState) (p q : CursorValue I)
     (reader : LineReader I) (a b : StreamsState S) (line vector : List ℕ) (v : LineVerdict)
     → ReadsLine input p reader line → TakesLine (record p { reader = reader }) q line → length vector ≤ length line
     → IfKnown (world_of state a) (world_of state b)
@@ -40,7 +40,7 @@ pub find_line : {I S : Type 0} (input : I → InputState) (state : S → SourceS
     → (state b.source).refusals ≡ (state a.source).refusals
     → NextVerdictIfKnown p.rules vector (check_state input p (known_state state a))
     (check_state input q (known_state state b)) (Ok (Some v))
-find_line {I} input state p q reader a b line vector v reads takes few h taken err out refusals =
+next_verdict-line {I} input state p q reader a b line vector v reads takes few h taken err out refusals =
     let then : CursorValue I = record q { reader = reader } in
     let names = asks_of (line_verdict_value vector v) in
     let said = parsed_at (record p { reader = reader }) line in
@@ -52,30 +52,32 @@ find_line {I} input state p q reader a b line vector v reads takes few h taken e
       judged.2,
     )) in
     let took = read_line input p reader line reads in
-    rw takes.reader (now-told input p then (known_state state a) (known_state state b) _ took found
+    rw takes.reader (check_state-made input p then (known_state state a) (known_state state b) _ took found
     (λ c d s t took found.
     let found' = rw reads.number at found in
-    let first : CheckState = now_at p c s in
-    let next : CheckState = now_at then d t in
+    let first : CheckState = state_at p c s in
+    let next : CheckState = state_at then d t in
     let is : next_judged p.rules first line ≡ line_verdict_value vector v = found'.0 in
     let counted = found'.2 ∙ ap (λ (j : LineVerdictValue). counts_with p.counts j.verdict) (sym is) in
-    let moves = moves_by p q reader c d s t line vector reads.profile reads.number took takes few counted in
+    let moves = line_handled input p q reader c d s t line vector reads took takes few counted in
     let asked = rw (names-by names [] []) at found'.1.world in (
       record {
-        first = rest_on p.rules first next vector moves (rw is asked) ∙ rw is refl;
+        first = rest_on p.rules first next vector moves
+            (asked ∙ ap (λ j. after first.known_state.world (asks_of j)) (sym is))
+            ∙ ap (λ j. j ∷ remaining_verdicts p.rules next) is;
         happened = rw (append-nil (map open_name names)) at found'.1;
         counts = found'.2;
       },
       moves,
     )))
 
--- memory to open a line's file was refused: nothing happened, and the line was to come
-pub find_refused : {I S : Type 0} (input : I → InputState) (state : S → SourceState) (p q : CursorValue I)
+-- memory to open a line's file was refused: nothing happened, and the line remained
+pub next_verdict-refused : {I S : Type 0} (input : I → InputState) (state : S → SourceState) (p q : CursorValue I)
     (reader : LineReader I) (a b : StreamsState S) (line vector : List ℕ) → ReadsLine input p reader line
     → q.reader ≡ reader → IfKnown (known_state state a) (known_state state b) OnlyRefused
     → NextVerdictIfKnown p.rules vector (check_state input p (known_state state a))
     (check_state input q (known_state state b)) (Err Memory)
-find_refused {I} input state p q reader a b line vector reads is refused =
+next_verdict-refused {I} input state p q reader a b line vector reads is refused =
     let then : CursorValue I = record q { reader = reader } in
-    rw is (now-told input p then (known_state state a) (known_state state b) _ reads.came refused
+    rw is (check_state-made input p then (known_state state a) (known_state state b) _ reads.next refused
     (λ c d s t came refused. (inl refused, line-some c d line came)))

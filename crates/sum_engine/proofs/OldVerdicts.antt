@@ -1,13 +1,13 @@
--- A manifest of the time of older versions is checked alike under both profiles.
+-- `old_verdicts`: a manifest of the time of older versions is checked alike under both profiles.
 use Rattle.std.proofs.Common.{◌≡◌, ℕ, ◌+◌, ◌<◌, false, not, cond, List, [], ◌∷◌, length, map, refl, ap, sym, ◌∙◌, subst, codes, append_assoc, ◌++◌, bytes_eq, All, flat_map, Ok, Err}
 use Rattle.std.specs.List.{concat}
 use Rattle.std.proofs.lemmas.List.Elements.{All-nil, All-cons, All-head, All-tail}
-use Rattle.sum_engine.specs.check.Reports.{Algos, Counts, no_counts, name_line, verdict_line, is_hidden, out_of, err_by, err_of, counts, end_text, good}
+use Rattle.sum_engine.specs.check.Reports.{LabelsValue, CountsValue, name_line, verdict_line, is_hidden, out_of, err_by, err_of, counts_of, end_text, good}
 use Rattle.sum_engine.specs.Behavior.{Ending, Whole, Broken, Fault, World, after, single_step}
 use Rattle.sum_sources.specs.Contents.{Content, clip}
 use Rattle.sum_sources.specs.ManifestLines.{raw_lines, last_line, past_line, bytes_of_lines}
 use Rattle.sum_sources.proofs.CutLemmas.{cut, raw_lines-joined}
-use Rattle.sum_engine.specs.check.Verdicts.{Form, Verdict, Bad, Right, Wrong, Unread, lines_by, Rules, LineVerdictValue, judge, asks_of, verdicts, all_verdicts}
+use Rattle.sum_engine.specs.check.Verdicts.{Algos, Form, Verdict, Bad, Right, Wrong, Unread, lines_by, Rules, LineVerdictValue, judge, asks_of, verdicts, all_verdicts}
 use Rattle.sum_lines.specs.grammar.Shapes.{mark}
 use Rattle.sum_lines.specs.grammar.Entries.{form}
 use Rattle.sum_lines.specs.Escape.{present}
@@ -15,7 +15,7 @@ use Rattle.sum_engine.specs.check.CheckerSteps.{step_then}
 use Rattle.sum_lines.specs.grammar.ParsedLines.{ParsedLine, ignored, bad, entry, parse_line}
 use Rattle.sum_engine.specs.Generation.{fault_line}
 use Rattle.sum_engine.specs.check.Checking.{line_steps, content_behavior}
-use Rattle.sum_engine.specs.check.OldVerdicts.{older, rules_under, NoReturn, NoEscapedReturn, IsOldManifest, OldVerdicts, OldOutcomes, OlderDiffers}
+use Rattle.sum_engine.specs.check.OldVerdicts.{older, rules_under, NoReturn, NamesNoReturn, IsOldManifest, OldVerdicts, OldOutcomes, OlderDiffers}
 use Rattle.sum_lines.proofs.ParsedLineLemmas.{says_is}
 use Rattle.sum_engine.proofs.OldNames.{all_left, all_right, same_escape, CleanParsedLine, parse_line_same}
 use Rattle.sum_engine.proofs.SamePrefix.{judge_under}
@@ -65,26 +65,26 @@ judged_clean r w n bad h = All-nil NotReturn
 judged_clean r w n (entry s) h = h
 
 -- a line that says the same under both profiles
-pub record Alike (algos : Algos) (line : List ℕ) : Type 0 where
+pub record Alike (algos : Algos) (f : Form) (line : List ℕ) : Type 0 where
   pub no_byte : NoReturn line
-  pub no_escape : NoEscapedReturn algos line
+  pub no_escape : NamesNoReturn algos f line
   pub some : 0 < length line
 
 -- the verdicts are the same
-verdicts_same : (r : Rules) (f : Form) (w : World) (n : ℕ) (ls : List (List ℕ)) → All (Alike r.settings.algo) ls
+verdicts_same : (r : Rules) (f : Form) (w : World) (n : ℕ) (ls : List (List ℕ)) → All (Alike r.algo f) ls
     → (verdicts (rules_under older r) f w n ls ≡ verdicts (rules_under present r) f w n ls)
     × All CleanName (verdicts (rules_under present r) f w n ls)
 verdicts_same r f w n [] all = (refl, All-nil CleanName)
 verdicts_same r f w n (l ∷ ls) all =
-    let algos = r.settings.algo in
-    let here = All-head (Alike algos) l ls all in
+    let algos = r.algo in
+    let here = All-head (Alike algos f) l ls all in
     let s = parse_line_same algos f l here.no_byte here.no_escape here.some in
     let old = rules_under older r in
     let new = rules_under present r in
     let j = judge new w (n + 1) (parse_line present algos f l) in
     let one : judge old w (n + 1) (parse_line older algos f l) ≡ j =
-    ap (judge old w (n + 1)) s.0 ∙ judge_under old present r.shown w (n + 1) (parse_line present algos f l) in
-    let more = verdicts_same r f (after w (asks_of j)) (n + 1) ls (All-tail (Alike algos) l ls all) in (
+    ap (judge old w (n + 1)) s.0 ∙ judge_under old present w (n + 1) (parse_line present algos f l) in
+    let more = verdicts_same r f (after w (asks_of j)) (n + 1) ls (All-tail (Alike algos f) l ls all) in (
       rw (one, more.0) refl,
       All-cons CleanName j (verdicts new f (after w (asks_of j)) (n + 1) ls)
           (judged_clean new w (n + 1) (parse_line present algos f l) s.1) more.1,
@@ -114,10 +114,10 @@ all_same f g same (j ∷ js) all =
     rw (same j (All-head CleanName j js all), all_same f g same js (All-tail CleanName j js all)) refl
 
 -- and so is all that is reported
-outs_same : (r : Rules) (js : List LineVerdictValue) → All CleanName js
-    → map (out_of (rules_under older r)) js ≡ map (out_of (rules_under present r)) js
-outs_same r js all = all_same (out_of (rules_under older r)) (out_of (rules_under present r)) (λ j free.
-    ap (cond (is_hidden r.settings.report j.verdict) []) (said_same j.verdict j.name free)) js all
+outs_same : (r : Rules) (labels : LabelsValue) (js : List LineVerdictValue) → All CleanName js
+    → map (out_of (rules_under older r) labels) js ≡ map (out_of (rules_under present r) labels) js
+outs_same r labels js all = all_same (out_of (rules_under older r) labels) (out_of (rules_under present r) labels)
+    (λ j free. ap (cond (is_hidden labels.report j.verdict) []) (said_same j.verdict j.name free)) js all
 
 -- the line of a fault
 fault_same : (tool name : List ℕ) (f : Fault) → NoReturn name
@@ -125,91 +125,94 @@ fault_same : (tool name : List ℕ) (f : Fault) → NoReturn name
 fault_same tool name f free = rw (same_escape name free) refl
 
 -- what a line of the manifest adds to standard error
-err_same : (r : Rules) (n : ℕ) (v : Verdict) (name : List ℕ) → NoReturn r.shown → NoReturn name
-    → err_by (rules_under older r) n v name ≡ err_by (rules_under present r) n v name
-err_same r n Bad name own free = rw (same_escape r.shown own) refl
-err_same r n (Unread f) name own free = fault_same r.tool name f free
-err_same r n v name own free = refl
+err_same : (r : Rules) (labels : LabelsValue) (n : ℕ) (v : Verdict) (name : List ℕ) → NoReturn labels.list
+    → NoReturn name → err_by (rules_under older r) labels n v name ≡ err_by (rules_under present r) labels n v name
+err_same r labels n Bad name own free = rw (same_escape labels.list own) refl
+err_same r labels n (Unread f) name own free = fault_same labels.tool name f free
+err_same r labels n v name own free = refl
 
 -- all that is written there
-errs_same : (r : Rules) (js : List LineVerdictValue) → NoReturn r.shown → All CleanName js
-    → map (err_of (rules_under older r)) js ≡ map (err_of (rules_under present r)) js
-errs_same r js own all = all_same (err_of (rules_under older r)) (err_of (rules_under present r)) (λ j free.
-    err_same r j.number j.verdict j.name own free) js all
+errs_same : (r : Rules) (labels : LabelsValue) (js : List LineVerdictValue) → NoReturn labels.list → All CleanName js
+    → map (err_of (rules_under older r) labels) js ≡ map (err_of (rules_under present r) labels) js
+errs_same r labels js own all = all_same (err_of (rules_under older r) labels) (err_of (rules_under present r) labels)
+    (λ j free. err_same r labels j.number j.verdict j.name own free) js all
 
 -- the text at its end
-end_same : (r : Rules) (e : Ending) (c : Counts) → NoReturn r.shown
-    → end_text (rules_under older r) e c ≡ end_text (rules_under present r) e c
-end_same r Whole c own = rw (same_escape r.shown own) refl
-end_same r (Broken f) c own = fault_same r.tool r.shown f own
+end_same : (r : Rules) (labels : LabelsValue) (e : Ending) (c : CountsValue) → NoReturn labels.list
+    → end_text (rules_under older r) labels e c ≡ end_text (rules_under present r) labels e c
+end_same r labels Whole c own = rw (same_escape labels.list own) refl
+end_same r labels (Broken f) c own = fault_same labels.tool labels.list f own
 
 -- whether the manifest is good
-good_same : (r : Rules) (e : Ending) (c : Counts) → good (rules_under older r) e c ≡ good (rules_under present r) e c
+good_same : (r : Rules) (e : Ending) (c : CountsValue) → good (rules_under older r) e c ≡ good (rules_under present r) e c
 good_same r Whole c = refl
 good_same r (Broken f) c = refl
 
 -- ---- the law
 
 -- the verdicts of such a manifest are the same under both profiles, and name no carriage return
-found_same : (r : Rules) (w : World) (c : Content) → IsOldManifest r c
+found_same : (r : Rules) (labels : LabelsValue) (w : World) (c : Content) → IsOldManifest r labels c
     → (all_verdicts (rules_under older r) w c ≡ all_verdicts (rules_under present r) w c)
     × All CleanName (all_verdicts (rules_under present r) w c)
-found_same r w c h =
+found_same r labels w c h =
+    let f = form r.algo (raw_lines c) in
     let clean = pieces_clean c h.no_byte in
-    let all : All (Alike r.settings.algo) (raw_lines c) =
+    let all : All (Alike r.algo f) (raw_lines c) =
     λ k d lt. record { no_byte = clean k d lt; no_escape = h.no_escape k d lt; some = h.no_empty k d lt } in
     let Same : List (List ℕ) → Type 0 = λ ls.
-    (all_verdicts (rules_under older r) w c ≡ verdicts (rules_under present r) (form r.settings.algo ls) w 0 ls)
-    × All CleanName (verdicts (rules_under present r) (form r.settings.algo ls) w 0 ls) in
-    subst Same (lines_same c h.no_byte) (verdicts_same r (form r.settings.algo (raw_lines c)) w 0 (raw_lines c) all)
+    (all_verdicts (rules_under older r) w c ≡ verdicts (rules_under present r) (form r.algo ls) w 0 ls)
+    × All CleanName (verdicts (rules_under present r) (form r.algo ls) w 0 ls) in
+    subst Same (lines_same c h.no_byte) (verdicts_same r (form r.algo (raw_lines c)) w 0 (raw_lines c) all)
 
 -- so are its reports
 pub old_verdicts : OldVerdicts
-old_verdicts r w c h =
-    let found = found_same r w c h in
+old_verdicts r labels w c h =
+    let found = found_same r labels w c h in
     let ks = all_verdicts (rules_under present r) w c in
     record {
       verdicts = found.0;
-      outs = rw found.0 (outs_same r ks found.1);
-      errs = rw found.0 (errs_same r ks h.own_name found.1);
-      end = rw found.0 (end_same r c.ending (counts no_counts ks) h.own_name);
-      good = rw found.0 (good_same r c.ending (counts no_counts ks));
+      outs = rw found.0 (outs_same r labels ks found.1);
+      errs = rw found.0 (errs_same r labels ks h.own_name found.1);
+      end = rw found.0 (end_same r labels c.ending (counts_of ks) h.own_name);
+      good = rw found.0 (good_same r c.ending (counts_of ks));
     }
 
 -- ---- all that checking comes to
 
 -- the steps are the same
-steps_same : (r : Rules) (end : List ℕ) (c : Content) (js : List LineVerdictValue) → NoReturn r.shown → All CleanName js
-    → line_steps (rules_under older r) end c js ≡ line_steps (rules_under present r) end c js
-steps_same r end c [] own all = refl
-steps_same r end c (j ∷ js) own all =
+steps_same : (r : Rules) (labels : LabelsValue) (end : List ℕ) (c : Content) (js : List LineVerdictValue)
+    → NoReturn labels.list → All CleanName js
+    → line_steps (rules_under older r) labels end c js ≡ line_steps (rules_under present r) labels end c js
+steps_same r labels end c [] own all = refl
+steps_same r labels end c (j ∷ js) own all =
     let free = All-head CleanName j js all in
     rw (
-      err_same r j.number j.verdict j.name own free,
+      err_same r labels j.number j.verdict j.name own free,
       said_same j.verdict j.name free,
-      steps_same r end (past_line c) js own (All-tail CleanName j js all),
+      steps_same r labels end (past_line c) js own (All-tail CleanName j js all),
     ) refl
 
 -- what such a content comes to is the same
-content_same : (r : Rules) (w : World) (c : Content) → IsOldManifest r c
-    → content_behavior (rules_under older r) c (all_verdicts (rules_under older r) w c)
-    ≡ content_behavior (rules_under present r) c (all_verdicts (rules_under present r) w c)
-content_same r w c h =
-    let found = found_same r w c h in
+content_same : (r : Rules) (labels : LabelsValue) (w : World) (c : Content) → IsOldManifest r labels c
+    → content_behavior (rules_under older r) labels c (all_verdicts (rules_under older r) w c)
+    ≡ content_behavior (rules_under present r) labels c (all_verdicts (rules_under present r) w c)
+content_same r labels w c h =
+    let found = found_same r labels w c h in
     let ks = all_verdicts (rules_under present r) w c in
-    let end = end_text (rules_under present r) c.ending (counts no_counts ks) in
+    let end = end_text (rules_under present r) labels c.ending (counts_of ks) in
     rw (
       found.0,
-      end_same r c.ending (counts no_counts ks) h.own_name,
-      steps_same r end c ks h.own_name found.1,
-      good_same r c.ending (counts no_counts ks),
+      end_same r labels c.ending (counts_of ks) h.own_name,
+      steps_same r labels end c ks h.own_name found.1,
+      good_same r c.ending (counts_of ks),
     ) refl
 
 -- so is what its name comes to
 pub old_outcomes : OldOutcomes
-old_outcomes r name w (Err f) own h =
-    ap (λ (l : List ℕ). single_step (name ∷ []) l [] false) (fault_same r.tool r.shown f own)
-old_outcomes r name w (Ok c) own h = ap (step_then (opening name)) (content_same r w (clip c) (h c refl))
+old_outcomes r labels name w (Err f) own h =
+    ap (λ (l : List ℕ). single_step (name ∷ []) l [] false) (fault_same labels.tool labels.list f own)
+old_outcomes r labels name w (Ok c) own h =
+    ap (step_then (opening name)) (content_same r labels w (clip c) (h c refl))
 
 -- ---- where the profiles differ
 

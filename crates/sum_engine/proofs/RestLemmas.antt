@@ -1,5 +1,5 @@
--- The verdicts and the run that are left, after one line and the next.
-use Rattle.std.proofs.Common.{rules, ◌≡◌, ℕ, zero, suc, ◌+◌, List, [], ◌∷◌, length, refl, ap, ◌∙◌}
+-- The verdicts and the behavior that remain, after one line and the next.
+use Rattle.std.proofs.Common.{◌≡◌, ℕ, zero, suc, ◌+◌, List, [], ◌∷◌, length, refl, ap, sym, ◌∙◌}
 use Rattle.sum_sources.specs.Contents.{Content}
 use Rattle.sum_sources.specs.ManifestLines.{past_line, past_lines}
 use Rattle.sum_lines.specs.grammar.Entries.{form, form_then, line_form}
@@ -7,63 +7,86 @@ use Rattle.sum_lines.proofs.FormLemmas.{form_next, said_stays}
 use Rattle.sum_engine.specs.Behavior.{after, Ending, Step, Behavior}
 use Rattle.sum_engine.specs.check.Verdicts.{lines_by, Rules, LineVerdictValue, asks_of, verdicts}
 use Rattle.sum_lines.specs.grammar.ParsedLines.{parse_line}
-use Rattle.sum_engine.specs.check.Reports.{Counts, counts, out_of, err_of, end_text, good, counts_with}
+use Rattle.sum_engine.specs.check.Reports.{LabelsValue, CountsValue, counts_of, out_of, err_of, end_text, good}
 use Rattle.sum_engine.specs.check.Checking.{line_steps}
-use Rattle.sum_engine.specs.check.CheckerSteps.{step_then, CheckState, LineHandled, next_judged, remaining_verdicts, remaining_behavior}
+use Rattle.sum_engine.proofs.CountLemmas.{counts_then-cons}
+use Rattle.sum_engine.specs.check.CheckerSteps.{counts_with, counts_then, step_then, CheckState, LineHandled, next_judged, remaining_verdicts, remaining_behavior}
 
 -- what a line says by the form of all lines is what it says by the form so far and its own
 parse_line_now : (r : Rules) (a : CheckState) (l : List ℕ) (ls : List (List ℕ)) →
-    parse_line r.profile r.settings.algo (form_then a.form (form r.settings.algo (l ∷ ls))) l
-    ≡ parse_line r.profile r.settings.algo (form_then a.form (line_form r.settings.algo l)) l
+    parse_line r.profile r.algo (form_then a.form (form r.algo (l ∷ ls))) l
+    ≡ parse_line r.profile r.algo (form_then a.form (line_form r.algo l)) l
 parse_line_now r a l ls =
-    let algo = r.settings.algo in
+    let algo = r.algo in
     ap (λ g. parse_line r.profile algo g l) (form_next algo a.form l ls)
     ∙ said_stays r.profile algo a.form (form algo ls) l
 
--- the first of what is left
+-- the first of those that remain
 pub rest_head : (r : Rules) (a : CheckState) (l : List ℕ) (ls : List (List ℕ)) → lines_by r.profile a.rest ≡ l ∷ ls
-    → remaining_verdicts r a ≡ next_judged r a l ∷ verdicts r (form_then a.form (form r.settings.algo (l ∷ ls)))
+    → remaining_verdicts r a ≡ next_judged r a l ∷ verdicts r (form_then a.form (form r.algo (l ∷ ls)))
     (after a.known_state.world (asks_of (next_judged r a l))) (a.number + 1) ls
 rest_head r a l ls h = rw (h, parse_line_now r a l ls) refl
 
--- one line's verdict, and those of what is left behind it
+-- one line's verdict, and those that remain after it
 pub rest_on : (r : Rules) (a b : CheckState) (v : List ℕ) (h : LineHandled r a b v)
     → b.known_state.world ≡ after a.known_state.world (asks_of (next_judged r a h.line))
     → remaining_verdicts r a ≡ next_judged r a h.line ∷ remaining_verdicts r b
 rest_on r a b v h world =
     rest_head r a h.line (lines_by r.profile b.rest) h.lines ∙ rw (h.form, world, h.number, form_next) refl
 
--- ---- the run that is to come
+-- ---- the behavior that remains
 
--- the step of a line, before which so many bytes are left
-abbrev pub line_step : Rules → ℕ → LineVerdictValue → Step
-line_step r left j = record { names = asks_of j; err = err_of r j; out = out_of r j; remaining = left }
+-- the step of a line, before which so many bytes remain
+abbrev pub line_step : Rules → LabelsValue → ℕ → LineVerdictValue → Step
+line_step r labels remaining j =
+    record { names = asks_of j; err = err_of r labels j; out = out_of r labels j; remaining = remaining }
 
--- that of these verdicts, behind these counts
-abbrev pub run_by : Rules → Ending → Counts → Content → List LineVerdictValue → Behavior
-run_by r e k c js = record {
-  steps = line_steps r (end_text r e (counts k js)) c js;
-  good = good r e (counts k js);
-}
+-- the behavior of these verdicts, after these counts
+abbrev pub behavior_by : Rules → LabelsValue → Ending → CountsValue → Content → List LineVerdictValue → Behavior
+behavior_by r labels e k c js =
+    let counts = counts_then k (counts_of js) in
+    record { steps = line_steps r labels (end_text r labels e counts) c js; good = good r e counts }
 
--- it begins with a step before which all of the content is to come
-pub first_step : (r : Rules) (e : Ending) (k : Counts) (c : Content) (js : List LineVerdictValue)
-    → (s : Step) × (rest : Behavior) × (run_by r e k c js ≡ step_then s rest) × (s.remaining ≡ length c.bytes)
-first_step r e k c [] = (
-  record { names = []; err = end_text r e k; out = []; remaining = length c.bytes },
-  record { steps = []; good = good r e k },
+-- it begins with the step of the first line
+behavior_by-cons : (r : Rules) (labels : LabelsValue) (e : Ending) (k : CountsValue) (c : Content)
+    (j : LineVerdictValue) (js : List LineVerdictValue)
+    → behavior_by r labels e k c (j ∷ js) ≡ step_then (line_step r labels (length c.bytes) j)
+    (behavior_by r labels e (counts_with k j.verdict) (past_line c) js)
+behavior_by-cons r labels e k c j js =
+    let by : CountsValue → Behavior = λ counts.
+    record { steps = line_steps r labels (end_text r labels e counts) c (j ∷ js); good = good r e counts } in
+    ap by (counts_then-cons k j js)
+
+-- or with that of the end; before it all of the content remains
+pub first_step : (r : Rules) (labels : LabelsValue) (e : Ending) (k : CountsValue) (c : Content)
+    (js : List LineVerdictValue) → (s : Step) × (rest : Behavior)
+    × (behavior_by r labels e k c js ≡ step_then s rest) × (s.remaining ≡ length c.bytes)
+first_step r labels e k c [] = (
+  record { names = []; err = end_text r labels e (counts_then k (counts_of [])); out = []; remaining = length c.bytes },
+  record { steps = []; good = good r e (counts_then k (counts_of [])) },
   refl,
   refl,
 )
-first_step r e k c (j ∷ js) =
-    (line_step r (length c.bytes) j, run_by r e (counts_with k j.verdict) (past_line c) js, refl, refl)
+first_step r labels e k c (j ∷ js) = (
+  line_step r labels (length c.bytes) j,
+  behavior_by r labels e (counts_with k j.verdict) (past_line c) js,
+  behavior_by-cons r labels e k c j js,
+  refl,
+)
 
--- a line was found, which is the first of those that are to come
-pub found_first : (r : Rules) (a b : CheckState) (j : LineVerdictValue)
+-- a line was found, which is the first of those that remained
+pub found_first : (r : Rules) (labels : LabelsValue) (a b : CheckState) (j : LineVerdictValue)
     → remaining_verdicts r a ≡ j ∷ remaining_verdicts r b
     → b.counts ≡ counts_with a.counts j.verdict → b.rest ≡ past_line a.rest
-    → remaining_behavior r a ≡ step_then (line_step r (length a.rest.bytes) j) (remaining_behavior r b)
-found_first r a b j first counted rest = search rules
+    → remaining_behavior r labels a
+    ≡ step_then (line_step r labels (length a.rest.bytes) j) (remaining_behavior r labels b)
+found_first r labels a b j first counted rest =
+    let js = remaining_verdicts r b in
+    let by : CountsValue → Content → Behavior = λ k c. behavior_by r labels c.ending k c js in
+    ap (behavior_by r labels a.rest.ending a.counts a.rest) first
+    ∙ behavior_by-cons r labels a.rest.ending a.counts a.rest j js
+    ∙ ap (λ k. step_then (line_step r labels (length a.rest.bytes) j) (by k (past_line a.rest))) (sym counted)
+    ∙ ap (λ c. step_then (line_step r labels (length a.rest.bytes) j) (by b.counts c)) (sym rest)
 
 -- contents past so many lines
 pub past_next : (k : ℕ) (c : Content) → past_line (past_lines k c) ≡ past_lines (suc k) c

@@ -1,29 +1,30 @@
--- What comes behind a line has no part in what the line says.
-use Rattle.std.proofs.Common.{rules, ◌≡◌, ℕ, suc, ◌+◌, List, [], ◌∷◌, ◌++◌, length, take, refl, ap, sym, ◌∙◌}
-use Rattle.sum_engine.specs.check.Verdicts.{Form, Rules, LineVerdictValue, judge, asks_of, verdicts}
+-- `same_front`: later lines have no part in what a line says, by induction on the lines before it.
+use Rattle.std.proofs.Common.{◌≡◌, ℕ, suc, ◌+◌, List, [], ◌∷◌, ◌++◌, length, take, refl, ap, sym, ◌∙◌, append_assoc, length-append}
+use Rattle.sum_engine.specs.check.Verdicts.{Algos, Form, Rules, LineVerdictValue, judge, asks_of, verdicts}
 use Rattle.sum_lines.specs.declared.reading.read_line.Form.TheVariants.{Undecided}
-use Rattle.sum_lines.specs.grammar.Entries.{form, form_then, line_form}
+use Rattle.sum_lines.specs.grammar.Entries.{EntryValue, IsEntry, form, form_then, line_form}
 use Rattle.sum_engine.specs.Behavior.{World, after}
-use Rattle.sum_lines.specs.Escape.{Profile}
+use Rattle.sum_lines.specs.Escape.{Profile, present, escape}
 use Rattle.sum_lines.specs.grammar.ParsedLines.{ParsedLine, ignored, bad, entry, parse_line}
-use Rattle.sum_engine.specs.check.CheckerLaws.{SameVerdicts}
-use Rattle.sum_lines.proofs.FormLemmas.{form_next, said_stays}
+use Rattle.sum_engine.specs.check.CheckerLaws.{SameFront}
+use Rattle.sum_lines.proofs.ParsedLineLemmas.{says_is}
+use Rattle.sum_lines.proofs.FormLemmas.{form_next, said_stays, same_said, same_form}
 
 -- the verdicts of the first lines, by the form so far
 abbrev running : Rules → World → ℕ → Form → List (List ℕ) → List LineVerdictValue
 running r w n f [] = []
 running r w n f (l ∷ ls) =
-    let here = form_then f (line_form r.settings.algo l) in
-    let j = judge r w (n + 1) (parse_line r.profile r.settings.algo here l) in
+    let here = form_then f (line_form r.algo l) in
+    let j = judge r w (n + 1) (parse_line r.profile r.algo here l) in
     j ∷ running r (after w (asks_of j)) (n + 1) here ls
 
--- the verdicts of the first lines are these, whatever comes behind
+-- the verdicts of the first lines are these, whatever follows
 prefix_verdicts : (r : Rules) (w : World) (n : ℕ) (f : Form) (prefix later : List (List ℕ)) →
-    take (length prefix) (verdicts r (form_then f (form r.settings.algo (prefix ++ later))) w n
+    take (length prefix) (verdicts r (form_then f (form r.algo (prefix ++ later))) w n
     (prefix ++ later)) ≡ running r w n f prefix
 prefix_verdicts r w n f [] later = refl
 prefix_verdicts r w n f (l ∷ ls) later =
-    let algo = r.settings.algo in
+    let algo = r.algo in
     let here = form_then f (line_form algo l) in
     let rest = form algo (ls ++ later) in
     let all : form_then f (form algo (l ∷ (ls ++ later))) ≡ form_then here rest = form_next algo f l (ls ++ later) in
@@ -33,21 +34,35 @@ prefix_verdicts r w n f (l ∷ ls) later =
     (after w (asks_of (judge r w (n + 1) x))) (n + 1) (ls ++ later))) (said_stays r.profile algo f rest l)
     ∙ ap (λ x. j ∷ x) (prefix_verdicts r (after w (asks_of j)) (n + 1) here ls later)
 
--- neither the name of the manifest nor the profile has a part in the judgement of what one line says
-pub judge_under : (r : Rules) (p : Profile) (other : List ℕ) (w : World) (n : ℕ) (x : ParsedLine)
-    → judge r w n x ≡ judge (record r { profile = p; shown = other }) w n x
-judge_under r p other w n ignored = refl
-judge_under r p other w n bad = refl
-judge_under r p other w n (entry s) = refl
+-- the profile has no part in the judgement of what one line says
+pub judge_under : (r : Rules) (p : Profile) (w : World) (n : ℕ) (x : ParsedLine)
+    → judge r w n x ≡ judge (record r { profile = p }) w n x
+judge_under r p w n ignored = refl
+judge_under r p w n bad = refl
+judge_under r p w n (entry s) = refl
 
--- nor has the name in those of the first lines
-running_renamed : (r : Rules) (other : List ℕ) (w : World) (n : ℕ) (f : Form) (ls : List (List ℕ))
-    → running r w n f ls ≡ running (record r { shown = other }) w n f ls
-running_renamed r other w n f [] = refl
-running_renamed r other w n f (l ∷ ls) = search rules
+-- an entry by one form is one by another, if the line says the same
+entry_same : (algos : Algos) (f g : Form) (line : List ℕ) (s : EntryValue)
+    → parse_line present algos f line ≡ parse_line present algos g line
+    → IsEntry escape algos f line s → IsEntry escape algos g line s
+entry_same algos f g line s same e =
+    (((says_is present algos g line).when_entry s).0
+    (sym same ∙ ((says_is present algos f line).when_entry s).1 (e.0, e))).1
 
--- so the first verdicts don't depend on the lines behind, nor on the manifest's name
-pub same_verdicts : SameVerdicts
-same_verdicts r other w prefix later others =
-    prefix_verdicts r w 0 Undecided prefix later ∙ running_renamed r other w 0 Undecided prefix
-    ∙ sym (prefix_verdicts (record r { shown = other }) w 0 Undecided prefix others)
+-- so later lines have no part in an entry, a verdict or a plain line's form
+pub same_front : SameFront
+same_front r w before line later others =
+    let same : (a b : List (List ℕ)) → parse_line present r.algo (form r.algo (before ++ (line ∷ a))) line
+    ≡ parse_line present r.algo (form r.algo (before ++ (line ∷ b))) line =
+    λ a b. same_said present r.algo before a b line in
+    let prefix = before ++ line ∷ [] in
+    record {
+      entry = λ s. (
+        entry_same r.algo _ _ line s (same later others),
+        entry_same r.algo _ _ line s (same others later),
+      );
+      verdict =
+          rw (length-append before (line ∷ []), append_assoc before (line ∷ []) later, append_assoc before (line ∷ []) others)
+          at (prefix_verdicts r w 0 Undecided prefix later ∙ sym (prefix_verdicts r w 0 Undecided prefix others));
+      form = same_form r.algo before later others line;
+    }

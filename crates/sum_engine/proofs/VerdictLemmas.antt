@@ -1,4 +1,4 @@
--- The verdict of an entry, by what came of asking its name.
+-- `judge`: the verdict of an entry, by the outcome of hashing its name.
 use Rattle.std.proofs.Common.{rules, ◌≡◌, ℕ, ◌&&◌, Bool, true, false, cond, List, [], ◌∷◌, Option, Some, refl, bytes_eq}
 use Rattle.std.proofs.Math.Bool.{and-false, and-true}
 use Rattle.digest_kinds.specs.Kinds.{KindValue}
@@ -16,7 +16,7 @@ use Rattle.sum_engine.specs.declared.hash_name.HashOutcome.TheVariants as asked
 abbrev verdict_by : Bool → KindValue → List ℕ → Reply → Verdict
 verdict_by ignore kind d r = cond (ignore && not_found r) Missing (digest_verdict d (digest_or_fault kind r))
 
--- the verdict by a reply is the verdict by what came of asking
+-- the verdict by a reply is the verdict by the outcome
 by_asked : (ignore : Bool) (kind : KindValue) (d : List ℕ) (r : Reply) (a : HashOutcome) → IsHashOutcome kind r a
     → verdict_by ignore kind d r ≡ verdict_of_outcome ignore d a
 by_asked ignore kind d r (asked.Read x) h = rw (h.1, h.2, and-false) refl
@@ -30,7 +30,7 @@ asks_either : (b : Bool) (x y : Verdict) (name : List ℕ) → asks_by x name �
 asks_either true x y name h k = h
 asks_either false x y name h k = k
 
--- whatever came of asking, the name was asked
+-- whatever the outcome, the name was asked
 asks_compared : (ignore : Bool) (d : List ℕ) (a : HashOutcome) (name : List ℕ)
     → asks_by (verdict_of_outcome ignore d a) name ≡ name ∷ []
 asks_compared ignore d (asked.Read x) name = asks_either (bytes_eq x d) Right Wrong name refl refl
@@ -39,13 +39,13 @@ asks_compared ignore d a name = refl
 
 -- so is the verdict of an entry
 verdict_is : (r : Rules) (w : World) (s : EntryValue) (a : HashOutcome) → r.from_stdin && is_dash s.name ≡ false
-    → IsHashOutcome s.kind (reply w s.name) a → verdict_of r w s ≡ verdict_of_outcome r.settings.ignore_missing s.digest
+    → IsHashOutcome s.kind (reply w s.name) a → verdict_of r w s ≡ verdict_of_outcome r.ignore_missing s.digest
     a
 verdict_is r w s a dash h = search rules
 
--- an entry's verdict, by what came of asking its name
+-- an entry's verdict, by the outcome of hashing its name
 pub judged_entry : (r : Rules) (w v : Option World) (s : EntryValue) (a : HashOutcome) (verdict : Verdict)
     → r.from_stdin && is_dash s.name ≡ false → HashesNameIfKnown s.kind w v s.name (Some a)
-    → verdict ≡ verdict_of_outcome r.settings.ignore_missing s.digest a
+    → verdict ≡ verdict_of_outcome r.ignore_missing s.digest a
     → IfKnown w v (λ w v. IsJudged r w v (entry s) verdict)
 judged_entry r w v s a verdict dash h is = search rules

@@ -1,5 +1,5 @@
--- What a run can ask, the source's files and standard input; and what it does, a list of steps, between which it may
--- want memory.
+-- What a call can ask, the source's files and standard input; and what it does: a list of steps, between which memory
+-- may run out.
 use Rattle.std.specs.Prelude.{ℕ, ◌&&◌, Bool, List, [], ◌∷◌, ◌++◌, map, flat_map, Option, None, Some, not, filter, codes, Result, Ok, Err, if◌then◌else◌, bytes_eq}
 use Rattle.std.specs.List.{list_any}
 use Rattle.digest_kinds.specs.Kinds.{KindValue, digest}
@@ -8,15 +8,17 @@ pub use Rattle.sum_sources.specs.declared.fault.Ending.{Ending}
 pub use Rattle.sum_sources.specs.declared.fault.Ending.TheVariants.{Whole, Broken}
 use Rattle.sum_sources.specs.Contents.{Content, clip, Reply, empty_content}
 
--- the source's answers, the names asked of it so far, and what standard input has to give
+-- the source's answer to each name, the names asked so far, and what standard input has left
 pub record World : Type 0 where
   pub answer : List ℕ → Reply
   pub asked : List (List ℕ)
   pub input : Content
 
+-- the name of standard input
 abbrev pub is_dash : List ℕ → Bool
 is_dash name = bytes_eq name (codes "-")
 
+-- what opening a name gives: what standard input has left, or the source's answer
 abbrev pub reply : World → List ℕ → Reply
 reply w name = if is_dash name then Ok w.input else w.answer name
 
@@ -26,7 +28,7 @@ after w names =
     let input = if list_any is_dash names then empty_content else w.input in
     record w { asked = w.asked ++ filter (λ n. not (is_dash n)) names; input = input }
 
--- the digest of a content that ended so, or the fault by which it ended
+-- the digest of a content with that ending, or the fault that broke it
 abbrev pub digest_unless_broken : Ending → List ℕ → Result (List ℕ) Fault
 digest_unless_broken Whole d = Ok d
 digest_unless_broken (Broken f) d = Err f
@@ -42,26 +44,28 @@ pub data Event : Type 0 where
   write_err : ℕ → Event
   write_out : ℕ → Event
 
--- What is done between two moments at which a run may want memory: one name is opened or none, then a text is written
--- to standard error, then one to standard output. `left` is how many bytes of a manifest are still to come before it.
+-- The unit between two points at which memory may run out: at most one name is opened, then a text goes to standard
+-- error, then one to standard output. `remaining` is how many bytes of a manifest are still to come before it.
 pub record Step : Type 0 where
   pub names : List (List ℕ)
   pub err : List ℕ
   pub out : List ℕ
   pub remaining : ℕ
 
--- the steps, and whether all is good
+-- a list of steps, and whether all is good
 pub record Behavior : Type 0 where
   pub steps : List Step
   pub good : Bool
 
+-- the events of a step, in their order
 abbrev pub events_of : Step → List Event
 events_of s = map open_name s.names ++ (map write_err s.err ++ map write_out s.out)
 
+-- the events of steps, one step after another
 abbrev pub trace : List Step → List Event
 trace steps = flat_map events_of steps
 
--- what of the events is of each kind
+-- an event as an opened name, as a byte of standard error, or as one of standard output
 abbrev pub name_in : Event → Option (List ℕ)
 name_in (open_name name) = Some name
 name_in event = None
@@ -74,15 +78,16 @@ abbrev pub out_in : Event → Option ℕ
 out_in (write_out b) = Some b
 out_in event = None
 
+-- one behavior after another
 abbrev pub behavior_then : Behavior → Behavior → Behavior
 behavior_then r s = record { steps = r.steps ++ s.steps; good = r.good && s.good }
 
--- a run of one step, which opens a name or none and writes a text to standard error and one to standard output
+-- a behavior of one step, which opens a name or none and writes a text to standard error and one to standard output
 abbrev pub single_step : List (List ℕ) → List ℕ → List ℕ → Bool → Behavior
 single_step names err out good =
     record { steps = record { names = names; err = err; out = out; remaining = 0 } ∷ []; good = good }
 
--- a run's texts on standard output and on standard error, and the names that it opens
+-- a behavior's texts on standard output and on standard error, and the names that it opens
 abbrev pub out_text : Behavior → List ℕ
 out_text r = flat_map (λ s. s.out) r.steps
 

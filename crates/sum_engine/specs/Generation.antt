@@ -1,4 +1,4 @@
--- What hashing one name comes to.
+-- The behavior of hashing one name.
 use Rattle.std.specs.Prelude.{ℕ, true, false, List, [], ◌∷◌, codes, Result, Ok, Err}
 use Rattle.std.specs.List.{concat}
 use Rattle.sum_engine.specs.Behavior.{Fault, World, reply, digest_or_fault, Behavior, single_step}
@@ -11,15 +11,17 @@ use Rattle.sum_lines.specs.Escape.{Profile, present, escape_by}
 abbrev pub tool_line : Profile → List ℕ → List ℕ → List ℕ → List ℕ
 tool_line p tool name text = concat (tool ∷ codes ": " ∷ escape_by p name ∷ codes ": " ∷ text ∷ codes "\n" ∷ [])
 
+-- the line of a name that can't be opened or read
 abbrev pub fault_line : Profile → List ℕ → List ℕ → Fault → List ℕ
 fault_line p tool name fault = tool_line p tool name (fault_text fault)
 
+-- a name with this digest has its line written, and one with a fault the line of the fault
 abbrev pub generate_behavior_by : Settings → List ℕ → List ℕ → Result (List ℕ) Fault → Behavior
-generate_behavior_by settings tool name (Ok d) = single_step (name ∷ []) [] (line settings.style settings.kind name d)
-    true
+generate_behavior_by settings tool name (Ok d) =
+    single_step (name ∷ []) [] (line settings.style settings.kind name d) true
 generate_behavior_by settings tool name (Err f) = single_step (name ∷ []) (fault_line present tool name f) [] false
 
--- a name that is read gives its line, any other the line of its fault
+-- the behavior of hashing a name in a world
 abbrev pub generate_behavior : Settings → List ℕ → World → List ℕ → Behavior
 generate_behavior settings tool w name =
     generate_behavior_by settings tool name (digest_or_fault settings.kind (reply w name))

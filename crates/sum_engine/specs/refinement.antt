@@ -2,5 +2,6 @@
 -- user of the crate meets by themselves name some.
 pub mod HashName
 pub mod FlushedWrites
-pub mod Judging
+pub mod Counters
 pub mod Cursors
+pub mod Judging

@@ -1,4 +1,4 @@
-//! Asking one name.
+//! Hashing one name.
 ghost use Rattle.std.specs.Prelude.{◌≡◌, ◌||◌, [], IfNone, IfSome, is_none};
 ghost use Rattle.sum_engine.specs.Behavior.{is_dash};
 ghost use Rattle.sum_engine.specs.check.NextVerdict.{lent_streams};
@@ -6,15 +6,27 @@ ghost use Rattle.sum_engine.specs.check.NextVerdict.{lent_streams};
 use digest_kinds::{AnyHasher, Digest, Hasher, Kind};
 use sum_sources::{Fault, Input, OpenFault, PIECE, Source, Stdin, hash_input_over};
 
-/// What came of a name that was asked.
+/// The outcome of hashing a name.
 #[derive(Drop)]
 pub(crate) enum HashOutcome {
-    /// It was read whole, and this is its digest.
+    /// It was read to its end, and this is its digest.
     Read(Digest),
     /// It could not be opened.
     NotOpened(Fault),
     /// It was opened, and reading it failed.
     Broken(Fault),
+}
+
+impl HashOutcome {
+    /// The digest, or the fault of opening or reading.
+    pub(crate) fn into_result(self) -> Result<Digest, Fault>
+        ensures { result ≡ digest_of_outcome self }
+    {
+        match self {
+            HashOutcome::Read(digest) => Ok(digest),
+            HashOutcome::NotOpened(fault) | HashOutcome::Broken(fault) => Err(fault),
+        }
+    }
 }
 
 /// Whether the name is that of standard input.
@@ -24,10 +36,10 @@ pub(crate) fn is_dash(name: &[u8]) -> bool
     name == b"-".as_slice()
 }
 
-ghost use Rattle.sum_engine.specs.refinement.HashName.{HashesNameIfKnown, IsRead, RefusedUnless, HasKindLen, world_of};
+ghost use Rattle.sum_engine.specs.refinement.HashName.{HashesNameIfKnown, IsRead, RefusedUnless, HasKindLen, digest_of_outcome, world_of};
 
-/// Opens the name, where `-` is standard input, and reads it to its end, by way of the buffer. None where the source
-/// had no memory to open it; the name then doesn't count as asked.
+/// Opens the name (`-` is standard input) and hashes it, through the buffer. `None` if the source is out of memory; the
+/// name is then not recorded as asked.
 pub(crate) fn hash_name<I: Input + Drop, S: Source>(
     kind: Kind,
     name: &[u8],
@@ -52,8 +64,7 @@ pub(crate) fn hash_name<I: Input + Drop, S: Source>(
     }
 }
 
-// What reading a file comes to. It takes the file and a hasher of a type that it can't make: so neither can be had a
-// second time, and a fault has the last word.
+// The outcome of reading a file. It is given the file and the hasher, and can make neither: so a fault is final.
 fn read_digest<F: Input + Drop, H: Hasher + Drop>(
     mut file: F,
     hasher: H,

@@ -1,4 +1,6 @@
-//! What a run is asked to do.
+//! What a call is asked to do.
+ghost use Rattle.std.specs.Prelude.{◌≡◌, false};
+ghost use Rattle.sum_engine.specs.declared.settings.Report.TheVariants.{All};
 
 use digest_kinds::{Algos, Kind};
 use sum_lines::Style;
@@ -21,7 +23,7 @@ pub enum Report {
     Quiet,
     /// As `All`, and each line that is improperly formatted.
     Warn,
-    /// No line for a file, and no warning. What can't be read, and a manifest that lists nothing, is still told of.
+    /// No line for a file, and no warning. Unreadable files and manifests without an entry are still reported.
     Status,
 }
 
@@ -36,4 +38,18 @@ pub struct CheckSettings {
     pub strict: bool,
     /// Whether a listed file that isn't there is passed over.
     pub ignore_missing: bool,
+}
+
+impl CheckSettings {
+    /// The plain check of lines of these algorithms: all is reported, and no option is set.
+    pub fn new(algo: Algos) -> Self
+        ensures { result ≡ record { algo = algo; report = All; strict = false; ignore_missing = false } }
+    {
+        CheckSettings {
+            algo,
+            report: Report::All,
+            strict: false,
+            ignore_missing: false,
+        }
+    }
 }

@@ -1,10 +1,10 @@
-//! Why a run stops early.
+//! Why a call stops early.
 
 use sum_lines::SinkFault;
 use thiserror::Error;
 
-/// Why a run stopped before its end: `Memory` where a growth or an opening was refused memory, `Write` where an output
-/// failed. The call that answers it writes nothing after it.
+/// Why a call stopped before its end: `Memory` if a growth or an opening was refused memory, `Write` if an output failed.
+/// The call writes nothing after it.
 #[derive(Clone, Copy, Debug, PartialEq, Eq, Error)]
 pub enum Stop {
     #[error("memory exhausted")]

@@ -1,9 +1,10 @@
-//! What a run works on.
+//! The streams of a call.
 use std::marker::Model;
 use sum_lines::Sink;
 use sum_sources::{Input, Stdin};
 
-/// What a run reads from and writes to.
+/// What a call reads from and writes to. What contracts say of bytes assumes outputs that are flushed at the call, and
+/// holds if the source and standard input are known.
 #[derive(Drop)]
 pub struct Streams<I: Input, S, O: Sink, E: Sink> {
     /// Standard input.

@@ -1,92 +1,96 @@
--- What a checker's steps come to: a whole manifest; and the laws of its steps, of what comes first, and of the end.
-use Rattle.std.specs.Prelude.{ℕ, zero, suc, ◌≡◌, ◌+◌, ◌≤◌, Bool, true, List, take, drop, length, flat_map, Option, Result, IfSome, ◌++◌, None, Ok, Err}
+-- The laws of a checker's steps over a whole manifest, of the lines that precede a line, and of the end.
+use Rattle.std.specs.Prelude.{ℕ, ◌≡◌, ◌+◌, ◌≤◌, ◌↔◌, Bool, List, [], ◌∷◌, take, length, flat_map, Option, Result, IfSome, ◌++◌, None, Ok, Err, slice_index_or}
 use Rattle.std.specs.Io.KnownBytes.{Appends}
+use Rattle.digest_kinds.specs.Kinds.{KindValue}
 use Rattle.sum_sources.specs.declared.line_reader.LineStop.TheVariants.{Fault}
 use Rattle.sum_sources.specs.Contents.{Content, IfKnown, SourceState}
 use Rattle.sum_sources.specs.ManifestLines.{past_lines}
-use Rattle.sum_lines.specs.grammar.Entries.{form}
+use Rattle.sum_lines.specs.Escape.{escape}
+use Rattle.sum_lines.specs.grammar.Shapes.{Plain}
+use Rattle.sum_lines.specs.grammar.Entries.{EntryValue, IsEntry, form}
 use Rattle.sum_engine.specs.Execution.{Stop, StreamsState, IsFlushed, KnownState, known_state, Happened, PrefixHappened, PerformsSteps}
 use Rattle.sum_engine.specs.Behavior.{after, Behavior, trace, out_text, err_text, asks, Ending, Whole, Broken, World}
 use Rattle.sum_engine.specs.check.Verdicts.{lines_by, Rules, LineVerdictValue, asks_of, all_verdicts, verdicts}
-use Rattle.sum_engine.specs.check.Reports.{out_of, err_of}
-use Rattle.sum_engine.specs.check.Checking.{line_steps, content_behavior}
-use Rattle.sum_engine.specs.check.CheckerSteps.{CheckState, LineHandled, StepDone, LastStepDone, StepFailed, remaining_behavior, initial_state}
+use Rattle.sum_engine.specs.check.Reports.{LabelsValue, out_of, err_of, counts_of, end_text, good}
+use Rattle.sum_engine.specs.check.Checking.{content_behavior}
+use Rattle.sum_engine.specs.check.CheckerSteps.{Going, CheckState, StepIs, LastStepDone, StepFailed, remaining_behavior, initial_state}
 use Rattle.sum_engine.specs.check.NextVerdict.{LineStop, LineVerdict, NoVerdictLeft, NextVerdictIs}
 
--- a new checker that was run to its end, from outputs that held nothing
-abbrev pub ManifestPerforms :
-    {S : Type 0} → (S → SourceState) → Rules → Option Content → StreamsState S → StreamsState S → Result Bool Stop
-    → Type 0
-ManifestPerforms state r c a b x = IsFlushed a → IfSome c (λ c. IfKnown (known_state state a) (known_state state b)
-    (λ s t. let run = content_behavior r c (all_verdicts r s.world c) in PerformsSteps run.steps run.good s t x))
+-- a new checker ran to its end, from flushed outputs
+abbrev pub ManifestPerforms : {S : Type 0} → (S → SourceState) → Rules → LabelsValue → Option Content → StreamsState S
+    → StreamsState S → Result Bool Stop → Type 0
+ManifestPerforms state r labels c a b x = IsFlushed a → IfSome c (λ c. IfKnown (known_state state a) (known_state state b)
+    (λ s t. let all = content_behavior r labels c (all_verdicts r s.world c) in PerformsSteps all.steps all.good s t x))
 
 -- ---- the laws
 
--- what happened of a run's steps extends each output by their texts, and asks their names
+-- if a behavior's trace happened, each output grew by its text, and its names were asked
 abbrev pub EventsExtend : Type 0
 EventsExtend = (r : Behavior) (a b : KnownState) → Happened a b (trace r.steps)
     → (b.world ≡ after a.world (asks r)) × Appends a.err.written b.err.written (err_text r)
     × Appends a.out.written b.out.written (out_text r)
 
--- the first k steps of a manifest have the reports and the asks of its first k lines; one more step is for its end
-abbrev pub StepsReport : Type 0
-StepsReport = (r : Rules) (end : List ℕ) (c : Content) (js : List LineVerdictValue) (k : ℕ) → k ≤ length js →
-    (let some : Behavior = record { steps = take k (line_steps r end c js); good = true } in
-    (out_text some ≡ flat_map (out_of r) (take k js)) × (err_text some ≡ flat_map (err_of r) (take k js))
-    × (asks some ≡ flat_map asks_of (take k js)))
-    × (length (line_steps r end c js) ≡ length js + 1)
+-- steps that each answered Going, one after another; the line's vector then held these
+abbrev pub StepsGoing : Rules → LabelsValue → CheckState → CheckState → List (List ℕ) → Type 0
+StepsGoing r labels a b [] = b ≡ a
+StepsGoing r labels a b (vector ∷ vectors) = (m : CheckState) × StepIs r labels vector a m (Ok Going)
+    × StepsGoing r labels m b vectors
 
--- so many lines were handled, one after another
-abbrev pub LinesHandled : Rules → CheckState → CheckState → ℕ → Type 0
-LinesHandled r a b zero = b ≡ a
-LinesHandled r a b (suc k) = (m : CheckState) × (vector : List ℕ)
-    × StepDone (remaining_behavior r a) (remaining_behavior r m) a.known_state m.known_state
-    × LineHandled r a m vector × LinesHandled r m b k
+-- the step that ends a manifest comes after all k lines, and writes exactly the summary or the fault line
+pub record EndsManifest (r : Rules) (labels : LabelsValue) (c : Content) (js : List LineVerdictValue) (k : ℕ)
+    (a b : KnownState) (answer : Bool) : Type 0 where
+  pub lines : k ≡ length (lines_by r.profile c)
+  pub good : answer ≡ good r c.ending (counts_of js)
+  pub err : Appends a.err.written b.err.written (end_text r labels c.ending (counts_of js))
+  pub out : Appends a.out.written b.out.written []
+  pub world : b.world ≡ a.world
 
--- after k lines of a new checker the first k of the manifest's steps are done and nothing else, the others are to come,
--- and the bytes used are those up to the k-th line's end
-pub record StateAfterLines (r : Rules) (c : Content) (s : KnownState) (b : CheckState) (k : ℕ) : Type 0 where
-  pub rest : b.rest ≡ past_lines k c
-  pub lines : lines_by r.profile b.rest ≡ drop k (lines_by r.profile c)
-  pub number : b.number ≡ k
-  pub consumed : b.consumed + length (past_lines k c).bytes ≡ length c.bytes
-  pub done : Happened s b.known_state (trace (take k (content_behavior r c (all_verdicts r s.world c)).steps))
-  pub remaining : (remaining_behavior r b).steps ≡ drop k (content_behavior r c (all_verdicts r s.world c)).steps
-  pub good : (remaining_behavior r b).good ≡ (content_behavior r c (all_verdicts r s.world c)).good
+-- STEP BY STEP, for a manifest c that has these verdicts, once k steps answered Going
+pub record AfterSteps (r : Rules) (labels : LabelsValue) (c : Content) (js : List LineVerdictValue) (k : ℕ)
+    (vectors : List (List ℕ)) (s : KnownState) (b : CheckState) : Type 0 where
+  -- both outputs grew by exactly the reports of the first k lines, whose names were asked
+  pub err : Appends s.err.written b.known_state.err.written (flat_map (err_of r labels) (take k js))
+  pub out : Appends s.out.written b.known_state.out.written (flat_map (out_of r labels) (take k js))
+  pub world : b.known_state.world ≡ after s.world (flat_map asks_of (take k js))
+  -- what the input gave goes at most 8192 bytes beyond the end of line k
+  pub taken : b.taken + length (past_lines k c).bytes ≤ length c.bytes + 8192
+  -- each vector holds at most as many bytes as its line
+  pub vector_lens : (i : ℕ) → length (slice_index_or vectors i []) ≤ length (slice_index_or (lines_by r.profile c) i [])
+  pub end : (answer : Bool) (z : KnownState)
+      → LastStepDone (remaining_behavior r labels b) answer b.known_state z
+      → EndsManifest r labels c js k b.known_state z answer
+  -- if the next step fails to write, a prefix of the manifest's whole trace happened
+  pub cut : (z : KnownState) → StepFailed (remaining_behavior r labels b) b.known_state z
+      → PrefixHappened s z (trace (content_behavior r labels c js).steps)
 
--- any number of lines, handled one after another
 abbrev pub StepsJoin : Type 0
-StepsJoin = (r : Rules) (c : Content) (s : KnownState) (b : CheckState) (k : ℕ) → LinesHandled r (initial_state c s) b k
-    → StateAfterLines r c s b k
+StepsJoin = (r : Rules) (labels : LabelsValue) (c : Content) (s : KnownState) (b : CheckState)
+    (vectors : List (List ℕ)) → StepsGoing r labels (initial_state c s) b vectors
+    → AfterSteps r labels c (all_verdicts r s.world c) (length vectors) vectors s b
 
--- the step that ends comes after all lines, and all events have then happened
-abbrev pub StepsEnd : Type 0
-StepsEnd = (r : Rules) (c : Content) (s : KnownState) (b : CheckState) (z : KnownState) (k : ℕ) (x : Bool)
-    → LinesHandled r (initial_state c s) b k → LastStepDone (remaining_behavior r b) x b.known_state z
-    → (k ≡ length (lines_by r.profile c)) × (x ≡ (content_behavior r c (all_verdicts r s.world c)).good)
-    × Happened s z (trace (content_behavior r c (all_verdicts r s.world c)).steps)
+-- a line after the same lines, in two manifests: it spells the same entry; the verdicts up to its own are the same after
+-- the same asks; and if it is plain, the form is the same
+pub record FrontIsSame (r : Rules) (w : World) (before : List (List ℕ)) (line : List ℕ) (later others : List (List ℕ))
+    : Type 0 where
+  pub entry : (s : EntryValue) → IsEntry escape r.algo (form r.algo (before ++ (line ∷ later))) line s
+      ↔ IsEntry escape r.algo (form r.algo (before ++ (line ∷ others))) line s
+  pub verdict :
+      take (length before + 1) (verdicts r (form r.algo (before ++ (line ∷ later))) w 0 (before ++ (line ∷ later)))
+      ≡ take (length before + 1) (verdicts r (form r.algo (before ++ (line ∷ others))) w 0 (before ++ (line ∷ others)))
+  pub form : (e : Bool) (kind : KindValue) (d tail : List ℕ) → Plain r.algo line e kind d tail
+      → form r.algo (before ++ (line ∷ later)) ≡ form r.algo (before ++ (line ∷ others))
 
--- after a step that a write fault cut off one prefix of all events happened
-abbrev pub StepsCut : Type 0
-StepsCut = (r : Rules) (c : Content) (s : KnownState) (b : CheckState) (z : KnownState) (k : ℕ)
-    → LinesHandled r (initial_state c s) b k
-    → StepFailed (remaining_behavior r b) b.known_state z
-    → PrefixHappened s z (trace (content_behavior r c (all_verdicts r s.world c)).steps)
+-- later lines have no part in any of this; nor has a manifest's name, which the rules don't hold
+abbrev pub SameFront : Type 0
+SameFront = (r : Rules) (w : World) (before : List (List ℕ)) (line : List ℕ) (later others : List (List ℕ))
+    → FrontIsSame r w before line later others
 
--- what comes behind some lines has no part in their verdicts, whatever was asked before; nor has the name of the
--- manifest, where both or neither came from standard input
-abbrev pub SameVerdicts : Type 0
-SameVerdicts = (r : Rules) (other : List ℕ) (w : World) (prefix later others : List (List ℕ)) →
-    take (length prefix) (verdicts r (form r.settings.algo (prefix ++ later)) w 0 (prefix ++ later))
-    ≡ take (length prefix)
-    (verdicts (record r { shown = other }) (form r.settings.algo (prefix ++ others)) w 0 (prefix ++ others))
-
--- what is answered where no verdict is left and the manifest ends so
+-- what is returned if no verdict is left and the manifest ends so
 abbrev pub ended_by : Ending → Result (Option LineVerdict) LineStop
 ended_by Whole = Ok None
 ended_by (Broken f) = Err (Fault f)
 
--- once that was answered, it is answered again
+-- once that was returned, it is returned again
 abbrev pub EndStays : Type 0
 EndStays = (r : Rules) (e : Ending) (vector : List ℕ) (a b c : CheckState) (x : Result (Option LineVerdict) LineStop)
     → NoVerdictLeft r e a b → NextVerdictIs r vector b c x → x ≡ ended_by e

@@ -1,4 +1,4 @@
--- A checker: where it stands in its manifest, what is still to come there, and what its next step does.
+-- A checker: its state in its manifest, what remains there, and what its next step does.
 use Rattle.std.specs.Prelude.{ℕ, ◌≡◌, ◌+◌, ◌≤◌, ◌⊎◌, ◌<◌, Bool, List, [], ◌∷◌, length, Option, None, Some, Result, Ok, Err, IfSome, true, option_map}
 use Rattle.digest_kinds.specs.Limits.{one_more}
 use Rattle.sum_sources.specs.declared.line_reader.LineReader.{LineReader}
@@ -7,65 +7,88 @@ use Rattle.sum_sources.specs.ManifestLines.{past_line, NoNewline}
 use Rattle.sum_sources.specs.LineReaders.{remaining_content, consumed, Bounded}
 use Rattle.sum_lines.specs.declared.reading.read_line.Form.TheVariants.{Undecided}
 use Rattle.sum_lines.specs.grammar.Entries.{form_then, line_form, form}
+use Rattle.sum_lines.specs.grammar.LineParts.{◌>>=◌}
 use Rattle.sum_lines.specs.grammar.ParsedLines.{parse_line}
 pub use Rattle.sum_engine.specs.declared.check.progress.Progress.{Progress}
 pub use Rattle.sum_engine.specs.declared.check.progress.Progress.TheVariants.{Going, Ended}
-use Rattle.sum_engine.specs.check.Verdicts.{Form, lines_by, Rules, LineVerdictValue, judge, verdicts}
-use Rattle.sum_engine.specs.Execution.{Stop, Memory, Write, KnownState, Happened, PrefixHappened, RefusedAt, StreamsState, IsFlushed, known_state}
-use Rattle.sum_engine.specs.check.Reports.{Counts, counts, end_text, good, counts_with, no_counts}
+use Rattle.sum_engine.specs.check.Verdicts.{Form, Verdict, Ignored, Bad, Right, Wrong, Missing, Unread, lines_by, Rules, LineVerdictValue, judge, verdicts}
+use Rattle.sum_engine.specs.Execution.{Stop, Memory, Write, KnownState, Happened, PrefixHappened, RefusedAt, StreamsState, IsFlushed, FailuresMatch, NoOutputOnMemory, known_state}
+use Rattle.sum_engine.specs.check.Reports.{LabelsValue, CountsValue, counts_of, end_text, good}
 use Rattle.sum_engine.specs.Behavior.{Step, Behavior, events_of}
 use Rattle.sum_engine.specs.check.Checking.{line_steps}
 
--- what is still to come of the manifest, the lines handled and the bytes that they used, the form and the counts
--- so far, and the run state
+-- the counts of no line, those with one line more, and those of lines and then of others
+abbrev pub no_counts : CountsValue
+no_counts = record { right = 0; wrong = 0; missing = 0; unread = 0; bad = 0 }
+
+abbrev pub counts_with : CountsValue → Verdict → CountsValue
+counts_with c Ignored = c
+counts_with c Bad = record c { bad = c.bad + 1 }
+counts_with c Right = record c { right = c.right + 1 }
+counts_with c Wrong = record c { wrong = c.wrong + 1 }
+counts_with c Missing = record c { missing = c.missing + 1 }
+counts_with c (Unread f) = record c { unread = c.unread + 1 }
+
+abbrev pub counts_then : CountsValue → CountsValue → CountsValue
+counts_then c d = record {
+  right = c.right + d.right;
+  wrong = c.wrong + d.wrong;
+  missing = c.missing + d.missing;
+  unread = c.unread + d.unread;
+  bad = c.bad + d.bad;
+}
+
+-- the state of a manifest's check: what remains of it, the lines handled, the bytes that these consumed and those that
+-- its input has given, the form and the counts so far, and the state of the streams
 pub record CheckState : Type 0 where
   pub rest : Content
   pub number : ℕ
   pub consumed : ℕ
+  pub taken : ℕ
   pub form : Form
-  pub counts : Counts
+  pub counts : CountsValue
   pub known_state : KnownState
 
-abbrev pub check_state_from : Option Content → ℕ → ℕ → Form → Counts → Option KnownState → Option CheckState
-check_state_from None n u f c s = None
-check_state_from (Some rest) n u f c None = None
-check_state_from (Some rest) n u f c (Some s) =
-    Some (record { rest = rest; number = n; consumed = u; form = f; counts = c; known_state = s })
-
--- in front of the first line
-abbrev pub initial_state_if_known : Option Content → Option KnownState → Option CheckState
-initial_state_if_known c s = check_state_from c 0 0 Undecided no_counts s
-
+-- before the first line
 abbrev pub initial_state : Content → KnownState → CheckState
-initial_state c s = record { rest = c; number = 0; consumed = 0; form = Undecided; counts = no_counts; known_state = s }
+initial_state c s = record {
+  rest = c;
+  number = 0;
+  consumed = 0;
+  taken = 0;
+  form = Undecided;
+  counts = no_counts;
+  known_state = s;
+}
 
 -- the next line's verdict
 abbrev pub next_judged : Rules → CheckState → List ℕ → LineVerdictValue
 next_judged r a l =
-    let f = form_then a.form (line_form r.settings.algo l) in
-    judge r a.known_state.world (a.number + 1) (parse_line r.profile r.settings.algo f l)
+    judge r a.known_state.world (a.number + 1) (parse_line r.profile r.algo (form_then a.form (line_form r.algo l)) l)
 
--- the verdicts that are still to be found
+-- the verdicts of the lines that remain
 abbrev pub remaining_verdicts : Rules → CheckState → List LineVerdictValue
 remaining_verdicts r a =
     let ls = lines_by r.profile a.rest in
-    verdicts r (form_then a.form (form r.settings.algo ls)) a.known_state.world a.number ls
+    verdicts r (form_then a.form (form r.algo ls)) a.known_state.world a.number ls
 
--- the run that is still to come
-abbrev pub remaining_behavior : Rules → CheckState → Behavior
-remaining_behavior r a = record {
-  steps = line_steps r (end_text r a.rest.ending (counts a.counts (remaining_verdicts r a))) a.rest
-      (remaining_verdicts r a);
-  good = good r a.rest.ending (counts a.counts (remaining_verdicts r a));
-}
+-- the behavior that remains
+abbrev pub remaining_behavior : Rules → LabelsValue → CheckState → Behavior
+remaining_behavior r labels a =
+    let js = remaining_verdicts r a in
+    let counts = counts_then a.counts (counts_of js) in
+    record {
+      steps = line_steps r labels (end_text r labels a.rest.ending counts) a.rest js;
+      good = good r a.rest.ending counts;
+    }
 
--- ---- what a step does, of the run r that was to come
+-- ---- what a step does, of the behavior r that remained
 
--- one step more in front
+-- a behavior after one step more
 abbrev pub step_then : Step → Behavior → Behavior
 step_then s r = record { steps = s ∷ r.steps; good = r.good }
 
--- the first step of r was done, and s is to come
+-- the first step of r happened, and s remains
 pub record StepDone (r s : Behavior) (a b : KnownState) : Type 0 where
   pub step : Step
   pub is : r ≡ step_then step s
@@ -77,96 +100,123 @@ pub record LastStepDone (r : Behavior) (answer : Bool) (a b : KnownState) : Type
   pub is : r ≡ record { steps = step ∷ []; good = answer }
   pub happened : Happened a b (events_of step)
 
--- a write failed: a prefix of the step's events happened
+-- a write failed after a prefix of the step's events
 pub record StepFailed (r : Behavior) (a b : KnownState) : Type 0 where
   pub step : Step
   pub rest : Behavior
   pub is : r ≡ step_then step rest
   pub happened : PrefixHappened a b (events_of step)
 
--- memory was wanted: nothing of the step happened
+-- memory ran out: nothing of the step happened
 pub record StepRefused (r : Behavior) (a b : KnownState) : Type 0 where
   pub step : Step
   pub rest : Behavior
   pub is : r ≡ step_then step rest
   pub refused : RefusedAt step a b
 
--- one line was handled; the line's vector holds this then
+-- one line was handled; the line's vector then holds this
 pub record LineHandled (r : Rules) (a b : CheckState) (vector : List ℕ) : Type 0 where
   pub line : List ℕ
   pub lines : lines_by r.profile a.rest ≡ line ∷ lines_by r.profile b.rest
   pub rest : b.rest ≡ past_line a.rest
   pub consumed : b.consumed + length b.rest.bytes ≡ a.consumed + length a.rest.bytes
+  pub taken : b.taken ≤ b.consumed + 8192  -- at most so many bytes are read ahead
   pub number : b.number ≡ a.number + 1
-  pub form : b.form ≡ form_then a.form (line_form r.settings.algo line)
+  pub form : b.form ≡ form_then a.form (line_form r.algo line)
   pub counts : b.counts ≡ counts_with a.counts (next_judged r a line).verdict
   pub vector_len : length vector ≤ length line
 
-abbrev pub StepIs : Rules → List ℕ → CheckState → CheckState → Result Progress Stop → Type 0
-StepIs r vector a b (Ok Going) = StepDone (remaining_behavior r a) (remaining_behavior r b) a.known_state b.known_state
+-- what a step does, by its answer
+abbrev pub StepIs : Rules → LabelsValue → List ℕ → CheckState → CheckState → Result Progress Stop → Type 0
+StepIs r labels vector a b (Ok Going) =
+    StepDone (remaining_behavior r labels a) (remaining_behavior r labels b) a.known_state b.known_state
     × LineHandled r a b vector
-StepIs r vector a b (Ok (Ended answer)) = LastStepDone (remaining_behavior r a) answer a.known_state b.known_state
-StepIs r vector a b (Err Write) = StepFailed (remaining_behavior r a) a.known_state b.known_state
-StepIs r vector a b (Err Memory) = StepRefused (remaining_behavior r a) a.known_state b.known_state
+StepIs r labels vector a b (Ok (Ended answer)) =
+    LastStepDone (remaining_behavior r labels a) answer a.known_state b.known_state
+StepIs r labels vector a b (Err Write) = StepFailed (remaining_behavior r labels a) a.known_state b.known_state
+StepIs r labels vector a b (Err Memory) = StepRefused (remaining_behavior r labels a) a.known_state b.known_state
 
--- what a step does, where the manifest and the run state tell
-abbrev pub StepIsIfKnown : Rules → List ℕ → Option CheckState → Option CheckState → Result Progress Stop → Type 0
-StepIsIfKnown r vector a b x = IfKnown a b (λ a b. StepIs r vector a b x)
+-- the same, if the state of the check is known
+abbrev pub StepIsIfKnown : Rules → LabelsValue → List ℕ → Option CheckState → Option CheckState → Result Progress Stop
+    → Type 0
+StepIsIfKnown r labels vector a b x = IfKnown a b (λ a b. StepIs r labels vector a b x)
 
--- a step's want of memory, told or not: the source was refused it, or bytes of the manifest were still to come
+-- out of memory, known or not: the source was refused it, or bytes of the manifest remained
 abbrev pub MemoryStopHasCause : SourceState → SourceState → Option Content → Result Progress Stop → Type 0
 MemoryStopHasCause a b c (Ok p) = b.refusals ≡ a.refusals
 MemoryStopHasCause a b c (Err Write) = b.refusals ≡ a.refusals
 MemoryStopHasCause a b c (Err Memory) = (b.refusals ≡ one_more a.refusals)
     ⊎ ((b.refusals ≡ a.refusals) × IfSome c (λ d. 0 < length d.bytes))
 
--- where the checking of a manifest stands: what it is checked by, its reader, and the form and the counts of its lines
--- so far
+-- a place in a manifest: its rules, its reader, and the form and the counts of its lines so far
 pub record CursorValue (I : Type 0) : Type 0 where
   pub rules : Rules
   pub reader : LineReader I
   pub form : Form
-  pub counts : Counts
+  pub counts : CountsValue
 
--- a manifest that is being checked: where that stands, and the answer that every later call gives again, where there
--- is one
-pub record CheckerValue (I A : Type 0) : Type 0 where
+-- a checker: its place, what its reports show, and its final answer, if there is one
+pub record CheckerValue (I : Type 0) : Type 0 where
   pub cursor : CursorValue I
-  pub final_answer : Option A
+  pub labels : LabelsValue
+  pub final_answer : Option (Result Progress Stop)
 
--- after a line no answer is given again, after anything else that one is
+-- after a line there is no final answer yet, and any other answer is final
 abbrev pub final_answer_of_step : Result Progress Stop → Option (Result Progress Stop)
 final_answer_of_step (Ok Going) = None
 final_answer_of_step x = Some x
 
--- where it stands in its manifest, where that and the run state tell
+-- the state of the check at a place, with this content and these streams
+abbrev pub state_at : {I : Type 0} → CursorValue I → Content → KnownState → CheckState
+state_at p c s = record {
+  rest = c;
+  number = p.reader.lines;
+  consumed = consumed p.reader;
+  taken = p.reader.taken;
+  form = p.form;
+  counts = p.counts;
+  known_state = s;
+}
+
+-- that, if both are known
 abbrev pub check_state : {I : Type 0} → (I → InputState) → CursorValue I → Option KnownState → Option CheckState
-check_state state p known_state = check_state_from (remaining_content state p.reader) p.reader.lines (consumed p.reader)
-    p.form p.counts known_state
+check_state state p known = remaining_content state p.reader >>= λ c. known >>= λ s. Some (state_at p c s)
 
--- it stands in front of the first line of that input, of which nothing was read
-abbrev pub IsAtStart : {I : Type 0} → (I → InputState) → CursorValue I → I → Type 0
-IsAtStart state p input = (p.reader ≡ record { input = input; ahead = []; taken = 0; lines = 0; final_answer = None })
-    × ((s : Option KnownState) → check_state state p s ≡ initial_state_if_known (option_map clip (state input).content)
-    s)
+-- it is at the first line of that input; nothing of it was read
+pub record IsAtStart {I : Type 0} (state : I → InputState) (p : CursorValue I) (input : I) : Type 0 where
+  pub reader : p.reader ≡ record { input = input; ahead = []; taken = 0; lines = 0; final_answer = None }
+  pub remaining : remaining_content state p.reader ≡ option_map clip (state input).content
+  pub form : p.form ≡ Undecided
+  pub counts : p.counts ≡ no_counts
 
--- what a step does to the place, told or not: it is checked by the same; what the input has given and what is left of
--- it stay the same in sum; a line that was handled is one more; no read failed where a line was handled or the manifest
--- is good; where a whole line is ahead already, the input isn't read; and the reader's bounds hold
-pub record AdvancesReader {I : Type 0} (state : I → InputState) (a b : CursorValue I) (x : Result Progress Stop) : Type
-    0 where
+-- what a step does to the place, known or not
+pub record AdvancesCursor {I : Type 0} (state : I → InputState) (a b : CursorValue I) (x : Result Progress Stop)
+    : Type 0 where
   pub rules : b.rules ≡ a.rules
+  -- bytes taken and bytes left in the input add up to the same
   pub taken : IfKnown (state a.reader.input).content (state b.reader.input).content
       (λ c d. b.reader.taken + length d.bytes ≡ a.reader.taken + length c.bytes)
   pub number : x ≡ Ok Going → b.reader.lines ≡ a.reader.lines + 1
+  -- no read failed if a line was handled, or the manifest is good
   pub line_read : x ≡ Ok Going → (state b.reader.input).failed ≡ (state a.reader.input).failed
   pub end_read : x ≡ Ok (Ended true) → (state b.reader.input).failed ≡ (state a.reader.input).failed
+  -- if a whole line is read ahead, the input isn't read
   pub ahead : ¬ NoNewline a.reader.ahead → b.reader.input ≡ a.reader.input
   pub bounds : Bounded b.reader
 
--- a step from one place and moment, at which both outputs hold nothing, to another, where manifest and world tell
-abbrev pub PerformsStep : {I S : Type 0} → (I → InputState) → (S → SourceState) → List ℕ → CursorValue I → CursorValue I
-    → StreamsState S
-    → StreamsState S → Result Progress Stop → Type 0
-PerformsStep input source vector p q a b r = IsFlushed a → StepIsIfKnown p.rules vector
-    (check_state input p (known_state source a)) (check_state input q (known_state source b)) r
+-- what a step does to the checker and the outputs, known or not
+pub record AdvancesChecker {I S : Type 0} (input : I → InputState) (source : S → SourceState) (p q : CheckerValue I)
+    (a b : StreamsState S) (x : Result Progress Stop) : Type 0 where
+  pub labels : q.labels ≡ p.labels
+  pub final_answer : q.final_answer ≡ final_answer_of_step x
+  pub cursor : AdvancesCursor input p.cursor q.cursor x
+  -- a stop has its cause: the source was refused memory, or bytes of the manifest remained; or an output failed
+  pub out_of_memory : MemoryStopHasCause (source a.source) (source b.source) (remaining_content input p.cursor.reader) x
+  pub failures : FailuresMatch a b x
+  pub no_output_on_memory : NoOutputOnMemory a b x
+
+-- a step, if both outputs are flushed at the call, and manifest and streams are known
+abbrev pub PerformsStep : {I S : Type 0} → (I → InputState) → (S → SourceState) → List ℕ → LabelsValue → CursorValue I
+    → CursorValue I → StreamsState S → StreamsState S → Result Progress Stop → Type 0
+PerformsStep input source vector labels p q a b x = IsFlushed a → StepIsIfKnown p.rules labels vector
+    (check_state input p (known_state source a)) (check_state input q (known_state source b)) x

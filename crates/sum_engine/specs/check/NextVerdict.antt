@@ -1,56 +1,46 @@
--- What judging the lines of a manifest gives, one after the other, with no text written.
+-- What the next verdict of a manifest is; no text is written.
 use Rattle.std.specs.Prelude.{ℕ, ◌≡◌, ◌≤◌, ◌<◌, ◌⊎◌, List, [], ◌∷◌, map, length, slice_range, Bool, true, false, is_none, Option, None, Some, Result, Ok, Err}
 use Rattle.sum_engine.specs.Behavior.{Ending, Whole, Broken, open_name}
 pub use Rattle.sum_sources.specs.declared.line_reader.LineStop.{LineStop}
 use Rattle.sum_sources.specs.declared.line_reader.LineStop.TheVariants.{Fault, Memory}
-use Rattle.sum_sources.specs.Contents.{InputState, IfKnown, stdin_state}
+use Rattle.sum_sources.specs.Contents.{InputState, IfKnown, SourceState, stdin_state}
+use Rattle.sum_sources.specs.LineReaders.{remaining_content}
 use Rattle.sum_lines.specs.sinks.Sinks.{SinkState}
 use Rattle.digest_kinds.specs.Limits.{one_more}
 use Rattle.sum_engine.specs.Execution.{StreamsState, KnownState, Stop, Happened}
-use Rattle.sum_engine.specs.check.CheckerSteps.{Progress, Going, Ended, CheckState, LineHandled, remaining_verdicts}
+use Rattle.sum_engine.specs.check.CheckerSteps.{Progress, Going, Ended, CheckState, CursorValue, counts_with, LineHandled, remaining_verdicts, AdvancesCursor, MemoryStopHasCause}
 pub use Rattle.sum_engine.specs.declared.check.judge.LineVerdict.{LineVerdict}
 use Rattle.sum_engine.specs.check.Verdicts.{Rules, LineVerdictValue, asks_of}
-use Rattle.sum_engine.specs.check.Reports.{counts_with}
 use Rattle.sum_engine.specs.declared.stop.Stop.TheVariants as stops
 
--- what is answered where the next verdict is asked for
+-- what a call for the next verdict returns
 abbrev pub VerdictResult : Type 0
 VerdictResult = Result (Option LineVerdict) LineStop
 
--- the moment of a call that is lent standard input and a source, and writes to no output
+-- the state of a call that is lent standard input and a source, and writes to no output
 abbrev pub lent_streams : {I S : Type 0} → (I → InputState) → Option I → S → StreamsState S
 lent_streams state stdin source =
     let silent : SinkState = record { written = None; buffered = []; failures = 0 } in
-    record {
-      source = source;
-      input = (stdin_state state stdin).content;
-      stdin_taken = is_none stdin;
-      err =
-          silent;
-      out = silent;
-    }
+    let input = (stdin_state state stdin).content in
+    record { source = source; input = input; stdin_taken = is_none stdin; err = silent; out = silent }
 
--- the judged line: its name stands in the vector
+-- the line's verdict, with its name in place of the name's range in the vector
 abbrev pub line_verdict_value : List ℕ → LineVerdict → LineVerdictValue
-line_verdict_value vector v = record {
-  number = v.number;
-  verdict = v.verdict;
-  name =
-      slice_range vector v.start v.stop;
-}
+line_verdict_value vector v =
+    record { number = v.number; verdict = v.verdict; name = slice_range vector v.start v.stop }
 
--- its name stands within the vector
+-- the range is within the vector
 pub record HasNameRange (vector : List ℕ) (v : LineVerdict) : Type 0 where
   pub start : v.start ≤ v.stop
   pub stop : v.stop ≤ length vector
 
--- a line was judged, which is the first of those that were to come; its name was opened, where its verdict asks that
+-- a line was judged, which is the first of those that remained; its name was opened, if its verdict asks it
 pub record VerdictFound (r : Rules) (a b : CheckState) (j : LineVerdictValue) : Type 0 where
   pub first : remaining_verdicts r a ≡ j ∷ remaining_verdicts r b
   pub happened : Happened a.known_state b.known_state (map open_name (asks_of j))
   pub counts : b.counts ≡ counts_with a.counts j.verdict
 
--- none is to come, and the manifest ends so; nothing was opened, and nothing is left but that ending
+-- no line remained, and the manifest ends so; nothing was opened, and only that ending remains
 pub record NoVerdictLeft (r : Rules) (e : Ending) (a b : CheckState) : Type 0 where
   pub none : remaining_verdicts r a ≡ []
   pub ending : a.rest.ending ≡ e
@@ -62,6 +52,7 @@ pub record NoVerdictLeft (r : Rules) (e : Ending) (a b : CheckState) : Type 0 wh
 abbrev pub OnlyRefused : KnownState → KnownState → Type 0
 OnlyRefused a b = b ≡ record a { refusals = one_more a.refusals }
 
+-- what the next verdict is, by what the call returns
 abbrev pub NextVerdictIs : Rules → List ℕ → CheckState → CheckState → VerdictResult → Type 0
 NextVerdictIs r vector a b (Ok (Some v)) = VerdictFound r a b (line_verdict_value vector v) × LineHandled r a b vector
 NextVerdictIs r vector a b (Ok None) = NoVerdictLeft r Whole a b
@@ -69,23 +60,37 @@ NextVerdictIs r vector a b (Err (Fault f)) = NoVerdictLeft r (Broken f) a b
 NextVerdictIs r vector a b (Err Memory) =
     (OnlyRefused a.known_state b.known_state ⊎ (b.known_state ≡ a.known_state)) × (0 < length a.rest.bytes)
 
--- what the next verdict is, where the manifest and the world tell
+-- the same, if manifest, source and standard input are known
 abbrev pub NextVerdictIfKnown : Rules → List ℕ → Option CheckState → Option CheckState → VerdictResult → Type 0
 NextVerdictIfKnown r vector a b x = IfKnown a b (λ a b. NextVerdictIs r vector a b x)
 
--- a step's answer, but for whether the manifest is good: a line, the end, or want of memory
+-- the progress of a checker that finds this: a line, the end, or out of memory
 abbrev pub progress_of : VerdictResult → Result Progress Stop
 progress_of (Ok (Some v)) = Ok Going
 progress_of (Ok None) = Ok (Ended true)
 progress_of (Err (Fault f)) = Ok (Ended false)
 progress_of (Err Memory) = Err stops.Memory
 
--- after a line no answer is given again, after anything else that one is
+-- after a line there is no final answer yet, and any other answer is final
 abbrev pub final_answer_of_next : VerdictResult → Option VerdictResult
 final_answer_of_next (Ok (Some v)) = None
 final_answer_of_next x = Some x
 
--- whether what is answered again is that no line is left, and no fault ended the manifest
+-- whether the final answer is that no line is left, and no fault broke the manifest
 abbrev pub is_whole : Option VerdictResult → Bool
 is_whole (Some (Ok None)) = true
 is_whole x = false
+
+-- a manifest whose verdicts are found: its place, and its final answer, if there is one
+pub record VerdictsValue (I : Type 0) : Type 0 where
+  pub cursor : CursorValue I
+  pub final_answer : Option VerdictResult
+
+-- what a call for the next verdict does, known or not
+pub record AdvancesVerdicts {I S : Type 0} (input : I → InputState) (source : S → SourceState) (p q : VerdictsValue I)
+    (a b : StreamsState S) (x : VerdictResult) : Type 0 where
+  pub final_answer : q.final_answer ≡ final_answer_of_next x
+  pub cursor : AdvancesCursor input p.cursor q.cursor (progress_of x)
+  -- out of memory only if the source was refused it, or bytes of the manifest remained
+  pub out_of_memory : MemoryStopHasCause (source a.source) (source b.source) (remaining_content input p.cursor.reader)
+      (progress_of x)

@@ -1,21 +1,26 @@
 -- What checking writes: the reports of the lines, and the end of a manifest.
-use Rattle.std.specs.Prelude.{ℕ, ◌+◌, ◌==◌, ◌&&◌, ◌||◌, Bool, true, false, not, List, [], ◌∷◌, ◌++◌, decimal, codes, fold, if◌then◌else◌}
+use Rattle.std.specs.Prelude.{ℕ, ◌+◌, ◌==◌, ◌&&◌, ◌||◌, Bool, true, false, not, List, [], ◌∷◌, ◌++◌, decimal, codes, filter, length, if◌then◌else◌}
 use Rattle.std.specs.List.{concat}
-pub use Rattle.digest_kinds.specs.declared.algo.Algos.{Algos}
 use Rattle.sum_lines.specs.grammar.Shapes.{One, Any, mark}
 use Rattle.digest_kinds.specs.Kinds.{tag}
 use Rattle.sum_engine.specs.Behavior.{Ending, Whole, Broken}
 pub use Rattle.sum_engine.specs.declared.settings.Report.{Report}
 use Rattle.sum_engine.specs.declared.settings.Report.TheVariants.{Quiet, Warn, Status}
-pub use Rattle.sum_engine.specs.declared.check.summary.Counts.{Counts}
-use Rattle.sum_engine.specs.check.Verdicts.{Verdict, Ignored, Bad, Right, Wrong, Missing, Unread, Rules, LineVerdictValue}
+use Rattle.sum_engine.specs.check.Verdicts.{Algos, Verdict, Ignored, Bad, Right, Wrong, Missing, Unread, Rules, LineVerdictValue}
 use Rattle.sum_lines.specs.Escape.{Profile, present, escape_by, escape_differs}
 use Rattle.sum_engine.specs.Generation.{tool_line, fault_line}
 
--- NAME: TEXT, where a backslash stands before a name that its escape changes
+-- what the reports of a manifest show: the tool's name, the manifest's, and which lines
+pub record LabelsValue : Type 0 where
+  pub tool : List ℕ
+  pub list : List ℕ
+  pub report : Report
+
+-- NAME: TEXT, after a backslash if the name's escape differs from it
 abbrev pub name_line : Profile → List ℕ → List ℕ → List ℕ
 name_line p name text = concat (mark (escape_differs p name) ∷ escape_by p name ∷ codes ": " ∷ text ∷ codes "\n" ∷ [])
 
+-- the line of a verdict
 abbrev pub verdict_line : Profile → Verdict → List ℕ → List ℕ
 verdict_line p Right name = name_line p name (codes "OK")
 verdict_line p Wrong name = name_line p name (codes "FAILED")
@@ -29,85 +34,114 @@ is_hidden Status v = true
 is_hidden report v = false
 
 -- a line's report on standard output
-abbrev pub out_of : Rules → LineVerdictValue → List ℕ
-out_of r j = if is_hidden r.settings.report j.verdict then [] else verdict_line r.profile j.verdict j.name
+abbrev pub out_by : Profile → Report → Verdict → List ℕ → List ℕ
+out_by p report v name = if is_hidden report v then [] else verdict_line p v name
 
--- of a name whose file has the digest that its line gives
-abbrev pub right_line : Report → List ℕ → List ℕ
-right_line report name = if is_hidden report Right then [] else verdict_line present Right name
+abbrev pub out_of : Rules → LabelsValue → LineVerdictValue → List ℕ
+out_of r labels j = out_by r.profile labels.report j.verdict j.name
 
+-- the word for the tag in a report
 abbrev pub tag_word : Algos → List ℕ
 tag_word (One a) = tag a
 tag_word Any = codes "tagged"
 
 -- TOOL: LIST: N: improperly formatted TAG checksum line
-abbrev pub bad_line : Rules → ℕ → List ℕ
-bad_line r n = concat (r.tool ∷ codes ": " ∷ escape_by r.profile r.shown ∷ codes ": " ∷ decimal n
-    ∷ codes ": improperly formatted " ∷ tag_word r.settings.algo ∷ codes " checksum line\n" ∷ [])
+abbrev pub bad_line : Rules → LabelsValue → ℕ → List ℕ
+bad_line r labels n = concat (labels.tool ∷ codes ": " ∷ escape_by r.profile labels.list ∷ codes ": " ∷ decimal n
+    ∷ codes ": improperly formatted " ∷ tag_word r.algo ∷ codes " checksum line\n" ∷ [])
 
+-- the text, if the setting reports each improperly formatted line
 abbrev pub if_warned : Report → List ℕ → List ℕ
 if_warned Warn text = text
 if_warned report text = []
 
 -- a line's report on standard error
-abbrev pub err_by : Rules → ℕ → Verdict → List ℕ → List ℕ
-err_by r n Bad name = if_warned r.settings.report (bad_line r n)
-err_by r n (Unread f) name = fault_line r.profile r.tool name f
-err_by r n v name = []
+abbrev pub err_by : Rules → LabelsValue → ℕ → Verdict → List ℕ → List ℕ
+err_by r labels n Bad name = if_warned labels.report (bad_line r labels n)
+err_by r labels n (Unread f) name = fault_line r.profile labels.tool name f
+err_by r labels n v name = []
 
-abbrev pub err_of : Rules → LineVerdictValue → List ℕ
-err_of r j = err_by r j.number j.verdict j.name
+abbrev pub err_of : Rules → LabelsValue → LineVerdictValue → List ℕ
+err_of r labels j = err_by r labels j.number j.verdict j.name
 
-abbrev pub no_counts : Counts
-no_counts = record { right = 0; wrong = 0; missing = 0; unread = 0; bad = 0 }
+-- which kind of verdict it is
+abbrev pub is_right : Verdict → Bool
+is_right Right = true
+is_right v = false
 
--- one more line, of that verdict
-abbrev pub counts_with : Counts → Verdict → Counts
-counts_with c Ignored = c
-counts_with c Bad = record c { bad = c.bad + 1 }
-counts_with c Right = record c { right = c.right + 1 }
-counts_with c Wrong = record c { wrong = c.wrong + 1 }
-counts_with c Missing = record c { missing = c.missing + 1 }
-counts_with c (Unread f) = record c { unread = c.unread + 1 }
+abbrev pub is_wrong : Verdict → Bool
+is_wrong Wrong = true
+is_wrong v = false
 
--- how many lines have each verdict but `Ignored`, and so many before them
-abbrev pub counts : Counts → List LineVerdictValue → Counts
-counts c js = fold (λ c j. counts_with c j.verdict) c js
+abbrev pub is_missing : Verdict → Bool
+is_missing Missing = true
+is_missing v = false
 
-abbrev pub entries : Counts → ℕ
+abbrev pub is_unread : Verdict → Bool
+is_unread (Unread f) = true
+is_unread v = false
+
+abbrev pub is_bad : Verdict → Bool
+is_bad Bad = true
+is_bad v = false
+
+-- how many lines have a verdict of each kind but `Ignored`
+pub record CountsValue : Type 0 where
+  pub right : ℕ
+  pub wrong : ℕ
+  pub missing : ℕ
+  pub unread : ℕ
+  pub bad : ℕ
+
+-- how many of the lines have such a verdict
+abbrev pub number_of : (Verdict → Bool) → List LineVerdictValue → ℕ
+number_of is js = length (filter (λ j. is j.verdict) js)
+
+abbrev pub counts_of : List LineVerdictValue → CountsValue
+counts_of js = record {
+  right = number_of is_right js;
+  wrong = number_of is_wrong js;
+  missing = number_of is_missing js;
+  unread = number_of is_unread js;
+  bad = number_of is_bad js;
+}
+
+-- how many lines are entries
+abbrev pub entries : CountsValue → ℕ
 entries c = c.right + c.wrong + c.missing + c.unread
 
--- how many lines are not ignored
-abbrev pub total : Counts → ℕ
-total c = entries c + c.bad
-
--- TOOL: WARNING: N TEXT, where the count isn't 0
+-- TOOL: WARNING: N TEXT, unless the count is 0
 abbrev pub warning : List ℕ → ℕ → List ℕ → List ℕ → List ℕ
 warning tool n one many = if n == 0 then []
     else concat (tool ∷ codes ": WARNING: " ∷ decimal n ∷ (if n == 1 then one else many) ∷ codes "\n" ∷ [])
 
-abbrev pub unverified_line : Rules → Counts → List ℕ
-unverified_line r c = if r.settings.ignore_missing && (c.right == 0)
-    then tool_line r.profile r.tool r.shown (codes "no file was verified") else []
+-- the line that no file was verified, with `--ignore-missing`
+abbrev pub unverified_line : Rules → LabelsValue → CountsValue → List ℕ
+unverified_line r labels c = if r.ignore_missing && (c.right == 0)
+    then tool_line r.profile labels.tool labels.list (codes "no file was verified") else []
 
-abbrev pub warnings : Rules → Counts → List ℕ
-warnings r c = warning r.tool c.bad (codes " line is improperly formatted") (codes " lines are improperly formatted")
-    ++ (warning r.tool c.unread (codes " listed file could not be read") (codes " listed files could not be read")
-    ++ (warning r.tool c.wrong (codes " computed checksum did NOT match") (codes " computed checksums did NOT match")
-    ++ unverified_line r c))
+-- the warnings at a manifest's end
+abbrev pub warnings : Rules → LabelsValue → CountsValue → List ℕ
+warnings r labels c =
+    let tool = labels.tool in
+    warning tool c.bad (codes " line is improperly formatted") (codes " lines are improperly formatted")
+    ++ (warning tool c.unread (codes " listed file could not be read") (codes " listed files could not be read")
+    ++ (warning tool c.wrong (codes " computed checksum did NOT match") (codes " computed checksums did NOT match")
+    ++ unverified_line r labels c))
 
+-- the text, unless the setting reports nothing
 abbrev pub unless_status : Report → List ℕ → List ℕ
 unless_status Status text = []
 unless_status report text = text
 
--- the end of a manifest on standard error
-abbrev pub end_text : Rules → Ending → Counts → List ℕ
-end_text r Whole c =
-    if entries c == 0 then tool_line r.profile r.tool r.shown (codes "no properly formatted checksum lines found")
-    else unless_status r.settings.report (warnings r c)
-end_text r (Broken f) c = fault_line r.profile r.tool r.shown f
+-- the end of a manifest on standard error: its summary, or the line of the fault that broke it
+abbrev pub end_text : Rules → LabelsValue → Ending → CountsValue → List ℕ
+end_text r labels Whole c = if entries c == 0
+    then tool_line r.profile labels.tool labels.list (codes "no properly formatted checksum lines found")
+    else unless_status labels.report (warnings r labels c)
+end_text r labels (Broken f) c = fault_line r.profile labels.tool labels.list f
 
 -- good: it was read whole, a line is Right, none is Wrong or Unread, and under the strict setting none is Bad
-abbrev pub good : Rules → Ending → Counts → Bool
-good r Whole c = not (c.right == 0) && (c.wrong == 0) && (c.unread == 0) && (not r.settings.strict || (c.bad == 0))
+abbrev pub good : Rules → Ending → CountsValue → Bool
+good r Whole c = not (c.right == 0) && (c.wrong == 0) && (c.unread == 0) && (not r.strict || (c.bad == 0))
 good r (Broken f) c = false

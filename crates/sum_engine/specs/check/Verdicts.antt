@@ -1,23 +1,24 @@
 -- The verdicts of a manifest's lines.
 use Rattle.std.specs.Prelude.{ℕ, ◌+◌, ◌&&◌, Bool, true, false, List, [], ◌∷◌, Result, Ok, Err, if◌then◌else◌, bytes_eq}
+pub use Rattle.digest_kinds.specs.declared.algo.Algos.{Algos}
 use Rattle.sum_engine.specs.Behavior.{Fault, World, is_dash, reply, after, digest_or_fault}
 use Rattle.sum_sources.specs.declared.fault.Fault.TheVariants.{NotFound}
 use Rattle.sum_sources.specs.Contents.{Content, Reply}
 use Rattle.sum_sources.specs.ManifestLines.{lines, raw_lines}
 pub use Rattle.sum_lines.specs.declared.reading.read_line.Form.{Form}
 use Rattle.sum_lines.specs.grammar.Entries.{EntryValue, form}
-pub use Rattle.sum_engine.specs.declared.settings.CheckSettings.{CheckSettings}
 pub use Rattle.sum_engine.specs.declared.check.judge.Verdict.{Verdict}
 pub use Rattle.sum_engine.specs.declared.check.judge.Verdict.TheVariants.{Ignored, Bad, Right, Wrong, Missing, Unread}
 use Rattle.sum_lines.specs.Escape.{Profile}
 use Rattle.sum_lines.specs.grammar.ParsedLines.{ParsedLine, ignored, bad, entry, parse_line}
 
--- what a manifest is checked by, the name under which it is shown, and whether it came from standard input
+-- by what a manifest's lines are judged: the profile, the algorithms that they may name, the two options that change a
+-- verdict or whether the manifest is good, and whether it came from standard input
 pub record Rules : Type 0 where
   pub profile : Profile
-  pub settings : CheckSettings
-  pub tool : List ℕ
-  pub shown : List ℕ
+  pub algo : Algos
+  pub ignore_missing : Bool
+  pub strict : Bool
   pub from_stdin : Bool
 
 -- a line's number (the first is 1), its verdict, and the name of its entry
@@ -26,28 +27,29 @@ pub record LineVerdictValue : Type 0 where
   pub verdict : Verdict
   pub name : List ℕ
 
--- opening answered that there is no such file
+-- there is no such file
 abbrev pub not_found : Reply → Bool
 not_found (Err NotFound) = true
 not_found r = false
 
--- what was read, against the digest that the line gives
+-- what was read, against the digest of the line
 abbrev pub digest_verdict : List ℕ → Result (List ℕ) Fault → Verdict
 digest_verdict d (Ok found) = if bytes_eq found d then Right else Wrong
 digest_verdict d (Err f) = Unread f
 
+-- the verdict of an entry
 abbrev pub verdict_of : Rules → World → EntryValue → Verdict
 verdict_of r w s = if r.from_stdin && is_dash s.name then Bad
-    else if r.settings.ignore_missing && not_found (reply w s.name) then Missing
+    else if r.ignore_missing && not_found (reply w s.name) then Missing
     else digest_verdict s.digest (digest_or_fault s.kind (reply w s.name))
 
--- line n, which says this
+-- the verdict of line n, which says this
 abbrev pub judge : Rules → World → ℕ → ParsedLine → LineVerdictValue
 judge r w n ignored = record { number = n; verdict = Ignored; name = [] }
 judge r w n bad = record { number = n; verdict = Bad; name = [] }
 judge r w n (entry s) = record { number = n; verdict = verdict_of r w s; name = s.name }
 
--- the name of an entry is asked
+-- a verdict other than these two asks the name of its entry
 abbrev pub asks_by : Verdict → List ℕ → List (List ℕ)
 asks_by Ignored name = []
 asks_by Bad name = []
@@ -60,13 +62,13 @@ asks_of j = asks_by j.verdict j.name
 abbrev pub lines_by : Profile → Content → List (List ℕ)
 lines_by p c = if p.drops_return then lines c else raw_lines c
 
--- the lines behind line n in a manifest of that form, each after the asks of those before it
+-- the verdicts of the lines after line n in a manifest of that form, each after the asks of those before it
 abbrev pub verdicts : Rules → Form → World → ℕ → List (List ℕ) → List LineVerdictValue
 verdicts r f w n [] = []
 verdicts r f w n (l ∷ ls) =
-    let j = judge r w (n + 1) (parse_line r.profile r.settings.algo f l) in
+    let j = judge r w (n + 1) (parse_line r.profile r.algo f l) in
     j ∷ verdicts r f (after w (asks_of j)) (n + 1) ls
 
--- a whole manifest, whose form is that of all its lines
+-- those of a whole manifest, whose form is that of all its lines
 abbrev pub all_verdicts : Rules → World → Content → List LineVerdictValue
-all_verdicts r w c = verdicts r (form r.settings.algo (lines_by r.profile c)) w 0 (lines_by r.profile c)
+all_verdicts r w c = verdicts r (form r.algo (lines_by r.profile c)) w 0 (lines_by r.profile c)

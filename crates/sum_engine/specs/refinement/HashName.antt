@@ -1,14 +1,14 @@
--- Joins asking one name to the world.
-use Rattle.std.specs.Prelude.{ℕ, ◌≡◌, List, [], ◌∷◌, length, Option, None, Some, Ok, Err, ⊤}
+-- Relates hashing one name to the world.
+use Rattle.std.specs.Prelude.{ℕ, ◌≡◌, List, [], ◌∷◌, length, Option, None, Some, Result, Ok, Err, ⊤}
 use Rattle.digest_kinds.specs.Kinds.{KindValue}
 use Rattle.sum_sources.specs.Contents.{Content, IfKnown, Reply, SourceState, KnownSource}
 use Rattle.sum_engine.specs.Execution.{StreamsState}
 use Rattle.digest_kinds.specs.Limits.{one_more}
 pub use Rattle.sum_engine.specs.declared.hash_name.HashOutcome.{HashOutcome}
-use Rattle.sum_engine.specs.Behavior.{World, after, digest_or_fault, reply}
+use Rattle.sum_engine.specs.Behavior.{Fault, World, after, digest_or_fault, reply}
 use Rattle.sum_engine.specs.declared.hash_name.HashOutcome.TheVariants as asked
 
--- the world at a moment, where the source and standard input tell
+-- the world of these streams, if the source and standard input are known
 abbrev pub world_by : Option KnownSource → Option Content → Option World
 world_by None c = None
 world_by (Some t) None = None
@@ -17,34 +17,41 @@ world_by (Some t) (Some c) = Some (record { answer = t.answer; asked = t.asked; 
 abbrev pub world_of : {S : Type 0} → (S → SourceState) → StreamsState S → Option World
 world_of state m = world_by (state m.source).known m.input
 
--- what came of a reply
+-- the digest of an outcome, or the fault of opening or reading
+abbrev pub digest_of_outcome : HashOutcome → Result (List ℕ) Fault
+digest_of_outcome (asked.Read d) = Ok d
+digest_of_outcome (asked.NotOpened f) = Err f
+digest_of_outcome (asked.Broken f) = Err f
+
+-- the outcome of a reply
 abbrev pub IsHashOutcome : KindValue → Reply → HashOutcome → Type 0
 IsHashOutcome kind r (asked.Read d) = (c : Content) × (r ≡ Ok c) × (digest_or_fault kind (Ok c) ≡ Ok d)
 IsHashOutcome kind r (asked.NotOpened f) = r ≡ Err f
 IsHashOutcome kind r (asked.Broken f) = (c : Content) × (r ≡ Ok c) × (digest_or_fault kind (Ok c) ≡ Err f)
 
--- what was read of a content
+-- the outcome of reading a content
 abbrev pub IsRead : KindValue → Content → HashOutcome → Type 0
 IsRead kind c (asked.Read d) = digest_or_fault kind (Ok c) ≡ Ok d
 IsRead kind c (asked.NotOpened f) = ⊥
 IsRead kind c (asked.Broken f) = digest_or_fault kind (Ok c) ≡ Err f
 
--- the name was asked, and this came of it; without memory it wasn't asked
+-- the name was asked, with this outcome; without memory it wasn't asked
 abbrev pub HashesName : KindValue → World → World → List ℕ → Option HashOutcome → Type 0
 HashesName kind w v name None = v ≡ w
 HashesName kind w v name (Some a) = (v ≡ after w (name ∷ [])) × IsHashOutcome kind (reply w name) a
 
+-- the same, if the world is known
 abbrev pub HashesNameIfKnown : KindValue → Option World → Option World → List ℕ → Option HashOutcome → Type 0
 HashesNameIfKnown kind w v name r = IfKnown w v (λ w v. HashesName kind w v name r)
 
--- a digest has the kind's length
+-- a digest of the outcome has the kind's length
 abbrev pub HasKindLen : KindValue → Option HashOutcome → Type 0
 HasKindLen kind None = ⊤
 HasKindLen kind (Some (asked.Read d)) = length d ≡ kind.len
 HasKindLen kind (Some (asked.NotOpened f)) = ⊤
 HasKindLen kind (Some (asked.Broken f)) = ⊤
 
--- the source was refused memory, once, where nothing is answered
+-- `None` only if the source was refused memory, which is one refusal more
 abbrev pub RefusedUnless : {A : Type 0} → SourceState → SourceState → Option A → Type 0
 RefusedUnless a b None = b.refusals ≡ one_more a.refusals
 RefusedUnless a b (Some x) = b.refusals ≡ a.refusals

@@ -1,4 +1,4 @@
--- Joins what the code finds of a line to what the line says, and to its verdict.
+-- Relates what the code finds of a line to what the line says, and to its verdict.
 use Rattle.std.specs.Prelude.{ℕ, ◌≡◌, Bool, List, [], Option, None, Some, if◌then◌else◌, bytes_eq}
 use Rattle.sum_sources.specs.declared.fault.Fault.TheVariants.{NotFound, Denied, Other}
 use Rattle.sum_lines.specs.grammar.Entries.{EntryValue, form_then, line_form}
@@ -7,12 +7,12 @@ use Rattle.sum_engine.specs.declared.hash_name.HashOutcome.{HashOutcome}
 use Rattle.sum_engine.specs.check.Verdicts.{Verdict, Right, Wrong, Missing, Unread, Rules, judge, asks_by, asks_of}
 use Rattle.sum_lines.specs.grammar.ParsedLines.{ParsedLine, ignored, bad, entry, parse_line}
 use Rattle.sum_engine.specs.Behavior.{World, after}
-use Rattle.sum_engine.specs.check.Reports.{Counts, counts_with}
+use Rattle.sum_engine.specs.check.Reports.{CountsValue}
 use Rattle.sum_engine.specs.check.NextVerdict.{LineVerdict, line_verdict_value}
-use Rattle.sum_engine.specs.check.CheckerSteps.{CursorValue}
+use Rattle.sum_engine.specs.check.CheckerSteps.{CursorValue, counts_with}
 use Rattle.sum_engine.specs.declared.hash_name.HashOutcome.TheVariants as asked
 
--- what an entry spells
+-- the entry that a line spells
 abbrev pub listed_entry : ListedEntry → EntryValue
 listed_entry l = record { kind = l.kind; digest = l.digest.now; name = l.name.now }
 
@@ -22,7 +22,7 @@ name_in_line ignored = []
 name_in_line bad = []
 name_in_line (entry s) = s.name
 
--- the verdict by what came of asking the name
+-- the verdict, by the outcome of hashing the name
 abbrev pub verdict_of_outcome : Bool → List ℕ → HashOutcome → Verdict
 verdict_of_outcome ignore d (asked.Read found) = if bytes_eq found d then Right else Wrong
 verdict_of_outcome ignore d (asked.NotOpened NotFound) = if ignore then Missing else Unread NotFound
@@ -30,11 +30,12 @@ verdict_of_outcome ignore d (asked.NotOpened Denied) = Unread Denied
 verdict_of_outcome ignore d (asked.NotOpened Other) = Unread Other
 verdict_of_outcome ignore d (asked.Broken f) = Unread f
 
--- a line that says this has this verdict, whatever its number, and its name was asked where that asks it
+-- a line that says this has this verdict, whatever its number, and its name was asked, if the verdict asks it
 abbrev pub IsJudged : Rules → World → World → ParsedLine → Verdict → Type 0
 IsJudged r w v x verdict = ((n : ℕ) → judge r w n x ≡ record { number = n; verdict = verdict; name = name_in_line x })
     × (v ≡ after w (asks_by verdict (name_in_line x)))
 
+-- the same of what judging returns; without memory nothing was asked
 abbrev pub JudgeOf : Rules → World → World → ParsedLine → Option Verdict → Type 0
 JudgeOf r w v x None = v ≡ w
 JudgeOf r w v x (Some verdict) = IsJudged r w v x verdict
@@ -42,18 +43,17 @@ JudgeOf r w v x (Some verdict) = IsJudged r w v x verdict
 -- what a line says that was read at a place
 abbrev pub parsed_at : {I : Type 0} → CursorValue I → List ℕ → ParsedLine
 parsed_at p line =
-    let algos = p.rules.settings.algo in
-    parse_line p.rules.profile algos (form_then p.form (line_form algos line)) line
+    parse_line p.rules.profile p.rules.algo (form_then p.form (line_form p.rules.algo line)) line
 
 -- from place a to b the line's form was taken over, and the rules and the reader stayed
 pub record TakesLine {I : Type 0} (a b : CursorValue I) (line : List ℕ) : Type 0 where
-  pub form : b.form ≡ form_then a.form (line_form a.rules.settings.algo line)
+  pub form : b.form ≡ form_then a.form (line_form a.rules.algo line)
   pub reader : b.reader ≡ a.reader
   pub rules : b.rules ≡ a.rules
 
--- the last line that was read was judged, and its name was asked where that asks it; d are the counts then
+-- the last line that was read was judged, and its name was asked, if its verdict asks it; d are the counts then
 abbrev pub JudgeLineOf :
-    {I : Type 0} → CursorValue I → List ℕ → Counts → List ℕ → World → World → Option LineVerdict → Type 0
+    {I : Type 0} → CursorValue I → List ℕ → CountsValue → List ℕ → World → World → Option LineVerdict → Type 0
 JudgeLineOf p line d vector w v None = v ≡ w
 JudgeLineOf p line d vector w v (Some found) =
     (judge p.rules w p.reader.lines (parsed_at p line) ≡ line_verdict_value vector found)

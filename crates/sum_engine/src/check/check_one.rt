@@ -2,16 +2,14 @@
 ghost use Rattle.std.specs.Option.{option_map};
 ghost use Rattle.sum_sources.specs.Contents.{clip};
 ghost use Rattle.sum_engine.specs.check.Checking.{check_behavior};
-ghost use Rattle.std.specs.Prelude.{◌≡◌, ◌⊎◌};
-ghost use Rattle.digest_kinds.specs.Limits.{one_more};
-ghost use Rattle.sum_engine.specs.Execution.{IsFlushed, FailuresMatch, RefusalsMatch, StopHasCause, Performs};
+ghost use Rattle.sum_engine.specs.Execution.{IsFlushed, FailuresMatch, OneMoreAtMost, RefusalsMatch, StopHasCause, Performs};
 ghost use Rattle.sum_engine.specs.check.CheckerLaws.{ManifestPerforms};
-ghost use Rattle.sum_engine.specs.refinement.Cursors.{rules_in};
+ghost use Rattle.sum_engine.specs.refinement.Cursors.{rules_in, labels_in};
 
 use crate::check::checker::Checker;
 use crate::check::progress::Progress;
 use crate::check::report::put_fault_line;
-use crate::check::rules::CheckRules;
+use crate::check::rules::{CheckRules, Labels};
 use crate::hash_name::is_dash;
 use crate::settings::CheckSettings;
 use crate::stop::Stop;
@@ -20,14 +18,13 @@ use std::alloc::Allocator;
 use sum_lines::Sink;
 use sum_sources::{Input, OpenFault, Source};
 
-/// Checks the manifest that stands under one name, where `-` is standard input, and answers whether it is good. The
-/// reports of its lines and its summary go to `out` and `err` (coreutils manual, "md5sum invocation", `--check`). One
-/// that can't be opened, or read to its end, isn't good, and its fault goes to `err`.
+/// Checks the manifest of this name (`-` is standard input) and returns whether it is good. The reports of its lines and
+/// its summary go to `out` and `err` (coreutils manual, "md5sum invocation", `--check`). One that can't be opened, or
+/// read to its end, isn't good, and its fault goes to `err`.
 ///
-/// `Stop::Memory` where there was no memory for a line, or where the source had none to open a file; what was written
-/// is then the reports of the lines handled so far. `Stop::Write` where an output failed; one prefix of all that is to
-/// be written, in its order, is then handed on. What is said of bytes and of what is held is said of outputs that hold
-/// nothing when they are lent.
+/// `Stop::Memory` if there is no memory for a line, or the source has none to open a file; then the reports of the lines
+/// handled so far were written. `Stop::Write` if an output fails; then a prefix of all that is to be written, in its
+/// order, was.
 pub fn check_one<A: Allocator + Copy, J: Input + Drop, S: Source, O: Sink, E: Sink>(
     alloc: A,
     settings: CheckSettings,
@@ -35,21 +32,22 @@ pub fn check_one<A: Allocator + Copy, J: Input + Drop, S: Source, O: Sink, E: Si
     name: &[u8],
     streams: &mut Streams<J, S, O, E>,
 ) -> Result<bool, Stop>
+    // If the source and standard input are known, and both outputs flushed: the behavior of checking that name.
     ensures behavior { Performs S.state (λ w. check_behavior settings tool.now w name.now) (λ good. good)
         streams.old streams.new result }
     ensures flushed { IsFlushed streams.old → IsFlushed streams.new }
-    ensures refusals { RefusalsMatch S.state (λ n m. (m ≡ n) ⊎ (m ≡ one_more n)) streams.old streams.new result }
+    ensures refusals { RefusalsMatch S.state OneMoreAtMost streams.old streams.new result }
     ensures failures { FailuresMatch streams.old streams.new result }
 {
     if is_dash(name) {
         let input = streams.stdin.take();
-        let listing = CheckRules {
-            settings,
+        let rules = CheckRules::new(settings, true);
+        let labels = Labels {
             tool,
-            shown: b"standard input",
-            from_stdin: true,
+            list: b"standard input",
+            report: settings.report,
         };
-        return check_input(alloc, listing, input, streams);
+        return check_input(alloc, rules, labels, input, streams);
     }
     match streams.source.open_file(name) {
         Err(OpenFault::Memory) => Err(Stop::Memory),
@@ -58,13 +56,13 @@ pub fn check_one<A: Allocator + Copy, J: Input + Drop, S: Source, O: Sink, E: Si
             Ok(false)
         }
         Ok(file) => {
-            let listing = CheckRules {
-                settings,
+            let rules = CheckRules::new(settings, false);
+            let labels = Labels {
                 tool,
-                shown: name,
-                from_stdin: false,
+                list: name,
+                report: settings.report,
             };
-            check_input(alloc, listing, file, streams)
+            check_input(alloc, rules, labels, file, streams)
         }
     }
 }
@@ -72,15 +70,16 @@ pub fn check_one<A: Allocator + Copy, J: Input + Drop, S: Source, O: Sink, E: Si
 // Checks a manifest that was opened.
 fn check_input<'a, A: Allocator, I: Input + Drop, J: Input + Drop, S: Source, O: Sink, E: Sink>(
     alloc: A,
-    listing: CheckRules<'a>,
+    rules: CheckRules,
+    labels: Labels<'a>,
     input: I,
     streams: &mut Streams<J, S, O, E>,
 ) -> Result<bool, Stop>
-    ensures behavior { ManifestPerforms S.state (rules_in listing.entry) (option_map clip (I.state input).content)
+    ensures behavior { ManifestPerforms S.state (rules_in rules) (labels_in labels.entry) (option_map clip (I.state input).content)
         streams.old streams.new result }
-    ensures cause { StopHasCause S.state (λ n m. (m ≡ n) ⊎ (m ≡ one_more n)) streams.old streams.new result }
+    ensures cause { StopHasCause S.state OneMoreAtMost streams.old streams.new result }
 {
-    let mut checker = Checker::over(listing, input);
+    let mut checker = Checker::over(rules, labels, input);
     let mut line = Vec::new(alloc);
     'lines: loop {
         match checker.step(&mut line, streams) {

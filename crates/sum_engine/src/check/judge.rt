@@ -15,7 +15,7 @@ use sum_sources::{Fault, Input, PIECE, Source, Stdin};
 /// What checking finds of a manifest's line.
 #[derive(Clone, Copy, Debug, PartialEq, Eq)]
 pub enum Verdict {
-    /// The line says nothing.
+    /// The line is empty or a comment.
     Ignored,
     /// It is improperly formatted.
     Bad,
@@ -29,8 +29,8 @@ pub enum Verdict {
     Unread(Fault),
 }
 
-/// A line's number (the first is 1), its verdict, and where the name of its entry stands in the line's vector: from
-/// `start` up to `stop`. That is empty where the line has no entry.
+/// A line's number (the first is 1), its verdict, and the range `start..stop` of its entry's name in the line's vector.
+/// The range is empty if the line has no entry.
 #[derive(Clone, Copy, Debug, PartialEq, Eq)]
 pub struct LineVerdict {
     pub number: u64,
@@ -51,9 +51,9 @@ pub(crate) struct ListedEntry<'a> {
     pub name: &'a [u8],
 }
 
-/// The verdict of an entry. None where the source had no memory to open the name; nothing was then asked.
+/// The verdict of an entry; `None` if the source is out of memory, and then nothing was asked.
 pub(crate) fn judge<I: Input + Drop, S: Source>(
-    listing: &CheckRules,
+    rules: CheckRules,
     listed: &ListedEntry,
     stdin: &mut Stdin<I>,
     source: &mut S,
@@ -61,24 +61,22 @@ pub(crate) fn judge<I: Input + Drop, S: Source>(
 ) -> Option<Verdict>
     ensures verdict { IfKnown (world_of S.state (lent_streams I.state stdin.old source.old))
         (world_of S.state (lent_streams I.state stdin.new source.new))
-        (λ w v. JudgeOf (rules_in listing.now) w v (entry (listed_entry listed.now)) result) }
+        (λ w v. JudgeOf (rules_in rules) w v (entry (listed_entry listed.now)) result) }
     ensures stdin_taken { MatchOption result (stdin.new ≡ stdin.old)
         (λ v. is_none stdin.new ≡ is_none stdin.old || list_any is_dash (asks_by v listed.now.name.now)) }
     ensures refusals { RefusedUnless (S.state source.old) (S.state source.new) result }
 {
-    if listing.from_stdin && is_dash(listed.name) {
+    if rules.from_stdin && is_dash(listed.name) {
         return Some(Verdict::Bad);
     }
-    let Some(asked) = hash_name(listed.kind, listed.name, stdin, source, buffer) else {
-        return None;
-    };
-    Some(compare(&asked, listed.digest, listing.settings.ignore_missing))
+    let outcome = hash_name(listed.kind, listed.name, stdin, source, buffer)?;
+    Some(compare(&outcome, listed.digest, rules.ignore_missing))
 }
 
-fn compare(asked: &HashOutcome, digest: &Digest, ignore_missing: bool) -> Verdict
-    ensures { result ≡ verdict_of_outcome ignore_missing digest.now asked.now }
+fn compare(outcome: &HashOutcome, digest: &Digest, ignore_missing: bool) -> Verdict
+    ensures { result ≡ verdict_of_outcome ignore_missing digest.now outcome.now }
 {
-    match asked {
+    match outcome {
         HashOutcome::Read(found) => {
             if found.same(digest) {
                 Verdict::Right
@@ -87,7 +85,6 @@ fn compare(asked: &HashOutcome, digest: &Digest, ignore_missing: bool) -> Verdic
             }
         }
         HashOutcome::NotOpened(Fault::NotFound) if ignore_missing => Verdict::Missing,
-        HashOutcome::NotOpened(fault) => Verdict::Unread(*fault),
-        HashOutcome::Broken(fault) => Verdict::Unread(*fault),
+        HashOutcome::NotOpened(fault) | HashOutcome::Broken(fault) => Verdict::Unread(*fault),
     }
 }

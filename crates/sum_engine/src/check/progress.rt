@@ -1,6 +1,6 @@
-//! How far a manifest's check has come.
+//! The progress of a manifest's check.
 
-/// What one step of a check came to.
+/// What one step of a check did.
 #[derive(Clone, Copy, Debug, PartialEq, Eq)]
 pub enum Progress {
     /// A line was handled.

@@ -4,12 +4,12 @@ ghost use Rattle.std.specs.List.{concat};
 ghost use Rattle.sum_lines.specs.Escape.{present, escape, escape_differs};
 ghost use Rattle.sum_lines.specs.grammar.Shapes.{mark};
 ghost use Rattle.sum_engine.specs.Generation.{tool_line, fault_line};
-ghost use Rattle.sum_engine.specs.check.Reports.{verdict_line, bad_line, err_by};
-ghost use Rattle.sum_engine.specs.refinement.Cursors.{rules_in};
-ghost use Rattle.sum_engine.specs.refinement.FlushedWrites.{out_by, WritesAndFlushes, WritesBoth, NoneFailed, OneFailed};
+ghost use Rattle.sum_engine.specs.check.Reports.{verdict_line, bad_line, err_by, out_by};
+ghost use Rattle.sum_engine.specs.refinement.Cursors.{rules_in, labels_in};
+ghost use Rattle.sum_engine.specs.refinement.FlushedWrites.{WritesAndFlushes, WritesBoth, NoneFailed, OneFailed};
 
 use crate::check::judge::Verdict;
-use crate::check::rules::CheckRules;
+use crate::check::rules::{CheckRules, Labels};
 use crate::put_flushed::put_parts_flushed;
 use crate::settings::Report;
 use digest_kinds::Algos;
@@ -50,29 +50,34 @@ pub(crate) fn put_fault_line<E: Sink>(
     put_tool_line(err, tool, name, fault.text().as_bytes())
 }
 
+/// A line's number, its verdict, and the name of its entry.
+#[derive(Clone, Copy)]
+pub(crate) struct JudgedLine<'a> {
+    pub number: u64,
+    pub verdict: Verdict,
+    pub name: &'a [u8],
+}
+
 /// Writes what is reported of a line: first to `err`, and then to `out`.
 pub(crate) fn put_report<O: Sink, E: Sink>(
     out: &mut O,
     err: &mut E,
-    listing: &CheckRules,
-    number: u64,
-    verdict: Verdict,
-    name: &[u8],
+    rules: CheckRules,
+    labels: &Labels,
+    line: &JudgedLine,
 ) -> Result<(), SinkFault>
     ensures texts { (E.state err.old).buffered ≡ [] → (O.state out.old).buffered ≡ []
         → WritesBoth (E.state err.old) (E.state err.new) (O.state out.old) (O.state out.new)
-        (err_by (rules_in listing.now) number verdict name.now)
-        (out_by present listing.now.settings.report verdict name.now) result }
+        (err_by (rules_in rules) (labels_in labels.now) line.now.number line.now.verdict line.now.name.now)
+        (out_by present labels.now.report line.now.verdict line.now.name.now) result }
     ensures flushed { (E.state err.old).buffered ≡ [] → (O.state out.old).buffered ≡ []
         → ((E.state err.new).buffered ≡ []) × ((O.state out.new).buffered ≡ []) }
     ensures failures { MatchResult result
         (λ _. NoneFailed (O.state out.old) (O.state out.new) (E.state err.old) (E.state err.new))
         (λ _. OneFailed (O.state out.old) (O.state out.new) (E.state err.old) (E.state err.new)) }
 {
-    match put_err(err, listing, number, verdict, name) {
-        Ok(()) => put_out(out, listing.settings.report, verdict, name),
-        Err(fault) => Err(fault),
-    }
+    put_err(err, rules, labels, line)?;
+    put_out(out, labels.report, line.verdict, line.name)
 }
 
 fn put_out<O: Sink>(
@@ -83,14 +88,9 @@ fn put_out<O: Sink>(
 ) -> Result<(), SinkFault>
     ensures { WritesAndFlushes (O.state out.old) (O.state out.new) (out_by present report verdict name.now) result }
 {
-    match report {
-        Report::All => put_verdict(out, verdict, name),
-        Report::Warn => put_verdict(out, verdict, name),
-        Report::Quiet => match verdict {
-            Verdict::Right => Ok(()),
-            _ => put_verdict(out, verdict, name),
-        },
-        Report::Status => Ok(()),
+    match (report, verdict) {
+        (Report::Status, _) | (Report::Quiet, Verdict::Right) => Ok(()),
+        _ => put_verdict(out, verdict, name),
     }
 }
 
@@ -105,7 +105,7 @@ fn put_verdict<O: Sink>(out: &mut O, verdict: Verdict, name: &[u8]) -> Result<()
     }
 }
 
-// Writes the name and what stands behind it. Most names hold nothing to escape, and are then searched once.
+// Writes the name and what follows it. Most names hold nothing to escape, and are then searched once.
 fn put_name_line<'a, O: Sink>(out: &mut O, name: &'a [u8], rest: &'a [u8]) -> Result<(), SinkFault>
     ensures { WritesAndFlushes (O.state out.old) (O.state out.new)
         (concat (mark (escape_differs present name.now) ∷ escape name.now ∷ rest.now ∷ [])) result }
@@ -121,34 +121,39 @@ fn put_name_line<'a, O: Sink>(out: &mut O, name: &'a [u8], rest: &'a [u8]) -> Re
 
 fn put_err<E: Sink>(
     err: &mut E,
-    listing: &CheckRules,
-    number: u64,
-    verdict: Verdict,
-    name: &[u8],
+    rules: CheckRules,
+    labels: &Labels,
+    line: &JudgedLine,
 ) -> Result<(), SinkFault>
     ensures { WritesAndFlushes (E.state err.old) (E.state err.new)
-        (err_by (rules_in listing.now) number verdict name.now) result }
+        (err_by (rules_in rules) (labels_in labels.now) line.now.number line.now.verdict line.now.name.now) result }
 {
-    match verdict {
+    match line.verdict {
         Verdict::Ignored | Verdict::Right | Verdict::Wrong | Verdict::Missing => Ok(()),
-        Verdict::Bad => match listing.settings.report {
-            Report::Warn => put_bad_line(err, listing, number),
+        Verdict::Bad => match labels.report {
+            Report::Warn => put_bad_line(err, rules, labels, line.number),
             _ => Ok(()),
         },
-        Verdict::Unread(fault) => put_fault_line(err, listing.tool, name, fault),
+        Verdict::Unread(fault) => put_fault_line(err, labels.tool, line.name, fault),
     }
 }
 
-fn put_bad_line<E: Sink>(err: &mut E, listing: &CheckRules, number: u64) -> Result<(), SinkFault>
-    ensures { WritesAndFlushes (E.state err.old) (E.state err.new) (bad_line (rules_in listing.now) number) result }
+fn put_bad_line<E: Sink>(
+    err: &mut E,
+    rules: CheckRules,
+    labels: &Labels,
+    number: u64,
+) -> Result<(), SinkFault>
+    ensures { WritesAndFlushes (E.state err.old) (E.state err.new)
+        (bad_line (rules_in rules) (labels_in labels.now) number) result }
 {
-    let word = tag_word(listing.settings.algo);
+    let word = tag_word(rules.algo);
     put_parts_flushed(
         err,
         &[
-            Part::Bytes(listing.tool.as_bytes()),
+            Part::Bytes(labels.tool.as_bytes()),
             Part::Bytes(b": "),
-            Part::Escaped(listing.shown),
+            Part::Escaped(labels.list),
             Part::Bytes(b": "),
             Part::Number(number),
             Part::Bytes(b": improperly formatted "),
@@ -160,7 +165,7 @@ fn put_bad_line<E: Sink>(err: &mut E, listing: &CheckRules, number: u64) -> Resu
 
 ghost use Rattle.sum_engine.specs.check.Reports.{tag_word};
 
-// What stands for the tag in a report.
+// The word for the tag in a report.
 fn tag_word(algos: Algos) -> &'static str
     ensures { result.now ≡ tag_word algos }
 {

@@ -1,13 +1,43 @@
-//! What a manifest is checked by.
+//! By what a manifest's lines are judged, and what its reports show.
 
-use crate::settings::CheckSettings;
+ghost use Rattle.std.specs.Prelude.{◌≡◌};
 
-/// A manifest that is checked: the settings and the tool, the name under which the manifest is shown, and whether it
-/// came from standard input.
+use crate::settings::{CheckSettings, Report};
+use digest_kinds::Algos;
+
+/// By what a manifest's lines are judged.
 #[derive(Clone, Copy, Debug)]
-pub(crate) struct CheckRules<'a> {
-    pub settings: CheckSettings,
-    pub tool: &'a str,
-    pub shown: &'a [u8],
+pub(crate) struct CheckRules {
+    pub algo: Algos,
+    pub ignore_missing: bool,
+    pub strict: bool,
+    /// Whether the manifest came from standard input.
     pub from_stdin: bool,
+}
+
+impl CheckRules {
+    /// The rules of these settings.
+    pub(crate) fn new(settings: CheckSettings, from_stdin: bool) -> Self
+        ensures { result ≡ record {
+          algo = settings.algo;
+          ignore_missing = settings.ignore_missing;
+          strict = settings.strict;
+          from_stdin = from_stdin;
+        } }
+    {
+        CheckRules {
+            algo: settings.algo,
+            ignore_missing: settings.ignore_missing,
+            strict: settings.strict,
+            from_stdin,
+        }
+    }
+}
+
+/// What the reports of a manifest show: the tool's name and the manifest's, and which lines.
+#[derive(Clone, Copy, Debug)]
+pub(crate) struct Labels<'a> {
+    pub tool: &'a str,
+    pub list: &'a [u8],
+    pub report: Report,
 }

@@ -3,7 +3,7 @@ ghost use Rattle.std.specs.Prelude.{◌≡◌, ◌<◌, ◌^◌};
 
 use crate::check::judge::Verdict;
 use crate::check::report::put_tool_line;
-use crate::check::rules::CheckRules;
+use crate::check::rules::{CheckRules, Labels};
 use crate::put_flushed::put_parts_flushed;
 use crate::settings::Report;
 use sum_lines::{Part, Sink, SinkFault};
@@ -18,9 +18,10 @@ pub(crate) struct Counts {
     pub bad: u64,
 }
 
-ghost use Rattle.sum_engine.specs.check.Reports.{warning, warnings, unverified_line, end_text, good};
-ghost use Rattle.sum_engine.specs.check.Reports.{entries, total, counts_with, no_counts};
-ghost use Rattle.sum_engine.specs.refinement.Cursors.{rules_in};
+ghost use Rattle.sum_engine.specs.check.Reports.{warning, warnings, unverified_line, end_text, good, entries};
+ghost use Rattle.sum_engine.specs.check.CheckerSteps.{counts_with};
+ghost use Rattle.sum_engine.specs.refinement.Counters.{counts_value, total};
+ghost use Rattle.sum_engine.specs.refinement.Cursors.{rules_in, labels_in};
 ghost use Rattle.sum_engine.specs.refinement.FlushedWrites.{WritesAndFlushes};
 ghost use Rattle.sum_sources.specs.declared.fault.Ending.TheVariants.{Whole};
 
@@ -36,8 +37,8 @@ impl Counts {
 
     /// One more line, of that verdict.
     pub(crate) fn counted(self, verdict: Verdict) -> Counts
-        requires { total self < 2 ^ 63 }
-        ensures { result ≡ counts_with self verdict }
+        requires { total (counts_value self) < 2 ^ 63 }
+        ensures { counts_value result ≡ counts_with (counts_value self) verdict }
     {
         let mut counts = self;
         match verdict {
@@ -52,46 +53,54 @@ impl Counts {
     }
 
     fn entries(self) -> u64
-        requires { total self < 2 ^ 63 }
-        ensures { result ≡ entries self }
+        requires { total (counts_value self) < 2 ^ 63 }
+        ensures { result ≡ entries (counts_value self) }
     {
         self.right + self.wrong + self.missing + self.unread
     }
 }
 
 /// Whether a manifest that was read whole is good.
-pub(crate) fn is_good(listing: &CheckRules, counts: Counts) -> bool
-    ensures { result ≡ good (rules_in listing.now) Whole counts }
+pub(crate) fn is_good(rules: CheckRules, counts: Counts) -> bool
+    ensures { result ≡ good (rules_in rules) Whole (counts_value counts) }
 {
     counts.right != 0
         && counts.wrong == 0
         && counts.unread == 0
-        && (!listing.settings.strict || counts.bad == 0)
+        && (!rules.strict || counts.bad == 0)
 }
 
 /// Writes the end of a manifest that was read whole.
 pub(crate) fn put_summary<E: Sink>(
     err: &mut E,
-    listing: &CheckRules,
+    rules: CheckRules,
+    labels: &Labels,
     counts: Counts,
 ) -> Result<(), SinkFault>
-    requires { total counts < 2 ^ 63 }
-    ensures { WritesAndFlushes (E.state err.old) (E.state err.new) (end_text (rules_in listing.now) Whole counts) result }
+    requires { total (counts_value counts) < 2 ^ 63 }
+    ensures { WritesAndFlushes (E.state err.old) (E.state err.new)
+        (end_text (rules_in rules) (labels_in labels.now) Whole (counts_value counts)) result }
 {
     if counts.entries() == 0 {
         let text = b"no properly formatted checksum lines found";
-        return put_tool_line(err, listing.tool, listing.shown, text);
+        return put_tool_line(err, labels.tool, labels.list, text);
     }
-    match listing.settings.report {
+    match labels.report {
         Report::Status => Ok(()),
-        _ => put_warnings(err, listing, counts),
+        _ => put_warnings(err, rules, labels, counts),
     }
 }
 
-fn put_warnings<E: Sink>(err: &mut E, listing: &CheckRules, counts: Counts) -> Result<(), SinkFault>
-    ensures { WritesAndFlushes (E.state err.old) (E.state err.new) (warnings (rules_in listing.now) counts) result }
+fn put_warnings<E: Sink>(
+    err: &mut E,
+    rules: CheckRules,
+    labels: &Labels,
+    counts: Counts,
+) -> Result<(), SinkFault>
+    ensures { WritesAndFlushes (E.state err.old) (E.state err.new)
+        (warnings (rules_in rules) (labels_in labels.now) (counts_value counts)) result }
 {
-    let tool = listing.tool;
+    let tool = labels.tool;
     put_warning(
         err,
         tool,
@@ -113,7 +122,7 @@ fn put_warnings<E: Sink>(err: &mut E, listing: &CheckRules, counts: Counts) -> R
         b" computed checksum did NOT match",
         b" computed checksums did NOT match",
     )?;
-    put_unverified(err, listing, counts)
+    put_unverified(err, rules, labels, counts)
 }
 
 fn put_warning<'a, E: Sink>(
@@ -143,14 +152,15 @@ fn put_warning<'a, E: Sink>(
 
 fn put_unverified<E: Sink>(
     err: &mut E,
-    listing: &CheckRules,
+    rules: CheckRules,
+    labels: &Labels,
     counts: Counts,
 ) -> Result<(), SinkFault>
-    ensures { WritesAndFlushes (E.state err.old) (E.state err.new) (unverified_line (rules_in listing.now) counts)
-        result }
+    ensures { WritesAndFlushes (E.state err.old) (E.state err.new)
+        (unverified_line (rules_in rules) (labels_in labels.now) (counts_value counts)) result }
 {
-    if listing.settings.ignore_missing && counts.right == 0 {
-        return put_tool_line(err, listing.tool, listing.shown, b"no file was verified");
+    if rules.ignore_missing && counts.right == 0 {
+        return put_tool_line(err, labels.tool, labels.list, b"no file was verified");
     }
     Ok(())
 }

@@ -1,5 +1,5 @@
-use Rattle.sum_engine.proofs.SamePrefix.{same_verdicts}
+use Rattle.sum_engine.proofs.SamePrefix.{same_front}
 use Rattle.sum_engine.proofs.laws.same_front.Goals as goal
 
 pub returns : goal.returns
-returns c = same_verdicts
+returns c = same_front

@@ -1,32 +1,32 @@
 use Rattle.std.proofs.Common.{◌≡◌, ◌==◌, List, ℕ, refl, ◌∙◌}
 use Rattle.sum_sources.specs.declared.fault.Ending.TheVariants.{Whole}
-use Rattle.sum_engine.specs.check.Reports.{Counts, Report, entries, unless_status, warnings, end_text}
+use Rattle.sum_engine.specs.check.Reports.{LabelsValue, CountsValue, Report, entries, unless_status, warnings, end_text}
 use Rattle.std.proofs.lemmas.Bool.{cond-false, ne_eqb}
 use Rattle.sum_engine.specs.declared.settings.Report.TheVariants.{Status}
 use Rattle.sum_engine.specs.check.Verdicts.{Rules}
-use Rattle.sum_engine.specs.refinement.Cursors.{rules_in}
+use Rattle.sum_engine.specs.refinement.Counters.{counts_value}
+use Rattle.sum_engine.specs.refinement.Cursors.{rules_in, labels_in}
 use Rattle.sum_engine.specs.declared.settings.Report.TheVariants as reports
 use Rattle.sum_engine.proofs.check.summary.put_summary.Goals as goal
 
 -- warnings that aren't left out
-unless-shown : (report : Report) (text : List ℕ) → (report ≡ Status → ⊥) → unless_status report text ≡ text
-unless-shown reports.All text h = refl
-unless-shown reports.Quiet text h = refl
-unless-shown reports.Warn text h = refl
-unless-shown Status text h = absurd (h refl)
+unless_status-shown : (report : Report) (text : List ℕ) → (report ≡ Status → ⊥) → unless_status report text ≡ text
+unless_status-shown reports.All text h = refl
+unless_status-shown reports.Quiet text h = refl
+unless_status-shown reports.Warn text h = refl
+unless_status-shown Status text h = absurd (h refl)
 
--- where there are entries, and the setting isn't `--status`, the summary is the warnings
-summary-shown : (r : Rules) (c : Counts) → (entries c ≡ 0 → ⊥) → (r.settings.report ≡ Status → ⊥)
-    → end_text r Whole c ≡ warnings r c
-summary-shown r c some shown = cond-false (entries c == 0) _ _ (ne_eqb (entries c) 0 some)
-    ∙ unless-shown r.settings.report (warnings r c) shown
+-- if there are entries, and the setting isn't `--status`, the summary is the warnings
+end_text-shown : (r : Rules) (labels : LabelsValue) (c : CountsValue) → (entries c ≡ 0 → ⊥)
+    → (labels.report ≡ Status → ⊥) → end_text r labels Whole c ≡ warnings r labels c
+end_text-shown r labels c some shown = cond-false (entries c == 0) _ _ (ne_eqb (entries c) 0 some)
+    ∙ unless_status-shown labels.report (warnings r labels c) shown
 
 -- there are entries, and warnings are shown
 pub returns-in_default : goal.returns-in_default
 returns-in_default g c =
-    let r = rules_in c.args.listing.now in
-    let shown = summary-shown r c.args.counts (λ e. c.if-entries-eq0.false (c.entries.ensures ∙ e))
-    c.in_default.not-Status in
+    let shown = end_text-shown (rules_in c.args.rules) (labels_in c.args.labels.now) (counts_value c.args.counts)
+    (λ e. c.if-entries-eq0.false (c.entries.ensures ∙ e)) c.in_default.not-Status in
     rw shown c.put_warnings.ensures
 
 -- there are none

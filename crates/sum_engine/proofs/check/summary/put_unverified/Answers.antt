@@ -2,4 +2,4 @@ use Rattle.sum_engine.proofs.check.summary.put_unverified.Goals as goal
 
 pub returns-then-counts-eq0 : goal.returns-then-counts-eq0
 returns-then-counts-eq0 g c =
-    rw (c.if-listing.true, c.if-counts-eq0.true) c.put_tool_line.ensures
+    rw (c.if-rules.true, c.if-counts-eq0.true) c.put_tool_line.ensures

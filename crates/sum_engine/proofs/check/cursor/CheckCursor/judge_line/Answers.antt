@@ -3,15 +3,15 @@ use Rattle.sum_lines.specs.Escape.{present}
 use Rattle.sum_lines.specs.grammar.Entries.{EntryValue, form_then, line_form}
 use Rattle.sum_lines.specs.grammar.ParsedLines.{parse_line, entry}
 use Rattle.sum_engine.specs.refinement.Cursors.{cursor_value}
-use Rattle.sum_engine.proofs.NextVerdictLemmas.{line_found}
+use Rattle.sum_engine.proofs.NextVerdictLemmas.{judged-line}
 use Rattle.sum_engine.proofs.check.cursor.CheckCursor.judge_line.Goals as goal
 
 -- an entry was judged
-pub returns-in-Some-clause-verdict : goal.returns-in-Some-clause-verdict
-returns-in-Some-clause-verdict g c =
+pub returns-in_ok-verdict-in-Entry-clause-verdict : goal.returns-in_ok-verdict-in-Entry-clause-verdict
+returns-in_ok-verdict-in-Entry-clause-verdict g c =
     let old = c.args.self.now in
     let line = c.args.line.now.items in
-    let algos = old.listing.settings.algo in
+    let algos = old.rules.algo in
     let vector = c.read_line-reading.new.line.items in
     let listed = c.in-Entry in
     let name = slice_range vector listed.start listed.stop in
@@ -19,7 +19,7 @@ returns-in-Some-clause-verdict g c =
     let said : parse_line present algos (form_then old.form (line_form algos line)) line ≡ entry s =
     sym (rw listed.is at (c.read_line-reading.ensures.parsed
     ∙ ap (λ f. parse_line present algos f line) c.read_line-reading.ensures.form)) in
-    let judged = rw c.deref.ensures.value at c.in-Some.ensures.verdict in
-    rw c.count_verdict-in-Entry.ensures.is (line_found (cursor_value old) line (entry s) _ _ vector _ _ _ _ _ said
+    let judged = rw c.deref.ensures.value at c.in_ok-verdict-in-Entry.ensures.verdict in
+    rw c.count_verdict-in-Entry.ensures.is (judged-line (cursor_value old) line (entry s) _ _ vector _ _ _ _ _ said
     judged
     c.count_verdict-in-Entry.ensures.counts refl refl)

@@ -2,7 +2,7 @@ use Rattle.std.proofs.Common.{refl, ap, is_none}
 use Rattle.sum_engine.specs.check.NextVerdict.{lent_streams}
 use Rattle.sum_engine.specs.refinement.Cursors.{cursor_value}
 use Rattle.sum_engine.proofs.ExecutionLemmas.{known_refused}
-use Rattle.sum_engine.proofs.NextVerdictLemmas.{find_line, find_refused}
+use Rattle.sum_engine.proofs.NextVerdictLemmas.{next_verdict-line, next_verdict-refused}
 use Rattle.sum_engine.proofs.check.cursor.CheckCursor.next_verdict.Goals as goal
 
 -- a line was judged
@@ -13,10 +13,16 @@ returns-in-Some-clause-verdict g c =
     let done = c.in-Some.ensures in
     let first = lent_streams g.J.Input.state c.args.stdin.now c.args.source.now in
     let then = lent_streams g.J.Input.state c.judge_line.new.stdin c.judge_line.new.source in
-    find_line g.I.Input.state g.S.Source.state (cursor_value c.args.self.now) _ c.next_line.new.self first then
+    next_verdict-line g.I.Input.state g.S.Source.state (cursor_value c.args.self.now) _ c.next_line.new.self first then
     c.next_line.new.line.items c.judge_line.new.line.items c.in-Some.verdict
-    (record { came = gives; using = c.in-Ok-Line.ensures.consumed; number = number; profile = refl })
-    done.place done.held done.verdict done.stdin_taken refl refl done.refusals
+    (record {
+      next = gives;
+      sum = c.in-Ok-Line.ensures.consumed;
+      number = number;
+      ahead = c.in-Ok-Line.ensures.bounds.ahead;
+      profile = refl;
+    })
+    done.cursor done.len done.verdict done.stdin_taken refl refl done.refusals
 
 -- no memory to open the line's file
 pub returns-in-None-clause-verdict : goal.returns-in-None-clause-verdict
@@ -26,9 +32,15 @@ returns-in-None-clause-verdict g c =
     let done = c.in-None.ensures in
     let first = lent_streams g.J.Input.state c.args.stdin.now c.args.source.now in
     let then = lent_streams g.J.Input.state c.judge_line.new.stdin c.judge_line.new.source in
-    find_refused g.I.Input.state g.S.Source.state (cursor_value c.args.self.now) (cursor_value c.judge_line.new.self)
+    next_verdict-refused g.I.Input.state g.S.Source.state (cursor_value c.args.self.now) (cursor_value c.judge_line.new.self)
     c.next_line.new.self first then
     c.next_line.new.line.items c.judge_line.new.line.items
-    (record { came = gives; using = c.in-Ok-Line.ensures.consumed; number = number; profile = refl })
-    done.place.reader (known_refused g.S.Source.state first then done.verdict (ap is_none done.stdin_taken) refl refl
+    (record {
+      next = gives;
+      sum = c.in-Ok-Line.ensures.consumed;
+      number = number;
+      ahead = c.in-Ok-Line.ensures.bounds.ahead;
+      profile = refl;
+    })
+    done.cursor.reader (known_refused g.S.Source.state first then done.verdict (ap is_none done.stdin_taken) refl refl
     done.refusals)
