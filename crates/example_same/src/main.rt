@@ -29,19 +29,16 @@ pub fn same<L: Input, R: Input>(kind: Kind, left: &mut L, right: &mut R) -> Resu
 }
 
 /// How many lines the reader has returned once none remains; or the fault that its input ends by.
-fn count_lines<I: Input, A: Allocator>(
-    reader: &mut LineReader<I>,
-    alloc: A,
-) -> Result<u64, LineStop>
-    ensures count { IfOk result (λ count. IfSome (remaining_content I.state reader.old) (λ c.
-        (c.ending ≡ Ending.Whole) × (count ≡ reader.old.lines + length (lines c)))) }
+fn count_lines<I: Input, A: Allocator>(from: &mut LineReader<I>, alloc: A) -> Result<u64, LineStop>
+    ensures count { IfOk result (λ count. IfSome (remaining_content I.state from.old) (λ c.
+        (c.ending ≡ Ending.Whole) × (count ≡ from.old.lines + length (lines c)))) }
     ensures fault { (fault : Fault) → result ≡ Err (LineStop.Fault fault) →
-        IfSome (remaining_content I.state reader.old) (λ c. c.ending ≡ Ending.Broken fault) }
-    ensures phase { IsReadSoFar I.state reader.old → IsReadSoFar I.state reader.new }
+        IfSome (remaining_content I.state from.old) (λ c. c.ending ≡ Ending.Broken fault) }
+    ensures phase { IsReadSoFar I.state from.old → IsReadSoFar I.state from.new }
 {
     let mut line = Vec::new(alloc);
-    while reader.next_line(&mut line)? == Next::Line {}
-    Ok(reader.lines())
+    while from.next_line(&mut line)? == Next::Line {}
+    Ok(from.lines())
 }
 
 fn main(rt: HostRuntime) -> anyhow::Result<()> {
