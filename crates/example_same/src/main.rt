@@ -1,20 +1,17 @@
-//! Says of two files whether their contents have the same digest, and how many lines the first has. `same` and
-//! `count_lines` have contracts of their own, which follow from those of the libraries.
+//! Says of two files whether their contents have the same digest, and how many lines the first has.
 #![tactic(auto)]
 
-ghost use Rattle.std.specs.Prelude.{◌≡◌, ◌↔◌, ◌⊎◌, length, IsTrue, IfSome, IfOk, IfErr, Err};
+ghost use Rattle.std.specs.Prelude.{◌≡◌, ◌+◌, ◌↔◌, ◌⊎◌, length, IsTrue, IfSome, IfOk, IfErr, Err};
 ghost use Rattle.digest_kinds.specs.Kinds.{digest};
 ghost use Rattle.sum_sources.specs.Contents.{clip, Hashes};
+ghost use Rattle.sum_sources.specs.LineReaders.{remaining_content, IsReadSoFar};
 ghost use Rattle.sum_sources.specs.ManifestLines.{lines};
 
-use anyhow::bail;
 use digest_kinds::{Algo, AnyHasher, Kind};
 use std::alloc::Allocator;
-use std::env;
 use sum_sources::{Ending, Fault, Files, Input, LineReader, LineStop, Next, Source, hash_input};
 
-/// Whether the two inputs have the same digest of this kind; or the fault that the left one ends by or, where that ends
-/// whole, the right one. An input of 2^61 bytes or more counts as one that ends by a fault.
+/// Whether the two inputs have the same digest of this kind; or the left one's fault or, if it has none, the right's.
 pub fn same<L: Input, R: Input>(kind: Kind, left: &mut L, right: &mut R) -> Result<bool, Fault>
     ensures whole { IfOk result (λ _. IfSome (L.state left.old).content (λ l. (clip l).ending ≡ Ending.Whole)
         × IfSome (R.state right.old).content (λ r. (clip r).ending ≡ Ending.Whole)) }
@@ -31,28 +28,32 @@ pub fn same<L: Input, R: Input>(kind: Kind, left: &mut L, right: &mut R) -> Resu
     Ok(left_digest.same(&right_digest))
 }
 
-/// How many lines the input has; or the fault that it ends by. Memory is wanted for one line at a time.
-pub fn count_lines<I: Input + Drop, A: Allocator>(input: I, alloc: A) -> Result<u64, LineStop>
-    ensures count { IfOk result (λ count. IfSome (I.state input).content (λ c.
-        ((clip c).ending ≡ Ending.Whole) × (count ≡ length (lines (clip c))))) }
-    ensures fault { (fault : Fault) → result ≡ Err (LineStop.Fault fault) → IfSome (I.state input).content (λ c.
-        (clip c).ending ≡ Ending.Broken fault) }
+/// How many lines the reader has returned once none remains; or the fault that its input ends by.
+fn count_lines<I: Input, A: Allocator>(from: &mut LineReader<I>, alloc: A) -> Result<u64, LineStop>
+    ensures count { IfOk result (λ count. IfSome (remaining_content I.state from.old) (λ c.
+        (c.ending ≡ Ending.Whole) × (count ≡ from.old.lines + length (lines c)))) }
+    ensures fault { (fault : Fault) → result ≡ Err (LineStop.Fault fault) →
+        IfSome (remaining_content I.state from.old) (λ c. c.ending ≡ Ending.Broken fault) }
+    ensures phase { IsReadSoFar I.state from.old → IsReadSoFar I.state from.new }
 {
-    let mut reader = LineReader::new(input);
     let mut line = Vec::new(alloc);
-    while reader.next_line(&mut line)? == Next::Line {}
-    Ok(reader.lines())
+    while from.next_line(&mut line)? == Next::Line {}
+    Ok(from.lines())
 }
 
 fn main(rt: HostRuntime) -> anyhow::Result<()> {
-    let mut names = env::args(&rt)?.skip(1);
+    let mut names = std::env::args(&rt)?.skip(1);
     let (Some(first), Some(second)) = (names.next(), names.next()) else {
-        bail!("two names of files are wanted");
+        anyhow::bail!("two names of files are wanted");
     };
     let mut files = Files::new(rt);
     let mut left = files.open_file(first.as_bytes())?;
     let mut right = files.open_file(second.as_bytes())?;
     let same = same(Kind::of(Algo::Blake2b), &mut left, &mut right)?;
-    let count = count_lines(files.open_file(first.as_bytes())?, rt.alloc())?;
+    files.close_file(left);
+    files.close_file(right);
+    let mut reader = LineReader::new(files.open_file(first.as_bytes())?);
+    let count = count_lines(&mut reader, rt.alloc())?;
+    files.close_file(reader.into_inner());
     Ok(println!(rt; "the same: {same}; lines in the first: {count}")?)
 }

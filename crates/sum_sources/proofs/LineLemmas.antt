@@ -1,5 +1,5 @@
 -- What the steps of the line reader make of pieces and lines.
-use Rattle.std.proofs.Common.{◌≡◌, ℕ, ◌+◌, ◌-◌, ◌<◌, suc, false, Bool, List, [], ◌∷◌, ◌++◌, length, map, Option, None, Some, Result, Ok, Err, refl, ap, sym, ◌∙◌, append_assoc, arith, ◌==◌, option_map}
+use Rattle.std.proofs.Common.{◌≡◌, ℕ, ◌+◌, ◌-◌, ◌<◌, suc, false, Bool, List, [], ◌∷◌, ◌++◌, length, map, Option, None, Some, Result, Ok, Err, OnOk, refl, ap, sym, ◌∙◌, append_assoc, arith, ◌==◌, option_map}
 use Rattle.std.specs.List.{slice_split, after_first, position_or_len}
 use Rattle.std.specs.Str.Lines.{strip_carriage_return}
 use Rattle.std.proofs.lemmas.List.{append-nil}
@@ -75,30 +75,33 @@ NextLineIs-fault c d f piece none gave =
     rw (Gave-is c (record { bytes = []; ending = Broken f }) piece gave, append-nil)
     (ap (map strip_carriage_return) (pieces-last (Broken f) piece none), refl)
 
--- what is still to come after a stop doesn't matter
+-- what next_line's first clause says of two contents, by the numbers of bytes consumed
+abbrev Gives : ℕ → ℕ → Result Next LineStop → List ℕ → Content → Content → Type 0
+Gives n m r line c d = NextLineIs c d r line × OnOk r (n + length d.bytes ≡ m + length c.bytes)
+
+-- what remains after a stop doesn't matter
 pub gives_stop : {r : Result Next LineStop} {e : LineStop} (x z : Option Content) (f g : Content → Content)
-    (piece line : List ℕ) → r ≡ Err e → IfKnown x (option_map f z) (λ c d. NextLineIs c d r piece)
-    → IfKnown x (option_map g z) (λ c d. NextLineIs c d r line)
-gives_stop {e = stops.Memory} x z f g piece line is h =
-    rw is (IfKnown-remade x z f g _ _ (λ c d h. h) (rw is at h))
-gives_stop {e = stops.Fault q} x z f g piece line is h =
-    rw is (IfKnown-remade x z f g _ _ (λ c d h. h) (rw is at h))
+    (piece line : List ℕ) (n m : ℕ) → r ≡ Err e → IfKnown x (option_map f z) (λ c d. NextLineIs c d r piece)
+    → IfKnown x (option_map g z) (Gives n m r line)
+gives_stop {e = stops.Memory} x z f g piece line n m is h =
+    rw is (IfKnown-remade x z f g _ _ (λ c d h. (h, tt)) (rw is at h))
+gives_stop {e = stops.Fault q} x z f g piece line n m is h =
+    rw is (IfKnown-remade x z f g _ _ (λ c d h. (h, tt)) (rw is at h))
 
 -- the end was answered before, and is answered again
-pub gives_ended : (z : Option Content) (line : List ℕ)
-    → IfKnown (option_map (λ _. empty_content) z) (option_map (λ _. empty_content) z)
-    (λ c d. NextLineIs c d (Ok NoMore) line)
-gives_ended None line = tt
-gives_ended (Some c) line = (lines-nil Whole, refl)
+pub gives_ended : (z : Option Content) (line : List ℕ) (n : ℕ)
+    → IfKnown (option_map (λ _. empty_content) z) (option_map (λ _. empty_content) z) (Gives n n (Ok NoMore) line)
+gives_ended None line n = tt
+gives_ended (Some c) line n = ((lines-nil Whole, refl), refl)
 
 -- so is a stop
 pub gives_stopped : (e : LineStop) (z : Option Content) (f : Content → Content) (line : List ℕ)
     → (e ≡ stops.Memory → (c : Content) → 0 < length (f c).bytes)
     → IfKnown (option_map (λ c. left_by (Some (Err e)) (f c)) z) (option_map (λ c. left_by (Some (Err e)) (f c)) z)
-    (λ c d. NextLineIs c d (Err e) line)
+    (Gives 0 0 (Err e) line)
 gives_stopped e None f line some = tt
-gives_stopped (stops.Fault x) (Some c) f line some = (lines-nil (Broken x), refl)
-gives_stopped stops.Memory (Some c) f line some = some refl c
+gives_stopped (stops.Fault x) (Some c) f line some = ((lines-nil (Broken x), refl), tt)
+gives_stopped stops.Memory (Some c) f line some = (some refl c, tt)
 
 -- what has a line has a byte
 some_bytes : (bytes line : List ℕ) (e : Ending) (ls : List (List ℕ))

@@ -1,7 +1,9 @@
--- What inputs hold, bytes and an ending, and what counts of them; what sources answer, and what they were asked.
-use Rattle.std.specs.Prelude.{ℕ, ◌≡◌, ◌<◌, ◌-◌, ◌^◌, List, [], ◌++◌, take, length, Option, None, Some, Result, Ok, Err, Bool, ⊤, nat_lt, if◌then◌else◌, codes, true, false, ◌∷◌, option_map}
+-- Contents of inputs, bytes and an ending, and what counts of them; what sources answer, and what they were asked.
+use Rattle.std.specs.Prelude.{ℕ, ◌≡◌, ◌<◌, ◌-◌, ◌^◌, List, [], ◌++◌, take, length, Option, None, Some, Result, Ok, Err, ⊤, nat_lt, if◌then◌else◌, codes, ◌∷◌, option_map}
+use Rattle.std.specs.Option.{option_or}
 use Rattle.digest_kinds.specs.Kinds.{digest, KindValue}
 use Rattle.digest_kinds.specs.Limits.{one_more}
+use Rattle.sum_sources.specs.Phases.{Phase, Ended, Past}
 pub use Rattle.sum_sources.specs.declared.fault.Fault.{Fault}
 pub use Rattle.sum_sources.specs.declared.fault.Fault.TheVariants.{Other, NotFound, Denied}
 pub use Rattle.sum_sources.specs.declared.fault.Ending.{Ending}
@@ -16,10 +18,10 @@ pub record Content : Type 0 where
   pub bytes : List ℕ
   pub ending : Ending
 
--- an input at one moment: what is still to come, where it tells that; and whether a read has failed
+-- the state of an input: its remaining content, if it is known; and how far it was read
 pub record InputState : Type 0 where
   pub content : Option Content
-  pub failed : Bool
+  pub phase : Phase
 
 -- an input of so many bytes or more is too long
 unfoldable pub limit : ℕ
@@ -56,20 +58,33 @@ fault_text Other = codes "Input/output error"
 abbrev pub empty_content : Content
 empty_content = record { bytes = []; ending = Whole }
 
--- what is left in standard input: its input until it was taken, and nothing afterwards, which never fails
-abbrev pub stdin_state : {I : Type 0} → (I → InputState) → Option I → InputState
-stdin_state state None = record { content = Some empty_content; failed = false }
-stdin_state state (Some i) = state i
+-- the state of an input that may not be there: without it nothing remains, and it counts as past its end
+abbrev pub given_state : {I : Type 0} → (I → InputState) → Option I → InputState
+given_state state None = record { content = Some empty_content; phase = Past }
+given_state state (Some i) = state i
 
--- an input that is closed has nothing but a fault, by which each read fails
+-- standard input
+pub record StdinValue (I : Type 0) : Type 0 where
+  pub input : Option I  -- its input, until that is taken
+  pub returned : Option I  -- the input that was put back, if one was
+
+-- the state of standard input: its input until that is taken; then nothing remains, and the phase is that of the input
+-- that was put back
+abbrev pub stdin_state : {I : Type 0} → (I → InputState) → StdinValue I → InputState
+stdin_state state stdin = record {
+  content = (given_state state stdin.input).content;
+  phase = (given_state state (option_or stdin.input stdin.returned)).phase;
+}
+
+-- the state of an input that may be closed: then only a fault remains, by which each read fails
 abbrev pub unless_closed : {I : Type 0} → (I → InputState) → Closable I → InputState
 unless_closed state (Open i) = state i
-unless_closed state Closed = record { content = Some (record { bytes = []; ending = Broken Other }); failed = true }
+unless_closed state (Closed p) = record { content = Some (record { bytes = []; ending = Broken Other }); phase = p }
 
--- an input over a reader, as its callers see it
+-- an input over a reader
 pub record OverReader (R : Type 0) : Type 0 where
   pub reader : R
-  pub failed : Bool  -- whether a read has failed
+  pub phase : Phase
 
 -- what a source has for a name: a content, or the fault of opening
 abbrev pub Reply : Type 0
@@ -80,15 +95,34 @@ pub record KnownSource : Type 0 where
   pub answer : List ℕ → Reply
   pub asked : List (List ℕ)
 
--- a source at one moment: what it tells, where it does; and how often an opening was refused memory
+-- the state of a source: its replies and the names asked, if they are known; and its counts, each of which stays at
+-- 2^64 - 1 once it is there
 pub record SourceState : Type 0 where
   pub known : Option KnownSource
+  pub refusals : ℕ  -- how often an opening was refused memory
+  pub opened : ℕ  -- how many files were opened
+  pub ended : ℕ  -- how many files were closed that had been read to their end, and no further
+
+-- the counts of real files
+pub record FileCounts : Type 0 where
   pub refusals : ℕ
+  pub opened : ℕ
+  pub ended : ℕ
 
 -- only want of memory changes the count of refusals
 abbrev pub refusals_after : {F : Type 0} → ℕ → Result F OpenFault → ℕ
 refusals_after n (Err faults.Memory) = one_more n
 refusals_after n _ = n
+
+-- only a file that is opened changes the count of these
+abbrev pub opened_after : {F : Type 0} → ℕ → Result F OpenFault → ℕ
+opened_after n (Ok file) = one_more n
+opened_after n (Err fault) = n
+
+-- the source after a file of this phase was closed: only one that gave its end and was not asked again is counted
+abbrev pub closed_state : SourceState → Phase → SourceState
+closed_state s Ended = record s { ended = one_more s.ended }
+closed_state s phase = s
 
 -- a source is asked one name more, and this is its reply
 abbrev pub AsksName : KnownSource → KnownSource → List ℕ → Option Reply → Type 0

@@ -1,11 +1,13 @@
 -- Inputs and sources in memory.
 use Rattle.std.specs.Prelude.{ℕ, List, [], ◌∷◌, if◌then◌else◌, bytes_eq, Err}
 use Rattle.sum_sources.specs.Contents.{NotFound, Content, Reply, KnownSource}
+use Rattle.sum_sources.specs.Phases.{Phase}
 
--- an input in memory: what it has still to give, and the most bytes that one read gives
+-- an input in memory
 pub record ToldContent : Type 0 where
-  pub content : Content
-  pub piece : ℕ
+  pub content : Content  -- what remains
+  pub piece : ℕ  -- the most bytes that one read gives
+  pub phase : Phase
 
 -- a name with the reply to it
 pub record Pair : Type 0 where
@@ -17,14 +19,15 @@ abbrev pub first_reply : List Pair → List ℕ → Reply
 first_reply [] name = Err NotFound
 first_reply (p ∷ ps) name = if bytes_eq p.name name then p.reply else first_reply ps name
 
--- a source in memory: its pairs in the order in which they were added, the names asked, the most bytes that one read of
--- its files gives, and how often an opening was refused memory
+-- a source in memory
 pub record ToldFiles : Type 0 where
-  pub pairs : List Pair
-  pub asked : List (List ℕ)
-  pub piece : ℕ
+  pub pairs : List Pair  -- in the order in which they were added
+  pub asked : List (List ℕ)  -- the names asked
+  pub piece : ℕ  -- the most bytes that one read of its files gives
   pub refusals : ℕ
+  pub opened : ℕ
+  pub ended : ℕ
 
--- what it tells
+-- what is known of it
 abbrev pub known_source : ToldFiles → KnownSource
 known_source s = record { answer = first_reply s.pairs; asked = s.asked }

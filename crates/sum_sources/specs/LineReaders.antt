@@ -1,9 +1,9 @@
 -- A reader of lines, as its callers see it.
-use Rattle.std.specs.Prelude.{ℕ, ◌≡◌, ◌+◌, ◌-◌, ◌≤◌, ◌⊎◌, List, [], ◌++◌, take, length, nat_lt, if◌then◌else◌, Option, None, Some, Result, Ok, Err, option_map}
+use Rattle.std.specs.Prelude.{ℕ, ◌≡◌, ◌+◌, ◌-◌, ◌≤◌, ◌⊎◌, ⊤, List, [], ◌++◌, take, length, nat_lt, if◌then◌else◌, Option, None, Some, Result, Ok, Err, option_map}
 use Rattle.digest_kinds.specs.Limits.{LIMIT}
-use Rattle.sum_sources.specs.declared.inputs.input.TheConstants.{PIECE}
 use Rattle.sum_sources.specs.Contents.{Other, Broken, Content, InputState, limit, empty_content}
-use Rattle.sum_sources.specs.ManifestLines.{Next, Line, NoMore, LineStop}
+use Rattle.sum_sources.specs.ManifestLines.{Next, Line, NoMore, LineStop, NoNewline, lines_after}
+use Rattle.sum_sources.specs.Phases.{Phase, Reading, Ended}
 use Rattle.sum_sources.specs.declared.line_reader.LineStop.TheVariants as stops
 
 -- a reader of lines
@@ -21,7 +21,7 @@ consumed r = r.taken - length r.ahead
 -- what holds of every reader: each line has used a byte at least, at most a piece is ahead, and the limit stands
 pub record Bounded {I : Type 0} (r : LineReaderValue I) : Type 0 where
   pub lines : r.lines + length r.ahead ≤ r.taken
-  pub ahead : length r.ahead ≤ PIECE
+  pub ahead : length r.ahead ≤ 8192
   pub taken : r.taken ≤ LIMIT
 
 -- a content of which fewer than n bytes are taken
@@ -48,3 +48,22 @@ remaining_content state r =
 abbrev pub FinalAnswerAfter : Result Next LineStop → Option (Result Next LineStop) → Type 0
 FinalAnswerAfter (Ok Line) later = (later ≡ None) ⊎ (later ≡ Some (Ok NoMore))
 FinalAnswerAfter answer later = later ≡ Some answer
+
+-- an input of this phase was read as far as the final answer says: it is being read until there is one, and at its end
+-- if that is an end; a stop says nothing
+abbrev pub ReadSoFar : Option (Result Next LineStop) → Phase → Type 0
+ReadSoFar None phase = phase ≡ Reading
+ReadSoFar (Some (Ok n)) phase = phase ≡ Ended
+ReadSoFar (Some (Err e)) phase = ⊤
+
+-- the reader's input was read as far as its answers say
+abbrev pub IsReadSoFar : {I : Type 0} → (I → InputState) → LineReaderValue I → Type 0
+IsReadSoFar state r = ReadSoFar r.final_answer (state r.input).phase
+
+-- what a call of next_line changes in a reader, known or not
+pub record AdvancesLines {I : Type 0} (state : I → InputState) (old new : LineReaderValue I)
+    (result : Result Next LineStop) : Type 0 where
+  pub final_answer : FinalAnswerAfter result new.final_answer  -- what later calls return
+  pub lines : new.lines ≡ lines_after old.lines result  -- a line that is returned is counted
+  pub ahead : ¬ NoNewline old.ahead → new.input ≡ old.input  -- the input isn't read if a whole line was read ahead
+  pub phase : IsReadSoFar state old → IsReadSoFar state new  -- nor is it read again after its end

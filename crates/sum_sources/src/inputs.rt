@@ -4,6 +4,7 @@ pub(crate) mod closable;
 pub(crate) mod from_read;
 pub(crate) mod hash_input;
 pub(crate) mod input;
+pub(crate) mod phase;
 pub(crate) mod size_limit;
 pub(crate) mod stdin;
 pub(crate) mod told;

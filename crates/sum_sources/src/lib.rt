@@ -13,6 +13,7 @@ pub use inputs::closable::Closable;
 pub use inputs::from_read::FromRead;
 pub use inputs::hash_input::{hash_input, hash_input_over};
 pub use inputs::input::{Input, PIECE};
+pub use inputs::phase::Phase;
 pub use inputs::stdin::{Given, Stdin};
 pub use inputs::told::Told;
 pub use line_reader::{LineReader, LineStop, Next};

@@ -6,7 +6,7 @@ ghost use Rattle.digest_kinds.specs.Limits.{LIMIT};
 ghost use Rattle.sum_sources.specs.Contents.{IfKnown};
 
 use crate::inputs::size_limit::read_limited;
-use crate::{Fault, Input, PIECE};
+use crate::{Fault, Input, PIECE, Phase};
 use memchr::memchr;
 use std::alloc::{AllocError, Allocator};
 use std::marker::Model;
@@ -76,8 +76,9 @@ fn drop_return<A: Allocator>(line: &mut Vec<u8, A>)
 impl<I: Input> LineReader<I> {
     ghost use Rattle.std.specs.Option.{option_map};
     ghost use Rattle.sum_sources.specs.Contents.{clip};
-    ghost use Rattle.sum_sources.specs.ManifestLines.{NextLineIs, NoNewline, lines_after};
+    ghost use Rattle.sum_sources.specs.ManifestLines.{NextLineIs, NoNewline};
     ghost use Rattle.sum_sources.specs.LineReaders.{remaining_content, consumed, Bounded, FinalAnswerAfter};
+    ghost use Rattle.sum_sources.specs.LineReaders.{AdvancesLines, IsReadSoFar};
     ghost use Rattle.sum_sources.specs.refinement.LineStates.{FillOf, TakesPiece};
 
     /// A reader of the lines of `input`. An input of `LIMIT` bytes or more counts as its first
@@ -132,7 +133,8 @@ impl<I: Input> LineReader<I> {
             (λ c d. self.new.taken + length d.bytes ≡ self.old.taken + length c.bytes) }
         ensures lines { self.new.lines ≡ self.old.lines }
         ensures final_answer { IfOk result (λ _. self.new.final_answer ≡ None) }
-        ensures failed { IfOk result (λ _. (I.state self.new.input).failed ≡ (I.state self.old.input).failed) }
+        ensures phase { IfOk result (λ more. (I.state self.old.input).phase ≡ Phase.Reading
+            → (I.state self.new.input).phase ≡ (if more then Phase.Reading else Phase.Ended)) }
     {
         self.start = 0;
         self.end = 0;
@@ -184,7 +186,7 @@ impl<I: Input> LineReader<I> {
         ensures some { result ≡ Ok Next.Line → consumed self.old < consumed self.new }
         ensures lines { self.new.lines ≡ self.old.lines }
         ensures final_answer { OnOk result (FinalAnswerAfter result self.new.final_answer) }
-        ensures failed { OnOk result ((I.state self.new.input).failed ≡ (I.state self.old.input).failed) }
+        ensures phase { OnOk result (IsReadSoFar I.state self.old → IsReadSoFar I.state self.new) }
         ensures ahead { ¬ NoNewline self.old.ahead → self.new.input ≡ self.old.input }
     {
         loop {
@@ -212,18 +214,16 @@ impl<I: Input> LineReader<I> {
     /// memory for the line was refused. Each of these is answered again by every later call. What `line` holds after
     /// them isn't said; what it held before doesn't matter.
     pub fn next_line<A: Allocator>(&mut self, line: &mut Vec<u8, A>) -> Result<Next, LineStop>
+        // Bytes consumed and bytes that remain add up to the same, except after a stop.
         ensures line { IfKnown (remaining_content I.state self.old) (remaining_content I.state self.new)
-            (λ c d. NextLineIs c d result line.new.items) }
+            (λ c d. NextLineIs c d result line.new.items
+            × OnOk result (consumed self.new + length d.bytes ≡ consumed self.old + length c.bytes)) }
+        // What was answered for good is answered again, and nothing changes.
         ensures repeats { IfSome self.old.final_answer (λ answer. (result ≡ answer) × (self.new ≡ self.old)) }
-        ensures final_answer { FinalAnswerAfter result self.new.final_answer }
-        ensures lines { self.new.lines ≡ lines_after self.old.lines result }
+        ensures reader { AdvancesLines I.state self.old self.new result }
+        // Bytes taken and bytes left in the input add up to the same.
         ensures input { IfKnown (I.state self.old.input).content (I.state self.new.input).content
             (λ c d. self.new.taken + length d.bytes ≡ self.old.taken + length c.bytes) }
-        ensures consumed { OnOk result (IfKnown (remaining_content I.state self.old)
-            (remaining_content I.state self.new)
-            (λ c d. consumed self.new + length d.bytes ≡ consumed self.old + length c.bytes)) }
-        ensures failed { OnOk result ((I.state self.new.input).failed ≡ (I.state self.old.input).failed) }
-        ensures ahead { ¬ NoNewline self.old.ahead → self.new.input ≡ self.old.input }
         ensures bounds { Bounded self.new }
     {
         match self.state {

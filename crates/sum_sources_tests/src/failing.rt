@@ -62,7 +62,7 @@ const FAULTS: [(Fault, ErrorKind); 4] = [
 ];
 
 // The input gives "abc", a byte a read, and its end, and before the read of this number the fault, once.
-fn goes_on(rt: &impl Abort, mut input: impl Input + Drop, before: usize, fault: Fault) {
+fn goes_on(rt: &impl Abort, input: &mut impl Input, before: usize, fault: Fault) {
     let reads: [&[u8]; 5] = [b"a", b"b", b"c", b"", b""];
     for (i, bytes) in reads.into_iter().enumerate() {
         let mut buf = [0; 4];
@@ -80,14 +80,17 @@ fn through_wrappers(rt: HostRuntime) {
     for (fault, kind) in FAULTS {
         for before in 0..=5 {
             let input = || FailsOnce::new(b"abc", 1, before, fault);
-            goes_on(&rt, input(), before, fault);
-            goes_on(&rt, Stdin::new(input()).take(), before, fault);
-            goes_on(&rt, Closable::Open(input()), before, fault);
+            goes_on(&rt, &mut input(), before, fault);
+            let mut stdin = Stdin::new(input());
+            let mut given = stdin.take();
+            goes_on(&rt, &mut given, before, fault);
+            stdin.put_back(given);
+            goes_on(&rt, &mut Closable::Open(input()), before, fault);
             let reader = Reader {
                 input: input(),
                 kind,
             };
-            goes_on(&rt, FromRead::new(reader), before, fault);
+            goes_on(&rt, &mut FromRead::new(reader), before, fault);
         }
     }
     // What only interrupts a reader is no fault.
@@ -96,7 +99,7 @@ fn through_wrappers(rt: HostRuntime) {
             input: FailsOnce::new(b"abc", 1, before, Fault::Other),
             kind: ErrorKind::Interrupted,
         };
-        goes_on(&rt, FromRead::new(reader), 6, Fault::Other);
+        goes_on(&rt, &mut FromRead::new(reader), 6, Fault::Other);
     }
 }
 

@@ -152,4 +152,10 @@ fn standard_input_once(rt: HostRuntime) {
     assert!(rt; second.read(&mut buf) == Ok(0));
     assert!(rt; first.read(&mut buf) == Ok(3));
     assert!(rt; first.read(&mut buf) == Ok(0));
+    stdin.put_back(first);
+    stdin.put_back(second);
+    // What was put back is not given again.
+    let mut third = stdin.take();
+    assert!(rt; third.read(&mut buf) == Ok(0));
+    stdin.put_back(third);
 }

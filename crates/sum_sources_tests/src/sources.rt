@@ -6,7 +6,8 @@ use std::io::{self, ErrorKind};
 use std::rt;
 use std::test::Fail;
 use sum_sources::{
-    Answer, Closable, Ending, Fault, Files, Input, NoRoom, OpenFault, Source, Told, ToldSource,
+    Answer, Closable, Ending, Fault, Files, Input, NoRoom, OpenFault, Phase, Source, Told,
+    ToldSource,
 };
 
 #[test]
@@ -21,8 +22,15 @@ fn told_source(rt: HostRuntime) -> Result<(), Fail> {
     assert_eq!(rt; buf, *b"ab\0\0");
     assert!(rt; source.open_file(b"d").err() == Some(OpenFault::Fault(Fault::Denied)));
     assert!(rt; source.open_file(b"").err() == Some(OpenFault::Fault(Fault::NotFound)));
+    assert!(rt; source.opened() == 1);
+    source.close_file(file);
     let mut again = source.open_file(b"a").ok().ok_or("a again")?;
-    assert!(rt; again.read(&mut buf) == Ok(2));
+    for n in [2, 1, 0] {
+        assert!(rt; source.ended() == 0);
+        assert!(rt; again.read(&mut buf) == Ok(n));
+    }
+    source.close_file(again);
+    assert!(rt; (source.opened(), source.ended()) == (2, 1));
     for (i, name) in [b"a".as_slice(), b"d", b"", b"a"].into_iter().enumerate() {
         assert_eq!(rt; source.asked_name(i).ok_or("asked")?, name);
     }
@@ -59,6 +67,8 @@ fn real_files(rt: HostRuntime) -> Result<(), Fail> {
     assert!(rt; file.read(&mut buf) == Ok(3));
     assert!(rt; buf.starts_with(b"abc"));
     assert!(rt; file.read(&mut buf) == Ok(0));
+    files.close_file(file);
+    assert!(rt; (files.opened(), files.ended()) == (1, 1));
     // A file is no folder.
     assert!(rt;
         files.open_file(b"sum_sources_real/").err() == Some(OpenFault::Fault(Fault::Other))
@@ -126,7 +136,7 @@ impl rt::Files for NoMemory {
     }
 }
 
-// Want of memory is told as such, the first time and each time.
+// Want of memory is answered as such, the first time and each time.
 #[test]
 fn no_memory_to_open(rt: HostRuntime) {
     let mut files = Files::new(NoMemory);
@@ -134,9 +144,10 @@ fn no_memory_to_open(rt: HostRuntime) {
         assert!(rt; files.open_file(b"a").err() == Some(OpenFault::Memory));
     }
     assert!(rt; files.open_file(b"\xff").err() == Some(OpenFault::Fault(Fault::Other)));
+    assert!(rt; (files.opened(), files.ended()) == (0, 0));
 }
 
-// What is open gives what its input gives; what is closed faults at each read.
+// An open one gives what its input gives; each read of a closed one fails.
 #[test]
 fn closable(rt: HostRuntime) -> Result<(), Fail> {
     let mut buf = [0; 4];
@@ -144,8 +155,11 @@ fn closable(rt: HostRuntime) -> Result<(), Fail> {
     assert!(rt; open.read(&mut buf) == Ok(2));
     assert!(rt; open.read(&mut buf) == Ok(1));
     assert!(rt; open.read(&mut buf) == Err(Fault::Denied));
-    let mut closed: Closable<Told> = Closable::Closed;
+    let mut closed: Closable<Told> = Closable::closed();
+    assert!(rt; matches!(closed, Closable::Closed(Phase::Reading)));
     assert!(rt; closed.read(&mut buf) == Err(Fault::Other));
+    assert!(rt; matches!(closed, Closable::Closed(Phase::Failed)));
     assert!(rt; closed.read(&mut buf) == Err(Fault::Other));
+    assert!(rt; matches!(closed, Closable::Closed(Phase::Past)));
     Ok(())
 }

@@ -1,15 +1,25 @@
 //! An input that may be closed from the start.
+ghost use Rattle.std.specs.Prelude.{◌≡◌};
 ghost use Rattle.sum_sources.specs.Contents.{unless_closed};
 
-use crate::{Fault, Input};
+use crate::{Fault, Input, Phase};
 
-/// An input, or none where it is closed: reading that is `Fault::Other`.
+/// An input that may be closed: then each read fails with `Fault::Other`.
 #[derive(Drop)]
 pub enum Closable<I> {
     /// This input.
     Open(I),
-    /// Nothing can be read.
-    Closed,
+    /// Nothing can be read; so far it was asked.
+    Closed(Phase),
+}
+
+impl<I> Closable<I> {
+    /// A closed input, which was not read yet.
+    pub fn closed() -> Self
+        ensures { result ≡ Closable.Closed Phase.Reading }
+    {
+        Closable::Closed(Phase::Reading)
+    }
 }
 
 impl<I: Input> Input for Closable<I> {
@@ -18,7 +28,11 @@ impl<I: Input> Input for Closable<I> {
     fn read(&mut self, buf: &mut [u8]) -> Result<usize, Fault> {
         match self {
             Closable::Open(input) => input.read(buf),
-            Closable::Closed => Err(Fault::Other),
+            Closable::Closed(phase) => {
+                let result = Err(Fault::Other);
+                *phase = phase.after(buf.len(), &result);
+                result
+            }
         }
     }
 }

@@ -1,8 +1,9 @@
 //! Inputs over std's readers.
-ghost use Rattle.std.specs.Prelude.{◌≡◌, ◌≤◌, ◌||◌, false, length, is_err, IfOk};
+ghost use Rattle.std.specs.Prelude.{◌≡◌, ◌≤◌, length, IfOk};
 ghost use Rattle.std.specs.Io.KnownBytes.{ReadConsumes};
+ghost use Rattle.sum_sources.specs.Phases.{phase_after};
 
-use crate::{Fault, Input};
+use crate::{Fault, Input, Phase};
 use std::io::{self, ErrorKind, Read};
 use std::marker::Model;
 
@@ -18,11 +19,11 @@ pub(crate) fn fault_of(error: &io::Error) -> Fault {
     }
 }
 
-/// An input over a reader. It tells nothing of its bytes; what std's `Read` says of the reader's is said of each read.
+/// An input over a reader. Its bytes aren't known; each read has the contract of std's `Read`.
 #[derive(Drop)]
 pub struct FromRead<R> {
     reader: R,
-    failed: bool,
+    phase: Phase,
 }
 
 impl<R> Model for FromRead<R> {
@@ -30,19 +31,26 @@ impl<R> Model for FromRead<R> {
 
     ghost Value = { OverReader R };
 
-    ghost view = { λ s. record { reader = s.reader; failed = s.failed } };
+    ghost view = { λ s. record { reader = s.reader; phase = s.phase } };
 }
 
 impl<R: Read> FromRead<R> {
     /// The input that gives what `reader` gives. Each fault of the reader is answered by its kind;
     /// the 1,000th interruption in a row within one read is `Fault::Other`.
     pub fn new(reader: R) -> Self
-        ensures { result ≡ record { reader = reader; failed = false } }
+        ensures { result ≡ record { reader = reader; phase = Phase.Reading } }
     {
         FromRead {
             reader,
-            failed: false,
+            phase: Phase::Reading,
         }
+    }
+
+    /// How far the reader was read.
+    pub fn phase(&self) -> Phase
+        ensures { result ≡ self.now.phase }
+    {
+        self.phase
     }
 
     /// The reader, as it is now.
@@ -56,17 +64,15 @@ impl<R: Read> FromRead<R> {
 impl<R: Read> Input for FromRead<R> {
     ghost use Rattle.std.specs.Prelude.{None};
 
-    ghost state = { λ s. record { content = None; failed = s.failed } };
+    ghost state = { λ s. record { content = None; phase = s.phase } };
 
     fn read(&mut self, buf: &mut [u8]) -> Result<usize, Fault>
         ensures count { IfOk result (λ n. n ≤ length buf.new) }
         ensures given { ReadConsumes (R.remaining self.old.reader) (R.remaining self.new.reader) result buf.new }
-        ensures failed { self.new.failed ≡ self.old.failed || is_err result }
+        ensures phase { self.new.phase ≡ phase_after self.old.phase (length buf.old) result }
     {
         let result = read_uninterrupted(&mut self.reader, buf);
-        if result.is_err() {
-            self.failed = true;
-        }
+        self.phase = self.phase.after(buf.len(), &result);
         result
     }
 }

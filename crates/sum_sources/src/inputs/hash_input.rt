@@ -3,7 +3,7 @@ ghost use Rattle.std.specs.Prelude.{◌≡◌, [], length, IfOk, IfSome};
 ghost use Rattle.sum_sources.specs.Contents.{clip, Hashes};
 
 use crate::inputs::size_limit::read_limited;
-use crate::{Fault, Input, PIECE};
+use crate::{Fault, Input, PIECE, Phase};
 use digest_kinds::{Digest, Hasher};
 
 /// Reads `input` once, in order and to its end, in pieces of at most `PIECE` bytes, and answers the
@@ -13,7 +13,8 @@ pub fn hash_input<I: Input, H: Hasher + Drop>(input: &mut I, hasher: H) -> Resul
     requires { H.holds hasher [] }
     ensures digest { IfSome (I.state input.old).content (λ c. Hashes (H.kind_of hasher) (clip c) result) }
     ensures len { IfOk result (λ d. length d ≡ (H.kind_of hasher).len) }
-    ensures failed { IfOk result (λ _. (I.state input.new).failed ≡ (I.state input.old).failed) }
+    ensures phase { IfOk result (λ _. (I.state input.old).phase ≡ Phase.Reading
+        → (I.state input.new).phase ≡ Phase.Ended) }
 {
     let mut buffer: [u8; PIECE] = [0; PIECE];
     hash_input_over(input, hasher, &mut buffer)
@@ -29,7 +30,8 @@ pub fn hash_input_over<I: Input, H: Hasher + Drop>(
     requires { H.holds hasher [] }
     ensures digest { IfSome (I.state input.old).content (λ c. Hashes (H.kind_of hasher) (clip c) result) }
     ensures len { IfOk result (λ d. length d ≡ (H.kind_of hasher).len) }
-    ensures failed { IfOk result (λ _. (I.state input.new).failed ≡ (I.state input.old).failed) }
+    ensures phase { IfOk result (λ _. (I.state input.old).phase ≡ Phase.Reading
+        → (I.state input.new).phase ≡ Phase.Ended) }
 {
     let mut taken = 0;
     loop {

@@ -1,6 +1,7 @@
 //! What can be read.
-ghost use Rattle.std.specs.Prelude.{true, ◌≡◌, ◌≤◌, ◌||◌, length, None, is_err, IfOk};
+ghost use Rattle.std.specs.Prelude.{◌≡◌, ◌≤◌, length, None, IfOk};
 ghost use Rattle.sum_sources.specs.Contents.{InputState, IfKnown, ReadsFrom};
+ghost use Rattle.sum_sources.specs.Phases.{Past, phase_after};
 
 use crate::Fault;
 
@@ -9,8 +10,8 @@ pub const PIECE: usize = 8192;
 
 /// An input: bytes to come, and then an end or a fault.
 pub trait Input {
-    /// What is still to come, where the input tells it; and whether a read has failed, true where it doesn't keep that.
-    ghost state: { Self → InputState } = { λ _. record { content = None; failed = true } };
+    /// What remains, if it is known; and how far the input was read, `Past` if it doesn't keep that.
+    ghost state: { Self → InputState } = { λ _. record { content = None; phase = Past } };
 
     /// Reads some of the bytes to come into the front of `buf` and answers how many, at most as many
     /// as `buf` holds. It answers 0 for a `buf` that isn't empty only where the input has ended, and
@@ -19,5 +20,5 @@ pub trait Input {
         ensures count { IfOk result (λ n. n ≤ length buf.new) }
         ensures bytes { IfKnown (state self.old).content (state self.new).content (λ c d.
             ReadsFrom c d result buf.new) }
-        ensures failed { (state self.new).failed ≡ (state self.old).failed || is_err result };
+        ensures phase { (state self.new).phase ≡ phase_after (state self.old).phase (length buf.old) result };
 }

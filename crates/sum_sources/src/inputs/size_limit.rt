@@ -1,8 +1,9 @@
 //! An input ends at the limit.
-ghost use Rattle.std.specs.Prelude.{◌≡◌, ◌≤◌, ◌<◌, ◌+◌, ◌-◌, length, IfOk};
+ghost use Rattle.std.specs.Prelude.{◌≡◌, ◌≤◌, ◌<◌, ◌+◌, ◌-◌, length, IfOk, OnOk};
 ghost use Rattle.digest_kinds.specs.Limits.{LIMIT};
 ghost use Rattle.sum_sources.specs.Contents.{IfKnown, ReadsFrom, limit};
 ghost use Rattle.sum_sources.specs.LineReaders.{clip_to};
+ghost use Rattle.sum_sources.specs.Phases.{phase_after};
 ghost use Rattle.sum_sources.specs.declared.inputs.input.TheConstants.{PIECE};
 
 use crate::{Fault, Input, PIECE};
@@ -24,7 +25,7 @@ pub(crate) fn read_limited<I: Input>(
     ensures few { IfOk result (λ _. taken.new < LIMIT) }
     ensures bytes { IfKnown (I.state input.old).content (I.state input.new).content (λ c d.
         ReadsFrom (clip_to (limit - taken.old) c) (clip_to (limit - taken.new) d) result buffer.new) }
-    ensures failed { IfOk result (λ _. (I.state input.new).failed ≡ (I.state input.old).failed) }
+    ensures phase { OnOk result ((I.state input.new).phase ≡ phase_after (I.state input.old).phase PIECE result) }
     ensures input { IfKnown (I.state input.old).content (I.state input.new).content
         (λ c d. taken.new + length d.bytes ≡ taken.old + length c.bytes) }
 {

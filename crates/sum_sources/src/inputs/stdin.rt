@@ -1,25 +1,26 @@
 //! Standard input, which a run gets once.
 ghost use Rattle.std.specs.Prelude.{◌≡◌, Some, None};
+ghost use Rattle.std.specs.Option.{option_or};
 
 use crate::{Fault, Input};
 use std::marker::Model;
 
-/// An input that can be taken once.
+/// An input that can be taken once, and is put back.
 #[derive(Drop)]
 pub struct Stdin<I> {
     input: Option<I>,
+    returned: Option<I>,
 }
 
 impl<I> Model for Stdin<I> {
-    ghost use Rattle.std.specs.Prelude.{Option};
+    ghost use Rattle.sum_sources.specs.Contents.{StdinValue};
 
-    ghost Value = { Option I };
+    ghost Value = { StdinValue I };
 
-    ghost view = { λ s. s.input };
+    ghost view = { λ s. record { input = s.input; returned = s.returned } };
 }
 
-/// What taking standard input gave: its input, or an empty one.
-#[derive(Drop)]
+/// What taking standard input gave: its input, or an empty one. It can't be dropped: who took it puts it back.
 pub struct Given<I> {
     input: Option<I>,
 }
@@ -35,15 +36,18 @@ impl<I> Model for Given<I> {
 impl<I: Input> Stdin<I> {
     /// Standard input that gives `input` once.
     pub fn new(input: I) -> Self
-        ensures { result ≡ Some input }
+        ensures { result ≡ record { input = Some input; returned = None } }
     {
-        Stdin { input: Some(input) }
+        Stdin {
+            input: Some(input),
+            returned: None,
+        }
     }
 
     /// The input the first time, an empty input afterwards.
     pub fn take(&mut self) -> Given<I>
-        ensures given { result ≡ self.old }
-        ensures taken { self.new ≡ None }
+        ensures given { result ≡ self.old.input }
+        ensures taken { self.new ≡ record self.old { input = None } }
     {
         Given {
             input: self.input.take(),
@@ -51,10 +55,22 @@ impl<I: Input> Stdin<I> {
     }
 }
 
-impl<I: Input> Input for Given<I> {
-    ghost use Rattle.sum_sources.specs.Contents.{stdin_state};
+impl<I: Input + Drop> Stdin<I> {
+    /// Puts back what `take` gave, so that its phase is known from then on.
+    pub fn put_back(&mut self, given: Given<I>)
+        ensures returned { self.new ≡ record self.old { returned = option_or given self.old.returned } }
+    {
+        let Given { input } = given;
+        if let Some(input) = input {
+            self.returned = Some(input);
+        }
+    }
+}
 
-    ghost state = { λ s. stdin_state I.state s };
+impl<I: Input> Input for Given<I> {
+    ghost use Rattle.sum_sources.specs.Contents.{given_state};
+
+    ghost state = { λ s. given_state I.state s };
 
     fn read(&mut self, buf: &mut [u8]) -> Result<usize, Fault> {
         match &mut self.input {

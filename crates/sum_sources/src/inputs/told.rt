@@ -1,8 +1,9 @@
 //! An input in memory.
-ghost use Rattle.std.specs.Prelude.{◌≡◌, ◌≤◌, ◌||◌, length, max, true, is_err, IfOk};
+ghost use Rattle.std.specs.Prelude.{◌≡◌, ◌≤◌, length, max, IfOk};
 ghost use Rattle.sum_sources.specs.Contents.{ReadsFrom};
+ghost use Rattle.sum_sources.specs.Phases.{phase_after};
 
-use crate::{Ending, Fault, Input};
+use crate::{Ending, Fault, Input, Phase};
 use std::marker::Model;
 
 /// An input that gives bytes from memory, and tells them.
@@ -11,6 +12,7 @@ pub struct Told<'a> {
     rest: &'a [u8],
     ending: Ending,
     piece: usize,
+    phase: Phase,
 }
 
 impl<'a> Model for Told<'a> {
@@ -22,6 +24,7 @@ impl<'a> Model for Told<'a> {
     ghost view = { λ s. record {
       content = record { bytes = s.rest.now; ending = s.ending };
       piece = s.piece;
+      phase = s.phase;
     } };
 
     ghost invariant = { λ s. 1 ≤ s.piece };
@@ -34,27 +37,30 @@ impl<'a> Told<'a> {
         ensures { result ≡ record {
           content = record { bytes = content.entry.now; ending = ending };
           piece = max piece 1;
+          phase = Phase.Reading;
         } }
     {
         Told {
             rest: content,
             ending,
             piece: piece.max(1),
+            phase: Phase::Reading,
         }
     }
-}
 
-impl<'a> Input for Told<'a> {
-    ghost use Rattle.std.specs.Prelude.{Some, true};
+    /// How far it was read.
+    pub fn phase(&self) -> Phase
+        ensures { result ≡ self.now.phase }
+    {
+        self.phase
+    }
 
-    ghost state = { λ s. record { content = Some s.content; failed = true } };
-
-    fn read(&mut self, buf: &mut [u8]) -> Result<usize, Fault>
+    // Gives some of the bytes that remain, or how they end.
+    fn give(&mut self, buf: &mut [u8]) -> Result<usize, Fault>
         ensures count { IfOk result (λ n. n ≤ length buf.new) }
         ensures bytes { ReadsFrom self.old.content self.new.content result buf.new }
         ensures few { IfOk result (λ n. n ≤ self.old.piece) }
-        ensures piece { self.new.piece ≡ self.old.piece }
-        ensures failed { true ≡ true || is_err result }
+        ensures same { self.new ≡ record self.old { content = self.new.content } }
     {
         if self.rest.is_empty() {
             return match self.ending {
@@ -67,5 +73,23 @@ impl<'a> Input for Told<'a> {
         buf[..n].copy_from_slice(front);
         self.rest = back;
         Ok(n)
+    }
+}
+
+impl<'a> Input for Told<'a> {
+    ghost use Rattle.std.specs.Prelude.{Some};
+
+    ghost state = { λ s. record { content = Some s.content; phase = s.phase } };
+
+    fn read(&mut self, buf: &mut [u8]) -> Result<usize, Fault>
+        ensures count { IfOk result (λ n. n ≤ length buf.new) }
+        ensures bytes { ReadsFrom self.old.content self.new.content result buf.new }
+        ensures few { IfOk result (λ n. n ≤ self.old.piece) }
+        ensures piece { self.new.piece ≡ self.old.piece }
+        ensures phase { self.new.phase ≡ phase_after self.old.phase (length buf.old) result }
+    {
+        let result = self.give(buf);
+        self.phase = self.phase.after(buf.len(), &result);
+        result
     }
 }

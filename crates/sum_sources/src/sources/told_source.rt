@@ -2,11 +2,11 @@
 ghost use Rattle.std.specs.Prelude.{◌≡◌, ◌++◌, ◌∷◌, [], OnOk, OnErr, IfOk, map, max, slice_get};
 ghost use Rattle.std.specs.Option.{option_map};
 ghost use Rattle.sum_sources.specs.InMemory.{first_reply, known_source};
-ghost use Rattle.sum_sources.specs.Contents.{OpenOf, refusals_after};
+ghost use Rattle.sum_sources.specs.Contents.{OpenOf, refusals_after, opened_after};
 ghost use Rattle.digest_kinds.specs.Limits.{one_more};
 ghost use Rattle.sum_sources.specs.refinement.ToldPairs.{pair_of, reply_of};
 
-use crate::{Ending, Fault, Input, NoRoom, OpenFault, Source, Told};
+use crate::{Ending, Fault, Input, NoRoom, OpenFault, Phase, Source, Told};
 use std::alloc::Allocator;
 use std::marker::Model;
 
@@ -33,6 +33,8 @@ pub struct ToldSource<'a, A: Allocator + Copy> {
     alloc: A,
     piece: usize,
     refusals: u64,
+    opened: u64,
+    ended: u64,
 }
 
 impl<'a, A: Allocator + Copy> Model for ToldSource<'a, A> {
@@ -47,6 +49,8 @@ impl<'a, A: Allocator + Copy> Model for ToldSource<'a, A> {
       asked = map (λ v. v.items) s.asked.items;
       piece = s.piece;
       refusals = s.refusals;
+      opened = s.opened;
+      ended = s.ended;
     } };
 }
 
@@ -65,7 +69,14 @@ fn answer_to<'a, A: Allocator>(pairs: &[StoredPair<'a, A>], name: &[u8]) -> Answ
 impl<'a, A: Allocator + Copy> ToldSource<'a, A> {
     /// A source without names, whose files give at most `piece` bytes a read (0 counts as 1).
     pub fn new(alloc: A, piece: usize) -> ToldSource<'a, A>
-        ensures { result ≡ record { pairs = []; asked = []; piece = max piece 1; refusals = 0 } }
+        ensures { result ≡ record {
+          pairs = [];
+          asked = [];
+          piece = max piece 1;
+          refusals = 0;
+          opened = 0;
+          ended = 0;
+        } }
     {
         ToldSource {
             pairs: Vec::new(alloc),
@@ -73,6 +84,8 @@ impl<'a, A: Allocator + Copy> ToldSource<'a, A> {
             alloc,
             piece: piece.max(1),
             refusals: 0,
+            opened: 0,
+            ended: 0,
         }
     }
 
@@ -118,6 +131,20 @@ impl<'a, A: Allocator + Copy> ToldSource<'a, A> {
             None => None,
         }
     }
+
+    /// How many files were opened.
+    pub fn opened(&self) -> u64
+        ensures { result ≡ self.now.opened }
+    {
+        self.opened
+    }
+
+    /// How many of those closed had given their end, and were not asked again.
+    pub fn ended(&self) -> u64
+        ensures { result ≡ self.now.ended }
+    {
+        self.ended
+    }
 }
 
 impl<'a, A: Allocator + Copy> Source for ToldSource<'a, A> {
@@ -126,12 +153,19 @@ impl<'a, A: Allocator + Copy> Source for ToldSource<'a, A> {
     ghost use Rattle.std.specs.Prelude.{Some};
     ghost use Rattle.sum_sources.specs.InMemory.{known_source};
 
-    ghost state = { λ s. record { known = Some (known_source s); refusals = s.refusals } };
+    ghost state = { λ s. record {
+      known = Some (known_source s);
+      refusals = s.refusals;
+      opened = s.opened;
+      ended = s.ended;
+    } };
 
     fn open_file(&mut self, name: &[u8]) -> Result<Told<'a>, OpenFault>
         ensures answer { OpenOf ⟦<Told<'a> as Input>⟧.state
             (known_source self.old) (known_source self.new) name.now result }
         ensures refusals { self.new.refusals ≡ refusals_after self.old.refusals result }
+        ensures opened { (self.new.opened ≡ opened_after self.old.opened result) × (self.new.ended ≡ self.old.ended) }
+        ensures phase { IfOk result (λ file. file.phase ≡ Phase.Reading) }
         ensures piece { IfOk result (λ file. file.piece ≡ max self.old.piece 1) }
         ensures same { (self.new.pairs ≡ self.old.pairs) × (self.new.piece ≡ self.old.piece) }
     {
@@ -140,7 +174,16 @@ impl<'a, A: Allocator + Copy> Source for ToldSource<'a, A> {
         };
         match answer_to(&self.pairs, name) {
             Answer::Fault(fault) => Err(OpenFault::Fault(fault)),
-            Answer::Content(content, ending) => Ok(Told::new(content, ending, self.piece)),
+            Answer::Content(content, ending) => {
+                self.opened = self.opened.saturating_add(1);
+                Ok(Told::new(content, ending, self.piece))
+            }
+        }
+    }
+
+    fn close_file(&mut self, file: Told<'a>) {
+        if file.phase() == Phase::Ended {
+            self.ended = self.ended.saturating_add(1);
         }
     }
 }

@@ -6,7 +6,7 @@ use Rattle.sum_sources.proofs.line_reader.LineReader.next_line.Goals as goal
 
 -- the end is answered again
 pub returns-in-Ended-clause-line : goal.returns-in-Ended-clause-line
-returns-in-Ended-clause-line g c = rw (← c.self.view_is, c.in-Ended.is) (gives_ended _ [])
+returns-in-Ended-clause-line g c = rw (← c.self.view_is, c.in-Ended.is) (gives_ended _ [] _)
 
 -- a stop is answered again
 pub returns-in-Stopped-clause-line : goal.returns-in-Stopped-clause-line
@@ -17,5 +17,5 @@ returns-in-Stopped-clause-line g c = rw (← c.self.view_is, c.in-Stopped.is) (g
 -- a stop
 pub returns-in-Err-clause-line : goal.returns-in-Err-clause-line
 returns-in-Err-clause-line g c =
-    gives_stop _ _ _ _ _ _ c.in-Err.is
+    gives_stop _ _ _ _ _ _ _ _ c.in-Err.is
     (rw (← c.self-2.view_is) at c.read_on-result.ensures.line)

@@ -3,6 +3,7 @@ use Rattle.sum_sources.specs.Contents.{IfKnown}
 use Rattle.sum_sources.specs.LineReaders.{consumed}
 use Rattle.sum_sources.proofs.ReadOnLemmas.{LineSoFar}
 use Rattle.sum_sources.specs.ManifestLines.{NoNewline}
+use Rattle.sum_sources.specs.Phases.{Reading}
 use Rattle.sum_sources.proofs.line_reader.LineReader.read_on.Given as goal
 
 -- what came of the line so far, and the sums that stay
@@ -14,7 +15,7 @@ invariant-loop-self g l = record {
   used : consumed l.self ≡ consumed l.fn.self + length l.line.items;
   lines : l.self.lines ≡ l.fn.self.lines;
   unread : (l.self ≡ l.fn.self) ⊎ NoNewline l.fn.self.ahead;
-  failed : (g.I.Input.state l.self.input).failed ≡ (g.I.Input.state l.fn.self.input).failed;
+  phase : (g.I.Input.state l.fn.self.input).phase ≡ Reading → (g.I.Input.state l.self.input).phase ≡ Reading;
 }
 
 -- the bytes that may still come
