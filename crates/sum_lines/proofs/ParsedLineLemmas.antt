@@ -7,8 +7,8 @@ use Rattle.sum_lines.specs.grammar.Shapes.{Algos, Plain}
 use Rattle.sum_lines.specs.grammar.Entries.{Form, Undecided, Standard, Reversed, EntryValue, IsEntry, RawOf, begins_standard, is_ignored_by}
 use Rattle.sum_lines.specs.Escape.{Profile, present, escape_by}
 use Rattle.sum_lines.specs.grammar.LineParts.{◌>>=◌, LinePartsValue, tagged_parts, plain_parts}
-use Rattle.sum_lines.specs.grammar.ParsedLines.{with_raw, entry_of_parts, entry_of, ignored, bad, entry}
-use Rattle.sum_lines.specs.grammar.LineLaws.{OneEntry, ParseIsGrammar}
+use Rattle.sum_lines.specs.grammar.ParsedLines.{with_raw, entry_of_parts, entry_of, ParsedLine, ignored, bad, entry, parse_line}
+use Rattle.sum_lines.specs.grammar.LineLaws.{OneEntry, ParseMatches, ParseIsGrammar}
 use Rattle.sum_lines.proofs.PrefixLemmas.{bind_some, none_of}
 use Rattle.sum_lines.proofs.PlainLemmas.{apart, plain_is_read, read_is_plain}
 use Rattle.sum_lines.proofs.TaggedLemmas.{tagged_is_read, read_is_tagged}
@@ -123,8 +123,8 @@ said-improper : (skipped : Bool) (o : Option EntryValue)
 said-improper skipped o h = grind arith
 
 -- what a line says is computed, whichever the profile
-pub says_is : ParseIsGrammar
-says_is p algos f line =
+pub parse_is_grammar : ParseIsGrammar
+parse_is_grammar p algos f line =
     let skipped = is_ignored_by p line in
     let found = entry_of p algos f line in
     record {
@@ -139,3 +139,8 @@ says_is p algos f line =
         λ h. rw (h.0, ← none_of found (λ s e. h.1 s (value_entry p algos f line s e))) refl,
       );
     }
+
+-- so is what equals it
+pub matches : {p : Profile} {algos : Algos} {f : Form} {line : List ℕ} {said : ParsedLine}
+    → said ≡ parse_line p algos f line → ParseMatches p algos f line said
+matches {p} {algos} {f} {line} h = rw h (parse_is_grammar p algos f line)

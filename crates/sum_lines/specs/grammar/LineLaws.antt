@@ -7,7 +7,7 @@ use Rattle.sum_lines.specs.grammar.Entries.{Form, Undecided, Standard, EntryValu
 use Rattle.sum_lines.specs.Lines.{Mode, line}
 use Rattle.sum_lines.specs.declared.writing.put_line.Mode.TheVariants.{Tag}
 use Rattle.sum_lines.specs.Escape.{Profile, escape, escape_by}
-use Rattle.sum_lines.specs.grammar.ParsedLines.{ignored, bad, entry, parse_line}
+use Rattle.sum_lines.specs.grammar.ParsedLines.{ParsedLine, ignored, bad, entry, parse_line}
 
 -- for given algorithms and a given form a line spells at most one entry
 abbrev pub OneEntry : Type 0
@@ -23,17 +23,18 @@ Apart = (algos others : Algos) (line : List ℕ) (e f : Bool) (kind other : Kind
 abbrev pub OneForm : Type 0
 OneForm = (algos : Algos) (lines : List (List ℕ)) (f : Form) → IsForm algos lines f ↔ (f ≡ form algos lines)
 
--- what a line says, whichever the profile: nothing where it is ignored; otherwise its entry or, where it has none, that
--- it is improper
-pub record ParseMatches (p : Profile) (algos : Algos) (f : Form) (line : List ℕ) : Type 0 where
-  pub when_ignored : (parse_line p algos f line ≡ ignored) ↔ (is_ignored_by p line ≡ true)
-  pub when_entry : (s : EntryValue) → (parse_line p algos f line ≡ entry s)
+-- What is said of a line by the grammar: that it is ignored, its entry, or that it is bad, each if and only if it is so.
+pub record ParseMatches (p : Profile) (algos : Algos) (f : Form) (line : List ℕ) (said : ParsedLine) : Type 0 where
+  pub when_ignored : (said ≡ ignored) ↔ (is_ignored_by p line ≡ true)
+  pub when_entry : (s : EntryValue) → (said ≡ entry s)
       ↔ ((is_ignored_by p line ≡ false) × IsEntry (escape_by p) algos f line s)
-  pub when_bad : (parse_line p algos f line ≡ bad)
+  pub when_bad : (said ≡ bad)
       ↔ ((is_ignored_by p line ≡ false) × ((s : EntryValue) → ¬ IsEntry (escape_by p) algos f line s))
 
+-- what is computed of a line is what the grammar says of it, whichever the profile
 abbrev pub ParseIsGrammar : Type 0
-ParseIsGrammar = (p : Profile) (algos : Algos) (f : Form) (line : List ℕ) → ParseMatches p algos f line
+ParseIsGrammar = (p : Profile) (algos : Algos) (f : Form) (line : List ℕ)
+    → ParseMatches p algos f line (parse_line p algos f line)
 
 -- what comes behind a line has no part in what it says
 abbrev pub SameParse : Type 0

@@ -1,4 +1,4 @@
--- What a line of either shape holds, computed; it need not be believed: the law `says_is` ties it to the relations.
+-- What a line of either shape holds, computed; it need not be believed: the law `parse_is_grammar` ties it to the relations.
 use Rattle.std.specs.Prelude.{ℕ, ◌*◌, ◌==◌, ◌&&◌, nat_lt, Bool, true, false, List, ◌∷◌, length, drop, bytes_eq, codes, decimal, Option, None, Some, option_map, if◌then◌else◌, option_and_then, take_while, find}
 use Rattle.std.specs.Char.{is_ascii_digit}
 use Rattle.std.specs.Option.{option_or}

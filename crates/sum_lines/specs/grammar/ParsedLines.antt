@@ -1,4 +1,4 @@
--- What a line says, computed, and what reading it answers. The first need not be believed: the law `says_is` ties it to
+-- What a line says, computed, and what reading it answers. The first need not be believed: the law `parse_is_grammar` ties it to
 -- the relation `Entry`.
 use Rattle.std.specs.Prelude.{ℕ, ◌≡◌, ◌≤◌, ◌==◌, List, ◌∷◌, length, drop, slice_range, nat_lt, bytes_eq, ⊤, Option, None, Some, if◌then◌else◌}
 use Rattle.std.specs.Option.{option_or, option_map_or}

@@ -4,6 +4,7 @@ ghost use Rattle.std.specs.Prelude.{◌≡◌, ◌≤◌, None, Some, drop, if�
 ghost use Rattle.std.specs.List.{list_all};
 ghost use Rattle.std.specs.Option.{option_and_then, option_map_or};
 ghost use Rattle.sum_lines.specs.grammar.Entries.{begins_standard, form_of_tail, form_then, is_ignored, line_form};
+ghost use Rattle.sum_lines.specs.grammar.LineLaws.{ParseMatches};
 ghost use Rattle.sum_lines.specs.grammar.ParsedLines.{bad, entry, entry_of, entry_of_parts, parse_line, unescape};
 ghost use Rattle.sum_lines.specs.grammar.ParsedLines.{with_raw, Within, parsed_line_by};
 ghost use Rattle.sum_lines.specs.Escape.{present};
@@ -67,6 +68,8 @@ pub enum Reading {
 pub fn read_line<A: Allocator>(algos: Algos, form: Form, line: &mut Vec<u8, A>) -> (Reading, Form)
     ensures form { result.1 ≡ form_then form (line_form algos line.old.items) }
     ensures parsed { parsed_line_by line.new.items result.0 ≡ parse_line present algos result.1 line.old.items }
+    // The same by the line grammar: ignored, an entry, or bad, each if and only if the grammar says so.
+    ensures grammar { ParseMatches present algos result.1 line.old.items (parsed_line_by line.new.items result.0) }
     ensures within { Within line.new.items result.0 }
     ensures ignored { result.0 ≡ Reading.Ignored → line.new ≡ line.old }
     ensures len { vec_len line.new ≤ vec_len line.old }
