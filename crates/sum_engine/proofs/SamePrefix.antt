@@ -7,7 +7,7 @@ use Rattle.sum_engine.specs.Behavior.{World, after}
 use Rattle.sum_lines.specs.Escape.{Profile}
 use Rattle.sum_lines.specs.grammar.ParsedLines.{ParsedLine, ignored, bad, entry, parse_line}
 use Rattle.sum_engine.specs.check.CheckerLaws.{SameVerdicts}
-use Rattle.sum_lines.proofs.FormLemmas.{form_next, said_stays}
+use Rattle.sum_lines.proofs.FormLemmas.{form_next, parse_stays}
 
 -- the verdicts of the first lines, by the form so far
 abbrev running : Rules → World → ℕ → Form → List (List ℕ) → List LineVerdictValue
@@ -30,7 +30,7 @@ prefix_verdicts r w n f (l ∷ ls) later =
     let j = judge r w (n + 1) (parse_line r.profile algo here l) in
     ap (λ g. take (suc (length ls)) (verdicts r g w n (l ∷ (ls ++ later)))) all
     ∙ ap (λ x. judge r w (n + 1) x ∷ take (length ls) (verdicts r (form_then here rest)
-    (after w (asks_of (judge r w (n + 1) x))) (n + 1) (ls ++ later))) (said_stays r.profile algo f rest l)
+    (after w (asks_of (judge r w (n + 1) x))) (n + 1) (ls ++ later))) (parse_stays r.profile algo f rest l)
     ∙ ap (λ x. j ∷ x) (prefix_verdicts r (after w (asks_of j)) (n + 1) here ls later)
 
 -- neither the name of the manifest nor the profile has a part in the judgement of what one line says

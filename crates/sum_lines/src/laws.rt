@@ -22,7 +22,7 @@ pub fn parse_is_grammar()
 {}
 
 /// Later lines don't change how a line parses nor, if it is plain, the form.
-#[tactic(auto, using(crate::proofs::FormLemmas::same_said))]
+#[tactic(auto, using(crate::proofs::FormLemmas::same_parse))]
 pub fn same_parse()
     ensures parse { SameParse }
     ensures form { SameForm }

@@ -28,8 +28,8 @@ pub(crate) fn tagged(algo: Algo, line: &[u8]) -> Option<LineParts>
     let kind = width.kind;
     let inner = past_parenthesis(width.rest)?;
     // The name may contain `)`, and what follows the closing one can't.
-    let (raw, behind_name) = split_at_last(b')', inner)?;
-    let digits = skip_blanks(past_text(b"=", skip_blanks(behind_name))?);
+    let (raw, after_name) = split_at_last(b')', inner)?;
+    let digits = skip_blanks(past_text(b"=", skip_blanks(after_name))?);
     // They are decoded only if they are as many as the kind's.
     if digits.len() != 2 * kind.len() {
         return None;

@@ -22,7 +22,7 @@ returns-in_err-digest-clause-parts c =
     (λ d. digest_none _ d _ size.some size.few (λ digits.
     let bad = c.in_err-digest.ensures.found.1 (rw c.skip_blanks-digits.ensures digits) in cc)))
 
--- the name stands within the line
+-- the name is within the line
 pub overflow_sub-start : goal.overflow_sub-start
 overflow_sub-start c =
     (name_place _ _ c.text_in-escaped.ensures.ends c.in-Some.ensures c.in_ok-inner.ensures c.in_ok-raw.ensures).0
