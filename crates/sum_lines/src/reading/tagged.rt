@@ -22,6 +22,7 @@ pub(crate) fn tagged(algo: Algo, line: &[u8]) -> Option<LineParts>
     ensures size { IfSome result (λ t. length t.digest ≡ t.kind.len) }
 {
     let (escaped, text) = text_in(line);
+    // Not by `?`, which the borrow checker doesn't cover for a struct with a reference.
     let Some(width) = width(algo, text) else {
         return None;
     };
@@ -138,8 +139,5 @@ fn number(digits: &[u8]) -> Option<u64>
 fn past_parenthesis(s: &[u8]) -> Option<&[u8]>
     ensures { option_copied result ≡ option_or (strip_prefix (codes " (") s.now) (strip_prefix (codes "(") s.now) }
 {
-    match past_text(b" (", s) {
-        Some(inner) => Some(inner),
-        None => past_text(b"(", s),
-    }
+    past_text(b" (", s).or(past_text(b"(", s))
 }
