@@ -23,12 +23,7 @@ fn lines_of_names(rt: HostRuntime) -> Result<(), Fail> {
         ("b2sum -l 0256 e", "$B  e\n", "", 0),
         ("b2sum -l 0 --tag e", full, "", 0),
         ("b2sum -l 512 --tag e", full, "", 0),
-        (
-            "md5sum ",
-            "",
-            "md5sum: : No such file or directory\n",
-            1,
-        ),
+        ("md5sum ", "", "md5sum: : No such file or directory\n", 1),
     ];
     assert_rows(&rt, "abc", &[], &rows)
 }
@@ -48,7 +43,12 @@ fn assert_faults(rt: &(impl Abort + AllocGlobal), rows: &[(&str, &str)]) -> Resu
         let more = ["\nTry '", tool, " --help' for more information.\n"];
         let err = joined(rt.alloc(), &[tool, ": ", text, more[0], more[1], more[2]])?;
         let row: Row = (line, "", err.as_str(), 1);
-        assert_rows(rt, "abc", &[("l", "$M  a\n"), ("m", "MD5 (a) = $M\n")], &[row])?;
+        assert_rows(
+            rt,
+            "abc",
+            &[("l", "$M  a\n"), ("m", "MD5 (a) = $M\n")],
+            &[row],
+        )?;
     }
     Ok(())
 }
@@ -64,12 +64,18 @@ fn faults_of_options(rt: HostRuntime) -> Result<(), Fail> {
         ),
         ("sha256sum -cq l", "invalid option -- 'q'"),
         ("md5sum --foo --help", "unrecognized option '--foo'"),
-        ("md5sum --tag=1 a", "option '--tag' doesn't allow an argument"),
+        (
+            "md5sum --tag=1 a",
+            "option '--tag' doesn't allow an argument",
+        ),
         ("md5sum --foo=1 a", "unrecognized option '--foo'"),
         ("md5sum --s a", "option '--s' is ambiguous"),
         ("md5sum --t a", "option '--t' is ambiguous"),
         ("md5sum --=x a", "option '--' is ambiguous"),
-        ("md5sum --help=1", "option '--help' doesn't allow an argument"),
+        (
+            "md5sum --help=1",
+            "option '--help' doesn't allow an argument",
+        ),
         (
             "md5sum -c --tag -z l",
             "the --zero option is not supported when verifying checksums",
@@ -82,11 +88,17 @@ fn faults_of_options(rt: HostRuntime) -> Result<(), Fail> {
             "md5sum -c -b l",
             "the --binary and --text options are meaningless when verifying checksums",
         ),
-        ("md5sum -c -t --tag -t l", "--tag does not support --text mode"),
+        (
+            "md5sum -c -t --tag -t l",
+            "--tag does not support --text mode",
+        ),
     ];
     assert_faults(&rt, &rows)?;
     for (line, option) in [
-        ("md5sum --strict --ignore-missing a", "the --ignore-missing "),
+        (
+            "md5sum --strict --ignore-missing a",
+            "the --ignore-missing ",
+        ),
         ("md5sum --quiet -w --status a", "the --status "),
         ("md5sum --status -w a", "the --warn "),
         ("md5sum --status --quiet a", "the --quiet "),
@@ -285,5 +297,10 @@ fn plurals(rt: HostRuntime) -> Result<(), Fail> {
          md5sum: WARNING: 2 computed checksums did NOT match\n",
         1,
     )];
-    assert_rows(&rt, "", &[("l10", "$M  x\n$M  x\n$E  a\n$E  a\njunk\njunk\n")], &rows)
+    assert_rows(
+        &rt,
+        "",
+        &[("l10", "$M  x\n$M  x\n$E  a\n$E  a\njunk\njunk\n")],
+        &rows,
+    )
 }
