@@ -114,15 +114,15 @@ hash_after-append n m x (suc k) fits =
     rw (before, block) refl
 
 -- a full block that bytes follow
-pub hash_after-full : {h : List ℕ} {used t : ℕ} (n : ℕ) (held m : List ℕ) (k : ℕ)
-    → length held ≡ 128 → used ≡ 128 → t ≡ length m → 128 * k + used ≡ length m
-    → h ≡ hash_after n (blocks m) k → take used held ≡ drop (128 * k) m
-    → compress h held t false ≡ hash_after n (blocks m) (k + 1)
-hash_after-full {used = used} {t = t} n held m k size full counted here hash rest =
-    let block : slice_index_or (blocks m) k [] ≡ held =
+pub hash_after-full : {h : List ℕ} {len t : ℕ} (n : ℕ) (buffer m : List ℕ) (k : ℕ)
+    → length buffer ≡ 128 → len ≡ 128 → t ≡ length m → 128 * k + len ≡ length m
+    → h ≡ hash_after n (blocks m) k → take len buffer ≡ drop (128 * k) m
+    → compress h buffer t false ≡ hash_after n (blocks m) (k + 1)
+hash_after-full {len = len} {t = t} n buffer m k size full counted here hash rest =
+    let block : slice_index_or (blocks m) k [] ≡ buffer =
     whole_block m k (omega arith)
     ∙ take_all 128 (drop (128 * k) m) (omega (arith, length-drop (128 * k) m))
-    ∙ sym rest ∙ take_all used held (omega arith) in
+    ∙ sym rest ∙ take_all len buffer (omega arith) in
     let total : t ≡ 128 * (k + 1) = omega arith in
     rw (hash_after-more n (blocks m) k, block, hash, total) refl
 

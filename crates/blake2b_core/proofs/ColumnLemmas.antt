@@ -59,7 +59,7 @@ columns-rows r v x y mixes =
     let c3 = at (column r 3) _ (mixes 3 (omega arith)) in
     rw (c0 0, c0 1, c0 2, c0 3, c1 0, c1 1, c1 2, c1 3, c2 0, c2 1, c2 2, c2 3, c3 0, c3 1, c3 2, c3 3) refl
 
--- four diagonals, as the columns of rows of which all but the second are turned against it (a, c and d), and turned
+-- four diagonals, as the columns of rows of which all but the second are rotated against it (a, c and d), and rotated
 -- back (a', c' and d')
 pub diagonals-rows : {a c d x' y' a' c' d' : List ℕ} (v r : List (List ℕ)) (x y : List ℕ)
     → a ≡ rotated_row (row v 0) 3 → c ≡ rotated_row (row v 2) 1 → d ≡ rotated_row (row v 3) 2 → x' ≡ rotated_row x 3

@@ -1,4 +1,4 @@
 pub mod CompressionLemmas
 pub mod BlockLemmas
-pub mod HeldLemmas
+pub mod BufferLemmas
 pub mod ColumnLemmas

@@ -1,18 +1,18 @@
--- The compression function F of BLAKE2b (RFC 7693, 2.6, 2.7, 3.1 and 3.2). A word is a number below
--- 2 ^ 64, a block is a list of 128 bytes.
+-- The compression function F of BLAKE2b (RFC 7693, 2.6, 2.7, 3.1 and 3.2). A word is a number below 2 ^ 64, a block is a
+-- list of 128 bytes.
 use Rattle.std.specs.Prelude.{ℕ, ◌+◌, ◌/◌, ◌%◌, ◌^◌, Bool, List, [], ◌∷◌, ◌++◌, map, fold, bit_xor, slice_index, slice_index_or, slice_set, if◌then◌else◌}
 use Rattle.std.specs.List.{range_with_len}
 use Rattle.std.specs.Int.{w64, bit_not, rotate_right}
 use Rattle.std.specs.Simd.{first_chunks}
 use Rattle.byteorder.specs.Endian.{little_number}
 
--- the initialization vector
+-- IV, the initialization vector
 abbrev pub iv : List ℕ
 iv =
     0x6a09e667f3bcc908 ∷ 0xbb67ae8584caa73b ∷ 0x3c6ef372fe94f82b ∷ 0xa54ff53a5f1d36f1 ∷
     0x510e527fade682d1 ∷ 0x9b05688c2b3e6c1f ∷ 0x1f83d9abfb41bd6b ∷ 0x5be0cd19137e2179 ∷ []
 
--- the order in which the rounds take the words of a block
+-- SIGMA: the order in which the rounds take the words of a block
 abbrev pub sigma : List (List ℕ)
 sigma =
     (0 ∷ 1 ∷ 2 ∷ 3 ∷ 4 ∷ 5 ∷ 6 ∷ 7 ∷ 8 ∷ 9 ∷ 10 ∷ 11 ∷ 12 ∷ 13 ∷ 14 ∷ 15 ∷ []) ∷
@@ -79,7 +79,7 @@ start h t last =
     let v = slice_set v 13 (v ! 13 ⊻ (t / 2 ^ 64)) in
     if last then slice_set v 14 (bit_not w64 (v ! 14)) else v
 
--- the compression function F (3.2), where m has the sixteen words of the block, each of eight bytes, the lowest first
+-- the compression function F (3.2); m has the sixteen words of the block, each of eight bytes, the lowest first
 unfoldable pub compress : List ℕ → List ℕ → ℕ → Bool → List ℕ
 compress h block t last =
     let m = map (little_number 8) (first_chunks 8 16 block) in

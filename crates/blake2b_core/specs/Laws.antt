@@ -12,8 +12,7 @@ pub record HasVectors : Type 0 where
       ++ big_bytes 32 0x7d87c5392aab792dc252d5de4533cc9518d38aa8dbf1925ab92386edd4009923
   pub empty_short : blake2b 32 [] ≡ big_bytes 32 0x0e5751c026e543b2e8ab2eb06099daa1d1e5df47778f7787faab45cdf12fe3a8
 
--- bs are lists of 128 bytes whose join is m and zeros, fewer of them than a block has, or one block of
--- zeros where m is empty
+-- bs are lists of 128 bytes whose join is m and zeros: fewer than a block has or, if m is empty, one block of them
 pub record IsBlocksOf (bs : List (List ℕ)) (m : List ℕ) : Type 0 where
   pub sizes : All (λ b. length b ≡ 128) bs
   pub zeros : ℕ

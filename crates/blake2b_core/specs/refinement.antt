@@ -1,5 +1,5 @@
--- How the code's values stand for those of the definitions. The headline reaches none of it; contracts of calls that a
--- user of the crate meets by themselves name some.
+-- How values of the code relate to those of the definitions. The headline reaches none of this; the contracts of some
+-- public calls name some.
 pub mod Chaining
 pub mod Columns
 pub mod Holding

@@ -6,7 +6,7 @@ ghost use Rattle.blake2b_core.specs.refinement.Columns.{columns, diagonals, rota
 
 use std::simd::u64x4;
 
-// The exclusive ors, rotated to the right.
+// The exclusive ors of the lanes, rotated to the right.
 #[inline(always)]
 fn rotated(x: u64x4, y: u64x4, bits: u64) -> u64x4
     requires low { 0 < bits }
@@ -17,6 +17,7 @@ fn rotated(x: u64x4, y: u64x4, bits: u64) -> u64x4
     (x >> u64x4::splat(bits)) | (x << u64x4::splat(64 - bits))
 }
 
+// The sums of the lanes.
 #[inline(always)]
 fn sums(x: u64x4, y: u64x4) -> u64x4
     ensures { (j : ℕ) → j < 4 → result ! j ≡ x ! j ⊞ y ! j }
@@ -41,7 +42,7 @@ pub(crate) fn mixed_columns(v: [u64x4; 4], x: u64x4, y: u64x4) -> [u64x4; 4]
     [a, b, c, d]
 }
 
-// The words of a row, turned to the left by so many places.
+// The words of a row, rotated to the left by so many places.
 #[inline(always)]
 fn rotated_row(row: u64x4, places: usize) -> u64x4
     requires some { 0 < places }
@@ -55,8 +56,8 @@ fn rotated_row(row: u64x4, places: usize) -> u64x4
     }
 }
 
-// G on the diagonals: they stand in columns where the other rows are turned against the second. That
-// one stays still, since G is done with it last and needs it first.
+// G on the diagonals: they are columns if the other rows are rotated against the second. That one stays, since G is done
+// with it last and needs it first.
 #[inline(always)]
 pub(crate) fn mixed_diagonals(v: [u64x4; 4], x: u64x4, y: u64x4) -> [u64x4; 4]
     ensures { words result ≡ diagonals (words v) x y }

@@ -18,8 +18,8 @@ pub(crate) const IV: [u64; 8] = [
     0x5be0cd19137e2179,
 ];
 
-// The words of the block in the order in which round `r` takes them: row r mod 10 of SIGMA. Where `r` is
-// a literal the compiler picks the row.
+// The words of the block in the order in which round `r` takes them: row r mod 10 of SIGMA. If `r` is a literal, the
+// compiler picks the row.
 #[inline(always)]
 #[rattlefmt::skip]
 fn scheduled(m: Simd<u64, 16>, r: usize) -> Simd<u64, 16>
@@ -110,8 +110,8 @@ pub(crate) fn advance(h: &mut [u64; 8], block: &[u8; 128], t: u128, last: bool)
     feed_forward(h, v);
 }
 
-/// The compression function F (RFC 7693, 3.2): the state after `block`, from the state `h` before it.
-/// `t` is the number of message bytes up to the end of this block, and `last` says that it is the last.
+/// The compression function F (RFC 7693, 3.2): the state after `block`, from the state `h` before it. `t` is the number
+/// of message bytes up to the end of this block, and `last` says whether it is the last.
 pub fn compress(h: &[u64; 8], block: &[u8; 128], t: u128, last: bool) -> [u64; 8]
     ensures { result ≡ compress h.now block.now t last }
 {

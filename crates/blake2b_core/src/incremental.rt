@@ -10,17 +10,17 @@ use crate::output::Output;
 /// of fewer than 2^64 bits, which is 2^61 bytes; BLAKE2b would allow more, and has the same bound here.
 pub const LIMIT: u64 = 1 << 61;
 
-/// A BLAKE2b digest in the making: the message so far, of which at most one block is kept back.
-#[derive(Drop)]
+/// A BLAKE2b digest in the making: the message so far, of which at most one block is buffered.
+#[derive(Debug, Drop)]
 pub struct Blake2b {
-    // The state after the blocks before the held one.
+    // The state after the blocks before the buffered one.
     h: [u64; 8],
-    // A full block stays here until a byte follows it, since the last block is compressed as the last.
+    // A full block stays buffered until a byte follows it, since the last block is compressed as the last.
     buffer: [u8; 128],
     buffer_len: usize,
     taken: u64,
     len: usize,
-    ghost used_high: { buffer_len ≤ 128 },
+    ghost buffer_len_high: { buffer_len ≤ 128 },
     ghost len_low: { 1 ≤ len },
     ghost len_high: { len ≤ 64 },
 }
@@ -29,8 +29,7 @@ impl Blake2b {
     ghost use Rattle.blake2b_core.specs.Digest.{blake2b};
     ghost use Rattle.blake2b_core.specs.refinement.Holding.{Holds, HoldsSoFar, digest_len, taken};
 
-    /// The state of the empty message, for a digest of `len` bytes. `None` exactly where `len` is 0 or
-    /// over 64.
+    /// The state of the empty message, for a digest of `len` bytes. `None` if and only if `len` is 0 or over 64.
     pub fn new(len: usize) -> Option<Blake2b>
         ensures none { IsNone result ↔ ((len ≡ 0) ⊎ (64 < len)) }
         ensures holds { IfSome result (λ s. Holds s []) }
@@ -62,29 +61,29 @@ impl Blake2b {
         self.taken
     }
 
-    // Appends bytes to those that are held.
+    // Buffers bytes, after those that are buffered.
     fn buffer_bytes(&mut self, bytes: &[u8])
         requires room { self.old.buffer_len + length bytes.now ≤ 128 }
         requires fits { self.old.taken + length bytes.now < LIMIT }
         ensures holds { (m : List ℕ) → HoldsSoFar self.old m → HoldsSoFar self.new (m ++ bytes.now) }
         ensures size { length self.new.buffer ≡ 128 }
-        ensures used { self.new.buffer_len ≡ self.old.buffer_len + length bytes.now }
+        ensures buffer_len { self.new.buffer_len ≡ self.old.buffer_len + length bytes.now }
         ensures taken { self.new.taken ≡ self.old.taken + length bytes.now }
         ensures len { self.new.len ≡ self.old.len }
     {
-        let held = &mut self.buffer[..];
-        held[self.buffer_len..self.buffer_len + bytes.len()].copy_from_slice(bytes);
+        let buffer = &mut self.buffer[..];
+        buffer[self.buffer_len..self.buffer_len + bytes.len()].copy_from_slice(bytes);
         self.buffer_len += bytes.len();
         self.taken += bytes.len() as u64;
     }
 
-    // Fills the held block up and compresses it, where some bytes are held and more follow than it has
-    // room for. Answers how many bytes it took.
+    // Fills the buffered block up and compresses it, if some bytes are buffered and more follow than there is room for.
+    // Returns how many bytes it took.
     fn fill(&mut self, piece: &[u8]) -> usize
         requires { self.old.taken + length piece.now < LIMIT }
         ensures holds { (m : List ℕ) → HoldsSoFar self.old m → HoldsSoFar self.new (m ++ take result piece.now) }
-        ensures some_left { 0 < length piece.now → result < length piece.now }
-        ensures none { length piece.now ≡ 0 → (result ≡ 0) × (self.new.buffer_len ≡ self.old.buffer_len) }
+        ensures below { 0 < length piece.now → result < length piece.now }
+        ensures empty_piece { length piece.now ≡ 0 → (result ≡ 0) × (self.new.buffer_len ≡ self.old.buffer_len) }
         ensures room { 128 < self.new.buffer_len + (length piece.now - result) → self.new.buffer_len ≡ 0 }
         ensures taken { self.new.taken ≡ self.old.taken + result }
         ensures len { self.new.len ≡ self.old.len }
@@ -99,16 +98,16 @@ impl Blake2b {
         room
     }
 
-    // Compresses the whole blocks at the front of the piece that a byte follows, where nothing is held.
-    // Answers how many bytes it took.
+    // Compresses the whole blocks at the front of the piece that a byte follows, if nothing is buffered. Returns how many
+    // bytes it took.
     fn absorb(&mut self, piece: &[u8]) -> usize
         requires fits { self.old.taken + length piece.now < LIMIT }
         requires room { 128 < self.old.buffer_len + length piece.now → self.old.buffer_len ≡ 0 }
         ensures holds { (m : List ℕ) → HoldsSoFar self.old m → HoldsSoFar self.new (m ++ take result piece.now) }
-        ensures some_left { 0 < length piece.now → result < length piece.now }
-        ensures none { length piece.now ≡ 0 → result ≡ 0 }
+        ensures below { 0 < length piece.now → result < length piece.now }
+        ensures empty_piece { length piece.now ≡ 0 → result ≡ 0 }
         ensures room { self.new.buffer_len + (length piece.now - result) ≤ 128 }
-        ensures used { self.new.buffer_len ≡ self.old.buffer_len }
+        ensures buffer_len { self.new.buffer_len ≡ self.old.buffer_len }
         ensures taken { self.new.taken ≡ self.old.taken + result }
         ensures len { self.new.len ≡ self.old.len }
     {
@@ -121,10 +120,10 @@ impl Blake2b {
         BLOCK * blocks.len()
     }
 
-    /// Appends a piece to the message. What it has taken and the piece's length add up to less than
-    /// `LIMIT`.
+    /// Appends a piece to the message, which has to stay below `LIMIT` bytes.
     pub fn update(&mut self, piece: &[u8])
         requires { taken self.old + length piece.now < LIMIT }
+        // For each message that the state may have taken: it has then taken that and the piece.
         ensures holds { (m : List ℕ) → Holds self.old m → Holds self.new (m ++ piece.now) }
         ensures taken { taken self.new ≡ taken self.old + length piece.now }
         ensures len { digest_len self.new ≡ digest_len self.old }

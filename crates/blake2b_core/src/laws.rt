@@ -1,4 +1,4 @@
-//! What is proved of the definitions alone.
+//! Laws of the definitions. Each is the contract of a function that does nothing.
 ghost use Rattle.std.specs.Prelude.{ℕ, List};
 ghost use Rattle.blake2b_core.specs.Laws.{HasVectors, IsBlocksOf};
 ghost use Rattle.blake2b_core.specs.Digest.{blocks};
@@ -9,8 +9,8 @@ pub fn vectors()
     ensures { HasVectors }
 {}
 
-/// The blocks of a message have 128 bytes each, and their join is the message and the fewest zeros that
-/// fill them; the empty message has one (RFC 7693, 3.3).
+/// The blocks of a message have 128 bytes each, and their join is the message and the fewest zeros that fill them; the
+/// empty message has one (RFC 7693, 3.3).
 pub fn blocks()
     ensures { (m : List ℕ) → IsBlocksOf (blocks m) m }
 {}

@@ -9,7 +9,7 @@ ghost use Rattle.blake2b_core.specs.refinement.Holding.{AreBlocksFrom};
 use crate::compression::{IV, advance, compress};
 use crate::output::Output;
 
-// The bytes of a block.
+// How many bytes a block has.
 pub(crate) const BLOCK: usize = 128;
 
 // The state before the first block of a message whose digest has `len` bytes.
@@ -31,8 +31,8 @@ pub(crate) fn followed_blocks(bytes: &[u8]) -> &[[u8; 128]]
     bytes[..followed].as_chunks::<128>().0
 }
 
-// The state after the blocks `followed`, none of which is the last, from the state `h` after the
-// `before` bytes in front of them.
+// The state after the blocks `followed`, none of which is the last, from the state `h` after the `before` bytes that
+// precede them.
 pub(crate) fn chained(mut h: [u64; 8], followed: &[[u8; 128]], before: u64) -> [u64; 8]
     requires { before + 128 * length followed.now < 2 ^ 64 }
     ensures { (n : ℕ) (m : List ℕ) (k : ℕ) → 128 * k ≡ before → AreBlocksFrom m k followed.now
@@ -56,8 +56,8 @@ pub(crate) fn zero_filled(bytes: &[u8]) -> [u8; 128]
     block
 }
 
-/// The BLAKE2b digest of `len` bytes of a message, without a key (RFC 7693, 3.3). `None` exactly where
-/// `len` is 0 or over 64.
+/// The BLAKE2b digest of `len` bytes of a message, without a key (RFC 7693, 3.3). `None` if and only if `len` is 0 or
+/// over 64.
 pub fn blake2b(len: usize, message: &[u8]) -> Option<Output>
     ensures none { IsNone result ↔ ((len ≡ 0) ⊎ (64 < len)) }
     ensures digest { IfSome result (λ d. d ≡ blake2b len message.now) }

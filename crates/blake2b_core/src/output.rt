@@ -7,7 +7,7 @@ use byteorder::{ByteOrder, LittleEndian};
 use std::marker::Model;
 
 /// A digest of 1 to 64 bytes.
-#[derive(Drop)]
+#[derive(Debug, Drop)]
 pub struct Output {
     bytes: [u8; 64],
     len: usize,
@@ -39,8 +39,8 @@ impl Output {
     /// The digest's bytes, 1 to 64 of them.
     pub fn as_slice(&self) -> &[u8]
         ensures value { result.now ≡ self.now }
-        ensures some { 1 ≤ length self.now }
-        ensures few { length self.now ≤ 64 }
+        ensures at_least { 1 ≤ length self.now }
+        ensures at_most { length self.now ≤ 64 }
     {
         &self.bytes[..self.len]
     }

@@ -1,6 +1,6 @@
-//! The vectors, the compression function beside one in plain words, and messages that come in pieces.
+//! The vectors, the compression function beside one in plain words, and messages in pieces.
 mod compressed;
-mod pieces;
+mod incremental;
 mod plain;
 mod vectors;
 

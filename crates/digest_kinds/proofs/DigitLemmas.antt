@@ -8,7 +8,7 @@ use Rattle.hex.specs.declared.error.FromHexError.{FromHexError}
 use Rattle.hex.proofs.HexLemmas.{IsAscii-encode_with, IsOk-decode_sized, IsOk-written}
 use Rattle.digest_kinds.specs.Kinds.{IsDigits}
 
--- decoding into room for half as many bytes, 1 to 64, goes well exactly where the text is digits of a digest
+-- decoding into room for half as many bytes, 1 to 64, succeeds if and only if the text is a digest's digits
 pub IsOk-decoded : {n : ℕ} (text : List ℕ) (r : Result Unit FromHexError) (out : List ℕ)
     → n ≡ length text / 2 → 1 ≤ n → n ≤ 64
     → MatchResult (decode_sized text n) (λ bytes. (r ≡ Ok tt) × (out ≡ bytes)) (λ e. r ≡ Err e)

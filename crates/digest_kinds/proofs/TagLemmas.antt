@@ -14,12 +14,12 @@ pub find-begins : (a : Algo) (rest : List ℕ) → find (begins (tag a ++ rest))
 find-begins Md5 rest = refl
 find-begins a rest = refl
 
--- a tag that the test finds in front is in front
+-- a tag that passes the test begins the bytes
 BeginsWithTag-begins : (bytes : List ℕ) (a : Algo) → begins bytes a ≡ true → BeginsWithTag bytes a
 BeginsWithTag-begins bytes a h =
     (drop (length (tag a)) bytes, (starts_is Decides-eqb bytes (tag a) true (sym h)).0 refl)
 
--- what the search finds has its tag in front
+-- the tag of what the search finds begins the bytes
 pub IfSome-find-begins : (bytes : List ℕ) (algos : List Algo)
     → IfSome (find (begins bytes) algos) (λ a. BeginsWithTag bytes a)
 IfSome-find-begins bytes [] = tt
@@ -30,7 +30,7 @@ IfSome-find-begins bytes (a ∷ algos) =
       | false ↦ λ _. IfSome-find-begins bytes algos
     ] refl
 
--- so an algorithm that has its tag in front, where any has, is the one that the search finds
+-- so an algorithm whose tag begins the bytes, if there is one, is the one that the search finds
 pub search-is : (bytes : List ℕ) (r : Option Algo) → IfSome r (λ a. BeginsWithTag bytes a)
     → ((a : Algo) → BeginsWithTag bytes a → r ≡ Some a) → r ≡ find (begins bytes) all_algos
 search-is bytes (Some a) tagged found = rw tagged.1 (sym (find-begins a tagged.0))

@@ -1,4 +1,4 @@
--- Algorithms and kinds, a kind being an algorithm with its digest's length: tags, lengths and digests.
+-- Algorithms, and kinds: an algorithm with its digest's length. Their tags, lengths and digests.
 use Rattle.std.specs.Prelude.{ℕ, ◌==◌, ◌&&◌, nat_le, Bool, List, [], ◌∷◌, codes, ◌/◌, ◌%◌, nat_lt, if◌then◌else◌, Result, Ok, Err, ◌≡◌, ◌++◌, ◌≤◌, length}
 use Rattle.std.specs.List.{AllPass}
 use Rattle.md5.specs.Md5.{md5}
@@ -13,11 +13,11 @@ pub use Rattle.digest_kinds.specs.declared.kind.LengthFault.{LengthFault}
 pub use Rattle.digest_kinds.specs.declared.kind.LengthFault.TheVariants.{TooLong, NotBytes}
 pub use Rattle.digest_kinds.specs.declared.algo.Algos.{Algos}
 
--- the algorithms
+-- all algorithms
 abbrev pub all_algos : List Algo
 all_algos = Md5 ∷ Sha1 ∷ Sha224 ∷ Sha256 ∷ Sha384 ∷ Sha512 ∷ Blake2b ∷ []
 
--- an algorithm: the bytes of its full digest, and the tag by which a line names it
+-- of an algorithm the number of bytes of its full digest, and the tag by which a line names it
 abbrev pub about : Algo → ℕ × List ℕ
 about Md5 = (16, codes "MD5")
 about Sha1 = (20, codes "SHA1")
@@ -27,9 +27,11 @@ about Sha384 = (48, codes "SHA384")
 about Sha512 = (64, codes "SHA512")
 about Blake2b = (64, codes "BLAKE2b")
 
+-- the number of bytes of the full digest
 abbrev pub full_len : Algo → ℕ
 full_len a = (about a).0
 
+-- the tag
 abbrev pub tag : Algo → List ℕ
 tag a = (about a).1
 
@@ -38,7 +40,7 @@ abbrev pub has_len : Algo → ℕ → Bool
 has_len Blake2b n = nat_le 1 n && nat_le n 64
 has_len a n = n == full_len a
 
--- an algorithm and the bytes of its digest
+-- a kind: an algorithm and the number of bytes of its digest
 pub record KindValue : Type 0 where
   pub algo : Algo
   pub len : ℕ
@@ -47,10 +49,11 @@ pub record KindValue : Type 0 where
 abbrev pub full_kind : Algo → KindValue
 full_kind a = record { algo = a; len = full_len a }
 
+-- BLAKE2b with a digest of n bytes
 abbrev pub blake2b_kind : ℕ → KindValue
 blake2b_kind n = record { algo = Blake2b; len = n }
 
--- the digest of a message by an algorithm and a length; BLAKE2b alone has digests of more than one length
+-- the digest of a message by an algorithm and a number of bytes, which BLAKE2b alone reads
 abbrev pub digest_by : Algo → ℕ → List ℕ → List ℕ
 digest_by Md5 n m = md5 m
 digest_by Sha1 n m = sha1 m
@@ -60,10 +63,11 @@ digest_by Sha384 n m = sha384 m
 digest_by Sha512 n m = sha512 m
 digest_by Blake2b n m = blake2b n m
 
+-- the digest of a message by a kind
 abbrev pub digest : KindValue → List ℕ → List ℕ
 digest k m = digest_by k.algo k.len m
 
--- the kind of so many bits, 0 standing for the full 512; too many are refused first, then those that are no whole bytes
+-- the kind of so many bits, 0 for the full 512; more than 512 are TooLong, any others that aren't whole bytes NotBytes
 abbrev pub blake2b_of_bits : ℕ → Result KindValue LengthFault
 blake2b_of_bits bits = if nat_lt 512 bits then Err TooLong
     else if bits == 0 then Ok (full_kind Blake2b)

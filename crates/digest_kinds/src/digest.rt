@@ -27,8 +27,8 @@ impl Model for Digest {
 impl Digest {
     /// The digest of these bytes.
     pub(crate) fn of_bytes(digest: &[u8]) -> Digest
-        requires some { 1 ≤ length digest.now }
-        requires few { length digest.now ≤ 64 }
+        requires at_least { 1 ≤ length digest.now }
+        requires at_most { length digest.now ≤ 64 }
         ensures { result ≡ digest.now }
     {
         let mut bytes = [0; 64];
@@ -39,7 +39,7 @@ impl Digest {
         }
     }
 
-    /// The digest that the digits spell, in either case; None exactly where the text isn't 2 to 128 hexadecimal digits
+    /// The digest that the digits spell, in either case; `None` if and only if the text isn't 2 to 128 hexadecimal digits
     /// of an even count.
     pub fn from_hex(text: &[u8]) -> Option<Digest>
         ensures value { IfSome result (λ digest. decode_of text.now ≡ Ok digest) }
@@ -54,26 +54,26 @@ impl Digest {
         Some(Digest { bytes, len })
     }
 
-    /// The bytes, of which there are 1 to 64.
+    /// The digest's bytes, 1 to 64 of them.
     pub fn as_slice(&self) -> &[u8]
         ensures value { result.now ≡ self.now }
-        ensures some { 1 ≤ length self.now }
-        ensures few { length self.now ≤ 64 }
+        ensures at_least { 1 ≤ length self.now }
+        ensures at_most { length self.now ≤ 64 }
     {
         &self.bytes[..self.len]
     }
 
-    /// Whether the two have the same bytes.
+    /// Whether the two digests have the same bytes.
     pub fn same(&self, other: &Digest) -> bool
         ensures { IsTrue result ↔ (self.now ≡ other.now) }
     {
         self == other
     }
 
-    /// Writes the digits, in lower case, in front of `out`, leaves the rest, and answers their number.
+    /// Writes the digits, in lower case, to the front of `out`, whose rest stays, and returns their number.
     pub fn hex_into(&self, out: &mut [u8; 128]) -> usize
         ensures number { result ≡ 2 * length self.now }
-        ensures few { result ≤ 128 }
+        ensures at_most { result ≤ 128 }
         ensures digits { out.new ≡ encode_lower self.now ++ drop (2 * length self.now) out.old }
     {
         let bytes = self.as_slice();
@@ -110,7 +110,7 @@ impl fmt::Display for Digest {
 
     ghost output = { λ d. Some (encode_lower d) };
 
-    /// The digits in lower case, padded as a text is.
+    /// Writes the digits, in lower case, padded as a text is.
     fn fmt<W: fmt::Write>(&self, f: &mut fmt::Formatter<W>) -> fmt::Result {
         let mut digits = [0; 128];
         let count = self.hex_into(&mut digits);

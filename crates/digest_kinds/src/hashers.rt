@@ -1,4 +1,4 @@
-//! Hashers: the trait, one for each of the kit's digests and for BLAKE2b, and the one of any kind.
+//! Hashers: the trait, one for each of the kit's digests, one for BLAKE2b, and one for any kind.
 
 pub(crate) mod any_hasher;
 pub(crate) mod blake2b_hasher;

@@ -7,8 +7,8 @@ use crate::algo::Algo;
 use std::marker::Model;
 use thiserror::Error;
 
-/// Why no BLAKE2b digest has so many bits: `TooLong` where there are more than 512, and otherwise `NotBytes` where they
-/// are no multiple of 8.
+/// Why no BLAKE2b digest has so many bits: `TooLong` if they are more than 512, and otherwise `NotBytes` if they are no
+/// multiple of 8.
 #[derive(Clone, Copy, Debug, PartialEq, Eq, Error)]
 pub enum LengthFault {
     #[error("a BLAKE2b digest has at most 512 bits")]
@@ -48,8 +48,8 @@ impl Kind {
         }
     }
 
-    /// BLAKE2b with a digest of so many bits (RFC 7693, 2.1), 0 standing for the full 512. `TooLong` for more than 512,
-    /// and otherwise `NotBytes` where they are no multiple of 8.
+    /// BLAKE2b with a digest of so many bits (RFC 7693, 2.1), 0 for the full 512. `TooLong` if they are more than 512, and
+    /// otherwise `NotBytes` if they are no multiple of 8.
     pub fn blake2b_bits(bits: u64) -> Result<Kind, LengthFault>
         ensures { result ≡ blake2b_of_bits bits }
     {
@@ -65,7 +65,7 @@ impl Kind {
         Ok(Kind::blake2b((bits / 8) as usize))
     }
 
-    /// BLAKE2b with a digest of `len` bytes. `None` exactly where `len` is 0 or over 64.
+    /// BLAKE2b with a digest of `len` bytes. `None` if and only if `len` is 0 or over 64.
     pub fn blake2b_bytes(len: usize) -> Option<Kind>
         ensures none { IsNone result ↔ ((len ≡ 0) ⊎ (64 < len)) }
         ensures value { IfSome result (λ kind. kind ≡ blake2b_kind len) }
@@ -78,8 +78,8 @@ impl Kind {
 
     /// BLAKE2b with a digest of `len` bytes.
     pub(crate) fn blake2b(len: usize) -> Kind
-        requires some { 1 ≤ len }
-        requires few { len ≤ 64 }
+        requires at_least { 1 ≤ len }
+        requires at_most { len ≤ 64 }
         ensures { result ≡ blake2b_kind len }
     {
         Kind {
@@ -112,8 +112,8 @@ impl Kind {
     /// The number of bytes of the digest, from 1 to 64.
     pub fn len(self) -> usize
         ensures value { result ≡ self.len }
-        ensures some { 1 ≤ result }
-        ensures few { result ≤ 64 }
+        ensures at_least { 1 ≤ result }
+        ensures at_most { result ≤ 64 }
     {
         self.len
     }

@@ -1,4 +1,4 @@
-//! Published digests, by each hasher, and one call of each function with an answer from outside.
+//! Published digests, by each hasher, and one call of each function, with an expected value from outside.
 mod digests;
 mod hashers;
 mod kinds;

@@ -7,6 +7,7 @@ mod growths;
 mod hostile;
 mod odd_names;
 mod program;
+mod rows;
 mod words;
 
 use crate::run::run;

@@ -5,7 +5,7 @@ use Rattle.std.proofs.KnownBytes.{Appends-trans}
 use Rattle.sum_lines.specs.sinks.Sinks.{SinkState, Accepted, WriteFailed, Flushes}
 use Rattle.digest_kinds.specs.Limits.{one_more}
 use Rattle.sum_lines.specs.refinement.SinkStates.{AppendsPrefix}
-use Rattle.sum_lines.proofs.SinkLemmas.{Accepted-dropped}
+use Rattle.sum_lines.proofs.SinkLemmas.{Accepted-flush_failed}
 use Rattle.sum_engine.specs.refinement.FlushedWrites.{WritesAndFlushes}
 
 -- ---- known bytes
@@ -33,7 +33,7 @@ told_flushed a b c text (Ok u) h k = search rules
 told_flushed a b c text (Err e) h k = (
   k.failures ∙ ap one_more h.failures,
   λ none.
-      (k.buffered, subst (λ l. AppendsPrefix a.written c.written (l ++ text)) none (Accepted-dropped text h k)),
+      (k.buffered, subst (λ l. AppendsPrefix a.written c.written (l ++ text)) none (Accepted-flush_failed text h k)),
 )
 
 -- writing it failed

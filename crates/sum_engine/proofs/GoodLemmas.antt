@@ -16,7 +16,7 @@ use Rattle.sum_engine.specs.check.CheckerSteps.{step_then}
 use Rattle.sum_lines.specs.grammar.ParsedLines.{parse_line}
 use Rattle.sum_sources.specs.ManifestLines.{past_line}
 use Rattle.sum_engine.specs.check.Checking.{CheckSettings, line_steps, rules_of, labels_of, content_behavior, check_behavior_by, check_behavior}
-use Rattle.sum_lines.proofs.ParsedLineLemmas.{says_is}
+use Rattle.sum_lines.proofs.ParsedLineLemmas.{parse_is_grammar}
 use Rattle.sum_engine.proofs.ListedEntryLemmas.{Item, written_text, Listed, prefix, spelled_for, ReadableSoFar, back, whole, lines-are}
 use Rattle.sum_engine.proofs.CheckOneLemmas.{opening}
 use Rattle.sum_engine.specs.declared.settings.Report.TheVariants as reports
@@ -56,7 +56,7 @@ judged : (r : Rules) (w : World) (n : ℕ) (f : Form) (i : Item) → Listed r.al
     → IsEntry escape r.algo f (prefix i) (spelled_for i)
     → judge r w n (parse_line present r.algo f (prefix i)) ≡ right n i
 judged r w n f i h e =
-    let is = says_is present r.algo f (prefix i) in
+    let is = parse_is_grammar present r.algo f (prefix i) in
     rw ((is.when_entry (spelled_for i)).1 (e.0, e), verdict-right r w i h) refl
 
 -- and all of them, each in the world that those before it leave

@@ -10,7 +10,7 @@ use Rattle.sum_lines.specs.declared.reading.read_line.Form.TheVariants.{Undecide
 use Rattle.sum_lines.specs.Escape.{present, escape, escape_of, escape_by}
 use Rattle.sum_lines.specs.grammar.Entries.{EntryValue, is_ignored_by, RawOf, ByTag, ByTail, IsEntry}
 use Rattle.sum_lines.specs.grammar.ParsedLines.{ParsedLine, ignored, bad, entry, parse_line}
-use Rattle.sum_lines.proofs.ParsedLineLemmas.{says_is}
+use Rattle.sum_lines.proofs.ParsedLineLemmas.{parse_is_grammar}
 use Rattle.sum_engine.specs.check.OldVerdicts.{older, NoReturn, NamesNoReturn}
 use Rattle.sum_engine.proofs.ReturnLemmas.{NotReturn}
 use Rattle.sum_lines.specs.grammar.Entries as entries
@@ -137,11 +137,11 @@ parse_line_same algos f line free names some = go (parse_line present algos f li
     go : (x : ParsedLine) → parse_line present algos f line ≡ x → (parse_line older algos f line ≡ x)
         × CleanParsedLine x
     go ignored h =
-        let is = (says_is present algos f line).when_ignored.0 h in
-        ((says_is older algos f line).when_ignored.1 (ignored_same line true some is), tt)
+        let is = (parse_is_grammar present algos f line).when_ignored.0 h in
+        ((parse_is_grammar older algos f line).when_ignored.1 (ignored_same line true some is), tt)
     go bad h =
-        let is = (says_is present algos f line).when_bad.0 h in (
-          (says_is older algos f line).when_bad.1 (
+        let is = (parse_is_grammar present algos f line).when_bad.0 h in (
+          (parse_is_grammar older algos f line).when_bad.1 (
             ignored_same line false some is.0,
             λ s e. is.1 s (entry_by (escape_by older) escape algos f line s
                 (same_escape s.name (older_entry algos f line s free e)) e),
@@ -149,7 +149,7 @@ parse_line_same algos f line free names some = go (parse_line present algos f li
           tt,
         )
     go (entry s) h =
-        let is = ((says_is present algos f line).when_entry s).0 h in
+        let is = ((parse_is_grammar present algos f line).when_entry s).0 h in
         let clean = names s is.1 in
         let e = entry_by escape (escape_by older) algos f line s (sym (same_escape s.name clean)) is.1 in
-        (((says_is older algos f line).when_entry s).1 (ignored_same line false some is.0, e), clean)
+        (((parse_is_grammar older algos f line).when_entry s).1 (ignored_same line false some is.0, e), clean)

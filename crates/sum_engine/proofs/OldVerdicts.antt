@@ -16,7 +16,7 @@ use Rattle.sum_lines.specs.grammar.ParsedLines.{ParsedLine, ignored, bad, entry,
 use Rattle.sum_engine.specs.Generation.{fault_line}
 use Rattle.sum_engine.specs.check.Checking.{line_steps, content_behavior}
 use Rattle.sum_engine.specs.check.OldVerdicts.{older, rules_under, NoReturn, NamesNoReturn, IsOldManifest, OldVerdicts, OldOutcomes, OlderDiffers}
-use Rattle.sum_lines.proofs.ParsedLineLemmas.{says_is}
+use Rattle.sum_lines.proofs.ParsedLineLemmas.{parse_is_grammar}
 use Rattle.sum_engine.proofs.OldNames.{all_left, all_right, same_escape, CleanParsedLine, parse_line_same}
 use Rattle.sum_engine.proofs.SamePrefix.{judge_under}
 use Rattle.sum_engine.proofs.ReturnLemmas.{NotReturn, strips-kept}
@@ -219,7 +219,7 @@ old_outcomes r labels name w (Ok c) own h =
 -- an empty line is improper to older versions
 empty_line : (algos : Algos) (f : Form) → parse_line older algos f [] ≡ bad
 empty_line algos f =
-    let is = says_is older algos f [] in is.when_bad.1 (refl, λ s e. let wrong = e.0 in cc)
+    let is = parse_is_grammar older algos f [] in is.when_bad.1 (refl, λ s e. let wrong = e.0 in cc)
 
 -- the profiles do differ: a name with a carriage return, and an empty line
 pub older_differs : OlderDiffers

@@ -3,7 +3,7 @@ use Rattle.std.proofs.Common.{◌≡◌, ℕ, zero, suc, ◌+◌, List, [], ◌�
 use Rattle.sum_sources.specs.Contents.{Content}
 use Rattle.sum_sources.specs.ManifestLines.{past_line, past_lines}
 use Rattle.sum_lines.specs.grammar.Entries.{form, form_then, line_form}
-use Rattle.sum_lines.proofs.FormLemmas.{form_next, said_stays}
+use Rattle.sum_lines.proofs.FormLemmas.{form_next, parse_stays}
 use Rattle.sum_engine.specs.Behavior.{after, Ending, Step, Behavior}
 use Rattle.sum_engine.specs.check.Verdicts.{lines_by, Rules, LineVerdictValue, asks_of, verdicts}
 use Rattle.sum_lines.specs.grammar.ParsedLines.{parse_line}
@@ -19,7 +19,7 @@ parse_line_now : (r : Rules) (a : CheckState) (l : List ℕ) (ls : List (List �
 parse_line_now r a l ls =
     let algo = r.algo in
     ap (λ g. parse_line r.profile algo g l) (form_next algo a.form l ls)
-    ∙ said_stays r.profile algo a.form (form algo ls) l
+    ∙ parse_stays r.profile algo a.form (form algo ls) l
 
 -- the first of those that remain
 pub rest_head : (r : Rules) (a : CheckState) (l : List ℕ) (ls : List (List ℕ)) → lines_by r.profile a.rest ≡ l ∷ ls

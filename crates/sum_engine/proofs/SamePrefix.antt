@@ -7,8 +7,8 @@ use Rattle.sum_engine.specs.Behavior.{World, after}
 use Rattle.sum_lines.specs.Escape.{Profile, present, escape}
 use Rattle.sum_lines.specs.grammar.ParsedLines.{ParsedLine, ignored, bad, entry, parse_line}
 use Rattle.sum_engine.specs.check.CheckerLaws.{SameFront}
-use Rattle.sum_lines.proofs.ParsedLineLemmas.{says_is}
-use Rattle.sum_lines.proofs.FormLemmas.{form_next, said_stays, same_said, same_form}
+use Rattle.sum_lines.proofs.ParsedLineLemmas.{parse_is_grammar}
+use Rattle.sum_lines.proofs.FormLemmas.{form_next, parse_stays, same_parse, same_form}
 
 -- the verdicts of the first lines, by the form so far
 abbrev running : Rules → World → ℕ → Form → List (List ℕ) → List LineVerdictValue
@@ -31,7 +31,7 @@ prefix_verdicts r w n f (l ∷ ls) later =
     let j = judge r w (n + 1) (parse_line r.profile algo here l) in
     ap (λ g. take (suc (length ls)) (verdicts r g w n (l ∷ (ls ++ later)))) all
     ∙ ap (λ x. judge r w (n + 1) x ∷ take (length ls) (verdicts r (form_then here rest)
-    (after w (asks_of (judge r w (n + 1) x))) (n + 1) (ls ++ later))) (said_stays r.profile algo f rest l)
+    (after w (asks_of (judge r w (n + 1) x))) (n + 1) (ls ++ later))) (parse_stays r.profile algo f rest l)
     ∙ ap (λ x. j ∷ x) (prefix_verdicts r (after w (asks_of j)) (n + 1) here ls later)
 
 -- the profile has no part in the judgement of what one line says
@@ -46,15 +46,15 @@ entry_same : (algos : Algos) (f g : Form) (line : List ℕ) (s : EntryValue)
     → parse_line present algos f line ≡ parse_line present algos g line
     → IsEntry escape algos f line s → IsEntry escape algos g line s
 entry_same algos f g line s same e =
-    (((says_is present algos g line).when_entry s).0
-    (sym same ∙ ((says_is present algos f line).when_entry s).1 (e.0, e))).1
+    (((parse_is_grammar present algos g line).when_entry s).0
+    (sym same ∙ ((parse_is_grammar present algos f line).when_entry s).1 (e.0, e))).1
 
 -- so later lines have no part in an entry, a verdict or a plain line's form
 pub same_front : SameFront
 same_front r w before line later others =
     let same : (a b : List (List ℕ)) → parse_line present r.algo (form r.algo (before ++ (line ∷ a))) line
     ≡ parse_line present r.algo (form r.algo (before ++ (line ∷ b))) line =
-    λ a b. same_said present r.algo before a b line in
+    λ a b. same_parse present r.algo before a b line in
     let prefix = before ++ line ∷ [] in
     record {
       entry = λ s. (

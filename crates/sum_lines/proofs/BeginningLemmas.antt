@@ -33,13 +33,13 @@ cut-size {a} {s} {d} cut =
     let len = length-take (position_or_len is_blank s) s in
     (omega (arith, within, size, len), (has_len-range a (length d) cut.has).1)
 
--- a line's mark and what stands behind it
+-- a line's backslash, if it has one, and what follows
 abbrev pub text : List ℕ → Bool × List ℕ
 text line = mark_and_rest (after_while is_blank line)
 
 -- ---- the tag
 
--- a line that begins with a tag is read behind it, and isn't plain
+-- a line that begins with a tag is read from there on, and isn't plain
 pub by-tag : (algos : Algos) (line : List ℕ) (a : Algo) → tag_in algos (text line).1 ≡ Some a
     → LeadsTo algos line (beginnings.Tag a)
 unfolding tagged_parts
@@ -67,7 +67,7 @@ pub tag-within : {a : Algo} {front : List ℕ} (s : List ℕ) → front ≡ tag 
     → length front ≤ length s
 tag-within {a} s is h = let found = tag_in-some {algos = One a} {s = s} h in rw is (front_fits s (tag a) _ found.is)
 
--- ---- the blank behind the digits
+-- ---- the blank after the digits
 
 -- an algorithm other than BLAKE2b has digests of one length
 has_len-fixed : (a : Algo) (n : ℕ) → (a ≡ Blake2b → ⊥) → has_len a n ≡ true → n ≡ full_len a
@@ -80,7 +80,7 @@ fixed-len a s n other is d cut =
     let size = (cut-size cut).0 in
     omega (arith, is, len, size)
 
--- where no blank is found among the first bytes, no line is plain
+-- if no blank is found among the first bytes, the line isn't plain
 pub search-none : (a : Algo) (s : List ℕ) {n : ℕ} (r : Option ℕ) → n ≡ min (length s) 129
     → IsFirstByte (is_byte2 32 9) (take n s) r → IfNone r ((d : List ℕ) → ¬ Cut a s d)
 search-none a s {n} None is none = λ d cut.
@@ -103,7 +103,7 @@ search-some a s {n} (Some i) is first =
     first.0.before k (omega arith) low (rw (get_or-take n s k 0 (omega (arith, low, less))) here)))
     (λ _. rw (get_or-take n s i 0 less) at first.1))
 
--- a blank ends the digits of a plain line, and something stands behind it
+-- a blank ends the digits of a plain line, and something follows it
 pub end-none : (a : Algo) (s : List ℕ) (at : ℕ) → EndsAt a s at
     → (at + 1 < length s → is_blank (get_or s at 0) ≡ true → ⊥) → (d : List ℕ) → ¬ Cut a s d
 end-none a s at place other d cut =
@@ -112,7 +112,7 @@ end-none a s at place other d cut =
     let rest = length-drop (position_or_len is_blank s + 1) s in
     other (omega (arith, is, some, rest)) (rw is (passes_at_first is_blank s 0 (cut-within cut)))
 
--- no blank stands before a blank behind digits
+-- no blank precedes the blank after digits
 first-blank : (s d : List ℕ) (at : ℕ) → at < length s → is_blank (get_or s at 0) ≡ true → decode_of (take at s) ≡ Ok d
     → position_or_len is_blank s ≡ at
 first-blank s d at within blank spelled =

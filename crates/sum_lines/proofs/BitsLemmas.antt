@@ -1,4 +1,4 @@
--- The bits that a BLAKE2b tag may carry: the digits that the code takes are those of `decimal`.
+-- The bits that a BLAKE2b tag may name: the digits that the code accepts are those of `decimal`.
 use Rattle.std.proofs.Common.{ℕ, zero, suc, ◌≡◌, ◌≢◌, ◌+◌, ◌*◌, ◌/◌, ◌%◌, ◌<◌, ◌≤◌, not, ◌&&◌, Bool, true, ◌==◌, List, [], ◌∷◌, length, get_or, None, Some, refl, ap, sym, ◌∙◌, arith, Option, bytes_eq, nat_lt, decimal, find, option_map}
 use Rattle.std.specs.Char.{is_ascii_digit}
 use Rattle.std.specs.List.{AllPass, range_with_len}
@@ -29,7 +29,7 @@ found-range : (p : ℕ → Bool) (a n i : ℕ) → find p (range_with_len a n) �
 found-range p a zero i h = cc
 found-range p a (suc n) i h = grind (arith, found-range p (a + 1) n i)
 
--- and where no other passes, it is found
+-- and if no other passes, it is found
 range-found : (p : ℕ → Bool) (a n i : ℕ) → a ≤ i → i < a + n → p i ≡ true
     → ((k : ℕ) → k < a + n → p k ≡ true → k ≡ i) → find p (range_with_len a n) ≡ Some i
 range-found p a zero i low high pass one = absurd (omega (arith, low, high))
@@ -104,12 +104,12 @@ no_bits : (v : ℕ) → v < 1000 → ((len : ℕ) → len ≤ 64 → v ≡ 8 * l
 no_bits v few none = kind_at-none (decimal v)
     (λ len some most h. none len most (decimal_injective v (8 * len) (omega (arith, few)) (omega (arith, most)) h))
 
--- the numbers of bits that the code takes, and the kind that it makes of one
-bits-taken : (v : ℕ) (k : KindValue) → 0 < v → result_ok (blake2b_of_bits v) ≡ Some k
+-- the numbers of bits that the code accepts, and the kind that it makes of one
+bits-accepted : (v : ℕ) (k : KindValue) → 0 < v → result_ok (blake2b_of_bits v) ≡ Some k
     → (v % 8 ≡ 0) × (v ≤ 512) × (k ≡ blake2b_kind (v / 8))
-bits-taken v k some h = grind arith
+bits-accepted v k some h = grind arith
 
--- those that it takes none of
+-- those of which it makes none
 bits-refused : (v : ℕ) → 0 < v → result_ok (blake2b_of_bits v) ≡ None → v % 8 ≡ 0 → v ≤ 512 → ⊥
 bits-refused v some h whole few = grind arith
 
@@ -120,7 +120,7 @@ bits-kind v some few = go (result_ok (blake2b_of_bits v)) refl
     go : (o : Option KindValue) → result_ok (blake2b_of_bits v) ≡ o → o ≡ kind_at (decimal v)
     go None h = no_bits v few (λ len most e. bits-refused v some h (omega (arith, e)) (omega (arith, most, e)))
     go (Some k) h =
-        let is = bits-taken v k some h in
+        let is = bits-accepted v k some h in
         let eight : v ≡ 8 * (v / 8) = omega (arith, is.0) in
         rw is.2 (sym (ap (λ n. kind_at (decimal n)) eight
         ∙ kind_at-bits (v / 8) (omega (arith, some, is.0)) (omega (arith, is.1))))
@@ -142,7 +142,7 @@ number_kind (d ∷ ds) v all h =
     lead (sym (ap (λ l. get_or l 0 0) zero)) in
     rw (← is.1) (bits-kind (digits_value 10 (d ∷ ds)) (omega (arith, some)) (omega (arith, most)) ∙ ap kind_at text)
 
--- and where it makes none, no number of bits is written so
+-- and if it makes none, no number of bits is written so
 number-there : (ds : List ℕ) → 48 < get_or ds 0 0 → length ds ≤ 3 → number_of ds ≡ None → ⊥
 number-there ds lead few h = grind arith
 

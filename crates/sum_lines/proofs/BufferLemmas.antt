@@ -1,4 +1,4 @@
--- What a buffer over a sink does to what was taken, by what the sink below answers.
+-- A buffer over a sink: the calls of the sink below, as calls of the buffer.
 use Rattle.std.proofs.Common.{ℕ, ◌≡◌, List, [], Result, Ok, Err, ◌∙◌, append_assoc, append-nil, arith}
 use Rattle.sum_lines.specs.sinks.Sinks.{SinkState, Accepted, Flushes, WritesAll}
 use Rattle.sum_lines.specs.sinks.Buffers.{with_buffered}

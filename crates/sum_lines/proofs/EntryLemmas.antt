@@ -45,7 +45,7 @@ not_ignored : (e : Bool) (xs rest : List ℕ) → Begins xs → is_ignored (mark
 not_ignored true xs rest b = refl
 not_ignored false xs rest b = rw b.are b.no_hash
 
--- also behind blanks
+-- also after blanks
 speaks : (blanks : List ℕ) (e : Bool) (xs rest : List ℕ) → AllPass is_blank blanks → Begins xs
     → is_ignored (blanks ++ (mark e ++ (xs ++ rest))) ≡ false
 speaks [] e xs rest all b = not_ignored e xs rest b
@@ -113,7 +113,7 @@ one_form algos lines f = (form-is algos lines f, λ e. rw e (is-form algos lines
 
 -- ---- lines after lines
 
--- nothing behind a line changes the form
+-- no later line changes the form
 pub form_then-last : (f : Form) → form_then f Undecided ≡ f
 form_then-last f = grind arith
 
@@ -121,7 +121,7 @@ form_then-last f = grind arith
 pub form_on : (f x g : Form) → form_then f (form_then x g) ≡ form_then (form_then f x) g
 form_on f x g = grind arith
 
--- the form of two lists, one behind the other
+-- the form of two lists, one after the other
 form-append : (algos : Algos) (before after : List (List ℕ))
     → form algos (before ++ after) ≡ form_then (form algos before) (form algos after)
 form-append algos [] after = refl

@@ -1,4 +1,4 @@
--- The escape of a list of bytes, cut where its first special byte stands: a backslash, a newline or a carriage return.
+-- The escape of a list of bytes, cut at its first special byte: a backslash, a newline or a carriage return.
 use Rattle.std.proofs.Common.{◌≡◌, ℕ, zero, suc, ◌+◌, ◌-◌, ◌<◌, ◌≤◌, true, not, List, [], ◌∷◌, ◌++◌, length, take, drop, get_or, Option, None, Some, MatchOption, refl, ap, sym, ◌∙◌, arith, is_some, length-append, length-drop}
 use Rattle.std.proofs.lemmas.Bool.{false_from_ne_true}
 use Rattle.std.proofs.lemmas.List.{length-take-le}
@@ -16,7 +16,7 @@ escape_of-plain b other = grind arith
 escape_of-special : (b : ℕ) → is_byte3 92 10 13 b ≡ true → length (escape_of present b) ≡ 2
 escape_of-special b special = grind arith
 
--- what stands before the first special byte is its own escape
+-- what precedes the first special byte is its own escape
 pub escape-plain : (xs : List ℕ) (k : ℕ) → k ≤ length xs → Nowhere (Passes (is_byte3 92 10 13) xs) 0 k
     → escape (take k xs) ≡ take k xs
 escape-plain xs zero le none = refl
@@ -25,7 +25,7 @@ escape-plain (x ∷ xs) (suc k) le none =
     let more = escape-plain xs k (omega arith) (λ j low high. none (suc j) (omega arith) (omega arith)) in
     rw (escape_of-plain x (none 0 (omega arith) (omega arith)), more) refl
 
--- behind it stand the escape of that byte and that of what follows
+-- then come the escape of that byte and the escape of what follows it
 pub escape-split : (xs : List ℕ) (k : ℕ) → k < length xs → Nowhere (Passes (is_byte3 92 10 13) xs) 0 k
     → escape xs ≡ take k xs ++ (escape_of present (get_or xs k 0) ++ escape (drop (k + 1) xs))
 escape-split xs k lt none =

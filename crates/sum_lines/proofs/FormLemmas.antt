@@ -1,4 +1,4 @@
--- What comes behind a line has no part in what it says.
+-- Later lines change neither how a line parses nor the form after a plain line.
 use Rattle.std.proofs.Common.{◌≡◌, ℕ, Bool, cond, List, ◌∷◌, ◌++◌, Option, None, Some, refl, ap, sym, ◌∙◌, arith}
 use Rattle.std.specs.Option.{option_map_or}
 use Rattle.digest_kinds.specs.declared.algo.Algos.{Algos}
@@ -24,26 +24,26 @@ entry_stays : (p : Profile) (f g : Form) (t q : Option LinePartsValue)
 entry_stays p f g None (Some q) = ap (λ x. with_raw x q >>= entry_of_parts p) (decided f (begins_standard q.text) g)
 entry_stays p f g t q = refl
 
--- no later line changes what a line says
-pub said_stays : (p : Profile) (algos : Algos) (f g : Form) (line : List ℕ)
+-- no later line changes how a line parses
+pub parse_stays : (p : Profile) (algos : Algos) (f g : Form) (line : List ℕ)
     → parse_line p algos (form_then (form_then f (line_form algos line)) g) line
     ≡ parse_line p algos (form_then f (line_form algos line)) line
 unfolding entry_of
-said_stays p algos f g line =
+parse_stays p algos f g line =
     ap (λ o. cond (is_ignored_by p line) ignored (option_map_or entry o bad))
     (entry_stays p f g (tagged_parts algos line) (plain_parts algos line))
 
--- what a line says is said of it and of the lines before it
+-- how a line parses depends on it and the lines before it
 parsed_line_alone : (p : Profile) (algos : Algos) (before later : List (List ℕ)) (line : List ℕ)
     → parse_line p algos (form algos (before ++ (line ∷ later))) line
     ≡ parse_line p algos (form_then (form algos before) (line_form algos line)) line
 parsed_line_alone p algos before later line =
     ap (λ f. parse_line p algos f line) (form_at algos before later line)
-    ∙ said_stays p algos (form algos before) (form algos later) line
+    ∙ parse_stays p algos (form algos before) (form algos later) line
 
--- so lines behind it may be others
-pub same_said : SameParse
-same_said p algos before later others line =
+-- so later lines may be others
+pub same_parse : SameParse
+same_parse p algos before later others line =
     parsed_line_alone p algos before later line ∙ sym (parsed_line_alone p algos before others line)
 
 -- a plain line's form is that of the lines up to it
@@ -55,7 +55,7 @@ form_alone algos before later line tail own =
     ∙ ap (λ x. form_then (form_then (form algos before) x) (form algos later)) own
     ∙ decided (form algos before) (begins_standard tail) (form algos later)
 
--- and lines behind it may be others
+-- and later lines may be others
 pub same_form : SameForm
 same_form algos before later others line e kind d tail plain =
     let p : LinePartsValue = record { escaped = e; kind = kind; digest = d; text = tail } in

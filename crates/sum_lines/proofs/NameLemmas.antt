@@ -16,7 +16,7 @@ use Rattle.sum_lines.proofs.PrefixLemmas.{none_of}
 use Rattle.sum_lines.proofs.UnescapeLemmas.{all-of, unescape-escape, escape-unescape}
 use Rattle.std.proofs.lemmas.Grind.{common_steps}
 
--- a part of a vector that was cut behind it
+-- a range of a vector that was cut at the range's end
 pub part_of : (xs : List ℕ) (i j : ℕ) → i ≤ j → drop i (take j xs) ≡ slice_range xs i j
 part_of xs i j le = let sum : j ≡ i + (j - i) = omega arith in
     ap (λ k. drop i (take k xs)) sum ∙ drop-take i (j - i) xs
@@ -35,7 +35,7 @@ unescaped from old new false h before = none_of (unescape present (drop from old
 above_zero : (x : ℕ) → (is_byte 0 x ≡ true → ⊥) → 0 < x
 above_zero x h = grind arith
 
--- a search for NUL tells whether all bytes are above zero
+-- a search for NUL shows whether all bytes are above zero
 pub no_nul : (xs : List ℕ) (r : Option ℕ) → IsFirstByte (is_byte 0) xs r → not (is_some r) ≡ list_all (nat_lt 0) xs
 no_nul xs None h =
     sym (all-of xs (All-from_get_or (λ x. 0 < x) xs 0 (λ k lt. above_zero (get_or xs k 0) (h k (omega arith) lt))))
@@ -55,7 +55,7 @@ range-more xs i j lt =
 standard-two : (tail : List ℕ) → begins_standard tail ≡ true → 2 ≤ length tail
 standard-two tail h = grind arith
 
--- so its raw name stands one place further on
+-- so its raw name begins one place further on
 pub raw_standard : (line : List ℕ) (p : LineParts) → begins_standard (line_parts line p).text ≡ true
     → with_raw Standard (line_parts line p) ≡ Some (line_parts line (record p { start = p.start + 1 }))
 raw_standard line p h =

@@ -1,4 +1,4 @@
--- What was offered of a text, piece after piece, while it was handed on.
+-- What was offered of a text, piece by piece, while it was written.
 use Rattle.std.proofs.Common.{ℕ, ◌≡◌, ◌<◌, ◌≤◌, List, [], ◌∷◌, ◌++◌, length, take, drop, Option, refl, sym, ◌∙◌, append_assoc, take-append-drop, length-append, length-take, arith}
 use Rattle.sum_lines.specs.sinks.Sinks.{Offers, IsRest, AreRests, InOnePiece, OffersWhole}
 
@@ -13,7 +13,7 @@ pub Leaves-more : (text : List ℕ) (pieces : List (List ℕ)) (rest left : List
 Leaves-more text [] rest left h r = (h, (left, r, refl))
 Leaves-more text (piece ∷ more) rest left h r = (h.0, (h.1.0, h.1.1, Leaves-more h.1.0 more rest left h.1.2 r))
 
--- the pieces behind the first are rests
+-- the pieces after the first are rests
 AreRests-from_leaves : (text left : List ℕ) (more : List (List ℕ)) (rest : List ℕ)
     → IsRest text left → Leaves left more rest → AreRests text more
 AreRests-from_leaves text left [] rest r h = tt
@@ -47,7 +47,7 @@ Leaves-last text (piece ∷ more) rest h some =
     let left = rw (← h.0) at h.1.1 in
     (IsRest-some text h.1.0 left, sym h.0, AreRests-last text h.1.0 more rest left h.1.2)
 
--- offers behind offers
+-- offers after offers
 pub Offers-trans : (a b c : Option (List (List ℕ))) (xs ys : List (List ℕ)) → Offers a b xs → Offers b c ys
     → Offers a c (xs ++ ys)
 Offers-trans a b c xs ys p q = grind (arith, append_assoc)
@@ -58,7 +58,7 @@ pub record Offered (a b : Option (List (List ℕ))) (text rest : List ℕ) : Typ
   pub offers : Offers a b pieces
   pub leaves : Leaves text pieces rest
 
--- the rest was offered, and some of it taken
+-- the rest was offered, and some of it accepted
 pub Offered-more : {a b c : Option (List (List ℕ))} {text rest : List ℕ} (n : ℕ)
     → Offered a b text rest → Offers b c (rest ∷ []) → 0 < n → n ≤ length rest → Offered a c text (drop n rest)
 Offered-more {a} {b} {c} {text} {rest} n h offer some within = record {

@@ -15,7 +15,7 @@ use Rattle.sum_lines.specs.grammar.Shapes.{Algo, Algos, One, Any, is_blank, Plai
 use Rattle.sum_lines.specs.grammar.LineParts.{LinePartsValue, after_while, mark_and_rest, plain_parts}
 use Rattle.sum_lines.specs.refinement.Beginnings.{Cut}
 use Rattle.sum_lines.proofs.PrefixLemmas.{bind_some, none_of, ok_some, prefix_passes, prefix-and-rest, prefix_len-stop, rest-seam, mark_and_rest-is}
-use Rattle.sum_lines.proofs.TaggedLemmas.{Begins, begins-by, passes-other, behind_tag, hex-no_blank, tagged-prefix, mark_and_rest-prefix}
+use Rattle.sum_lines.proofs.TaggedLemmas.{Begins, begins-by, passes-other, after_tag, hex-no_blank, tagged-prefix, mark_and_rest-prefix}
 use Rattle.sum_lines.proofs.BitsLemmas.{has_len-range}
 
 -- the parts are those of a plain line
@@ -102,7 +102,7 @@ digits-of (x ∷ xs) d h lt =
           (passes-other is_hex_digit 35 x first refl);
     }
 
--- the first blank stands behind bytes that are none
+-- the first blank follows bytes that are none
 first-at : (xs : List ℕ) (b : ℕ) (ys : List ℕ) → AllPass (λ x. not (is_blank x)) xs → is_blank b ≡ true
     → (before_first is_blank (xs ++ (b ∷ ys)) ≡ xs) × (after_first is_blank (xs ++ (b ∷ ys)) ≡ ys)
 first-at xs b ys all blank =
@@ -155,7 +155,7 @@ pub apart : {algos others : Algos} {line : List ℕ} {e f : Bool} {kind other : 
     → Plain algos line e kind d tail → Tagged others line f other c raw → ⊥
 apart {e = e} {f = f} {other = other} {tail = tail} p t =
     let digits = plain-digits p in
-    let same : (e, p.digits ++ (p.blank ∷ tail)) ≡ (f, tag other.algo ++ behind_tag t) =
+    let same : (e, p.digits ++ (p.blank ∷ tail)) ≡ (f, tag other.algo ++ after_tag t) =
     sym (plain-prefix p) ∙ tagged-prefix t in
-    no_prefix other.algo p.digits (p.blank ∷ tail) (behind_tag t) digits.are digits.two
+    no_prefix other.algo p.digits (p.blank ∷ tail) (after_tag t) digits.are digits.two
     (ap (λ (x : Bool × List ℕ). x.1) same)

@@ -1,4 +1,4 @@
--- The longest prefix that passes, and what stands behind a text or a byte.
+-- The longest prefix that passes, and what follows a text or a byte.
 use Rattle.std.proofs.Common.{ℕ, zero, suc, ◌≡◌, ◌≢◌, ◌+◌, ◌<◌, ◌≤◌, Bool, true, false, ◌==◌, List, [], ◌∷◌, ◌++◌, length, take, drop, get_or, Option, None, Some, Result, Ok, Err, refl, ap, sym, ◌∙◌, arith, inl, inr, length-append, All, take_while, option_map}
 use Rattle.std.specs.List.{AllPass, prefix_len, starts_with}
 use Rattle.std.specs.Option.{option_or}
@@ -22,13 +22,13 @@ pub bind_some : {A B : Type 0} {y : B} (o : Option A) (f : A → Option B) → (
 bind_some None f h = cc
 bind_some (Some x) f h = (x, refl, h)
 
--- where each step that may come gives nothing, nothing comes
+-- if no next step gives anything, nothing is given
 pub bind_none : {A B : Type 0} (o : Option A) (f : A → Option B) → ((x : A) → o ≡ Some x → f x ≡ None)
     → None ≡ (o >>= f)
 bind_none None f h = refl
 bind_none (Some x) f h = sym (h x refl)
 
--- a mapped option holds what its own element gives
+-- a mapped option has what its own element gives
 pub map_some : {A B : Type 0} {y : B} (f : A → B) (o : Option A) → option_map f o ≡ Some y
     → (x : A) × (o ≡ Some x) × (f x ≡ y)
 map_some f None h = cc
@@ -55,7 +55,7 @@ prefix_passes p (x ∷ xs) = elim (cases_Bool (p x)) [
   | inr stop ↦ rw (take_while-cons p x xs, stop) (All-nil (λ x. p x ≡ true))
 ]
 
--- it joins with what stands behind it
+-- it joins with what follows it
 pub prefix-and-rest : (p : ℕ → Bool) (xs : List ℕ) → xs ≡ take_while p xs ++ after_while p xs
 prefix-and-rest p xs = sym (take-append-drop (prefix_len p xs) xs)
 
@@ -82,19 +82,19 @@ pub parts-at : (p : ℕ → Bool) (xs : List ℕ) (y : ℕ) (ys : List ℕ) → 
 parts-at p xs y ys all stop =
     let len = sym (prefix_len-stop p xs y ys all stop) in (take_at xs (y ∷ ys) _ len, drop_at xs (y ∷ ys) _ len)
 
--- ---- a byte or a text in front
+-- ---- a byte or a text at the start
 
--- a line's text is its backslash, where it has one, and what stands behind that
+-- a line's text is its backslash, if it has one, and what follows that
 pub mark_and_rest-is : (xs : List ℕ) → xs ≡ mark (mark_and_rest xs).0 ++ (mark_and_rest xs).1
 mark_and_rest-is xs = grind arith
 
--- what was passed over stood in front
+-- what was passed over began the bytes
 pub strip_prefix-some : (xs ys zs : List ℕ) → strip_prefix xs ys ≡ Some zs → ys ≡ xs ++ zs
 strip_prefix-some xs ys zs h =
     let e = cond_some (starts_with ◌==◌ ys xs) (drop (length xs) ys) zs h in
     (starts_is Decides-eqb ys xs (starts_with ◌==◌ ys xs) refl).0 e.0 ∙ ap (λ l. xs ++ l) e.1
 
--- a text that stands in front is found there
+-- a text that begins the bytes is found there
 pub starts-append : (xs ys : List ℕ) → starts_with ◌==◌ (xs ++ ys) xs ≡ true
 starts-append xs ys = (starts_is Decides-eqb (xs ++ ys) xs (starts_with ◌==◌ (xs ++ ys) xs) refl).1 ys refl
 
@@ -112,7 +112,7 @@ opened-some s inner h = go (strip_prefix (32 ∷ 40 ∷ []) s) refl h
     go (Some t) e k = (true, strip_prefix-some (32 ∷ 40 ∷ []) s inner (e ∙ k))
     go None e k = (false, strip_prefix-some (40 ∷ []) s inner k)
 
--- and what stands there so is found
+-- and a parenthesis that is so placed is found
 pub opened-at : (gap : Bool) (inner : List ℕ) → let s = optional gap (32 ∷ []) ++ (40 ∷ inner) in
     option_or (strip_prefix (32 ∷ 40 ∷ []) s) (strip_prefix (40 ∷ []) s) ≡ Some inner
 opened-at true inner = refl
@@ -150,21 +150,21 @@ rsplit-some c s p h = go (rfind_below c s (length s)) refl h
         let at = rfind-some c s (length s) i (omega arith) e in
         rw (← same_Some (take i s, drop (i + 1) s) p k) (grind (arith, common_steps))
 
--- what stands behind a byte
+-- what follows a byte
 pub rest-seam : (xs : List ℕ) (b : ℕ) (ys : List ℕ) → drop (length xs + 1) (xs ++ (b ∷ ys)) ≡ ys
 rest-seam [] b ys = refl
 rest-seam (x ∷ xs) b ys = grind (arith, rest-seam xs b ys)
 
--- behind a byte stands what follows it
-behind_seam : (xs : List ℕ) (c : ℕ) (ys : List ℕ) → All (λ x. x ≢ c) ys → (i : ℕ) → length xs < i
+-- places after a byte are those of what follows it
+after_seam : (xs : List ℕ) (c : ℕ) (ys : List ℕ) → All (λ x. x ≢ c) ys → (i : ℕ) → length xs < i
     → i < length (xs ++ (c ∷ ys)) → get_or (xs ++ (c ∷ ys)) i 0 ≢ c
-behind_seam xs c ys all i more less = grind (arith, get_or-append_right, All-get_or, length-append)
+after_seam xs c ys all i more less = grind (arith, get_or-append_right, All-get_or, length-append)
 
--- where what follows a byte has none of it, the split is there
+-- if what follows a byte has none of it, the split is there
 pub rsplit-at : (c : ℕ) (xs ys : List ℕ) → All (λ x. x ≢ c) ys → rsplit_once c (xs ++ (c ∷ ys)) ≡ Some (xs, ys)
 unfolding rsplit_once
 rsplit-at c xs ys all =
     let found : rfind_below c (xs ++ (c ∷ ys)) (length (xs ++ (c ∷ ys))) ≡ Some (length xs) =
     rfind-at c _ (length xs) _ (omega (arith, length-append xs (c ∷ ys))) (get_or-append_seam xs c ys 0)
-    (λ i more less. ne_eqb _ c (behind_seam xs c ys all i more less)) in
+    (λ i more less. ne_eqb _ c (after_seam xs c ys all i more less)) in
     rw (found, take_at xs (c ∷ ys) (length xs) refl, rest-seam xs c ys) refl

@@ -22,13 +22,13 @@ abbrev pub prefix_of : Mode → KindValue → List ℕ → List ℕ → List ℕ
 prefix_of mode kind name digest =
     mark (escape_differs present name) ++ lines.layout mode kind (escape name) (encode_lower digest)
 
--- ---- the form behind a written line
+-- ---- the form after a written line
 
--- lines of either form may be followed by written ones
+-- written lines may follow lines of either form
 abbrev Readable : Form → Type 0
 Readable f = (f ≡ Undecided) ⊎ (f ≡ Standard)
 
--- a line that makes a list Standard does so behind any readable lines
+-- a line that makes a list Standard does so after any readable lines
 form-after : (algos : Algos) (before later : List (List ℕ)) (line : List ℕ) → line_form algos line ≡ Standard
     → Readable (form algos before) → form algos (before ++ (line ∷ later)) ≡ Standard
 form-after algos before later line h (inl undecided) = rw (form_at algos before later line, undecided, h) refl

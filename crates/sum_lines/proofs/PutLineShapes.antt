@@ -1,5 +1,5 @@
 -- The lines that are written, as they are put together: each has its shape, spells the name and the digest that it was
--- written for, and holds no newline and no carriage return before its end.
+-- written for, and has no newline and no carriage return before its end.
 use Rattle.std.proofs.Common.{ℕ, ◌≡◌, ◌≢◌, ◌*◌, ◌<◌, not, Bool, true, false, ◌==◌, ◌||◌, List, [], ◌∷◌, ◌++◌, length, refl, arith, inl, inr, cond, All, decimal}
 use Rattle.std.specs.List.{AllPass, list_all}
 use Rattle.std.proofs.lemmas.List.Folds.{list_all-append}
@@ -24,7 +24,7 @@ use Rattle.sum_lines.proofs.PlainLemmas.{Digits, digits-of, plain_is_read}
 use Rattle.sum_lines.proofs.EntryLemmas.{plain-speaks, tagged-speaks}
 use Rattle.sum_lines.proofs.EscapeLemmas.{length-escape}
 
--- a byte that may stand within a line
+-- a byte that may be within a line
 abbrev pub Inline : ℕ → Type 0
 Inline b = (b ≢ 10) × (b ≢ 13)
 
@@ -55,7 +55,7 @@ pub inline-mark : (b : Bool) → list_all inline (mark b) ≡ true
 inline-mark true = refl
 inline-mark false = refl
 
--- what may stand between the tag and the name
+-- what may come between the tag and the name
 pub inline-width : (kind : KindValue) (w : List ℕ) → Width kind w → list_all inline w ≡ true
 inline-width kind w (inl none) = rw none.0 refl
 inline-width kind w (inr bits) =
@@ -66,7 +66,7 @@ inline-width kind w (inr bits) =
 escape_of-inline : (x : ℕ) → list_all inline (escape_of present x) ≡ true
 escape_of-inline x = grind arith
 
--- so an escaped name holds none
+-- so an escaped name has none
 pub inline-escape : (name : List ℕ) → list_all inline (escape name) ≡ true
 inline-escape [] = refl
 inline-escape (x ∷ xs) =
@@ -74,7 +74,7 @@ inline-escape (x ∷ xs) =
 
 -- ---- the tag
 
--- what a written tag has behind the kind's tag: the bits of a BLAKE2b digest that isn't full
+-- what follows the kind's tag in a written line: the bits of a BLAKE2b digest that isn't full
 abbrev pub line_width : KindValue → List ℕ
 line_width kind = cond (kind.len == full_len kind.algo) [] (45 ∷ decimal (8 * kind.len))
 
@@ -107,7 +107,7 @@ written_for kind name digest = record { kind = kind; digest = digest; name = nam
 abbrev pub is_space_or_star : ℕ → Bool
 is_space_or_star x = x == 32 || x == 42
 
--- what is written of a name is its escape or, where that is no other, the name
+-- what is written of a name is its escape or, if that doesn't differ, the name
 name-written : (name : List ℕ) → escape name ≡ cond (escape_differs present name) (escape name) name
 name-written name = grind (arith, bytes_eq-Decides)
 
@@ -201,11 +201,11 @@ module _ {kind : KindValue} {name digest : List ℕ} (w : Writable kind name dig
         inl (record { escaped = _; raw = escape name; tagged = tagged; spells = name-spelled }),
       )
 
-  -- neither line holds a newline or a carriage return
+  -- neither line has a newline or a carriage return
   inline-digits : list_all inline (encode_lower digest) ≡ true
   inline-digits = let ds = digits-written in inline-all is_hex_digit (encode_lower digest) refl refl ds.are
 
-  -- a plain line holds no end of a line
+  -- a plain line has no end of a line
   pub Inline-plain : (x : ℕ) → inline x ≡ true → All Inline (plain_line x name digest)
   Inline-plain x h = Inline-by_test _ (simp (
     list_all-append inline,

@@ -1,4 +1,4 @@
--- What the scanning functions answer, step by step.
+-- What the functions that scan a line return, step by step.
 use Rattle.std.proofs.Common.{ℕ, ◌≡◌, ◌≢◌, ◌+◌, ◌-◌, ◌*◌, ◌<◌, ◌≤◌, eq-eqb, List, [], ◌∷◌, ◌++◌, length, take, drop, get_or, slice_range, Option, None, Some, MatchOption, Ok, Bor, refl, sym, arith, append_assoc, take_while, option_copied}
 use Rattle.std.specs.Option.{option_or}
 use Rattle.std.specs.Path.{rsplit_once}
@@ -16,13 +16,13 @@ use Rattle.sum_lines.proofs.PrefixLemmas.{bind_none, none_of, ok_some, strip_pre
 use Rattle.sum_lines.proofs.TaggedLemmas.{width_at-some}
 use Rattle.std.proofs.lemmas.Grind.{common_steps}
 
--- ---- a text in front
+-- ---- a text at the start
 
 -- std's comparison finds it
-pub behind_is : (xs ys : List ℕ) (r : Option (Bor (List ℕ)))
+pub after_is : (xs ys : List ℕ) (r : Option (Bor (List ℕ)))
     → MatchOption r ((rest : List ℕ) → ys ≢ xs ++ rest) (λ x. ys ≡ xs ++ x.now) → option_copied r ≡ strip_prefix xs ys
-behind_is xs ys None other = none_of (strip_prefix xs ys) (λ zs h. other zs (strip_prefix-some xs ys zs h))
-behind_is xs ys (Some x) is = rw is (sym (strip_prefix-append xs x.now))
+after_is xs ys None other = none_of (strip_prefix xs ys) (λ zs h. other zs (strip_prefix-some xs ys zs h))
+after_is xs ys (Some x) is = rw is (sym (strip_prefix-append xs x.now))
 
 -- ---- the last such byte
 
@@ -61,18 +61,18 @@ pub digest_none : (s d : List ℕ) (n : ℕ) → 1 ≤ n → n ≤ 64 → (IsDig
 digest_none s d n some few none spelled same =
     none (decoded-digits s d spelled (omega (arith, some, same)) (omega (arith, few, same)))
 
--- ---- where the parts stand in the line
+-- ---- the places of the parts in the line
 
--- behind its blanks and its mark the line ends in its text
+-- after its blanks and its backslash the line ends in its text
 pub text_ends : (line : List ℕ) → EndsIn line (mark_and_rest (after_while is_blank line)).1
 text_ends line =
     let whole = prefix-and-rest is_blank line in
     let marked = mark_and_rest-is (after_while is_blank line) in
     (take_while is_blank line ++ mark (mark_and_rest (after_while is_blank line)).0, grind (arith, append_assoc))
 
--- and so in what stands behind any part of that
-pub ends-behind : {line s : List ℕ} (xs rest : List ℕ) → EndsIn line s → s ≡ xs ++ rest → EndsIn line rest
-ends-behind xs rest ends is = (ends.0 ++ xs, grind (arith, append_assoc))
+-- and so in what follows any part of that
+pub ends-after : {line s : List ℕ} (xs rest : List ℕ) → EndsIn line s → s ≡ xs ++ rest → EndsIn line rest
+ends-after xs rest ends is = (ends.0 ++ xs, grind (arith, append_assoc))
 
 -- bytes that the end of the line begins with have their place in it
 place : {line s : List ℕ} (raw rest : List ℕ) → EndsIn line s → s ≡ raw ++ rest
@@ -80,7 +80,7 @@ place : {line s : List ℕ} (raw rest : List ℕ) → EndsIn line s → s ≡ ra
     × (slice_range line (length line - length s) (length line - length s + length raw) ≡ raw)
 place raw rest ends is = grind (arith, common_steps)
 
--- so has the name behind the parenthesis
+-- so has the name after the parenthesis
 pub name_place : {line s inner : List ℕ} {name : List ℕ × List ℕ} (a : Algo) (w : KindValue × List ℕ) → EndsIn line s
     → Some w ≡ width_at a (drop (length (tag a)) s)
     → Some inner ≡ option_or (strip_prefix (32 ∷ 40 ∷ []) w.1) (strip_prefix (40 ∷ []) w.1)
@@ -89,19 +89,19 @@ pub name_place : {line s inner : List ℕ} {name : List ℕ × List ℕ} (a : Al
     × (slice_range line (length line - length inner) (length line - length inner + length name.0) ≡ name.0)
 name_place {s = s} {inner = inner} {name = name} a w ends wide opened split =
     let tag_len : ℕ = length (tag a) in
-    let behind_tag = ends-behind (take tag_len s) (drop tag_len s) ends (sym (take-append-drop tag_len s)) in
+    let after_tag = ends-after (take tag_len s) (drop tag_len s) ends (sym (take-append-drop tag_len s)) in
     let width = width_at-some a (drop tag_len s) w (sym wide) in
     let gap = opened-some w.1 inner (sym opened) in
-    let behind_width = ends-behind width.width w.1 behind_tag width.whole in
-    let behind_gap = ends-behind (optional gap.0 (32 ∷ [])) (40 ∷ inner) behind_width gap.1 in
-    place name.0 _ (ends-behind (40 ∷ []) inner behind_gap refl) (rsplit-some 41 inner name (sym split))
+    let behind_width = ends-after width.width w.1 after_tag width.whole in
+    let behind_gap = ends-after (optional gap.0 (32 ∷ [])) (40 ∷ inner) behind_width gap.1 in
+    place name.0 _ (ends-after (40 ∷ []) inner behind_gap refl) (rsplit-some 41 inner name (sym split))
 
 -- the end has its place in the line
 pub tail-place : {line tail : List ℕ} → EndsIn line tail
     → slice_range line (length line - length tail) (length line) ≡ tail
 tail-place ends = grind (arith, common_steps)
 
--- what was read step by step behind the tag is read as the line's parts
+-- what was read step by step after the tag is read as the line's parts
 pub tagged-read : {w : KindValue × List ℕ} {inner digits d : List ℕ} {name : List ℕ × List ℕ}
     (a : Algo) (line : List ℕ) → let text = mark_and_rest (after_while is_blank line) in
     tag_in (One a) text.1 ≡ Some a → Some w ≡ width_at a (drop (length (tag a)) text.1)

@@ -1,4 +1,4 @@
--- A text that is written piece after piece: what has become of it once a piece was written, or has failed.
+-- A text that is written piece by piece: what is written of it when a piece was accepted, and when a write failed.
 -- `a`, `b`, `c` are the sink before, between and after.
 use Rattle.std.proofs.Common.{ℕ, ◌≡◌, ◌<◌, ◌-◌, List, [], ◌++◌, length, take, drop, Option, None, Some, Result, Ok, Err, refl, ap, sym, ◌∙◌, append_assoc, append-nil, take-append-drop, length-append, arith}
 use Rattle.std.proofs.lemmas.List.{take_rest, append_cancel_left}
@@ -8,13 +8,13 @@ use Rattle.sum_lines.specs.sinks.Sinks.{AppendsProperPrefix, SinkState, Accepted
 use Rattle.digest_kinds.specs.Limits.{one_more}
 use Rattle.sum_lines.specs.refinement.SinkStates.{Grows, AppendsPrefix}
 
--- ---- two calls, one behind the other
+-- ---- two calls, one after the other
 
 -- known bytes that grow twice
 pub Grows-trans : (a b c : Option (List ℕ)) → Grows a b → Grows b c → Grows a c
 Grows-trans a b c p q = (p.0 ++ q.0, Appends-trans a b c p.0 q.0 p.1 q.1)
 
--- nothing is written where nothing is done
+-- nothing is accepted if nothing is done
 pub Accepted-nil : {a : SinkState} → Accepted a a []
 Accepted-nil {a} = record {
   accepted = Appends-nil (append_known a.written a.buffered);
@@ -22,7 +22,7 @@ Accepted-nil {a} = record {
   failures = refl;
 }
 
--- one text was written, and then another
+-- one text was accepted, and then another
 pub Accepted-trans : {a b c : SinkState} (xs ys : List ℕ) → Accepted a b xs → Accepted b c ys → Accepted a c (xs ++ ys)
 Accepted-trans {a} {b} {c} xs ys first second = record {
   accepted = Appends-trans (append_known a.written a.buffered) (append_known b.written b.buffered)
@@ -31,25 +31,25 @@ Accepted-trans {a} {b} {c} xs ys first second = record {
   failures = second.failures ∙ first.failures;
 }
 
--- a text was taken, and then a prefix of what was held was handed on
-handed_some : (a b c : Option (List ℕ)) (held_before held_after text : List ℕ) → Grows a b
-    → Appends (append_known a held_before) (append_known b held_after) text → AppendsPrefix b c held_after
-    → AppendsPrefix a c (held_before ++ text)
-handed_some None b c held_before held_after text grows taken handed = ([], (held_before ++ text, refl), tt)
-handed_some (Some x) b c held_before held_after text grows taken handed =
+-- a text was accepted, and then a prefix of the buffered bytes was written
+written_prefix : (a b c : Option (List ℕ)) (buffered_before buffered_after text : List ℕ) → Grows a b
+    → Appends (append_known a buffered_before) (append_known b buffered_after) text → AppendsPrefix b c buffered_after
+    → AppendsPrefix a c (buffered_before ++ text)
+written_prefix None b c buffered_before buffered_after text grows taken handed = ([], (buffered_before ++ text, refl), tt)
+written_prefix (Some x) b c buffered_before buffered_after text grows taken handed =
     let grown = grows.1 in
     let cut = handed.1.1 in
     let end = handed.2 in
     (grows.0 ++ handed.0, (handed.1.0, grind (arith, append_assoc, append_cancel_left)), grind (arith, append_assoc))
 
--- a text was taken, and then a proper prefix of what was held and of one more piece was handed on
-handed_part : (a b c : Option (List ℕ)) (held_before held_after text piece later : List ℕ) → Grows a b
-    → Appends (append_known a held_before) (append_known b held_after) text → 0 < length piece
-    → AppendsProperPrefix b c (held_after ++ piece)
-    → AppendsProperPrefix a c (held_before ++ (text ++ (piece ++ later)))
-handed_part None b c held_before held_after text piece later grows taken some handed =
-    ([], held_before ++ (text ++ (piece ++ later)), refl, grind (arith, length-append), tt)
-handed_part (Some x) b c held_before held_after text piece later grows taken some handed =
+-- a text was accepted, and then a proper prefix of the buffered bytes and one more piece was written
+written_proper_prefix : (a b c : Option (List ℕ)) (buffered_before buffered_after text piece later : List ℕ) → Grows a b
+    → Appends (append_known a buffered_before) (append_known b buffered_after) text → 0 < length piece
+    → AppendsProperPrefix b c (buffered_after ++ piece)
+    → AppendsProperPrefix a c (buffered_before ++ (text ++ (piece ++ later)))
+written_proper_prefix None b c buffered_before buffered_after text piece later grows taken some handed =
+    ([], buffered_before ++ (text ++ (piece ++ later)), refl, grind (arith, length-append), tt)
+written_proper_prefix (Some x) b c buffered_before buffered_after text piece later grows taken some handed =
     let grown = grows.1 in
     let cut = handed.2 in
     let end = handed.4 in (
@@ -60,14 +60,14 @@ handed_part (Some x) b c held_before held_after text piece later grows taken som
       grind (arith, append_assoc),
     )
 
--- a text was written, and a call without a text failed behind it: of what was held before and of the text a prefix was
--- handed on
-pub Accepted-dropped : {a b c : SinkState} (text : List ℕ) → Accepted a b text → FlushFailed b c
+-- a text was accepted, and then a call without a text failed: a prefix of the bytes buffered before and the text was
+-- written
+pub Accepted-flush_failed : {a b c : SinkState} (text : List ℕ) → Accepted a b text → FlushFailed b c
     → AppendsPrefix a.written c.written (a.buffered ++ text)
-Accepted-dropped {a} {b} {c} text wrote dropped =
-    handed_some a.written b.written c.written a.buffered b.buffered text wrote.written wrote.accepted dropped.written
+Accepted-flush_failed {a} {b} {c} text wrote dropped =
+    written_prefix a.written b.written c.written a.buffered b.buffered text wrote.written wrote.accepted dropped.written
 
--- a text was written, and then all that was held was handed on
+-- a text was accepted, and then all that was buffered was written
 pub Accepted-flushed : {a b : SinkState} (c : Option (List ℕ)) (text : List ℕ) → Accepted a b text
     → Appends b.written c b.buffered → Appends a.written c (a.buffered ++ text)
 Accepted-flushed c text wrote handed = let taken = wrote.accepted in grind (arith, append_assoc)
@@ -78,14 +78,14 @@ pub Flushes-with_buffered : {E : Type 0} {a : SinkState} (b c : SinkState) (r : 
 Flushes-with_buffered {a = a} b c (Ok u) wrote flushed =
     (rw append-nil at (Accepted-flushed c.written [] wrote flushed.0), flushed.1, flushed.2 ∙ wrote.failures)
 Flushes-with_buffered b c (Err e) wrote dropped = record {
-  written = rw append-nil at (Accepted-dropped [] wrote dropped);
+  written = rw append-nil at (Accepted-flush_failed [] wrote dropped);
   buffered = dropped.buffered;
   failures = dropped.failures ∙ ap one_more wrote.failures;
 }
 
--- a write failed that was to take some of a text
-pub FlushFailed-broke : {a b : SinkState} {text : List ℕ} → FlushFailed a b → 0 < length text → WriteFailed a b text
-FlushFailed-broke {text = text} dropped some =
+-- a write failed that was to accept some of a text
+pub FlushFailed-write_failed : {a b : SinkState} {text : List ℕ} → FlushFailed a b → 0 < length text → WriteFailed a b text
+FlushFailed-write_failed {text = text} dropped some =
     let prefix = dropped.written.0 in
     let rest = dropped.written.1.0 in
     let cut = dropped.written.1.1 in
@@ -97,11 +97,11 @@ FlushFailed-broke {text = text} dropped some =
       failures = dropped.failures;
     }
 
--- a sink that tells all that it took, and holds nothing back, took a piece
-pub Accepted-told : (old new piece : List ℕ) (failures : ℕ) → new ≡ old ++ piece
+-- a sink whose bytes are known, and that buffers nothing, accepted a piece
+pub Accepted-known : (old new piece : List ℕ) (failures : ℕ) → new ≡ old ++ piece
     → Accepted (record { written = Some old; buffered = []; failures = failures })
     (record { written = Some new; buffered = []; failures = failures }) piece
-Accepted-told old new piece failures is = record {
+Accepted-known old new piece failures is = record {
   accepted = grind (arith, append-nil);
   written = (piece, is);
   failures = refl;
@@ -109,7 +109,7 @@ Accepted-told old new piece failures is = record {
 
 -- ---- a text, piece after piece
 
--- of this text all but the rest was written, and no call failed
+-- of this text all but the rest was accepted, and no call failed
 pub record Left (a b : SinkState) (text rest : List ℕ) : Type 0 where
   pub prefix : List ℕ
   pub cut : text ≡ prefix ++ rest
@@ -119,7 +119,7 @@ pub record Left (a b : SinkState) (text rest : List ℕ) : Type 0 where
 pub Left-all : {a : SinkState} {text : List ℕ} → Left a a text text
 Left-all = record { prefix = []; cut = refl; wrote = Accepted-nil }
 
--- a piece of the rest was written
+-- a piece of the rest was accepted
 pub Left-step : {a b c : SinkState} {text rest more : List ℕ} (piece : List ℕ) → Left a b text rest
     → rest ≡ piece ++ more → Accepted b c piece → Left a c text more
 Left-step {more = more} piece left cut written = record {
@@ -136,22 +136,22 @@ Left-stop {a} {b} {c} {piece = piece} more left cut failed =
     let size = length-append left.prefix (piece ++ more) in
     record {
       nonempty = rw whole (omega (arith, failed.nonempty, size, length-append piece more));
-      written = rw whole (handed_part a.written b.written c.written a.buffered b.buffered left.prefix piece more
+      written = rw whole (written_proper_prefix a.written b.written c.written a.buffered b.buffered left.prefix piece more
           left.wrote.written left.wrote.accepted failed.nonempty failed.written);
       buffered = failed.buffered;
       failures = failed.failures ∙ ap one_more left.wrote.failures;
     }
 
--- the last piece is all of the rest: its call answers for the whole text
+-- the last piece is all of the rest: its result is that of the whole text
 pub Left-last : {E : Type 0} {a b : SinkState} {text rest : List ℕ} (c : SinkState) (r : Result (Unit {0}) E)
     → Left a b text rest → WritesAll b c rest r → WritesAll a c text r
 Left-last {rest = rest} c (Ok u) left last = rw left.cut (Accepted-trans left.prefix rest left.wrote last)
 Left-last {rest = rest} c (Err e) left last = Left-stop [] left (sym (append-nil rest)) last
 
--- nothing is left: all of the text was written
+-- nothing is left: all of the text was accepted
 pub Left-none : {a b : SinkState} {text rest : List ℕ} → Left a b text rest → rest ≡ [] → Accepted a b text
 Left-none left none = rw (left.cut, none, append-nil) left.wrote
 
--- a rest is what a write takes of it, and what is left behind that
+-- a rest is what a write accepts of it, and what is left after that
 pub cut_at : (rest : List ℕ) (n : ℕ) → rest ≡ take n rest ++ take (length rest - n) (drop n rest)
 cut_at rest n = rw (take_rest rest n) (sym (take-append-drop n rest))

@@ -25,7 +25,7 @@ use Rattle.hex.proofs.HexLemmas.{decode_of-ok}
 
 -- ---- the tag
 
--- the algorithm that is found is allowed, and its tag stands in front
+-- the algorithm that is found is allowed, and its tag begins the bytes
 pub record TagFound (algos : Algos) (s : List ℕ) (a : Algo) : Type 0 where
   pub allowed : Allows algos a
   pub is : s ≡ tag a ++ drop (length (tag a)) s
@@ -41,7 +41,7 @@ tag_in-some {algos = Any} {s} {a} h =
 
 -- ---- between the tag and the name
 
--- what stands behind an algorithm's tag is a width of its kinds, and what is left
+-- what follows an algorithm's tag is a width of its kinds, and what is left
 pub record Wide (a : Algo) (s : List ℕ) (w : KindValue × List ℕ) : Type 0 where
   pub is_algo : w.0.algo ≡ a
   pub width : List ℕ
@@ -153,7 +153,7 @@ tag-begins Md5 = begins-by 77 _ refl refl refl
 tag-begins Blake2b = begins-by 66 _ refl refl refl
 tag-begins sha = begins-by 83 _ refl refl refl
 
--- behind a line's blanks the backslash is read, where there is one
+-- after a line's blanks the backslash is read, if there is one
 pub mark_and_rest-prefix : (blanks : List ℕ) (e : Bool) (xs rest : List ℕ) → AllPass is_blank blanks → Begins xs
     → mark_and_rest (after_while is_blank (blanks ++ (mark e ++ (xs ++ rest)))) ≡ (e, xs ++ rest)
 mark_and_rest-prefix blanks true xs rest are b = ap mark_and_rest (parts-at is_blank blanks 92 (xs ++ rest) are refl).1
@@ -171,7 +171,7 @@ passes-other test c x pass stop = grind arith
 pub hex-no_blank : (x : ℕ) → is_hex_digit x ≡ true → is_blank x ≡ false
 hex-no_blank x h = rw (passes-other is_hex_digit 32 x h refl, passes-other is_hex_digit 9 x h refl) refl
 
--- ---- the width, and the parenthesis behind it
+-- ---- the width, and the parenthesis after it
 
 -- what may follow the width: a space or a parenthesis
 abbrev pub opening : Bool → List ℕ → List ℕ
@@ -200,14 +200,14 @@ width_at-of kind w g s (inr bits) =
 
 -- ---- the tag
 
--- the tag that stands there is found
+-- the tag there is found
 pub tag_in-tag : (algos : Algos) (a : Algo) (s : List ℕ) → Allows algos a → tag_in algos (tag a ++ s) ≡ Some a
 tag_in-tag (One b) a s allowed = rw (← allowed, starts-append (tag a) s) refl
 tag_in-tag Any a s allowed = find-begins a s
 
 -- ---- blanks, digits and the parenthesis
 
--- behind the blanks the digits are left, to the line's end
+-- after the blanks the digits are left, to the line's end
 pub rest-hex : (blanks ds : List ℕ) → AllPass is_blank blanks → AllPass is_hex_digit ds
     → after_while is_blank (blanks ++ ds) ≡ ds
 rest-hex blanks [] are all =
@@ -230,45 +230,45 @@ hex-not41 x h = λ e. let bad = rw e at h in cc
 
 -- ---- a tagged line
 
--- what stands in it behind the closing parenthesis
-abbrev pub behind_name : {algos : Algos} {line : List ℕ} {e : Bool} {kind : KindValue} {d raw : List ℕ}
+-- what follows the closing parenthesis in it
+abbrev pub after_name : {algos : Algos} {line : List ℕ} {e : Bool} {kind : KindValue} {d raw : List ℕ}
     → Tagged algos line e kind d raw → List ℕ
-behind_name t = t.before ++ (61 ∷ (t.after ++ t.digits))
+after_name t = t.before ++ (61 ∷ (t.after ++ t.digits))
 
--- behind the opening one
+-- what follows the opening one
 abbrev pub inner_of : {algos : Algos} {line : List ℕ} {e : Bool} {kind : KindValue} {d raw : List ℕ}
     → Tagged algos line e kind d raw → List ℕ
-inner_of {raw = raw} t = raw ++ (41 ∷ behind_name t)
+inner_of {raw = raw} t = raw ++ (41 ∷ after_name t)
 
--- behind the tag
-abbrev pub behind_tag : {algos : Algos} {line : List ℕ} {e : Bool} {kind : KindValue} {d raw : List ℕ}
+-- what follows the tag
+abbrev pub after_tag : {algos : Algos} {line : List ℕ} {e : Bool} {kind : KindValue} {d raw : List ℕ}
     → Tagged algos line e kind d raw → List ℕ
-behind_tag t = t.width ++ opening t.gap (inner_of t)
+after_tag t = t.width ++ opening t.gap (inner_of t)
 
 -- its blanks and its backslash are passed over
 pub tagged-prefix : {algos : Algos} {line : List ℕ} {e : Bool} {kind : KindValue} {d raw : List ℕ}
     → (t : Tagged algos line e kind d raw)
-    → mark_and_rest (after_while is_blank line) ≡ (e, tag kind.algo ++ behind_tag t)
+    → mark_and_rest (after_while is_blank line) ≡ (e, tag kind.algo ++ after_tag t)
 tagged-prefix {e = e} {kind = kind} t =
     ap (λ l. mark_and_rest (after_while is_blank l)) t.whole
-    ∙ mark_and_rest-prefix t.blanks e (tag kind.algo) (behind_tag t) t.are_blanks (tag-begins kind.algo)
+    ∙ mark_and_rest-prefix t.blanks e (tag kind.algo) (after_tag t) t.are_blanks (tag-begins kind.algo)
 
 module _ {algos : Algos} {line : List ℕ} (p : LinePartsValue) (t : IsTagged algos line p) where
-  -- behind the closing parenthesis stand `=` and the digits
-  sign-found : after_while is_blank (behind_name t) ≡ 61 ∷ (t.after ++ t.digits)
+  -- after the closing parenthesis come `=` and the digits
+  sign-found : after_while is_blank (after_name t) ≡ 61 ∷ (t.after ++ t.digits)
   sign-found = (parts-at is_blank t.before 61 (t.after ++ t.digits) t.before_blanks refl).1
 
   -- the digits are hexadecimal
   digits-are : AllPass is_hex_digit t.digits
   digits-are = (decode_of-ok t.digits p.digest t.spelled).1
 
-  -- and they are left behind the blanks
+  -- and they are left after the blanks
   pub digits-found : after_while is_blank (t.after ++ t.digits) ≡ t.digits
   digits-found = rest-hex t.after t.digits t.after_blanks digits-are
 
   -- it is the last parenthesis
-  behind-free : All Not41 (behind_name t)
-  behind-free =
+  after-free : All Not41 (after_name t)
+  after-free =
       let end : All Not41 (t.after ++ t.digits) =
       All-append Not41 t.after t.digits
       (All-weaker _ Not41 blank-not41 t.after t.after_blanks)
@@ -282,11 +282,11 @@ module _ {algos : Algos} {line : List ℕ} (p : LinePartsValue) (t : IsTagged al
   unfolding tagged_parts
   tagged_is_read = rw (
     tagged-prefix t,
-    tag_in-tag algos p.kind.algo (behind_tag t) t.allowed,
-    drop_at (tag p.kind.algo) (behind_tag t) (length (tag p.kind.algo)) refl,
+    tag_in-tag algos p.kind.algo (after_tag t) t.allowed,
+    drop_at (tag p.kind.algo) (after_tag t) (length (tag p.kind.algo)) refl,
     width_at-of p.kind t.width t.gap (inner_of t) t.is_width,
     opened-at t.gap (inner_of t),
-    rsplit-at 41 p.text (behind_name t) behind-free,
+    rsplit-at 41 p.text (after_name t) after-free,
     sign-found,
     digits-found,
     t.spelled,

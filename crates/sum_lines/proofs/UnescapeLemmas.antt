@@ -15,20 +15,20 @@ use Rattle.sum_lines.proofs.PrefixLemmas.{bind_some}
 use Rattle.std.proofs.lemmas.Grind.{flat_map-append, common_steps}
 use Rattle.std.proofs.Math.Seq.{take-append-add}
 
--- a byte that stands for itself
+-- a byte that is its own escape
 plain-first : (b : ℕ) (rest : List ℕ) → (b == 92) ≡ false → unescaped_bytes (b ∷ rest) ≡ b ∷ unescaped_bytes rest
 plain-first b rest h = grind arith
 
--- unescaping what is escaped gives the name, and goes on behind it
-pub unescaped_bytes-behind : (p : Profile) (n rest : List ℕ)
+-- unescaping what is escaped gives the name, and goes on after it
+pub unescaped_bytes-append : (p : Profile) (n rest : List ℕ)
     → unescaped_bytes (escape_by p n ++ rest) ≡ n ++ unescaped_bytes rest
-unescaped_bytes-behind p [] rest = refl
-unescaped_bytes-behind p (b ∷ bs) rest = grind (arith, append_assoc, unescaped_bytes-behind p bs rest, plain-first)
+unescaped_bytes-append p [] rest = refl
+unescaped_bytes-append p (b ∷ bs) rest = grind (arith, append_assoc, unescaped_bytes-append p bs rest, plain-first)
 
 -- up to its end
 pub unescaped_bytes-escape : (p : Profile) (n : List ℕ) → unescaped_bytes (escape_by p n) ≡ n
 unescaped_bytes-escape p n =
-    ap unescaped_bytes (sym (append-nil (escape_by p n))) ∙ unescaped_bytes-behind p n [] ∙ append-nil n
+    ap unescaped_bytes (sym (append-nil (escape_by p n))) ∙ unescaped_bytes-append p n [] ∙ append-nil n
 
 -- so a name is read back from its escape
 pub unescape-escape : (p : Profile) (n : List ℕ) → unescape p (escape_by p n) ≡ Some n
@@ -49,7 +49,7 @@ pub all-of : (xs : List ℕ) → All (λ b. 0 < b) xs → list_all (nat_lt 0) xs
 all-of xs h =
     list_all-from_AllPass (nat_lt 0) xs (All-weaker (λ b. 0 < b) (λ b. nat_lt 0 b ≡ true) (lt-ltb 0) xs h)
 
--- and what passes it holds none
+-- and what passes it has none
 of-all : (xs : List ℕ) → list_all (nat_lt 0) xs ≡ true → All (λ b. 0 < b) xs
 of-all xs h =
     All-weaker (λ b. nat_lt 0 b ≡ true) (λ b. 0 < b) (ltb-true 0) xs (AllPass-from_list_all (nat_lt 0) xs h)
@@ -90,7 +90,7 @@ pub escape-rest : (a n rest : List ℕ) → escape a ++ rest ≡ escape n → (m
 escape-rest a n rest h =
     let m = unescaped_bytes rest in
     let is : n ≡ a ++ m =
-    sym (unescaped_bytes-escape present n) ∙ ap unescaped_bytes (sym h) ∙ unescaped_bytes-behind present a rest in
+    sym (unescaped_bytes-escape present n) ∙ ap unescaped_bytes (sym h) ∙ unescaped_bytes-append present a rest in
     (m, is, append_cancel_left (escape a) rest (escape m) (h ∙ ap escape is ∙ flat_map-append (escape_of present) a m))
 
 -- no two names have the same escape
@@ -151,16 +151,16 @@ cut : (front : List ℕ) (len n : ℕ) (part post more : List ℕ) → length fr
     → take (length front + n) (take len (front ++ (part ++ post) ++ more)) ≡ front ++ take n part
 cut front len n part post more fits le = grind (arith, take-take, take-append-le, append_assoc, take-append-add)
 
--- a list cut at a place behind the part that was written into it
-pub cut_behind : {line d : List ℕ} (len from n : ℕ) (part post more : List ℕ) → d ≡ line → from + n ≤ len
+-- a list cut at a place after the part that was written into it
+pub cut_after : {line d : List ℕ} (len from n : ℕ) (part post more : List ℕ) → d ≡ line → from + n ≤ len
     → from ≤ length line → n ≤ length part
     → take (from + n) (take len (take from d ++ (part ++ post) ++ more)) ≡ take from line ++ take n part
-cut_behind {d = d} len from n part post more e fits low le =
+cut_after {d = d} len from n part post more e fits low le =
     let f : List ℕ = take from d in
     let size : length f ≡ from = length-take-le from d (rw e low) in
     ap (λ k. take (k + n) (take len (f ++ (part ++ post) ++ more))) (sym size)
     ∙ cut f len n part post more (omega (arith, size, fits)) le ∙ ap (λ l. take from l ++ take n part) e
 
 -- the rest of a list from a place on
-pub whole_behind : (line d : List ℕ) (from : ℕ) → d ≡ line → take (length d - from) (drop from d) ≡ drop from line
-whole_behind line d from e = grind (arith, common_steps)
+pub whole_after : (line d : List ℕ) (from : ℕ) → d ≡ line → take (length d - from) (drop from d) ≡ drop from line
+whole_after line d from e = grind (arith, common_steps)

@@ -1,7 +1,7 @@
--- What versions of the tools make of a name's escape and of a manifest's lines, and the escape itself, byte by byte.
+-- How names are escaped, byte by byte, and what versions of the tools differ in, of escapes and of lines.
 use Rattle.std.specs.Prelude.{◌≡◌, ℕ, ◌==◌, ◌&&◌, Bool, true, not, List, [], ◌∷◌, flat_map, bytes_eq, codes, if◌then◌else◌}
 
--- whether a name's carriage return is escaped, one at a line's end is left out, and an empty line says nothing
+-- whether a carriage return in a name is escaped, one at a line's end is left out, and an empty line is ignored
 pub record Profile : Type 0 where
   pub escapes_return : Bool
   pub drops_return : Bool
@@ -16,12 +16,15 @@ abbrev pub escape_of : Profile → ℕ → List ℕ
 escape_of p b = if b == 92 then codes "\\\\" else if b == 10 then codes "\\n"
     else if p.escapes_return && (b == 13) then codes "\\r" else b ∷ []
 
+-- the escape of a name, by the profile
 abbrev pub escape_by : Profile → List ℕ → List ℕ
 escape_by p name = flat_map (escape_of p) name
 
+-- the escape of a name by the tools here
 abbrev pub escape : List ℕ → List ℕ
 escape name = escape_by present name
 
+-- whether the escape of a name differs from the name
 abbrev pub escape_differs : Profile → List ℕ → Bool
 escape_differs p name = not (bytes_eq (escape_by p name) name)
 

@@ -9,17 +9,17 @@ use Rattle.sum_lines.specs.declared.writing.put_line.Mode.TheVariants.{Text, Bin
 use Rattle.sum_lines.specs.Escape.{present, escape, escape_differs}
 use Rattle.sum_lines.specs.grammar.Shapes.{mark}
 
--- the tag, for a BLAKE2b digest that isn't full with its bits, as `BLAKE2b-256`
+-- the tag of a line; for a BLAKE2b digest that isn't full, with its bits, as `BLAKE2b-256`
 abbrev pub line_tag : KindValue → List ℕ
 line_tag kind = tag kind.algo ++ (if kind.len == full_len kind.algo then [] else codes "-" ++ decimal (8 * kind.len))
 
--- a line without its end and without a backslash before it
+-- a line without its end and without the backslash that may begin it
 abbrev pub layout : Mode → KindValue → List ℕ → List ℕ → List ℕ
 layout Text kind name digits = concat (digits ∷ codes "  " ∷ name ∷ [])
 layout Binary kind name digits = concat (digits ∷ codes " *" ∷ name ∷ [])
 layout Tag kind name digits = concat (line_tag kind ∷ codes " (" ∷ name ∷ codes ") = " ∷ digits ∷ [])
 
--- the whole line: it ends with a newline and its name is escaped, or it ends with NUL and the name stands as it is
+-- the whole line: it ends with a newline and its name is escaped, or it ends with NUL and the name is as it is
 abbrev pub line : Style → KindValue → List ℕ → List ℕ → List ℕ
 line style kind name digest =
     let digits = encode_lower digest in

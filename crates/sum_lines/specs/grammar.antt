@@ -1,4 +1,4 @@
--- The line grammar: the shapes of a manifest's lines, the entries that they spell, and the laws of these.
+-- The line grammar: the shapes of a manifest's lines, the entries that they spell, how lines parse, and laws.
 pub mod Shapes
 pub mod Entries
 pub mod LineParts

@@ -15,9 +15,8 @@ pub fn needs_escape(name: &[u8]) -> bool
     next_special(name).is_some()
 }
 
-/// Writes the escaped name: `\\` for a backslash, `\n` for a newline, `\r` for a carriage return, each
-/// other byte as it is. A fault where a write failed; of what was held and of it a proper prefix is then handed on, and
-/// nothing is held.
+/// Writes the escaped name: `\\` for a backslash, `\n` for a newline, `\r` for a carriage return, each other byte as
+/// it is. `SinkFault` as `put_all`.
 pub fn put_escaped<S: Sink>(sink: &mut S, name: &[u8]) -> Result<(), SinkFault>
     ensures { WritesAll (S.state sink.old) (S.state sink.new) (escape name.now) result }
 {
@@ -31,7 +30,7 @@ pub fn put_escaped<S: Sink>(sink: &mut S, name: &[u8]) -> Result<(), SinkFault>
     put_all(sink, rest)
 }
 
-// The place of the first byte that its escape changes.
+// The place of the first byte that isn't its own escape; `None` if the name is its own escape.
 #[tactic(auto, using(crate::proofs::EscapeLemmas::escape_cut, crate::proofs::EscapeLemmas::differs_by))]
 fn next_special(name: &[u8]) -> Option<usize>
     ensures within { IfSome result (λ at. at < length name.now) }
@@ -54,11 +53,12 @@ fn put_escape<S: Sink>(sink: &mut S, byte: u8) -> Result<(), SinkFault>
     }
 }
 
-/// Unescapes the bytes of the line from that place on, which is at most its length. True: they were the escape of a
-/// name, and are now that name. False: they are the escape of no name; what stands before the place is as it was, what
-/// stands behind it is open, and the line isn't longer.
+/// Unescapes the bytes of the line from the place `from` on, which is at most its length. True if they were the escape
+/// of a name: they are now that name. False if they are the escape of no name: what they are now is open. The bytes
+/// before that place stay, and the line gets no longer.
 pub fn unescape_in<A: Allocator>(line: &mut Vec<u8, A>, from: usize) -> bool
     requires { from ≤ vec_len line.old }
+    // For each name: the bytes were its escape if and only if the call returns true and leaves it there.
     ensures name { (n : List ℕ) → (drop from line.old.items ≡ escape n)
         ↔ ((result ≡ true) × (line.new.items ≡ take from line.old.items ++ n)) }
     ensures before { take from line.new.items ≡ take from line.old.items }
@@ -73,7 +73,7 @@ pub fn unescape_in<A: Allocator>(line: &mut Vec<u8, A>, from: usize) -> bool
     }
 }
 
-// Unescapes in place: the name comes to the front. Answers its length; None where the bytes are no escape.
+// Unescapes in place: leaves the name in front and returns its length; `None` if the bytes are no escape.
 fn unescape(bytes: &mut [u8]) -> Option<usize>
     ensures len { IfSome result (λ len. len ≤ length bytes.old) }
     ensures name { IfSome result (λ len. bytes.old ≡ escape (take len bytes.new)) }
@@ -90,7 +90,7 @@ fn unescape(bytes: &mut [u8]) -> Option<usize>
     Some(write)
 }
 
-// The byte whose escape stands in front, and the length of its escape.
+// The byte whose escape begins the bytes, and the length of its escape; `None` if no escape begins them.
 fn first_escaped(bytes: &[u8]) -> Option<(u8, usize)>
     ensures some { IfSome result (λ r. bytes.now ≡ escape_of present r.0 ++ drop r.1 bytes.now) }
     ensures width { IfSome result (λ r. (0 < r.1) × (r.1 ≤ length bytes.now)) }

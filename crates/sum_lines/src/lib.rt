@@ -1,4 +1,12 @@
-//! Lines of checksums: where they are written, how a name is escaped in them, and how they are read.
+//! Lines of checksums: how they are written to a sink, how a name is escaped in them, and how they are read.
+//!
+//! ```rust
+//! let (reading, form) = read_line(Algos::Any, Form::Undecided, &mut line);
+//! if let Reading::Entry { kind, digest, start, stop } = reading {
+//!     let name = String::from_utf8_lossy(rt.alloc(), &line[start..stop])?;
+//!     println!(rt; "{} {digest} of {name:?}", kind.tag())?;
+//! }
+//! ```
 #![tactic(auto)]
 
 mod escape;

@@ -1,4 +1,4 @@
-//! Where bytes are written: the trait of a sink, and the sinks.
+//! The trait of a sink, to which bytes are written, and the sinks.
 
 pub(crate) mod buffered;
 pub(crate) mod from_write;

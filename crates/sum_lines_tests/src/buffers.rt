@@ -1,4 +1,4 @@
-//! Which pieces a buffer hands on: worked lines, long texts, short writes, flushes and faults.
+//! The pieces that a buffer offers to the sink below: worked lines, long texts, short writes, flushes and faults.
 
 ghost use Rattle.std.specs.Prelude.{◌≡◌, [], None};
 ghost use Rattle.digest_kinds.specs.Limits.{one_more};
@@ -12,8 +12,8 @@ use sum_lines::{Buffered, FromWrite, Mode, Sink, SinkFault, Style, ToldSink, put
 
 const DIGITS: &[u8] = b"900150983cd24fb0d6963f7d28e17f72";
 
-// A sink that takes at most so many bytes of a piece and fails at one of its writes, counted from 1 (0: at none). It
-// keeps what it was asked, with a bar behind each piece and an exclamation mark for each flush, and what it took.
+// A sink that accepts at most so many bytes of a piece and fails at one of its writes, counted from 1 (0: at none). It
+// keeps its calls, with a bar after each piece and an exclamation mark for each flush, and what it accepted.
 #[derive(Drop)]
 struct Recorder {
     most: usize,
@@ -73,19 +73,19 @@ impl Sink for Recorder {
     }
 }
 
-// A buffer over a sink that takes at most so many bytes of a piece and fails at one of its writes.
+// A buffer over a sink that accepts at most so many bytes of a piece and fails at one of its writes.
 fn recorded(most: usize, fails_at: u64) -> Buffered<Recorder> {
     Buffered::new(Recorder::new(most, fails_at))
 }
 
-// What is done with a buffer and what it answers, or what is wanted of the sink below.
+// What is done with a buffer and what it returns, or what is wanted of the sink below.
 #[derive(Clone, Copy)]
 enum Step<'a> {
     Offer(&'a [u8], Result<usize, SinkFault>),
     Flush(Result<(), SinkFault>),
-    // It was asked this.
+    // These were its calls.
     Asked(&'a [u8]),
-    // The pieces that it was asked to take have these lengths, and then this stands.
+    // The pieces that it was offered have these lengths, and then this follows.
     Lens(&'a [usize], &'a [u8]),
     // It failed so often.
     Failed(u64),
@@ -93,7 +93,7 @@ enum Step<'a> {
 
 use Step::{Asked, Failed, Flush, Lens, Offer};
 
-// Takes one step.
+// Does one step.
 fn take(rt: &impl Abort, buffer: &mut Buffered<Recorder>, step: Step) {
     match step {
         Offer(piece, answer) => assert_eq!(rt; offer(buffer, piece), answer),
@@ -104,8 +104,8 @@ fn take(rt: &impl Abort, buffer: &mut Buffered<Recorder>, step: Step) {
     }
 }
 
-// Takes the steps in turn, over a sink that takes at most so many bytes of a piece and fails at one of its writes. It
-// has taken this in the end.
+// Does the steps in turn, over a sink that accepts at most so many bytes of a piece and fails at one of its writes. It
+// has accepted this in the end.
 fn follow(rt: &impl Abort, (most, fails_at): (usize, u64), steps: &[Step], taken: &[u8]) {
     let mut buffer = recorded(most, fails_at);
     for step in steps {
@@ -114,15 +114,15 @@ fn follow(rt: &impl Abort, (most, fails_at): (usize, u64), steps: &[Step], taken
     assert_eq!(rt; buffer.into_inner().taken.bytes(), taken);
 }
 
-// The pieces that the sink below was asked to take have these lengths, and then this stands.
+// The pieces that the sink below was offered have these lengths, and then this follows.
 fn check_lens(rt: &impl Abort, buffer: &Buffered<Recorder>, lens: &[usize], end: &[u8]) {
     let mut asked = buffer.sink().asked.bytes();
     for len in lens {
         assert!(rt; *len < asked.len());
-        let (piece, behind) = asked.split_at(*len);
+        let (piece, after) = asked.split_at(*len);
         assert!(rt; !piece.contains(&b'|'));
-        assert_eq!(rt; behind.first(), Some(&b'|'));
-        asked = &behind[1..];
+        assert_eq!(rt; after.first(), Some(&b'|'));
+        asked = &after[1..];
     }
     assert_eq!(rt; asked, end);
 }
@@ -140,7 +140,7 @@ fn put_md5_line(
     put_line(buffer, style, md5, name, &digest)
 }
 
-// A line is handed on as one piece, once it is flushed.
+// A line is written as one piece when it is flushed.
 fn check_line(rt: &impl Abort, style: Style, name: &[u8], line: [&[u8]; 3]) {
     let mut want: ToldSink<256> = told(256);
     for part in line {
@@ -156,7 +156,7 @@ fn check_line(rt: &impl Abort, style: Style, name: &[u8], line: [&[u8]; 3]) {
 }
 
 #[test]
-fn a_line_with_a_flush_behind_it_is_one_piece(rt: HostRuntime) {
+fn a_line_before_a_flush_is_one_piece(rt: HostRuntime) {
     let rows: [(Mode, bool, &[u8], [&[u8]; 3]); 6] = [
         (Mode::Text, false, b"a", [b"", DIGITS, b"  a\n"]),
         (Mode::Binary, false, b"a", [b"", DIGITS, b" *a\n"]),
@@ -176,7 +176,7 @@ fn a_line_with_a_flush_behind_it_is_one_piece(rt: HostRuntime) {
 }
 
 #[test]
-fn nothing_is_handed_on_before_a_flush(rt: HostRuntime) {
+fn nothing_is_written_before_a_flush(rt: HostRuntime) {
     let steps = [
         Offer(b"a\n", Ok(2)),
         Offer(b"b\0", Ok(2)),
@@ -184,7 +184,7 @@ fn nothing_is_handed_on_before_a_flush(rt: HostRuntime) {
         Asked(b""),
         Flush(Ok(())),
         Asked(b"a\nb\0c|!"),
-        // nothing is held any more
+        // nothing is buffered any more
         Flush(Ok(())),
         Asked(b"a\nb\0c|!!"),
         Offer(b"d", Ok(1)),
@@ -193,8 +193,8 @@ fn nothing_is_handed_on_before_a_flush(rt: HostRuntime) {
     follow(&rt, (8192, 0), &steps, b"a\nb\0c");
 }
 
-// Writes so many bytes, in pieces of at most so many. Wants pieces of the first of these lengths handed on before a
-// flush, and all of them once it was flushed.
+// Writes so many bytes, in pieces of at most so many. Wants pieces of the first of these lengths written before a flush,
+// and all of them after it.
 fn check_long(rt: &impl Abort, len: usize, step: usize, before: usize, lens: &[usize]) {
     let long = [b'x'; 20000];
     let mut buffer = recorded(32768, 0);
@@ -221,7 +221,7 @@ fn long_texts_fill_the_buffer(rt: HostRuntime) {
     }
 }
 
-// As many letters as a buffer holds.
+// As many letters as a buffer has room for.
 const FULL: &[u8] = &[b'x'; 8192];
 
 #[test]
@@ -274,7 +274,7 @@ fn short_writes_lose_nothing(rt: HostRuntime) {
 }
 
 #[test]
-fn a_flush_that_fails_drops_what_is_held(rt: HostRuntime) {
+fn a_flush_that_fails_loses_what_is_buffered(rt: HostRuntime) {
     let steps = [
         Offer(b"abcde", Ok(5)),
         Flush(Err(SinkFault)),
@@ -292,7 +292,7 @@ fn a_flush_that_fails_drops_what_is_held(rt: HostRuntime) {
 }
 
 #[test]
-fn a_write_that_fails_drops_what_is_held(rt: HostRuntime) {
+fn a_write_that_fails_loses_what_is_buffered(rt: HostRuntime) {
     let steps = [
         Offer(FULL, Ok(8192)),
         Offer(b"abc", Err(SinkFault)),
@@ -317,7 +317,7 @@ fn a_full_sink_has_a_prefix(rt: HostRuntime) {
     }
 }
 
-// A writer that takes all and can't be flushed.
+// A writer that accepts all and can't be flushed.
 #[derive(Drop)]
 struct Unflushed;
 
@@ -336,7 +336,7 @@ fn a_flush_is_asked_below(rt: HostRuntime) {
     let mut unflushed = Buffered::new(FromWrite::new(Unflushed));
     assert_eq!(rt; offer(&mut unflushed, b"a\n"), Ok(2));
     assert_eq!(rt; flush(&mut unflushed), Err(SinkFault));
-    // also where nothing is held
+    // also if nothing is buffered
     assert_eq!(rt; flush(&mut unflushed), Err(SinkFault));
 }
 

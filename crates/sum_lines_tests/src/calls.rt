@@ -1,4 +1,4 @@
-//! Calls of sinks, as the tests make them. They have no contracts, so that a test knows no more of an answer than it
+//! Calls of sinks, as the tests make them. They have no contracts, so that a test knows no more of a result than it
 //! sees, which keeps its proof short.
 
 use sum_lines::{Sink, SinkFault, ToldSink, put_all};
@@ -15,7 +15,7 @@ pub(crate) fn flush(sink: &mut impl Sink) -> Result<(), SinkFault> {
     sink.flush()
 }
 
-// A told sink that stops after so many bytes.
+// A sink in memory that stops after so many bytes.
 pub(crate) fn told<const N: usize>(stop: usize) -> ToldSink<N> {
     ToldSink::new(stop)
 }

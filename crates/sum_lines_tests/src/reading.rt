@@ -19,7 +19,7 @@ const E: &[u8] = b"d41d8cd98f00b204e9800998ecf8427e";
 
 const B: &[u8] = b"0e5751c026e543b2e8ab2eb06099daa1d1e5df47778f7787faab45cdf12fe3a8";
 
-// What a line is to say: an entry with its name and where that is left.
+// What a line is to say: an entry with its name and the name's range.
 #[derive(Clone, Copy)]
 enum Want<'a> {
     Ignored,
@@ -29,8 +29,7 @@ enum Want<'a> {
 
 use Want::{Bad, Entry, Ignored};
 
-// A line, as what stands before its digits, the digits and what stands behind them, what it is to say, and the form
-// with it.
+// A line, as what precedes its digits, the digits and what follows them, what it is to say, and the form with it.
 type Row<'a> = (&'a [u8], &'a [u8], &'a [u8], Want<'a>, Form);
 
 // What is said of the line. There is no contract, so that tests don't know more than they see.
@@ -38,7 +37,7 @@ fn said(algos: Algos, form: Form, line: &mut Vec<u8>) -> (Reading, Form) {
     read_line(algos, form, line)
 }
 
-// Reads the row's line in a manifest of that form, and answers the form with it.
+// Reads the row's line in a manifest of that form, and returns the form with it.
 fn check_line(
     rt: &impl Abort,
     algos: Algos,
@@ -166,7 +165,7 @@ fn lengths_of_blake2b(rt: HostRuntime) -> Result<(), Fail> {
 
 #[test]
 fn as_many_digits_as_a_digest_has(rt: HostRuntime) -> Result<(), Fail> {
-    // SHA-512 of `abc`, and digits behind it.
+    // SHA-512 of `abc`, and digits after it.
     const D: &[u8] = b"ddaf35a193617abacc417349ae20413112e6fa4e89a97ea20a9eeee64b55d39a\
         2192992a274fc1a836ba3c23a3feebbd454d4423643ce80e2a9ac94fa54ca49fab";
     let letters = [b'a'; 1000];

@@ -6,7 +6,7 @@ use std::io::{ErrorKind, Write};
 use std::process::Abort;
 use sum_lines::{FromWrite, Part, Sink, SinkFault, ToldSink, put_escaped, put_number, put_parts};
 
-// A writer that fails so often, with an error of this kind, before it takes anything.
+// A writer that fails so often, with an error of this kind, before it accepts anything.
 #[derive(Drop)]
 struct FailsFirst {
     kind: ErrorKind,
@@ -28,8 +28,8 @@ impl Write for FailsFirst {
     }
 }
 
-// A writer that takes at most so many bytes of a piece, can't be flushed where there is an error of a flush, and counts
-// what it was asked.
+// A writer that accepts at most so many bytes of a piece, can't be flushed if there is an error of a flush, and counts
+// its calls.
 #[derive(Drop)]
 struct Counts {
     most: usize,
@@ -67,17 +67,18 @@ impl Write for Counts {
     }
 }
 
-// A piece, and what a sink answers to it.
+// A piece, and what a sink's write of it returns.
 type Turn<'a> = (&'a [u8], Result<usize, SinkFault>);
 
-// The sink answers so to these pieces in turn.
+// The sink's writes of these pieces, in turn, return this.
 fn check_turns(rt: &impl Abort, sink: &mut impl Sink, turns: &[Turn]) {
     for (piece, answer) in turns {
         assert_eq!(rt; offer(sink, piece), *answer);
     }
 }
 
-// A sink over a writer that fails so often, with an error of this kind, answers so. What the writer took is `abc`.
+// The writes of a sink over a writer that fails so often, with an error of this kind, return this. The writer accepted
+// `abc`.
 fn check_failures(rt: &(impl Abort + AllocGlobal), kind: ErrorKind, left: u32, turns: &[Turn]) {
     let mut writer = FailsFirst {
         kind,
@@ -109,8 +110,8 @@ fn only_interruptions_are_tried_again(rt: HostRuntime) {
     }
 }
 
-// A sink over a writer that takes at most so many bytes of a piece answers so, and the writer was then asked for so
-// many writes, of so many bytes in all.
+// The writes of a sink over a writer that accepts at most so many bytes of a piece return this, by so many writes of the
+// writer, of so many bytes in all.
 fn check_calls(rt: &impl Abort, most: usize, turns: &[Turn], asked: (u64, usize)) {
     let mut writer = Counts::new(most, None);
     check_turns(rt, &mut FromWrite::new(&mut writer), turns);
@@ -124,7 +125,7 @@ fn a_piece_is_one_call_of_the_writer(rt: HostRuntime) {
     check_calls(&rt, usize::MAX, &[(&piece, Ok(100000))], (1, 100000));
     check_calls(&rt, 40000, &[(&piece, Ok(40000))], (1, 100000));
     check_calls(&rt, usize::MAX, &[(b"", Ok(0))], (0, 0));
-    // one that takes nothing is asked once
+    // one that accepts nothing is called once
     check_calls(&rt, 0, &[(b"abc", Err(SinkFault))], (1, 3));
     check_calls(&rt, 0, &[(b"", Ok(0))], (0, 0));
 }
@@ -140,7 +141,7 @@ fn all_is_put_in_as_few_calls(rt: HostRuntime) {
     );
 }
 
-// A flush of a sink over a writer with this error of a flush answers so, and the writer is asked for one.
+// The flush of a sink over a writer with this error of a flush returns this, by one flush of the writer.
 fn check_flush(rt: &impl Abort, unflushed: Option<ErrorKind>, answer: Result<(), SinkFault>) {
     let mut writer = Counts::new(usize::MAX, unflushed);
     let mut sink = FromWrite::new(&mut writer);
@@ -179,11 +180,11 @@ fn refusals_of_a_writer_are_faults(rt: HostRuntime) {
     assert_eq!(rt; flush(&mut refuses), Ok(()));
 }
 
-// A told sink with this stop answers so, and holds this.
+// The writes of a sink in memory with this stop return this, and its bytes are these.
 fn check_told(rt: &impl Abort, stop: usize, turns: &[Turn], bytes: &[u8]) {
     let mut sink: ToldSink<8> = told(stop);
     check_turns(rt, &mut sink, turns);
-    // it holds nothing back
+    // it buffers nothing
     assert_eq!(rt; flush(&mut sink), Ok(()));
     assert_eq!(rt; sink.bytes(), bytes);
 }

@@ -35,7 +35,7 @@ const ZERO: Style = Style {
     zero: true,
 };
 
-// A name and its digest, and the line that is wanted for them: what stands before the digits and behind them.
+// A name and its digest, and the line that is wanted for them: what precedes the digits and what follows them.
 #[derive(Clone, Copy)]
 struct Row<'a> {
     style: Style,
@@ -43,7 +43,7 @@ struct Row<'a> {
     digits: &'a [u8],
     name: &'a [u8],
     before: &'a [u8],
-    behind: &'a [u8],
+    after: &'a [u8],
 }
 
 // Writes the row's line.
@@ -56,7 +56,7 @@ fn put_row(rt: &impl Abort, sink: &mut ToldSink<256>, row: &Row) -> Result<(), S
 // Writes the row's line into a sink that stops after each count of bytes up to the line's length.
 fn check_row(rt: &impl Abort, row: &Row) {
     let mut want: ToldSink<256> = told(256);
-    for piece in [row.before, row.digits, row.behind] {
+    for piece in [row.before, row.digits, row.after] {
         assert_eq!(rt; put(&mut want, piece), Ok(()));
     }
     let want = want.bytes();
@@ -85,7 +85,7 @@ fn plain_lines(rt: HostRuntime) {
         (TEXT, ABC, b"\r", b"\\", b"  \\r\n"),
         (TAG, ABC, b"a", b"MD5 (a) = ", b"\n"),
     ];
-    for (style, digits, name, before, behind) in rows {
+    for (style, digits, name, before, after) in rows {
         check_row(
             &rt,
             &Row {
@@ -94,7 +94,7 @@ fn plain_lines(rt: HostRuntime) {
                 digits,
                 name,
                 before,
-                behind,
+                after,
             },
         );
     }
@@ -119,7 +119,7 @@ fn tagged_blake2b_lines(rt: HostRuntime) -> Result<(), Fail> {
             b"\0",
         ),
     ];
-    for (style, kind, digits, before, behind) in rows {
+    for (style, kind, digits, before, after) in rows {
         check_row(
             &rt,
             &Row {
@@ -128,14 +128,14 @@ fn tagged_blake2b_lines(rt: HostRuntime) -> Result<(), Fail> {
                 digits,
                 name: b"e",
                 before,
-                behind,
+                after,
             },
         );
     }
     Ok(())
 }
 
-// The bytes behind the first are read back as this name, or are no escaped name. The first is left as it is.
+// The bytes after the first are read back as this name, or are no escaped name. The first stays as it is.
 fn check_read_back(
     rt: &(impl Abort + AllocGlobal),
     bytes: &[u8],

@@ -6,7 +6,7 @@ use Rattle.blake2b_core.specs.Compression.{◌!◌, ◌⊻◌, iv, compress}
 abbrev pub initial : ℕ → List ℕ
 initial n = slice_set iv 0 (iv ! 0 ⊻ (0x01010000 ⊻ n))
 
--- h after the first blocks of d, as many as are asked for, none of which is the last
+-- h after so many of the first blocks of d, none of which is the last
 unfoldable pub hash_after : ℕ → List (List ℕ) → ℕ → List ℕ
 hash_after n d zero = initial n
 hash_after n d (suc i) = compress (hash_after n d i) (slice_index_or d i []) (128 * (i + 1)) false

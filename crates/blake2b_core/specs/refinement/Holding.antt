@@ -1,4 +1,5 @@
--- Joins `new`, `update` and `finish` of `Blake2b`: which message a state holds.
+-- Joins `new`, `update` and `finish` of `Blake2b`: which message a state may have taken. As the kit's digests do, a state
+-- holds a message if it has taken it.
 use Rattle.std.specs.Prelude.{◌≡◌, ℕ, ◌+◌, ◌*◌, ◌<◌, List, [], length, take, drop, slice_index_or}
 use Rattle.blake2b_core.specs.Digest.{blocks}
 use Rattle.blake2b_core.specs.refinement.Chaining.{hash_after}
@@ -8,14 +9,15 @@ use Rattle.blake2b_core.specs.declared.incremental.Blake2b.{Blake2b}
 abbrev pub AreBlocksFrom : List ℕ → ℕ → List (List ℕ) → Type 0
 AreBlocksFrom m k bs = (i : ℕ) → i < length bs → slice_index_or bs i [] ≡ slice_index_or (blocks m) (k + i) []
 
--- the length of the digest that the state is made for, and how many bytes it has taken
+-- the length of the digest that the state is made for
 abbrev pub digest_len : Blake2b → ℕ
 digest_len s = s.len
 
+-- how many bytes it has taken
 abbrev pub taken : Blake2b → ℕ
 taken s = s.taken
 
--- some blocks of the message m, counted by `done`, were compressed, and the bytes behind them are held
+-- some blocks of the message m, counted by `done`, were compressed, and the bytes after them are buffered
 pub record HoldsSoFar (s : Blake2b) (m : List ℕ) : Type 0 where
   pub taken : s.taken ≡ length m
   pub done : ℕ
@@ -23,8 +25,8 @@ pub record HoldsSoFar (s : Blake2b) (m : List ℕ) : Type 0 where
   pub hash : s.h ≡ hash_after s.len (blocks m) done
   pub rest : take s.buffer_len s.buffer ≡ drop (128 * done) m
 
--- the state s holds the message m: besides, the last block is held, so that only the empty message
--- leaves nothing held
+-- the state s holds the message m: besides, the last block is buffered, so that only the empty message leaves nothing
+-- buffered
 pub record Holds (s : Blake2b) (m : List ℕ) : Type 0 where
   pub so_far : HoldsSoFar s m
   pub empty_buffer : s.buffer_len ≡ 0 → m ≡ []

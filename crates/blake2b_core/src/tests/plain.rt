@@ -1,60 +1,10 @@
-//! The compression function F of RFC 7693 in plain words, without lanes.
+//! The compression function F of RFC 7693, one G after another as the standard has it: what the lanes are compared with.
 ghost use Rattle.std.specs.Prelude.{◌<◌};
 
 use crate::compression::IV;
 use byteorder::{ByteOrder, LittleEndian};
 
-fn sums(x: [u64; 4], y: [u64; 4]) -> [u64; 4] {
-    [
-        x[0].wrapping_add(y[0]),
-        x[1].wrapping_add(y[1]),
-        x[2].wrapping_add(y[2]),
-        x[3].wrapping_add(y[3]),
-    ]
-}
-
-fn turned(x: [u64; 4], y: [u64; 4], bits: u32) -> [u64; 4] {
-    [
-        (x[0] ^ y[0]).rotate_right(bits),
-        (x[1] ^ y[1]).rotate_right(bits),
-        (x[2] ^ y[2]).rotate_right(bits),
-        (x[3] ^ y[3]).rotate_right(bits),
-    ]
-}
-
-// G on the columns of the working vector, with the words `x` and `y`.
-fn mixed_columns(v: [u64; 16], x: [u64; 4], y: [u64; 4]) -> [u64; 16] {
-    let a = sums(sums([v[0], v[1], v[2], v[3]], [v[4], v[5], v[6], v[7]]), x);
-    let d = turned([v[12], v[13], v[14], v[15]], a, 32);
-    let c = sums([v[8], v[9], v[10], v[11]], d);
-    let b = turned([v[4], v[5], v[6], v[7]], c, 24);
-    let a = sums(sums(a, b), y);
-    let d = turned(d, a, 16);
-    let c = sums(c, d);
-    let b = turned(b, c, 63);
-    [
-        a[0], a[1], a[2], a[3], b[0], b[1], b[2], b[3], c[0], c[1], c[2], c[3], d[0], d[1], d[2],
-        d[3],
-    ]
-}
-
-// G on the diagonals: they stand in columns where the second, third and fourth row are turned by one,
-// two and three places.
-fn mixed_diagonals(v: [u64; 16], x: [u64; 4], y: [u64; 4]) -> [u64; 16] {
-    let a = sums(sums([v[0], v[1], v[2], v[3]], [v[5], v[6], v[7], v[4]]), x);
-    let d = turned([v[15], v[12], v[13], v[14]], a, 32);
-    let c = sums([v[10], v[11], v[8], v[9]], d);
-    let b = turned([v[5], v[6], v[7], v[4]], c, 24);
-    let a = sums(sums(a, b), y);
-    let d = turned(d, a, 16);
-    let c = sums(c, d);
-    let b = turned(b, c, 63);
-    [
-        a[0], a[1], a[2], a[3], b[3], b[0], b[1], b[2], c[2], c[3], c[0], c[1], d[1], d[2], d[3],
-        d[0],
-    ]
-}
-
+// The order in which the rounds take the words of a block (RFC 7693, 2.7).
 #[rattlefmt::skip]
 const SIGMA: [[usize; 16]; 10] = [
     [0, 1, 2, 3, 4, 5, 6, 7, 8, 9, 10, 11, 12, 13, 14, 15],
@@ -69,48 +19,43 @@ const SIGMA: [[usize; 16]; 10] = [
     [10, 2, 8, 4, 7, 6, 1, 5, 15, 11, 9, 14, 3, 12, 13, 0],
 ];
 
+// G (RFC 7693, 3.1): mixes the words `x` and `y` into `v` at the places `a`, `b`, `c` and `d`.
+fn mix(v: &mut [u64; 16], a: usize, b: usize, c: usize, d: usize, x: u64, y: u64)
+    requires a { a < 16 }
+    requires b { b < 16 }
+    requires c { c < 16 }
+    requires d { d < 16 }
+{
+    v[a] = v[a].wrapping_add(v[b]).wrapping_add(x);
+    v[d] = (v[d] ^ v[a]).rotate_right(32);
+    v[c] = v[c].wrapping_add(v[d]);
+    v[b] = (v[b] ^ v[c]).rotate_right(24);
+    v[a] = v[a].wrapping_add(v[b]).wrapping_add(y);
+    v[d] = (v[d] ^ v[a]).rotate_right(16);
+    v[c] = v[c].wrapping_add(v[d]);
+    v[b] = (v[b] ^ v[c]).rotate_right(63);
+}
+
 // The word of the block that round `r` takes at place `i` of its row of SIGMA.
-fn scheduled(m: &[u64; 16], r: usize, i: usize) -> u64
+fn word(m: &[u64; 16], r: usize, i: usize) -> u64
     requires round { r < 12 }
     requires place { i < 16 }
 {
     m[SIGMA[r % 10][i] % 16]
 }
 
-// Round `r`: four columns, then four diagonals.
-fn round(m: &[u64; 16], v: [u64; 16], r: usize) -> [u64; 16]
+// Round `r` (RFC 7693, 3.2): G on each of the four columns, and then on each of the four diagonals.
+fn round(m: &[u64; 16], v: &mut [u64; 16], r: usize)
     requires { r < 12 }
 {
-    let v = mixed_columns(
-        v,
-        [
-            scheduled(m, r, 0),
-            scheduled(m, r, 2),
-            scheduled(m, r, 4),
-            scheduled(m, r, 6),
-        ],
-        [
-            scheduled(m, r, 1),
-            scheduled(m, r, 3),
-            scheduled(m, r, 5),
-            scheduled(m, r, 7),
-        ],
-    );
-    mixed_diagonals(
-        v,
-        [
-            scheduled(m, r, 8),
-            scheduled(m, r, 10),
-            scheduled(m, r, 12),
-            scheduled(m, r, 14),
-        ],
-        [
-            scheduled(m, r, 9),
-            scheduled(m, r, 11),
-            scheduled(m, r, 13),
-            scheduled(m, r, 15),
-        ],
-    )
+    mix(v, 0, 4, 8, 12, word(m, r, 0), word(m, r, 1));
+    mix(v, 1, 5, 9, 13, word(m, r, 2), word(m, r, 3));
+    mix(v, 2, 6, 10, 14, word(m, r, 4), word(m, r, 5));
+    mix(v, 3, 7, 11, 15, word(m, r, 6), word(m, r, 7));
+    mix(v, 0, 5, 10, 15, word(m, r, 8), word(m, r, 9));
+    mix(v, 1, 6, 11, 12, word(m, r, 10), word(m, r, 11));
+    mix(v, 2, 7, 8, 13, word(m, r, 12), word(m, r, 13));
+    mix(v, 3, 4, 9, 14, word(m, r, 14), word(m, r, 15));
 }
 
 // The working vector before the first round.
@@ -136,11 +81,12 @@ fn block_words(block: &[u8; 128]) -> [u64; 16] {
     m
 }
 
+// F (RFC 7693, 3.2).
 pub(super) fn compress(h: &[u64; 8], block: &[u8; 128], t: u128, last: bool) -> [u64; 8] {
     let m = block_words(block);
     let mut v = start(h, t, last);
     for r in 0..12 {
-        v = round(&m, v, r);
+        round(&m, &mut v, r);
     }
     [
         h[0] ^ v[0] ^ v[8],

@@ -1,4 +1,4 @@
--- Joins `new`, `update` and `finish` of `AnyHasher`: each of its hashers has the message, kind and count of its own.
+-- Joins `new`, `update` and `finish` of `AnyHasher`: its message, kind and count are those of the hasher in it.
 use Rattle.std.specs.Prelude.{◌≡◌, ℕ, List, length}
 use Rattle.md5.specs.Md5.{Holds as HoldsMd5}
 use Rattle.sha1.specs.Sha1.{Holds as HoldsSha1}
@@ -9,7 +9,7 @@ use Rattle.digest_kinds.specs.declared.hashers.any_hasher.AnyHasher.{AnyHasher}
 use Rattle.digest_kinds.specs.declared.hashers.any_hasher.AnyHasher.TheVariants.{Md5, Sha1, Sha224, Sha256, Sha384, Sha512, Blake2b}
 use Rattle.digest_kinds.specs.declared.algo.Algo.TheVariants as algos
 
--- the message that it holds
+-- it has taken this message
 abbrev pub HasherHolds : AnyHasher → List ℕ → Type 0
 HasherHolds (Md5 h) m = HoldsMd5 h.inner m × (h.taken ≡ length m)
 HasherHolds (Sha1 h) m = HoldsSha1 h.inner m × (h.taken ≡ length m)

@@ -11,7 +11,7 @@ use crate::hashers::kit_hashers::{
 use crate::kind::Kind;
 use blake2b_core::Blake2b;
 
-/// Computes digests of one kind, which is chosen when it is made.
+/// Computes the digest of one kind, which is chosen when it is made.
 #[derive(Drop)]
 pub enum AnyHasher {
     /// MD5.

@@ -1,4 +1,4 @@
-//! What every hasher does.
+//! The trait of a hasher.
 
 ghost use Rattle.std.specs.Prelude.{◌≡◌, ℕ, ◌+◌, ◌<◌, List, ◌++◌, length};
 ghost use Rattle.digest_kinds.specs.Kinds.{KindValue, digest};
@@ -7,17 +7,18 @@ use crate::digest::Digest;
 use crate::kind::Kind;
 pub use blake2b_core::LIMIT;
 
-/// Takes a message in pieces and gives its digest.
+/// Takes a message piece by piece, and returns its digest.
 pub trait Hasher {
     // The hasher has taken this message. A hasher need not store it, so this is a relation.
     ghost holds: { Self → List ℕ → Type 0 };
 
+    // The kind of its digest.
     ghost kind_of: { Self → KindValue };
 
     // How many bytes it has taken.
     ghost taken_of: { Self → ℕ };
 
-    /// The kind of digest that `finish` gives.
+    /// The kind of the digest that `finish` returns.
     fn kind(&self) -> Kind
         ensures { result ≡ kind_of self.now };
 
@@ -28,6 +29,7 @@ pub trait Hasher {
     /// Takes the message's next piece. The whole message has to stay below [`LIMIT`](crate::LIMIT) bytes.
     fn update(&mut self, piece: &[u8])
         requires { taken_of self.old + length piece.now < LIMIT }
+        // For each message that it may have taken: it has then taken that and the piece.
         ensures holds { (m : List ℕ) → holds self.old m → holds self.new (m ++ piece.now) }
         ensures taken { taken_of self.new ≡ taken_of self.old + length piece.now }
         ensures kind { kind_of self.new ≡ kind_of self.old };
@@ -37,6 +39,6 @@ pub trait Hasher {
         ensures value { (m : List ℕ) → holds self m → result ≡ digest (kind_of self) m }
         ensures len { length result ≡ (kind_of self).len };
 
-    // What was taken is as long as the message.
+    // It has taken as many bytes as its message has.
     ghost counts: { (h : Self) (m : List ℕ) → holds h m → taken_of h ≡ length m };
 }

@@ -9,7 +9,7 @@ use crate::{
 use blake2b_core::Blake2b;
 use std::process::Abort;
 
-// A new hasher gives the message's digest, of its kind's length, and has taken the message.
+// A new hasher returns the message's digest, of its kind's length, and has taken the message.
 fn assert_digest<H: Hasher>(rt: &impl Abort, mut hasher: H, message: &[u8], digits: &[u8])
     requires new { H.holds hasher [] }
     requires short { length message.now < 1000 }

@@ -1,4 +1,4 @@
-//! Tags in front of bytes, and the lengths of BLAKE2b digests.
+//! Tags that begin bytes, and the lengths of BLAKE2b digests.
 use crate::{Algo, Kind, LengthFault};
 
 #[test]

@@ -1,4 +1,4 @@
--- What a manifest's line says: the form that plain lines give the whole list, and the entry that a line spells.
+-- What a manifest's lines say: the form, which the first plain line decides for all, and the entry that a line spells.
 use Rattle.std.specs.Prelude.{ℕ, ◌≡◌, ◌<◌, ◌⊎◌, ◌==◌, ◌||◌, Bool, false, List, [], ◌∷◌, IsTrue, if◌then◌else◌, All}
 use Rattle.std.specs.Option.{option_map_or}
 use Rattle.digest_kinds.specs.Kinds.{KindValue}
@@ -8,23 +8,25 @@ use Rattle.sum_lines.specs.grammar.LineParts.{plain_parts}
 pub use Rattle.sum_lines.specs.declared.reading.read_line.Form.{Form}
 pub use Rattle.sum_lines.specs.declared.reading.read_line.Form.TheVariants.{Undecided, Standard, Reversed}
 
--- a line that says nothing: `#` (35) stands first, or it is empty, unless the profile holds that to be improper
+-- whether a line is ignored: it begins with `#` (35), or it is empty, unless the profile has that for a bad line
 abbrev pub is_ignored_by : Profile → List ℕ → Bool
 is_ignored_by p [] = p.ignores_empty
 is_ignored_by p (b ∷ bs) = b == 35
 
+-- the same by the tools here
 abbrev pub is_ignored : List ℕ → Bool
 is_ignored line = is_ignored_by present line
 
--- two bytes at least, the first of them a space (32) or a star (42)
+-- whether a plain line's tail is that of a Standard list: it begins with a space (32) or a star (42), and goes on
 abbrev pub begins_standard : List ℕ → Bool
 begins_standard (b ∷ c ∷ bs) = b == 32 || b == 42
 begins_standard tail = false
 
+-- the form that a plain line's tail decides
 abbrev pub form_of_tail : List ℕ → Form
 form_of_tail tail = if begins_standard tail then Standard else Reversed
 
--- The form of a list of lines: the first line that isn't ignored and is plain decides it, by its tail.
+-- A line decides the form of a list if it isn't ignored and is plain: by its tail.
 pub record DecidesForm (algos : Algos) (line : List ℕ) (form : Form) : Type 0 where
   pub escaped : Bool
   pub kind : KindValue
@@ -34,36 +36,39 @@ pub record DecidesForm (algos : Algos) (line : List ℕ) (form : Form) : Type 0 
   pub plain : Plain algos line escaped kind digest tail
   pub is : form ≡ form_of_tail tail
 
+-- The form of a list of lines: the first line that decides one decides it; without such a line it is Undecided.
 abbrev pub IsForm : Algos → List (List ℕ) → Form → Type 0
 IsForm algos [] form = form ≡ Undecided
 IsForm algos (line ∷ later) form = DecidesForm algos line form
     ⊎ (((f : Form) → ¬ DecidesForm algos line f) × IsForm algos later form)
 
--- The raw name, as it stands in the line, spells a name: the name holds no NUL, and the raw name is its escape
--- behind a leading backslash, and the name itself otherwise.
+-- The raw name, as the line has it, spells a name: the name has no NUL; the raw name is its escape if a backslash
+-- begins the line, and the name itself if not.
 pub record Spells (escape : List ℕ → List ℕ) (escaped : Bool) (raw name : List ℕ) : Type 0 where
   pub no_nul : All (λ b. 0 < b) name
   pub is : raw ≡ (if escaped then escape name else name)
 
--- the raw name in a plain line's tail: in a Reversed list the whole of it; in a Standard one all but its first byte,
--- where that is a space or a star and more follows
+-- the raw name in a plain line's tail: in a Reversed list all of it; in a Standard one all but its first byte, if that
+-- is a space or a star and more follows
 abbrev pub RawOf : Form → List ℕ → List ℕ → Type 0
 RawOf Undecided tail raw = ⊥
 RawOf Reversed tail raw = raw ≡ tail
 RawOf Standard tail raw = IsTrue (begins_standard tail) × (b : ℕ) × (tail ≡ b ∷ raw)
 
--- what an entry spells
+-- an entry: a digest of that kind, and the name of the file that has it
 pub record EntryValue : Type 0 where
   pub kind : KindValue
   pub digest : List ℕ
   pub name : List ℕ
 
+-- the entry of a tagged line, whose raw name spells the name
 pub record ByTag (escape : List ℕ → List ℕ) (algos : Algos) (line : List ℕ) (s : EntryValue) : Type 0 where
   pub escaped : Bool
   pub raw : List ℕ
   pub tagged : Tagged algos line escaped s.kind s.digest raw
   pub spells : Spells escape escaped raw s.name
 
+-- the entry of a plain line, in whose tail the form finds the raw name
 pub record ByTail (escape : List ℕ → List ℕ) (algos : Algos) (form : Form) (line : List ℕ) (s : EntryValue) : Type 0
   where
     pub escaped : Bool
@@ -73,21 +78,21 @@ pub record ByTail (escape : List ℕ → List ℕ) (algos : Algos) (form : Form)
     pub is_raw : RawOf form tail raw
     pub spells : Spells escape escaped raw s.name
 
--- An entry: what a line spells in a list of that form. Names are escaped by `escape`.
+-- The entry that a line spells in a list of that form, if it isn't ignored. Names are escaped by `escape`.
 abbrev pub IsEntry : (List ℕ → List ℕ) → Algos → Form → List ℕ → EntryValue → Type 0
 IsEntry escape algos form line s = (is_ignored line ≡ false)
     × (ByTag escape algos line s ⊎ ByTail escape algos form line s)
 
--- The form, computed. It need not be believed: by the law `one_form` it is the list's. First that of one line, and one
--- form after another, as lines are read one by one.
+-- The form of one line, computed. It need not be believed: by the law `one_form` the form below is the list's.
 abbrev pub line_form : Algos → List ℕ → Form
 line_form algos line = option_map_or (λ p. form_of_tail p.text) (plain_parts algos line) Undecided
 
+-- a form, and after it that of later lines: what is decided stays
 abbrev pub form_then : Form → Form → Form
 form_then Undecided later = later
 form_then decided later = decided
 
--- that of the list: the first plain line decides it
+-- the form of a list of lines, one after another
 abbrev pub form : Algos → List (List ℕ) → Form
 form algos [] = Undecided
 form algos (line ∷ later) = form_then (line_form algos line) (form algos later)

@@ -1,4 +1,4 @@
--- What the laws of the line grammar say.
+-- What the laws of the line grammar say, and what `read_line` promises by it.
 use Rattle.std.specs.Prelude.{ℕ, ◌≡◌, ◌≢◌, ◌<◌, ◌↔◌, ◌⊎◌, Bool, true, false, List, [], ◌∷◌, ◌++◌, length, codes, IsTrue, All}
 use Rattle.hex.specs.Hex.{IsBytes}
 use Rattle.digest_kinds.specs.Kinds.{KindValue, has_len}
@@ -7,7 +7,7 @@ use Rattle.sum_lines.specs.grammar.Entries.{Form, Undecided, Standard, EntryValu
 use Rattle.sum_lines.specs.Lines.{Mode, line}
 use Rattle.sum_lines.specs.declared.writing.put_line.Mode.TheVariants.{Tag}
 use Rattle.sum_lines.specs.Escape.{Profile, escape, escape_by}
-use Rattle.sum_lines.specs.grammar.ParsedLines.{ignored, bad, entry, parse_line}
+use Rattle.sum_lines.specs.grammar.ParsedLines.{ParsedLine, ignored, bad, entry, parse_line}
 
 -- for given algorithms and a given form a line spells at most one entry
 abbrev pub OneEntry : Type 0
@@ -23,36 +23,37 @@ Apart = (algos others : Algos) (line : List ℕ) (e f : Bool) (kind other : Kind
 abbrev pub OneForm : Type 0
 OneForm = (algos : Algos) (lines : List (List ℕ)) (f : Form) → IsForm algos lines f ↔ (f ≡ form algos lines)
 
--- what a line says, whichever the profile: nothing where it is ignored; otherwise its entry or, where it has none, that
--- it is improper
-pub record ParseMatches (p : Profile) (algos : Algos) (f : Form) (line : List ℕ) : Type 0 where
-  pub when_ignored : (parse_line p algos f line ≡ ignored) ↔ (is_ignored_by p line ≡ true)
-  pub when_entry : (s : EntryValue) → (parse_line p algos f line ≡ entry s)
+-- What the grammar says of a line: it is ignored, its entry, or bad, each if and only if it is so.
+pub record ParseMatches (p : Profile) (algos : Algos) (f : Form) (line : List ℕ) (said : ParsedLine) : Type 0 where
+  pub when_ignored : (said ≡ ignored) ↔ (is_ignored_by p line ≡ true)
+  pub when_entry : (s : EntryValue) → (said ≡ entry s)
       ↔ ((is_ignored_by p line ≡ false) × IsEntry (escape_by p) algos f line s)
-  pub when_bad : (parse_line p algos f line ≡ bad)
+  pub when_bad : (said ≡ bad)
       ↔ ((is_ignored_by p line ≡ false) × ((s : EntryValue) → ¬ IsEntry (escape_by p) algos f line s))
 
+-- what is computed of a line is what the grammar says of it, whichever the profile
 abbrev pub ParseIsGrammar : Type 0
-ParseIsGrammar = (p : Profile) (algos : Algos) (f : Form) (line : List ℕ) → ParseMatches p algos f line
+ParseIsGrammar = (p : Profile) (algos : Algos) (f : Form) (line : List ℕ)
+    → ParseMatches p algos f line (parse_line p algos f line)
 
--- what comes behind a line has no part in what it says
+-- later lines don't change how a line parses
 abbrev pub SameParse : Type 0
 SameParse = (p : Profile) (algos : Algos) (before later others : List (List ℕ)) (line : List ℕ)
     → parse_line p algos (form algos (before ++ (line ∷ later))) line
     ≡ parse_line p algos (form algos (before ++ (line ∷ others))) line
 
--- nor in the form behind a plain line
+-- nor the form of the list, after a plain line
 abbrev pub SameForm : Type 0
 SameForm = (algos : Algos) (before later others : List (List ℕ)) (line : List ℕ)
     → (e : Bool) (kind : KindValue) (d tail : List ℕ) → Plain algos line e kind d tail
     → form algos (before ++ (line ∷ later)) ≡ form algos (before ++ (line ∷ others))
 
--- who reads a line of that mode: the tool of its algorithm, and in tagged mode the one that takes any algorithm
+-- the algorithms by which a line of that mode is read back: its own, and in tagged mode any
 abbrev pub ReadBy : Algos → Mode → Algo → Type 0
 ReadBy (One a) mode algo = a ≡ algo
 ReadBy Any mode algo = mode ≡ Tag
 
--- a name that isn't empty and holds no NUL, and a digest of its kind's length
+-- what can be read back: a name that isn't empty and has no NUL, and a digest of its kind's length
 pub record Writable (kind : KindValue) (name digest : List ℕ) : Type 0 where
   pub some : 0 < length name
   pub no_nul : All (λ b. 0 < b) name
@@ -60,7 +61,7 @@ pub record Writable (kind : KindValue) (name digest : List ℕ) : Type 0 where
   pub size : length digest ≡ kind.len
   pub has : IsTrue (has_len kind.algo kind.len)
 
--- what stands before the newline spells that entry, and no other; behind it the form is Undecided or Standard still
+-- what precedes the text's newline is one line and spells that entry, no other; the form stays Undecided or Standard
 pub record SpellsBack (algos : Algos) (before later : List (List ℕ)) (text : List ℕ) (kind : KindValue)
     (name digest : List ℕ) : Type 0 where
   pub prefix : List ℕ
@@ -70,7 +71,7 @@ pub record SpellsBack (algos : Algos) (before later : List (List ℕ)) (text : L
       ↔ (s ≡ record { kind = kind; digest = digest; name = name })
   pub keeps : (form algos (before ++ (prefix ∷ [])) ≡ Undecided) ⊎ (form algos (before ++ (prefix ∷ [])) ≡ Standard)
 
--- a line that is written without zero is read back, in a list whose form is Undecided or Standard before it
+-- a line that is written not in zero style is read back, after lines whose form is Undecided or Standard
 abbrev pub ReadBack : Type 0
 ReadBack = (algos : Algos) (mode : Mode) (kind : KindValue) (name digest : List ℕ) (before later : List (List ℕ))
     → ReadBy algos mode kind.algo → Writable kind name digest

@@ -1,4 +1,5 @@
--- What a line of either shape holds, computed; it need not be believed: the law `says_is` ties it to the relations.
+-- The parts of a line of either shape, computed. They need not be believed: by the law `parse_is_grammar` the entry
+-- that is made of them is the line grammar's.
 use Rattle.std.specs.Prelude.{ℕ, ◌*◌, ◌==◌, ◌&&◌, nat_lt, Bool, true, false, List, ◌∷◌, length, drop, bytes_eq, codes, decimal, Option, None, Some, option_map, if◌then◌else◌, option_and_then, take_while, find}
 use Rattle.std.specs.Char.{is_ascii_digit}
 use Rattle.std.specs.Option.{option_or}
@@ -10,26 +11,27 @@ use Rattle.digest_kinds.specs.Kinds.{KindValue, all_algos, full_kind, blake2b_ki
 use Rattle.sum_lines.specs.grammar.Shapes.{Algo, Algos, One, Any, is_blank}
 use Rattle.digest_kinds.specs.declared.algo.Algo.TheVariants.{Blake2b}
 
+-- o >>= f: the next step f on what o has, if it has something
 infixl 10 ◌>>=◌
 abbrev pub ◌>>=◌ : {A B : Type 0} → Option A → (A → Option B) → Option B
 o >>= f = option_and_then f o
 
--- what a line was found to hold; the text is the raw name of a tagged line, the tail of a plain one
+-- the parts of a line; the text is the raw name of a tagged line, the tail of a plain one
 pub record LinePartsValue : Type 0 where
   pub escaped : Bool
   pub kind : KindValue
   pub digest : List ℕ
   pub text : List ℕ
 
--- what stands behind the longest prefix that passes
+-- what follows the longest prefix that passes
 abbrev pub after_while : (ℕ → Bool) → List ℕ → List ℕ
 after_while p xs = drop (prefix_len p xs) xs
 
--- whether a backslash stands in front, and what stands behind it
+-- whether a backslash begins the bytes, and what follows it
 abbrev pub mark_and_rest : List ℕ → Bool × List ℕ
 mark_and_rest s = if starts_with ◌==◌ s (codes "\\") then (true, drop 1 s) else (false, s)
 
--- a plain line's parts: digits up to the first blank of its text, and the tail behind that
+-- a plain line's parts: the digits up to the first blank of its text, and the tail after that
 unfoldable pub plain_parts : Algos → List ℕ → Option LinePartsValue
 plain_parts Any line = None
 plain_parts (One a) line = let text = mark_and_rest (after_while is_blank line) in do
@@ -38,11 +40,11 @@ plain_parts (One a) line = let text = mark_and_rest (after_while is_blank line) 
   if has_len a (length d) && nat_lt 0 (length tail) then
       Some (record { escaped = text.0; kind = record { algo = a; len = length d }; digest = d; text = tail }) else None
 
--- what stands behind that text, where it stands in front
+-- what follows that text, if it begins the bytes
 abbrev pub strip_prefix : List ℕ → List ℕ → Option (List ℕ)
 strip_prefix text s = if starts_with ◌==◌ s text then Some (drop (length text) s) else None
 
--- the one of these algorithms whose tag stands in front
+-- the one of these algorithms whose tag begins the bytes
 abbrev pub tag_in : Algos → List ℕ → Option Algo
 tag_in (One a) s = if starts_with ◌==◌ s (tag a) then Some a else None
 tag_in Any s = find (λ a. starts_with ◌==◌ s (tag a)) all_algos

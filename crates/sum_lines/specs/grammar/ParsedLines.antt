@@ -1,5 +1,5 @@
--- What a line says, computed, and what reading it answers. The first need not be believed: the law `says_is` ties it to
--- the relation `Entry`.
+-- How a line parses, computed; it need not be believed: by the law `parse_is_grammar` it is what the line grammar says.
+-- And what a `Reading` says of a line.
 use Rattle.std.specs.Prelude.{ℕ, ◌≡◌, ◌≤◌, ◌==◌, List, ◌∷◌, length, drop, slice_range, nat_lt, bytes_eq, ⊤, Option, None, Some, if◌then◌else◌}
 use Rattle.std.specs.Option.{option_or, option_map_or}
 use Rattle.std.specs.List.{list_all}
@@ -10,51 +10,53 @@ use Rattle.sum_lines.specs.Escape.{Profile, escape_by}
 use Rattle.sum_lines.specs.grammar.LineParts.{◌>>=◌, LinePartsValue, tagged_parts, plain_parts}
 use Rattle.sum_lines.specs.declared.reading.read_line.Reading.TheVariants as readings
 
--- the bytes, where a backslash (92) and the byte behind it stand for one
+-- the bytes with one in place of a backslash (92) and the byte after it: a newline for `\n`, a carriage return for `\r`
 abbrev pub unescaped_bytes : List ℕ → List ℕ
 unescaped_bytes (b ∷ c ∷ cs) =
     if b == 92 then (if c == 110 then 10 else if c == 114 then 13 else c) ∷ unescaped_bytes cs
     else b ∷ unescaped_bytes (c ∷ cs)
 unescaped_bytes bytes = bytes
 
--- the name whose escape the bytes are
+-- the name whose escape the bytes are, if they are one
 abbrev pub unescape : Profile → List ℕ → Option (List ℕ)
 unescape p bytes = if bytes_eq (escape_by p (unescaped_bytes bytes)) bytes then Some (unescaped_bytes bytes) else None
 
--- a plain line's parts, with the raw name in place of its tail
+-- a plain line's parts with the raw name in place of the tail, if its tail has one in a list of that form
 abbrev pub with_raw : Form → LinePartsValue → Option LinePartsValue
 with_raw Reversed q = Some q
 with_raw Standard q = if begins_standard q.text then Some (record q { text = drop 1 q.text }) else None
 with_raw Undecided q = None
 
--- the entry that a line's parts spell, whose text is a raw name: the name holds no NUL
+-- the entry that a line's parts spell, whose text is a raw name, if it spells a name without NUL
 abbrev pub entry_of_parts : Profile → LinePartsValue → Option EntryValue
 entry_of_parts p t = do
   name ← if t.escaped then unescape p t.text else Some t.text
   if list_all (nat_lt 0) name then Some (record { kind = t.kind; digest = t.digest; name = name }) else None
 
+-- the entry that a line spells in a list of that form
 unfoldable pub entry_of : Profile → Algos → Form → List ℕ → Option EntryValue
 entry_of p algos f line =
     option_or (tagged_parts algos line) (plain_parts algos line >>= with_raw f) >>= entry_of_parts p
 
--- what a line says: nothing, an entry, or something improper
+-- what a line says: it is ignored, bad, or an entry
 pub data ParsedLine : Type 0 where
   ignored : ParsedLine
   bad : ParsedLine
   entry : EntryValue → ParsedLine
 
+-- how a line parses in a list of that form
 abbrev pub parse_line : Profile → Algos → Form → List ℕ → ParsedLine
 parse_line p algos f line =
     if is_ignored_by p line then ignored else option_map_or entry (entry_of p algos f line) bad
 
--- what a reading says, whose name stands in the line's vector
+-- what a reading says, whose name is a range of the line's vector
 abbrev pub parsed_line_by : List ℕ → Reading → ParsedLine
 parsed_line_by line readings.Ignored = ignored
 parsed_line_by line readings.Bad = bad
 parsed_line_by line (readings.Entry kind digest start stop) =
     entry (record { kind = kind; digest = digest; name = slice_range line start stop })
 
--- the name stands in the line, and the digest is as long as the kind's
+-- the range of the name is in the line, and the digest is as long as the kind's
 abbrev pub Within : List ℕ → Reading → Type 0
 Within line readings.Ignored = ⊤
 Within line readings.Bad = ⊤

@@ -1,6 +1,6 @@
 -- The two shapes of a manifest's line: how the whole line is put together from its parts. These are relations, and no
--- reading from the start: a line has a shape where some parts join to it. In front of either may stand blanks and then
--- one backslash, which says that the name is escaped.
+-- reading from the start: a line has a shape if some parts join to it. Either may begin with blanks and then one
+-- backslash, which says that the name is escaped.
 use Rattle.std.specs.Prelude.{ℕ, ◌≡◌, ◌*◌, ◌<◌, ◌⊎◌, ◌==◌, ◌||◌, ⊤, Bool, true, List, [], ◌∷◌, ◌++◌, length, codes, IsTrue, Ok, if◌then◌else◌, decimal}
 use Rattle.std.specs.List.{AllPass}
 use Rattle.hex.specs.Hex.{decode_of}
@@ -10,16 +10,16 @@ use Rattle.digest_kinds.specs.declared.algo.Algo.TheVariants.{Blake2b}
 pub use Rattle.digest_kinds.specs.declared.algo.Algos.{Algos}
 pub use Rattle.digest_kinds.specs.declared.algo.Algos.TheVariants.{One, Any}
 
--- a blank is a space (32) or a tab (9)
+-- whether a byte is a blank: a space (32) or a tab (9)
 abbrev pub is_blank : ℕ → Bool
 is_blank b = b == 32 || b == 9
 
--- the backslash before a line whose name is escaped
+-- the backslash that begins a line whose name is escaped
 abbrev pub mark : Bool → List ℕ
 mark e = if e then codes "\\" else []
 
 -- A plain line: digits, one blank, and a tail that isn't empty. The digits are hexadecimal, in any case, and spell
--- a digest of a length that the one algorithm has. Where any algorithm may do, no line is plain.
+-- a digest of a length that the one algorithm has. If any algorithm may be named, no line is plain.
 pub record Plain (algos : Algos) (line : List ℕ) (e : Bool) (kind : KindValue) (digest tail : List ℕ) : Type 0 where
   pub blanks : List ℕ
   pub digits : List ℕ
@@ -33,12 +33,12 @@ pub record Plain (algos : Algos) (line : List ℕ) (e : Bool) (kind : KindValue)
   pub some : 0 < length tail
   pub whole : line ≡ blanks ++ (mark e ++ (digits ++ (blank ∷ tail)))
 
--- the bytes, where they are there at all
+-- the bytes, if they are there
 abbrev pub optional : Bool → List ℕ → List ℕ
 optional there bytes = if there then bytes else []
 
--- What may stand directly behind the tag: nothing for the full length; for BLAKE2b a `-` and the number of bits,
--- which are 8 to 512, in decimal
+-- What may follow the tag directly: nothing for the full length; for BLAKE2b a `-` and the number of bits, which are 8
+-- to 512, in decimal.
 abbrev pub Width : KindValue → List ℕ → Type 0
 Width kind width = ((width ≡ []) × (kind.len ≡ full_len kind.algo))
     ⊎ ((width ≡ codes "-" ++ decimal (8 * kind.len)) × (kind.algo ≡ Blake2b) × IsTrue (has_len Blake2b kind.len))
@@ -48,8 +48,8 @@ abbrev pub Allows : Algos → Algo → Type 0
 Allows (One a) algo = algo ≡ a
 Allows Any algo = ⊤
 
--- A tagged line: the tag with its width, a name in parentheses that isn't empty, `=` between blanks or none,
--- and the digits, up to the line's end
+-- A tagged line: the tag with its width, a name in parentheses that isn't empty, `=` between blanks or none, and the
+-- digits, up to the line's end.
 pub record Tagged (algos : Algos) (line : List ℕ) (e : Bool) (kind : KindValue) (digest raw : List ℕ) : Type 0 where
   pub blanks : List ℕ
   pub width : List ℕ

@@ -1,10 +1,10 @@
--- Joins what the scanning functions answer to what a line was found to hold.
+-- Joins what the functions that scan a line return to the line's parts.
 use Rattle.std.specs.Prelude.{ℕ, ◌≡◌, ◌==◌, ◌&&◌, nat_lt, not, List, [], ◌∷◌, ◌++◌, length, slice_range, Option, None, Some, if◌then◌else◌}
 use Rattle.std.specs.Str.Parse.{digits_value}
 use Rattle.sum_lines.specs.declared.reading.line_parts.LineParts.{LineParts}
 use Rattle.sum_lines.specs.grammar.LineParts.{LinePartsValue}
 
--- the parts of a line that these places stand for
+-- the parts of a line whose text is that range
 abbrev pub line_parts : List ℕ → LineParts → LinePartsValue
 line_parts line p =
     record { escaped = p.escaped; kind = p.kind; digest = p.digest; text = slice_range line p.start p.stop }
@@ -14,6 +14,6 @@ abbrev pub number_of : List ℕ → Option ℕ
 number_of [] = None
 number_of (d ∷ ds) = if not (d == 48) && nat_lt (length ds) 3 then Some (digits_value 10 (d ∷ ds)) else None
 
--- the bytes stand at the line's end
+-- the line ends with the bytes
 abbrev pub EndsIn : List ℕ → List ℕ → Type 0
 EndsIn line s = (prefix : List ℕ) × (line ≡ prefix ++ s)

@@ -4,10 +4,12 @@ use Rattle.sum_lines.specs.declared.writing.parts.Part.{Part}
 use Rattle.sum_lines.specs.declared.writing.parts.Part.TheVariants.{Bytes, Escaped, Number}
 use Rattle.sum_lines.specs.Escape.{escape}
 
+-- the text of one part
 abbrev pub part_text : Part → List ℕ
 part_text (Bytes bytes) = bytes.now
 part_text (Escaped name) = escape name.now
 part_text (Number n) = decimal n
 
+-- the text of the parts, one after another
 abbrev pub parts_text : List Part → List ℕ
 parts_text parts = flat_map part_text parts

@@ -1,10 +1,10 @@
--- Joins the calls of a sink: what its known bytes grow by, how a buffer is emptied, and what is seen of a ToldSink.
+-- Joins the calls of a sink: what its known bytes grow by, how a buffer is flushed, and the state of a ToldSink.
 use Rattle.std.specs.Prelude.{ℕ, ◌-◌, List, [], take, Option, Some, Result, Ok, Err}
 use Rattle.std.specs.Io.KnownBytes.{Appends}
 use Rattle.sum_lines.specs.sinks.Sinks.{SinkState, IsPrefix, Accepted, FlushFailed}
 use Rattle.sum_lines.specs.declared.sinks.told_sink.ToldSink.{ToldSink}
 
--- known bytes stay, and more may come behind them
+-- known bytes stay, and more may follow them
 abbrev pub Grows : Option (List ℕ) → Option (List ℕ) → Type 0
 Grows old new = (more : List ℕ) × Appends old new more
 
@@ -12,7 +12,7 @@ Grows old new = (more : List ℕ) × Appends old new more
 abbrev pub AppendsPrefix : Option (List ℕ) → Option (List ℕ) → List ℕ → Type 0
 AppendsPrefix old new text = (prefix : List ℕ) × IsPrefix prefix text × Appends old new prefix
 
--- a call that takes nothing, or fails
+-- a call that accepts nothing, or fails
 abbrev pub FlushesBuffer : {E : Type 0} → SinkState → SinkState → Result (Unit {0}) E → Type 0
 FlushesBuffer a b (Ok u) = Accepted a b []
 FlushesBuffer a b (Err e) = FlushFailed a b
@@ -23,10 +23,10 @@ FlushesBuffer a b (Err e) = FlushFailed a b
 abbrev pub bytes_of : {N : ℕ} → ToldSink N → List ℕ
 bytes_of s = take s.len s.bytes
 
--- how many more bytes it takes before it fails
+-- how many more bytes it accepts before it fails
 abbrev pub remaining_capacity : {N : ℕ} → ToldSink N → ℕ
 remaining_capacity s = s.limit - s.len
 
--- how it stands as a sink: it holds nothing back
+-- its state as a sink: it buffers nothing
 abbrev pub told_sink_state : {N : ℕ} → ToldSink N → SinkState
 told_sink_state s = record { written = Some (bytes_of s); buffered = []; failures = s.failures }

@@ -1,30 +1,30 @@
--- What a buffer over a sink holds and hands on.
+-- What a buffer over a sink buffers, and when it writes that to the sink below.
 use Rattle.std.specs.Prelude.{ℕ, ◌==◌, List, [], ◌∷◌, ◌++◌, length, if◌then◌else◌}
 use Rattle.sum_lines.specs.sinks.Sinks.{SinkState}
 use Rattle.sum_lines.specs.declared.sinks.buffered.TheConstants.{CAPACITY}
 
--- a buffer: the sink below, and what is held
+-- a buffer: the sink below it, and what is buffered
 pub record BufferedValue (S : Type 0) : Type 0 where
   pub sink : S
   pub buffered : List ℕ
 
--- a sink that holds these bytes, too, behind its own
+-- the state of a sink that buffers these bytes, too, after its own
 abbrev pub with_buffered : SinkState → List ℕ → SinkState
 with_buffered a own = record { written = a.written; buffered = a.buffered ++ own; failures = a.failures }
 
--- a buffer holds what the sink below holds, and behind that its own
+-- the state of a buffer: it buffers what the sink below does, and its own after that
 abbrev pub buffer_state : {S : Type 0} → (S → SinkState) → BufferedValue S → SinkState
 buffer_state state b = with_buffered (state b.sink) b.buffered
 
--- what is held, where there is no room for more
+-- what is written to make room: all that is buffered, if there is no room for more
 abbrev pub flushed_if_full : List ℕ → List ℕ
-flushed_if_full held = if length held == CAPACITY then held else []
+flushed_if_full buffered = if length buffered == CAPACITY then buffered else []
 
--- and where there is
+-- what stays buffered then: all, if there is room for more
 abbrev pub kept_unless_full : List ℕ → List ℕ
-kept_unless_full held = if length held == CAPACITY then [] else held
+kept_unless_full buffered = if length buffered == CAPACITY then [] else buffered
 
--- what is handed on before a piece is taken
+-- what is written before a piece is accepted: nothing if it is empty
 abbrev pub flushed_before_write : List ℕ → List ℕ → List ℕ
-flushed_before_write held [] = []
-flushed_before_write held (b ∷ bs) = flushed_if_full held
+flushed_before_write buffered [] = []
+flushed_before_write buffered (b ∷ bs) = flushed_if_full buffered

@@ -1,4 +1,4 @@
--- What writing and flushing do to a sink.
+-- The state of a sink, and what writing and flushing do to it.
 use Rattle.digest_kinds.specs.Limits.{one_more}
 use Rattle.std.specs.Prelude.{ℕ, ◌≡◌, ◌<◌, ◌≤◌, List, [], ◌∷◌, ◌++◌, length, take, Option, Some, Result, Ok, Err, IfSome}
 use Rattle.std.specs.Io.KnownBytes.{append_known}
@@ -13,43 +13,42 @@ abbrev pub AppendsProperPrefix : Option (List ℕ) → Option (List ℕ) → Lis
 AppendsProperPrefix old new text =
     (prefix : List ℕ) × (rest : List ℕ) × (text ≡ prefix ++ rest) × (0 < length rest) × Appends old new prefix
 
--- a sink at one moment: what it handed on, where it tells that; what it took and still holds; how many calls failed
+-- the state of a sink: the bytes written, if known; those accepted and still buffered; how many calls failed
 pub record SinkState : Type 0 where
   pub written : Option (List ℕ)
   pub buffered : List ℕ
   pub failures : ℕ
 
--- the text was taken: it stands behind what was held, and some of both may have been handed on
+-- the text was accepted: it follows the buffered bytes, and some of both may have been written
 pub record Accepted (a b : SinkState) (text : List ℕ) : Type 0 where
   pub accepted : Appends (append_known a.written a.buffered) (append_known b.written b.buffered) text
   pub written : (more : List ℕ) × Appends a.written b.written more
   pub failures : b.failures ≡ a.failures
 
--- a call failed: of what was held and of the text, which isn't empty, a proper prefix was handed on, and the rest is
--- dropped
+-- a call failed: a proper prefix of the buffered bytes and the text, which isn't empty, was written; the rest is lost
 pub record WriteFailed (a b : SinkState) (text : List ℕ) : Type 0 where
   pub nonempty : 0 < length text
   pub written : AppendsProperPrefix a.written b.written (a.buffered ++ text)
   pub buffered : b.buffered ≡ []
   pub failures : b.failures ≡ one_more a.failures
 
--- a call failed: a prefix of what was held was handed on, and the rest is dropped
+-- a call failed: a prefix of the buffered bytes was written, and the rest is lost
 pub record FlushFailed (a b : SinkState) : Type 0 where
   pub written : (prefix : List ℕ) × IsPrefix prefix a.buffered × Appends a.written b.written prefix
   pub buffered : b.buffered ≡ []
   pub failures : b.failures ≡ one_more a.failures
 
--- a call that takes all of the text, or fails; with an empty text it doesn't fail
+-- a call that accepts all of the text, or fails; with an empty text it doesn't fail
 abbrev pub WritesAll : {E : Type 0} → SinkState → SinkState → List ℕ → Result (Unit {0}) E → Type 0
 WritesAll a b text (Ok u) = Accepted a b text
 WritesAll a b text (Err e) = WriteFailed a b text
 
--- one write, which takes the first bytes of a piece, at least one where there is one, or fails
+-- one write, which accepts the first bytes of a piece, at least one if it isn't empty, or fails
 abbrev pub WritesSome : {E : Type 0} → SinkState → SinkState → List ℕ → Result ℕ E → Type 0
 WritesSome a b piece (Ok n) = (n ≤ length piece) × (0 < length piece → 0 < n) × Accepted a b (take n piece)
 WritesSome a b piece (Err e) = FlushFailed a b
 
--- one flush, which hands on all that is held, or fails
+-- one flush, which writes all that is buffered, or fails
 abbrev pub Flushes : {E : Type 0} → SinkState → SinkState → Result (Unit {0}) E → Type 0
 Flushes a b (Ok u) = Appends a.written b.written a.buffered × (b.buffered ≡ []) × (b.failures ≡ a.failures)
 Flushes a b (Err e) = FlushFailed a b
@@ -60,7 +59,7 @@ Flushes a b (Err e) = FlushFailed a b
 abbrev pub Offers : Option (List (List ℕ)) → Option (List (List ℕ)) → List (List ℕ) → Type 0
 Offers old new pieces = IfSome old (λ xs. new ≡ Some (xs ++ pieces))
 
--- a shorter back of the text
+-- the rest of a text after a prefix that isn't empty
 abbrev pub IsRest : List ℕ → List ℕ → Type 0
 IsRest text rest = (prefix : List ℕ) × (0 < length prefix) × (text ≡ prefix ++ rest)
 
@@ -69,10 +68,11 @@ abbrev pub AreRests : List ℕ → List (List ℕ) → Type 0
 AreRests text [] = Unit {0}
 AreRests text (rest ∷ more) = IsRest text rest × AreRests rest more
 
--- a text is offered in one piece, and then nothing but what is left of it; of no text nothing is offered
+-- the pieces that are offered of a text: all of it, and then only what is left of the piece before; of no text none
 abbrev pub InOnePiece : List ℕ → List (List ℕ) → Type 0
 InOnePiece text [] = text ≡ []
 InOnePiece text (piece ∷ rests) = (0 < length text) × (piece ≡ text) × AreRests text rests
 
+-- a sink was offered a text in one piece, and again only what was left of it
 abbrev pub OffersWhole : Option (List (List ℕ)) → Option (List (List ℕ)) → List ℕ → Type 0
 OffersWhole old new text = (pieces : List (List ℕ)) × Offers old new pieces × InOnePiece text pieces

@@ -1,4 +1,4 @@
-//! What a line begins with. Most bad lines are told by that, and none of the rest is read.
+//! What a line begins with. Most bad lines show by that, and the rest of them isn't read.
 
 ghost use Rattle.std.specs.Prelude.{◌≡◌, ℕ, List, IfNone, IfSome, None};
 ghost use Rattle.sum_lines.specs.grammar.LineParts.{plain_parts, tag_in, tagged_parts};
@@ -11,16 +11,16 @@ use memchr::memchr2;
 // The digits of the longest digest.
 const MOST_DIGITS: usize = 128;
 
-/// What stands in a line behind its blanks and its mark, where that can be an entry.
+/// What a line begins with after its blanks and its backslash, if it can be an entry.
 #[derive(Clone, Copy)]
 pub(crate) enum Beginning {
     /// The algorithm's tag.
     Tag(Algo),
-    /// As many bytes as the one algorithm has digits, or for BLAKE2b those before the first blank; and a blank there.
+    /// As many bytes as the one algorithm has digits, or for BLAKE2b those before the first blank; then a blank.
     Digits(Algo, usize),
 }
 
-/// What a line of these algorithms begins with. None only where it is neither tagged nor plain. A call of its own, so
+/// What a line of these algorithms begins with. `None` only if it is neither tagged nor plain. A call of its own, so
 /// that an ignored line needs no room for it.
 #[inline(never)]
 #[tactic(auto, unfolding(crate::specs::grammar::LineParts::plain_parts))]
@@ -39,7 +39,7 @@ pub(crate) fn find_beginning(algos: Algos, line: &[u8]) -> Option<Beginning>
     }
 }
 
-// The one of these algorithms whose tag stands in front.
+// The one of these algorithms whose tag begins the text.
 fn tag_in(algos: Algos, text: &[u8]) -> Option<Algo>
     ensures { result ≡ tag_in algos text.now }
 {
@@ -54,8 +54,8 @@ fn tag_in(algos: Algos, text: &[u8]) -> Option<Algo>
     }
 }
 
-// The place of the blank behind the digits, where something stands behind that. None only where no plain line has such
-// a text. The digits themselves aren't looked at.
+// The place of the blank after the digits, if something follows it. `None` only if no plain line has such a text. The
+// digits themselves aren't looked at.
 fn digits_end(algo: Algo, text: &[u8]) -> Option<usize>
     ensures none { IfNone result ((d : List ℕ) → ¬ Cut algo text.now d) }
     ensures some { IfSome result (EndsDigits algo text.now) }
@@ -67,7 +67,7 @@ fn digits_end(algo: Algo, text: &[u8]) -> Option<usize>
     }
 }
 
-// If the line is plain, it has so many digits.
+// How many digits the text has if it is a plain line's. `None` only if it is none's.
 fn digits_len(algo: Algo, text: &[u8]) -> Option<usize>
     ensures none { IfNone result ((d : List ℕ) → ¬ Cut algo text.now d) }
     ensures some { IfSome result (EndsAt algo text.now) }

@@ -11,8 +11,8 @@ ghost use Rattle.sum_lines.specs.refinement.LinePartRanges.{EndsIn};
 use digest_kinds::{Digest, Kind};
 use memchr::memrchr;
 
-/// What a line of either shape holds. Its text, the raw name of a tagged line and the tail of a plain one, stands from
-/// `start` up to `stop`.
+/// The parts of a line of either shape. The text, a tagged line's raw name or a plain one's tail, is the range
+/// `start..stop` of the line.
 #[derive(Debug, Drop)]
 pub(crate) struct LineParts {
     pub(crate) escaped: bool,
@@ -29,7 +29,7 @@ pub(crate) fn is_blank(byte: u8) -> bool
     matches!(byte, b' ' | b'\t')
 }
 
-/// What stands in a line behind its blanks and the backslash there, and whether that is there.
+/// The line after leading blanks and an optional backslash, and whether there is one.
 pub(crate) fn text_in(line: &[u8]) -> (bool, &[u8])
     ensures mark { result.0 ≡ (mark_and_rest (after_while is_blank line.now)).0 }
     ensures text { result.1.now ≡ (mark_and_rest (after_while is_blank line.now)).1 }
@@ -38,13 +38,14 @@ pub(crate) fn text_in(line: &[u8]) -> (bool, &[u8])
     unmark(skip_blanks(line))
 }
 
-/// What stands behind the blanks in front.
+/// What follows the leading blanks.
 pub(crate) fn skip_blanks(s: &[u8]) -> &[u8]
     ensures { result.now ≡ after_while is_blank s.now }
 {
     &s[blanks(s)..]
 }
 
+// How many blanks begin the bytes.
 fn blanks(s: &[u8]) -> usize
     ensures value { result ≡ prefix_len is_blank s.now }
     ensures within { result ≤ length s.now }
@@ -52,7 +53,7 @@ fn blanks(s: &[u8]) -> usize
     s.iter().take_while(|byte| is_blank(**byte)).count()
 }
 
-// Whether a backslash stands in front, and what stands behind it.
+// Whether a backslash begins the bytes, and what follows it.
 fn unmark(s: &[u8]) -> (bool, &[u8])
     ensures mark { result.0 ≡ (mark_and_rest s.now).0 }
     ensures rest { result.1.now ≡ (mark_and_rest s.now).1 }
@@ -63,14 +64,14 @@ fn unmark(s: &[u8]) -> (bool, &[u8])
     }
 }
 
-/// What stands behind the text, where it stands in front.
+/// What follows the text, if it begins the bytes.
 pub(crate) fn past_text<'a>(text: &[u8], s: &'a [u8]) -> Option<&'a [u8]>
     ensures { option_copied result ≡ strip_prefix text.now s.now }
 {
     s.strip_prefix(text)
 }
 
-/// What stands before and behind the last such byte.
+/// What precedes the last such byte, and what follows it.
 pub(crate) fn split_at_last(byte: u8, s: &[u8]) -> Option<(&[u8], &[u8])>
     ensures { option_map (λ p. (p.0.now, p.1.now)) result ≡ rsplit_once byte s.now }
 {

@@ -11,8 +11,8 @@ ghost use Rattle.sum_lines.specs.refinement.LinePartRanges.{line_parts};
 use crate::reading::line_parts::{LineParts, text_in};
 use digest_kinds::{Algo, Algos, Digest, Kind};
 
-/// Reads a plain line of that algorithm, which has the blank behind its digits at that place of its text. None where
-/// the line isn't plain.
+/// Reads a plain line of that algorithm; the place `at` of its text has the blank after its digits. `None` if the line
+/// isn't plain.
 pub(crate) fn plain(algo: Algo, line: &[u8], at: usize) -> Option<LineParts>
     requires { EndsDigits algo (mark_and_rest (after_while is_blank line.now)).1 at }
     ensures parts { option_map (line_parts line.now) result ≡ plain_parts (Algos.One algo) line.now }

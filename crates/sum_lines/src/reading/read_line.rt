@@ -4,6 +4,7 @@ ghost use Rattle.std.specs.Prelude.{◌≡◌, ◌≤◌, None, Some, drop, if�
 ghost use Rattle.std.specs.List.{list_all};
 ghost use Rattle.std.specs.Option.{option_and_then, option_map_or};
 ghost use Rattle.sum_lines.specs.grammar.Entries.{begins_standard, form_of_tail, form_then, is_ignored, line_form};
+ghost use Rattle.sum_lines.specs.grammar.LineLaws.{ParseMatches};
 ghost use Rattle.sum_lines.specs.grammar.ParsedLines.{bad, entry, entry_of, entry_of_parts, parse_line, unescape};
 ghost use Rattle.sum_lines.specs.grammar.ParsedLines.{with_raw, Within, parsed_line_by};
 ghost use Rattle.sum_lines.specs.Escape.{present};
@@ -19,26 +20,25 @@ use digest_kinds::{Algos, Digest, Kind};
 use memchr::memchr;
 use std::alloc::Allocator;
 
-/// Where the plain lines of a manifest have their names. The first of them decides.
+/// Where the plain lines of a manifest have their names. The first of them decides it.
 #[derive(Clone, Copy, Debug, PartialEq, Eq)]
 pub enum Form {
-    /// There was no plain line yet.
+    /// There is no plain line so far.
     Undecided,
-    /// Behind one blank and a space or a star, as the tools write lines.
+    /// After one blank and a space or a star, as the tools write lines.
     Standard,
-    /// Behind one blank.
+    /// After one blank.
     Reversed,
 }
 
 /// What a line of a manifest says.
 #[derive(Debug, Drop)]
 pub enum Reading {
-    /// Nothing: the line is empty, or `#` stands first.
+    /// Nothing: the line is empty, or begins with `#`.
     Ignored,
     /// Nothing that can be read: the line is improperly formatted.
     Bad,
-    /// The digest of a file, with its kind, and the file's name, which stands in the line's vector from `start` up to
-    /// `stop`.
+    /// The digest of a file, with its kind, and the file's name: the range `start..stop` of the line's vector.
     Entry {
         kind: Kind,
         digest: Digest,
@@ -47,26 +47,29 @@ pub enum Reading {
     },
 }
 
-/// Reads a line, without its end, in a manifest whose lines before it have this form, and answers the form with it.
-/// An entry's name, without its escape, is left in the line's vector. An ignored line is left as it is; what a bad one
-/// leaves is open. The vector never gets longer.
+/// Reads a line, without its end, in a manifest whose earlier lines have this form, and returns what it says and the
+/// form up to and with it. An entry's name, unescaped, is left in the line's vector. An ignored line stays as it is;
+/// what a bad one leaves is open. The vector never gets longer.
 ///
-/// A line is ignored where it is empty or `#` stands first. Before any other may stand blanks (spaces and tabs) and
-/// then one backslash: the name is escaped behind it (`\\`, `\n`, `\r`). What follows is
+/// A line is ignored if it is empty or begins with `#`. Any other may begin with blanks (spaces and tabs) and then one
+/// backslash: its name is then escaped (`\\`, `\n`, `\r`). What follows is
 ///
 /// - tagged, `TAG (NAME) = DIGITS`: the tag of one of these algorithms, for BLAKE2b with `-` and the digest's bits,
-///   which may be left out where it is full; a space or none; a name, which ends at the last parenthesis; and between
-///   blanks or none `=`;
-/// - or, where there is one algorithm, plain, `DIGITS TAIL`: one blank, and a tail that isn't empty. The first plain
-///   line decides the form of all. Where its tail begins with a space or `*` and goes on, that is `Standard`, and a
-///   name stands behind such a byte; else it is `Reversed`, and the tail is the name.
+///   which may be left out if it is full; a space or none; a name, which ends at the last parenthesis; and `=`, with
+///   blanks or none before and after it;
+/// - or, if there is one algorithm, plain, `DIGITS TAIL`: one blank, and a tail that isn't empty. The first plain line
+///   decides the form of all. If its tail begins with a space or `*` and goes on, that is `Standard`, and a name
+///   follows such a byte; if not, it is `Reversed`, and the tail is the name.
 ///
-/// The digits are hexadecimal, in either case, and as many as the algorithm has, or the tag says. A name holds no NUL
-/// and isn't empty. Any other line is bad.
+/// The digits are hexadecimal, in either case, and as many as the algorithm has, or the tag says. A name has no NUL and
+/// isn't empty. Any other line is bad.
 #[tactic(auto, using(crate::proofs::EntryLemmas::ignored_mute))]
 pub fn read_line<A: Allocator>(algos: Algos, form: Form, line: &mut Vec<u8, A>) -> (Reading, Form)
     ensures form { result.1 ≡ form_then form (line_form algos line.old.items) }
+    // What the line says, as it is computed; of an entry the name is the range of the vector.
     ensures parsed { parsed_line_by line.new.items result.0 ≡ parse_line present algos result.1 line.old.items }
+    // The same by the line grammar: ignored, an entry, or bad, each if and only if the grammar says so.
+    ensures grammar { ParseMatches present algos result.1 line.old.items (parsed_line_by line.new.items result.0) }
     ensures within { Within line.new.items result.0 }
     ensures ignored { result.0 ≡ Reading.Ignored → line.new ≡ line.old }
     ensures len { vec_len line.new ≤ vec_len line.old }
@@ -81,7 +84,7 @@ pub fn read_line<A: Allocator>(algos: Algos, form: Form, line: &mut Vec<u8, A>) 
 }
 
 // Reads a line that isn't ignored and begins so, which most bad ones don't. A call of its own, since it clears room for
-// all that an entry holds.
+// an entry.
 #[inline(never)]
 #[tactic(auto, unfolding(crate::specs::grammar::ParsedLines::entry_of))]
 fn read_begun<A: Allocator>(
@@ -109,6 +112,7 @@ fn read_begun<A: Allocator>(
     }
 }
 
+// Whether the line is empty or begins with `#`.
 fn is_ignored(line: &[u8]) -> bool
     ensures { result ≡ is_ignored line.now }
 {
@@ -142,7 +146,7 @@ fn read_tail<A: Allocator>(form: Form, line: &mut Vec<u8, A>, found: LineParts) 
     }
 }
 
-// The form, where the tail of a plain line is that of a Standard one or not.
+// The form after a plain line, by whether its tail is that of a Standard one.
 fn decided(form: Form, standard: bool) -> Form
     ensures { result ≡ form_then form (if standard then Form.Standard else Form.Reversed) }
 {
@@ -153,14 +157,15 @@ fn decided(form: Form, standard: bool) -> Form
     }
 }
 
+// Whether the tail begins with a space or a star and goes on.
 fn begins_standard(tail: &[u8]) -> bool
     ensures { result ≡ begins_standard tail.now }
 {
     matches!(tail, [b' ' | b'*', _, ..])
 }
 
-// The entry of the parts, where their text spells a name without a NUL: behind a backslash the name whose escape it is,
-// or else the text itself.
+// The entry of the parts, if their text spells a name without a NUL: after a backslash the name whose escape it is, and
+// otherwise the text itself.
 fn read_name<A: Allocator>(line: &mut Vec<u8, A>, found: LineParts) -> Reading
     requires size { length found.digest ≡ found.kind.len }
     requires ordered { found.start ≤ found.stop }
@@ -183,8 +188,8 @@ fn read_name<A: Allocator>(line: &mut Vec<u8, A>, found: LineParts) -> Reading
     }
 }
 
-// Leaves the name that the bytes from that place on spell. False where they are no escape, though a backslash stood in
-// front.
+// Leaves the name that the bytes from the place `start` on spell. False if they are no escape, though a backslash came
+// first.
 #[tactic(auto, using(crate::proofs::NameLemmas::unescaped))]
 fn unspell<A: Allocator>(line: &mut Vec<u8, A>, escaped: bool, start: usize) -> bool
     requires { start ≤ length line.old.items }
@@ -197,6 +202,7 @@ fn unspell<A: Allocator>(line: &mut Vec<u8, A>, escaped: bool, start: usize) -> 
 }
 
 #[tactic(auto, using(crate::proofs::NameLemmas::no_nul))]
+// Whether a byte is NUL.
 fn has_nul(bytes: &[u8]) -> bool
     ensures { not result ≡ list_all (nat_lt 0) bytes.now }
 {

@@ -13,7 +13,7 @@ ghost use Rattle.sum_lines.specs.refinement.LinePartRanges.{line_parts, number_o
 use crate::reading::line_parts::{LineParts, past_text, skip_blanks, split_at_last, text_in};
 use digest_kinds::{Algo, Algos, Digest, Kind};
 
-/// Reads a line whose text that algorithm's tag begins. None where the line isn't tagged.
+/// Reads a line whose text begins with that algorithm's tag. `None` if the line isn't tagged.
 #[tactic(auto, unfolding(crate::specs::grammar::LineParts::tagged_parts))]
 pub(crate) fn tagged(algo: Algo, line: &[u8]) -> Option<LineParts>
     requires { tag_in (Algos.One algo) (mark_and_rest (after_while is_blank line.now)).1 ≡ Some algo }
@@ -22,15 +22,16 @@ pub(crate) fn tagged(algo: Algo, line: &[u8]) -> Option<LineParts>
     ensures size { IfSome result (λ t. length t.digest ≡ t.kind.len) }
 {
     let (escaped, text) = text_in(line);
+    // Not by `?`, which the borrow checker doesn't cover for a struct with a reference.
     let Some(width) = width(algo, text) else {
         return None;
     };
     let kind = width.kind;
     let inner = past_parenthesis(width.rest)?;
-    // The name may hold `)`, and what follows the closing one can't.
-    let (raw, behind_name) = split_at_last(b')', inner)?;
-    let digits = skip_blanks(past_text(b"=", skip_blanks(behind_name))?);
-    // They are decoded only where they are as many as the kind's.
+    // The name may contain `)`, and what follows the closing one can't.
+    let (raw, after_name) = split_at_last(b')', inner)?;
+    let digits = skip_blanks(past_text(b"=", skip_blanks(after_name))?);
+    // They are decoded only if they are as many as the kind's.
     if digits.len() != 2 * kind.len() {
         return None;
     }
@@ -48,13 +49,14 @@ pub(crate) fn tagged(algo: Algo, line: &[u8]) -> Option<LineParts>
     })
 }
 
-// The kind by what follows the tag in front of the text, and what stands behind that.
+// The kind by the bits that follow the tag, if they do, and what follows these.
 #[derive(Clone, Copy)]
 struct ReadWidth<'a> {
     kind: Kind,
     rest: &'a [u8],
 }
 
+// The kind that a text has which begins with the algorithm's tag, and what follows tag and bits.
 fn width(algo: Algo, text: &[u8]) -> Option<ReadWidth<'_>>
     requires { tag_in (Algos.One algo) text.now ≡ Some algo }
     ensures { option_map (λ w. (w.kind, w.rest.now)) result ≡ width_at algo (drop (length (tag algo)) text.now) }
@@ -69,6 +71,7 @@ fn width(algo: Algo, text: &[u8]) -> Option<ReadWidth<'_>>
     }
 }
 
+// The same for BLAKE2b, of what follows the tag.
 fn blake2b_width(s: &[u8]) -> Option<ReadWidth<'_>>
     ensures { option_map (λ w. (w.kind, w.rest.now)) result ≡ width_at Algo.Blake2b s.now }
 {
@@ -132,12 +135,9 @@ fn number(digits: &[u8]) -> Option<u64>
     }
 }
 
-// What stands behind the opening parenthesis, before which a space may stand.
+// What follows the opening parenthesis, which a space may precede.
 fn past_parenthesis(s: &[u8]) -> Option<&[u8]>
     ensures { option_copied result ≡ option_or (strip_prefix (codes " (") s.now) (strip_prefix (codes "(") s.now) }
 {
-    match past_text(b" (", s) {
-        Some(inner) => Some(inner),
-        None => past_text(b"(", s),
-    }
+    past_text(b" (", s).or(past_text(b"(", s))
 }

@@ -8,9 +8,9 @@ use std::marker::Model;
 /// How many bytes a buffer has room for.
 pub const CAPACITY: usize = 8192;
 
-/// A buffer over a sink. It holds what it takes until it is flushed, or a byte comes that it has no room for; then it
-/// offers the sink all that it holds, in one piece. So a line of at most [`CAPACITY`] bytes is offered in one piece, where
-/// nothing was held before it and it is flushed at its end.
+/// A buffer over a sink. It buffers what it accepts until it is flushed, or is full and gets one more byte; then it
+/// offers the sink all of that in one piece. So a line of at most [`CAPACITY`] bytes is offered in one piece if nothing
+/// was buffered before it and the buffer is flushed at its end.
 #[derive(Drop)]
 pub struct Buffered<S> {
     sink: S,
@@ -42,14 +42,14 @@ impl<S> Buffered<S> {
         }
     }
 
-    /// The sink below.
+    /// The sink below it.
     pub fn sink(&self) -> &S
         ensures { result.now ≡ self.now.sink }
     {
         &self.sink
     }
 
-    /// The sink below, without what is held.
+    /// The sink below it. What is buffered is lost.
     pub fn into_inner(self) -> S
         ensures { result ≡ self.sink }
     {
@@ -61,7 +61,7 @@ impl<S: Sink> Buffered<S> {
     ghost use Rattle.sum_lines.specs.sinks.Buffers.{buffer_state, flushed_if_full, kept_unless_full};
     ghost use Rattle.sum_lines.specs.refinement.SinkStates.{FlushesBuffer};
 
-    // Hands on to the sink below what is held.
+    // Writes what is buffered to the sink below.
     fn flush_buffer(&mut self) -> Result<(), SinkFault>
         ensures bytes { FlushesBuffer (buffer_state S.state self.old) (buffer_state S.state self.new) result }
         ensures flushed { self.new.buffered ≡ [] }
@@ -72,10 +72,10 @@ impl<S: Sink> Buffered<S> {
         put_all(&mut self.sink, &self.buffer[..len])
     }
 
-    // Hands on to the sink below what is held, where there is no room for more.
+    // Writes what is buffered to the sink below if there is no room for more.
     fn make_room(&mut self) -> Result<(), SinkFault>
         ensures bytes { FlushesBuffer (buffer_state S.state self.old) (buffer_state S.state self.new) result }
-        ensures held { OnOk result (self.new.buffered ≡ kept_unless_full self.old.buffered) }
+        ensures buffered { OnOk result (self.new.buffered ≡ kept_unless_full self.old.buffered) }
         ensures offers { OffersWhole (S.offered self.old.sink) (S.offered self.new.sink)
             (flushed_if_full self.old.buffered) }
     {
@@ -91,27 +91,28 @@ impl<S: Sink> Sink for Buffered<S> {
 
     ghost state = { buffer_state S.state };
 
-    /// Takes as much of the piece as there is room for. Where there is no room at all, what is held is handed on
-    /// before. A fault where the sink below fails then.
+    /// Accepts as much of the piece as there is room for. If there is none, it writes what is buffered first.
+    /// `SinkFault` if the sink below fails then.
     fn write(&mut self, piece: &[u8]) -> Result<usize, SinkFault>
         ensures bytes { WritesSome (buffer_state S.state self.old) (buffer_state S.state self.new) piece.now result }
         ensures empty { piece.now ≡ [] → result ≡ Ok 0 }
+        // Nothing is offered to the sink below unless the buffer is full and the piece isn't empty.
         ensures offers { OffersWhole (S.offered self.old.sink) (S.offered self.new.sink)
             (flushed_before_write self.old.buffered piece.now) }
-        ensures fits { IfOk result
+        ensures count { IfOk result
             (λ n. n ≡ min (length piece.now) (CAPACITY - length (kept_unless_full self.old.buffered))) }
     {
         if piece.is_empty() {
             return Ok(0);
         }
         self.make_room()?;
-        let held = self.len;
-        let count = put_in(&mut self.buffer, held, piece);
-        self.len = held + count;
+        let before = self.len;
+        let count = put_in(&mut self.buffer, before, piece);
+        self.len = before + count;
         Ok(count)
     }
 
-    /// Hands on all that is held, which is offered in one piece, and flushes the sink below. A fault where that fails.
+    /// Writes all that is buffered, offered in one piece, and flushes the sink below. `SinkFault` if that fails.
     fn flush(&mut self) -> Result<(), SinkFault>
         ensures bytes { Flushes (buffer_state S.state self.old) (buffer_state S.state self.new) result }
         ensures offers { OffersWhole (S.offered self.old.sink) (S.offered self.new.sink) self.old.buffered }
@@ -121,13 +122,13 @@ impl<S: Sink> Sink for Buffered<S> {
     }
 }
 
-// Copies what there is room for behind the first bytes of the buffer, and answers how much.
-fn put_in(buffer: &mut [u8], held: usize, piece: &[u8]) -> usize
-    requires { held ≤ length buffer.old }
-    ensures count { result ≡ min (length piece.now) (length buffer.old - held) }
-    ensures bytes { take (held + result) buffer.new ≡ take held buffer.old ++ take result piece.now }
+// Copies as much of the piece as there is room for after the first `len` bytes of the buffer, and returns how much.
+fn put_in(buffer: &mut [u8], len: usize, piece: &[u8]) -> usize
+    requires { len ≤ length buffer.old }
+    ensures count { result ≡ min (length piece.now) (length buffer.old - len) }
+    ensures bytes { take (len + result) buffer.new ≡ take len buffer.old ++ take result piece.now }
 {
-    let count = piece.len().min(buffer.len() - held);
-    buffer[held..held + count].copy_from_slice(&piece[..count]);
+    let count = piece.len().min(buffer.len() - len);
+    buffer[len..len + count].copy_from_slice(&piece[..count]);
     count
 }

@@ -5,10 +5,10 @@ ghost use Rattle.digest_kinds.specs.Limits.{one_more};
 use crate::sinks::sink::{Sink, SinkFault};
 use std::io::{ErrorKind, Write};
 
-/// How often in a row one call tries to write before interruptions count as a fault.
+/// How often in a row one call tries to write before an interruption is a fault.
 const TRIES: u32 = 1000;
 
-/// A sink that hands its bytes to a writer.
+/// A sink that writes its bytes to a writer, and buffers none. They are known if the writer's are.
 #[derive(Drop)]
 pub struct FromWrite<W> {
     writer: W,
@@ -16,7 +16,7 @@ pub struct FromWrite<W> {
 }
 
 impl<W: Write> FromWrite<W> {
-    /// A sink over the writer, which has handed on what the writer has taken so far.
+    /// A sink over the writer, which has written what the writer contains.
     pub fn new(writer: W) -> Self
         ensures written { (⟦<FromWrite<W> as Sink>⟧.state result).written ≡ W.contents writer }
         ensures failures { (⟦<FromWrite<W> as Sink>⟧.state result).failures ≡ 0 }
@@ -27,7 +27,7 @@ impl<W: Write> FromWrite<W> {
         }
     }
 
-    // Counts a failure.
+    // Counts a failure, at most 2^64 - 1.
     fn fault(&mut self) -> SinkFault
         ensures writer { self.new.writer ≡ self.old.writer }
         ensures failures { self.new.failures ≡ one_more self.old.failures }
@@ -40,8 +40,8 @@ impl<W: Write> FromWrite<W> {
 impl<W: Write> Sink for FromWrite<W> {
     ghost state = { λ s. record { written = W.contents s.writer; buffered = []; failures = s.failures } };
 
-    /// Hands a piece that isn't empty to the writer, again after each interruption. A fault where the writer fails,
-    /// takes nothing of it, or is interrupted a thousand times in a row.
+    /// Writes a piece that isn't empty to the writer, again after each interruption. `SinkFault` if the writer fails,
+    /// accepts nothing of it, or is interrupted a thousand times in a row.
     fn write(&mut self, piece: &[u8]) -> Result<usize, SinkFault> {
         if piece.is_empty() {
             return Ok(0);
@@ -60,7 +60,7 @@ impl<W: Write> Sink for FromWrite<W> {
         Err(self.fault())
     }
 
-    /// Flushes the writer, once. A fault where that fails.
+    /// Flushes the writer, once. `SinkFault` if that fails.
     fn flush(&mut self) -> Result<(), SinkFault> {
         match self.writer.flush() {
             Ok(()) => Ok(()),

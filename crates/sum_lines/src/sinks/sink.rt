@@ -1,40 +1,42 @@
-//! Where bytes are written: the trait of a sink, and the call that writes all of a piece.
+//! The trait of a sink, to which bytes are written, and the call that writes all of a text.
 ghost use Rattle.std.specs.Prelude.{◌≡◌, ℕ, List, [], ◌∷◌, Option, None, Ok};
 ghost use Rattle.sum_lines.specs.sinks.Sinks.{SinkState, WritesSome, Flushes, Offers, OffersWhole, WritesAll};
 
 use thiserror::Error;
 
-/// A call that a sink refused.
+/// A call of a sink failed.
 #[derive(Clone, Copy, Debug, PartialEq, Eq, Error)]
 #[error("a write failed")]
 pub struct SinkFault;
 
-/// Takes bytes, one piece after another, and hands them on to what is below it, at the latest where it is flushed.
+/// Accepts bytes piece by piece, and writes them to what is below it when it is flushed, if not before.
+///
+/// A call that returns `SinkFault` counts as one failure more and leaves nothing buffered. `write` and `flush` then
+/// wrote a prefix of the buffered bytes; a call that writes a whole text, as `put_all`, a proper prefix of the buffered
+/// bytes and the text. The rest is lost.
 pub trait Sink {
-    /// What it has handed on, where it tells that; what it has taken and still holds; how many of its calls have
-    /// failed, held at 2^64 - 1.
+    /// The bytes that it has written, if they are known; those that it has accepted and still buffers; how many of its
+    /// calls have failed, at most 2^64 - 1.
     ghost state: { Self → SinkState };
 
-    /// The pieces that it was offered, one a write, where it tells them.
+    /// The pieces that it was offered, one by each write, if they are known.
     ghost offered: { Self → Option (List (List ℕ)) } = { λ _. None };
 
-    /// Takes the first bytes of the piece and answers how many: at least one of a piece that isn't empty, none of an
-    /// empty one. A fault where it took nothing and counts one failure more; of what it held a prefix is then handed
-    /// on, and the rest is dropped.
+    /// Accepts the first bytes of the piece and returns how many: at least one of a piece that isn't empty, none of an
+    /// empty one. `SinkFault` if it accepted nothing, of a piece that isn't empty.
     fn write(&mut self, piece: &[u8]) -> Result<usize, SinkFault>
         ensures bytes { WritesSome (state self.old) (state self.new) piece.now result }
         ensures empty { piece.now ≡ [] → result ≡ Ok 0 }
         ensures offers { Offers (offered self.old) (offered self.new) (piece.now ∷ []) };
 
-    /// Hands on all that it holds, down to the lowest sink. A fault where that failed, which counts as one failure
-    /// more; a prefix of it is then handed on, and the rest is dropped.
+    /// Writes all that is buffered, down to the lowest sink. `SinkFault` if that failed.
     fn flush(&mut self) -> Result<(), SinkFault>
         ensures bytes { Flushes (state self.old) (state self.new) result }
         ensures offers { offered self.new ≡ offered self.old };
 }
 
-/// Writes all of the bytes, which are offered in one piece, and of which only what is left is offered again. A fault
-/// where a write failed; of what the sink held and of the bytes a proper prefix is then handed on, and nothing is held.
+/// Writes all of the bytes: offers them in one piece, and again only what remains of them. `SinkFault` if a write
+/// failed; as many of the buffered bytes and of these were then written as [`Sink`] says.
 pub fn put_all<S: Sink>(sink: &mut S, bytes: &[u8]) -> Result<(), SinkFault>
     ensures text { WritesAll (S.state sink.old) (S.state sink.new) bytes.now result }
     ensures offers { OffersWhole (S.offered sink.old) (S.offered sink.new) bytes.now }

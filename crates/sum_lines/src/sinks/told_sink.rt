@@ -3,7 +3,7 @@ ghost use Rattle.std.specs.Prelude.{◌≡◌, ◌≤◌, ◌+◌, ◌<◌, [], 
 
 use crate::sinks::sink::{Sink, SinkFault};
 
-/// A sink that keeps up to N bytes, tells them, and fails once it is full.
+/// A sink that keeps up to N bytes, which are known, and fails when it is full.
 #[derive(Drop)]
 pub struct ToldSink<const N: usize> {
     bytes: [u8; N],
@@ -16,7 +16,7 @@ pub struct ToldSink<const N: usize> {
 impl<const N: usize> ToldSink<N> {
     ghost use Rattle.sum_lines.specs.refinement.SinkStates.{bytes_of, remaining_capacity};
 
-    /// An empty sink that takes `stop` bytes, or N where that is less, and then fails.
+    /// An empty sink that accepts `stop` bytes, or N if that is less, and then fails.
     pub fn new(stop: usize) -> Self
         ensures empty { bytes_of result ≡ [] }
         ensures room { remaining_capacity result ≡ min stop N }
@@ -45,15 +45,15 @@ impl<const N: usize> Sink for ToldSink<N> {
 
     ghost state = { told_sink_state };
 
-    /// Takes what there is room for. A fault exactly where there is none and the piece isn't empty; then there is none
-    /// afterwards, either.
+    /// Accepts what there is room for. `SinkFault` if and only if there is none and the piece isn't empty; there is
+    /// none from then on.
     fn write(&mut self, piece: &[u8]) -> Result<usize, SinkFault>
         ensures bytes { WritesSome (told_sink_state self.old) (told_sink_state self.new) piece.now result }
         ensures empty { piece.now ≡ [] → result ≡ Ok 0 }
-        ensures all { IfOk result (λ n. n ≡ min (remaining_capacity self.old) (length piece.now)) }
+        ensures count { IfOk result (λ n. n ≡ min (remaining_capacity self.old) (length piece.now)) }
         ensures full { IsErr result ↔ ((remaining_capacity self.old ≡ 0) × (0 < length piece.now)) }
         ensures room { IfOk result (λ n. remaining_capacity self.new + n ≡ remaining_capacity self.old) }
-        ensures stays { OnErr result (remaining_capacity self.new ≡ remaining_capacity self.old) }
+        ensures room_on_err { OnErr result (remaining_capacity self.new ≡ remaining_capacity self.old) }
     {
         if piece.is_empty() {
             return Ok(0);
@@ -69,7 +69,7 @@ impl<const N: usize> Sink for ToldSink<N> {
         Ok(count)
     }
 
-    /// Nothing is ever held: it succeeds and changes nothing.
+    /// Nothing is ever buffered: it succeeds and changes nothing.
     fn flush(&mut self) -> Result<(), SinkFault>
         ensures ok { result ≡ Ok tt }
         ensures same { self.new ≡ self.old }

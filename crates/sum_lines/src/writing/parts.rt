@@ -1,4 +1,4 @@
-//! Texts that are written part after part.
+//! Texts written in parts.
 ghost use Rattle.std.specs.Prelude.{decimal};
 ghost use Rattle.sum_lines.specs.sinks.Sinks.{WritesAll};
 
@@ -9,7 +9,7 @@ use itoa::Buffer;
 /// A part of a text.
 #[derive(Clone, Copy, Debug)]
 pub enum Part<'a> {
-    /// These bytes as they are.
+    /// These bytes, as they are.
     Bytes(&'a [u8]),
     /// A name, escaped.
     Escaped(&'a [u8]),
@@ -19,8 +19,7 @@ pub enum Part<'a> {
 
 ghost use Rattle.sum_lines.specs.refinement.PartTexts.{part_text, parts_text};
 
-/// Writes the parts, one after another. A fault where a write failed; of what was held and of their text a proper
-/// prefix is then handed on, and nothing is held.
+/// Writes the parts, one after another. `SinkFault` as `put_all`.
 pub fn put_parts<S: Sink>(sink: &mut S, parts: &[Part]) -> Result<(), SinkFault>
     ensures { WritesAll (S.state sink.old) (S.state sink.new) (parts_text parts.now) result }
 {
@@ -30,6 +29,7 @@ pub fn put_parts<S: Sink>(sink: &mut S, parts: &[Part]) -> Result<(), SinkFault>
     Ok(())
 }
 
+// Writes one part.
 fn put_part<S: Sink>(sink: &mut S, part: Part) -> Result<(), SinkFault>
     ensures { WritesAll (S.state sink.old) (S.state sink.new) (part_text part.entry) result }
 {
@@ -40,8 +40,7 @@ fn put_part<S: Sink>(sink: &mut S, part: Part) -> Result<(), SinkFault>
     }
 }
 
-/// Writes the number's decimal digits, without a leading zero. A fault where a write failed; of what was held and of
-/// the digits a proper prefix is then handed on, and nothing is held.
+/// Writes the number's decimal digits, without a leading zero. `SinkFault` as `put_all`.
 pub fn put_number<S: Sink>(sink: &mut S, number: u64) -> Result<(), SinkFault>
     ensures { WritesAll (S.state sink.old) (S.state sink.new) (decimal number) result }
 {

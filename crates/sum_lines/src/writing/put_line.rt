@@ -7,7 +7,7 @@ use crate::sinks::sink::{Sink, SinkFault, put_all};
 use crate::writing::parts::{Part, put_parts};
 use digest_kinds::{Digest, Kind};
 
-/// The form of a line (coreutils manual, "md5sum invocation").
+/// The layout of a line (coreutils manual, "md5sum invocation").
 #[derive(Clone, Copy, Debug, PartialEq, Eq)]
 pub enum Mode {
     /// The digits, two spaces, the name.
@@ -21,7 +21,7 @@ pub enum Mode {
 /// How lines are written.
 #[derive(Clone, Copy, Debug, PartialEq, Eq)]
 pub struct Style {
-    /// The form.
+    /// The layout.
     pub mode: Mode,
     /// Whether lines end with NUL and names aren't escaped.
     pub zero: bool,
@@ -33,8 +33,7 @@ ghost use Rattle.sum_lines.specs.refinement.PartTexts.{part_text};
 ghost use Rattle.sum_lines.specs.Escape.{present, escape, escape_differs};
 ghost use Rattle.sum_lines.specs.grammar.Shapes.{mark};
 
-/// Writes the line of a name and its digest, which has the kind's length. A fault where a write failed; of what was
-/// held and of the line a proper prefix is then handed on, and nothing is held.
+/// Writes the line of a name and its digest, which has the kind's length. `SinkFault` as `put_all`.
 pub fn put_line<S: Sink>(
     sink: &mut S,
     style: Style,
@@ -65,7 +64,7 @@ fn digits_of<'a>(digest: &Digest, buffer: &'a mut [u8; 128]) -> &'a [u8]
     &buffer[..count]
 }
 
-// What stands before a line, and its name, escaped. A name that is its own escape is searched once.
+// What begins a line, and its name, escaped. A name that is its own escape is searched once.
 fn mark_and_name(name: &[u8]) -> (&'static [u8], Part<'_>)
     ensures mark { result.0.now ≡ mark (escape_differs present name.now) }
     ensures name { part_text result.1 ≡ escape name.now }
@@ -77,7 +76,7 @@ fn mark_and_name(name: &[u8]) -> (&'static [u8], Part<'_>)
     }
 }
 
-// Writes a line without its end and without a backslash before it.
+// Writes a line without its end and without the backslash that may begin it.
 fn put_layout<'a, S: Sink>(
     sink: &mut S,
     mode: Mode,
@@ -102,7 +101,7 @@ fn put_layout<'a, S: Sink>(
     }
 }
 
-// Writes the tag, for a BLAKE2b digest that isn't full with its bits.
+// Writes the tag; for a BLAKE2b digest that isn't full, with its bits.
 fn put_tag<S: Sink>(sink: &mut S, kind: Kind) -> Result<(), SinkFault>
     ensures { WritesAll (S.state sink.old) (S.state sink.new) (line_tag kind) result }
 {

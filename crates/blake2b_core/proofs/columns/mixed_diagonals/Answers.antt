@@ -1,7 +1,7 @@
 use Rattle.blake2b_core.proofs.ColumnLemmas.{diagonals-rows}
 use Rattle.blake2b_core.proofs.columns.mixed_diagonals.Goals as goal
 
--- the rows are turned, their columns mixed, and turned back
+-- the rows are rotated, their columns mixed, and rotated back
 pub returns : goal.returns
 returns c =
     diagonals-rows c.args.v c.mixed_columns.result c.args.x c.args.y

@@ -1,6 +1,6 @@
-use Rattle.sum_lines.proofs.ParsedLineLemmas.{says_is}
+use Rattle.sum_lines.proofs.ParsedLineLemmas.{parse_is_grammar}
 use Rattle.sum_lines.proofs.laws.parse_is_grammar.Goals as goal
 
--- what a line says is what the grammar has
+-- what is computed of a line is what the grammar says of it
 pub returns : goal.returns
-returns c = says_is
+returns c = parse_is_grammar

@@ -5,7 +5,7 @@ use Rattle.blake2b_core.specs.refinement.Holding.{AreBlocksFrom}
 use Rattle.blake2b_core.proofs.BlockLemmas.{are_blocks, first_chunks-take, hash_after-append}
 use Rattle.blake2b_core.proofs.incremental.Blake2b.absorb.Goals as goal
 
--- whole blocks that stand at the front of a piece are the next blocks of the message with them
+-- whole blocks at the front of a piece are the next blocks of the message with them
 next_blocks : {bs : List (List ℕ)} (m piece : List ℕ) (k count : ℕ) → 128 * k ≡ length m → 128 * count ≤ length piece
     → bs ≡ first_chunks 128 count piece → AreBlocksFrom (m ++ take (128 * count) piece) k bs
 next_blocks {bs = bs} m piece k count whole fits are =
@@ -17,7 +17,7 @@ next_blocks {bs = bs} m piece k count whole fits are =
     ∙ first_chunks-take 128 count piece (128 * count) (omega arith) ∙ sym are in
     subst (AreBlocksFrom (m ++ front) k) same (are_blocks (m ++ front) k count all)
 
--- the blocks are compressed, and nothing is held
+-- the blocks are compressed, and nothing is buffered
 pub returns-clause-holds : goal.returns-clause-holds
 returns-clause-holds c = λ m held.
     let s = c.args.self.now in

@@ -1,9 +1,9 @@
 use Rattle.std.proofs.Common.{◌≡◌, ◌+◌, ◌*◌, ◌≤◌, length, sym, ◌∙◌, arith, length-append, rules}
 use Rattle.blake2b_core.proofs.BlockLemmas.{hash_after-append}
-use Rattle.blake2b_core.proofs.HeldLemmas.{held-more}
+use Rattle.blake2b_core.proofs.BufferLemmas.{buffered-more}
 use Rattle.blake2b_core.proofs.incremental.Blake2b.buffer_bytes.Goals as goal
 
--- the bytes are held behind the others, and the blocks stay
+-- the bytes are buffered after the others, and the blocks stay
 pub returns-clause-holds : goal.returns-clause-holds
 returns-clause-holds c = λ m held.
     let s = c.args.self.now in
@@ -16,6 +16,6 @@ returns-clause-holds c = λ m held.
       done = held.done;
       count = omega (arith, length-append m bytes);
       hash = held.hash ∙ sym (hash_after-append s.len m bytes held.done within);
-      rest = held-more s.buffer_len _ (128 * held.done) s.buffer m room c.copy_from_slice.ensures.after within
+      rest = buffered-more s.buffer_len _ (128 * held.done) s.buffer m room c.copy_from_slice.ensures.after within
           held.rest;
     }

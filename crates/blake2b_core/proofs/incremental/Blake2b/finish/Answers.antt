@@ -1,9 +1,9 @@
 use Rattle.std.proofs.Common.{◌≡◌, ◌+◌, ◌*◌, length, ◌∙◌, arith}
 use Rattle.blake2b_core.proofs.BlockLemmas.{IsLast, blake2b-from}
-use Rattle.blake2b_core.proofs.HeldLemmas.{some_held}
+use Rattle.blake2b_core.proofs.BufferLemmas.{some_buffered}
 use Rattle.blake2b_core.proofs.incremental.Blake2b.finish.Goals as goal
 
--- what is held is the last block
+-- what is buffered is the last block
 pub returns-clause-digest : goal.returns-clause-digest
 returns-clause-digest c = λ m held.
     let s = c.args.self in
@@ -13,7 +13,7 @@ returns-clause-digest c = λ m held.
     record {
       starts = omega arith;
       ends = omega arith;
-      some = some_held m done s.buffer_len counted held.empty_buffer;
+      some = some_buffered m done s.buffer_len counted held.empty_buffer;
     } in
     let total = c.from.ensures ∙ held.so_far.taken in
     rw (c.of_state.ensures.value, c.compress-h.ensures)

@@ -1,10 +1,10 @@
 use Rattle.std.proofs.Common.{◌≡◌, ℕ, ◌+◌, ◌-◌, List, ◌++◌, length, take, drop, ap, subst, arith, length-append}
 use Rattle.std.proofs.lemmas.List.{length-drop, nil_from_length, take_rest}
 use Rattle.blake2b_core.specs.refinement.Holding.{HoldsSoFar}
-use Rattle.blake2b_core.proofs.HeldLemmas.{three_parts, none_left}
+use Rattle.blake2b_core.proofs.BufferLemmas.{three_parts, none_left}
 use Rattle.blake2b_core.proofs.incremental.Blake2b.update.Goals as goal
 
--- the piece goes in three parts: what fills the block that is held, whole blocks, and the rest, which is held
+-- the piece is taken in three parts: what fills the buffered block, whole blocks, and the rest, which is buffered
 pub returns-clause-holds : goal.returns-clause-holds
 returns-clause-holds c = λ m held.
     let piece = c.args.piece.now in
@@ -22,12 +22,12 @@ returns-clause-holds c = λ m held.
       empty_buffer = λ none.
           let rest_size : length rest ≡ length piece - a = omega (arith, ap length behind, length-drop a piece) in
           let last_size : length last ≡ length rest - b = omega (arith, ap length end, length-drop b rest) in
-          let used : c.buffer_bytes.new.self.buffer_len ≡ c.absorb-absorbed.new.self.buffer_len + length last =
-          c.buffer_bytes.ensures.used in
+          let len : c.buffer_bytes.new.self.buffer_len ≡ c.absorb-absorbed.new.self.buffer_len + length last =
+          c.buffer_bytes.ensures.buffer_len in
           let no_piece : length piece ≡ 0 =
-          none_left (length piece) a b rest_size c.fill-filled.ensures.some_left
-          c.absorb-absorbed.ensures.some_left (omega arith) in
-          let kept = c.fill-filled.ensures.none no_piece in
+          none_left (length piece) a b rest_size c.fill-filled.ensures.below
+          c.absorb-absorbed.ensures.below (omega arith) in
+          let kept = c.fill-filled.ensures.empty_piece no_piece in
           let none_before : c.args.self.now.buffer_len ≡ 0 = omega (arith, kept.1) in
           let no_message = ap length (held.empty_buffer none_before) in
           nil_from_length (m ++ piece) (omega (arith, length-append m piece));

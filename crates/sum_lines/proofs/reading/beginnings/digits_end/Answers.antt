@@ -2,7 +2,7 @@ use Rattle.std.proofs.Common.{arith}
 use Rattle.sum_lines.proofs.BeginningLemmas.{end-none}
 use Rattle.sum_lines.proofs.reading.beginnings.digits_end.Goals as goal
 
--- nothing behind it
+-- nothing follows it
 pub returns-in_default-clause-none : goal.returns-in_default-clause-none
 returns-in_default-clause-none c =
     end-none c.args.algo c.args.text.now c.in_ok-at.at c.in_ok-at.ensures.some (λ some blank. omega arith)

@@ -3,12 +3,12 @@ use Rattle.sum_lines.proofs.BeginningLemmas.{by-tag, untagged}
 use Rattle.sum_lines.proofs.PlainLemmas.{uncut}
 use Rattle.sum_lines.proofs.reading.beginnings.find_beginning.Goals as goal
 
--- a tag stands in front
+-- a tag begins the text
 pub returns-in-Some-clause-leads : goal.returns-in-Some-clause-leads
 returns-in-Some-clause-leads c =
     by-tag _ _ c.in-Some.algo (rw c.text_in.ensures.text at (sym c.in-Some.ensures))
 
--- no blank stands where the digits would end
+-- there is no blank where the digits would end
 pub returns-in_err-digits_end-in-One-clause-tagged : goal.returns-in_err-digits_end-in-One-clause-tagged
 returns-in_err-digits_end-in-One-clause-tagged c =
     rw c.from_residual.ensures (untagged _ _ (rw c.text_in.ensures.text at (sym c.in_default.ensures)))
@@ -18,13 +18,13 @@ returns-in_err-digits_end-in-One-clause-plain c =
     rw (c.from_residual.ensures, c.in-One.is)
     (uncut _ (rw c.text_in.ensures.text at c.in_err-digits_end-in-One.ensures.none))
 
--- one stands there
+-- there is one
 pub returns-in_ok-digits_end-in-One-clause-leads : goal.returns-in_ok-digits_end-in-One-clause-leads
 returns-in_ok-digits_end-in-One-clause-leads c =
     let tagged = untagged _ _ (rw c.text_in.ensures.text at (sym c.in_default.ensures)) in
     (rw c.text_in.ensures.text at c.in_ok-digits_end-in-One.ensures.some, tagged, rw c.in-One.is refl)
 
--- no tag stands in front, and no line is plain
+-- no tag begins the text, and no line is plain
 pub returns-in-Any-clause-tagged : goal.returns-in-Any-clause-tagged
 returns-in-Any-clause-tagged c =
     untagged _ _ (rw c.text_in.ensures.text at (sym c.in_default.ensures))

@@ -7,7 +7,7 @@ use Rattle.sum_lines.proofs.reading.line_parts.split_at_last.Goals as goal
 pub returns-in_err-at : goal.returns-in_err-at
 returns-in_err-at c = rw (c.from_residual.ensures, last_none c.args.byte c.args.s.now c.in_err-at.ensures) refl
 
--- it stands at that place
+-- it is at that place
 pub returns : goal.returns
 returns c =
     rw (take_rest c.args.s.now (c.in_ok-at.at + 1))

@@ -2,7 +2,7 @@ use Rattle.std.proofs.Common.{◌+◌, take, drop, sym}
 use Rattle.std.proofs.lemmas.List.{take-append-drop, take_rest}
 use Rattle.sum_lines.proofs.BeginningLemmas.{digits-none, kind-none, plain-read}
 use Rattle.sum_lines.proofs.PlainLemmas.{read_is_plain, uncut}
-use Rattle.sum_lines.proofs.ScanLemmas.{ends-behind, tail-place}
+use Rattle.sum_lines.proofs.ScanLemmas.{ends-after, tail-place}
 use Rattle.sum_lines.proofs.reading.plain.plain.Goals as goal
 
 -- no digest has that length
@@ -10,7 +10,7 @@ pub returns-in_err-kind-clause-parts : goal.returns-in_err-kind-clause-parts
 returns-in_err-kind-clause-parts c =
     rw c.from_residual.ensures (uncut _ (kind-none c.requires c.in_err-kind.ensures))
 
--- what stands before it spells no digest
+-- what precedes it spells no digest
 pub returns-in_err-digest-clause-parts : goal.returns-in_err-digest-clause-parts
 returns-in_err-digest-clause-parts c =
     rw c.from_residual-in_err-digest.ensures (uncut _ (digits-none c.requires (λ digits.
@@ -22,7 +22,7 @@ returns-clause-parts c =
     let s = c.text_in-escaped.result.1.now in
     let n = c.args.at + 1 in
     let text = c.text_in-escaped.ensures.text in
-    let tail = ends-behind (take n s) (drop n s) c.text_in-escaped.ensures.ends (sym (take-append-drop n s)) in
+    let tail = ends-after (take n s) (drop n s) c.text_in-escaped.ensures.ends (sym (take-append-drop n s)) in
     rw (take_rest s n, tail-place tail, c.text_in-escaped.ensures.mark, text)
     (plain-read _ _ c.in_ok-kind.kind c.requires (rw text at c.in_ok-digest.ensures.value) c.in_ok-kind.ensures)
 

@@ -1,9 +1,10 @@
-use Rattle.std.proofs.Common.{◌≡◌, false, refl, sym, ◌∙◌}
+use Rattle.std.proofs.Common.{◌≡◌, false, refl, sym, ◌∙◌, arith}
 use Rattle.sum_lines.specs.grammar.Entries.{is_ignored}
 use Rattle.sum_lines.specs.grammar.ParsedLines.{entry_of}
+use Rattle.sum_lines.proofs.ParsedLineLemmas.{matches}
 use Rattle.sum_lines.proofs.reading.read_line.read_line.Goals as goal
 
--- what neither a tag nor digits begin is a bad line
+-- a line that begins neither with a tag nor with digits is bad
 pub returns-in-None-clause-parsed : goal.returns-in-None-clause-parsed
 unfolding entry_of
 returns-in-None-clause-parsed g c =
@@ -12,3 +13,13 @@ returns-in-None-clause-parsed g c =
     let tagged = rw c.deref-2.ensures.value at c.in-None.ensures.tagged in
     let plain = rw c.deref-2.ensures.value at c.in-None.ensures.plain in
     rw (heard, ← tagged, ← plain) refl
+
+-- the grammar says of a line what is computed of it
+pub returns-in-None-clause-grammar : goal.returns-in-None-clause-grammar
+returns-in-None-clause-grammar g c = matches (returns-in-None-clause-parsed g c)
+
+pub returns-in-Some-clause-grammar : goal.returns-in-Some-clause-grammar
+returns-in-Some-clause-grammar g c = matches (grind arith)
+
+pub returns-then-is_ignored-clause-grammar : goal.returns-then-is_ignored-clause-grammar
+returns-then-is_ignored-clause-grammar c w = matches (grind arith)

@@ -13,7 +13,7 @@ returns-then-not-has_nul-clause-parsed g c =
     let all = rw (c.deref.ensures.value, rest, c.if-not-has_nul.true) at c.has_nul.ensures in
     rw (← name, ← all, c.len.ensures, ← c.deref.ensures.len, c.deref.ensures.value, rest) refl
 
--- the name holds a NUL, or the raw name is no name's escape
+-- the name has a NUL, or the raw name is no name's escape
 pub returns-else-unspell-clause-parsed : goal.returns-else-unspell-clause-parsed
 returns-else-unspell-clause-parsed g c =
     let raw = part_of c.args.line.now.items c.args.found.start c.args.found.stop c.requires.ordered in

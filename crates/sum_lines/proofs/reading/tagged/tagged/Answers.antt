@@ -19,10 +19,10 @@ returns-in_err-digest-clause-parts c =
     let width = rw c.text_in-escaped.ensures.text at c.in-Some.ensures in
     rw c.from_residual-in_err-digest.ensures (tagged-none _ _ c.requires width c.in_ok-inner.ensures
     c.in_ok-raw.ensures sign
-    (λ d. digest_none _ d _ size.some size.few (λ digits.
+    (λ d. digest_none _ d _ size.at_least size.at_most (λ digits.
     let bad = c.in_err-digest.ensures.found.1 (rw c.skip_blanks-digits.ensures digits) in cc)))
 
--- the name stands within the line
+-- the name is within the line
 pub overflow_sub-start : goal.overflow_sub-start
 overflow_sub-start c =
     (name_place _ _ c.text_in-escaped.ensures.ends c.in-Some.ensures c.in_ok-inner.ensures c.in_ok-raw.ensures).0

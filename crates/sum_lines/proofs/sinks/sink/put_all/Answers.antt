@@ -1,7 +1,7 @@
 use Rattle.std.proofs.Common.{rules, ◌<◌, [], length, sym, append-nil}
 use Rattle.std.proofs.lemmas.List.{take_rest, nil_from_length}
 use Rattle.std.proofs.lemmas.Result.{err_from_is_err_and}
-use Rattle.sum_lines.proofs.SinkLemmas.{FlushFailed-broke, Left-step, Left-stop, Left-none, cut_at}
+use Rattle.sum_lines.proofs.SinkLemmas.{FlushFailed-write_failed, Left-step, Left-stop, Left-none, cut_at}
 use Rattle.sum_lines.proofs.OfferLemmas.{Offered-more, Offered-last, Offered-none}
 use Rattle.sum_lines.proofs.sinks.sink.put_all.Goals as goal
 
@@ -9,7 +9,7 @@ use Rattle.sum_lines.proofs.sinks.sink.put_all.Goals as goal
 pub returns-in_err-count-clause-text : goal.returns-in_err-count-clause-text
 returns-in_err-count-clause-text g c =
     let stop = err_from_is_err_and c.from_residual.result c.from_residual.ensures.1 in
-    let failed = FlushFailed-broke c.in_err-count.ensures.bytes (search rules) in
+    let failed = FlushFailed-write_failed c.in_err-count.ensures.bytes (search rules) in
     rw stop.1 (Left-stop [] c.loop-rest.invariant.left (sym (append-nil _)) failed)
 
 -- that was the last offer

@@ -1,7 +1,7 @@
 use Rattle.sum_lines.proofs.BufferLemmas.{Flushed-below}
 use Rattle.sum_lines.proofs.sinks.buffered.BufferedSink.flush.Goals as goal
 
--- nothing is held in the buffer any more, and the sink below was flushed, or that failed
+-- the buffer is empty, and the sink below was flushed, or that failed
 pub returns-clause-bytes : goal.returns-clause-bytes
 returns-clause-bytes g c =
     let emptied = rw (← c.self.view_is) at c.in_ok-flush_buffer.ensures in

@@ -1,16 +1,16 @@
--- Lemmas on the bytes that are held, and on a piece that is taken in parts.
+-- Lemmas on the bytes that are buffered, and on a piece that is taken in parts.
 use Rattle.std.proofs.Common.{◌≡◌, ℕ, zero, suc, ◌+◌, ◌-◌, ◌*◌, ◌<◌, ◌≤◌, List, [], ◌++◌, length, take, drop, refl, sym, ap, ◌∙◌, arith, append_assoc}
 use Rattle.std.proofs.lemmas.List.{drop-append-le, take-append-drop}
 use Rattle.std.proofs.lemmas.Slice.{take-put_mid}
 use borrow.Rule.Slice.PartMut.{put_mid}
 
--- bytes that are put behind those that are held
-pub held-more : {ys bytes : List ℕ} (used k start : ℕ) (held m : List ℕ) → used ≤ length held → ys ≡ bytes
-    → start ≤ length m → take used held ≡ drop start m
-    → take (used + length bytes) (put_mid used k held ys) ≡ drop start (m ++ bytes)
-held-more {ys = ys} {bytes = bytes} used k start held m room same within rest =
-    let size : used + length bytes ≡ used + length ys = rw same refl in
-    take-put_mid used k held ys (used + length bytes) size room
+-- bytes that are put after those that are buffered
+pub buffered-more : {ys bytes : List ℕ} (len k start : ℕ) (buffer m : List ℕ) → len ≤ length buffer → ys ≡ bytes
+    → start ≤ length m → take len buffer ≡ drop start m
+    → take (len + length bytes) (put_mid len k buffer ys) ≡ drop start (m ++ bytes)
+buffered-more {ys = ys} {bytes = bytes} len k start buffer m room same within rest =
+    let size : len + length bytes ≡ len + length ys = rw same refl in
+    take-put_mid len k buffer ys (len + length bytes) size room
     ∙ rw (rest, same) (sym (drop-append-le start m bytes within))
 
 -- a piece that is taken in three parts
@@ -21,7 +21,7 @@ three_parts {rest = rest} m piece a b behind end =
     rw (take-append-drop b rest, behind) (take-append-drop a piece) in
     rw (end, append_assoc (m ++ take a piece) (take b rest) (drop b rest), append_assoc m (take a piece) _, all) refl
 
--- where the two first parts leave a byte of what they are given, nothing is left of nothing alone
+-- if the first two parts leave a byte of what they are given, nothing is left of nothing alone
 pub none_left : {rest : ℕ} (piece a b : ℕ) → rest ≡ piece - a → (0 < piece → a < piece) → (0 < rest → b < rest)
     → rest - b ≡ 0 → piece ≡ 0
 none_left zero a b size first second none = refl
@@ -30,8 +30,8 @@ none_left {rest = rest} (suc piece) a b size first second none =
     let more : b < rest = second (omega arith) in
     absurd (omega arith)
 
--- some blocks were compressed, so that the message is not empty and its end is held
-pub some_held : (m : List ℕ) (done used : ℕ) → 128 * done + used ≡ length m → (used ≡ 0 → m ≡ []) → 0 < done
+-- some blocks were compressed, so that the message isn't empty and its end is buffered
+pub some_buffered : (m : List ℕ) (done len : ℕ) → 128 * done + len ≡ length m → (len ≡ 0 → m ≡ []) → 0 < done
     → 128 * done < length m
-some_held m done zero counted none some = absurd (omega (arith, ap length (none refl)))
-some_held m done (suc used) counted none some = omega arith
+some_buffered m done zero counted none some = absurd (omega (arith, ap length (none refl)))
+some_buffered m done (suc len) counted none some = omega arith

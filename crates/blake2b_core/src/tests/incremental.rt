@@ -1,4 +1,4 @@
-//! Messages that come in pieces, and the same ones whole.
+//! Messages in pieces, and the same ones whole.
 use super::append;
 use crate::{Blake2b, Output, blake2b};
 use std::process::Abort;
