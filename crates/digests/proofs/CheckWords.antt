@@ -1,19 +1,15 @@
 -- The words of a check ask for that check.
-use Rattle.std.proofs.Common.{◌≡◌, Bool, true, false, not, List, [], ◌∷◌, ◌++◌, map, find, codes, None, Some, Result, Ok, refl, ap, sym, ◌∙◌, unwrap_or, bytes_eq, filter_map}
-use Rattle.std.specs.Result.{result_map_both}
+use Rattle.std.proofs.Common.{◌≡◌, Bool, true, false, not, List, [], ◌∷◌, ◌++◌, map, find, codes, None, Some, Ok, refl, ap, sym, ◌∙◌, bytes_eq}
 use Rattle.std.specs.List.{list_all}
 use Rattle.std.proofs.lemmas.Bool.{and_parts}
 use Rattle.std.proofs.lemmas.List.Elements.{All-nil, All-cons}
 use Rattle.sum_engine.specs.declared.settings.CheckSettings.{CheckSettings}
-use Rattle.sum_words.specs.Request.{Report, request, early_answer, job_or_fault, kind_asked}
+use Rattle.sum_words.specs.Request.{Report, request, request_of_items}
 use Rattle.sum_words.specs.declared.parsing.options.Flag.{Flag}
 use Rattle.sum_words.specs.declared.tool.Tool.{Tool}
-use Rattle.sum_words.specs.declared.parsing.request.Request.{Request}
-use Rattle.sum_words.specs.declared.parsing.request.Request.TheVariants.{Work}
-use Rattle.sum_words.specs.declared.parsing.request.Job.TheVariants.{Check}
+use Rattle.sum_words.specs.declared.parsing.request.Request.TheVariants.{Check}
 use Rattle.sum_words.specs.Tools.{algos_of}
-use Rattle.sum_words.specs.WordFaults.{WordFaultValue}
-use Rattle.sum_words.specs.Items.{ByteString, ItemValue, option, operand, a_word, items_from, full_name, flags_of, takes_value, name_part, value_part, name_or_fault, option_in, value_in, operand_in}
+use Rattle.sum_words.specs.Items.{ByteString, option, operand, a_word, items_from, full_name, flags_of, takes_value, name_part, value_part, name_or_fault}
 use Rattle.sum_words.specs.PlainWords.{is_plain}
 use Rattle.sum_words.proofs.PlainWordLemmas.{plain_words}
 use Rattle.digests.specs.GenerationRuns.{check_options, check_words, ChecksBy}
@@ -73,19 +69,14 @@ items-are t check manifest all plain =
     ∙ ap (λ xs. map option (check_options check) ++ xs) (plain_words t (manifest ∷ []) []
     (All-cons (λ w. is_plain w ≡ true) manifest [] plain (All-nil (λ w. is_plain w ≡ true))))
 
--- what items ask for
-abbrev asked : Tool → List ItemValue → Result Request WordFaultValue
-asked t xs = unwrap_or (early_answer xs) (result_map_both (λ job. Work job (filter_map operand_in xs)) (λ f. f)
-    (job_or_fault (algos_of t) (kind_asked (filter_map value_in xs)) (filter_map option_in xs)))
-
 abbrev settings : Tool → Report → Bool → Bool → CheckSettings
 settings t r s i = record { algo = algos_of t; report = r; strict = s; ignore_missing = i }
 
 -- no option of a check takes a value, and what they ask for is the check
 checked : (t : Tool) (m : ByteString) (r : Report) (s i : Bool)
     → (list_all takes_none (check_options (settings t r s i)) ≡ true)
-    × (asked t (map option (check_options (settings t r s i)) ++ operand m ∷ [])
-    ≡ Ok (Work (Check (settings t r s i)) (m ∷ [])))
+    × (request_of_items t (map option (check_options (settings t r s i)) ++ operand m ∷ [])
+    ≡ Ok (Check (settings t r s i) (m ∷ [])))
 checked t m reports.All false false = (refl, refl)
 checked t m reports.All false true = (refl, refl)
 checked t m reports.All true false = (refl, refl)
@@ -105,8 +96,8 @@ checked t m reports.Status true true = (refl, refl)
 
 -- so the words ask for the check
 pub request-check_words : (t : Tool) (check : CheckSettings) (manifest : ByteString) → ChecksBy t check manifest
-    → request t (check_words check manifest) ≡ Ok (Work (Check check) (manifest ∷ []))
+    → request t (check_words check manifest) ≡ Ok (Check check (manifest ∷ []))
 request-check_words t check manifest h =
     let is = checked t manifest check.report check.strict check.ignore_missing in
-    ap (asked t) (items-are t check manifest is.0 h.operand) ∙ is.1
-    ∙ ap (λ a. Ok (Work (Check (record check { algo = a })) (manifest ∷ []))) (sym h.algo)
+    ap (request_of_items t) (items-are t check manifest is.0 h.operand) ∙ is.1
+    ∙ ap (λ a. Ok (Check (record check { algo = a }) (manifest ∷ []))) (sym h.algo)

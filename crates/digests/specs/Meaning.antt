@@ -6,9 +6,7 @@ use Rattle.sum_engine.specs.Generation.{generate_behavior}
 use Rattle.sum_engine.specs.check.Checking.{check_behavior}
 use Rattle.sum_words.specs.declared.tool.Tool.{Tool}
 use Rattle.sum_words.specs.declared.parsing.request.Request.{Request}
-use Rattle.sum_words.specs.declared.parsing.request.Request.TheVariants.{Work, Help, Version}
-use Rattle.sum_words.specs.declared.parsing.request.Job.{Job}
-use Rattle.sum_words.specs.declared.parsing.request.Job.TheVariants.{Generate, Check}
+use Rattle.sum_words.specs.declared.parsing.request.Request.TheVariants.{Generate, Check, Help, Version}
 use Rattle.sum_words.specs.Tools.{name_of}
 use Rattle.sum_words.specs.WordFaults.{WordFaultValue}
 use Rattle.sum_words.specs.Items.{ByteString}
@@ -25,17 +23,17 @@ abbrev pub or_dash : List ByteString → List ByteString
 or_dash [] = codes "-" ∷ []
 or_dash (n ∷ ns) = n ∷ ns
 
--- what one operand of a job comes to
-abbrev pub operand_behavior : Job → ByteString → World → ByteString → Behavior
-operand_behavior (Generate settings) tool w name = generate_behavior settings tool w name
-operand_behavior (Check settings) tool w name = check_behavior settings tool w name
-
+-- the behavior that a request, or a fault in the words, asks for
 abbrev pub request_behavior : Tool → Result Request WordFaultValue → World → Behavior
 request_behavior t (Err fault) w = single_step [] (fault_lines t fault) [] false
 request_behavior t (Ok Help) w = single_step [] [] (help t) true
 request_behavior t (Ok Version) w = single_step [] [] (version t) true
-request_behavior t (Ok (Work job names)) w = operands_behavior (operand_behavior job (name_of t)) w (or_dash names)
+request_behavior t (Ok (Generate settings names)) w =
+    operands_behavior (generate_behavior settings (name_of t)) w (or_dash names)
+request_behavior t (Ok (Check settings names)) w =
+    operands_behavior (check_behavior settings (name_of t)) w (or_dash names)
 
+-- the behavior that a tool's words mean
 abbrev pub meaning : Tool → List ByteString → World → Behavior
 meaning t words w = request_behavior t (request t words) w
 

@@ -4,16 +4,16 @@ ghost use Rattle.sum_engine.specs.Execution.{IsFlushed, FailuresMatch, RefusalsM
 ghost use Rattle.sum_words.specs.Tools.{name_of};
 ghost use Rattle.sum_words.specs.refinement.OptionScan.{result_of};
 ghost use Rattle.sum_words.specs.Request.{request};
-ghost use Rattle.digests.specs.Meaning.{operands_behavior, request_behavior, operand_behavior, or_dash, meaning, status_of};
-ghost use Rattle.digests.specs.Refusals.{RefusalsOfJob, RefusalsOf};
-ghost use Rattle.digests.specs.refinement.Operands.{status_after_write};
+ghost use Rattle.digests.specs.Meaning.{operands_behavior, request_behavior, or_dash, meaning, status_of};
+ghost use Rattle.digests.specs.Refusals.{RefusalsOf};
+ghost use Rattle.digests.specs.refinement.Operands.{operand_behavior, RefusalsOfJob, status_after_write};
 
 use crate::messages::{Message, put_message};
 use std::alloc::Allocator;
-use sum_engine::{Stop, Streams, check_one, generate_one};
+use sum_engine::{CheckSettings, Settings, Stop, Streams, check_one, generate_one};
 use sum_lines::{Sink, SinkFault};
 use sum_sources::{Input, Source};
-use sum_words::{Job, Operands, Request, Tool, WordFault, Words, read_words};
+use sum_words::{Operands, Request, Tool, WordFault, Words, read_words};
 
 /// Runs a tool on its words: writes what they mean for what standard input and the source have to give, and answers the
 /// status, 0 where all is good and 1 where anything isn't (coreutils manual, "md5sum invocation"). Each line, and the
@@ -60,7 +60,12 @@ fn run_request<A: Allocator + Copy, I: Input + Drop, S: Source, O: Sink, E: Sink
             put_message(&mut streams.out, Message::Version(tool)),
             0,
         ),
-        Ok(Request::Work(job, operands)) => run_operands(alloc, &job, tool, operands, streams),
+        Ok(Request::Generate(settings, operands)) => {
+            run_operands(alloc, &Job::Generate(settings), tool, operands, streams)
+        }
+        Ok(Request::Check(settings, operands)) => {
+            run_operands(alloc, &Job::Check(settings), tool, operands, streams)
+        }
     }
 }
 
@@ -70,6 +75,13 @@ pub(crate) fn status_after_write(told: Result<(), SinkFault>, status: u8) -> Res
 {
     told?;
     Ok(status)
+}
+
+// What is done with each operand.
+#[derive(Clone, Copy)]
+enum Job {
+    Generate(Settings),
+    Check(CheckSettings),
 }
 
 fn run_operand<A: Allocator + Copy, I: Input + Drop, S: Source, O: Sink, E: Sink>(

@@ -7,16 +7,15 @@ use Prim.Native.String.{String}
 use lib.Utf8.{encode}
 use Rattle.sum_lines.specs.grammar.Shapes.{Algo, One, Any}
 use Rattle.digest_kinds.specs.declared.algo.Algo.TheVariants.{Md5, Sha256, Blake2b}
-use Rattle.sum_words.specs.Request.{Mode, Request, Work, Help, Version, Generate, Check, request}
+use Rattle.sum_words.specs.Request.{Mode, Request, Generate, Check, Help, Version, request}
 use Rattle.sum_words.specs.Items.{Long, Short, ByteString, name_or_fault, option_of_letter}
 use Rattle.sum_words.specs.Tools.{Tool, tool_called}
 use Rattle.sum_words.specs.declared.tool.Tool.TheVariants.{Md5sum, Sha256sum, B2sum, Anysum}
-use Rattle.sum_words.specs.WordFaults.{WordFaultValue, unknown_long, ambiguous_long, value_not_allowed, value_missing, unknown_short, length_invalid, length_not_bytes, tag_with_text, zero_with_check, tag_with_check, mode_with_check, without_check, check_needed}
+use Rattle.sum_words.specs.WordFaults.{WordFaultValue, unknown_long, ambiguous_long, value_not_allowed, value_missing, unknown_short, length_invalid, length_not_bytes, tag_with_text, zero_with_check, tag_with_check, mode_with_check, ignore_without_check, status_without_check, warn_without_check, quiet_without_check, strict_without_check, check_needed}
 use Rattle.sum_words.specs.CommandLines.{unknown_tool, invoke, last_part, command_line, NeedsMemory, MayNotRead}
 use Rattle.sum_words.specs.declared.command_line.TheConstants.{PAGE}
 use Rattle.sum_lines.specs.declared.writing.put_line.Mode.TheVariants as modes
 use Rattle.sum_engine.specs.declared.settings.Report.TheVariants as reports
-use Rattle.sum_words.specs.declared.parsing.options.Flag.TheVariants as flags
 
 -- the words of a line that has one blank between each two
 abbrev pub words : String → List ByteString
@@ -24,8 +23,8 @@ words line = slice_split (λ b. b == byte " ") (codes line)
 
 -- what a tool writes in a mode, each line with a newline
 abbrev pub writes : Algo → ℕ → Mode → List ByteString → Result Request WordFaultValue
-writes algo len mode operands = Ok (Work (Generate
-    (record { kind = record { algo = algo; len = len }; style = record { mode = mode; zero = false } })) operands)
+writes algo len mode operands = Ok (Generate
+    (record { kind = record { algo = algo; len = len }; style = record { mode = mode; zero = false } }) operands)
 
 -- lengths, and their faults
 lengths :
@@ -54,18 +53,18 @@ lengths = (refl, refl, refl, refl, refl, refl, refl, refl, refl, refl, refl, ref
 -- options, abbreviated ones among them, and their faults
 options :
     (request Sha256sum (words "--st l") ≡ Err (ambiguous_long (codes "st")))
-    × (request Sha256sum (words "--str l") ≡ Err (without_check flags.Strict))
+    × (request Sha256sum (words "--str l") ≡ Err strict_without_check)
     × (request Sha256sum (words "-cq l") ≡ Err (unknown_short 113))
-    × (request Md5sum (words "--status --quiet a") ≡ Err (without_check flags.Quiet))
+    × (request Md5sum (words "--status --quiet a") ≡ Err quiet_without_check)
     × (request Md5sum (words "--foo --help") ≡ Err (unknown_long (codes "foo")))
     × (request Md5sum (words "--help --foo") ≡ Ok Help)
-    × (request Md5sum (words "--tag=1 a") ≡ Err (value_not_allowed flags.Tag))
+    × (request Md5sum (words "--tag=1 a") ≡ Err (value_not_allowed (codes "tag")))
     × (request Md5sum (words "--foo=1 a") ≡ Err (unknown_long (codes "foo")))
     × (request Md5sum (words "--s a") ≡ Err (ambiguous_long (codes "s")))
     × (request Md5sum (words "--t a") ≡ Err (ambiguous_long (codes "t")))
     × (request Md5sum (words "--=x a") ≡ Err (ambiguous_long []))
     × (request Md5sum (words "--ta a") ≡ writes Md5 16 modes.Tag (words "a"))
-    × (request Md5sum (words "--help=1") ≡ Err (value_not_allowed flags.Help))
+    × (request Md5sum (words "--help=1") ≡ Err (value_not_allowed (codes "help")))
     × (request Sha256sum (words "-- -b") ≡ writes Sha256 32 modes.Text (words "-b"))
     × (request Md5sum (words "--version a") ≡ Ok Version)
 unfolding chars encode name_or_fault option_of_letter
@@ -79,9 +78,9 @@ order :
     × (request Md5sum (words "-c --tag -z l") ≡ Err zero_with_check)
     × (request Md5sum (words "-c --tag l") ≡ Err tag_with_check)
     × (request Md5sum (words "-c -b l") ≡ Err mode_with_check)
-    × (request Md5sum (words "--strict --ignore-missing a") ≡ Err (without_check flags.IgnoreMissing))
-    × (request Md5sum (words "--quiet -w --status a") ≡ Err (without_check flags.Status))
-    × (request Md5sum (words "--status -w a") ≡ Err (without_check flags.Warn))
+    × (request Md5sum (words "--strict --ignore-missing a") ≡ Err ignore_without_check)
+    × (request Md5sum (words "--quiet -w --status a") ≡ Err status_without_check)
+    × (request Md5sum (words "--status -w a") ≡ Err warn_without_check)
     × (request Md5sum (words "-c -t --tag -t l") ≡ Err tag_with_text)
 unfolding chars encode name_or_fault option_of_letter
 order = (refl, refl, refl, refl, refl, refl, refl, refl, refl, refl)
@@ -91,14 +90,14 @@ checking :
     (request Anysum [] ≡ Err check_needed)
     × (request Anysum (words "m") ≡ Err check_needed)
     × (request Anysum (words "-b m") ≡ Err check_needed)
-    × (request Anysum (words "--quiet m") ≡ Err (without_check flags.Quiet))
+    × (request Anysum (words "--quiet m") ≡ Err quiet_without_check)
     × (request Anysum (words "-z -c m") ≡ Err zero_with_check)
     × (request Anysum (words "-c -l 8 m") ≡ Err (unknown_short 108))
     × (request Anysum (words "-c --length=8 m") ≡ Err (unknown_long (codes "length")))
-    × (request Anysum (words "-c --strict -w m n") ≡ Ok (Work (Check
-    (record { algo = Any; report = reports.Warn; strict = true; ignore_missing = false })) (words "m n")))
-    × (request B2sum (words "-c -l 8 --status --quiet --ignore-missing - l") ≡ Ok (Work (Check
-    (record { algo = One Blake2b; report = reports.Quiet; strict = false; ignore_missing = true })) (words "- l")))
+    × (request Anysum (words "-c --strict -w m n") ≡ Ok (Check
+    (record { algo = Any; report = reports.Warn; strict = true; ignore_missing = false }) (words "m n")))
+    × (request B2sum (words "-c -l 8 --status --quiet --ignore-missing - l") ≡ Ok (Check
+    (record { algo = One Blake2b; report = reports.Quiet; strict = false; ignore_missing = true }) (words "- l")))
 unfolding chars encode name_or_fault option_of_letter
 checking = (refl, refl, refl, refl, refl, refl, refl, refl, refl)
 

@@ -80,7 +80,7 @@ abbrev pub long_option : Result Flag WordFaultValue → Option ByteString → Li
 long_option (Err f) value = (fault f ∷ [], no_word)
 long_option (Ok flag) None = if takes_value flag then ([], a_value Long) else (option flag ∷ [], a_word)
 long_option (Ok flag) (Some value) =
-    if takes_value flag then (length_value value ∷ [], a_word) else (fault (value_not_allowed flag) ∷ [], no_word)
+    if takes_value flag then (length_value value ∷ [], a_word) else (fault (value_not_allowed (full_name flag)) ∷ [], no_word)
 
 -- a cluster: options one by one, by their letters; what is left of the word is the value of one that takes it
 unfoldable pub option_of_letter : Tool → ℕ → Option Flag

@@ -1,6 +1,6 @@
 -- What a command line asks for: the request that its items make, or the first fault that counts.
 use denote.Enum.Bare.{sameb}
-use Rattle.std.specs.Prelude.{◌&&◌, ◌||◌, not, Bool, List, [], ◌∷◌, ◌++◌, map, false, Option, None, Some, Result, Ok, Err, if◌then◌else◌, unwrap_or, option_map, filter, find, bytes_eq, filter_map}
+use Rattle.std.specs.Prelude.{◌&&◌, ◌||◌, not, Bool, List, [], ◌∷◌, false, Option, None, Some, Result, Ok, Err, if◌then◌else◌, unwrap_or, option_map, filter, find, bytes_eq, filter_map}
 use Rattle.std.specs.List.{last_or, list_any}
 use Rattle.std.specs.Option.{option_transpose, option_map_or}
 use Rattle.std.specs.Result.{result_map_both}
@@ -17,10 +17,8 @@ pub use Rattle.sum_engine.specs.declared.settings.Report.{Report}
 use Rattle.sum_words.specs.Items.{Flag, ByteString, ItemValue, option, fault, a_word, items_from, option_in, value_in, operand_in}
 use Rattle.sum_words.specs.contracts.parsing.options.Flag.{the_type}
 pub use Rattle.sum_words.specs.declared.parsing.request.Request.{Request}
-pub use Rattle.sum_words.specs.declared.parsing.request.Request.TheVariants.{Work, Help, Version}
-pub use Rattle.sum_words.specs.declared.parsing.request.Job.{Job}
-pub use Rattle.sum_words.specs.declared.parsing.request.Job.TheVariants.{Generate, Check}
-use Rattle.sum_words.specs.WordFaults.{WordFaultValue, length_invalid, length_not_bytes, tag_with_text, zero_with_check, tag_with_check, mode_with_check, without_check, check_needed}
+pub use Rattle.sum_words.specs.declared.parsing.request.Request.TheVariants.{Generate, Check, Help, Version}
+use Rattle.sum_words.specs.WordFaults.{WordFaultValue, length_invalid, length_not_bytes, tag_with_text, zero_with_check, tag_with_check, mode_with_check, ignore_without_check, status_without_check, warn_without_check, quiet_without_check, strict_without_check, check_needed}
 use Rattle.sum_lines.specs.declared.writing.put_line.Mode.TheVariants as modes
 use Rattle.sum_engine.specs.declared.settings.Report.TheVariants as reports
 use Rattle.sum_words.specs.declared.parsing.options.Flag.TheVariants as flags
@@ -68,44 +66,52 @@ faults given =
     ∷ (has flags.Zero given && check, zero_with_check)
     ∷ (has flags.Tag given && check, tag_with_check)
     ∷ ((has flags.Binary given || has flags.Text given) && check, mode_with_check)
-    ∷ (has flags.IgnoreMissing given && not check, without_check flags.IgnoreMissing)
-    ∷ map (λ flag. (is_last flag report_flags given && not check, without_check flag)) report_flags
-    ++ (has flags.Strict given && not check, without_check flags.Strict) ∷ []
+    ∷ (has flags.IgnoreMissing given && not check, ignore_without_check)
+    ∷ (is_last flags.Status report_flags given && not check, status_without_check)
+    ∷ (is_last flags.Warn report_flags given && not check, warn_without_check)
+    ∷ (is_last flags.Quiet report_flags given && not check, quiet_without_check)
+    ∷ (has flags.Strict given && not check, strict_without_check)
+    ∷ []
 
--- what the options ask for where none of these holds; a tool without an algorithm of its own needs --check
+-- the mode of the lines that are written
 abbrev pub mode_of : List Flag → Mode
 mode_of given = if has flags.Tag given then modes.Tag
     else if is_last flags.Binary mode_flags given then modes.Binary else modes.Text
 
+-- the report of a check
 abbrev pub report_of : List Flag → Report
 report_of given = if is_last flags.Status report_flags given then reports.Status
     else if is_last flags.Warn report_flags given then reports.Warn
     else if is_last flags.Quiet report_flags given then reports.Quiet else reports.All
 
-abbrev pub generation_job : Algos → Option KindValue → List Flag → Result Job WordFaultValue
-generation_job Any kind given = Err check_needed
-generation_job (One algo) kind given =
+-- what the options ask for without --check, about these operands; a tool without an algorithm of its own needs --check
+abbrev pub generation : Algos → Option KindValue → List Flag → List ByteString → Result Request WordFaultValue
+generation Any kind given operands = Err check_needed
+generation (One algo) kind given operands =
     let style : Style = record { mode = mode_of given; zero = has flags.Zero given } in
-    Ok (Generate (record { kind = unwrap_or kind (full_kind algo); style = style }))
+    Ok (Generate (record { kind = unwrap_or kind (full_kind algo); style = style }) operands)
 
-abbrev pub job_of : Algos → Option KindValue → List Flag → Result Job WordFaultValue
-job_of algos kind given = if has flags.Check given then Ok (Check (record {
+-- what the options ask for if none of these faults holds
+abbrev pub request_of_options : Algos → Option KindValue → List Flag → List ByteString → Result Request WordFaultValue
+request_of_options algos kind given operands = if has flags.Check given then Ok (Check (record {
   algo = algos;
   report = report_of given;
   strict = has flags.Strict given;
   ignore_missing = has flags.IgnoreMissing given;
-})) else generation_job algos kind given
+}) operands) else generation algos kind given operands
 
--- the kind that the last length value asks for; where it is at fault, that counts before the first of the faults above
+-- the kind that the last length value asks for, if there is one, or the fault of that value
 abbrev pub kind_asked : List ByteString → Result (Option KindValue) WordFaultValue
 kind_asked values = option_transpose (option_map length_kind (last_or None values))
 
-abbrev pub job_or_fault : Algos → Result (Option KindValue) WordFaultValue → List Flag → Result Job WordFaultValue
-job_or_fault algos (Err f) given = Err f
-job_or_fault algos (Ok kind) given =
-    option_map_or Err (option_map (λ row. row.1) (find (λ row. row.0) (faults given))) (job_of algos kind given)
+-- the fault of the length counts first, then the first fault of the options; without one, what the options ask for
+abbrev pub request_or_fault : Algos → Result (Option KindValue) WordFaultValue → List Flag → List ByteString
+    → Result Request WordFaultValue
+request_or_fault algos (Err f) given operands = Err f
+request_or_fault algos (Ok kind) given operands = option_map_or Err
+    (option_map (λ row. row.1) (find (λ row. row.0) (faults given))) (request_of_options algos kind given operands)
 
--- the first fault among the items, --help or --version decides where there is one
+-- the first fault among the items, --help or --version decides if there is one
 abbrev pub early_answer : List ItemValue → Option (Result Request WordFaultValue)
 early_answer [] = None
 early_answer (fault f ∷ xs) = Some (Err f)
@@ -113,8 +119,11 @@ early_answer (option flags.Help ∷ xs) = Some (Ok Help)
 early_answer (option flags.Version ∷ xs) = Some (Ok Version)
 early_answer (x ∷ xs) = early_answer xs
 
+-- what a tool's items ask for
+abbrev pub request_of_items : Tool → List ItemValue → Result Request WordFaultValue
+request_of_items t xs = unwrap_or (early_answer xs) (request_or_fault (algos_of t)
+    (kind_asked (filter_map value_in xs)) (filter_map option_in xs) (filter_map operand_in xs))
+
+-- what a tool's words ask for
 abbrev pub request : Tool → List ByteString → Result Request WordFaultValue
-request t words =
-    let xs = items_from t a_word words in
-    unwrap_or (early_answer xs) (result_map_both (λ job. Work job (filter_map operand_in xs)) (λ f. f)
-    (job_or_fault (algos_of t) (kind_asked (filter_map value_in xs)) (filter_map option_in xs)))
+request t words = request_of_items t (items_from t a_word words)

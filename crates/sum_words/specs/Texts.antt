@@ -8,13 +8,13 @@ use Rattle.sum_lines.specs.Escape.{escape}
 use Rattle.sum_engine.specs.declared.stop.Stop.{Stop}
 use Rattle.sum_engine.specs.declared.stop.Stop.TheVariants.{Memory, Write}
 use Rattle.sum_words.specs.Items.{Long, Short, Flag, ByteString, row_of, full_name, takes_value, flags_of}
-use Rattle.sum_words.specs.WordFaults.{WordFaultValue, unknown_long, ambiguous_long, value_not_allowed, value_missing, unknown_short, length_invalid, length_not_bytes, tag_with_text, zero_with_check, tag_with_check, mode_with_check, without_check, check_needed}
+use Rattle.sum_words.specs.WordFaults.{WordFaultValue, unknown_long, ambiguous_long, value_not_allowed, value_missing, unknown_short, length_invalid, length_not_bytes, tag_with_text, zero_with_check, tag_with_check, mode_with_check, ignore_without_check, status_without_check, warn_without_check, quiet_without_check, strict_without_check, check_needed}
 
 -- a fault: what its text shows of the words is escaped as names are
 abbrev pub wording : WordFaultValue → ByteString
 wording (unknown_long name) = codes "unrecognized option '--" ++ escape name ++ codes "'"
 wording (ambiguous_long name) = codes "option '--" ++ escape name ++ codes "' is ambiguous"
-wording (value_not_allowed f) = codes "option '--" ++ full_name f ++ codes "' doesn't allow an argument"
+wording (value_not_allowed name) = codes "option '--" ++ name ++ codes "' doesn't allow an argument"
 wording (value_missing Long) = codes "option '--length' requires an argument"
 wording (value_missing Short) = codes "option requires an argument -- 'l'"
 wording (unknown_short c) = codes "invalid option -- '" ++ escape (encode_utf8 c) ++ codes "'"
@@ -24,7 +24,11 @@ wording tag_with_text = codes "--tag does not support --text mode"
 wording zero_with_check = codes "the --zero option is not supported when verifying checksums"
 wording tag_with_check = codes "the --tag option is meaningless when verifying checksums"
 wording mode_with_check = codes "the --binary and --text options are meaningless when verifying checksums"
-wording (without_check f) = codes "the --" ++ full_name f ++ codes " option is meaningful only when verifying checksums"
+wording ignore_without_check = codes "the --ignore-missing option is meaningful only when verifying checksums"
+wording status_without_check = codes "the --status option is meaningful only when verifying checksums"
+wording warn_without_check = codes "the --warn option is meaningful only when verifying checksums"
+wording quiet_without_check = codes "the --quiet option is meaningful only when verifying checksums"
+wording strict_without_check = codes "the --strict option is meaningful only when verifying checksums"
 wording check_needed = codes "--check is required"
 
 -- the two lines of a tool for a fault

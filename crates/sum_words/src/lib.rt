@@ -16,6 +16,6 @@ pub use messages::help::{put_help, put_version};
 pub use messages::word_faults::{WordFault, put_fault, put_stop, put_unknown};
 pub use parsing::items::{Item, Items, Operands};
 pub use parsing::options::{Flag, Spelling};
-pub use parsing::request::{Job, Request, read_words};
+pub use parsing::request::{Request, read_words};
 pub use tool::Tool;
 pub use words::{LentWords, NoRoom, Words, is_readable};

@@ -11,4 +11,6 @@ mod requests;
 #[cfg(test)]
 mod texts;
 #[cfg(test)]
+mod variants;
+#[cfg(test)]
 mod words;

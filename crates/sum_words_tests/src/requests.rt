@@ -6,7 +6,7 @@ use std::process::Abort;
 use std::test::Fail;
 use sum_engine::{CheckSettings, Report, Settings};
 use sum_lines::{Mode, Style};
-use sum_words::{Job, Operands, Request, Tool, WordFault, Words, read_words};
+use sum_words::{Operands, Request, Tool, WordFault, Words, read_words};
 
 // What words ask for. Without a contract, so that a test knows no more of it than it sees.
 fn asked<'a>(tool: Tool, words: &'a Words<Global>) -> Result<Request<'a>, WordFault<'a>> {
@@ -16,10 +16,7 @@ fn asked<'a>(tool: Tool, words: &'a Words<Global>) -> Result<Request<'a>, WordFa
 // The settings and operands of a request for lines.
 fn generation<'a>(asked: Result<Request<'a>, WordFault<'a>>) -> Option<(Settings, Operands<'a>)> {
     match asked {
-        Ok(Request::Work(job, operands)) => match job {
-            Job::Generate(settings) => Some((settings, operands)),
-            Job::Check(_) => None,
-        },
+        Ok(Request::Generate(settings, operands)) => Some((settings, operands)),
         _ => None,
     }
 }
@@ -29,10 +26,7 @@ fn checking<'a>(
     asked: Result<Request<'a>, WordFault<'a>>,
 ) -> Option<(CheckSettings, Operands<'a>)> {
     match asked {
-        Ok(Request::Work(job, operands)) => match job {
-            Job::Check(settings) => Some((settings, operands)),
-            Job::Generate(_) => None,
-        },
+        Ok(Request::Check(settings, operands)) => Some((settings, operands)),
         _ => None,
     }
 }

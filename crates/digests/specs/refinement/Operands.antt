@@ -1,12 +1,27 @@
 -- Joins the calls of a run to its operands.
-use Rattle.std.specs.Prelude.{ℕ, ◌≡◌, Bool, List, Result, Ok, Err}
+use Rattle.std.specs.Prelude.{ℕ, ◌≡◌, ◌⊎◌, Bool, List, Result, Ok, Err}
 use Rattle.sum_sources.specs.Contents.{SourceState, IfKnown}
 use Rattle.sum_engine.specs.declared.stop.Stop.{Stop}
 use Rattle.sum_engine.specs.declared.stop.Stop.TheVariants.{Write}
 use Rattle.sum_engine.specs.Behavior.{World, Behavior, behavior_then, trace}
 use Rattle.sum_engine.specs.Execution.{StreamsState, KnownState, known_state, Happened}
+use Rattle.sum_engine.specs.Generation.{generate_behavior}
+use Rattle.sum_engine.specs.check.Checking.{check_behavior}
+use Rattle.digest_kinds.specs.Limits.{one_more}
 use Rattle.sum_words.specs.Items.{ByteString}
+use Rattle.digests.specs.declared.run.Job.{Job}
+use Rattle.digests.specs.declared.run.Job.TheVariants.{Generate, Check}
 use Rattle.digests.specs.Meaning.{operands_behavior}
+
+-- the behavior of one operand of a job
+abbrev pub operand_behavior : Job → ByteString → World → ByteString → Behavior
+operand_behavior (Generate settings) tool w name = generate_behavior settings tool w name
+operand_behavior (Check settings) tool w name = check_behavior settings tool w name
+
+-- how a job that runs out of memory may change the count of refusals
+abbrev pub RefusalsOfJob : Job → ℕ → ℕ → Type 0
+RefusalsOfJob (Generate settings) n m = m ≡ one_more n
+RefusalsOfJob (Check settings) n m = (m ≡ n) ⊎ (m ≡ one_more n)
 
 -- the operands before the rest happened, and were good or not
 pub record OperandsDone (one : World → ByteString → Behavior) (names rest : List ByteString) (a b : KnownState)

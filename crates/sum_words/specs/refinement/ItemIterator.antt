@@ -4,7 +4,7 @@ use Rattle.std.specs.Prelude.{◌≡◌, ◌==◌, ℕ, drop, length, true, map,
 use Rattle.std.specs.List.{starts_with}
 use Rattle.sum_words.specs.declared.tool.Tool.{Tool}
 use Rattle.sum_words.specs.declared.messages.word_faults.WordFault.{WordFault}
-use Rattle.sum_words.specs.WordFaults.{WordFaultValue, unknown_long, ambiguous_long, value_not_allowed, value_missing, unknown_short, length_invalid, length_not_bytes, tag_with_text, zero_with_check, tag_with_check, mode_with_check, without_check, check_needed}
+use Rattle.sum_words.specs.WordFaults.{WordFaultValue, unknown_long, ambiguous_long, value_not_allowed, value_missing, unknown_short, length_invalid, length_not_bytes, tag_with_text, zero_with_check, tag_with_check, mode_with_check, ignore_without_check, status_without_check, warn_without_check, quiet_without_check, strict_without_check, check_needed}
 use Rattle.sum_words.specs.declared.parsing.items.Item.{Item as WordItem}
 use Rattle.sum_words.specs.declared.parsing.items.ParserState.{ParserState}
 use Rattle.sum_words.specs.declared.parsing.items.ParserStep.{ParserStep}
@@ -23,7 +23,7 @@ letter_text (Some c) = c ∷ []
 abbrev pub fault_of : WordFault → WordFaultValue
 fault_of (words.UnknownLong name) = unknown_long name.now
 fault_of (words.AmbiguousLong name) = ambiguous_long name.now
-fault_of (words.ValueNotAllowed flag) = value_not_allowed flag
+fault_of (words.ValueNotAllowed name) = value_not_allowed name.now
 fault_of (words.ValueMissing spelling) = value_missing spelling
 fault_of (words.UnknownShort c) = unknown_short c
 fault_of (words.LengthInvalid value) = length_invalid value.now
@@ -32,7 +32,11 @@ fault_of words.TagWithText = tag_with_text
 fault_of words.ZeroWithCheck = zero_with_check
 fault_of words.TagWithCheck = tag_with_check
 fault_of words.ModeWithCheck = mode_with_check
-fault_of (words.NeedsCheck flag) = without_check flag
+fault_of words.IgnoreWithoutCheck = ignore_without_check
+fault_of words.StatusWithoutCheck = status_without_check
+fault_of words.WarnWithoutCheck = warn_without_check
+fault_of words.QuietWithoutCheck = quiet_without_check
+fault_of words.StrictWithoutCheck = strict_without_check
 fault_of words.CheckNeeded = check_needed
 
 -- the item that the program's value says

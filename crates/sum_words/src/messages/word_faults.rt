@@ -9,7 +9,7 @@ ghost use Rattle.sum_words.specs.declared.tool.Tool.{Tool};
 ghost use Rattle.sum_words.specs.Tools.{name_of};
 ghost use Rattle.sum_words.specs.Texts.{wording, fault_lines, stop_line};
 
-use crate::parsing::options::{Flag, Spelling};
+use crate::parsing::options::Spelling;
 use crate::tool::Tool;
 use sum_engine::Stop;
 use sum_lines::{Part, Sink, SinkFault, put_all, put_parts};
@@ -22,8 +22,8 @@ pub enum WordFault<'a> {
     UnknownLong(&'a str),
     /// A long option, of this name as it was typed, that several options' names begin with.
     AmbiguousLong(&'a str),
-    /// A value after `=` at this option, which takes none.
-    ValueNotAllowed(Flag),
+    /// A value after `=` at the option of this full name, which takes none.
+    ValueNotAllowed(&'static str),
     /// No word left for the value of `--length` or of `-l`.
     ValueMissing(Spelling),
     /// A character of a cluster that is no option.
@@ -40,8 +40,16 @@ pub enum WordFault<'a> {
     TagWithCheck,
     /// `--binary` or `--text` with `--check`.
     ModeWithCheck,
-    /// This option without `--check`: first `--ignore-missing`, then the report setting, then `--strict`.
-    NeedsCheck(Flag),
+    /// `--ignore-missing` without `--check`.
+    IgnoreWithoutCheck,
+    /// `--status` without `--check`, if it is the last of `--status`, `--warn` and `--quiet`.
+    StatusWithoutCheck,
+    /// `--warn` without `--check`, if it is the last of the three.
+    WarnWithoutCheck,
+    /// `--quiet` without `--check`, if it is the last of the three.
+    QuietWithoutCheck,
+    /// `--strict` without `--check`.
+    StrictWithoutCheck,
     /// `anysum` without `--check`.
     CheckNeeded,
 }
@@ -85,8 +93,8 @@ fn wording<'a>(fault: WordFault<'a>, buffer: &'a mut [u8; 4]) -> (&'static str, 
     match fault {
         WordFault::UnknownLong(name) => ("unrecognized option '--", Part::Escaped(name.as_bytes()), "'"),
         WordFault::AmbiguousLong(name) => ("option '--", Part::Escaped(name.as_bytes()), "' is ambiguous"),
-        WordFault::ValueNotAllowed(flag) =>
-            ("option '--", Part::Bytes(flag.name().as_bytes()), "' doesn't allow an argument"),
+        WordFault::ValueNotAllowed(name) =>
+            ("option '--", Part::Bytes(name.as_bytes()), "' doesn't allow an argument"),
         WordFault::ValueMissing(Spelling::Long) => ("option '--length' requires an argument", NOTHING, ""),
         WordFault::ValueMissing(Spelling::Short) => ("option requires an argument -- 'l'", NOTHING, ""),
         WordFault::UnknownShort(letter) =>
@@ -98,8 +106,16 @@ fn wording<'a>(fault: WordFault<'a>, buffer: &'a mut [u8; 4]) -> (&'static str, 
         WordFault::TagWithCheck => ("the --tag option is meaningless when verifying checksums", NOTHING, ""),
         WordFault::ModeWithCheck =>
             ("the --binary and --text options are meaningless when verifying checksums", NOTHING, ""),
-        WordFault::NeedsCheck(flag) =>
-            ("the --", Part::Bytes(flag.name().as_bytes()), " option is meaningful only when verifying checksums"),
+        WordFault::IgnoreWithoutCheck =>
+            ("the --ignore-missing option is meaningful only when verifying checksums", NOTHING, ""),
+        WordFault::StatusWithoutCheck =>
+            ("the --status option is meaningful only when verifying checksums", NOTHING, ""),
+        WordFault::WarnWithoutCheck =>
+            ("the --warn option is meaningful only when verifying checksums", NOTHING, ""),
+        WordFault::QuietWithoutCheck =>
+            ("the --quiet option is meaningful only when verifying checksums", NOTHING, ""),
+        WordFault::StrictWithoutCheck =>
+            ("the --strict option is meaningful only when verifying checksums", NOTHING, ""),
         WordFault::CheckNeeded => ("--check is required", NOTHING, ""),
     }
 }

@@ -184,7 +184,7 @@ fn long_step<'a>(tool: Tool, text: &'a str) -> ParserStep<'a>
         (true, Some(value)) => ParserStep::Say(Item::Length(value.as_bytes()), ParserState::Word),
         (true, None) => ParserStep::Value(Spelling::Long),
         (false, Some(_)) => ParserStep::Say(
-            Item::Fault(WordFault::ValueNotAllowed(flag)),
+            Item::Fault(WordFault::ValueNotAllowed(flag.name())),
             ParserState::Ended,
         ),
         (false, None) => ParserStep::Say(Item::Flag(flag), ParserState::Word),

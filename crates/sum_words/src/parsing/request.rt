@@ -4,7 +4,7 @@ ghost use Rattle.std.specs.Option.{option_copied, option_map, option_transpose};
 ghost use Rattle.std.specs.Str.{all_ascii_digits};
 ghost use Rattle.sum_words.specs.Items.{ItemValue as ItemSaid, a_word, items_from, option, option_in};
 ghost use Rattle.sum_words.specs.refinement.ItemIterator.{fault_of};
-ghost use Rattle.sum_words.specs.Request.{length_kind, mode_of, faults, job_or_fault, request};
+ghost use Rattle.sum_words.specs.Request.{length_kind, mode_of, faults, request_or_fault, request};
 ghost use Rattle.sum_words.specs.refinement.OptionScan.{IsChosenBy, IsScanOf, result_of, IsNumberOf};
 
 use crate::messages::word_faults::WordFault;
@@ -17,20 +17,13 @@ use std::alloc::Allocator;
 use sum_engine::{CheckSettings, Report, Settings};
 use sum_lines::{Mode, Style};
 
-/// What is done with each operand.
-#[derive(Clone, Copy)]
-pub enum Job {
-    /// Its line is written.
-    Generate(Settings),
-    /// It is a manifest, which is checked.
-    Check(CheckSettings),
-}
-
-/// What a tool's words ask for.
+/// What a tool's words ask for. No operand means `-`: the caller sees to that.
 #[derive(Drop)]
 pub enum Request<'a> {
-    /// To do this with each operand; where there is none, with `-`, which is left to the caller.
-    Work(Job, Operands<'a>),
+    /// A line for each operand.
+    Generate(Settings, Operands<'a>),
+    /// A check of each operand, which is a manifest.
+    Check(CheckSettings, Operands<'a>),
     /// The help text.
     Help,
     /// The version text.
@@ -54,10 +47,7 @@ pub fn read_words<'a, A: Allocator>(
         Ok(kind) => kind,
         Err(fault) => return Err(fault),
     };
-    match asked_job(tool.algos(), kind, &chosen) {
-        Ok(job) => Ok(Request::Work(job, Operands::new(tool, words))),
-        Err(fault) => Err(fault),
-    }
+    asked_request(tool.algos(), kind, &chosen, Operands::new(tool, words))
 }
 
 // What the options say, as far as they were read. Of several report settings or lengths the last counts.
@@ -217,46 +207,49 @@ fn fault_of_options(chosen: &Chosen<'_>) -> Option<WordFault<'static>>
         return None;
     }
     if chosen.ignore_missing {
-        return Some(WordFault::NeedsCheck(Flag::IgnoreMissing));
+        return Some(WordFault::IgnoreWithoutCheck);
     }
     match chosen.report {
-        Report::Status => Some(WordFault::NeedsCheck(Flag::Status)),
-        Report::Warn => Some(WordFault::NeedsCheck(Flag::Warn)),
-        Report::Quiet => Some(WordFault::NeedsCheck(Flag::Quiet)),
-        Report::All if chosen.strict => Some(WordFault::NeedsCheck(Flag::Strict)),
+        Report::Status => Some(WordFault::StatusWithoutCheck),
+        Report::Warn => Some(WordFault::WarnWithoutCheck),
+        Report::Quiet => Some(WordFault::QuietWithoutCheck),
+        Report::All if chosen.strict => Some(WordFault::StrictWithoutCheck),
         Report::All => None,
     }
 }
 
-// What is done with each operand, where none of these faults holds; else the first of them.
-fn asked_job(
+// What the options ask for, or the first of their faults.
+fn asked_request<'a>(
     algos: Algos,
     kind: Option<Kind>,
     chosen: &Chosen<'_>,
-) -> Result<Job, WordFault<'static>>
+    operands: Operands<'a>,
+) -> Result<Request<'a>, WordFault<'a>>
     ensures { (xs : List ItemSaid) → IsChosenBy chosen.now [] xs →
-        result_of result ≡ job_or_fault algos (Ok kind) (filter_map option_in xs) }
+        result_of result ≡ request_or_fault algos (Ok kind) (filter_map option_in xs) operands.entry }
 {
     if let Some(fault) = fault_of_options(chosen) {
         return Err(fault);
     }
     if chosen.check {
-        return Ok(Job::Check(CheckSettings {
+        let settings = CheckSettings {
             algo: algos,
             report: chosen.report,
             strict: chosen.strict,
             ignore_missing: chosen.ignore_missing,
-        }));
+        };
+        return Ok(Request::Check(settings, operands));
     }
     match algos {
         Algos::Any => Err(WordFault::CheckNeeded),
-        Algos::One(algo) => Ok(Job::Generate(Settings {
-            kind: kind.unwrap_or(Kind::of(algo)),
-            style: Style {
+        Algos::One(algo) => {
+            let kind = kind.unwrap_or(Kind::of(algo));
+            let style = Style {
                 mode: mode(chosen),
                 zero: chosen.zero,
-            },
-        })),
+            };
+            Ok(Request::Generate(Settings { kind, style }, operands))
+        }
     }
 }
 

@@ -1,6 +1,7 @@
 use Rattle.std.proofs.Common.{◌≡◌, ◌∙◌, rules, ◌&&◌}
 use Rattle.sum_words.specs.Tools.{name_of}
-use Rattle.digests.specs.Meaning.{operand_behavior, or_dash}
+use Rattle.digests.specs.Meaning.{or_dash}
+use Rattle.digests.specs.refinement.Operands.{operand_behavior}
 use Rattle.digests.proofs.OperandLemmas.{Operands, reached_start, reached_step, reached_end, reached_stop}
 use Rattle.digests.proofs.run.run_operands.Goals.{then-good, else-good}
 use Rattle.digests.proofs.run.run_operands.Goals as goal

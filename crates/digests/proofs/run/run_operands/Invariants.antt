@@ -1,9 +1,8 @@
 use Rattle.std.proofs.Common.{◌∷◌, length, Ok}
 use Rattle.sum_engine.specs.Execution.{IsFlushed, StopHasCause}
 use Rattle.sum_words.specs.Tools.{name_of}
-use Rattle.digests.specs.Meaning.{operand_behavior, or_dash}
-use Rattle.digests.specs.Refusals.{RefusalsOfJob}
-use Rattle.digests.specs.refinement.Operands.{OperandsDoneIfKnown}
+use Rattle.digests.specs.Meaning.{or_dash}
+use Rattle.digests.specs.refinement.Operands.{operand_behavior, RefusalsOfJob, OperandsDoneIfKnown}
 use Rattle.digests.proofs.run.run_operands.Given as goal
 
 -- the operands before this one happened; the source was refused nothing, and no write failed

@@ -23,16 +23,28 @@ returns-in-Ok-Version-clause-behavior g c =
     (rw (← c.streams-in-Ok-Version.view_is)
     (λ hold. told_on_out g.S.Source.state _ _ _ told.result hold.0 told.ensures))
 
--- the work is what `each` does
-pub returns-in-Ok-Work-clause-behavior : goal.returns-in-Ok-Work-clause-behavior
-returns-in-Ok-Work-clause-behavior g c = rw (c.in-Ok-Work.is, c.in-Ok-Work.field-0-is) c.run_operands.ensures.behavior
+-- lines are what `run_operands` writes
+pub returns-in-Ok-Generate-clause-behavior : goal.returns-in-Ok-Generate-clause-behavior
+returns-in-Ok-Generate-clause-behavior g c =
+    rw (c.in-Ok-Generate.is, c.in-Ok-Generate.field-0-is) c.run_operands.ensures.behavior
 
--- and `each` accounts for it
-pub returns-in-Ok-Work-clause-cause : goal.returns-in-Ok-Work-clause-cause
-returns-in-Ok-Work-clause-cause g c = rw (c.in-Ok-Work.is, c.in-Ok-Work.field-0-is) (record {
+pub returns-in-Ok-Generate-clause-cause : goal.returns-in-Ok-Generate-clause-cause
+returns-in-Ok-Generate-clause-cause g c = rw (c.in-Ok-Generate.is, c.in-Ok-Generate.field-0-is) (record {
   flushed = c.run_operands.ensures.cause.flushed;
   refusals = c.run_operands.ensures.cause.refusals;
   failures = c.run_operands.ensures.cause.failures;
+})
+
+-- manifests are what it checks
+pub returns-in-Ok-Check-clause-behavior : goal.returns-in-Ok-Check-clause-behavior
+returns-in-Ok-Check-clause-behavior g c =
+    rw (c.in-Ok-Check.is, c.in-Ok-Check.field-0-is) c.run_operands-in-Ok-Check.ensures.behavior
+
+pub returns-in-Ok-Check-clause-cause : goal.returns-in-Ok-Check-clause-cause
+returns-in-Ok-Check-clause-cause g c = rw (c.in-Ok-Check.is, c.in-Ok-Check.field-0-is) (record {
+  flushed = c.run_operands-in-Ok-Check.ensures.cause.flushed;
+  refusals = c.run_operands-in-Ok-Check.ensures.cause.refusals;
+  failures = c.run_operands-in-Ok-Check.ensures.cause.failures;
 })
 
 -- one text that was told accounts for the stop
