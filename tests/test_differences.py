@@ -174,6 +174,21 @@ class Checks(Described):
             self.write("list", [f"{M} {name}", f"{M} a"])
             self.expect_alike("md5sum -c --strict list", 0, [f"{name}: OK", "a: OK"])
 
+    def test_spacing_of_tagged_lines(self):
+        """One space or none after the tag, and blanks around the equals sign, are read by both tools; GNU's b2sum also
+        takes a tab, a second space or a letter after a tag without a length."""
+        for tool, (tag, of_nothing, _) in harness.TOOLS.items():
+            for line in (f"{tag}(e)={of_nothing}", f"{tag} (e)= {of_nothing}", f"{tag} (e) \t = \t{of_nothing}"):
+                self.write("list", [line])
+                self.expect_alike([tool, "-c", "--strict", "list"], 0, ["e: OK"])
+        tag, of_nothing, _ = harness.TOOLS["b2sum"]
+        none = ["b2sum: list: no properly formatted checksum lines found"]
+        for between in ("\t", "  ", "x "):
+            self.write("list", [f"{tag}{between}(e) = {of_nothing}"])
+            self.expect_both("b2sum -c list", (1, b"", none), (0, ["e: OK"], b""))
+        self.write("list", [f"{tag}-256  (e) = {harness.B}"])
+        self.expect_alike("b2sum -c list", 1, err=none)
+
     def test_a_byte_0(self):
         """GNU's tools take a name that isn't escaped, or a tagged line's digits, up to it; of a list that was written
         with `--zero` they check the first file, and answer 0. A line that begins with `#` may hold it."""

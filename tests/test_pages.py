@@ -19,7 +19,6 @@ SECTIONS = ["NAME", "SYNOPSIS", "DESCRIPTION", "OPTIONS", "LINE FORMATS", "CHECK
             "DIFFERENCES FROM GNU", "SEE ALSO"]
 SECTIONS_OF_PROGRAM = ["NAME", "SYNOPSIS", "DESCRIPTION", "EXIT STATUS", "EXAMPLES", "PIPES AND SEVERAL RUNS",
                        "DIAGNOSTICS", "LIMITS", "SECURITY", "REPORTING BUGS", "SEE ALSO"]
-LINES = 200  # of a tool's page, as a person sees it
 
 
 def path_of(name):
@@ -114,8 +113,6 @@ class Pages(Case):
             marked = [line for line in lines if re.search(r"`|\{|\}|\\f|\\e", line.replace(" {} + ", ""))]
             self.assertEqual(marked, [], name)  # those braces are typed, behind -exec of find
             self.assertTrue(lines[0].startswith(f"{name.upper()}(1)"), lines[0])
-            if name in TOOLS:
-                self.assertLessEqual(len(lines), LINES, name)
 
     def test_what_is_typed_is_not_cut(self):
         """Within a word the sign that keeps a word whole would be a place to cut it at."""
