@@ -116,7 +116,7 @@ class Documents(Case):
             command = re.search(r"(?m)^ +(grep -rnF .*)$", it.read())[1]
         ran = self.run_command(["sh", "-c", command], cwd=harness.TOP)
         found = {line.split(b":")[0] for line in ran.out.splitlines()}
-        wanted = {b"crates/sum_sources/specs/Contents.antt", b"crates/sum_sources/src/fault.rt", b"tests/harness.py",
+        wanted = {b"crates/sum_sources/specs/Contents.antt", b"crates/sum_sources/src/fault.rt", b"tests/support/harness.py",
                   b"crates/digests/proofs/MeaningRows.antt", b"tools/page_texts.py"}
         self.assertEqual((ran.status, ran.err, wanted - found), (0, b"", set()))
 
