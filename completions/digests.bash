@@ -64,5 +64,5 @@ _digests() {
 }
 
 # Where nothing is left in COMPREPLY, the names of files are.
-complete -o bashdefault -o default -F _digests digests \
-    md5sum sha1sum sha224sum sha256sum sha384sum sha512sum b2sum anysum
+complete -o bashdefault -o default -F _digests \
+    digests md5sum sha1sum sha224sum sha256sum sha384sum sha512sum b2sum anysum

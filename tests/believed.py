@@ -21,8 +21,8 @@ from typing import NamedTuple
 
 sys.dont_write_bytecode = True
 
-from contracts import Code  # noqa: E402  (nothing is to be left beside these files)
-from definitions import TOP, Specs  # noqa: E402
+sys.path.append(os.path.join(os.path.dirname(os.path.dirname(os.path.realpath(__file__))), "tools"))
+from rattle import TOP, Code, Specs, crates, text_of  # noqa: E402  (it is there)
 
 PROMISES = os.path.join(TOP, "docs", "PROMISES.md")
 # What is believed besides the laws, in the order of the page: a function's crate and name, and what the page calls it.
@@ -74,12 +74,10 @@ def cited(item):
 def in_files(definitions):
     """The definitions by their files, each file behind those that it stands on, and else in the order of the crates and
     of names. In a file its own order is such an order: a definition can use only what stands above it, or elsewhere."""
-    specs, files, order = every_definition(), {}, {}
-    with open(os.path.join(TOP, "crates.txt"), encoding="utf-8") as it:
-        crates = re.findall(r"^(\w+):", it.read(), re.MULTILINE)
+    specs, files, order, listed = every_definition(), {}, {}, crates()
 
     def place(file):
-        return crates.index(file[0]), file[1]
+        return listed.index(file[0]), file[1]
 
     for module in specs.modules.values():
         for definition in module.definitions.values():
@@ -103,7 +101,7 @@ def claims():
     """The headline and the program."""
     before = set()
     for crate, name, title in CLAIMS:
-        behind = code().behind(code().function(crate, name))
+        behind = code().reached(code().function(crate, name))
         reached = every_definition().reached(found for item in behind for found in cited(item))
         yield Claim(name, crate, title, behind, reached, in_files(reached - before))
         before |= reached
@@ -114,7 +112,7 @@ def text():
     before each file what it names of the code, which is shown once and without comments."""
     every, shown = list(claims()), []
     parts = [(f"{it.title} ({it.function} of {it.crate})", it.behind, it.files) for it in every]
-    laws = [item for law in code().laws() for item in code().behind(law)]
+    laws = [item for law in code().laws() for item in code().reached(law)]
     besides = every_definition().reached(found for item in laws for found in cited(item)).difference(
         *(it.reached for it in every))
     parts.append(("The laws, besides what stands above", laws, in_files(besides)))
@@ -190,8 +188,7 @@ def tables(page):
 
 def page():
     """The page as it is, and as it has to be."""
-    with open(PROMISES, encoding="utf-8") as it:
-        is_so = it.read()
+    is_so = text_of(PROMISES)
     begin, end = is_so.index(MARKS[0]) + len(MARKS[0]), is_so.index(MARKS[1])
     return is_so, is_so[:begin] + tables(is_so) + is_so[end:]
 

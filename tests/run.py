@@ -1,9 +1,10 @@
 #!/usr/bin/env python3
-"""Runs the end-to-end tests of the built program: `run.py [--without-check] [--only WORD] [PROGRAM..]`.
+"""Runs the end-to-end tests of the built program: `run.py [--without-check] [--only WORD] [--seed N] [--cases N]
+[PROGRAM..]`.
 
 The tests run the program from the outside, on real files, pipes, terminals and devices; some look at the repository.
-With no PROGRAM it is this repository's own, for each level for which it is built. Where tests ran, the last line
-counts them; the status is 1 where one failed, or none passed."""
+With no PROGRAM it is this repository's own, for each level for which it is built. If tests ran, the last line counts
+them; the status is 1 if one failed, or none passed."""
 
 import argparse
 import collections
@@ -15,14 +16,14 @@ import time
 import unittest
 
 HERE = os.path.dirname(os.path.abspath(__file__))
-sys.path.insert(0, HERE)
+sys.path[:0] = [HERE, os.path.join(HERE, "support"), os.path.join(os.path.dirname(HERE), "tools")]
 sys.dont_write_bytecode = True
 
-import harness  # noqa: E402  (it stands beside this file)
+import harness  # noqa: E402  (it is in support/)
 
 
 def built_programs():
-    """The programs of this repository, the default level's first. Whether they are stale, only `./digests` looks."""
+    """The programs of this repository, the default level's first. Only `./digests` looks whether they are stale."""
     out = os.path.join(harness.TOP, "out")
     levels = sorted(os.listdir(out)) if os.path.isdir(out) else []
     found = [os.path.join(out, level, "digests") for level in levels]
@@ -44,7 +45,7 @@ def why_not(program):
 
 
 def tests_below(suite, word, again):
-    """The tests of a suite whose full name holds the word; `again` where they ran over another program before, and
+    """The tests of a suite whose full name has the word in it; `again` if they ran over another program before: then
     those that look at the repository more than at the program are left out."""
     for test in suite:
         if isinstance(test, unittest.TestSuite):
@@ -59,7 +60,7 @@ def names_of(entries):
 
 
 def run_over(program, asked, again):
-    """Runs the tests over a program: how many passed, failed and were skipped, or None where none was chosen."""
+    """Runs the tests over a program: how many passed, failed and were skipped, or None if none was chosen."""
     harness.PROGRAM = program
     harness.gnu.cache_clear()
     started = time.monotonic()
@@ -67,6 +68,7 @@ def run_over(program, asked, again):
     chosen = unittest.TestSuite(tests_below(found, asked.only, again))
     if not chosen.countTestCases():
         return None
+    print(f"{program}: the seed of what is tried at random is {harness.SEED}", flush=True)
     result = unittest.TextTestRunner(sys.stdout, verbosity=2 if asked.verbose else 1).run(chosen)
     # Parts of one test that fail, or are skipped, each have an entry; the test counts once.
     failed = names_of(result.failures + result.errors)
@@ -105,8 +107,11 @@ def main():
     reader.add_argument("--without-check", action="store_true", help="leave out the tests of --check")
     reader.add_argument("--only", default="", metavar="WORD", help="run only the tests whose name holds WORD")
     reader.add_argument("--verbose", action="store_true", help="name each test")
+    reader.add_argument("--seed", type=int, help="of the first case at random; without it, a new one each day")
+    reader.add_argument("--cases", type=int, default=harness.CASES, help=f"cases at random ({harness.CASES})")
     asked = reader.parse_args()
     harness.WITHOUT_CHECK = asked.without_check
+    harness.SEED, harness.CASES = harness.SEED if asked.seed is None else asked.seed, asked.cases
     programs = [os.path.abspath(program) for program in asked.program] or built_programs()
     if not programs:
         sys.exit("run.py: nothing is built: ./digests builds it")

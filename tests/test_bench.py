@@ -14,20 +14,17 @@ class Words(Case):
     """What `bench/run.py` is called with."""
 
     of_the_repository = True
+
     def bench(self, *words, **how):
         """Runs the benchmark with these words."""
         return self.run_command([sys.executable, BENCH, *words], **how)
 
     def test_wrong_words(self):
         """Each fault is one line that names the option."""
-        for words in (["--rounds", "0"], ["--rounds=-3"], ["--rounds", "x"], ["--rounds", "٣"], ["--rounds"],
-                      ["--size", "-1"], ["--size", "0"], ["--size", "1.5"], ["--program", "nowhere"],
-                      ["--program", "a"], ["--program", self.folder], ["--only", "nothing"], ["--foo"]):
-            with self.subTest(words=words):
-                ran = self.bench(*words)
-                self.assertEqual((ran.status, ran.out, ran.err.count(b"\n")), (1, b"", 1), ran.err)
-                self.assertTrue(ran.err.startswith(b"run.py: "), ran.err)
-                self.assertIn(words[0].partition("=")[0].encode(), ran.err)
+        for option, word in (("--rounds", "0"), ("--size", "1.5"), ("--program", "a"), ("--only", "nothing")):
+            ran = self.bench(option, word)
+            self.assertEqual((ran.status, ran.out, ran.err.count(b"\n")), (1, b"", 1), ran.err)
+            self.assertRegex(ran.err.decode(), rf"\Arun.py: .*{option}")
 
     def test_one_part(self):
         """A part can be measured alone; every row has a speed beside GNU, where that is installed, also behind ours on
@@ -44,12 +41,3 @@ class Words(Case):
             speed = r"\d+\.\d\d" if harness.gnu("md5sum") else "-"
             self.assertRegex(rows[0], rf"\| {speed} \| the start of a process \|$")
             self.assertRegex(rows[1], r"\| \d+\.\d\d, \d+\.\d\d \d+\.\d\d \d+\.\d\d \|$")
-
-    def test_two_programs(self):
-        """Programs that are named each have a column, in their order."""
-        other = os.path.join(self.folder, "other")
-        shutil.copy(harness.PROGRAM, other)
-        ran = self.bench("--no-bare", "--rounds", "1", "--only", "reading", "--program", other, "--program",
-                         harness.PROGRAM)
-        self.assertEqual((ran.status, ran.err), (0, b""))
-        self.assertIn(f"| times as fast as GNU | {other} | {harness.PROGRAM} |", ran.out.decode())

@@ -75,6 +75,17 @@ class Build(Repository):
             os.utime(self.sources[0], (1, 1))
             self.expect_built("mended, with an older time")
 
+    def test_without_the_kit(self):
+        """One line says what is missing and where README has it, before anything is made."""
+        os.remove(self.path("commands/rt"))
+        folders = [folder for folder in self.env["PATH"].split(os.pathsep) if not os.path.exists(f"{folder}/rt")]
+        for words in (["digests", "md5sum", "a"], ["install", "prefix"]):
+            ran = self.script(*words, PATH=os.pathsep.join(folders))
+            said = b"digests: rt, the command of the Rattle kit, isn't on the PATH: see Set-up in README.md\n"
+            self.assertEqual(ran, Ran(1, b"", said))
+        self.assertIn("\n## Set-up\n", self.read(os.path.join(TOP, "README.md")).decode())
+        self.assertFalse(os.path.exists(self.in_top("out")) or os.path.exists(self.path("prefix")))
+
     def test_a_build_that_is_killed(self):
         """What is left is taken for no program, and the next call builds."""
         for number in (signal.SIGINT, signal.SIGKILL):

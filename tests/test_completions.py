@@ -5,7 +5,7 @@ import shutil
 
 import harness
 from harness import TOP, Case
-from known_options import taken, taken_after
+from options import options_of, takes
 from terminal import Terminal
 
 NAMES = [*harness.TOOLS, "anysum"]
@@ -13,8 +13,9 @@ COMPLETIONS = os.path.join(TOP, "completions")
 
 
 def wanted_options(tool, *before):
-    """The options of the tool's help that the program takes after some words."""
-    return {word for words in taken_after(tool, *before) for word in words}
+    """The options of the tool's help, in all their spellings, that the program takes after some words."""
+    return {word for option in options_of(harness.PROGRAM, tool) for word in option.words()
+            if takes(harness.PROGRAM, tool, *before, option.words()[0], *(["8"] if option.value else []))}
 
 
 class Shell:
@@ -56,7 +57,7 @@ class Shell:
                 self.assertEqual(self.lengths(f"{command} {words}"), every, words)
             self.assertEqual(self.lengths(f"{command} --tag -l 25"), {"256"})
             self.assertEqual(self.lengths(f"{command} --length=51"), {"512"})
-        self.assertTrue(all(taken("b2sum", "-l", bits) for bits in every))
+        self.assertTrue(all(takes(harness.PROGRAM, "b2sum", "-l", bits) for bits in every))
 
     def test_files(self):
         for command in ("md5sum ", "digests sha1sum ", "b2sum -c ", "anysum -c ", "b2sum -l 8 ", "b2sum --length=8 ",
@@ -93,11 +94,14 @@ class Typed(Shell):
 
 
 class Bash(Typed, Case):
-    """In bash."""
-
     of_the_repository = True
     shell = "bash"
     load = f". '{COMPLETIONS}/digests.bash'"
+
+    def test_shellcheck(self):
+        if shutil.which("shellcheck"):
+            ran = self.run_command(["shellcheck", "-s", "bash", os.path.join(COMPLETIONS, "digests.bash")])
+            self.assertEqual((ran.status, ran.out), (0, b""))
 
     def test_one_key(self):
         """As it is most often used."""
@@ -107,8 +111,6 @@ class Bash(Typed, Case):
 
 
 class Zsh(Typed, Case):
-    """In zsh."""
-
     of_the_repository = True
     shell = "zsh"
     load = f"fpath=('{COMPLETIONS}' $fpath)"
@@ -130,25 +132,8 @@ class Fish(Shell, Case):
         return {text.split("\t")[0] for text in ran.out.decode().splitlines()}
 
     def test_read_for_each_name(self):
-        """The file stands under each tool's name, so a shell may read it several times."""
+        """The file is installed by each tool's name, so a shell may read it several times."""
         line = "source $argv[1]/digests.fish; source $argv[1]/digests.fish; complete -C 'b2sum --l'"
         ran = self.run_command(["fish", "--no-config", "-c", line, COMPLETIONS], cwd=self.path("here"),
                                env={**os.environ, "HOME": self.folder, "LC_ALL": "C.UTF-8"})
         self.assertEqual(ran.out.decode().count("--length"), 1)
-
-
-class Source(Case):
-    """What stands in the files."""
-
-    of_the_repository = True
-
-    def test_shellcheck(self):
-        if shutil.which("shellcheck") is None:
-            self.skipTest("shellcheck isn't installed")
-        ran = self.run_command(["shellcheck", "-s", "bash", os.path.join(COMPLETIONS, "digests.bash")])
-        self.assertEqual((ran.status, ran.out), (0, b""))
-
-    def test_nothing_is_left_to_fill_in(self):
-        self.assertEqual(sorted(os.listdir(COMPLETIONS)), ["_digests", "digests.bash", "digests.fish"])
-        for name in os.listdir(COMPLETIONS):
-            self.assertNotRegex(self.read(os.path.join(COMPLETIONS, name)), rb"@[A-Z]+@")

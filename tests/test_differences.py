@@ -1,5 +1,5 @@
-"""What the manual pages and documents say of GNU coreutils 9.1, where that version is installed: most statements are
-tried with its tools and with ours."""
+"""What the manual pages and documents say of GNU coreutils 9.1: most statements are tried with its tools and with ours.
+Beside another version, in which some of it may be different, these tests are skipped."""
 
 import hashlib
 import os
@@ -10,7 +10,7 @@ import harness
 from harness import E, M, Case, Ran, as_bytes, gnu, needs_check
 from tracing import needs_strace, strace
 
-VERSION = b" (GNU coreutils) 9.1\n"
+VERSION = "(GNU coreutils) 9.1"  # what these tests pin
 WRITE_ERROR = b"md5sum: write error\n"
 
 
@@ -20,8 +20,9 @@ class Described(Case):
     def setUp(self):
         super().setUp()
         for tool in ("md5sum", "b2sum", "cksum"):
-            if gnu(tool) is None or VERSION not in self.run_command([gnu(tool), "--version"]).out:
-                self.skipTest("GNU coreutils 9.1 isn't installed")
+            said = self.run_command([gnu(tool), "--version"]).out.decode() if gnu(tool) else f"no GNU {tool}\n"
+            if said.splitlines()[0] != f"{tool} {VERSION}":
+                self.skipTest(f"it pins what {VERSION} does, and here is {said.splitlines()[0]}")
         os.mkdir(self.path("d"))
 
     def both(self, words, **how):
@@ -173,6 +174,21 @@ class Checks(Described):
             self.write(name, "abc")
             self.write("list", [f"{M} {name}", f"{M} a"])
             self.expect_alike("md5sum -c --strict list", 0, [f"{name}: OK", "a: OK"])
+
+    def test_spacing_of_tagged_lines(self):
+        """One space or none after the tag, and blanks around the equals sign, are read by both tools; GNU's b2sum also
+        takes a tab, a second space or a letter after a tag without a length."""
+        for tool, (tag, of_nothing, _) in harness.TOOLS.items():
+            for line in (f"{tag}(e)={of_nothing}", f"{tag} (e)= {of_nothing}", f"{tag} (e) \t = \t{of_nothing}"):
+                self.write("list", [line])
+                self.expect_alike([tool, "-c", "--strict", "list"], 0, ["e: OK"])
+        tag, of_nothing, _ = harness.TOOLS["b2sum"]
+        none = ["b2sum: list: no properly formatted checksum lines found"]
+        for between in ("\t", "  ", "x "):
+            self.write("list", [f"{tag}{between}(e) = {of_nothing}"])
+            self.expect_both("b2sum -c list", (1, b"", none), (0, ["e: OK"], b""))
+        self.write("list", [f"{tag}-256  (e) = {harness.B}"])
+        self.expect_alike("b2sum -c list", 1, err=none)
 
     def test_a_byte_0(self):
         """GNU's tools take a name that isn't escaped, or a tagged line's digits, up to it; of a list that was written

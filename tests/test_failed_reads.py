@@ -1,9 +1,9 @@
-"""One read of a run that fails, by `strace`, while those behind it would go on: the fault stands."""
+"""One read of a run fails, by `strace`, and those after it would go on: the fault is never passed over."""
 
 import hashlib
 import os
 
-from harness import M, Ran, as_bytes, needs_check
+from harness import E, M, Ran, as_bytes, needs_check
 from tracing import Traced, needs_strace
 
 PIECE = 8192  # the most bytes of a read
@@ -53,3 +53,25 @@ class FailedRead(Traced):
         outs = [["a: OK"] * min(read * PIECE // len(line), lines) for read in range(READS)]
         self.expect_each("l", "md5sum -c l", outs, b"md5sum: l: Input/output error\n")
         self.expect_each("l", "md5sum -c", outs, b"md5sum: standard input: Input/output error\n", stdin="l")
+
+    def expect_failure(self, words, stdin):
+        """A run whose status is 0 has another one if one of its reads fails, whichever that is: of an operand, a list,
+        a listed file or standard input. The first reads are the loader's."""
+        with open(self.path(stdin), "rb") as file:
+            ran, calls = self.traced("-e trace=read", words, stdin=file)
+        self.assertEqual(ran.status, 0, ran)
+        for read in range(1, len(calls) + 1):
+            with open(self.path(stdin), "rb") as file:
+                ran, _ = self.failing("read", "EIO", words, when=str(read), stdin=file)
+            self.assertIn(ran.status, (1, 127), (words, read, ran))
+        self.assertGreater(len(calls), 3 * READS)
+
+    def test_each_read_of_a_run(self):
+        self.expect_failure("sha256sum f a - e f", "f")
+
+    @needs_check
+    def test_each_read_of_a_check(self):
+        self.write("l", [self.line, f"#{'#' * PIECE}", f"{M}  a", f"{E}  e"])
+        self.write("-l", [f"{M}  a", f"{hashlib.md5(self.read('l')).hexdigest()}  -"])
+        for words in ("md5sum -c l -- -l", "md5sum -c l - l", "md5sum -c --status --ignore-missing l - l"):
+            self.expect_failure(words, "l")

@@ -1,5 +1,5 @@
-"""Side by side with GNU coreutils, where it is installed: the same lines byte for byte in every style, and manifests
-of one verified by the other."""
+"""Beside GNU coreutils, if it is installed: the same lines byte for byte in every style, and manifests of one verified
+by the other."""
 
 import os
 import random
@@ -80,6 +80,28 @@ class SameLines(Beside):
         for tool in TOOLS:
             ours, theirs = self.both(tool, *names)
             self.assertEqual(ours, theirs)
+
+
+    def test_more_than_2_to_the_32_bits(self):
+        """A sparse file of 512 MiB and 5 bytes, whose number of bits passes 2^32: all tools side by side, and then,
+        under anysum, all digests once more."""
+        with open(self.path("large"), "wb") as file:
+            file.truncate((1 << 29) + 5)
+        runs = {}
+        for tool in TOOLS:
+            for program in (harness.PROGRAM, gnu(tool)):
+                words, how = [tool, "--tag", "large"], {"executable": program}
+                if program == harness.PROGRAM:
+                    words, how = [program, *words], {}
+                runs[tool, program] = subprocess.Popen(words, cwd=self.folder, stdout=subprocess.PIPE, **how)
+                self.addCleanup(harness.end, runs[tool, program])
+        lines = {key: run.communicate(timeout=harness.RUN_SECONDS)[0] for key, run in runs.items()}
+        for tool, (tag, _, _) in TOOLS.items():
+            self.assertEqual(lines[tool, harness.PROGRAM], lines[tool, gnu(tool)])
+            self.assertTrue(lines[tool, gnu(tool)].startswith(f"{tag} (large) = ".encode()))
+        if not harness.WITHOUT_CHECK:
+            manifest = b"".join(lines[tool, gnu(tool)] for tool in TOOLS)
+            self.expect("anysum -c --strict", stdin=manifest, out=["large: OK"] * len(TOOLS))
 
 
 @needs_check

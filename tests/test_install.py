@@ -7,8 +7,11 @@ import harness
 from harness import TOOLS, Ran
 from repository import DEFAULT, FAST, Repository
 
-NAMES = [*TOOLS, "anysum"]
+GNU_NAMES = [*TOOLS]
 LIST = "share/digests/installed"
+BASH, FISH, ZSH = "share/bash-completion/completions", "share/fish/vendor_completions.d", "share/zsh/site-functions"
+FOLDERS = ["/", "bin/", "share/", "share/bash-completion/", BASH + "/", "share/digests/", "share/fish/", FISH + "/",
+           "share/man/", "share/man/man1/", "share/zsh/", ZSH + "/"]
 
 
 class Install(Repository):
@@ -31,19 +34,29 @@ class Install(Repository):
         return {os.path.relpath(path, self.prefix): os.readlink(path) if os.path.islink(path) else self.read(path)
                 for path in paths}
 
+    def completion(self, name, own_names):
+        """A completion of the repository, for all names or for those that are none of GNU's."""
+        text = self.read(self.in_top(f"completions/{name}"))
+        every, own = f" digests {' '.join(GNU_NAMES)} anysum".encode(), b" digests anysum"
+        self.assertEqual(text.count(every), 1)
+        return text.replace(every, own) if own_names else text
+
+    def wanted(self, level, own_names=False):
+        """What an installation below a new prefix has, with the list of it."""
+        wanted = {"bin/digests": self.read(self.in_top(f"out/{level}/digests")),
+                  f"{ZSH}/_digests": self.completion("_digests", own_names)}
+        for name in ["digests", "anysum", *([] if own_names else GNU_NAMES)]:
+            wanted |= {} if name == "digests" else {f"bin/{name}": "digests"}
+            wanted |= {f"share/man/man1/{name}.1": self.read(self.in_top(f"man/{name}.1")),
+                       f"{BASH}/{name}": self.completion("digests.bash", own_names),
+                       f"{FISH}/{name}.fish": self.completion("digests.fish", own_names)}
+        return wanted | {LIST: "".join(f"{path}\n" for path in sorted([*wanted, *FOLDERS, LIST])).encode()}
+
     def test_what_is_put_there(self):
         """All of it is on the list, and for all to read, whatever the mask; it needs the repository no more."""
         said = self.installs(umask=0o077)
-        self.assertIn(f"installed for the level {FAST}; {self.prefix}/{LIST} lists what is where\n", said)
-        bash, fish = "share/bash-completion/completions", "share/fish/vendor_completions.d"
-        wanted = {f"bin/{name}": "digests" for name in NAMES} | {"bin/digests": self.read(self.in_top("out/digests"))}
-        for name in ["digests", *NAMES]:
-            wanted[f"share/man/man1/{name}.1"] = self.read(self.in_top(f"man/{name}.1"))
-            wanted[f"{bash}/{name}"] = self.read(self.in_top("completions/digests.bash"))
-            wanted[f"{fish}/{name}.fish"] = self.read(self.in_top("completions/digests.fish"))
-        wanted["share/zsh/site-functions/_digests"] = self.read(self.in_top("completions/_digests"))
-        wanted[LIST] = "".join(f"{path}\n" for path in sorted([*wanted, LIST])).encode()
-        self.assertEqual(self.tree(), wanted)
+        self.assertIn(f"installed for the level {DEFAULT}; {self.prefix}/{LIST} lists what is where\n", said)
+        self.assertEqual(self.tree(), self.wanted(DEFAULT))
         shutil.rmtree(self.top)
         closed = ["find", self.prefix, "!", "-perm", "-a=r", "-o", "-type", "d", "!", "-perm", "-a=rx"]
         self.assertEqual(self.run_command(closed), Ran(0, b"", b""))
@@ -51,16 +64,39 @@ class Install(Repository):
             ran = self.run_command([os.path.join(self.prefix, "bin", tool), "a", "e"])
             self.assertEqual(ran, Ran(0, f"{of_abc}  a\n{of_nothing}  e\n".encode(), b""))
 
+    def test_own_names(self):
+        """Without GNU's names, no completion is one of GNU's tools."""
+        self.installs("--only-own-names", self.prefix)
+        self.assertEqual(self.tree(), self.wanted(DEFAULT, own_names=True))
+
+    def test_levels(self):
+        """`native` is what ran here at the build; the runtime's names of levels are known, too."""
+        for word, level in ((DEFAULT, DEFAULT), (FAST, FAST), ("x86-64", DEFAULT), ("native", FAST),
+                            ("x86-64-v2", DEFAULT)):
+            self.assertIn(f"installed for the level {level};", self.installs("--cpu", word, self.prefix))
+            self.assertEqual(self.tree(), self.wanted(level), word)
+        os.remove(self.in_top("out/digests"))
+        os.link(self.in_top(f"out/{DEFAULT}/digests"), self.in_top("out/digests"))
+        self.assertIn(f"installed for the level {DEFAULT};", self.installs("--cpu", "native", self.prefix))
+
     def test_again_and_away(self):
-        """Over another level, beside what others put there; that stays."""
-        for level in (DEFAULT, FAST):
-            self.installs("--cpu", level, self.prefix)
-            self.assertEqual(self.tree()["bin/digests"], self.read(self.in_top(f"out/{level}/digests")))
+        """What others put there stays, and so do its folders."""
+        for own_names in (False, True):
+            self.installs(*["--only-own-names"][:own_names], self.prefix)
             self.write(os.path.join(self.prefix, "bin/theirs"), "")
         self.assertEqual(self.installs("--remove", self.prefix), "")
-        self.assertEqual(self.tree(), {"bin/theirs": b""})
-        self.assertFalse(os.path.exists(os.path.join(self.prefix, os.path.dirname(LIST))))
+        self.assertEqual([names for _, *names in os.walk(self.prefix)], [[["bin"], []], [[], ["theirs"]]])
         self.assertIn("nothing is installed", self.installs("--remove", self.prefix, status=1))
+
+    def test_folders(self):
+        """Those that were made are taken away, and those that were there stay."""
+        self.installs()
+        self.installs("--remove", self.prefix)
+        self.assertFalse(os.path.exists(self.prefix))
+        os.makedirs(os.path.join(self.prefix, "share/man"))
+        self.installs()
+        self.installs("--remove", self.prefix)
+        self.assertEqual([names for _, *names in os.walk(self.prefix)], [[["share"], []], [["man"], []], [[], []]])
 
     def test_a_name_that_is_taken(self):
         """It is named, and nothing is installed or taken away; nor where a file stands in the place of a folder."""
@@ -85,7 +121,7 @@ class Install(Repository):
         self.assertNotIn("PATH", self.installs("/usr", DESTDIR=self.prefix[:-4]))
         self.assertNotIn(b"stage", self.tree()[LIST])
         self.installs("--remove", "/usr", DESTDIR=self.prefix[:-4])
-        self.assertEqual(self.tree(), {})
+        self.assertEqual(os.listdir(self.prefix[:-4]), [])
 
     def test_prefixes(self):
         for words, prefix in ((["one/two/"], "one/two"), (["--", "-x"], "-x"), (["--cpu", FAST, "--", "a b"], "a b")):
@@ -101,10 +137,13 @@ class Install(Repository):
             said = self.installs(PATH=f"{first}/bin:{self.env['PATH']}:{self.prefix}/bin")
             self.assertEqual(advice in said, wanted and bool(harness.gnu("sha256sum")), first)
 
-    def test_usage(self):
-        for words in ([], [""], ["--remove"], ["x", "y"], ["-x"], ["--remove", "--cpu", DEFAULT, "x"], ["--cpu"],
-                      ["--cpu", FAST], ["--cpu", "other", "x"], ["--cpu", "", "x"]):
+    def test_wrong_words(self):
+        """One line names what is wrong."""
+        for *words, named in (["PREFIX"], ["", "PREFIX"], ["--remove", "PREFIX"], ["x", "y", "PREFIX"], ["-x", "-x"],
+                              ["--cpu", "--cpu"], ["--cpu", FAST, "PREFIX"], ["--cpu", "other", "x", "'other'"],
+                              ["--cpu", "", "x", "''"]):
             ran = self.script("install", *words)
-            self.assertEqual((ran.status, ran.out, ran.err[:15]), (2, b"", b"usage: install "), words)
+            self.assertEqual((ran.status, ran.out, ran.err.count(b"\n")), (2, b"", 1), words)
+            self.assertRegex(ran.err.decode(), rf"\Ainstall: .*{named}")
         self.assertTrue(self.installs("--help").startswith("usage: install "))
         self.assertFalse(os.path.exists(self.path("x")))

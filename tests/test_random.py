@@ -1,4 +1,4 @@
-"""Command lines and manifests at random, against the reference: the same ones in every run."""
+"""Command lines and manifests at random, against the reference: new ones each day, or those of `--seed`."""
 
 import os
 import random
@@ -7,8 +7,6 @@ import harness
 import reference
 import reference_words
 from harness import Case, needs_check
-
-CASES = 1500
 
 # What names are made of: whatever lines, escapes and words treat in a way of their own.
 CHARACTERS = ["a", "b", "n", "r", "0", "f", "é", " ", "\t", "*", "\\", "\n", "\r", "(", ")", "=", "#", "-"]
@@ -29,15 +27,21 @@ class AtRandom(Case):
 
     def setUp(self):
         super().setUp()
-        self.random = random.Random(20061)
         os.chdir(self.folder)
         self.addCleanup(os.chdir, harness.TOP)
         os.mkdir("folder")
-        self.files = {}
-        for name in ["a", "e", "-b", " a", "*a", "a)", "q\\\nz", "a\rb", *(self.a_text() for _ in range(40))]:
-            if name != "-":
+
+    def cases(self):
+        """Makes each case its files. A case depends on its own seed alone, one more than that of the case before."""
+        for self.seed in range(harness.SEED, harness.SEED + harness.CASES):
+            self.random, self.files = random.Random(self.seed), {}
+            names = ["a", "e", "-b", " a", "*a", "a)", "q\\\nz", "a\rb", *(self.a_text() for _ in range(8))]
+            for name in [name for name in names if name not in ("-", "manifest")]:
                 self.files[name] = self.random.choice([b"", b"abc", b"q" * self.random.randrange(300)])
                 self.write(name, self.files[name])
+            yield
+            for name in self.files:
+                os.remove(name)
 
     def a_text(self):
         return "".join(self.random.choices(CHARACTERS, k=self.random.randint(1, 5)))
@@ -83,11 +87,12 @@ class AtRandom(Case):
         self.write("manifest", manifest)
         stdin = self.random.choice([b"", b"abc", b"x" * 9000, self.a_manifest(tool)])
         expected = reference_words.meaning(tool, words, stdin)
-        self.assertEqual(self.run_words([tool, *words], stdin), expected, (tool, words, manifest, stdin))
+        again = f"tests/run.py --only {self.id()} --seed {self.seed} --cases 1 {harness.PROGRAM}"
+        self.assertEqual(self.run_words([tool, *words], stdin), expected, (again, tool, words, manifest, stdin))
 
     @needs_check
     def test_manifests(self):
-        for _ in range(CASES):
+        for _ in self.cases():
             words = ["-c"]
             words += self.random.sample(["--ignore-missing", "--strict", "-w", "--quiet", "--status"],
                                         self.random.choice([0, 0, 1, 1, 2]))
@@ -97,6 +102,6 @@ class AtRandom(Case):
 
     @needs_check
     def test_words(self):
-        for _ in range(CASES):
+        for _ in self.cases():
             words = self.random.choices(WORDS, k=self.random.randrange(6))
             self.compare(self.random.choice(list(reference.ALGORITHMS)), words)

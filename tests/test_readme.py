@@ -6,13 +6,11 @@ import re
 import shutil
 import subprocess
 
-import harness
-from harness import TOP, Case, Ran
-from recipes import sessions_of_readme, type_session
+from harness import TOP, Ran
+from recipes import NAMES, sessions_of_readme, type_session
 from repository import Repository
 from terminal import Terminal
 
-NAMES = ["digests", *harness.TOOLS, "anysum"]
 LOADER = "/usr/share/bash-completion/bash_completion"
 
 
@@ -21,15 +19,6 @@ def commands(title):
     with open(os.path.join(TOP, "README.md"), encoding="utf-8") as file:
         section = re.search(rf"(?ms)^## {re.escape(title)}\n(.*?)(?=^## |\Z)", file.read())[1]
     return [line.split(" # ")[0].strip() for line in re.findall(r"(?m)^    (\S.*)$", section)]
-
-
-class Page(Case):
-    """The page itself."""
-
-    of_the_repository = True
-
-    def test_set_up_is_two_commands(self):
-        self.assertEqual(commands("Set-up"), ["./digests sha256sum README.md", "./test"])
 
 
 class Stranger(Repository):
@@ -53,6 +42,7 @@ class Stranger(Repository):
         return os.path.join(self.prefix, name)
 
     def test_the_way(self):
+        self.assertEqual(commands("Set-up"), ["./digests sha256sum README.md", "./test"])
         self.build_by_the_first_command()
         for session in sessions_of_readme():
             type_session(self, "sh", session, cwd=self.top, env=self.env)
@@ -77,7 +67,7 @@ class Stranger(Repository):
         self.assertEqual((ran.status, ran.err), (0, b""))
         self.assertIn(b"installed for the level ", ran.out)
         self.assertNotIn(b"PATH", ran.out)
-        for name in NAMES[1:]:
+        for name in NAMES[:-1]:
             self.assertEqual(self.shell(f"{name} --version").out.decode(), f"{name} (digests), profile 2\n")
 
     def see_the_pages(self):

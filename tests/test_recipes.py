@@ -1,15 +1,163 @@
-"""The recipes of the program's page: each is typed as it stands there, over trees in which all is well and in which it
-isn't. Its status is 0 only where all that it is for was done."""
+"""What the manual pages and README show to be typed: each recipe and example is typed as it is there, over trees in which
+all is well and in which it isn't. Its status is 0 only if all that it is for was done."""
 
+import hashlib
 import os
 import pwd
 import re
 import shutil
 
 import harness
-from harness import Ran, needs_check
-from recipes import BAD, BOTH, GOOD, IMAGE, OF_BASH, Typed, line_of, recipes_of
-from test_pages import NAMES
+from harness import Case, Ran, needs_check
+from recipes import NAMES, TOOLS, sections_of
+
+# What a recipe is for, and how it is known. Each recipe is of one sort.
+SORTS = {
+    "write": r"^\w+( -l 256)? image\.iso > image\.sum$",
+    "write two": r"image\.iso && b2sum --tag",
+    "write at once": r"^tee ",
+    "write by pv": r"^pv .* > ",
+    "list": r" -exec ",
+    "list on all": r" xargs ",
+    "check": r"^\w+ -c (--strict )?image\.sum$",
+    "check download": r" --ignore-missing ",
+    "check by pv": r"pv .* -c image\.sum",
+    "check list": r"^\w+ -c --quiet --strict SUMS$",
+    "check list on all": r"\bsplit ",
+    "check one": r"^grep ",
+    "unlisted": r"^comm ",
+}
+
+# What the recipes, and the script in the place of `pv`, call besides a tool: without one of these no recipe is typed.
+COMMANDS = ("bash", "cat", "comm", "find", "grep", "mktemp", "mv", "nproc", "rm", "sed", "sh", "sort", "split", "tee",
+            "tr", "wc", "xargs")
+
+# What bash has, and another shell may not have.
+OF_BASH = re.compile(r"pipefail|>\(")
+
+GOOD = ["image.iso", "image.iso.old", "image.new", "SUMS.new", "a b", " ", "-x", "*", "'\"", "\u00e9", "new\nline",
+        "back\\slash", "\\n", "end\r", "some folder/c", "some folder/SUMS", "some folder/SUMS.new",
+        "some folder/image.iso", *(f"many/{number}" for number in range(40))]
+BAD = [b"./bad\xff", b"./bad\nline\xff", b"./\xffnew\nline", b"./\xc0\x80", b"./\xed\xa0\x80", b"./bad\xff folder/a"]
+IMAGE = bytes(range(256)) * 256
+
+
+def recipes_of(page):
+    """The recipes of a page, in its order, each with its sort."""
+    for recipe in re.findall(r"(?ms)^\.nf\n(.*?)\n\.fi$", sections_of(page)["EXAMPLES"]):
+        sorts = [sort for sort, mark in SORTS.items() if re.search(mark, recipe, re.MULTILINE)]
+        if len(sorts) != 1:
+            raise ValueError(f"this recipe of {page} has the sorts {sorts}: {recipe}")
+        yield recipe, sorts[0]
+
+
+def line_of(tool, name, content, tagged=False):
+    """The line of a list, as the standards and the page's LINE FORMATS say."""
+    escaped = name.replace(b"\\", b"\\\\").replace(b"\n", b"\\n").replace(b"\r", b"\\r")
+    digits = hashlib.new({"b2sum": "blake2b"}.get(tool, tool[:-3]), content).hexdigest().encode()
+    mark = b"\\" if escaped != name else b""
+    if tagged:
+        return mark + harness.TOOLS[tool][0].encode() + b" (" + escaped + b") = " + digits + b"\n"
+    return mark + digits + b"  " + escaped + b"\n"
+
+
+# The lines of the image by two tools.
+BOTH = [line_of(tool, b"image.iso", IMAGE, tagged=True) for tool in ("sha256sum", "b2sum")]
+
+
+class Typed(Case):
+    """A folder in which recipes are typed, in bash; and in sh where one isn't for bash alone."""
+
+    of_the_repository = True
+
+    def setUp(self):
+        super().setUp()
+        for command in COMMANDS:
+            if shutil.which(command) is None:
+                self.skipTest(f"{command} isn't installed")
+        os.mkdir(self.path("commands"))
+        for name in NAMES:
+            os.symlink(harness.PROGRAM, self.path(f"commands/{name}"))
+        self.command("pv", 'exec cat "$@"')
+        self.env = {**os.environ, "PATH": os.fsdecode(self.path("commands")) + os.pathsep + os.environ["PATH"],
+                    "TMPDIR": self.folder}
+
+    def command(self, name, script):
+        """Puts a script in the place of a command."""
+        path = self.path(f"commands/{name}")
+        if os.path.lexists(path):
+            os.remove(path)
+        self.write(f"commands/{name}", f"#!/bin/sh\n{script}\n")
+        os.chmod(path, 0o755)
+
+    def put(self, name, content="more"):
+        """Makes a file in the tree, and the folders above it."""
+        path = os.path.join(self.path("here"), harness.as_bytes(name))
+        os.makedirs(os.path.dirname(path), exist_ok=True)
+        with open(path, "wb") as file:
+            file.write(harness.as_bytes(content))
+
+    def make(self, good=True, more=()):
+        """A new tree, with the good names or none, and with more. Each file but the image holds its own name."""
+        shutil.rmtree(self.path("here"), ignore_errors=True)
+        os.mkdir(self.path("here"))
+        for name in GOOD if good else ():
+            self.put(name, IMAGE if name == "image.iso" else name)
+        for name in more:
+            self.put(name)
+
+    def there(self):
+        """The names of all files of the tree, but for its list, as find gives them, and their contents."""
+        top, found = self.path("here"), {}
+        for folder, _, names in os.walk(top):
+            for name in names:
+                path = os.path.join(folder, name)
+                with open(path, "rb") as file:
+                    found[b"." + path[len(top):]] = file.read()
+        found.pop(b"./SUMS", None)
+        return found
+
+    def is_there(self, name):
+        return os.path.exists(self.path(f"here/{name}"))
+
+    def type(self, recipe, shell="bash", **how):
+        return self.run_command([shell, "-c", recipe], cwd=self.path("here"), env=self.env, **how)
+
+    def fails(self, recipe, shell="bash"):
+        """Types a recipe that mustn't pass, and leaves nothing in the tree that wasn't there."""
+        before = set(os.listdir(self.path("here")))
+        ran = self.type(recipe, shell)
+        self.assertGreater(ran.status, 0, recipe)
+        self.assertLessEqual(set(os.listdir(self.path("here"))) - before, {b"image.sum"}, recipe)
+        return ran
+
+    def passes(self, recipe, out=b"", shell="bash"):
+        self.assertEqual(self.type(recipe, shell), Ran(0, out, b""), recipe)
+
+    def each(self, *sorts, page="digests"):
+        """The recipes of a page, of these sorts or of all, with their sorts and with each shell that they are for."""
+        for recipe, sort in recipes_of(page):
+            for shell in ("bash",) if OF_BASH.search(recipe) else ("bash", "sh"):
+                if sort in sorts or not sorts:
+                    yield recipe, sort, shell
+
+    def recipe(self, wanted, page="digests"):
+        return next(recipe for recipe, sort in recipes_of(page) if sort == wanted)
+
+    def expect_lines(self, name, wanted):
+        """Expects a list of these lines, in any order."""
+        self.assertEqual(sorted(self.read(f"here/{name}").splitlines(keepends=True)), sorted(wanted))
+
+    def expect_only(self, *made):
+        """Expects the good files as they were, these beside them, and nothing else in the tree or in the test's
+        folder."""
+        found = self.there()
+        wanted = {b"./" + name.encode(): IMAGE if name == "image.iso" else name.encode() for name in GOOD}
+        self.assertEqual({name: found.pop(name) for name in wanted}, wanted)
+        self.assertLessEqual(set(found), {f"./{name}".encode() for name in made})
+        tops = {name.split("/")[0].encode() for name in (*GOOD, "SUMS", *made)}
+        self.assertLessEqual(set(os.listdir(self.path("here"))), tops)
+        self.assertEqual(set(os.listdir(self.folder)), {"commands", "here", "a", "e"})
 
 
 @needs_check
@@ -23,20 +171,16 @@ class Recipes(Typed):
             return b"" if verdict == "OK" else f"./image.iso: {verdict}\n".encode()
         return f"{name}: {verdict}\n".encode() * (2 if sort == "check" else 1)
 
-    def expect_made(self, sort):
-        """What the recipe was to make is there, and nothing else."""
-        if sort.startswith("list"):
-            self.expect_lines("SUMS", [line_of("sha256sum", *file) for file in self.there().items()])
-        elif sort.startswith("write"):
-            self.expect_lines("image.sum", BOTH if sort == "write at once" else [line_of("sha256sum", b"-", IMAGE)])
-        self.expect_only("image.sum")
-
     def test_good_names(self):
         """All of them, in the page's order: lists are as the standards say, and each check passes."""
         self.make()
         for recipe, sort, shell in self.each():
             self.passes(recipe, self.report(sort, "OK") if sort.startswith("check") else b"", shell)
-            self.expect_made(sort)
+            if sort.startswith("list"):
+                self.expect_lines("SUMS", [line_of("sha256sum", *file) for file in self.there().items()])
+            elif sort.startswith("write"):
+                self.expect_lines("image.sum", BOTH if sort == "write at once" else [line_of("sha256sum", b"-", IMAGE)])
+            self.expect_only("image.sum")
 
     def test_files_that_cannot_be_read(self):
         """A list without them never gets its name, and a whole one of before stays."""
@@ -76,17 +220,6 @@ class Recipes(Typed):
         ran = self.fails(self.recipe("unlisted"))
         self.assertEqual(ran.out.count(b"\n"), len(self.there()))
 
-    def test_a_folder_of_that_name(self):
-        """No list is made where a folder has its name, nor put into that folder."""
-        for recipe, sort, shell in self.each():
-            if sort.startswith(("write", "list")):
-                self.make()
-                for name in ("SUMS", "image.sum"):
-                    os.mkdir(self.path(f"here/{name}"))
-                self.fails(recipe, shell)
-                for name in ("SUMS", "image.sum"):
-                    self.assertEqual(os.listdir(self.path(f"here/{name}")), [], recipe)
-
     def test_a_changed_file(self):
         """Each check tells of it; and those of a whole list, of any other file."""
         self.make()
@@ -119,15 +252,10 @@ class Recipes(Typed):
             self.put("SUMS", b"".join(damaged if line == image else line for line in whole))
             for recipe, _, shell in self.each("check list", "check list on all", "check one"):
                 self.fails(recipe, shell)
-        for other in (b"", b"\n", b"#" + image, b"# " + image):
+        for other in (b"", b"#" + image, b"./image.iso\n"):
             self.put("SUMS", b"".join(other if line == image else line for line in whole))
             for recipe, _, shell in self.each("check one"):
                 self.assertEqual(self.fails(recipe, shell).out, b"")
-            self.passes(self.recipe("check list"))
-            self.assertEqual(self.fails(self.recipe("unlisted")), Ran(1, b"./image.iso\n", b""))
-        for name in (b"./image.iso", b"  ./image.iso"):
-            self.put("SUMS", b"".join(name + b"\n" if line == image else line for line in whole))
-            self.fails(self.recipe("check list"))
             self.assertEqual(self.fails(self.recipe("unlisted")), Ran(1, b"./image.iso\n", b""))
 
     def test_a_name_within_another(self):
@@ -157,6 +285,8 @@ class Recipes(Typed):
         lists, images = ("list", "list on all"), ("write by pv", "write at once")
         for command, script, *sorts in (
                 ("pv", "head -c 1000 image.iso; exit 1", "write by pv"),
+                ("tee", "head -c 1000; exit 1", "write at once"),
+                ("sed", "cat; exit 1", "write at once"),
                 ("find", find, *lists, "unlisted"),
                 ("find", "printf './x\\0'", "list on all"),
                 ("xargs", "exit 123", "list on all"),
@@ -168,13 +298,6 @@ class Recipes(Typed):
         self.passes(self.recipe("write by pv"))
         self.command("pv", "cat image.iso; exit 1")
         self.fails(self.recipe("check by pv"))
-
-    def test_two_in_one_reading(self):
-        """No list is made where the reading ends early, or where one of the tools gives no line."""
-        for name, script in (("b2sum", "cat >/dev/null"), ("tee", "head -c 1000; exit 1"), ("sed", "cat; exit 1")):
-            self.expect_failures(["write at once"], name, script)
-            if name == "b2sum":
-                os.symlink(harness.PROGRAM, self.path("commands/b2sum"))
 
     def test_a_folder_that_may_not_be_read(self):
         """No list is made, and nothing passes for unlisted."""
@@ -217,39 +340,55 @@ class Recipes(Typed):
             self.assertEqual(sorted(self.read("here/SUMS").splitlines()), before)
             self.passes(self.recipe("unlisted"))
 
-    def test_a_list_for_others(self):
-        """A list may be read by whom the caller's mask lets read it."""
-        for recipe, sort, shell in self.each("list", "list on all", "write by pv", "write at once"):
+@needs_check
+class Examples(Typed):
+    """The examples of each tool's page."""
+
+    def each_tool(self):
+        """Each tool with a new tree, and what downloads come with: lines of the image, and of a file that isn't
+        there."""
+        for tool in TOOLS:
             self.make()
-            self.passes(recipe, shell=shell)
-            made = self.path("here/SUMS" if sort.startswith("list") else "here/image.sum")
-            self.assertEqual(os.stat(made).st_mode & 0o777, 0o644)
+            other = "b2sum" if tool == "anysum" else tool
+            yield tool, [line_of(other, name, IMAGE, tool == "anysum") for name in (b"image.iso", b"other.iso")]
 
-    def test_a_shell_that_does_nothing(self):
-        """A user's own shell may be a command that starts nothing and answers 0."""
-        self.env["SHELL"] = shutil.which("true")
-        self.make()
-        self.passes(self.recipe("list"))
-        self.put("-x", "changed")
-        for recipe, _, shell in self.each("check list on all"):
-            self.assertEqual(self.fails(recipe, shell).out, b"./-x: FAILED\n")
+    def test_good(self):
+        """Lists are as the standards say, and each check passes."""
+        for tool, lines in self.each_tool():
+            wanted = {"anysum": BOTH}.get(tool, lines[:1])
+            if tool == "b2sum":
+                wanted = [self.run_words(["b2sum", "-l", "256"], IMAGE).out.replace(b"-", b"image.iso")]
+            for recipe, sort, shell in self.each(page=tool):
+                if sort == "check download":
+                    self.put(recipe.split()[-1], b"".join(lines))
+                    self.passes(recipe, b"image.iso: OK\n", shell)
+                    os.remove(self.path(f"here/{recipe.split()[-1]}"))
+                elif sort == "check":
+                    self.passes(recipe, b"image.iso: OK\n" * len(wanted), shell)
+                else:
+                    self.passes(recipe, shell=shell)
+                    self.expect_lines("image.sum", wanted)
+                self.expect_only("image.sum")
 
-    def test_runs_that_go_on(self):
-        """Where one run fails, `split` ends, and the lines of the others come later."""
-        self.command("nproc", "echo 2")
-        self.make(good=False, more=["a"])
-        self.put("SUMS", b"".join(line_of("sha256sum", name, b"") for name in (b"./a", b"./pipe")))
-        os.mkfifo(self.path("here/pipe"))
-        with open(self.path("out"), "wb") as out, open(self.path("err"), "wb") as err:
-            ran = self.type(self.recipe("check list on all"), stdout=out, stderr=err)
-        self.assertEqual((ran.status, self.read("out")), (1, b"./a: FAILED\n"))
-        with self.fed("here/pipe") as pipe:
-            pipe.write(b"more")
-        self.until(lambda: self.read("out") == b"./a: FAILED\n./pipe: FAILED\n", "the other run's line")
+    def test_bad(self):
+        """A changed file fails, and so does a list that isn't read whole, though all that is read matches: a mark
+        precedes its first line, or a tag is no tool's."""
+        for tool, (line, _) in self.each_tool():
+            for recipe, sort, shell in self.each("check", "check download", page=tool):
+                for first in (b"\xef\xbb\xbf" + line, b"SHA2-256 (image.iso) = 00\n"):
+                    if tool == "anysum" or sort == "check download":
+                        self.put(recipe.split()[-1], first + line)
+                        self.assertEqual(self.fails(recipe, shell).out, b"image.iso: OK\n")
+                self.put("image.iso", IMAGE[:-1])
+                self.put(recipe.split()[-1], line)
+                self.assertEqual(self.fails(recipe, shell).out, b"image.iso: FAILED\n")
+                self.put("image.iso", IMAGE)
 
-    def test_another_shell(self):
-        """One that doesn't have what bash has makes no list, and says so."""
-        self.make()
-        for recipe, sort in recipes_of("digests"):
-            if OF_BASH.search(recipe) and sort in ("list on all", "unlisted"):
-                self.assertNotEqual(self.fails(recipe, "sh").err, b"")
+    def test_nothing_there(self):
+        for tool, _ in self.each_tool():
+            for recipe, sort, shell in self.each(page=tool):
+                self.make(good=False)
+                self.fails(recipe, shell)
+                if sort.startswith("check"):
+                    self.put(recipe.split()[-1], "")
+                    self.assertEqual(self.fails(recipe, shell).out, b"")

@@ -1,4 +1,4 @@
-"""The repository's own scripts: how they are written, `./test`, and the version and the sums that documents tell."""
+"""The repository's own scripts, `./test`, and the sums of the programs in CHANGELOG."""
 
 import os
 import re
@@ -11,8 +11,8 @@ from repository import DEFAULT, FAST, RT, Repository
 SCRIPTS = ["digests", "install", "test", "tools/build", ".ci/run"]
 
 
-class Told(Case):
-    """What the scripts look like, and what documents tell."""
+class Documented(Case):
+    """The scripts themselves, and the sums of what they build."""
 
     of_the_repository = True
 
@@ -20,15 +20,9 @@ class Told(Case):
         return self.read(os.path.join(TOP, name)).decode()
 
     def test_shell(self):
-        for name in SCRIPTS:
-            self.assertTrue(self.text(name).startswith("#!/bin/sh\n") and os.access(os.path.join(TOP, name), os.X_OK))
         if shutil.which("shellcheck") is None:
             self.skipTest("shellcheck isn't installed")
         self.assertEqual(self.run_command(["shellcheck", *SCRIPTS], cwd=TOP), Ran(0, b"", b""))
-
-    def test_version(self):
-        newest = re.search(r"(?m)^## ([\d.]+)", self.text("CHANGELOG.md"))[1]
-        self.assertIn(f"\nVersion: {newest}, ", self.text("README.md"))
 
     def test_sums(self):
         """Those of the newest version are those of what is built, as docs/PACKAGING.md checks them."""

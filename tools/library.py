@@ -1,54 +1,35 @@
 #!/usr/bin/env python3
 """Writes the list of public calls in docs/LIBRARY.md from the comments and signatures in the sources: `library.py
-[--check]`. With --check nothing is written, and the status is 1 where the page isn't what would be written."""
+[--check]`. With --check nothing is written, and the status is 1 if the page isn't what would be written."""
 
 import os
 import re
 import sys
 
-TOP = os.path.dirname(os.path.dirname(os.path.abspath(__file__)))
+sys.dont_write_bytecode = True
+
+from rattle import TOP, Code, crates, text_of  # noqa: E402  (nothing is to be left beside these files)
+
 PAGE = os.path.join(TOP, "docs", "LIBRARY.md")
 BEGIN = "<!-- From here on tools/library.py writes. -->\n"
-ITEM = re.compile(r"(    )?(?:pub (?:const )?)?(fn|struct|enum|trait|const|(?<=pub )type) (\w+)")
-OWNER = re.compile(r"(?:impl(?:<.*?>)? (?P<type>\w+)(?:<.*>)? \{|pub trait (?P<trait>\w+).*\{)$")
-CLAUSE = re.compile(r"\s*(?:requires|ensures|where|ghost)\b|\s*\{")
-IMPL = re.compile(r"(?m)^impl(?:<.*?>)? (?:\w+::)*(\w+(?:<\w+>)?) for (&mut \w+|\w+)")
-ALIAS = re.compile(r"(?m)^pub type (\w+) = (\w+)<")
-DERIVED = re.compile(r"(?m)^#\[derive\((.*)\)\]\n(?:#\[.*\]\n)*pub (?:struct|enum) (\w+)")
 
 
-class Item:
-    """A public thing: what owns it, its kind, name, signature and first sentence."""
-
-    def __init__(self, owner, kind, name, signature, sentence):
-        self.owner, self.kind, self.name = owner, kind, name
-        self.signature, self.sentence = signature, sentence
-
-
-def crates():
-    """The crates that are libraries, the lowest first; those of tests hand out nothing."""
-    with open(os.path.join(TOP, "crates.txt"), encoding="utf-8") as file:
-        names = re.findall(r"(?m)^(\w+):", file.read())
-    return [name for name in names if os.path.exists(source(name, "lib")) and not name.endswith("_tests")]
+def libraries():
+    """The crates that are libraries, the lowest first; those of tests export nothing."""
+    return [it for it in crates() if os.path.exists(source(it, "lib")) and not it.endswith("_tests")]
 
 
 def source(crate, module):
     return os.path.join(TOP, "crates", crate, "src", f"{module}.rt")
 
 
-def lines_of(path):
-    with open(path, encoding="utf-8") as file:
-        return file.read().splitlines()
-
-
 def exported(crate):
-    """What the root of a crate hands out: each module with the names from there, or None for all of them."""
-    text = "\n".join(lines_of(source(crate, "lib")))
-    for module, names, name in re.findall(r"pub use (\w+)::(?:\{([^}]*)\}|(\w+));", text):
-        yield module, [name] if name else re.findall(r"\w+", names)
-    for module in re.findall(r"(?m)^pub mod (\w+);", text):
+    """What the root of a crate exports: each module's file with the names from there, or None for all of them."""
+    root = text_of(source(crate, "lib"))
+    for module, names, name in re.findall(r"(?m)^pub use ([\w:]+)::(?:\{([^}]*)\}|(\w+));", root):
+        yield module.replace("::", "/"), [name] if name else re.findall(r"\w+", names)
+    for module in [*re.findall(r"(?m)^pub mod (\w+);", root), "lib"]:
         yield module, None
-    yield "lib", None
 
 
 def first_sentence(comment):
@@ -57,116 +38,90 @@ def first_sentence(comment):
     return re.match(r".*?\.(?= [A-Z`]|$)", text)[0]
 
 
-def signature(lines):
-    """What stands before the clauses and the body, on one line."""
-    parts = []
-    for line in lines:
-        if parts and CLAUSE.match(line):
-            break
-        parts.append(line.strip())
-        if line.endswith(("{", ";")) or re.search(r"\{.*\}$", line):
-            break
-    text = re.sub(r"^pub ", "", " ".join(parts))
-    text = re.sub(r"\s*(?:\{.*|;)$", "", text)
-    return re.sub(r",? \)", ")", text).replace("( ", "(").replace("[ ", "[")
+def bounds(block, known=""):
+    """The bounds of an `impl` besides those that are known, as a clause."""
+    generics = re.match(r"impl<(.*?)> ", block.head)
+    clause = re.search(r" where (.*?),?$", block.head)
+    found = [it for it in generics[1].split(", ") if re.match(r"\w+: ", it)] if generics else []
+    found = [it for it in found if it not in known] + ([clause[1]] if clause else [])
+    return f" where {', '.join(found)}" if found else ""
 
 
-def items_of(path):
-    """The public things of a file, with the things that stand in them."""
-    comment, owner, owner_is_trait = [], None, False
-    lines = lines_of(path)
-    for number, line in enumerate(lines):
-        found = OWNER.match(line)
-        if line.strip().startswith("///"):
-            comment.append(line.strip()[4:])
-            continue
-        item = ITEM.match(line)
-        public = line.strip().startswith("pub ") and not line.strip().startswith("pub(")
-        if item and comment and (public or owner_is_trait and item[1]):
-            yield Item(owner if item[1] else None, item[2], item[3], signature(lines[number:]), first_sentence(comment))
-        if found:
-            owner, owner_is_trait = found["type"] or found["trait"], bool(found["trait"])
-        elif line == "}" or line.startswith("impl"):
-            owner, owner_is_trait = None, False
-        if not line.strip().startswith("#["):
-            comment = []
-
-
-def parts_of(text, kind, name):
+def parts_of(item):
     """The public fields of a struct, or the variants of an enum, as the source has them."""
-    body = re.search(rf"(?ms)^pub {kind} {name}\b[^;{{\n]*\{{\n(.*?)^\}}", text)
-    if not body:
-        return []
-    bare = re.sub(r"(?m)^ *(?://|#\[).*\n", "", body[1])
-    if kind == "struct":
-        return re.findall(r"(?m)^    pub (\w+: .*),$", bare)
-    found = re.findall(r"(?m)^    (\w+(?:\([^()]*\)| \{[^{}]*\})?),$", bare)
+    body = re.sub(r"(?m)^ *#\[.*\n", "", item.text.partition("{")[2])
+    if item.kind == "struct":
+        return re.findall(r"(?m)^    pub (\w+: .*),$", body)
+    found = re.findall(r"(?m)^    (\w+(?:\([^()]*\)| \{[^{}]*\})?),$", body)
     return [re.sub(r",? \}", " }", re.sub(r"\s+", " ", part)) for part in found]
 
 
-def traits():
-    """Each type of the libraries with the traits that it has, by a derive or by an impl; `Model` is for contracts. A
-    type that is handed out by other names stands under these."""
-    has, aliases = {}, {}
-    for crate in crates():
-        folder = os.path.join(TOP, "crates", crate, "src")
-        for file in sorted(os.listdir(folder)):
-            if not file.endswith(".rt") or "tests" in file:
-                continue
-            text = "\n".join(lines_of(os.path.join(folder, file))) + "\n"
-            found = [(name, trait) for derived, name in DERIVED.findall(text) for trait in derived.split(", ")]
-            for name, trait in found + [(name, trait) for trait, name in IMPL.findall(text)]:
-                if trait != "Model" and trait not in has.setdefault(name, []):
-                    has[name].append(trait)
-            for alias, name in ALIAS.findall(text):
-                aliases.setdefault(name, []).append(alias)
-    return {alias: has[name] for name in has for alias in aliases.get(name, [name])}
+class Library:
+    """The libraries' items, and which traits their types have."""
 
+    def __init__(self):
+        self.items = [it for it in Code().items if it.crate in libraries()]
+        self.blocks = [it for it in self.items if it.kind == "impl"]
+        self.aliases = {it.name: re.search(r"= (\w+)", it.head)[1] for it in self.items if it.kind == "type"}
 
-def more_of(text, item, has):
-    """What is said of a type besides its sentence: its fields or variants, and its traits; and who has a trait."""
-    def listed(mark, names):
-        return [f"*{mark}:* " + ", ".join(f"`{name}`" for name in names)] if names else []
-    if item.kind == "trait":
-        return listed("Implemented by", [name for name in has if item.name in has[name]])
-    mark = {"struct": "Fields", "enum": "Variants"}.get(item.kind)
-    parts = listed(mark, parts_of(text, item.kind, item.name)) if mark else []
-    return parts + (listed("Traits", has.get(item.name, [])) if mark or item.kind == "type" else [])
+    def traits(self, item):
+        """The traits of a type, by a derive or by an `impl`; `Model` is for contracts."""
+        name, found = self.aliases.get(item.name, item.name), []
+        for it in self.items:
+            if it.name == name and it.kind in ("struct", "enum"):
+                found += re.findall(r"\w+", " ".join(re.findall(r"derive\((.*)\)", it.attributes)))
+        for block in self.blocks:
+            if block.name == name and block.trait not in (None, "Model"):
+                types = [re.sub(r"^type |;$", "", it.text) for it in block.members if it.kind == "type"]
+                where = "" if name != item.name else bounds(block, item.head)
+                found.append(block.trait + (f"<{', '.join(types)}>" if types else "") + where)
+        return list(dict.fromkeys(found))
 
+    def more(self, item):
+        """What is said of a type besides its sentence: its fields or variants, and its traits; and who has a trait."""
+        if item.kind == "trait":
+            types = [it for it in self.items if it.kind in ("struct", "enum", "type") and it.public]
+            has = {"Implemented by": [it.name for it in types if self.has(it, item.name)]}
+        else:
+            mark = {"struct": "Fields", "enum": "Variants"}.get(item.kind)
+            has = {mark: parts_of(item)} if mark else {}
+            has |= {"Traits": self.traits(item)} if mark or item.kind == "type" else {}
+        return [f"*{mark}:* " + ", ".join(f"`{it}`" for it in them) for mark, them in has.items() if them]
 
-def things_of(crate):
-    """The things that a crate hands out, each with what belongs to it, and where they stand."""
-    folder = os.path.join(TOP, "crates", crate, "src")
-    every = {name[:-3]: list(items_of(os.path.join(folder, name))) for name in sorted(os.listdir(folder))
-             if name.endswith(".rt") and "tests" not in name}
-    members = [item for items in every.values() for item in items if item.owner]
-    has = traits()
-    for module, names in exported(crate):
-        path = f"{module}::" if names is None and module != "lib" else ""
-        text = "\n".join(lines_of(source(crate, module))) + "\n"
-        for item in every.get(module, []):
-            if not item.owner and (names is None or item.name in names):
-                owners = {item.name, *re.findall(r"^type \w+ = (\w+)", item.signature)}
-                yield path, item, more_of(text, item, has), [it for it in members if it.owner in owners]
-        for other, name in re.findall(r"(?m)^pub use (\w+)::(\w+);", text):
-            if name in (names or []):
-                yield "", Item(None, "use", name, f"use {other}::{name}", f"The one of `{other}`."), [], []
+    def has(self, item, trait):
+        return item.name not in self.aliases.values() and any(re.match(rf"{trait}\b", it) for it in self.traits(item))
 
+    def members(self, item):
+        """The public calls of a type, and what a trait asks for, each with its bounds."""
+        if item.kind == "trait":
+            yield from ((it, "") for it in item.members)
+        for block in self.blocks:
+            if block.trait is None and block.name == self.aliases.get(item.name, item.name):
+                where = "" if item.name in self.aliases else bounds(block, item.head)
+                yield from ((it, where) for it in block.members if it.public and it.comment)
 
-def described(crate):
-    """A crate's part of the page."""
-    text = [f"### `{crate}`", ""]
-    for path, item, more, members in things_of(crate):
-        said = "  \n  ".join([item.sentence, *more])
-        text.append(f"- `{item.signature.replace(item.name, path + item.name, 1)}`  \n  {said}")
-        text += [f"    - `{member.signature}`  \n      {member.sentence}" for member in members]
-    return "\n".join(text) + "\n"
+    def described(self, crate):
+        """A crate's part of the page."""
+        yield f"### `{crate}`\n"
+        for file, names in exported(crate):
+            path = f"{file}::" if names is None and file != "lib" else ""
+            for item in self.items:
+                if (item.crate, item.file) == (crate, f"{file}.rt") and item.public and item.comment and (
+                        names is None or item.name in names):
+                    said = "  \n  ".join([first_sentence(item.comment), *self.more(item)])
+                    yield f"- `{item.head.replace(item.name, path + item.name, 1)}`  \n  {said}"
+                    for it, where in self.members(item):
+                        yield f"    - `{it.head}{where}`  \n      {first_sentence(it.comment)}"
+            for other, name in re.findall(r"(?m)^pub use (\w+)::(\w+);", text_of(source(crate, file))):
+                if name in (names or []):
+                    yield f"- `use {other}::{name}`  \n  The one of `{other}`."
+        yield ""
 
 
 def main():
-    with open(PAGE, encoding="utf-8") as file:
-        is_so = file.read()
-    has_to_be = is_so.split(BEGIN)[0] + BEGIN + "\n" + "\n".join(described(crate) for crate in crates())
+    library, is_so = Library(), text_of(PAGE)
+    parts = "\n".join(line for crate in libraries() for line in library.described(crate))
+    has_to_be = is_so.split(BEGIN)[0] + BEGIN + "\n" + parts
     if sys.argv[1:] == ["--check"]:
         if is_so != has_to_be:
             sys.exit("docs/LIBRARY.md: tools/library.py makes it anew")

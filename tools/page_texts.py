@@ -1,7 +1,7 @@
 """What the manual pages say beyond the program's own help, and the one table of the tools. `These` are typed as they
 are, and {THESE} stand for other words."""
 
-DATE = "2026-11-25"  # of the last change of these texts
+DATE = "2026-11-26"  # of the last change of these texts
 
 # Tool: its standard, the algorithm's name there, and the bits of its digest. The last has none of its own.
 TOOLS = {
@@ -20,7 +20,7 @@ PURPOSE = {"anysum": "check lists of tagged checksums"}
 FEWER = {"b2sum": ", or fewer with `--length`"}
 
 INPUT = (
-    "With no {FILE}, or where {FILE} is `-`, standard input is read. It is read once: a second `-` is an empty file.")
+    "With no {FILE}, or if {FILE} is `-`, standard input is read. It is read once: a second `-` is an empty file.")
 
 WRITES = (
     "`{tool}` prints a line with the {tag} checksum ({standard}) of each {{FILE}}: {bits} bits, in {digits} "
@@ -40,7 +40,8 @@ DESCRIPTION_OF_ANYSUM = (
 
 OPTIONS = (
     "Options and file names may come in any order; after `--` every word is a file name. A long option may be cut "
-    "short to any beginning that no other option has.")
+    "short to any beginning that no other option has. A word that begins with a dash and isn't UTF-8 ends the call, "
+    "after `--`, too: nothing is read, and the status is 1.")
 
 # What is said of an option instead of the help's words, and what more is said of one.
 INSTEAD = {"help": "Print a short help."}
@@ -107,7 +108,9 @@ WRITTEN = "Every file was read and its line printed. With `--check`: "
 STATUSES = {
     "0": "every list was read to its end, at least one file of each matches, and no listed file differs or can't be "
          "read. Missing files are allowed with `--ignore-missing`, and improperly formatted lines without `--strict`.",
-    "1": "Something failed: an option, a file, a list, memory or an output.",
+    "1": "Something failed: an option, a file, a list, memory or an output. If a file can't be read, standard error "
+         "names one of three reasons: `No such file or directory`, `Permission denied`, or, for all others, "
+         "`Input/output error`.",
     "127": "The program couldn't start; see `digests`(1).",
 }
 
@@ -117,19 +120,24 @@ DIFFERENCES = (
     "Messages begin with the tool's name. GNU's begin with the word by which the tool was called, such as a path.",
     "Names in messages and reports are escaped as in lines. GNU's tool quotes some names in messages as a shell does, "
     "and in reports it escapes only a name with a newline.",
-    "Only three reasons are named why a file can't be read. For a directory it is `Input/output error`, where GNU's "
-    "tool says `Is a directory`.",
+    "Only three reasons are given why a file can't be read; for a directory it is `Input/output error`. GNU's tool "
+    "names each fault of the system, here `Is a directory`.",
+    "A word that begins with a dash and isn't UTF-8 ends the call, after `--`, too, and a file whose name isn't UTF-8 "
+    "gives an `Input/output error`. GNU's tool reads such files.",
     "Each list decides how its names are read. With GNU's tool one list decides for all of a call.",
     "Some lines that GNU's tool takes are improperly formatted, such as those with a byte 0 or an empty name.",
     "A failed write ends the run with `write error` and status 1, and so does a reader that goes away, as `head`(1) "
-    "does. GNU's tool still reads the other files, or is ended by a signal.",
+    "does. GNU's tool still reads the other files, or a signal ends it.",
     "A second `-` is an empty file. GNU's tool reads standard input again.",
     "The language and `POSIXLY_CORRECT` have no effect.",
     "`--help`, `--version`, and some messages about options have other texts.",
 )
-DIFFERENCE_OF_LENGTHS = (
-    "`--length` takes digits alone, where GNU's tool also takes a blank or a plus sign before them. Of several lengths "
-    "only the last is looked at.")
+DIFFERENCES_OF_B2SUM = (
+    "`--length` takes digits alone, and GNU's tool also a blank or a plus sign before them. Of several lengths only "
+    "the last is looked at.",
+    "After the tag of a tagged line there may be one space or none, and on both sides of its equals sign spaces and "
+    "tabs or none. GNU's tool also takes a tab, a second space or some letters after `BLAKE2b`.",
+)
 
 DIFFERENCE_OF_ANYSUM = (
     "GNU has no tool of this name. The nearest is `cksum -c` of coreutils 9.1, which reads tagged lines.")
@@ -192,8 +200,11 @@ SHARING = (
     "written as soon as it is complete.",
     "A line of up to 8,192 bytes is written in one piece. So runs that share one open file, as under `xargs -P`, don't "
     "mix such lines. In a pipe this holds for lines of up to 4,096 bytes.",
-    "A pipe has the status of its last command. In `bash`(1), `set -o pipefail` makes it fail where any of its "
-    "commands fails.",
+    "A pipe has the status of its last command. In `bash`(1), `set -o pipefail` makes it fail if any of its commands "
+    "fails.",
+    "A reader that goes away is a failed write. So `sha256sum *` `|` `head -n 1` may end with `sha256sum: write error` "
+    "on standard error, and the other files aren't read; with `pipefail` its status is then 1. A reader that reads to "
+    "the end, as `sed -n 1p`, avoids that.",
 )
 
 LIMITS = (
@@ -203,8 +214,9 @@ LIMITS = (
     "them. Lines of `openssl dgst -r` can.",
     "A file of 2^61 bytes or more gives an `Input/output error`.",
     "A line of a list is held in memory whole.",
-    "The program needs a stack of 64 KiB, and more for many words or a large environment.",
-    "Where an output would grow past `ulimit -f`, the signal for that ends the program without a message.",
+    "The program needs a stack of 64 KiB (`ulimit -s`) besides what its words and its environment take. With "
+    "less a signal ends it.",
+    "If an output would grow past `ulimit -f`, the signal for that ends the program without a message.",
     "Some network file systems report a loss only when a file is closed. It isn't seen, and the status is 0. GNU's "
     "tools see it.",
 )

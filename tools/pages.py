@@ -129,7 +129,7 @@ def differences(tool):
     """How this isn't as GNU's tool of the same name."""
     if texts.TOOLS[tool][1] is None:
         return section("DIFFERENCES FROM GNU", texts.DIFFERENCE_OF_ANYSUM)
-    more = [texts.DIFFERENCE_OF_LENGTHS] if tool == "b2sum" else []
+    more = texts.DIFFERENCES_OF_B2SUM if tool == "b2sum" else ()
     return section("DIFFERENCES FROM GNU", texts.COMPARED, bullets([*texts.DIFFERENCES, *more]))
 
 

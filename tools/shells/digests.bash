@@ -64,5 +64,5 @@ _digests() {
 }
 
 # Where nothing is left in COMPREPLY, the names of files are.
-complete -o bashdefault -o default -F _digests digests \
-    @TOOLS@
+complete -o bashdefault -o default -F _digests \
+    digests @TOOLS@

@@ -2,6 +2,7 @@
 the tests expect. The values are published digests, and were not taken from any output of the program."""
 
 import contextlib
+import datetime
 import errno
 import functools
 import os
@@ -18,12 +19,15 @@ import tty
 import unittest
 from typing import NamedTuple
 
-# Set by run.py: the program's absolute path, and whether checking is left out.
+# Set by run.py: the program's absolute path, whether checking is left out, the seed of the first case at random, and
+# how many cases a test tries. Without `--seed` each day has cases of its own.
 PROGRAM = ""
 WITHOUT_CHECK = False
+SEED = int(f"{datetime.date.today():%Y%m%d}0000")
+CASES = 1500
 
 NOT_FOR_THIS_MACHINE = 127  # the status of a program for later processors than the machine's
-TOP = os.path.dirname(os.path.dirname(os.path.abspath(__file__)))
+TOP = os.path.dirname(os.path.dirname(os.path.dirname(os.path.abspath(__file__))))
 
 # Against what never ends, and far above what anything takes: a machine that stands still for a while fails no test.
 RUN_SECONDS = 600
@@ -299,7 +303,8 @@ class Case(unittest.TestCase):
         """Runs `digests` with standard output into the file `out`: its status, its standard error and its peak memory
         in bytes. A process of its own starts it, since a child counts the memory of the one that it was forked from."""
         peak_file = self.path("peak")
-        watcher = [sys.executable, "-IS", os.path.join(TOP, "tests", "peak.py"), peak_file, PROGRAM, *as_words(words)]
+        starter = os.path.join(TOP, "tests", "support", "peak.py")
+        watcher = [sys.executable, "-IS", starter, peak_file, PROGRAM, *as_words(words)]
         with open(self.path(out), "wb") as sink:
             ran = self.run_command(watcher, stdout=sink, **how)
         return ran.status, ran.err, int(self.read("peak"))

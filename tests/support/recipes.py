@@ -1,0 +1,43 @@
+"""What the manual pages and README show to be typed, for the tests of it."""
+
+import os
+import re
+import subprocess
+
+import harness
+from harness import TOP
+
+TOOLS = [*harness.TOOLS, "anysum"]
+NAMES = [*TOOLS, "digests"]  # of the pages
+
+
+def path_of(page):
+    return os.path.join(TOP, "man", f"{page}.1")
+
+
+def sections_of(page):
+    """The sections of a page's source, with fonts and spelled signs as plain text."""
+    with open(path_of(page), encoding="utf-8") as file:
+        text = re.sub(r"\\f[BIR]|\\%|\\&", "", file.read())
+    for spelled, sign in (("\\-", "-"), ("\\(aq", "'"), ("\\(ha", "^"), ("\\(ti", "~"), ("\\ ", " "), ("\\e", "\\")):
+        text = text.replace(spelled, sign)
+    _, *parts = re.split(r"(?m)^\.SH (.*)\n", text)
+    return dict(zip(parts[::2], parts[1::2]))
+
+
+def sessions_of_readme():
+    """README's commands after a `$`, block by block, each with the lines that it is to write."""
+    with open(os.path.join(TOP, "README.md"), encoding="utf-8") as file:
+        blocks = re.findall(r"(?m)(?:^    .*\n)+", file.read())
+    sessions = [re.findall(r"(?m)^    \$ (.*)\n((?:    (?!\$ ).*\n)*)", block) for block in blocks]
+    return [[(command, [line[4:] for line in said.splitlines()]) for command, said in session]
+            for session in sessions if session]
+
+
+def type_session(case, shell, session, **how):
+    """Types the commands of a session, one after another into one shell, and compares what each writes to both outputs
+    with what is shown."""
+    script = "".join(f"{command}\nshown=$?; printf '\\0'; (exit $shown)\n" for command, _ in session)
+    ran = case.run_command([shell, "-c", script], stderr=subprocess.STDOUT, **how)
+    got = [part.splitlines() for part in ran.out.decode().split("\0")]
+    case.assertEqual(got, [lines for _, lines in session] + [[]], session)

@@ -1,0 +1,363 @@
+"""Reads the crates for those who make pages of them: what the code (`.rt`) declares, with its comments and contracts, and
+what the definitions of `specs/` (`.antt`) say and name. What can't be read raises a ValueError, so that nothing is left
+out unseen. A name counts also where something in its text binds it: so what is reached may be too much, and never too
+little."""
+
+import glob
+import os
+import re
+from typing import NamedTuple
+
+TOP = os.path.dirname(os.path.dirname(os.path.realpath(__file__)))
+
+
+def text_of(*names):
+    """The text of a file, whose path begins at the top."""
+    with open(os.path.join(TOP, *names), encoding="utf-8") as it:
+        return it.read()
+
+
+def crates():
+    """The crates of crates.txt, in its order."""
+    return re.findall(r"(?m)^(\w+):", text_of("crates.txt"))
+
+
+def files(folder, ending):
+    """The files of all crates' folders of that name, in subfolders too: each one's crate, path there, and path."""
+    for path in sorted(glob.glob(os.path.join(TOP, "crates", "*", folder, "**", "*" + ending), recursive=True)):
+        crate, _, file = os.path.relpath(path[:-len(ending)], os.path.join(TOP, "crates")).split(os.sep, 2)
+        yield crate, file, path
+
+
+# Code.
+
+ITEM = re.compile(r"""(?mx)^(?P<public>pub[ ])?(?:pub\([^)]*\)[ ])?(?:
+    (?:const[ ](?=fn))?(?P<kind>fn|trait|struct|enum|type|const)[ ](?P<name>\w+)
+    | impl(?:<.*?>)?[ ](?:(?:\w+::)*(?P<trait>\w+(?:<\w+>)?)[ ]for[ ](?:&mut[ ])?)?(?:\w+::)*(?P<of>\w+)\b)""")
+MEMBER = re.compile(r"(?m)^    (pub )?(?:const (?=fn))?(fn|type) (\w+)")
+# What follows the head of an item: a clause, a ghost member, a body, or the end of the line.
+BEHIND_HEAD = re.compile(r"\s*(?:\b(?:requires|ensures)\b|\{|;$)", re.MULTILINE)
+ENSURES = re.compile(r"\s*\b(?:ensures|requires)\b(?:\s+\w+)?\s*(?=\{)")
+# What precedes a clause: in a contract, and before the type and the value of a ghost member.
+CLAUSE = re.compile(ENSURES.pattern + r"|\bghost\s+(?!use\b)\w+\s*[:=]\s*(?=\{)|(?<=\})\s*=\s*(?=\{)")
+# The module of definitions of a type of the code, of its variants, or of the constants of a file.
+DECLARED = re.compile(r"Rattle\.(\w+)\.specs\.declared\.([\w.]+?)\.(\w+?)(?:\.The(?:Variants|Inside))?")
+
+
+def behind_brace(text, start):
+    """The place after the brace that closes the first one from here on."""
+    depth = 0
+    for it in re.compile(r"[{}]").finditer(text, start):
+        depth += 1 if it[0] == "{" else -1
+        if not depth:
+            return it.end()
+    return len(text)
+
+
+def end_of(text, start, kind):
+    """Where an item ends that begins there: a function's contract before its body, and all else after its braces."""
+    if kind == "const":
+        return text.index(";\n", start) + 1
+    if kind != "fn":
+        first = re.compile(r"[{;\[]").search(text, start)
+        if first[0] == "[":
+            raise ValueError(f"an array in a type without braces can't be read: {text[start:first.end()]}")
+        return first.end() if first[0] == ";" else behind_brace(text, first.start())
+    end = BEHIND_HEAD.search(text, start).start()
+    while ENSURES.match(text, end):
+        end = behind_brace(text, end)
+    if not re.compile(r"\s*[{;]").match(text, end):
+        raise ValueError(f"neither a clause nor a body follows this contract: {text[start:end]}")
+    return end
+
+
+def without_comments(path):
+    """The text of a file of code without its comments, and the lines of the `///` comments by the places there that
+    they precede: of the item, or of the attributes above it."""
+    kept, place, above, comments = [], 0, [], {}
+    for line in text_of(path).split("\n"):
+        bare = line.strip()
+        if bare.startswith("//"):
+            above += [bare[4:]] if bare.startswith("///") else []
+            continue
+        if above:
+            comments[place], above = above, []
+        kept.append(line)
+        place += len(line) + 1
+    text = "\n".join(kept)
+    # A type or trait is found by its name, so no other may have it.
+    if re.search(r"^\s*(?:pub(?:\([^)]*\))? )?use [^;]* as [^_]|/\*", text, re.MULTILINE):
+        raise ValueError(f"{path} gives a name to what has another, or has a comment that isn't known here")
+    return text, comments
+
+
+def uses_of(before, text):
+    """The names that the ghost `use` lines bring in which have this before them."""
+    lines = re.findall(before + r"ghost (use [^;]*;)", text, re.MULTILINE)
+    return {name: there for line in lines for name, there in imports_of(" ".join(line.split()))}
+
+
+class Item(NamedTuple):
+    """A function with its contract, a trait, a type, an `impl` (which has the name of its type) or a constant, as the
+    code has it; the `///` comment and the attributes above it; and the items in it."""
+
+    kind: str
+    name: str
+    trait: str
+    public: bool
+    crate: str
+    file: str
+    text: str
+    comment: list
+    attributes: str
+    members: list
+    outside: dict
+
+    @property
+    def head(self):
+        """What precedes the contract or the body, on one line."""
+        head = re.sub(r"\s+", " ", self.text[:BEHIND_HEAD.search(self.text + "\n{").start()])
+        return re.sub(r",? \)", ")", head).replace("( ", "(").replace("[ ", "[").removeprefix("pub ")
+
+    @property
+    def uses(self):
+        return {**self.outside, **uses_of(r"^\s+", self.text)}
+
+    @property
+    def clauses(self):
+        return [self.text[it.end() + 1 : behind_brace(self.text, it.end()) - 1] for it in CLAUSE.finditer(self.text)]
+
+    @property
+    def around(self):
+        """What is outside the clauses."""
+        around, end = "", 0
+        for it in CLAUSE.finditer(self.text):
+            around += self.text[end : it.end()]
+            end = behind_brace(self.text, it.end())
+        return re.sub(r"\bghost use [^;]*;", "", around + self.text[end:])
+
+    def origins(self):
+        """Where the names in it come from that a `ghost use` brings in."""
+        return origins_in(self.text, self.uses)
+
+
+class Code:
+    """The items of all crates, but for those of tests."""
+
+    def __init__(self):
+        self.items = []
+        for crate, file, path in files("src", ".rt"):
+            if "tests" not in f"{crate}/{file}":
+                self.read(path, crate, f"{file}.rt")
+        self.called = [it for it in self.items if it.kind not in ("fn", "const", "impl") or it.trait == "Model"]
+
+    def read(self, path, crate, file):
+        text, comments = without_comments(path)
+        uses = uses_of("^", text)
+
+        def item(start, kind, name, trait, public, members=()):
+            attributes = re.search(r"(?:^ *#\[.*\]\n)*\Z", text[:text.rfind("\n", 0, start) + 1], re.MULTILINE)
+            above = comments.get(attributes.start(), [])
+            it = text[start : end_of(text, start, kind)]
+            return Item(kind, name, trait, public, crate, file, it, above, attributes[0], list(members), uses)
+
+        for it in ITEM.finditer(text):
+            kind = it["kind"] or "impl"
+            end = end_of(text, it.start(), kind)
+            inner = MEMBER.finditer(text, it.start(), end) if kind in ("trait", "impl") else ()
+            members = [item(at.start() + 4, at[2], at[3], None, bool(at[1]) or kind == "trait") for at in inner]
+            self.items.append(item(it.start(), kind, it["name"] or it["of"], it["trait"], bool(it["public"]), members))
+
+    def laws(self):
+        """Each law: a function of a module `laws`."""
+        return [it for it in self.items if (it.kind, it.file) == ("fn", "laws.rt") and it.public]
+
+    def function(self, crate, name):
+        found = [it for it in self.items if (it.kind, it.crate, it.name) == ("fn", crate, name) and it.public]
+        if len(found) != 1:
+            raise ValueError(f"{crate} has {len(found)} functions {name}")
+        return found[0]
+
+    def named(self, item):
+        """The traits, types and models that an item names outside its clauses: its crate's own or else another's."""
+        # The name of an enum's variant is no type's.
+        said = re.sub(r"(?m)^    [A-Z]\w*", "", item.around) if item.kind == "enum" else item.around
+        for name in re.findall(r"\b[A-Z]\w*", said):
+            found = [it for it in self.called if it.name == name]
+            found = [it for it in found if it.crate == item.crate] or found
+            if len({it.crate for it in found}) > 1:
+                raise ValueError(f"{name}, which {item.name} of {item.crate} names, is of several crates")
+            yield from found
+
+    def declared(self, module, name):
+        """What a module of definitions that the toolchain makes of the code declares, and what that names."""
+        of = re.match(r"Rattle\.(\w+)\.specs\.declared\b", module)
+        if not of or not any(it.crate == of[1] for it in self.items):
+            return []
+        found = DECLARED.fullmatch(module)
+        if not found:
+            raise ValueError(f"what {module} declares can't be read")
+        crate, file, owner = found.groups()
+        wanted = crate, file.replace(".", "/") + ".rt", name if owner == "TheConstants" else owner
+        item = next(it for it in self.items if (it.crate, it.file, it.name) == wanted)
+        if item.kind == "const" and re.search(r"\b[A-Z][A-Z_]+\b", re.sub(r'"(?:\\.|[^"\\])*"', "", item.text[6:].split("=")[1])):
+            raise ValueError(f"a constant that names another can't be read: {item.text}")
+        return self.reached(item)
+
+    def reached(self, function):
+        """A function, and what its contract's words mean: the traits that bound its parameters with those that these
+        name, and the models of the types of its parameters and of their members."""
+        found, left = [], [function]
+        while left:
+            item = left.pop(0)
+            if item not in found:
+                found.append(item)
+                left.extend(self.named(item))
+        return found
+
+
+# Definitions.
+
+START = re.compile(r"(?:abbrev|unfoldable|irreducible|infixl|infixr|infix|pub|record|data)(?= (?!use |mod ))")
+NAMED = re.compile(r"(?:(?:abbrev|unfoldable|irreducible) )*(?:pub )?(?:(record|data) )?([^\s:({]+)")
+WORD = r'[^\s(){}\[\];,.:λ→×⊎"]+'
+# A comment, a text, or a name with what follows it behind a dot.
+TOKEN = re.compile(rf'--[^\n]*|"(?:\\.|[^"\\])*"|({WORD})(?:\.({WORD}))?(?:\.{WORD})*')
+
+
+def imports_of(line):
+    """The names that a `use` line brings in, each with a module and the name there, which a module itself hasn't."""
+    said = re.match(r"(?:pub\s+)?use\s+([\w.-]+?)(?:\.\{(.*)\}|\s+as\s+(\S+?))?\s*;?$", line)
+    if not said:
+        raise ValueError(f"this is no line of names: {line}")
+    module, names, alias = said.groups()
+    if module and names is None:
+        yield alias or module.split(".")[-1], (module, None)
+    for name in (names or "").split(","):
+        name, _, other = name.strip().partition(" as ")
+        if name:
+            yield (other or name).strip(), (module, name)
+
+
+def spellings(name):
+    """How a name may stand in a `use` line or a declaration: as it is, or as an operator; `do` stands for one."""
+    return ("◌>>=◌",) if name == "do" else (name, f"◌{name}◌", f"{name}◌", f"◌{name}")
+
+
+def names_in(text):
+    """The names in a text, each with the one behind its dot."""
+    return {(it[1], it[2]) for it in TOKEN.finditer(text) if it[1]}
+
+
+def origins_in(text, imports):
+    """The names in a text that are brought in, each with where it comes from."""
+    named = {spelled for name, _ in names_in(text) for spelled in spellings(name)}
+    return {spelled: imports[spelled] for spelled in sorted(named & imports.keys())}
+
+
+class Definition:
+    """A definition: its name, its place in its file, and its lines: the comment above it, what fixes it as an operator,
+    and itself."""
+
+    def __init__(self, module, kind, name, comment, fixity, lines):
+        self.module, self.kind, self.name, self.place = module, kind, name, len(module.definitions)
+        self.size = len(comment) + len(lines)
+        self.lines = [*comment, *fixity, *lines]
+        self.text = "\n".join(lines)
+
+    @property
+    def file(self):
+        return self.module.crate, self.module.file
+
+    def origins(self):
+        """Where the names in it come from that a `use` line brings in."""
+        return origins_in(self.text, self.module.imports)
+
+    def constructors(self):
+        """The constructors of a type."""
+        return re.findall(r"^  (?:pub )?(\S+) :", self.text, re.MULTILINE) if self.kind == "data" else []
+
+
+class Module:
+    """A file of `specs/`."""
+
+    def __init__(self, crate, file, path):
+        self.crate, self.file = crate, file
+        self.name = f"Rattle.{crate}.specs.{file.replace('/', '.')}"
+        self.imports, self.definitions, self.head = {}, {}, []
+        self.read(text_of(path).split("\n"))
+
+    def read(self, lines):
+        comment, fixity, block = [], [], []
+        for line in [*lines, ""]:
+            starts = bool(START.match(line))
+            if block and (not line.strip() or starts or line.startswith("--")):
+                self.add(comment, fixity, block)
+                comment, fixity, block = [], [], []
+            if not line.strip() or re.match(r"(pub )?use ", line):
+                self.imports.update(imports_of(line) if line.strip() else [])
+                self.head = self.head or ([] if self.definitions else comment)
+                comment = []
+            elif line.startswith("--"):
+                comment.append(line)
+            elif line.startswith("infix"):
+                fixity.append(line)
+            elif starts or block:
+                block.append(line)
+            elif not line.startswith("pub mod "):
+                raise ValueError(f"in {self.name} this belongs to no definition: {line}")
+
+    def add(self, comment, fixity, block):
+        kind, name = NAMED.match(block[0]).groups()
+        self.definitions[name] = Definition(self, kind, name, comment, fixity, block)
+
+
+class Specs:
+    """All definitions of the repository."""
+
+    def __init__(self):
+        self.modules = {it.name: it for it in (Module(*found) for found in files("specs", ".antt"))}
+        every = [it for module in self.modules.values() for it in module.definitions.values()]
+        self.owners = {(it.module.name, name): it for it in every for name in it.constructors()}
+
+    def find(self, module, name):
+        """The definition of that name in a module, or that of the type whose constructor it is."""
+        there = self.modules.get(module)
+        for spelled in spellings(name) if there else ():
+            found = there.definitions.get(spelled) or self.owners.get((module, spelled))
+            if found:
+                return found
+            if there.imports.get(spelled, (None, None))[1]:
+                return self.find(*there.imports[spelled])
+        return None
+
+    def origin(self, module, name):
+        """Where a name of a module comes from, through files that only hand it on."""
+        there = self.modules.get(module)
+        while there and name not in there.definitions and name in there.imports:
+            module, name = there.imports[name]
+            there = self.modules.get(module)
+        return module, name
+
+    def named(self, text, find, imports):
+        """The definitions that a text names, where `find` finds those of its names, and where these are imported."""
+        for name, field in names_in(text):
+            found = find(name) or field and name in imports and self.find(imports[name][0], field)
+            if found:
+                yield found
+
+    def meant(self, definition):
+        """The definitions that this one refers to; in its own file the toolchain lets it use only what stands above."""
+        module = definition.module
+        named = self.named(definition.text, lambda name: self.find(module.name, name), module.imports)
+        return {it for it in named if it.module is not module or it.place < definition.place}
+
+    def reached(self, first):
+        """All definitions that these reach."""
+        seen, left = set(), list(first)
+        while left:
+            definition = left.pop()
+            if definition not in seen:
+                seen.add(definition)
+                left.extend(self.meant(definition))
+        return seen
