@@ -1,5 +1,5 @@
 -- `check_one`: a new checker that runs to its end, by induction on its steps, after its manifest was opened.
-use Rattle.std.proofs.Common.{rules, ◌++◌, ◌≡◌, ℕ, ◌||◌, Bool, true, false, List, [], ◌∷◌, Option, None, Some, Result, Ok, Err, cond, refl, sym, ◌∙◌, subst, codes, option_map, IfSome}
+use Rattle.std.proofs.Common.{rules, ap, ◌++◌, ◌≡◌, ℕ, ◌||◌, Bool, true, false, List, [], ◌∷◌, Option, None, Some, Result, Ok, Err, cond, refl, sym, ◌∙◌, subst, codes, option_map, IfSome}
 use Rattle.std.proofs.Math.Bool.{or-false}
 use Rattle.sum_engine.specs.Behavior.{Fault, World, is_dash, reply, after, Step, Behavior, events_of}
 use Rattle.sum_sources.specs.declared.sources.source.OpenFault.{OpenFault}
@@ -10,7 +10,8 @@ use Rattle.digest_kinds.specs.Limits.{one_more}
 use Rattle.sum_lines.specs.Escape.{present}
 use Rattle.sum_engine.specs.check.CheckerSteps.{Progress, Going, Ended, CheckState, initial_state, IsAtStart, state_at, StepIsIfKnown, remaining_behavior, CursorValue, check_state}
 use Rattle.sum_engine.specs.check.Verdicts.{Rules, all_verdicts}
-use Rattle.sum_engine.specs.Execution.{Stop, Memory, Write, StreamsState, KnownState, known_state, Happened, PerformsSteps}
+use Rattle.sum_engine.specs.Execution.{Phase, Reading, Stop, Memory, Write, StreamsState, KnownState, known_state, Happened, PerformsSteps}
+use Rattle.sum_sources.specs.LineReaders.{ReadSoFar, IsReadSoFar}
 use Rattle.sum_engine.specs.refinement.FlushedWrites.{WritesOrPrefix}
 use Rattle.sum_engine.specs.Generation.{fault_line}
 use Rattle.sum_engine.specs.check.Reports.{LabelsValue}
@@ -56,6 +57,13 @@ pub comes_none : {I : Type 0} (state : I → InputState) (r : Rules) (labels : L
 comes_none state r labels p input s start = rw start.remaining
     (comes_initial r labels p (option_map clip (state input).content) s
     (λ c s. rw (start.reader, start.form, start.counts) refl))
+
+-- at the start the input was read as far as the answers say, if nothing of it was read
+pub phase-initial : {I : Type 0} (state : I → InputState) (p : CursorValue I) → IsAtStart state p p.reader.input
+    → (state p.reader.input).phase ≡ Reading → IsReadSoFar state p.reader
+phase-initial state p start reading =
+    let none = ap (λ r. r.final_answer) start.reader in
+    subst (λ f. ReadSoFar f (state p.reader.input).phase) (sym none) reading
 
 -- a step that goes on comes one line further
 pub comes_more : (q r : Rules) (own labels : LabelsValue) (c : Option Content) (s : Option KnownState)
@@ -188,21 +196,30 @@ dash_worlds name None c dash = tt
 dash_worlds name (Some s) None dash = tt
 dash_worlds name (Some s) (Some c) dash = (dash_asked s.answer s.asked c name dash, refl)
 
+-- streams from which standard input was taken
+abbrev taken_from : {S : Type 0} → StreamsState S → Option Phase → StreamsState S
+taken_from a p = record a { input = Some empty_content; stdin_taken = true; stdin_phase = p }
+
 -- the manifest is standard input, which is taken then
-dash_opened : {S : Type 0} (state : S → SourceState) (name : List ℕ) (a : StreamsState S) → is_dash name ≡ true
-    → IfKnown (known_state state a) (known_state state (record a { input = Some empty_content; stdin_taken = true }))
-    (IsOpened name a.input)
-dash_opened {S} state name a dash = search rules
+dash_opened : {S : Type 0} (state : S → SourceState) (name : List ℕ) (a : StreamsState S) (p : Option Phase)
+    → is_dash name ≡ true → IfKnown (known_state state a) (known_state state (taken_from a p)) (IsOpened name a.input)
+dash_opened {S} state name a p dash = search rules
+
+-- the last state may be another, of which the same is known
+as_known : {S : Type 0} (state : S → SourceState) (k : Call) (a b last : StreamsState S) (x : Result Bool Stop)
+    → known_state state last ≡ known_state state b → CheckGives state k a b x → CheckGives state k a last x
+as_known state k a b last x same h = subst (λ t. IfKnown (known_state state a) t (λ s t.
+    let all = check_behavior k.settings k.tool s.world k.name in PerformsSteps all.steps all.good s t x)) (sym same) h
 
 -- so what the checker does with standard input is what the call does
-pub check_dash : {S : Type 0} (state : S → SourceState) (k : Call) (a b : StreamsState S) (x : Result Bool Stop)
-    (r : Rules) → r ≡ rules_if k true → is_dash k.name ≡ true
-    → Checks state r (labels_if k true) (option_map clip a.input)
-    (record a { input = Some empty_content; stdin_taken = true }) b x → CheckGives state k a b x
-check_dash {S} state k a b x r rules dash run =
-    let asked : StreamsState S = record a { input = Some empty_content; stdin_taken = true } in
-    check_gives state k true a.input a asked b x dash (dash_opened state k.name a dash)
-    (subst (λ r. Checks state r (labels_if k true) (option_map clip a.input) asked b x) rules run)
+pub check_dash : {S : Type 0} (state : S → SourceState) (k : Call) (a b last : StreamsState S) (p : Option Phase)
+    (x : Result Bool Stop) (r : Rules) → r ≡ rules_if k true → is_dash k.name ≡ true
+    → known_state state last ≡ known_state state b
+    → Checks state r (labels_if k true) (option_map clip a.input) (taken_from a p) b x → CheckGives state k a last x
+check_dash {S} state k a b last p x r rules dash same run =
+    as_known state k a b last x same (check_gives state k true a.input a (taken_from a p) b x dash
+    (dash_opened state k.name a p dash)
+    (subst (λ r. Checks state r (labels_if k true) (option_map clip a.input) (taken_from a p) b x) rules run))
 
 -- opening a name, as the world sees it
 abbrev OpensIn : {F : Type 0} → (F → InputState) → List ℕ → Result F OpenFault → World → World → Type 0
@@ -244,17 +261,17 @@ file_opened : {F S : Type 0} (content : F → InputState) (state : S → SourceS
 file_opened content state name a source file dash h refusals = search rules
 
 -- so what the checker does with it is what the call does
-pub check_file : {F S : Type 0} (content : F → InputState) (state : S → SourceState) (k : Call) (a b : StreamsState S)
-    (source : S) (file : F) (x : Result Bool Stop) (r : Rules) → r ≡ rules_if k false → is_dash k.name ≡ false
+pub check_file : {F S : Type 0} (content : F → InputState) (state : S → SourceState) (k : Call)
+    (a b last : StreamsState S) (source : S) (file : F) (x : Result Bool Stop) (r : Rules) → r ≡ rules_if k false → is_dash k.name ≡ false
     → IfKnown (state a.source).known (state source).known (λ s t. OpenOf content s t k.name (Ok file))
     → (state source).refusals ≡ (state a.source).refusals
     → Checks state r (labels_if k false) (option_map clip (content file).content)
-    (record a { source = source }) b x → CheckGives state k a b x
-check_file {S = S} content state k a b source file x r rules dash h refusals run =
+    (record a { source = source }) b x → known_state state last ≡ known_state state b → CheckGives state k a last x
+check_file {S = S} content state k a b last source file x r rules dash h refusals run same =
     let asked : StreamsState S = record a { source = source } in
-    check_gives state k false (content file).content a asked b x dash
+    as_known state k a b last x same (check_gives state k false (content file).content a asked b x dash
     (file_opened content state k.name a source file dash h refusals)
-    (subst (λ r. Checks state r (labels_if k false) (option_map clip (content file).content) asked b x) rules run)
+    (subst (λ r. Checks state r (labels_if k false) (option_map clip (content file).content) asked b x) rules run))
 
 -- the manifest could not be opened, and the line of its fault was handed on, or a prefix of it
 pub refused : {F S : Type 0} (content : F → InputState) (state : S → SourceState) (k : Call) (a : StreamsState S)

@@ -7,7 +7,7 @@ use Rattle.std.proofs.Math.Bool.{or_assoc}
 use Rattle.std.proofs.lemmas.List.{map-append}
 use Rattle.std.proofs.lemmas.List.Elements.{filter_map-append}
 use Rattle.std.proofs.lemmas.List.Folds.{list_any-append}
-use Rattle.sum_sources.specs.Contents.{IfKnown, SourceState, KnownSource, Content}
+use Rattle.sum_sources.specs.Contents.{IfKnown, InputState, StdinValue, stdin_state, stdin_taken as taken, stdin_phase as phase, SourceState, KnownSource, Content}
 use Rattle.digest_kinds.specs.Limits.{one_more}
 use Rattle.sum_lines.specs.sinks.Sinks.{SinkState}
 use Rattle.sum_lines.specs.refinement.SinkStates.{AppendsPrefix}
@@ -189,6 +189,17 @@ known state m w = record {
   stdin_taken = m.stdin_taken;
   err = m.err;
   out = m.out;
+}
+
+-- the state of the streams that a call has
+abbrev pub streams_of : {I S : Type 0} → (I → InputState) → StdinValue I → S → SinkState → SinkState → StreamsState S
+streams_of state stdin source err out = record {
+  source = source;
+  input = (stdin_state state stdin).content;
+  stdin_taken = taken stdin;
+  stdin_phase = phase state stdin;
+  err = err;
+  out = out;
 }
 
 -- known_state by the world, if that is known

@@ -1,5 +1,6 @@
 pub mod WorldLemmas
 pub mod ExecutionLemmas
+pub mod ReadToEndLemmas
 pub mod GenerateLemmas
 pub mod FlushedWriteLemmas
 pub mod VerdictLemmas

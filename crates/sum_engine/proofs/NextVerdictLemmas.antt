@@ -1,23 +1,28 @@
 -- `CheckCursor::next_verdict`: the next verdict of a manifest, by what reading and judging its line did.
-use Rattle.std.proofs.Common.{rules, ◌≡◌, ℕ, ◌≤◌, ◌||◌, List, [], ◌∷◌, length, map, slice_range, Option, Some, Ok, Err, refl, ap, sym, ◌∙◌, inl, append-nil}
+use Rattle.std.proofs.Common.{rules, ◌≡◌, ℕ, ◌+◌, ◌≤◌, ◌||◌, true, false, List, [], ◌∷◌, length, map, slice_range, Option, Some, Result, Ok, Err, refl, ap, sym, ◌∙◌, subst, arith, inl, append-nil}
 use Rattle.std.specs.List.{list_any}
 use Rattle.std.proofs.KnownBytes.{Appends-nil}
 use Rattle.sum_sources.specs.declared.line_reader.LineStop.TheVariants.{Memory}
 use Rattle.sum_sources.specs.Contents.{InputState, IfKnown, SourceState}
+use Rattle.sum_sources.specs.declared.line_reader.Next.{Next}
+use Rattle.sum_sources.specs.declared.line_reader.Next.TheVariants.{Line, NoMore}
+use Rattle.sum_sources.specs.declared.line_reader.LineStop.{LineStop}
+use Rattle.sum_sources.specs.ManifestLines.{lines_after}
+use Rattle.sum_sources.specs.LineReaders.{AdvancesLines, Bounded, FinalAnswerAfter}
 use Rattle.sum_sources.specs.declared.line_reader.LineReader.{LineReader}
 use Rattle.sum_sources.proofs.LineLemmas.{line-some}
 use Rattle.sum_lines.specs.grammar.ParsedLines.{ParsedLine}
-use Rattle.sum_engine.specs.check.Reports.{CountsValue}
+use Rattle.sum_engine.specs.check.Reports.{CountsValue, is_unread}
 use Rattle.sum_engine.specs.check.NextVerdict.{LineVerdict, OnlyRefused, line_verdict_value, NextVerdictIfKnown}
-use Rattle.sum_engine.specs.check.Verdicts.{Verdict, LineVerdictValue, judge, asks_of}
+use Rattle.sum_engine.specs.check.Verdicts.{Verdict, Ignored, Bad, Right, Wrong, Missing, Unread, LineVerdictValue, judge, asks_of}
 use Rattle.sum_engine.specs.Behavior.{World, is_dash, after, open_name}
-use Rattle.sum_engine.specs.Execution.{StreamsState, known_state, Happened}
+use Rattle.sum_engine.specs.Execution.{Stop, StreamsState, known_state, Happened, ReadToEnd}
 use Rattle.sum_engine.specs.refinement.HashName.{world_of}
-use Rattle.sum_engine.specs.check.CheckerSteps.{CursorValue, counts_with, state_at, check_state, CheckState, next_judged, remaining_verdicts}
+use Rattle.sum_engine.specs.check.CheckerSteps.{Progress, Going, Ended, AdvancesCursor, ReadsListedFile, CursorValue, counts_with, state_at, check_state, CheckState, next_judged, remaining_verdicts}
 use Rattle.sum_engine.specs.refinement.Judging.{IsJudged, name_in_line, TakesLine, JudgeLineOf, parsed_at}
 use Rattle.sum_engine.proofs.ExecutionLemmas.{events_by, where_known, names-by, did_by}
 use Rattle.sum_engine.proofs.RestLemmas.{rest_on}
-use Rattle.sum_engine.proofs.StepLemmas.{check_state-made, ReadsLine, read_line, line_handled}
+use Rattle.sum_engine.proofs.StepLemmas.{check_state-made, ReadsLine, line_handled}
 
 -- a line was judged, and its name is at a range of the vector
 pub judged-line : {I : Type 0} (p : CursorValue I) (line : List ℕ) (said : ParsedLine) (k : ℕ) (d : CountsValue)
@@ -51,8 +56,7 @@ next_verdict-line {I} input state p q reader a b line vector v reads takes few h
           (rw err (Appends-nil a.err.written)) (rw out (Appends-nil a.out.written)),
       judged.2,
     )) in
-    let took = read_line input p reader line reads in
-    rw takes.reader (check_state-made input p then (known_state state a) (known_state state b) _ took found
+    rw takes.reader (check_state-made input p then (known_state state a) (known_state state b) _ reads.next found
     (λ c d s t took found.
     let found' = rw reads.number at found in
     let first : CheckState = state_at p c s in
@@ -80,4 +84,57 @@ pub next_verdict-refused : {I S : Type 0} (input : I → InputState) (state : S 
 next_verdict-refused {I} input state p q reader a b line vector reads is refused =
     let then : CursorValue I = record q { reader = reader } in
     rw is (check_state-made input p then (known_state state a) (known_state state b) _ reads.next refused
-    (λ c d s t came refused. (inl refused, line-some c d line came)))
+    (λ c d s t next refused. (inl refused, line-some c d line next.0)))
+
+-- ---- known or not
+
+-- how the place advanced, by what the reader returned
+pub cursor-advanced : {I : Type 0} (state : I → InputState) (p q : CursorValue I) (reader : LineReader I)
+    (n : Result Next LineStop) (x : Result Progress Stop) → q.reader ≡ reader → q.rules ≡ p.rules
+    → AdvancesLines state p.reader reader n
+    → IfKnown (state p.reader.input).content (state reader.input).content
+    (λ c d. reader.taken + length d.bytes ≡ p.reader.taken + length c.bytes)
+    → Bounded reader → (x ≡ Ok Going → n ≡ Ok Line) → (x ≡ Ok (Ended true) → n ≡ Ok NoMore)
+    → AdvancesCursor state p q x
+cursor-advanced {I} state p q reader n x is rules lines sum bounds going ended =
+    let then : CursorValue I = record q { reader = reader } in
+    let made : AdvancesCursor state p then x = record {
+      rules = rules;
+      taken = sum;
+      number = λ e. lines.lines ∙ ap (lines_after p.reader.lines) (going e);
+      phase = lines.phase;
+      end = λ e. subst (λ n. FinalAnswerAfter n reader.final_answer) (ended e) lines.final_answer;
+      ahead = lines.ahead;
+      bounds = bounds;
+    } in
+    subst (λ r. AdvancesCursor state p (record q { reader = r }) x) (sym is) made
+
+-- a verdict leaves the number of unread files or counts one more
+unread-grows : (c : CountsValue) (v : Verdict) → c.unread ≤ (counts_with c v).unread
+unread-grows c Ignored = omega arith
+unread-grows c Bad = omega arith
+unread-grows c Right = omega arith
+unread-grows c Wrong = omega arith
+unread-grows c Missing = omega arith
+unread-grows c (Unread f) = omega arith
+
+unread-same : (c : CountsValue) (v : Verdict) → (counts_with c v).unread ≡ c.unread → is_unread v ≡ false
+unread-same c Ignored h = refl
+unread-same c Bad h = refl
+unread-same c Right h = refl
+unread-same c Wrong h = refl
+unread-same c Missing h = refl
+unread-same c (Unread f) h = absurd (omega (arith, h))
+
+-- how far the file was read whose line has this verdict
+pub files-found : {I S : Type 0} (state : S → SourceState) (p q : CursorValue I) (a b : StreamsState S) (v : LineVerdict)
+    (x : Result Progress Stop) → q.counts ≡ counts_with p.counts v.verdict
+    → (is_unread v.verdict ≡ false → ReadToEnd state a b)
+    → (p.rules.from_stdin ≡ true → (b.stdin_taken ≡ a.stdin_taken) × (b.stdin_phase ≡ a.stdin_phase))
+    → (x ≡ Ok (Ended true) → ⊥) → ReadsListedFile state p q a b x
+files-found state p q a b v x counted read stdin going = record {
+  unread = subst (λ c. p.counts.unread ≤ c.unread) (sym counted) (unread-grows p.counts v.verdict);
+  read_to_end = λ same. read (unread-same p.counts v.verdict (ap (λ c. c.unread) (sym counted) ∙ same));
+  stdin = stdin;
+  good = λ e. absurd (going e);
+}

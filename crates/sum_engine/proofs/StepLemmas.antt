@@ -80,9 +80,7 @@ known_state-made state q z a s P R h f = both-second (remaining_content state q.
 pub record ReadsLine {I : Type 0} (state : I → InputState) (p : CursorValue I) (reader : LineReader I) (line : List ℕ)
     : Type 0 where
   pub next : IfKnown (remaining_content state p.reader) (remaining_content state reader)
-      (λ c d. NextLineIs c d (Ok Line) line)
-  pub sum : IfKnown (remaining_content state p.reader) (remaining_content state reader)
-      (λ c d. consumed reader + length d.bytes ≡ consumed p.reader + length c.bytes)
+      (λ c d. NextLineIs c d (Ok Line) line × (consumed reader + length d.bytes ≡ consumed p.reader + length c.bytes))
   pub number : reader.lines ≡ p.reader.lines + 1
   pub ahead : length reader.ahead ≤ 8192
   pub profile : p.rules.profile ≡ present
@@ -90,12 +88,6 @@ pub record ReadsLine {I : Type 0} (state : I → InputState) (p : CursorValue I)
 -- the lines of a content under the present profile
 pub lines_now : (r : Rules) (c : Content) → r.profile ≡ present → lines_by r.profile c ≡ lines c
 lines_now r c h = rw h refl
-
--- both facts of the contents together
-pub read_line : {I : Type 0} (state : I → InputState) (p : CursorValue I) (reader : LineReader I) (line : List ℕ)
-    → ReadsLine state p reader line → IfKnown (remaining_content state p.reader) (remaining_content state reader)
-    (λ c d. NextLineIs c d (Ok Line) line × (consumed reader + length d.bytes ≡ consumed p.reader + length c.bytes))
-read_line state p reader line h = search rules
 
 -- a line was handled: it was read, and then its form was taken over and its verdict counted
 abbrev pub line_handled : {I : Type 0} (state : I → InputState) (p q : CursorValue I) (reader : LineReader I)

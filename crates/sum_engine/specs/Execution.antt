@@ -1,20 +1,24 @@
 -- The state of a call's streams, and what a call performs of a behavior: the form of the headline.
-use Rattle.std.specs.Prelude.{ℕ, ◌≡◌, ◌⊎◌, Bool, [], Option, Some, Result, Err, ◌<◌, ◌||◌, List, ◌∷◌, ◌++◌, filter_map, Ok}
+use Rattle.std.specs.Prelude.{ℕ, ◌≡◌, ◌⊎◌, zero, suc, Bool, true, false, [], Option, Some, Result, Err, ◌<◌, ◌||◌, List, ◌∷◌, ◌++◌, filter_map, Ok}
 use Rattle.std.specs.List.{list_any}
 use Rattle.std.specs.Io.KnownBytes.{Appends}
 use Rattle.digest_kinds.specs.Limits.{one_more}
 use Rattle.sum_sources.specs.Contents.{Content, SourceState, IfKnown}
+pub use Rattle.sum_sources.specs.declared.inputs.phase.Phase.{Phase}
+pub use Rattle.sum_sources.specs.declared.inputs.phase.Phase.TheVariants.{Reading, Ended}
 use Rattle.sum_lines.specs.sinks.Sinks.{SinkState, IsPrefix}
 use Rattle.sum_lines.specs.grammar.LineParts.{◌>>=◌}
 pub use Rattle.sum_engine.specs.declared.stop.Stop.{Stop}
 pub use Rattle.sum_engine.specs.declared.stop.Stop.TheVariants.{Memory, Write}
 use Rattle.sum_engine.specs.Behavior.{World, is_dash, after, Event, Step, Behavior, trace, name_in, err_in, out_in}
 
--- the source itself; what standard input has left, if known, and whether it was taken; both outputs
+-- the source itself; what standard input has left, if known, whether it was taken, and how far it was read, until it is
+-- taken and again once it is put back; both outputs
 pub record StreamsState (S : Type 0) : Type 0 where
   pub source : S
   pub input : Option Content
   pub stdin_taken : Bool
+  pub stdin_phase : Option Phase
   pub err : SinkState
   pub out : SinkState
 
@@ -55,6 +59,24 @@ pub record StopHasCause {S A : Type 0} (state : S → SourceState) (Changes : �
 -- out of memory left both outputs as they were
 abbrev pub NoOutputOnMemory : {S A : Type 0} → StreamsState S → StreamsState S → Result A Stop → Type 0
 NoOutputOnMemory a b r = r ≡ Err Memory → (b.out ≡ a.out) × (b.err ≡ a.err)
+
+-- a count after n more
+abbrev pub raised : ℕ → ℕ → ℕ
+raised zero count = count
+raised (suc n) count = one_more (raised n count)
+
+-- standard input was not taken, and nothing of it was read; or it was taken, and read to its end
+abbrev pub IsStdinWhole : {S : Type 0} → StreamsState S → Type 0
+IsStdinWhole a = ((a.stdin_taken ≡ false) × (a.stdin_phase ≡ Some Reading))
+    ⊎ ((a.stdin_taken ≡ true) × (a.stdin_phase ≡ Some Ended))
+
+-- READ TO THE END, known or not: each file that was opened was closed after its reads had given its end once; none of
+-- them failed, and it was not read again. So was standard input, if it was taken
+pub record ReadToEnd {S : Type 0} (state : S → SourceState) (a b : StreamsState S) : Type 0 where
+  pub number : ℕ  -- of these files
+  pub opened : (state b.source).opened ≡ raised number (state a.source).opened
+  pub ended : (state b.source).ended ≡ raised number (state a.source).ended
+  pub stdin : IsStdinWhole a → IsStdinWhole b
 
 -- a state whose world is known
 pub record KnownState : Type 0 where

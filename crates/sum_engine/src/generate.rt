@@ -1,10 +1,10 @@
 //! Hashing one name.
-ghost use Rattle.std.specs.Prelude.{◌≡◌, ◌||◌, Err, OnOk, length};
+ghost use Rattle.std.specs.Prelude.{◌≡◌, ◌||◌, true, Ok, Err, OnOk, length};
 ghost use Rattle.sum_engine.specs.Behavior.{is_dash};
 ghost use Rattle.sum_lines.specs.Lines.{line};
 ghost use Rattle.sum_engine.specs.Generation.{generate_behavior};
 ghost use Rattle.sum_engine.specs.refinement.FlushedWrites.{WritesAndFlushes};
-ghost use Rattle.sum_engine.specs.Execution.{IsFlushed, FailuresMatch, OneMore, RefusalsMatch, NoOutputOnMemory, Performs};
+ghost use Rattle.sum_engine.specs.Execution.{IsFlushed, FailuresMatch, ReadToEnd, OneMore, RefusalsMatch, NoOutputOnMemory, Performs};
 
 use crate::check::report::put_fault_line;
 use crate::hash_name::hash_name;
@@ -33,6 +33,8 @@ pub fn generate_one<I: Input + Drop, S: Source, O: Sink, E: Sink>(
     ensures refusals { RefusalsMatch S.state OneMore streams.old streams.new result }
     ensures failures { FailuresMatch streams.old streams.new result }
     ensures stdin_taken { OnOk result (streams.new.stdin_taken ≡ streams.old.stdin_taken || is_dash name.now) }
+    // Known or not: true only if the file, or standard input, was read to its end.
+    ensures read_to_end { result ≡ Ok true → ReadToEnd S.state streams.old streams.new }
     ensures no_output_on_memory { NoOutputOnMemory streams.old streams.new result }
 {
     let mut buffer = [0; PIECE];

@@ -1,5 +1,6 @@
 //! Hashing one name.
-ghost use Rattle.std.specs.Prelude.{◌≡◌, ◌||◌, [], IfNone, IfSome, is_none};
+ghost use Rattle.std.specs.Prelude.{◌≡◌, ◌||◌, [], false, IfNone, IfSome};
+ghost use Rattle.sum_sources.specs.Contents.{stdin_taken};
 ghost use Rattle.sum_engine.specs.Behavior.{is_dash};
 ghost use Rattle.sum_engine.specs.check.NextVerdict.{lent_streams};
 
@@ -36,7 +37,8 @@ pub(crate) fn is_dash(name: &[u8]) -> bool
     name == b"-".as_slice()
 }
 
-ghost use Rattle.sum_engine.specs.refinement.HashName.{HashesNameIfKnown, IsRead, RefusedUnless, HasKindLen, digest_of_outcome, world_of};
+ghost use Rattle.sum_engine.specs.refinement.HashName.{HashesNameIfKnown, IsRead, RefusedUnless, UnlessBroken, HasKindLen, digest_of_outcome, world_of};
+ghost use Rattle.sum_engine.specs.Execution.{ReadToEnd, Reading, Ended};
 
 /// Opens the name (`-` is standard input) and hashes it, through the buffer. `None` if the source is out of memory; the
 /// name is then not recorded as asked.
@@ -49,32 +51,43 @@ pub(crate) fn hash_name<I: Input + Drop, S: Source>(
 ) -> Option<HashOutcome>
     ensures outcome { HashesNameIfKnown kind (world_of S.state (lent_streams I.state stdin.old source.old))
         (world_of S.state (lent_streams I.state stdin.new source.new)) name.now result }
-    ensures stdin_taken { is_none stdin.new ≡ is_none stdin.old || is_dash name.now }
+    ensures stdin_taken { stdin_taken stdin.new ≡ stdin_taken stdin.old || is_dash name.now }
+    ensures other_name { is_dash name.now ≡ false → stdin.new ≡ stdin.old }
     ensures stdin_kept { IfNone result (stdin.new ≡ stdin.old) }
     ensures refusals { RefusedUnless (S.state source.old) (S.state source.new) result }
+    ensures read_to_end { UnlessBroken result
+        (ReadToEnd S.state (lent_streams I.state stdin.old source.old) (lent_streams I.state stdin.new source.new)) }
     ensures digest_len { HasKindLen kind result }
 {
     if is_dash(name) {
-        return Some(read_digest(stdin.take(), AnyHasher::new(kind), buffer));
+        let mut input = stdin.take();
+        let outcome = read_digest(&mut input, AnyHasher::new(kind), buffer);
+        stdin.put_back(input);
+        return Some(outcome);
     }
     match source.open_file(name) {
-        Ok(file) => Some(read_digest(file, AnyHasher::new(kind), buffer)),
+        Ok(mut file) => {
+            let outcome = read_digest(&mut file, AnyHasher::new(kind), buffer);
+            source.close_file(file);
+            Some(outcome)
+        }
         Err(OpenFault::Fault(fault)) => Some(HashOutcome::NotOpened(fault)),
         Err(OpenFault::Memory) => None,
     }
 }
 
 // The outcome of reading a file. It is given the file and the hasher, and can make neither: so a fault is final.
-fn read_digest<F: Input + Drop, H: Hasher + Drop>(
-    mut file: F,
+fn read_digest<F: Input, H: Hasher + Drop>(
+    file: &mut F,
     hasher: H,
     buffer: &mut [u8; PIECE],
 ) -> HashOutcome
     requires { H.holds hasher [] }
-    ensures outcome { IfSome (F.state file).content (λ c. IsRead (H.kind_of hasher) c result) }
+    ensures outcome { IfSome (F.state file.old).content (λ c. IsRead (H.kind_of hasher) c result) }
+    ensures phase { UnlessBroken (Some result) ((F.state file.old).phase ≡ Reading → (F.state file.new).phase ≡ Ended) }
     ensures digest_len { HasKindLen (H.kind_of hasher) (Some result) }
 {
-    match hash_input_over(&mut file, hasher, buffer) {
+    match hash_input_over(file, hasher, buffer) {
         Ok(digest) => HashOutcome::Read(digest),
         Err(fault) => HashOutcome::Broken(fault),
     }

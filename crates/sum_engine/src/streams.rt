@@ -18,8 +18,7 @@ pub struct Streams<I: Input, S, O: Sink, E: Sink> {
 }
 
 impl<I: Input, S, O: Sink, E: Sink> Model for Streams<I, S, O, E> {
-    ghost use Rattle.std.specs.Prelude.{is_none};
-    ghost use Rattle.sum_sources.specs.Contents.{stdin_state};
+    ghost use Rattle.sum_sources.specs.Contents.{stdin_state, stdin_taken, stdin_phase};
     ghost use Rattle.sum_engine.specs.Execution.{StreamsState};
 
     ghost Value = { StreamsState S };
@@ -27,7 +26,8 @@ impl<I: Input, S, O: Sink, E: Sink> Model for Streams<I, S, O, E> {
     ghost view = { λ s. record {
       source = s.source;
       input = (stdin_state I.state s.stdin).content;
-      stdin_taken = is_none s.stdin;
+      stdin_taken = stdin_taken s.stdin;
+      stdin_phase = stdin_phase I.state s.stdin;
       err = E.state s.err;
       out = O.state s.out;
     } };

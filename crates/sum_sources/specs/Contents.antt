@@ -1,5 +1,5 @@
 -- Contents of inputs, bytes and an ending, and what counts of them; what sources answer, and what they were asked.
-use Rattle.std.specs.Prelude.{ℕ, ◌≡◌, ◌<◌, ◌-◌, ◌^◌, List, [], ◌++◌, take, length, Option, None, Some, Result, Ok, Err, ⊤, nat_lt, if◌then◌else◌, codes, ◌∷◌, option_map}
+use Rattle.std.specs.Prelude.{ℕ, ◌≡◌, ◌<◌, ◌-◌, ◌^◌, List, [], ◌++◌, take, length, Option, None, Some, Result, Ok, Err, ⊤, nat_lt, if◌then◌else◌, codes, ◌∷◌, ◌||◌, Bool, is_none, is_some, option_map}
 use Rattle.std.specs.Option.{option_or}
 use Rattle.digest_kinds.specs.Kinds.{digest, KindValue}
 use Rattle.digest_kinds.specs.Limits.{one_more}
@@ -68,13 +68,17 @@ pub record StdinValue (I : Type 0) : Type 0 where
   pub input : Option I  -- its input, until that is taken
   pub returned : Option I  -- the input that was put back, if one was
 
--- the state of standard input: its input until that is taken; then nothing remains, and the phase is that of the input
--- that was put back
+-- the state of standard input as a source of bytes: its input until that is taken; then nothing remains
 abbrev pub stdin_state : {I : Type 0} → (I → InputState) → StdinValue I → InputState
-stdin_state state stdin = record {
-  content = (given_state state stdin.input).content;
-  phase = (given_state state (option_or stdin.input stdin.returned)).phase;
-}
+stdin_state state stdin = given_state state stdin.input
+
+-- whether standard input was taken
+abbrev pub stdin_taken : {I : Type 0} → StdinValue I → Bool
+stdin_taken stdin = is_none stdin.input || is_some stdin.returned
+
+-- how far standard input was read; nothing is known of it until it was put back
+abbrev pub stdin_phase : {I : Type 0} → (I → InputState) → StdinValue I → Option Phase
+stdin_phase state stdin = option_map (λ i. (state i).phase) (option_or stdin.returned stdin.input)
 
 -- the state of an input that may be closed: then only a fault remains, by which each read fails
 abbrev pub unless_closed : {I : Type 0} → (I → InputState) → Closable I → InputState

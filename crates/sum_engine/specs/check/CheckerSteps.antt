@@ -4,7 +4,8 @@ use Rattle.digest_kinds.specs.Limits.{one_more}
 use Rattle.sum_sources.specs.declared.line_reader.LineReader.{LineReader}
 use Rattle.sum_sources.specs.Contents.{Content, IfKnown, SourceState, InputState, clip}
 use Rattle.sum_sources.specs.ManifestLines.{past_line, NoNewline}
-use Rattle.sum_sources.specs.LineReaders.{remaining_content, consumed, Bounded}
+use Rattle.sum_sources.specs.declared.line_reader.Next.TheVariants.{NoMore}
+use Rattle.sum_sources.specs.LineReaders.{remaining_content, consumed, Bounded, IsReadSoFar}
 use Rattle.sum_lines.specs.declared.reading.read_line.Form.TheVariants.{Undecided}
 use Rattle.sum_lines.specs.grammar.Entries.{form_then, line_form, form}
 use Rattle.sum_lines.specs.grammar.LineParts.{◌>>=◌}
@@ -12,7 +13,7 @@ use Rattle.sum_lines.specs.grammar.ParsedLines.{parse_line}
 pub use Rattle.sum_engine.specs.declared.check.progress.Progress.{Progress}
 pub use Rattle.sum_engine.specs.declared.check.progress.Progress.TheVariants.{Going, Ended}
 use Rattle.sum_engine.specs.check.Verdicts.{Form, Verdict, Ignored, Bad, Right, Wrong, Missing, Unread, lines_by, Rules, LineVerdictValue, judge, verdicts}
-use Rattle.sum_engine.specs.Execution.{Stop, Memory, Write, KnownState, Happened, PrefixHappened, RefusedAt, StreamsState, IsFlushed, FailuresMatch, NoOutputOnMemory, known_state}
+use Rattle.sum_engine.specs.Execution.{Stop, Memory, Write, KnownState, Happened, PrefixHappened, RefusedAt, StreamsState, IsFlushed, FailuresMatch, NoOutputOnMemory, ReadToEnd, known_state}
 use Rattle.sum_engine.specs.check.Reports.{LabelsValue, CountsValue, counts_of, end_text, good}
 use Rattle.sum_engine.specs.Behavior.{Step, Behavior, events_of}
 use Rattle.sum_engine.specs.check.Checking.{line_steps}
@@ -197,19 +198,30 @@ pub record AdvancesCursor {I : Type 0} (state : I → InputState) (a b : CursorV
   pub taken : IfKnown (state a.reader.input).content (state b.reader.input).content
       (λ c d. b.reader.taken + length d.bytes ≡ a.reader.taken + length c.bytes)
   pub number : x ≡ Ok Going → b.reader.lines ≡ a.reader.lines + 1
-  -- no read failed if a line was handled, or the manifest is good
-  pub line_read : x ≡ Ok Going → (state b.reader.input).failed ≡ (state a.reader.input).failed
-  pub end_read : x ≡ Ok (Ended true) → (state b.reader.input).failed ≡ (state a.reader.input).failed
+  -- the input is read as far as the reader's answers say: if the manifest is good, to its end
+  pub phase : IsReadSoFar state a.reader → IsReadSoFar state b.reader
+  pub end : x ≡ Ok (Ended true) → b.reader.final_answer ≡ Some (Ok NoMore)
   -- if a whole line is read ahead, the input isn't read
   pub ahead : ¬ NoNewline a.reader.ahead → b.reader.input ≡ a.reader.input
   pub bounds : Bounded b.reader
 
--- what a step does to the checker and the outputs, known or not
+-- how far a step read the listed file that it opened, known or not
+pub record ReadsListedFile {I S : Type 0} (source : S → SourceState) (p q : CursorValue I) (a b : StreamsState S)
+    (x : Result Progress Stop) : Type 0 where
+  pub unread : p.counts.unread ≤ q.counts.unread
+  -- unless it is one more that could not be read, it was read to its end
+  pub read_to_end : q.counts.unread ≡ p.counts.unread → ReadToEnd source a b
+  -- the lines of standard input don't name it
+  pub stdin : p.rules.from_stdin ≡ true → (b.stdin_taken ≡ a.stdin_taken) × (b.stdin_phase ≡ a.stdin_phase)
+  pub good : x ≡ Ok (Ended true) → q.counts.unread ≡ 0
+
+-- what a step does to the checker, the files and the outputs, known or not
 pub record AdvancesChecker {I S : Type 0} (input : I → InputState) (source : S → SourceState) (p q : CheckerValue I)
     (a b : StreamsState S) (x : Result Progress Stop) : Type 0 where
   pub labels : q.labels ≡ p.labels
   pub final_answer : q.final_answer ≡ final_answer_of_step x
   pub cursor : AdvancesCursor input p.cursor q.cursor x
+  pub files : ReadsListedFile source p.cursor q.cursor a b x
   -- a stop has its cause: the source was refused memory, or bytes of the manifest remained; or an output failed
   pub out_of_memory : MemoryStopHasCause (source a.source) (source b.source) (remaining_content input p.cursor.reader) x
   pub failures : FailuresMatch a b x

@@ -1,16 +1,17 @@
 -- What the next verdict of a manifest is; no text is written.
-use Rattle.std.specs.Prelude.{ℕ, ◌≡◌, ◌≤◌, ◌<◌, ◌⊎◌, List, [], ◌∷◌, map, length, slice_range, Bool, true, false, is_none, Option, None, Some, Result, Ok, Err}
+use Rattle.std.specs.Prelude.{ℕ, ◌≡◌, ◌≤◌, ◌<◌, ◌⊎◌, List, [], ◌∷◌, map, length, slice_range, Bool, true, false, Option, None, Some, Result, Ok, Err}
 use Rattle.sum_engine.specs.Behavior.{Ending, Whole, Broken, open_name}
 pub use Rattle.sum_sources.specs.declared.line_reader.LineStop.{LineStop}
 use Rattle.sum_sources.specs.declared.line_reader.LineStop.TheVariants.{Fault, Memory}
-use Rattle.sum_sources.specs.Contents.{InputState, IfKnown, SourceState, stdin_state}
+use Rattle.sum_sources.specs.Contents.{InputState, IfKnown, SourceState, StdinValue, stdin_state, stdin_taken as taken, stdin_phase as phase}
 use Rattle.sum_sources.specs.LineReaders.{remaining_content}
 use Rattle.sum_lines.specs.sinks.Sinks.{SinkState}
 use Rattle.digest_kinds.specs.Limits.{one_more}
-use Rattle.sum_engine.specs.Execution.{StreamsState, KnownState, Stop, Happened}
+use Rattle.sum_engine.specs.Execution.{StreamsState, KnownState, Stop, Happened, ReadToEnd}
 use Rattle.sum_engine.specs.check.CheckerSteps.{Progress, Going, Ended, CheckState, CursorValue, counts_with, LineHandled, remaining_verdicts, AdvancesCursor, MemoryStopHasCause}
 pub use Rattle.sum_engine.specs.declared.check.judge.LineVerdict.{LineVerdict}
 use Rattle.sum_engine.specs.check.Verdicts.{Rules, LineVerdictValue, asks_of}
+use Rattle.sum_engine.specs.check.Reports.{CountsValue, is_unread}
 use Rattle.sum_engine.specs.declared.stop.Stop.TheVariants as stops
 
 -- what a call for the next verdict returns
@@ -18,11 +19,17 @@ abbrev pub VerdictResult : Type 0
 VerdictResult = Result (Option LineVerdict) LineStop
 
 -- the state of a call that is lent standard input and a source, and writes to no output
-abbrev pub lent_streams : {I S : Type 0} → (I → InputState) → Option I → S → StreamsState S
+abbrev pub lent_streams : {I S : Type 0} → (I → InputState) → StdinValue I → S → StreamsState S
 lent_streams state stdin source =
     let silent : SinkState = record { written = None; buffered = []; failures = 0 } in
-    let input = (stdin_state state stdin).content in
-    record { source = source; input = input; stdin_taken = is_none stdin; err = silent; out = silent }
+    record {
+      source = source;
+      input = (stdin_state state stdin).content;
+      stdin_taken = taken stdin;
+      stdin_phase = phase state stdin;
+      err = silent;
+      out = silent;
+    }
 
 -- the line's verdict, with its name in place of the name's range in the vector
 abbrev pub line_verdict_value : List ℕ → LineVerdict → LineVerdictValue
@@ -86,6 +93,16 @@ pub record VerdictsValue (I : Type 0) : Type 0 where
   pub cursor : CursorValue I
   pub final_answer : Option VerdictResult
 
+-- the counts after such a call
+abbrev pub counts_after : CountsValue → VerdictResult → CountsValue
+counts_after c (Ok (Some v)) = counts_with c v.verdict
+counts_after c x = c
+
+-- P, unless a listed file could not be read
+abbrev pub UnlessUnread : VerdictResult → Type 0 → Type 0
+UnlessUnread (Ok (Some v)) P = is_unread v.verdict ≡ false → P
+UnlessUnread x P = P
+
 -- what a call for the next verdict does, known or not
 pub record AdvancesVerdicts {I S : Type 0} (input : I → InputState) (source : S → SourceState) (p q : VerdictsValue I)
     (a b : StreamsState S) (x : VerdictResult) : Type 0 where
@@ -94,3 +111,5 @@ pub record AdvancesVerdicts {I S : Type 0} (input : I → InputState) (source : 
   -- out of memory only if the source was refused it, or bytes of the manifest remained
   pub out_of_memory : MemoryStopHasCause (source a.source) (source b.source) (remaining_content input p.cursor.reader)
       (progress_of x)
+  -- Right and Wrong only if the file that was opened was read to its end
+  pub read_to_end : UnlessUnread x (ReadToEnd source a b)

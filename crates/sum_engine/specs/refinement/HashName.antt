@@ -44,6 +44,11 @@ HashesName kind w v name (Some a) = (v ≡ after w (name ∷ [])) × IsHashOutco
 abbrev pub HashesNameIfKnown : KindValue → Option World → Option World → List ℕ → Option HashOutcome → Type 0
 HashesNameIfKnown kind w v name r = IfKnown w v (λ w v. HashesName kind w v name r)
 
+-- P, unless reading the file failed
+abbrev pub UnlessBroken : Option HashOutcome → Type 0 → Type 0
+UnlessBroken (Some (asked.Broken f)) P = ⊤
+UnlessBroken outcome P = P
+
 -- a digest of the outcome has the kind's length
 abbrev pub HasKindLen : KindValue → Option HashOutcome → Type 0
 HasKindLen kind None = ⊤

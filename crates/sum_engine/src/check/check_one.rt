@@ -2,7 +2,9 @@
 ghost use Rattle.std.specs.Option.{option_map};
 ghost use Rattle.sum_sources.specs.Contents.{clip};
 ghost use Rattle.sum_engine.specs.check.Checking.{check_behavior};
-ghost use Rattle.sum_engine.specs.Execution.{IsFlushed, FailuresMatch, OneMoreAtMost, RefusalsMatch, StopHasCause, Performs};
+ghost use Rattle.sum_engine.specs.Execution.{IsFlushed, FailuresMatch, OneMoreAtMost, RefusalsMatch, StopHasCause, Performs, ReadToEnd, Reading, Ended};
+ghost use Rattle.sum_engine.specs.check.CheckerSteps.{IsAtStart};
+ghost use Rattle.std.specs.Prelude.{◌≡◌, true, None, Ok};
 ghost use Rattle.sum_engine.specs.check.CheckerLaws.{ManifestPerforms};
 ghost use Rattle.sum_engine.specs.refinement.Cursors.{rules_in, labels_in};
 
@@ -38,6 +40,8 @@ pub fn check_one<A: Allocator + Copy, J: Input + Drop, S: Source, O: Sink, E: Si
     ensures flushed { IsFlushed streams.old → IsFlushed streams.new }
     ensures refusals { RefusalsMatch S.state OneMoreAtMost streams.old streams.new result }
     ensures failures { FailuresMatch streams.old streams.new result }
+    // Known or not: true only if the manifest and each file that was opened were read to their ends.
+    ensures read_to_end { result ≡ Ok true → ReadToEnd S.state streams.old streams.new }
 {
     if is_dash(name) {
         let input = streams.stdin.take();
@@ -47,7 +51,9 @@ pub fn check_one<A: Allocator + Copy, J: Input + Drop, S: Source, O: Sink, E: Si
             list: b"standard input",
             report: settings.report,
         };
-        return check_input(alloc, rules, labels, input, streams);
+        let (result, input) = check_input(alloc, rules, labels, input, streams);
+        streams.stdin.put_back(input);
+        return result;
     }
     match streams.source.open_file(name) {
         Err(OpenFault::Memory) => Err(Stop::Memory),
@@ -62,27 +68,54 @@ pub fn check_one<A: Allocator + Copy, J: Input + Drop, S: Source, O: Sink, E: Si
                 list: name,
                 report: settings.report,
             };
-            check_input(alloc, rules, labels, file, streams)
+            let (result, file) = check_input(alloc, rules, labels, file, streams);
+            streams.source.close_file(file);
+            result
         }
     }
 }
 
-// Checks a manifest that was opened.
-fn check_input<'a, A: Allocator, I: Input + Drop, J: Input + Drop, S: Source, O: Sink, E: Sink>(
+// Checks a manifest that was opened, and gives its input back.
+fn check_input<'a, A: Allocator, I: Input, J: Input + Drop, S: Source, O: Sink, E: Sink>(
     alloc: A,
     rules: CheckRules,
     labels: Labels<'a>,
     input: I,
     streams: &mut Streams<J, S, O, E>,
-) -> Result<bool, Stop>
-    ensures behavior { ManifestPerforms S.state (rules_in rules) (labels_in labels.entry) (option_map clip (I.state input).content)
-        streams.old streams.new result }
-    ensures cause { StopHasCause S.state OneMoreAtMost streams.old streams.new result }
+) -> (Result<bool, Stop>, I)
+    ensures behavior { ManifestPerforms S.state (rules_in rules) (labels_in labels.entry)
+        (option_map clip (I.state input).content) streams.old streams.new result.0 }
+    ensures cause { StopHasCause S.state OneMoreAtMost streams.old streams.new result.0 }
+    ensures read_to_end { result.0 ≡ Ok true → ReadToEnd S.state streams.old streams.new }
+    ensures stdin { rules.from_stdin ≡ true → (streams.new.stdin_taken ≡ streams.old.stdin_taken)
+        × (streams.new.stdin_phase ≡ streams.old.stdin_phase) }
+    ensures phase { result.0 ≡ Ok true → (I.state input).phase ≡ Reading → (I.state result.1).phase ≡ Ended }
 {
     let mut checker = Checker::over(rules, labels, input);
     let mut line = Vec::new(alloc);
+    let result = check_lines(&mut checker, &mut line, streams);
+    (result, checker.into_inner())
+}
+
+// Steps through a manifest from its first line.
+fn check_lines<'a, A: Allocator, I: Input, J: Input + Drop, S: Source, O: Sink, E: Sink>(
+    checker: &mut Checker<'a, I>,
+    line: &mut Vec<u8, A>,
+    streams: &mut Streams<J, S, O, E>,
+) -> Result<bool, Stop>
+    requires start { IsAtStart I.state checker.old.cursor checker.old.cursor.reader.input }
+    requires final_answer { checker.old.final_answer ≡ None }
+    ensures behavior { ManifestPerforms S.state checker.old.cursor.rules checker.old.labels
+        (option_map clip (I.state checker.old.cursor.reader.input).content) streams.old streams.new result }
+    ensures cause { StopHasCause S.state OneMoreAtMost streams.old streams.new result }
+    ensures read_to_end { result ≡ Ok true → ReadToEnd S.state streams.old streams.new }
+    ensures stdin { checker.old.cursor.rules.from_stdin ≡ true
+        → (streams.new.stdin_taken ≡ streams.old.stdin_taken) × (streams.new.stdin_phase ≡ streams.old.stdin_phase) }
+    ensures phase { result ≡ Ok true → (I.state checker.old.cursor.reader.input).phase ≡ Reading
+        → (I.state checker.new.cursor.reader.input).phase ≡ Ended }
+{
     'lines: loop {
-        match checker.step(&mut line, streams) {
+        match checker.step(line, streams) {
             Err(stop) => return Err(stop),
             Ok(Progress::Ended(good)) => return Ok(good),
             Ok(Progress::Going) => {}

@@ -94,6 +94,13 @@ impl<'a, I: Input> Checker<'a, I> {
         self.cursor.taken()
     }
 
+    /// The manifest's input, past the bytes that it has given; those read ahead of the last line are lost.
+    pub fn into_inner(self) -> I
+        ensures { result ≡ self.entry.cursor.reader.input }
+    {
+        self.cursor.into_inner()
+    }
+
     /// Handles the next line, or the end: writes the line's report, or the summary, or the line of the fault that broke
     /// the manifest. `line` is grown for the line; its content before doesn't matter, and its content after is open.
     ///

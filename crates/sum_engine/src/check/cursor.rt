@@ -1,6 +1,6 @@
 //! The place in a manifest that is being checked.
 ghost use Rattle.std.specs.Prelude.{◌≡◌, ◌≤◌, ◌<◌, ◌||◌, Ok, Err, None, [], length, Option, MatchOption};
-ghost use Rattle.std.specs.Prelude.{is_none, IfSome, IfOk};
+ghost use Rattle.std.specs.Prelude.{true, false, IfSome, IfOk};
 ghost use Rattle.digest_kinds.specs.Limits.{LIMIT};
 ghost use Rattle.sum_engine.specs.check.CheckerSteps.{counts_with};
 ghost use Rattle.sum_engine.specs.refinement.Counters.{counts_value, total};
@@ -30,17 +30,17 @@ pub(crate) struct CheckCursor<I> {
 }
 
 impl<I: Input> CheckCursor<I> {
-    ghost use Rattle.sum_sources.specs.Contents.{IfKnown};
+    ghost use Rattle.sum_sources.specs.Contents.{IfKnown, stdin_taken};
     ghost use Rattle.sum_sources.specs.LineReaders.{remaining_content};
-    ghost use Rattle.sum_engine.specs.Execution.{known_state, IsFlushed, FailuresMatch, NoOutputOnMemory};
-    ghost use Rattle.sum_engine.specs.check.CheckerSteps.{MemoryStopHasCause, IsAtStart, check_state, PerformsStep, AdvancesCursor};
+    ghost use Rattle.sum_engine.specs.Execution.{known_state, IsFlushed, FailuresMatch, NoOutputOnMemory, ReadToEnd};
+    ghost use Rattle.sum_engine.specs.check.CheckerSteps.{MemoryStopHasCause, IsAtStart, check_state, PerformsStep, AdvancesCursor, ReadsListedFile};
     ghost use Rattle.sum_sources.specs.declared.fault.Ending.TheVariants.{Whole};
-    ghost use Rattle.sum_engine.specs.check.Reports.{good};
+    ghost use Rattle.sum_engine.specs.check.Reports.{good, is_unread};
     ghost use Rattle.std.specs.List.{list_any};
     ghost use Rattle.sum_engine.specs.Behavior.{is_dash};
     ghost use Rattle.sum_engine.specs.check.Verdicts.{asks_of};
     ghost use Rattle.sum_engine.specs.refinement.HashName.{RefusedUnless, world_of};
-    ghost use Rattle.sum_engine.specs.check.NextVerdict.{line_verdict_value, HasNameRange, NextVerdictIfKnown, progress_of, lent_streams};
+    ghost use Rattle.sum_engine.specs.check.NextVerdict.{line_verdict_value, HasNameRange, NextVerdictIfKnown, progress_of, lent_streams, counts_after, UnlessUnread};
     ghost use Rattle.sum_engine.specs.refinement.Judging.{TakesLine, JudgeLineOf};
     ghost use Rattle.sum_engine.specs.refinement.Cursors.{rules_in, labels_in, cursor_value};
 
@@ -66,6 +66,13 @@ impl<I: Input> CheckCursor<I> {
         self.reader.taken()
     }
 
+    /// The manifest's input.
+    pub(crate) fn into_inner(self) -> I
+        ensures { result ≡ self.reader.input }
+    {
+        self.reader.into_inner()
+    }
+
     /// Whether the manifest is good by its lines so far.
     pub(crate) fn is_good(&self) -> bool
         ensures { result ≡ good (rules_in self.now.rules) Whole (counts_value self.now.counts) }
@@ -88,6 +95,8 @@ impl<I: Input> CheckCursor<I> {
         ensures failures { FailuresMatch streams.old streams.new result }
         ensures no_output_on_memory { NoOutputOnMemory streams.old streams.new result }
         ensures cursor { AdvancesCursor I.state (cursor_value self.old) (cursor_value self.new) result }
+        ensures files { ReadsListedFile S.state (cursor_value self.old) (cursor_value self.new) streams.old streams.new
+            result }
     {
         match self.next_verdict(line, &mut streams.stdin, &mut streams.source) {
             Err(LineStop::Memory) => Err(Stop::Memory),
@@ -135,6 +144,10 @@ impl<I: Input> CheckCursor<I> {
             (remaining_content I.state self.old.reader)
             (progress_of result) }
         ensures cursor { AdvancesCursor I.state (cursor_value self.old) (cursor_value self.new) (progress_of result) }
+        ensures stdin_kept { self.old.rules.from_stdin ≡ true → stdin.new ≡ stdin.old }
+        ensures counts { counts_value self.new.counts ≡ counts_after (counts_value self.old.counts) result }
+        ensures read_to_end { UnlessUnread result
+            (ReadToEnd S.state (lent_streams J.state stdin.old source.old) (lent_streams J.state stdin.new source.new)) }
     {
         match self.reader.next_line(line) {
             Err(stop) => Err(stop),
@@ -159,11 +172,18 @@ impl<I: Input> CheckCursor<I> {
             (world_of S.state (lent_streams J.state stdin.new source.new))
             (λ w v. JudgeLineOf (cursor_value self.old) line.old.items (counts_value self.new.counts)
             line.new.items w v result) }
-        ensures stdin_taken { MatchOption result (stdin.new ≡ stdin.old) (λ v. is_none stdin.new
-            ≡ is_none stdin.old || list_any is_dash (asks_of (line_verdict_value line.new.items v))) }
+        ensures stdin_taken { MatchOption result (stdin.new ≡ stdin.old) (λ v. stdin_taken stdin.new
+            ≡ stdin_taken stdin.old || list_any is_dash (asks_of (line_verdict_value line.new.items v))) }
         ensures name_range { IfSome result (λ v. HasNameRange line.new.items v) }
         ensures cursor { TakesLine (cursor_value self.old) (cursor_value self.new) line.old.items }
         ensures len { length line.new.items ≤ length line.old.items }
+        ensures stdin_kept { self.old.rules.from_stdin ≡ true → stdin.new ≡ stdin.old }
+        ensures counts { MatchOption result (counts_value self.new.counts ≡ counts_value self.old.counts)
+            (λ v. counts_value self.new.counts ≡ counts_with (counts_value self.old.counts) v.verdict) }
+        ensures read_to_end { MatchOption result
+            (ReadToEnd S.state (lent_streams J.state stdin.old source.old) (lent_streams J.state stdin.new source.new))
+            (λ v. is_unread v.verdict ≡ false → ReadToEnd S.state (lent_streams J.state stdin.old source.old)
+            (lent_streams J.state stdin.new source.new)) }
         ensures refusals { RefusedUnless (S.state source.old) (S.state source.new) result }
     {
         let (reading, form) = read_line(self.rules.algo, self.form, line);

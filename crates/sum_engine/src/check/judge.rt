@@ -1,5 +1,5 @@
 //! The verdict of a line.
-ghost use Rattle.std.specs.Prelude.{◌≡◌, ◌||◌, MatchOption, is_none};
+ghost use Rattle.std.specs.Prelude.{◌≡◌, ◌||◌, true, MatchOption};
 ghost use Rattle.std.specs.List.{list_any};
 ghost use Rattle.sum_engine.specs.Behavior.{is_dash};
 ghost use Rattle.sum_engine.specs.check.Verdicts.{asks_by};
@@ -40,8 +40,9 @@ pub struct LineVerdict {
 }
 
 ghost use Rattle.sum_engine.specs.refinement.Cursors.{rules_in};
-ghost use Rattle.sum_sources.specs.Contents.{IfKnown};
-ghost use Rattle.sum_engine.specs.refinement.Judging.{JudgeOf, verdict_of_outcome, listed_entry};
+ghost use Rattle.sum_sources.specs.Contents.{IfKnown, stdin_taken};
+ghost use Rattle.sum_engine.specs.refinement.Judging.{JudgeOf, UnlessUnreadVerdict, verdict_of_outcome, listed_entry};
+ghost use Rattle.sum_engine.specs.Execution.{ReadToEnd};
 
 /// An entry of a manifest: the digest of a file, with its kind, and the file's name.
 #[derive(Clone, Copy)]
@@ -63,8 +64,11 @@ pub(crate) fn judge<I: Input + Drop, S: Source>(
         (world_of S.state (lent_streams I.state stdin.new source.new))
         (λ w v. JudgeOf (rules_in rules) w v (entry (listed_entry listed.now)) result) }
     ensures stdin_taken { MatchOption result (stdin.new ≡ stdin.old)
-        (λ v. is_none stdin.new ≡ is_none stdin.old || list_any is_dash (asks_by v listed.now.name.now)) }
+        (λ v. stdin_taken stdin.new ≡ stdin_taken stdin.old || list_any is_dash (asks_by v listed.now.name.now)) }
+    ensures stdin_kept { rules.from_stdin ≡ true → stdin.new ≡ stdin.old }
     ensures refusals { RefusedUnless (S.state source.old) (S.state source.new) result }
+    ensures read_to_end { UnlessUnreadVerdict result
+        (ReadToEnd S.state (lent_streams I.state stdin.old source.old) (lent_streams I.state stdin.new source.new)) }
 {
     if rules.from_stdin && is_dash(listed.name) {
         return Some(Verdict::Bad);

@@ -66,6 +66,13 @@ impl<I: Input> Verdicts<I> {
         self.cursor.taken()
     }
 
+    /// The manifest's input, past the bytes that it has given; those read ahead of the last line are lost.
+    pub fn into_inner(self) -> I
+        ensures { result ≡ self.cursor.reader.input }
+    {
+        self.cursor.into_inner()
+    }
+
     /// Reads the next line, and finds its verdict; `None` if none is left and the manifest ended whole. `line` is grown
     /// for the line, and then holds the name of its entry; its content before doesn't matter. `stdin` is what the name
     /// `-` means in a manifest that didn't come from there, and `source` is where files are opened.

@@ -56,13 +56,13 @@ impl<I: Input> Stdin<I> {
 }
 
 impl<I: Input + Drop> Stdin<I> {
-    /// Puts back what `take` gave, so that its phase is known from then on.
+    /// Puts back what `take` gave, so that its phase is known from then on. What is put back first stays.
     pub fn put_back(&mut self, given: Given<I>)
-        ensures returned { self.new ≡ record self.old { returned = option_or given self.old.returned } }
+        ensures returned { self.new ≡ record self.old { returned = option_or self.old.returned given } }
     {
         let Given { input } = given;
-        if let Some(input) = input {
-            self.returned = Some(input);
+        if self.returned.is_none() {
+            self.returned = input;
         }
     }
 }

@@ -1,15 +1,19 @@
-use Rattle.std.proofs.Common.{refl, ap, is_none}
+use Rattle.std.proofs.Common.{Ok, Err, refl, ap}
+use Rattle.sum_sources.specs.Contents.{stdin_taken}
+use Rattle.sum_sources.specs.declared.line_reader.Next.TheVariants.{Line}
+use Rattle.sum_engine.specs.check.CheckerSteps.{Going}
+use Rattle.sum_engine.specs.declared.stop.Stop.TheVariants.{Memory}
 use Rattle.sum_engine.specs.check.NextVerdict.{lent_streams}
 use Rattle.sum_engine.specs.refinement.Cursors.{cursor_value}
 use Rattle.sum_engine.proofs.ExecutionLemmas.{known_refused}
-use Rattle.sum_engine.proofs.NextVerdictLemmas.{next_verdict-line, next_verdict-refused}
+use Rattle.sum_engine.proofs.NextVerdictLemmas.{next_verdict-line, next_verdict-refused, cursor-advanced}
 use Rattle.sum_engine.proofs.check.cursor.CheckCursor.next_verdict.Goals as goal
 
 -- a line was judged
 pub returns-in-Some-clause-verdict : goal.returns-in-Some-clause-verdict
 returns-in-Some-clause-verdict g c =
     let gives = rw c.in-Ok-Line.field-0-is at c.in-Ok-Line.ensures.line in
-    let number = rw c.in-Ok-Line.field-0-is at c.in-Ok-Line.ensures.lines in
+    let number = rw c.in-Ok-Line.field-0-is at c.in-Ok-Line.ensures.reader.lines in
     let done = c.in-Some.ensures in
     let first = lent_streams g.J.Input.state c.args.stdin.now c.args.source.now in
     let then = lent_streams g.J.Input.state c.judge_line.new.stdin c.judge_line.new.source in
@@ -17,7 +21,6 @@ returns-in-Some-clause-verdict g c =
     c.next_line.new.line.items c.judge_line.new.line.items c.in-Some.verdict
     (record {
       next = gives;
-      sum = c.in-Ok-Line.ensures.consumed;
       number = number;
       ahead = c.in-Ok-Line.ensures.bounds.ahead;
       profile = refl;
@@ -28,7 +31,7 @@ returns-in-Some-clause-verdict g c =
 pub returns-in-None-clause-verdict : goal.returns-in-None-clause-verdict
 returns-in-None-clause-verdict g c =
     let gives = rw c.in-Ok-Line.field-0-is at c.in-Ok-Line.ensures.line in
-    let number = rw c.in-Ok-Line.field-0-is at c.in-Ok-Line.ensures.lines in
+    let number = rw c.in-Ok-Line.field-0-is at c.in-Ok-Line.ensures.reader.lines in
     let done = c.in-None.ensures in
     let first = lent_streams g.J.Input.state c.args.stdin.now c.args.source.now in
     let then = lent_streams g.J.Input.state c.judge_line.new.stdin c.judge_line.new.source in
@@ -37,10 +40,25 @@ returns-in-None-clause-verdict g c =
     c.next_line.new.line.items c.judge_line.new.line.items
     (record {
       next = gives;
-      sum = c.in-Ok-Line.ensures.consumed;
       number = number;
       ahead = c.in-Ok-Line.ensures.bounds.ahead;
       profile = refl;
     })
-    done.cursor.reader (known_refused g.S.Source.state first then done.verdict (ap is_none done.stdin_taken) refl refl
+    done.cursor.reader (known_refused g.S.Source.state first then done.verdict (ap stdin_taken done.stdin_taken) refl refl
     done.refusals)
+
+-- how far the manifest was read: up to a line that was judged
+pub returns-in-Some-clause-cursor : goal.returns-in-Some-clause-cursor
+returns-in-Some-clause-cursor g c =
+    let next = c.in-Ok-Line.ensures in
+    cursor-advanced g.I.Input.state (cursor_value c.args.self.now) (cursor_value c.judge_line.new.self)
+    c.next_line.new.self (Ok Line) (Ok Going) c.in-Some.ensures.cursor.reader c.in-Some.ensures.cursor.rules
+    (rw c.in-Ok-Line.field-0-is at next.reader) next.input next.bounds (λ e. refl) (λ e. cc)
+
+-- or to one whose file could not be opened
+pub returns-in-None-clause-cursor : goal.returns-in-None-clause-cursor
+returns-in-None-clause-cursor g c =
+    let next = c.in-Ok-Line.ensures in
+    cursor-advanced g.I.Input.state (cursor_value c.args.self.now) (cursor_value c.judge_line.new.self)
+    c.next_line.new.self (Ok Line) (Err Memory) c.in-None.ensures.cursor.reader c.in-None.ensures.cursor.rules
+    (rw c.in-Ok-Line.field-0-is at next.reader) next.input next.bounds (λ e. cc) (λ e. cc)

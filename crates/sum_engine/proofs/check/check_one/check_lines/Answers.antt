@@ -1,0 +1,86 @@
+use Rattle.std.proofs.Common.{◌≡◌, true, Ok, Err, refl, ap, sym, ◌∙◌, arith, rules}
+use Rattle.sum_engine.specs.check.CheckerSteps.{Ended}
+use Rattle.sum_engine.proofs.CheckOneLemmas.{comes_none, comes_more, comes_last, phase-initial}
+use Rattle.sum_engine.proofs.ReadToEndLemmas.{ReadToEnd-none, ReadToEnd-trans}
+use Rattle.sum_engine.proofs.check.check_one.check_lines.Goals as goal
+
+pub lines-init : goal.lines-init
+lines-init g c =
+    let first = c.args.checker.now in
+    let start = c.requires.start in
+    record {
+      comes = λ flushed. comes_none g.I.Input.state first.cursor.rules first.labels first.cursor
+          first.cursor.reader.input _ start;
+      rules = refl;
+      labels = refl;
+      going = c.requires.final_answer;
+      so_far = search rules;
+      phase = λ reading. phase-initial g.I.Input.state first.cursor start reading;
+      read_to_end = λ none. ReadToEnd-none g.S.Source.state c.args.streams.now c.args.streams.now refl refl refl refl;
+      stdin = λ from. (refl, refl);
+    }
+
+-- a step stopped
+pub returns-in-Err-clause-behavior : goal.returns-in-Err-clause-behavior
+returns-in-Err-clause-behavior g c =
+    let so_far = c.lines.invariant in
+    let first = c.args.checker.now in
+    λ flushed.
+    let step = c.in-Err.ensures.step so_far.going (so_far.so_far.flushed flushed) in
+    comes_last g.I.Input.state g.S.Source.state _ first.cursor.rules _ first.labels _ c.args.streams.now
+    c.step.new.streams _ c.step.new.self.cursor c.step.new.line.items (Err c.in-Err.stop)
+    so_far.rules so_far.labels (so_far.comes flushed) step
+
+-- the end was handled
+pub returns-in-Ok-Ended-clause-behavior : goal.returns-in-Ok-Ended-clause-behavior
+returns-in-Ok-Ended-clause-behavior g c =
+    let so_far = c.lines.invariant in
+    let first = c.args.checker.now in
+    λ flushed.
+    let step = rw c.in-Ok-Ended.field-0-is at (c.in-Ok-Ended.ensures.step so_far.going (so_far.so_far.flushed flushed)) in
+    comes_last g.I.Input.state g.S.Source.state _ first.cursor.rules _ first.labels _
+    c.args.streams.now c.step.new.streams _ c.step.new.self.cursor c.step.new.line.items (Ok c.in-Ok-Ended.good)
+    so_far.rules so_far.labels (so_far.comes flushed) step
+
+-- a good manifest has no file that could not be read
+pub returns-in-Ok-Ended-clause-read_to_end : goal.returns-in-Ok-Ended-clause-read_to_end
+returns-in-Ok-Ended-clause-read_to_end g c = λ good.
+    let so_far = c.lines.invariant in
+    let advances = c.in-Ok-Ended.ensures.advances so_far.going in
+    let ended : Ok c.in-Ok-Ended.field-0 ≡ Ok (Ended true) = rw c.in-Ok-Ended.field-0-is cc in
+    let none = advances.files.good ended in
+    let before : c.lines.checker.cursor.counts.unread ≡ 0 = omega (arith, advances.files.unread, none) in
+    ReadToEnd-trans (so_far.read_to_end before) (advances.files.read_to_end (none ∙ sym before))
+
+-- and was itself read to its end
+pub returns-in-Ok-Ended-clause-phase : goal.returns-in-Ok-Ended-clause-phase
+returns-in-Ok-Ended-clause-phase g c = λ good reading.
+    let so_far = c.lines.invariant in
+    let advances = c.in-Ok-Ended.ensures.advances so_far.going in
+    let ended : Ok c.in-Ok-Ended.field-0 ≡ Ok (Ended true) = rw c.in-Ok-Ended.field-0-is cc in
+    rw (advances.cursor.end ended) at (advances.cursor.phase (so_far.phase reading))
+
+pub lines-preserved : goal.lines-preserved
+lines-preserved g c =
+    let so_far = c.lines.invariant in
+    let first = c.args.checker.now in
+    let advances = c.in-Ok-Going.ensures.advances so_far.going in
+    record {
+      comes = λ flushed.
+          let step = rw c.in-Ok-Going.field-0-is
+          at (c.in-Ok-Going.ensures.step so_far.going (so_far.so_far.flushed flushed)) in
+          comes_more _ first.cursor.rules _ first.labels _ _ _ _ c.step.new.line.items so_far.rules
+          so_far.labels (so_far.comes flushed) step;
+      rules = advances.cursor.rules ∙ so_far.rules;
+      labels = advances.labels ∙ so_far.labels;
+      going = advances.final_answer ∙ search rules;
+      so_far = search rules;
+      phase = λ reading. advances.cursor.phase (so_far.phase reading);
+      read_to_end = λ none.
+          let before : c.lines.checker.cursor.counts.unread ≡ 0 = omega (arith, advances.files.unread, none) in
+          ReadToEnd-trans (so_far.read_to_end before) (advances.files.read_to_end (none ∙ sym before));
+      stdin = λ from.
+          let same = advances.files.stdin (ap (λ r. r.from_stdin) so_far.rules ∙ from) in
+          let first = so_far.stdin from in
+          (same.0 ∙ first.0, same.1 ∙ first.1);
+    }
