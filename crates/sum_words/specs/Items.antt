@@ -24,7 +24,7 @@ pub data ItemValue : Type 0 where
   operand : ByteString → ItemValue
   fault : WordFaultValue → ItemValue
 
--- an option's letter, where there is one, its full name, and what help says of it
+-- an option's letter (empty if it has none), its full name, and its text in the help
 abbrev pub row_of : Flag → ByteString × ByteString × ByteString
 row_of flags.Binary = (codes "b", codes "binary", codes "mark each line as binary")
 row_of flags.Check = (codes "c", codes "check", codes "read checksums from the FILEs and check them")
@@ -47,11 +47,18 @@ full_name flag = (row_of flag).1
 abbrev pub takes_value : Flag → Bool
 takes_value flag = sameb flag_type flag flags.Length
 
--- a tool's options, in the order of help; b2sum alone has the one that takes a value (`sameb` answers as `==` does)
+-- all options, in the order of help
+abbrev pub all_flags : List Flag
+all_flags = flags.Binary ∷ flags.Check ∷ flags.Length ∷ flags.Tag ∷ flags.Text ∷ flags.Zero ∷ flags.IgnoreMissing ∷
+    flags.Quiet ∷ flags.Status ∷ flags.Strict ∷ flags.Warn ∷ flags.Help ∷ flags.Version ∷ []
+
+-- whether a tool has an option: b2sum alone has the one that takes a value (`sameb` is `==`)
+abbrev pub has_option : Tool → Flag → Bool
+has_option t flag = not (takes_value flag) || sameb tool_type t tools.B2sum
+
+-- a tool's options
 abbrev pub flags_of : Tool → List Flag
-flags_of t = filter (λ flag. not (takes_value flag) || sameb tool_type t tools.B2sum)
-    (flags.Binary ∷ flags.Check ∷ flags.Length ∷ flags.Tag ∷ flags.Text ∷ flags.Zero ∷ flags.IgnoreMissing ∷
-    flags.Quiet ∷ flags.Status ∷ flags.Strict ∷ flags.Warn ∷ flags.Help ∷ flags.Version ∷ [])
+flags_of t = filter (has_option t) all_flags
 
 -- what a word says, with how the next one is read: as it stands, as the value of an option written so, or not at all
 pub data NextWord : Type 0 where
