@@ -77,3 +77,11 @@ version t = name_of t ++ codes " (digests), profile 2\n"
 abbrev pub stop_line : Tool → Stop → ByteString
 stop_line t Memory = name_of t ++ codes ": memory exhausted\n"
 stop_line t Write = name_of t ++ codes ": write error\n"
+
+-- the line for an unknown or missing tool
+abbrev pub unknown_tool_line : ByteString
+unknown_tool_line = codes "digests: unknown tool\n"
+
+-- the line for words that could not be read
+abbrev pub not_read_line : ByteString
+not_read_line = codes "digests: words not read\n"

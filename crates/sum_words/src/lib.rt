@@ -13,7 +13,7 @@ mod words;
 pub use arguments::{Arguments, SystemArguments, ToldArguments};
 pub use command_line::{CommandLine, NotRead, read_command_line};
 pub use messages::help::{put_help, put_version};
-pub use messages::word_faults::{WordFault, put_fault, put_stop, put_unknown};
+pub use messages::word_faults::{WordFault, put_fault, put_not_read, put_stop, put_unknown};
 pub use parsing::items::{Item, Items, Operands};
 pub use parsing::options::{Flag, Spelling};
 pub use parsing::request::{Request, read_words};

@@ -2,7 +2,7 @@
 use std::test::Fail;
 use sum_engine::Stop;
 use sum_lines::{SinkFault, ToldSink};
-use sum_words::{Tool, put_help, put_stop, put_unknown, put_version};
+use sum_words::{Tool, put_help, put_not_read, put_stop, put_unknown, put_version};
 
 #[test]
 fn tools(rt: HostRuntime) {
@@ -19,10 +19,13 @@ fn tools(rt: HostRuntime) {
 }
 
 #[test]
-fn no_tool(rt: HostRuntime) -> Result<(), Fail> {
+fn no_tool_and_no_words(rt: HostRuntime) -> Result<(), Fail> {
     let mut err = ToldSink::<64>::new(64);
     put_unknown(&mut err)?;
     assert_eq!(rt; err.bytes(), b"digests: unknown tool\n".as_slice());
+    let mut err = ToldSink::<64>::new(64);
+    put_not_read(&mut err)?;
+    assert_eq!(rt; err.bytes(), b"digests: words not read\n".as_slice());
     Ok(())
 }
 

@@ -1,13 +1,13 @@
 //! What the program itself writes on standard error: for a fault in the words, for a tool that it doesn't know, and for
 //! a run that stopped.
-ghost use Rattle.std.specs.Prelude.{◌≡◌, ◌++◌, codes};
+ghost use Rattle.std.specs.Prelude.{◌≡◌, ◌++◌};
 ghost use Rattle.sum_lines.specs.sinks.Sinks.{WritesAll};
 ghost use Rattle.sum_lines.specs.refinement.PartTexts.{part_text};
 ghost use Rattle.sum_words.specs.WordFaults.{WordFaultValue};
 ghost use Rattle.sum_words.specs.refinement.ItemIterator.{fault_of};
 ghost use Rattle.sum_words.specs.declared.tool.Tool.{Tool};
 ghost use Rattle.sum_words.specs.Tools.{name_of};
-ghost use Rattle.sum_words.specs.Texts.{wording, fault_lines, stop_line};
+ghost use Rattle.sum_words.specs.Texts.{wording, fault_lines, stop_line, unknown_tool_line, not_read_line};
 
 use crate::parsing::options::Spelling;
 use crate::tool::Tool;
@@ -54,8 +54,7 @@ pub enum WordFault<'a> {
     CheckNeeded,
 }
 
-/// Writes the two lines of a fault. A fault of the sink where a write failed; of what was held and of the lines a
-/// proper prefix is then handed on, and nothing is held.
+/// Writes the two lines of a fault, or returns `SinkFault` as [`sum_lines::put_all`] does.
 pub fn put_fault<E: Sink>(err: &mut E, tool: Tool, fault: &WordFault<'_>) -> Result<(), SinkFault>
     ensures { WritesAll (E.state err.old) (E.state err.new) (fault_lines tool (fault_of fault.now)) result }
 {
@@ -122,16 +121,21 @@ fn wording<'a>(fault: WordFault<'a>, buffer: &'a mut [u8; 4]) -> (&'static str, 
 
 const NOTHING: Part<'static> = Part::Bytes(b"");
 
-/// Writes the line for an unknown or missing tool. A fault of the sink where a write failed; of what was held and of
-/// the line a proper prefix is then handed on, and nothing is held.
+/// Writes the line for an unknown or missing tool, or returns `SinkFault` as [`sum_lines::put_all`] does.
 pub fn put_unknown<E: Sink>(err: &mut E) -> Result<(), SinkFault>
-    ensures { WritesAll (E.state err.old) (E.state err.new) (codes "digests: unknown tool\n") result }
+    ensures { WritesAll (E.state err.old) (E.state err.new) unknown_tool_line result }
 {
     put_all(err, b"digests: unknown tool\n")
 }
 
-/// Writes the line for a run of the tool that stopped. A fault of the sink where a write failed; of what was held and
-/// of the line a proper prefix is then handed on, and nothing is held.
+/// Writes the line for words that could not be read, or returns `SinkFault` as [`sum_lines::put_all`] does.
+pub fn put_not_read<E: Sink>(err: &mut E) -> Result<(), SinkFault>
+    ensures { WritesAll (E.state err.old) (E.state err.new) not_read_line result }
+{
+    put_all(err, b"digests: words not read\n")
+}
+
+/// Writes the line for a run of the tool that stopped, or returns `SinkFault` as [`sum_lines::put_all`] does.
 pub fn put_stop<E: Sink>(err: &mut E, tool: Tool, stop: Stop) -> Result<(), SinkFault>
     ensures { WritesAll (E.state err.old) (E.state err.new) (stop_line tool stop) result }
 {
