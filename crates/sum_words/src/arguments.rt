@@ -38,7 +38,7 @@ impl<R: Env> Arguments for SystemArguments<R> {
 }
 
 /// A list of arguments in memory, which it tells.
-#[derive(Drop)]
+#[derive(Debug, Drop)]
 pub struct ToldArguments<'a> {
     arguments: &'a [&'a [u8]],
 }

@@ -11,12 +11,14 @@ use crate::words::{Words, is_readable};
 use memchr::memrchr;
 use std::alloc::{AllocError, Allocator};
 use std::env::FillError;
+use thiserror::Error;
 
 /// How long an argument may be that is read without taking memory. A page costs a short run the least.
 pub(crate) const PAGE: usize = 4096;
 
 /// The words could not be read: one that begins with a dash isn't UTF-8, or memory was refused.
-#[derive(Clone, Copy, Debug, PartialEq, Eq)]
+#[derive(Clone, Copy, Debug, PartialEq, Eq, Error)]
+#[error("words not read")]
 pub struct NotRead;
 
 /// What a command line asks for.
@@ -76,10 +78,12 @@ impl<A: Allocator> Room<A> {
         match arguments.fill(place, &mut self.page) {
             Ok(len) => Ok(Some(&self.page[..len])),
             Err(FillError::NotPresent) => Ok(None),
-            Err(FillError::TooLong) => match fill_growing(arguments, place, &mut self.more)? {
-                Some(len) => Ok(Some(&self.more[..len])),
-                None => Ok(None),
-            },
+            Err(FillError::TooLong) => {
+                let Some(len) = fill_growing(arguments, place, &mut self.more)? else {
+                    return Ok(None);
+                };
+                Ok(Some(&self.more[..len]))
+            }
         }
     }
 }
@@ -129,10 +133,8 @@ fn tool_called_by_name<A: Allocator, G: Arguments>(
     ensures tool { IfOk result (λ tool. IsNameOf (G.known arguments.now) tool) }
     ensures not_read { OnErr result (MayBeUnread (G.known arguments.now)) }
 {
-    match room.argument(arguments, 0)? {
-        Some(path) => Ok(Tool::of_name(last_part(path))),
-        None => Ok(None),
-    }
+    let path = room.argument(arguments, 0)?;
+    Ok(path.and_then(|path| Tool::of_name(last_part(path))))
 }
 
 // What stands behind the last slash of a path; all of it where there is none.

@@ -1,5 +1,18 @@
 //! The words of a command line: the tools, what the arguments call for, what the words ask for, and the texts of
 //! faults, help, version, an unknown tool and a stop.
+//!
+//! ```rust
+//! let mut words = Words::new(alloc);
+//! words.add("--tag")?;
+//! words.add("a.txt")?;
+//! match read_words(Tool::Md5sum, &words) {
+//!     Ok(Request::Generate(settings, operands)) => {
+//!         for name in operands { .. }
+//!     }
+//!     Ok(_) => { .. }
+//!     Err(fault) => put_fault(err, Tool::Md5sum, &fault)?,
+//! }
+//! ```
 #![tactic(auto)]
 
 mod arguments;

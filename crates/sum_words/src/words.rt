@@ -102,7 +102,7 @@ impl<A: Allocator> Words<A> {
 }
 
 /// A list of words that is lent. It doesn't say which memory the list is in.
-#[derive(Drop)]
+#[derive(Debug, Drop)]
 pub struct LentWords<'a> {
     bytes: &'a [u8],
     ends: &'a [usize],

@@ -1,5 +1,6 @@
 //! What the words say, item by item.
 ghost use Rattle.std.specs.Prelude.{◌≡◌, ◌==◌, List, ℕ, [], ◌∷◌, IfSome, MatchOption, drop, true, false, filter_map};
+ghost use Rattle.std.specs.Iterator.{item_count};
 ghost use Rattle.std.specs.Option.{option_copied};
 ghost use Rattle.std.specs.List.{starts_with};
 ghost use Rattle.std.specs.Str.{chars};
@@ -17,7 +18,7 @@ use std::alloc::Allocator;
 use std::marker::Model;
 
 /// What words say: an option without a value, the value of `--length`, an operand, or that something is wrong.
-#[derive(Clone, Copy)]
+#[derive(Clone, Copy, Debug, PartialEq, Eq)]
 pub enum Item<'a> {
     Flag(Flag),
     Length(&'a [u8]),
@@ -26,7 +27,7 @@ pub enum Item<'a> {
 }
 
 /// The items that a tool's words say, one by one. Nothing comes after a fault.
-#[derive(Drop)]
+#[derive(Debug, Drop)]
 pub struct Items<'a> {
     tool: Tool,
     words: LentWords<'a>,
@@ -35,7 +36,7 @@ pub struct Items<'a> {
 }
 
 // How reading goes on: with a whole word, with the rest of a cluster, with operands alone, or not at all.
-#[derive(Clone, Copy)]
+#[derive(Clone, Copy, Debug)]
 enum ParserState<'a> {
     Word,
     Cluster(char, &'a str),
@@ -74,11 +75,16 @@ impl<'a> Items<'a> {
             state: ParserState::Word,
         }
     }
+}
 
-    /// Takes the first item that is left; `None` where none is left.
-    pub fn next(&mut self) -> Option<Item<'a>>
-        ensures { TakesFirst item_of self.old result self.new }
-    {
+impl<'a> Iterator for Items<'a> {
+    type Item = Item<'a>;
+
+    ghost next_gives = { TakesFirst item_of };
+
+    ghost remaining = { item_count (λ items. items) };
+
+    fn next(&mut self) -> Option<Item<'a>> {
         let step = match self.state {
             ParserState::Ended => return None,
             ParserState::OnlyOperands => ParserStep::OnlyOperands,
@@ -277,7 +283,7 @@ fn name_and_value(text: &str) -> (&str, Option<&str>)
 }
 
 /// The operands that the words give, one by one. It is seen as the list of those still to come.
-#[derive(Drop)]
+#[derive(Debug, Drop)]
 pub struct Operands<'a> {
     items: Items<'a>,
 }
@@ -300,11 +306,16 @@ impl<'a> Operands<'a> {
             items: Items::new(tool, words),
         }
     }
+}
 
-    /// Takes the first operand that is left; `None` where none is left.
-    pub fn next(&mut self) -> Option<&'a [u8]>
-        ensures { TakesFirst (λ word. word.now) self.old result self.new }
-    {
+impl<'a> Iterator for Operands<'a> {
+    type Item = &'a [u8];
+
+    ghost next_gives = { TakesFirst (λ word. word.now) };
+
+    ghost remaining = { item_count (λ operands. operands) };
+
+    fn next(&mut self) -> Option<&'a [u8]> {
         while let Some(item) = self.items.next() {
             if let Item::Operand(word) = item {
                 return Some(word);

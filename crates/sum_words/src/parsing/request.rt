@@ -18,7 +18,7 @@ use sum_engine::{CheckSettings, Report, Settings};
 use sum_lines::{Mode, Style};
 
 /// What a tool's words ask for. No operand means `-`: the caller sees to that.
-#[derive(Drop)]
+#[derive(Debug, Drop)]
 pub enum Request<'a> {
     /// A line for each operand.
     Generate(Settings, Operands<'a>),
@@ -43,6 +43,7 @@ pub fn read_words<'a, A: Allocator>(
         ScannedOptions::Options(chosen) => chosen,
         ScannedOptions::Answer(answer) => return answer,
     };
+    // Not `?`: the borrow checker has no rule for it where the error holds a `&'static str`.
     let kind = match asked_kind(chosen.length) {
         Ok(kind) => kind,
         Err(fault) => return Err(fault),
@@ -139,6 +140,7 @@ fn asked_kind(length: Option<&[u8]>) -> Result<Option<Kind>, WordFault<'_>>
 {
     match length {
         None => Ok(None),
+        // Not `?`, as above.
         Some(value) => match length_kind(value) {
             Ok(kind) => Ok(Some(kind)),
             Err(fault) => Err(fault),

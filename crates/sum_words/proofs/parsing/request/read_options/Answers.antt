@@ -15,7 +15,7 @@ loop-item-preserved-in_default-flag g c =
     let one = option c.in-Flag.flag in
     let rest = c.next.new.self in
     let all = items_from c.args.tool a_word c.args.words.now in
-    let taken : c.loop-item.items ≡ one ∷ rest = c.in-Some.ensures ∙ ap (λ i. item_of i ∷ rest) c.in-Flag.is in
+    let taken : c.loop-item.items ≡ one ∷ rest = c.in-Some.ensures.steps ∙ ap (λ i. item_of i ∷ rest) c.in-Flag.is in
     record {
       says = c.with_flag-chosen.ensures rest all (rw taken at c.loop-item.invariant.says);
       ending = sym (ending_not c.in-Flag.flag rest c.in_default-flag.not-Help c.in_default-flag.not-Version)

@@ -1,6 +1,6 @@
 use Rattle.std.proofs.Common.{◌≡◌, length, filter_map}
 use Rattle.sum_words.specs.Items.{operand_in}
-use Rattle.sum_words.proofs.parsing.items.Operands.next.Given as goal
+use Rattle.sum_words.proofs.parsing.items.OperandsIterator.next.Given as goal
 
 -- no operand was passed over
 abbrev pub invariant-loop-item : goal.invariant-loop-item
