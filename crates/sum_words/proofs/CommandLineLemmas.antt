@@ -3,7 +3,6 @@ use Rattle.std.proofs.Common.{ℕ, ◌≡◌, ◌+◌, ◌-◌, ◌<◌, ◌≤�
 use Rattle.std.proofs.lemmas.List.Sums.{suffix_len_is}
 use Rattle.std.proofs.lemmas.Bool.{not_from_false, not_from_true, false_from_ne_true}
 use Rattle.std.specs.List.{suffix_len}
-use Rattle.sum_words.specs.declared.command_line.TheConstants.{PAGE}
 use Rattle.std.proofs.lemmas.Option.{slice_get_within, get_or_from_slice_get, IfSome_then}
 use Rattle.std.proofs.Math.Seq.{drop-cons}
 use Rattle.std.proofs.lemmas.List.{append-nil, append_assoc}
@@ -61,15 +60,15 @@ bad_first_unread None word h bad = tt
 bad_first_unread (Some all) word h bad = inl (rw (drop_at_some all 1 h, ← bad) refl)
 
 -- a long argument is one of them
-longer : (all : List ByteString) (place : ℕ) → IsSomeAnd (slice_get all place) (λ a. PAGE < length a)
-    → Any (λ a. PAGE < length a) all
+longer : (all : List ByteString) (place : ℕ) → IsSomeAnd (slice_get all place) (λ a. 4096 < length a)
+    → Any (λ a. 4096 < length a) all
 longer [] zero h = absurd h
 longer [] (suc place) h = absurd h
 longer (a ∷ all) zero h = (0, a, omega arith, refl, h)
 longer (a ∷ all) (suc place) h =
     let (k, x, less, at, long) = longer all place h in (suc k, x, omega (arith, less), at, long)
 
-pub longer_unread : (told : Option (List ByteString)) (place : ℕ) → IsLonger told place PAGE → MayBeUnread told
+pub longer_unread : (told : Option (List ByteString)) (place : ℕ) → IsLonger told place 4096 → MayBeUnread told
 longer_unread None place h = tt
 longer_unread (Some all) place h = inr (inr (longer all place h))
 

@@ -13,7 +13,6 @@ use Rattle.sum_words.specs.Tools.{Tool, tool_called}
 use Rattle.sum_words.specs.declared.tool.Tool.TheVariants.{Md5sum, Sha256sum, B2sum, Anysum}
 use Rattle.sum_words.specs.WordFaults.{WordFaultValue, unknown_long, ambiguous_long, value_not_allowed, value_missing, unknown_short, length_invalid, length_not_bytes, tag_with_text, zero_with_check, tag_with_check, mode_with_check, ignore_without_check, status_without_check, warn_without_check, quiet_without_check, strict_without_check, check_needed}
 use Rattle.sum_words.specs.CommandLines.{unknown_tool, invoke, last_part, command_line, NeedsMemory, MayNotRead}
-use Rattle.sum_words.specs.declared.command_line.TheConstants.{PAGE}
 use Rattle.sum_lines.specs.declared.writing.put_line.Mode.TheVariants as modes
 use Rattle.sum_engine.specs.declared.settings.Report.TheVariants as reports
 
@@ -113,14 +112,14 @@ unfolding chars encode name_or_fault option_of_letter tool_called is_utf8
 odd_words = (refl, refl, refl, refl, refl)
 
 -- no argument of these is longer than the page
-not_longer : (all : List ByteString) → AllByRecursion (λ a. length a ≤ PAGE) all → SomeOne (λ a. PAGE < length a) all
+not_longer : (all : List ByteString) → AllByRecursion (λ a. length a ≤ 4096) all → SomeOne (λ a. 4096 < length a) all
     → ⊥
 not_longer all short (k, a, less, at, long) =
-    let fits = All-from_recursion (λ a. length a ≤ PAGE) all short k a less in
+    let fits = All-from_recursion (λ a. length a ≤ 4096) all short k a less in
     absurd (omega (arith, rw at at fits, long))
 
 -- a command line without a word is always read, where the name is no longer than the page
-no_words : (name : ByteString) → length name ≤ PAGE → MayNotRead (name ∷ []) → ⊥
+no_words : (name : ByteString) → length name ≤ 4096 → MayNotRead (name ∷ []) → ⊥
 no_words name h (inl none) = cc
 no_words name h (inr (inl kept)) = elim (tool_called (last_part name)) as (λ o.
     let called : Option Tool × List ByteString = if is_some o then (o, []) else (None, []) in 0 < length called.1 → ⊥) [

@@ -2,7 +2,6 @@
 use Rattle.std.specs.Prelude.{◌≡◌, ◌<◌, ◌⊎◌, ◌==◌, List, Any, length, drop, slice_get, Option, None, Some, is_some, if◌then◌else◌, option_and_then}
 use Rattle.std.specs.List.{after_last, list_all}
 use Rattle.std.specs.Option.{option_map_or}
-use Rattle.sum_words.specs.declared.command_line.TheConstants.{PAGE}
 use Rattle.sum_words.specs.Tools.{Tool, tool_called}
 use Rattle.sum_words.specs.Items.{ByteString, is_readable}
 
@@ -28,7 +27,7 @@ command_line all = if list_all is_readable (drop 1 all)
 
 -- memory is needed for the words: there is one to keep, or an argument is longer than the page that it is read into
 abbrev pub NeedsMemory : List ByteString → Type 0
-NeedsMemory all = (0 < length (tool_and_words all).1) ⊎ Any (λ argument. PAGE < length argument) all
+NeedsMemory all = (0 < length (tool_and_words all).1) ⊎ Any (λ argument. 4096 < length argument) all
 
 -- only then can the command line be left unread: such a word is not UTF-8, or memory is needed
 abbrev pub MayNotRead : List ByteString → Type 0

@@ -14,7 +14,7 @@ use std::env::FillError;
 use thiserror::Error;
 
 /// How long an argument may be that is read without taking memory. A page costs a short run the least.
-pub(crate) const PAGE: usize = 4096;
+const PAGE: usize = 4096;
 
 /// The words could not be read: one that begins with a dash isn't UTF-8, or memory was refused.
 #[derive(Clone, Copy, Debug, PartialEq, Eq, Error)]
@@ -73,7 +73,7 @@ impl<A: Allocator> Room<A> {
         place: usize,
     ) -> Result<Option<&[u8]>, NotRead>
         ensures bytes { IfOk result (λ o. ArgumentIs (G.known arguments.now) place (option_map (λ s. s.now) o)) }
-        ensures not_read { OnErr result (IsLonger (G.known arguments.now) place PAGE) }
+        ensures not_read { OnErr result (IsLonger (G.known arguments.now) place 4096) }
     {
         match arguments.fill(place, &mut self.page) {
             Ok(len) => Ok(Some(&self.page[..len])),
