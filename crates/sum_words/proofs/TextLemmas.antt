@@ -1,4 +1,4 @@
--- Texts that are written part after part.
+-- Texts that are written in parts are those of the definitions.
 use Rattle.std.proofs.Common.{◌≡◌, ◌+◌, ◌++◌, List, codes, length, length-append, arith, [], ◌∷◌, true, false, if◌then◌else◌, filter, flat_map, refl, append_assoc}
 use Rattle.std.proofs.lemmas.List.{append-nil}
 use Rattle.sum_words.specs.Tools.{Tool}

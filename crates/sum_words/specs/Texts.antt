@@ -1,4 +1,5 @@
--- The texts that the program itself writes: those of faults, help and version, and the line for a stop.
+-- The texts that the program itself writes: of faults, help and version, and the lines for an unknown tool, for words
+-- that could not be read and for a stop.
 use Rattle.std.specs.Prelude.{List, [], filter, ◌-◌, ◌++◌, codes, flat_map, if◌then◌else◌, length, replicate, encode_utf8, bytes_eq}
 use Rattle.std.specs.Str.{byte}
 use Rattle.sum_words.specs.Tools.{Algos, Tool, name_of, algos_of}

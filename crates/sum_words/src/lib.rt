@@ -1,4 +1,4 @@
-//! The words of a command line: the tools, what the arguments call for, what the words ask for, and the texts of
+//! The words of a command line: the tools, the command line, what its words ask for, and the texts of
 //! faults, help, version, an unknown tool and a stop.
 //!
 //! ```rust

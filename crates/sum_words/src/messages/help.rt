@@ -18,6 +18,7 @@ pub fn put_help<O: Sink>(out: &mut O, tool: Tool) -> Result<(), SinkFault>
     put_options(out, tool, all_flags())
 }
 
+// Writes the first two lines.
 fn put_usage<O: Sink>(out: &mut O, tool: Tool) -> Result<(), SinkFault>
     ensures { WritesAll (O.state out.old) (O.state out.new) (usage tool) result }
 {
@@ -104,7 +105,7 @@ fn value_column(flag: Flag) -> &'static str
     if flag.takes_value() { "=BITS" } else { "" }
 }
 
-// The spaces behind so many bytes of a name, up to 18.
+// The spaces that fill a name of so many bytes up to 18 columns.
 fn padding(columns: usize) -> &'static [u8]
     ensures { result.now ≡ replicate (18 - columns) 32 }
 {

@@ -28,7 +28,7 @@ pub enum Flag {
     Version,
 }
 
-/// How an option is written: by its full name or the beginning of it, or by its letter.
+/// How an option is written: by its full name or a prefix of it, or by its letter.
 #[derive(Clone, Copy, Debug, PartialEq, Eq)]
 pub enum Spelling {
     Long,
@@ -56,7 +56,7 @@ pub(crate) fn has_option(tool: Tool, flag: Flag) -> bool
     !flag.takes_value() || tool == Tool::B2sum
 }
 
-/// What the table of options says of one.
+/// A row of the table of options: the letter, if there is one, the full name, and the text in the help.
 #[derive(Clone, Copy)]
 pub(crate) struct Row {
     pub(crate) letter: Option<u8>,
@@ -114,8 +114,8 @@ impl Flag {
         matches!(self, Flag::Length)
     }
 
-    /// The option that a long name means: the one that has it in full, else the only one that begins with it.
-    /// `UnknownLong` where none does, `AmbiguousLong` where several do.
+    /// The tool's option that a long name means: the one of this full name, else the only one that begins with it.
+    /// `UnknownLong` if none does, `AmbiguousLong` if several do.
     #[tactic(auto, unfolding(crate::specs::Items::name_or_fault))]
     pub fn of_name(tool: Tool, name: &str) -> Result<Flag, WordFault<'_>>
         ensures { result_of result ≡ name_or_fault tool name.now }
@@ -126,7 +126,7 @@ impl Flag {
         }
     }
 
-    /// The option that a letter means.
+    /// The tool's option of this letter.
     #[tactic(auto, unfolding(crate::specs::Items::option_of_letter))]
     pub fn of_letter(tool: Tool, letter: char) -> Option<Flag>
         ensures { result ≡ option_of_letter tool letter }
@@ -139,6 +139,7 @@ impl Flag {
     }
 }
 
+// Whether this is the option's letter.
 fn has_letter(flag: Flag, letter: char) -> bool
     ensures { result ≡ bytes_eq (row_of flag).0 (letter ∷ []) }
 {

@@ -3,7 +3,7 @@ use Rattle.std.specs.List.{starts_with, cons_option}
 use Rattle.sum_words.specs.Items.{Flag, full_name, has_option, the_one}
 use Rattle.sum_words.proofs.parsing.options.only_begun.Given as goal
 
--- what was found and the options still to come mean the same as all
+-- the option found so far and the remaining ones give the same as all
 abbrev pub invariant-loop-flag : goal.invariant-loop-flag
 invariant-loop-flag l =
     let begun = λ (flags : List Flag).
