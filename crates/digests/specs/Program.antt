@@ -1,5 +1,5 @@
 -- What the program does, from the list of its arguments to its status.
-use Rattle.std.specs.Prelude.{ℕ, ◌≡◌, ◌⊎◌, false, List, [], Option, None, Some, Result, Ok, Err, codes, IfSome}
+use Rattle.std.specs.Prelude.{ℕ, ◌≡◌, ◌⊎◌, false, List, [], Option, None, Some, Result, Ok, Err, IfSome}
 use Rattle.std.specs.Io.KnownBytes.{Appends}
 use Rattle.sum_sources.specs.Contents.{SourceState}
 use Rattle.sum_lines.specs.sinks.Sinks.{SinkState, IsPrefix}
@@ -9,13 +9,13 @@ use Rattle.sum_engine.specs.Behavior.{World, Behavior, single_step}
 use Rattle.sum_engine.specs.Execution.{StreamsState, IsFlushed, FailuresMatch, Performs}
 use Rattle.sum_words.specs.Items.{ByteString}
 use Rattle.sum_words.specs.CommandLines.{CommandLineValue, unknown_tool, invoke, command_line, NeedsMemory}
-use Rattle.sum_words.specs.Texts.{stop_line}
+use Rattle.sum_words.specs.Texts.{stop_line, unknown_tool_line, not_read_line}
 use Rattle.digests.specs.Meaning.{meaning, status_of}
 
 -- what a call means, and the line that tells of its stop, where there is a tool to tell of it
 abbrev pub call_behavior : Option CommandLineValue → World → Behavior
-call_behavior None w = single_step [] (codes "digests: words not read\n") [] false
-call_behavior (Some unknown_tool) w = single_step [] (codes "digests: unknown tool\n") [] false
+call_behavior None w = single_step [] not_read_line [] false
+call_behavior (Some unknown_tool) w = single_step [] unknown_tool_line [] false
 call_behavior (Some (invoke tool words)) w = meaning tool words w
 
 abbrev pub call_stop_line : Option CommandLineValue → Stop → ByteString

@@ -3,8 +3,8 @@ ghost use Rattle.sum_lines.specs.sinks.Sinks.{WritesAll};
 ghost use Rattle.sum_engine.specs.refinement.FlushedWrites.{WritesAndFlushes};
 
 use sum_engine::Stop;
-use sum_lines::{Sink, SinkFault, put_all};
-use sum_words::{Tool, WordFault, put_fault, put_help, put_stop, put_unknown, put_version};
+use sum_lines::{Sink, SinkFault};
+use sum_words::{Tool, WordFault, put_fault, put_help, put_not_read, put_stop, put_unknown, put_version};
 
 /// A text of the program.
 #[derive(Clone, Copy)]
@@ -23,7 +23,7 @@ pub(crate) enum Message<'a> {
 
 ghost use Rattle.digests.specs.refinement.Messages.{message_text};
 
-/// Writes a text, and hands it on. A fault where that failed; a prefix of the text is then handed on.
+/// Writes a text and flushes the sink, or returns its fault; then a prefix of the text was written.
 pub(crate) fn put_message<S: Sink>(sink: &mut S, text: Message) -> Result<(), SinkFault>
     ensures { WritesAndFlushes (S.state sink.old) (S.state sink.new) (message_text text.entry) result }
 {
@@ -39,7 +39,7 @@ fn buffer_message<S: Sink>(sink: &mut S, text: Message) -> Result<(), SinkFault>
         Message::Help(tool) => put_help(sink, tool),
         Message::Version(tool) => put_version(sink, tool),
         Message::UnknownTool => put_unknown(sink),
-        Message::NotRead => put_all(sink, b"digests: words not read\n"),
+        Message::NotRead => put_not_read(sink),
         Message::Stop(tool, stop) => put_stop(sink, tool, stop),
     }
 }

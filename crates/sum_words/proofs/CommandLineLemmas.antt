@@ -1,9 +1,8 @@
--- The command line by its list of arguments.
+-- The reading of the arguments, one after another, gives the command line.
 use Rattle.std.proofs.Common.{ℕ, ◌≡◌, ◌+◌, ◌-◌, ◌<◌, ◌≤◌, true, false, not, ◌==◌, zero, suc, List, [], ◌∷◌, length, drop, Some, None, refl, ap, sym, ◌∙◌, arith, inl, inr, add-one, slice_get, Option, ◌++◌, Any, IsSomeAnd}
 use Rattle.std.proofs.lemmas.List.Sums.{suffix_len_is}
 use Rattle.std.proofs.lemmas.Bool.{not_from_false, not_from_true, false_from_ne_true}
 use Rattle.std.specs.List.{suffix_len}
-use Rattle.sum_words.specs.declared.command_line.TheConstants.{PAGE}
 use Rattle.std.proofs.lemmas.Option.{slice_get_within, get_or_from_slice_get, IfSome_then}
 use Rattle.std.proofs.Math.Seq.{drop-cons}
 use Rattle.std.proofs.lemmas.List.{append-nil, append_assoc}
@@ -16,7 +15,7 @@ use Rattle.sum_words.specs.refinement.Arguments.{ArgumentIs, IsFirstWord, WordsU
 
 -- ---- the last part of a path
 
--- behind a slash, or at the start, where no other follows
+-- the part after a slash that no other follows, or all of a path without one
 pub last_part-from : (path : List ℕ) (n : ℕ) → n ≤ length path → Nowhere (Passes (is_byte 47) path) n (length path)
     → (0 < n → Passes (is_byte 47) path (n - 1)) → last_part path ≡ drop n path
 last_part-from path n fits none slash =
@@ -29,59 +28,59 @@ last_part-from path n fits none slash =
 
 -- ---- an argument at its place
 
--- nothing stands at a place, and nothing from there on
+-- if nothing is at a place, nothing is from there on
 pub drop_at_none : {X : Type 0} (xs : List X) (p : ℕ) → slice_get xs p ≡ None → drop p xs ≡ []
 drop_at_none [] zero h = refl
 drop_at_none [] (suc p) h = refl
 drop_at_none (x ∷ xs) zero h = cc
 drop_at_none (x ∷ xs) (suc p) h = drop_at_none xs p h
 
--- what stands at a place is the first from there on
+-- what is at a place is the first from there on
 pub drop_at_some : {X : Type 0} {x : X} (xs : List X) (p : ℕ) → slice_get xs p ≡ Some x
     → drop p xs ≡ x ∷ drop (p + 1) xs
 drop_at_some {x = x} xs p h =
     rw (drop-cons xs p x (slice_get_within xs p x h), get_or_from_slice_get xs p x x h, add-one) refl
 
--- there is an argument at each place up to one where an argument stands
-pub there_is : (told : Option (List ByteString)) (first place : ℕ) (word : ByteString)
-    → ArgumentIs told place (Some word) → first ≤ place → HasArgument told first
-there_is told first place word h le =
-    IfSome_then told h (λ all at. omega (arith, slice_get_within all place word at, le))
+-- there is an argument at each place before an argument
+pub has_argument : (known : Option (List ByteString)) (first place : ℕ) (word : ByteString)
+    → ArgumentIs known place (Some word) → first ≤ place → HasArgument known first
+has_argument known first place word h le =
+    IfSome_then known h (λ all at. omega (arith, slice_get_within all place word at, le))
 
 -- the tool by the first word
-pub first_is : (told : Option (List ByteString)) (word : ByteString) (tool : Option Tool)
-    → ArgumentIs told 1 (Some word) → true ≡ is_readable word → tool ≡ tool_called word → IsFirstWord told tool
-first_is told word tool h reads is = IfSome_then told h (λ all at.
+pub is_first_word : (known : Option (List ByteString)) (word : ByteString) (tool : Option Tool)
+    → ArgumentIs known 1 (Some word) → true ≡ is_readable word → tool ≡ tool_called word → IsFirstWord known tool
+is_first_word known word tool h reads is = IfSome_then known h (λ all at.
     (rw at is, rw (drop_at_some all 1 at, ← reads) refl))
 
 -- the first word, which can't be read
-pub bad_first_unread : (told : Option (List ByteString)) (word : ByteString)
-    → ArgumentIs told 1 (Some word) → false ≡ is_readable word → MayBeUnread told
-bad_first_unread None word h bad = tt
-bad_first_unread (Some all) word h bad = inl (rw (drop_at_some all 1 h, ← bad) refl)
+pub unreadable_first_word : (known : Option (List ByteString)) (word : ByteString)
+    → ArgumentIs known 1 (Some word) → false ≡ is_readable word → MayBeUnread known
+unreadable_first_word None word h bad = tt
+unreadable_first_word (Some all) word h bad = inl (rw (drop_at_some all 1 h, ← bad) refl)
 
 -- a long argument is one of them
-longer : (all : List ByteString) (place : ℕ) → IsSomeAnd (slice_get all place) (λ a. PAGE < length a)
-    → Any (λ a. PAGE < length a) all
+longer : (all : List ByteString) (place : ℕ) → IsSomeAnd (slice_get all place) (λ a. 4096 < length a)
+    → Any (λ a. 4096 < length a) all
 longer [] zero h = absurd h
 longer [] (suc place) h = absurd h
 longer (a ∷ all) zero h = (0, a, omega arith, refl, h)
 longer (a ∷ all) (suc place) h =
     let (k, x, less, at, long) = longer all place h in (suc k, x, omega (arith, less), at, long)
 
-pub longer_unread : (told : Option (List ByteString)) (place : ℕ) → IsLonger told place PAGE → MayBeUnread told
+pub longer_unread : (known : Option (List ByteString)) (place : ℕ) → IsLonger known place 4096 → MayBeUnread known
 longer_unread None place h = tt
 longer_unread (Some all) place h = inr (inr (longer all place h))
 
--- what the reading of the first word goes by
-pub ruleset first_word_steps = (first_is, bad_first_unread, longer_unread)
+-- the lemmas of the reading of the first word
+pub ruleset first_word_steps = (is_first_word, unreadable_first_word, longer_unread)
 
 -- ---- the words, one after another
 
 -- one more word was read
-pub words_more : (told : Option (List ByteString)) (first place : ℕ) (words : List ByteString) (word : ByteString)
-    → WordsUpTo told first place words → ArgumentIs told place (Some word) → true ≡ is_readable word
-    → WordsUpTo told first (place + 1) (words ++ word ∷ [])
+pub words_more : (known : Option (List ByteString)) (first place : ℕ) (words : List ByteString) (word : ByteString)
+    → WordsUpTo known first place words → ArgumentIs known place (Some word) → true ≡ is_readable word
+    → WordsUpTo known first (place + 1) (words ++ word ∷ [])
 words_more None first place words word w h reads = tt
 words_more (Some all) first place words word w h reads =
     let next : drop place all ≡ word ∷ drop (place + 1) all = drop_at_some all place h in (
@@ -90,11 +89,11 @@ words_more (Some all) first place words word w h reads =
     )
 
 -- all words were read
-pub words_all : (told : Option (List ByteString)) (first place : ℕ) (words : List ByteString)
-    → WordsUpTo told first place words → ArgumentIs told place None → WordsAre told first words
+pub words_all : (known : Option (List ByteString)) (first place : ℕ) (words : List ByteString)
+    → WordsUpTo known first place words → ArgumentIs known place None → WordsAre known first words
 words_all None first place words w h = tt
 words_all (Some all) first place words w h =
     (sym (w.0 ∙ ap (λ l. words ++ l) (drop_at_none all place h) ∙ append-nil words), w.1)
 
--- what the reading of the words goes by
-pub ruleset word_steps = (there_is, words_more, words_all)
+-- the lemmas of the reading of the words
+pub ruleset word_steps = (has_argument, words_more, words_all)

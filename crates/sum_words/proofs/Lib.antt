@@ -2,6 +2,7 @@ mod ToolLemmas
 mod CommandLineLemmas
 mod WordBytesLemmas
 mod WordLemmas
+mod OptionLemmas
 mod RequestLemmas
 mod TextLemmas
 mod Rows

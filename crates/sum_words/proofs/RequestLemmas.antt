@@ -11,12 +11,12 @@ use Rattle.sum_words.specs.Request.{early_answer}
 use Rattle.sum_words.specs.refinement.OptionScan.{IsNumberOf}
 use Rattle.sum_words.specs.declared.parsing.options.Flag.TheVariants as flags
 
--- an option that doesn't end the matter
-pub ending_not : (flag : Flag) (rest : List ItemValue) → flag ≢ flags.Help → flag ≢ flags.Version
+-- an option other than help and version decides no answer
+pub no_early_answer : (flag : Flag) (rest : List ItemValue) → flag ≢ flags.Help → flag ≢ flags.Version
     → early_answer (option flag ∷ rest) ≡ early_answer rest
-ending_not flags.Help rest help version = absurd (help refl)
-ending_not flags.Version rest help version = absurd (version refl)
-ending_not flag rest help version = refl
+no_early_answer flags.Help rest help version = absurd (help refl)
+no_early_answer flags.Version rest help version = absurd (version refl)
+no_early_answer flag rest help version = refl
 
 -- digits are a text
 digits_ascii : (value : ByteString) → all_ascii_digits value ≡ true → (i : ℕ) → get_or value i 0 < 128
@@ -27,18 +27,18 @@ digits_ascii (b ∷ bs) digits (suc i) = digits_ascii bs (tells_all_ascii_digits
 pub digits_text : (value : ByteString) → all_ascii_digits value ≡ true → IsUtf8 value
 digits_text value digits = IsUtf8-from_ascii value (digits_ascii value digits)
 
--- what parsing says of a text of digits
+-- the value of a text of digits
 numerals : IsNumeralModel (λ ds. all_ascii_digits ds ≡ true) (digits_value 10)
 numerals = numerals_by_value _ tells_all_ascii_digits
 
--- what parsing answers for digits is the number, or it is too large
-number_told : {E : Type 0} (value : ByteString) (r : Result ℕ E)
+-- parsing digits returns their number, or it is too large
+number_of_digits : {E : Type 0} (value : ByteString) (r : Result ℕ E)
     → OkIff r ((0 < length value) × (digits_value 10 value < 2 ^ 64)) (digits_value 10 value)
     → all_ascii_digits value ≡ true → IsNumberOf value (result_ok r)
-number_told [] (Ok n) h digits = absurd (omega (arith, h.0.0))
-number_told [] (Err e) h digits = λ number. cc
-number_told (b ∷ bs) (Ok n) h digits = (digits, h.1)
-number_told (b ∷ bs) (Err e) h digits = λ number. elim (cases_lt (digits_value 10 (b ∷ bs)) (2 ^ 64)) [
+number_of_digits [] (Ok n) h digits = absurd (omega (arith, h.0.0))
+number_of_digits [] (Err e) h digits = λ number. cc
+number_of_digits (b ∷ bs) (Ok n) h digits = (digits, h.1)
+number_of_digits (b ∷ bs) (Err e) h digits = λ number. elim (cases_lt (digits_value 10 (b ∷ bs)) (2 ^ 64)) [
   | inl small ↦ absurd (h (omega arith, small))
   | inr large ↦ large
 ]
@@ -46,4 +46,4 @@ number_told (b ∷ bs) (Err e) h digits = λ number. elim (cases_lt (digits_valu
 -- the same by the contract of parsing
 pub number_parsed : {E : Type 0} (value : ByteString) (r : Result ℕ E) → ParsesUnsigned 64 10 value r
     → all_ascii_digits value ≡ true → IsNumberOf value (result_ok r)
-number_parsed value r h digits = number_told value r (parse_digits numerals 64 value r h digits) digits
+number_parsed value r h digits = number_of_digits value r (parse_digits numerals 64 value r h digits) digits

@@ -1,4 +1,4 @@
--- Worked command lines: what the definitions say of each computes.
+-- Worked command lines: what the definitions give for each, computed.
 use Rattle.std.proofs.Common.{◌≡◌, ◌==◌, ◌≤◌, ◌<◌, List, ℕ, [], ◌∷◌, Result, Ok, Err, Option, Some, None, is_some, if◌then◌else◌, refl, codes, true, false, length, inl, inr, arith, lit≤, Any as SomeOne}
 use Rattle.std.specs.List.{AllByRecursion, slice_split}
 use Rattle.std.proofs.lemmas.List.Elements.{All-from_recursion}
@@ -13,7 +13,6 @@ use Rattle.sum_words.specs.Tools.{Tool, tool_called}
 use Rattle.sum_words.specs.declared.tool.Tool.TheVariants.{Md5sum, Sha256sum, B2sum, Anysum}
 use Rattle.sum_words.specs.WordFaults.{WordFaultValue, unknown_long, ambiguous_long, value_not_allowed, value_missing, unknown_short, length_invalid, length_not_bytes, tag_with_text, zero_with_check, tag_with_check, mode_with_check, ignore_without_check, status_without_check, warn_without_check, quiet_without_check, strict_without_check, check_needed}
 use Rattle.sum_words.specs.CommandLines.{unknown_tool, invoke, last_part, command_line, NeedsMemory, MayNotRead}
-use Rattle.sum_words.specs.declared.command_line.TheConstants.{PAGE}
 use Rattle.sum_lines.specs.declared.writing.put_line.Mode.TheVariants as modes
 use Rattle.sum_engine.specs.declared.settings.Report.TheVariants as reports
 
@@ -21,9 +20,9 @@ use Rattle.sum_engine.specs.declared.settings.Report.TheVariants as reports
 abbrev pub words : String → List ByteString
 words line = slice_split (λ b. b == byte " ") (codes line)
 
--- what a tool writes in a mode, each line with a newline
-abbrev pub writes : Algo → ℕ → Mode → List ByteString → Result Request WordFaultValue
-writes algo len mode operands = Ok (Generate
+-- what a tool generates in a mode, each line with a newline
+abbrev pub generates : Algo → ℕ → Mode → List ByteString → Result Request WordFaultValue
+generates algo len mode operands = Ok (Generate
     (record { kind = record { algo = algo; len = len }; style = record { mode = mode; zero = false } }) operands)
 
 -- lengths, and their faults
@@ -31,22 +30,22 @@ lengths :
     (request B2sum (words "-l 520 e") ≡ Err (length_invalid (codes "520")))
     × (request B2sum (words "-l 513 e") ≡ Err (length_invalid (codes "513")))
     × (request B2sum (words "-l 12 e") ≡ Err (length_not_bytes (codes "12")))
-    × (request B2sum (words "-l 12 -l 8 e") ≡ writes Blake2b 1 modes.Text (words "e"))
+    × (request B2sum (words "-l 12 -l 8 e") ≡ generates Blake2b 1 modes.Text (words "e"))
     × (request B2sum (words "e -l") ≡ Err (value_missing Short))
     × (request Md5sum (words "-l 8 a") ≡ Err (unknown_short 108))
     × (request B2sum (words "-l --help") ≡ Err (length_invalid (codes "--help")))
     × (request B2sum (words "--help -l") ≡ Ok Help)
-    × (request B2sum (words "--len 256 e") ≡ writes Blake2b 32 modes.Text (words "e"))
-    × (request B2sum (words "-bl256 e") ≡ writes Blake2b 32 modes.Binary (words "e"))
-    × (request B2sum (words "-l 0256 e") ≡ writes Blake2b 32 modes.Text (words "e"))
-    × (request B2sum (words "-l 0 --tag e") ≡ writes Blake2b 64 modes.Tag (words "e"))
-    × (request B2sum (words "-l 512 --tag e") ≡ writes Blake2b 64 modes.Tag (words "e"))
+    × (request B2sum (words "--len 256 e") ≡ generates Blake2b 32 modes.Text (words "e"))
+    × (request B2sum (words "-bl256 e") ≡ generates Blake2b 32 modes.Binary (words "e"))
+    × (request B2sum (words "-l 0256 e") ≡ generates Blake2b 32 modes.Text (words "e"))
+    × (request B2sum (words "-l 0 --tag e") ≡ generates Blake2b 64 modes.Tag (words "e"))
+    × (request B2sum (words "-l 512 --tag e") ≡ generates Blake2b 64 modes.Tag (words "e"))
     × (request B2sum (words "--length= e") ≡ Err (length_invalid []))
     × (request B2sum (words "-l +8 e") ≡ Err (length_invalid (codes "+8")))
     × (request B2sum (words "e --len") ≡ Err (value_missing Long))
     × (request B2sum (words "-l 99999999999999999999999999999999999999999999999999 e")
     ≡ Err (length_invalid (codes "99999999999999999999999999999999999999999999999999")))
-    × (request B2sum (words "-l 0000000000000000000000000000008 e") ≡ writes Blake2b 1 modes.Text (words "e"))
+    × (request B2sum (words "-l 0000000000000000000000000000008 e") ≡ generates Blake2b 1 modes.Text (words "e"))
 unfolding chars encode name_or_fault option_of_letter
 lengths = (refl, refl, refl, refl, refl, refl, refl, refl, refl, refl, refl, refl, refl, refl, refl, refl, refl, refl)
 
@@ -63,9 +62,9 @@ options :
     × (request Md5sum (words "--s a") ≡ Err (ambiguous_long (codes "s")))
     × (request Md5sum (words "--t a") ≡ Err (ambiguous_long (codes "t")))
     × (request Md5sum (words "--=x a") ≡ Err (ambiguous_long []))
-    × (request Md5sum (words "--ta a") ≡ writes Md5 16 modes.Tag (words "a"))
+    × (request Md5sum (words "--ta a") ≡ generates Md5 16 modes.Tag (words "a"))
     × (request Md5sum (words "--help=1") ≡ Err (value_not_allowed (codes "help")))
-    × (request Sha256sum (words "-- -b") ≡ writes Sha256 32 modes.Text (words "-b"))
+    × (request Sha256sum (words "-- -b") ≡ generates Sha256 32 modes.Text (words "-b"))
     × (request Md5sum (words "--version a") ≡ Ok Version)
 unfolding chars encode name_or_fault option_of_letter
 options = (refl, refl, refl, refl, refl, refl, refl, refl, refl, refl, refl, refl, refl, refl, refl)
@@ -73,8 +72,8 @@ options = (refl, refl, refl, refl, refl, refl, refl, refl, refl, refl, refl, ref
 -- which of several options or faults counts
 order :
     (request Md5sum (words "--tag -t a") ≡ Err tag_with_text)
-    × (request Md5sum (words "-t --tag a") ≡ writes Md5 16 modes.Tag (words "a"))
-    × (request Md5sum (words "--tag -b a") ≡ writes Md5 16 modes.Tag (words "a"))
+    × (request Md5sum (words "-t --tag a") ≡ generates Md5 16 modes.Tag (words "a"))
+    × (request Md5sum (words "--tag -b a") ≡ generates Md5 16 modes.Tag (words "a"))
     × (request Md5sum (words "-c --tag -z l") ≡ Err zero_with_check)
     × (request Md5sum (words "-c --tag l") ≡ Err tag_with_check)
     × (request Md5sum (words "-c -b l") ≡ Err mode_with_check)
@@ -104,7 +103,7 @@ checking = (refl, refl, refl, refl, refl, refl, refl, refl, refl)
 -- words of any bytes
 odd_words :
     (request Md5sum (codes "a" ∷ (233 ∷ []) ∷ codes "--" ∷ (255 ∷ []) ∷ [])
-    ≡ writes Md5 16 modes.Text (codes "a" ∷ (233 ∷ []) ∷ (255 ∷ []) ∷ []))
+    ≡ generates Md5 16 modes.Text (codes "a" ∷ (233 ∷ []) ∷ (255 ∷ []) ∷ []))
     × (request B2sum (codes "-l" ∷ (255 ∷ []) ∷ []) ≡ Err (length_invalid (255 ∷ [])))
     × (command_line (codes "digests" ∷ codes "md5sum" ∷ (233 ∷ []) ∷ []) ≡ Some (invoke Md5sum ((233 ∷ []) ∷ [])))
     × (command_line (codes "md5sum" ∷ codes "a" ∷ (45 ∷ 255 ∷ []) ∷ []) ≡ None)
@@ -113,14 +112,14 @@ unfolding chars encode name_or_fault option_of_letter tool_called is_utf8
 odd_words = (refl, refl, refl, refl, refl)
 
 -- no argument of these is longer than the page
-not_longer : (all : List ByteString) → AllByRecursion (λ a. length a ≤ PAGE) all → SomeOne (λ a. PAGE < length a) all
+not_longer : (all : List ByteString) → AllByRecursion (λ a. length a ≤ 4096) all → SomeOne (λ a. 4096 < length a) all
     → ⊥
 not_longer all short (k, a, less, at, long) =
-    let fits = All-from_recursion (λ a. length a ≤ PAGE) all short k a less in
+    let fits = All-from_recursion (λ a. length a ≤ 4096) all short k a less in
     absurd (omega (arith, rw at at fits, long))
 
--- a command line without a word is always read, where the name is no longer than the page
-no_words : (name : ByteString) → length name ≤ PAGE → MayNotRead (name ∷ []) → ⊥
+-- a command line without a word is always read, if the name is no longer than the page
+no_words : (name : ByteString) → length name ≤ 4096 → MayNotRead (name ∷ []) → ⊥
 no_words name h (inl none) = cc
 no_words name h (inr (inl kept)) = elim (tool_called (last_part name)) as (λ o.
     let called : Option Tool × List ByteString = if is_some o then (o, []) else (None, []) in 0 < length called.1 → ⊥) [

@@ -1,7 +1,9 @@
--- Texts that are written part after part.
-use Rattle.std.proofs.Common.{◌≡◌, ◌++◌, [], append_assoc}
+-- Texts that are written in parts are those of the definitions.
+use Rattle.std.proofs.Common.{◌≡◌, ◌+◌, ◌++◌, List, codes, length, length-append, arith, [], ◌∷◌, true, false, if◌then◌else◌, filter, flat_map, refl, append_assoc}
 use Rattle.std.proofs.lemmas.List.{append-nil}
-use Rattle.sum_words.specs.Items.{ByteString}
+use Rattle.sum_words.specs.Tools.{Tool}
+use Rattle.sum_words.specs.Items.{ByteString, Flag, has_option}
+use Rattle.sum_words.specs.Texts.{help_line, option_lines}
 
 -- the two lines of a fault
 pub fault_parts : {n n' f : ByteString} (prefix shown suffix colon hint end : ByteString) → n ≡ n'
@@ -10,11 +12,34 @@ pub fault_parts : {n n' f : ByteString} (prefix shown suffix colon hint end : By
     ≡ n' ++ colon ++ f ++ hint ++ n' ++ end
 fault_parts prefix shown suffix colon hint end name text = rw (← name, ← text) (simp (append_assoc, append-nil))
 
--- the help text, of which three parts say what the tool is for, and three are its options
-pub help_parts : {n n' p o : ByteString} (usage operands prefix tag suffix input first length last : ByteString)
-    → n ≡ n'
-    → prefix ++ tag ++ suffix ≡ p → first ++ length ++ last ≡ o
-    → usage ++ (n ++ (operands ++ (prefix ++ (tag ++ (suffix ++ (input ++ (first ++ (length ++ (last ++ [])))))))))
-    ≡ usage ++ n' ++ operands ++ p ++ input ++ o
-help_parts usage operands prefix tag suffix input first length last name purpose options =
-    rw (← name, ← purpose, ← options) (simp (append_assoc, append-nil))
+-- the first two lines of help, of which three parts say what the tool is for
+pub usage_parts : {n n' p : ByteString} (usage operands prefix tag suffix input : ByteString) → n ≡ n'
+    → prefix ++ tag ++ suffix ≡ p
+    → usage ++ (n ++ (operands ++ (prefix ++ (tag ++ (suffix ++ (input ++ []))))))
+    ≡ usage ++ n' ++ operands ++ p ++ input
+usage_parts usage operands prefix tag suffix input name purpose =
+    rw (← name, ← purpose) (simp (append_assoc, append-nil))
+
+-- an option's line of help
+pub row_parts : {column name' value' spaces' text' : ByteString}
+    (prefix letter suffix dashes name value spaces text end : ByteString)
+    → prefix ++ letter ++ suffix ≡ column → name ≡ name' → value ≡ value' → spaces ≡ spaces' → text ≡ text'
+    → prefix ++ (letter ++ (suffix ++ (dashes ++ (name ++ (value ++ (spaces ++ (text ++ (end ++ []))))))))
+    ≡ column ++ (dashes ++ name' ++ value') ++ spaces' ++ text' ++ end
+row_parts prefix letter suffix dashes name value spaces text end c n v s t =
+    rw (← c, ← n, ← v, ← s, ← t) (simp (append_assoc, append-nil))
+
+-- the columns that an option's name and value take
+pub columns_are : {name value : ByteString} (n v : ByteString) → n ≡ name → v ≡ value
+    → 2 + length n + length v ≡ length (codes "--" ++ name ++ value)
+columns_are n v name value = rw (← name, ← value) (omega (arith, length-append n v))
+
+-- the lines of help of one option and the others
+pub option_lines_cons : (t : Tool) (flag : Flag) (flags : List Flag)
+    → option_lines t (flag ∷ flags) ≡ option_lines t (flag ∷ []) ++ option_lines t flags
+option_lines_cons t flag flags = elim (has_option t flag) as (λ b.
+    flat_map help_line (if b then flag ∷ filter (has_option t) flags else filter (has_option t) flags)
+    ≡ flat_map help_line (if b then flag ∷ [] else []) ++ flat_map help_line (filter (has_option t) flags)) [
+      | true ↦ rw append-nil refl
+      | false ↦ refl
+    ]

@@ -4,12 +4,12 @@ use Rattle.sum_words.specs.Tools.{Tool, name_of, tool_called}
 use Rattle.sum_words.specs.declared.tool.Tool.TheVariants as tools
 
 -- each tool is found by its own name
-found_by_name : (tool : Tool) → tool_called (name_of tool) ≡ Some tool
+called_by_name : (tool : Tool) → tool_called (name_of tool) ≡ Some tool
 unfolding tool_called
-found_by_name tools.Md5sum = refl
-found_by_name tool = refl
+called_by_name tools.Md5sum = refl
+called_by_name tool = refl
 
 -- so the tool that is called by a word, and no other, has this name
 pub named : (word : List ℕ) (r : Option Tool) → r ≡ tool_called word → IfSome r (λ tool. name_of tool ≡ word)
     → (tool : Tool) → (r ≡ Some tool) ↔ (name_of tool ≡ word)
-named word r e is tool = (λ h. rw h at is, λ h. e ∙ rw (← h) (found_by_name tool))
+named word r e is tool = (λ h. rw h at is, λ h. e ∙ rw (← h) (called_by_name tool))

@@ -19,7 +19,7 @@ use Rattle.sum_words.specs.refinement.WordBytes.{pieces_cut, CutsAt, AreWords}
 pub readable_text : (word : ByteString) → IsUtf8 word → is_readable word ≡ true
 readable_text word valid = rw (is_utf8-from_IsUtf8 word valid) (or-true _)
 
--- where all words can be read, the one at a place can
+-- if all words can be read, the one at a place can
 pub readable_at : (words : List ByteString) (i : ℕ) (r : Option (Bor ByteString)) → list_all is_readable words ≡ true
     → option_copied r ≡ slice_get words i → IfSome r (λ word. is_readable word.now ≡ true)
 readable_at words i None all at = tt
@@ -77,7 +77,7 @@ pub pieces_cut-length : (bytes : List ℕ) (from : ℕ) (ends : List ℕ)
 pieces_cut-length bytes from [] = refl
 pieces_cut-length bytes from (end ∷ ends) = ap suc (pieces_cut-length bytes end ends)
 
--- where the piece at a place is cut out of the bytes
+-- the piece at a place is this part of the bytes
 pub record PieceAt (bytes : List ℕ) (words : List ByteString) (i start end : ℕ) : Type 0 where
   pub order : start ≤ end
   pub within : end ≤ length bytes
@@ -94,7 +94,7 @@ piece_at bytes from (end ∷ ends) (suc i) d cuts less =
     piece_at bytes end ends i d cuts.1 (omega (arith, less)) in
     record { order = p.order; within = p.within; piece = p.piece }
 
--- the same where the places were read out of the list
+-- the same if the places were read out of the list
 pub piece_read : {start end : ℕ} (bytes ends : List ℕ) (i : ℕ) → start ≡ get_or (0 ∷ ends) i 0
     → true ≡ ltb i (length ends) → end ≡ get_or ends i end → CutsAt bytes 0 ends
     → PieceAt bytes (pieces_cut bytes 0 ends) i start end

@@ -1,4 +1,4 @@
--- Cuts of one word.
+-- One word: its prefixes, its characters, and what is left of it for a value.
 use Rattle.std.proofs.Common.{◌≡◌, ◌==◌, ◌≢◌, ℕ, ◌+◌, true, false, List, [], ◌∷◌, ◌++◌, codes, length, drop, Option, None, Some, Result, Ok, Err, is_ok, refl, ap, sym, ◌∙◌, eqb, MatchOption, MatchResult, chars, encode_utf8_all, IsUtf8, encode_utf8}
 use denote.Ref.{Bor}
 use Rattle.std.specs.List.{starts_with}
@@ -12,13 +12,13 @@ use Rattle.std.proofs.Math.Bool.{and-true}
 use Rattle.sum_words.specs.Items.{Short, attached_value, a_value, a_word, length_value, is_option_word, is_readable}
 use Rattle.sum_words.specs.refinement.ItemIterator.{IsAfterPrefix}
 
--- what stands behind a prefix of a text, as the search for a prefix gives it
-pub behind_prefix : (prefix text : List ℕ) (r : Option (Bor (List ℕ)))
+-- the rest of a text after a prefix, as `strip_prefix` returns it
+pub prefix_stripped : (prefix text : List ℕ) (r : Option (Bor (List ℕ)))
     → MatchOption r (FindsTextPrefix prefix text None)
     (λ x. (n : ℕ) × FindsTextPrefix prefix text (Some n) × (x.now ≡ drop n text) × (length x.now + n ≡ length text))
     → MatchOption r (starts_with ◌==◌ text prefix ≡ false) (λ x. IsAfterPrefix prefix text x.now)
-behind_prefix prefix text None h = sym (starts_text false prefix text h)
-behind_prefix prefix text (Some x)
+prefix_stripped prefix text None h = sym (starts_text false prefix text h)
+prefix_stripped prefix text (Some x)
     (n, f, e, l) = (sym (starts_text true prefix text (n, f, (rw f.0 f.2))), (rw f.0 at e))
 
 -- the first character of a text
@@ -26,16 +26,16 @@ pub first_char : {bs now xs ys : List ℕ} (c : ℕ) → IsUtf8 bs → xs ≡ bs
     → chars bs ≡ c ∷ chars now
 first_char {bs = bs} {ys = ys} c valid same rest first = rw rest (chars_past_char bs ys c valid (sym same ∙ first))
 
--- what begins with a dash has it in front
-begins_with : (b : ℕ) (bs : List ℕ) → starts_with ◌==◌ (b ∷ bs) (codes "-") ≡ true → b ≡ 45
-begins_with b bs h = sym (eqb-true 45 b (sym (and-true (eqb 45 b)) ∙ h))
+-- the first byte of what begins with a dash
+starts_with_dash : (b : ℕ) (bs : List ℕ) → starts_with ◌==◌ (b ∷ bs) (codes "-") ≡ true → b ≡ 45
+starts_with_dash b bs h = sym (eqb-true 45 b (sym (and-true (eqb 45 b)) ∙ h))
 
--- what begins with a dash and goes on: something stands behind the dash
-pub goes_on : (word rest : List ℕ) → is_option_word word ≡ true → rest ≡ drop 1 word → rest ≡ [] → ⊥
-goes_on [] rest h behind none = let no : false ≡ true = h in cc
-goes_on (b ∷ []) rest h behind none =
-    let dash = begins_with b [] (and_parts _ _ h).0 in let no : false ≡ true = rw dash at h in cc
-goes_on (b ∷ c ∷ cs) rest h behind none = cc
+-- something follows the dash of a word that begins with one and goes on
+pub nonempty_after_dash : (word rest : List ℕ) → is_option_word word ≡ true → rest ≡ drop 1 word → rest ≡ [] → ⊥
+nonempty_after_dash [] rest h behind none = let no : false ≡ true = h in cc
+nonempty_after_dash (b ∷ []) rest h behind none =
+    let dash = starts_with_dash b [] (and_parts _ _ h).0 in let no : false ≡ true = rw dash at h in cc
+nonempty_after_dash (b ∷ c ∷ cs) rest h behind none = cc
 
 -- such a word that can be read is a text
 pub option_text : (word : List ℕ) → is_readable word ≡ true → is_option_word word ≡ true → IsUtf8 word
@@ -43,7 +43,7 @@ option_text word reads dash =
     let front : starts_with ◌==◌ word (codes "-") ≡ true = (and_parts _ _ dash).0 in
     IsUtf8-from_is_utf8 word (rw front at reads)
 
--- whether it is one, as the reading of a text answers
+-- whether it is a text, as `from_utf8` decides
 pub is_ok-text : {E : Type 0} (word : List ℕ) (r : Result (Bor (List ℕ)) E) (P : E → Type 0)
     → MatchResult r (λ s. (s.now ≡ word) × IsUtf8 word) (λ e. (IsUtf8 word → ⊥) × P e) → is_ok r ≡ is_utf8 word
 is_ok-text word (Ok s) P text = sym (is_utf8-from_IsUtf8 word text.1)

@@ -1,35 +1,35 @@
--- What the program is called for: from the list of its arguments, the name that it was called by and the words.
+-- What a command line asks for, by the list of arguments, of which the first is the program's name.
 use Rattle.std.specs.Prelude.{◌≡◌, ◌<◌, ◌⊎◌, ◌==◌, List, Any, length, drop, slice_get, Option, None, Some, is_some, if◌then◌else◌, option_and_then}
 use Rattle.std.specs.List.{after_last, list_all}
 use Rattle.std.specs.Option.{option_map_or}
-use Rattle.sum_words.specs.declared.command_line.TheConstants.{PAGE}
 use Rattle.sum_words.specs.Tools.{Tool, tool_called}
 use Rattle.sum_words.specs.Items.{ByteString, is_readable}
 
--- the last part of a path: what stands behind its last slash (47)
+-- the last part of a path: what follows its last slash (47)
 abbrev pub last_part : ByteString → ByteString
 last_part path = after_last (λ b. b == 47) path
 
--- what a command line calls for: an unknown tool, or this one on these words
+-- what a command line asks for: an unknown tool, or this one on these words
 pub data CommandLineValue : Type 0 where
   unknown_tool : CommandLineValue
   invoke : Tool → List ByteString → CommandLineValue
 
--- the tool and its words: all of them, where the program was called by a tool's name; else the first names the tool
+-- the tool and its words: if the last part of the program's name is a tool's, that tool and all other arguments; else
+-- the first of these names the tool
 abbrev pub tool_and_words : List ByteString → Option Tool × List ByteString
 tool_and_words all =
     let called = option_and_then (λ name. tool_called (last_part name)) (slice_get all 0) in
     if is_some called then (called, drop 1 all) else (option_and_then tool_called (slice_get all 1), drop 2 all)
 
--- nothing, where a word that begins with a dash is not UTF-8
+-- what a command line asks for; `None` if a word that begins with a dash isn't UTF-8
 abbrev pub command_line : List ByteString → Option CommandLineValue
 command_line all = if list_all is_readable (drop 1 all)
     then Some (option_map_or (λ tool. invoke tool (tool_and_words all).1) (tool_and_words all).0 unknown_tool) else None
 
--- memory is needed for the words: there is one to keep, or an argument is longer than the page that it is read into
+-- memory is needed: for a word of the tool, or for an argument that is longer than a page
 abbrev pub NeedsMemory : List ByteString → Type 0
-NeedsMemory all = (0 < length (tool_and_words all).1) ⊎ Any (λ argument. PAGE < length argument) all
+NeedsMemory all = (0 < length (tool_and_words all).1) ⊎ Any (λ argument. 4096 < length argument) all
 
--- only then can the command line be left unread: such a word is not UTF-8, or memory is needed
+-- the command line may be left unread only if a word can't be read, or if memory is needed
 abbrev pub MayNotRead : List ByteString → Type 0
 MayNotRead all = (command_line all ≡ None) ⊎ NeedsMemory all

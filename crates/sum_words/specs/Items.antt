@@ -1,4 +1,4 @@
--- What the words of a command line say, one by one: options, length values, operands, and at the end maybe a fault.
+-- The items of a tool's words: options, values of --length, operands, and at most one fault, at the end.
 use denote.Enum.Bare.{sameb}
 use Rattle.std.specs.Prelude.{ℕ, ◌+◌, ◌==◌, ◌&&◌, ◌||◌, not, Bool, List, [], ◌∷◌, ◌++◌, map, drop, Option, None, Some, Result, Ok, Err, codes, if◌then◌else◌, option_map, filter, find, position, bytes_eq, chars, encode_utf8_all}
 use Rattle.std.specs.List.{starts_with, before_first}
@@ -18,13 +18,14 @@ use Rattle.sum_words.specs.declared.parsing.options.Flag.TheVariants as flags
 abbrev pub ByteString : Type 0
 ByteString = List ℕ
 
+-- an item; the value of an option that takes one is an item of its own
 pub data ItemValue : Type 0 where
   option : Flag → ItemValue
   length_value : ByteString → ItemValue
   operand : ByteString → ItemValue
   fault : WordFaultValue → ItemValue
 
--- an option's letter, where there is one, its full name, and what help says of it
+-- an option's letter (empty if it has none), its full name, and its text in the help
 abbrev pub row_of : Flag → ByteString × ByteString × ByteString
 row_of flags.Binary = (codes "b", codes "binary", codes "mark each line as binary")
 row_of flags.Check = (codes "c", codes "check", codes "read checksums from the FILEs and check them")
@@ -41,59 +42,74 @@ row_of flags.Warn = (codes "w", codes "warn", codes "with -c: name each improper
 row_of flags.Help = (codes "", codes "help", codes "print this text")
 row_of flags.Version = (codes "", codes "version", codes "print the version")
 
+-- an option's full name
 abbrev pub full_name : Flag → ByteString
 full_name flag = (row_of flag).1
 
+-- whether an option takes a value
 abbrev pub takes_value : Flag → Bool
 takes_value flag = sameb flag_type flag flags.Length
 
--- a tool's options, in the order of help; b2sum alone has the one that takes a value (`sameb` answers as `==` does)
-abbrev pub flags_of : Tool → List Flag
-flags_of t = filter (λ flag. not (takes_value flag) || sameb tool_type t tools.B2sum)
-    (flags.Binary ∷ flags.Check ∷ flags.Length ∷ flags.Tag ∷ flags.Text ∷ flags.Zero ∷ flags.IgnoreMissing ∷
-    flags.Quiet ∷ flags.Status ∷ flags.Strict ∷ flags.Warn ∷ flags.Help ∷ flags.Version ∷ [])
+-- all options, in the order of help
+abbrev pub all_flags : List Flag
+all_flags = flags.Binary ∷ flags.Check ∷ flags.Length ∷ flags.Tag ∷ flags.Text ∷ flags.Zero ∷ flags.IgnoreMissing ∷
+    flags.Quiet ∷ flags.Status ∷ flags.Strict ∷ flags.Warn ∷ flags.Help ∷ flags.Version ∷ []
 
--- what a word says, with how the next one is read: as it stands, as the value of an option written so, or not at all
+-- whether a tool has an option: b2sum alone has the one that takes a value (`sameb` is `==`)
+abbrev pub has_option : Tool → Flag → Bool
+has_option t flag = not (takes_value flag) || sameb tool_type t tools.B2sum
+
+-- a tool's options
+abbrev pub flags_of : Tool → List Flag
+flags_of t = filter (has_option t) all_flags
+
+-- how the next word is read: as it is, as the value of an option written so, or not at all
 pub data NextWord : Type 0 where
   a_word : NextWord
   a_value : Spelling → NextWord
   no_word : NextWord
 
--- A long option: its name goes up to the first '=', and a value stands behind that.
+-- a long option's name: up to the first '='
 abbrev pub name_part : ByteString → ByteString
 name_part text = before_first (λ b. b == byte "=") text
 
+-- its value: after that '=', if there is one
 abbrev pub value_part : ByteString → Option ByteString
 value_part text = option_map (λ i. drop (i + 1) text) (position (λ b. b == byte "=") text)
 
--- the option that a name means: the one that has it in full, or else the only one whose full name begins with it
+-- the only one of these options, or the fault of a name that begins none or several
 abbrev pub the_one : ByteString → List Flag → Result Flag WordFaultValue
 the_one name [] = Err (unknown_long name)
 the_one name (flag ∷ []) = Ok flag
 the_one name several = Err (ambiguous_long name)
 
+-- the option that a name means: the one of this full name, else the only one whose full name begins with it
 unfoldable pub name_or_fault : Tool → ByteString → Result Flag WordFaultValue
 name_or_fault t name = option_map_or (λ flag. Ok flag) (find (λ flag. bytes_eq name (full_name flag)) (flags_of t))
     (the_one name (filter (λ flag. starts_with ◌==◌ (full_name flag) name) (flags_of t)))
 
+-- the items of a long option, and how the next word is read
 abbrev pub long_option : Result Flag WordFaultValue → Option ByteString → List ItemValue × NextWord
 long_option (Err f) value = (fault f ∷ [], no_word)
 long_option (Ok flag) None = if takes_value flag then ([], a_value Long) else (option flag ∷ [], a_word)
 long_option (Ok flag) (Some value) =
     if takes_value flag then (length_value value ∷ [], a_word) else (fault (value_not_allowed (full_name flag)) ∷ [], no_word)
 
--- a cluster: options one by one, by their letters; what is left of the word is the value of one that takes it
+-- a tool's option of this letter
 unfoldable pub option_of_letter : Tool → ℕ → Option Flag
 option_of_letter t c = find (λ flag. bytes_eq (row_of flag).0 (c ∷ [])) (flags_of t)
 
+-- an option in a cluster that takes a value: the rest of the cluster is the value, if any is left
 abbrev pub attached_value : List ℕ → List ItemValue × NextWord
 attached_value [] = ([], a_value Short)
 attached_value cs = (length_value (encode_utf8_all cs) ∷ [], a_word)
 
+-- a letter of a cluster, the option that it means, the letters after it, and what these give by themselves
 abbrev pub letter_then : ℕ → Option Flag → List ℕ → List ItemValue × NextWord → List ItemValue × NextWord
 letter_then c None cs rest = (fault (unknown_short c) ∷ [], no_word)
 letter_then c (Some flag) cs rest = if takes_value flag then attached_value cs else (option flag ∷ rest.0, rest.1)
 
+-- the items of a cluster, letter by letter, and how the next word is read
 abbrev pub cluster : Tool → List ℕ → List ItemValue × NextWord
 cluster t [] = ([], a_word)
 cluster t (c ∷ cs) = letter_then c (option_of_letter t c) cs (cluster t cs)
@@ -106,13 +122,13 @@ is_readable word = not (starts_with ◌==◌ word (codes "-")) || is_utf8 word
 abbrev pub is_option_word : ByteString → Bool
 is_option_word word = starts_with ◌==◌ word (codes "-") && not (bytes_eq word (codes "-"))
 
--- an operand; or behind '-' a cluster; or behind "--" a long option
+-- a word by itself: an operand; after "-" a cluster; after "--" a long option
 abbrev pub read_word : Tool → ByteString → List ItemValue × NextWord
 read_word t word = if not (is_option_word word) then (operand word ∷ [], a_word)
     else if not (starts_with ◌==◌ word (codes "--")) then cluster t (chars (drop 1 word))
     else long_option (name_or_fault t (name_part (drop 2 word))) (value_part (drop 2 word))
 
--- all words; those behind a "--" that is no option's value are operands
+-- the items of all words; the words after a "--" that is no option's value are operands
 abbrev pub items_from : Tool → NextWord → List ByteString → List ItemValue
 items_from t no_word words = []
 items_from t a_word [] = []
@@ -121,15 +137,17 @@ items_from t a_word (w ∷ ws) =
 items_from t (a_value spelling) [] = fault (value_missing spelling) ∷ []
 items_from t (a_value spelling) (w ∷ ws) = length_value w ∷ items_from t a_word ws
 
--- an item as an option, as a length value, or as an operand
+-- the option of an item, if it is one
 abbrev pub option_in : ItemValue → Option Flag
 option_in (option flag) = Some flag
 option_in item = None
 
+-- the value of an item, if it is one
 abbrev pub value_in : ItemValue → Option ByteString
 value_in (length_value value) = Some value
 value_in item = None
 
+-- the operand of an item, if it is one
 abbrev pub operand_in : ItemValue → Option ByteString
 operand_in (operand word) = Some word
 operand_in item = None

@@ -1,4 +1,4 @@
--- Laws of items, in the words of their subject: which words are operands for certain.
+-- Laws of items: which words are operands for certain.
 use Rattle.std.specs.Prelude.{◌≡◌, not, Bool, List, ◌∷◌, ◌++◌, map, codes}
 use Rattle.std.specs.List.{AllPass}
 use Rattle.sum_words.specs.declared.tool.Tool.{Tool}
@@ -13,7 +13,7 @@ abbrev pub PlainWordsAreOperands : Type 0
 PlainWordsAreOperands = (t : Tool) (words more : List ByteString) → AllPass is_plain words →
     items_from t a_word (words ++ more) ≡ map operand words ++ items_from t a_word more
 
--- behind two dashes that are no option's value every word is one
-abbrev pub WordsBehindAreOperands : Type 0
-WordsBehindAreOperands = (t : Tool) (words : List ByteString) → items_from t a_word (codes "--" ∷ words) ≡ map operand
-    words
+-- after two dashes that are no option's value every word is an operand
+abbrev pub WordsAfterDashesAreOperands : Type 0
+WordsAfterDashesAreOperands = (t : Tool) (words : List ByteString) →
+    items_from t a_word (codes "--" ∷ words) ≡ map operand words

@@ -1,4 +1,4 @@
--- What a command line asks for: the request that its items make, or the first fault that counts.
+-- What a tool's words ask for: the request of their items, or the first fault that counts.
 use denote.Enum.Bare.{sameb}
 use Rattle.std.specs.Prelude.{◌&&◌, ◌||◌, not, Bool, List, [], ◌∷◌, false, Option, None, Some, Result, Ok, Err, if◌then◌else◌, unwrap_or, option_map, filter, find, bytes_eq, filter_map}
 use Rattle.std.specs.List.{last_or, list_any}
@@ -23,17 +23,19 @@ use Rattle.sum_lines.specs.declared.writing.put_line.Mode.TheVariants as modes
 use Rattle.sum_engine.specs.declared.settings.Report.TheVariants as reports
 use Rattle.sum_words.specs.declared.parsing.options.Flag.TheVariants as flags
 
--- whether an option is among these (by `sameb`, as `==` answers), and whether it is the last of its kind among them
+-- whether an option is among these (`sameb` is `==`)
 abbrev pub has : Flag → List Flag → Bool
 has flag given = list_any (sameb the_type flag) given
 
+-- whether an option is the last of those of a kind
 abbrev pub is_last : Flag → List Flag → List Flag → Bool
 is_last flag kind given = option_map_or (sameb the_type flag) (last_or None (filter (λ f. has f kind) given)) false
 
--- the options that set a mode, and those that set a report
+-- the options that set a mode
 abbrev pub mode_flags : List Flag
 mode_flags = flags.Binary ∷ flags.Text ∷ flags.Tag ∷ []
 
+-- the options that set a report
 abbrev pub report_flags : List Flag
 report_flags = flags.Status ∷ flags.Warn ∷ flags.Quiet ∷ []
 
@@ -44,11 +46,11 @@ report_flag reports.Quiet = Some flags.Quiet
 report_flag reports.Warn = Some flags.Warn
 report_flag reports.Status = Some flags.Status
 
--- one or more digits
+-- whether a value is one or more digits
 abbrev pub is_number : ByteString → Bool
 is_number value = not (bytes_eq value []) && all_ascii_digits value
 
--- the fault of a length value, by the one of its bits
+-- the fault of a length value, by the fault of its bits
 abbrev pub length_fault : ByteString → LengthFault → WordFaultValue
 length_fault value TooLong = length_invalid value
 length_fault value NotBytes = length_not_bytes value
@@ -58,7 +60,7 @@ abbrev pub length_kind : ByteString → Result KindValue WordFaultValue
 length_kind value = if not (is_number value) then Err (length_invalid value)
     else result_map_both (λ kind. kind) (length_fault value) (blake2b_of_bits (digits_value 10 value))
 
--- the faults of the options in the order in which they count, each with when it holds
+-- the faults of the options in the order in which they count, each after its condition
 abbrev pub faults : List Flag → List (Bool × WordFaultValue)
 faults given =
     let check = has flags.Check given in

@@ -1,4 +1,4 @@
--- The tools: the name of each, and the algorithms of its digests.
+-- The tools: the name and the algorithms of each.
 use Rattle.std.specs.Prelude.{List, [], ◌∷◌, ℕ, Option, codes, find, bytes_eq}
 use Rattle.digest_kinds.specs.declared.algo.Algo.TheVariants.{Md5, Sha1, Sha224, Sha256, Sha384, Sha512, Blake2b}
 pub use Rattle.digest_kinds.specs.declared.algo.Algos.{Algos}
@@ -17,16 +17,19 @@ name_and_algos tools.Sha512sum = (codes "sha512sum", One Sha512)
 name_and_algos tools.B2sum = (codes "b2sum", One Blake2b)
 name_and_algos tools.Anysum = (codes "anysum", Any)
 
+-- a tool's name
 abbrev pub name_of : Tool → List ℕ
 name_of t = (name_and_algos t).0
 
+-- a tool's algorithms
 abbrev pub algos_of : Tool → Algos
 algos_of t = (name_and_algos t).1
 
--- the tools, and the one that is called so
+-- all tools
 abbrev pub all_tools : List Tool
 all_tools = tools.Md5sum ∷ tools.Sha1sum ∷ tools.Sha224sum ∷ tools.Sha256sum ∷ tools.Sha384sum ∷ tools.Sha512sum ∷
     tools.B2sum ∷ tools.Anysum ∷ []
 
+-- the tool of this name
 unfoldable pub tool_called : List ℕ → Option Tool
 tool_called word = find (λ tool. bytes_eq (name_of tool) word) all_tools

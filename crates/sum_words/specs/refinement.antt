@@ -1,5 +1,5 @@
--- How the code's values stand for those of the definitions. The headline reaches little of it; contracts of calls that
--- a user of the crate meets by themselves name some.
+-- Relates the code's values to those of the definitions. The contracts of `run` and of the program reach little of it;
+-- the contracts of some other public calls name more.
 pub mod ItemIterator
 pub mod OptionScan
 pub mod Arguments

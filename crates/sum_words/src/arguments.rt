@@ -1,4 +1,4 @@
-//! The list of arguments that the program is called with.
+//! The arguments of the process.
 ghost use Rattle.std.specs.Prelude.{◌≡◌, ◌≤◌, ℕ, List, Option, None, IfOk, length, map};
 ghost use Rattle.sum_words.specs.refinement.Arguments.{Fills};
 
@@ -8,17 +8,18 @@ use std::rt::Env;
 
 /// A list of arguments, the name by which the program was called first.
 pub trait Arguments {
-    /// The arguments, where they are told.
+    /// The arguments, if they are known.
     ghost known: { Self → Option (List (List ℕ)) } = { λ _. None };
 
-    /// Copies the argument at this place, counted from 0, to the front of the buffer, and answers its length.
-    /// `FillError::NotPresent` past the last argument, `FillError::TooLong` where the buffer can't hold it.
+    /// Copies the argument at this place, counted from 0, to the front of the buffer, and returns its length.
+    /// `FillError::NotPresent` past the last argument; `FillError::TooLong` if the argument is longer than the buffer.
     fn fill(&self, place: usize, buffer: &mut [u8]) -> Result<usize, FillError>
         ensures count { IfOk result (λ n. n ≤ length buffer.new) }
+        // If the arguments are known: the buffer starts with this one, or the error is the right one.
         ensures bytes { Fills (known self.now) place buffer.new result };
 }
 
-/// The arguments that the system hands over. Nothing of them is told.
+/// The arguments that the system gives. They aren't known to contracts.
 #[derive(Drop)]
 pub struct SystemArguments<R> {
     rt: R,
@@ -37,8 +38,8 @@ impl<R: Env> Arguments for SystemArguments<R> {
     }
 }
 
-/// A list of arguments in memory, which it tells.
-#[derive(Drop)]
+/// A list of arguments in memory, known to contracts.
+#[derive(Debug, Drop)]
 pub struct ToldArguments<'a> {
     arguments: &'a [&'a [u8]],
 }

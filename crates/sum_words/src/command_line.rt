@@ -11,32 +11,35 @@ use crate::words::{Words, is_readable};
 use memchr::memrchr;
 use std::alloc::{AllocError, Allocator};
 use std::env::FillError;
+use thiserror::Error;
 
-/// How long an argument may be that is read without taking memory. A page costs a short run the least.
-pub(crate) const PAGE: usize = 4096;
+/// The longest argument that is read without taking memory. A page costs a short run the least.
+const PAGE: usize = 4096;
 
 /// The words could not be read: one that begins with a dash isn't UTF-8, or memory was refused.
-#[derive(Clone, Copy, Debug, PartialEq, Eq)]
+#[derive(Clone, Copy, Debug, PartialEq, Eq, Error)]
+#[error("words not read")]
 pub struct NotRead;
 
 /// What a command line asks for.
 #[derive(Drop)]
 pub enum CommandLine<A: Allocator> {
-    /// No tool, or one that there isn't.
+    /// A missing or unknown tool.
     UnknownTool,
     /// This tool, on these words.
     Invoke(Tool, Words<A>),
 }
 
-/// Reads the command line. The last part of the name by which the program was called is the tool's, where it is one;
-/// else the first word is. `NotRead` where a word that begins with a dash isn't UTF-8, or where memory is refused.
-/// Memory is wanted only where a word stands behind the tool's name, known or not, or where an argument is longer than
-/// a page.
+/// Reads the command line. If the last part of the name by which the program was called is a tool's name, it names the
+/// tool; else the first word does. `NotRead` if a word that begins with a dash isn't UTF-8, or if memory is refused.
+/// Memory is needed only if a word follows the tool's name, known or not, or if an argument is longer than a page.
 pub fn read_command_line<A: Allocator + Copy, G: Arguments>(
     alloc: A,
     arguments: &G,
 ) -> Result<CommandLine<A>, NotRead>
+    // If the arguments are known: what they ask for.
     ensures line { IfOk result (λ line. IsCommandLine (G.known arguments.now) (command_line_value line)) }
+    // If the arguments are known: a word is unreadable, or memory is needed.
     ensures not_read { OnErr result (MayBeUnread (G.known arguments.now)) }
 {
     let mut room = Room {
@@ -56,7 +59,7 @@ pub fn read_command_line<A: Allocator + Copy, G: Arguments>(
     }
 }
 
-// Room for one argument at a time: a page, and a vector that grows for what is longer.
+// Room for one argument: a page, and a vector that grows for a longer one.
 #[derive(Drop)]
 struct Room<A: Allocator> {
     page: [u8; PAGE],
@@ -64,27 +67,29 @@ struct Room<A: Allocator> {
 }
 
 impl<A: Allocator> Room<A> {
-    // The argument at this place, `None` past the last.
+    // The argument at this place; `None` past the last.
     fn argument<G: Arguments>(
         &mut self,
         arguments: &G,
         place: usize,
     ) -> Result<Option<&[u8]>, NotRead>
         ensures bytes { IfOk result (λ o. ArgumentIs (G.known arguments.now) place (option_map (λ s. s.now) o)) }
-        ensures not_read { OnErr result (IsLonger (G.known arguments.now) place PAGE) }
+        ensures not_read { OnErr result (IsLonger (G.known arguments.now) place 4096) }
     {
         match arguments.fill(place, &mut self.page) {
             Ok(len) => Ok(Some(&self.page[..len])),
             Err(FillError::NotPresent) => Ok(None),
-            Err(FillError::TooLong) => match fill_growing(arguments, place, &mut self.more)? {
-                Some(len) => Ok(Some(&self.more[..len])),
-                None => Ok(None),
-            },
+            Err(FillError::TooLong) => {
+                let Some(len) = fill_growing(arguments, place, &mut self.more)? else {
+                    return Ok(None);
+                };
+                Ok(Some(&self.more[..len]))
+            }
         }
     }
 }
 
-// Copies the argument at this place to the vector's front and answers its length.
+// Copies the argument at this place to the front of the vector, and returns its length; `None` past the last.
 fn fill_growing<A: Allocator, G: Arguments>(
     arguments: &G,
     place: usize,
@@ -120,7 +125,7 @@ fn grow<A: Allocator>(more: &mut Vec<u8, A>) -> Result<(), AllocError>
     more.resize(twice.max(2 * PAGE), 0)
 }
 
-// The tool that is called by the last part of the name by which the program was called.
+// The tool that the last part of the program's name names.
 #[tactic(auto, using(crate::proofs::CommandLineLemmas::longer_unread))]
 fn tool_called_by_name<A: Allocator, G: Arguments>(
     arguments: &G,
@@ -129,13 +134,11 @@ fn tool_called_by_name<A: Allocator, G: Arguments>(
     ensures tool { IfOk result (λ tool. IsNameOf (G.known arguments.now) tool) }
     ensures not_read { OnErr result (MayBeUnread (G.known arguments.now)) }
 {
-    match room.argument(arguments, 0)? {
-        Some(path) => Ok(Tool::of_name(last_part(path))),
-        None => Ok(None),
-    }
+    let path = room.argument(arguments, 0)?;
+    Ok(path.and_then(|path| Tool::of_name(last_part(path))))
 }
 
-// What stands behind the last slash of a path; all of it where there is none.
+// What follows the last slash of a path; all of it if there is none.
 fn last_part(path: &[u8]) -> &[u8]
     ensures { result.now ≡ last_part path.now }
 {
@@ -145,7 +148,7 @@ fn last_part(path: &[u8]) -> &[u8]
     }
 }
 
-// The tool that is called by the first word.
+// The tool that the first word names.
 #[tactic(auto, using(crate::proofs::CommandLineLemmas::first_word_steps))]
 fn tool_called_by_word<A: Allocator, G: Arguments>(
     arguments: &G,
@@ -161,7 +164,7 @@ fn tool_called_by_word<A: Allocator, G: Arguments>(
     }
 }
 
-// The arguments from this place on, each of which has to be readable as a word.
+// The arguments from this place on; each has to be readable as a word.
 #[tactic(auto, using(crate::proofs::CommandLineLemmas::word_steps))]
 fn words_from<A: Allocator + Copy, G: Arguments>(
     alloc: A,

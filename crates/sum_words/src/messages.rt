@@ -1,4 +1,4 @@
-//! The texts that a tool writes of itself.
+//! The texts that the program itself writes.
 
 pub(crate) mod help;
 pub(crate) mod word_faults;

@@ -1,4 +1,4 @@
-//! The tools, and what each is called.
+//! The tools and their names.
 ghost use Rattle.std.specs.Prelude.{◌≡◌, ◌↔◌, Some, IfSome};
 ghost use Rattle.sum_words.specs.declared.tool.Tool.{Tool};
 ghost use Rattle.sum_words.specs.Tools.{name_of, algos_of, tool_called};
@@ -31,14 +31,14 @@ static TOOLS: [Tool; 8] = [
 ];
 
 impl Tool {
-    /// The tool of this name; `None` for every word that names no tool.
+    /// The tool of this name; `None` if the word names no tool.
     pub fn from_word(word: &str) -> Option<Tool>
         ensures { (tool : Tool) → (result ≡ Some tool) ↔ (name_of tool ≡ word.now) }
     {
         Tool::of_name(word.as_bytes())
     }
 
-    /// The tool whose name these bytes are; `None` where they are none's.
+    /// The tool whose name these bytes are; `None` if they are no tool's.
     #[tactic(auto, unfolding(crate::specs::Tools::tool_called))]
     pub fn of_name(name: &[u8]) -> Option<Tool>
         ensures tool { result ≡ tool_called name.now }
@@ -50,7 +50,7 @@ impl Tool {
             .find(|tool| tool.name().as_bytes() == name)
     }
 
-    /// The tool's name, as it is typed and as it begins each of its messages.
+    /// The tool's name, as it is typed and as each of its messages begins.
     pub fn name(self) -> &'static str
         ensures { result.now ≡ name_of self }
     {

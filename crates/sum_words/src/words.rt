@@ -1,4 +1,4 @@
-//! The words of a command line, kept in memory.
+//! The words of a command line.
 ghost use Rattle.std.specs.Prelude.{◌≡◌, ◌<◌, [], ◌∷◌, ◌++◌, ◌+◌, ◌^◌, true, OnOk, OnErr, OnSome, IfSome, length};
 ghost use Rattle.std.specs.Prelude.{slice_get, slice_index};
 ghost use Rattle.std.specs.Option.{option_copied};
@@ -17,13 +17,14 @@ pub fn is_readable(word: &[u8]) -> bool
     !word.starts_with(b"-") || is_text(word)
 }
 
+// Whether bytes are UTF-8.
 fn is_text(word: &[u8]) -> bool
     ensures { result ≡ is_utf8 word.now }
 {
     str::from_utf8(word).is_ok()
 }
 
-/// A list of words, kept as their bytes beside the places where each of them ends. Each can be read ([`is_readable`]).
+/// A list of words: their bytes, and the place where each of them ends. Each can be read ([`is_readable`]).
 #[derive(Drop)]
 pub struct Words<A: Allocator> {
     bytes: Vec<u8, A>,
@@ -54,7 +55,7 @@ impl<A: Allocator + Copy> Words<A> {
 }
 
 impl<A: Allocator> Words<A> {
-    /// Adds a text at the end. `NoRoom` where memory is refused; the list is then as it was.
+    /// Adds a text at the end. `NoRoom` if memory is refused; the list is then unchanged.
     #[tactic(auto, using(crate::proofs::WordBytesLemmas::readable_text))]
     pub fn add(&mut self, word: &str) -> Result<(), NoRoom>
         ensures ok { OnOk result (self.new ≡ self.old ++ word.now ∷ []) }
@@ -63,8 +64,8 @@ impl<A: Allocator> Words<A> {
         self.add_bytes(word.as_bytes())
     }
 
-    /// Adds a word that can be read ([`is_readable`]) at the end. `NoRoom` where memory is refused; the list is then as
-    /// it was.
+    /// Adds a word that can be read ([`is_readable`]) at the end. `NoRoom` if memory is refused; the list is then
+    /// unchanged.
     #[tactic(auto, using(crate::proofs::WordBytesLemmas::pushed))]
     pub fn add_bytes(&mut self, word: &[u8]) -> Result<(), NoRoom>
         requires { is_readable word.now ≡ true }
@@ -90,7 +91,7 @@ impl<A: Allocator> Words<A> {
         self.lent().get(i)
     }
 
-    /// The list, for those who only read it.
+    /// The list, to be read.
     pub fn lent(&self) -> LentWords<'_>
         ensures { result ≡ self.now }
     {
@@ -101,8 +102,8 @@ impl<A: Allocator> Words<A> {
     }
 }
 
-/// A list of words that is lent. It doesn't say which memory the list is in.
-#[derive(Drop)]
+/// A list of words that is lent, whatever its allocator.
+#[derive(Debug, Drop)]
 pub struct LentWords<'a> {
     bytes: &'a [u8],
     ends: &'a [usize],
@@ -131,7 +132,7 @@ impl<'a> LentWords<'a> {
     }
 }
 
-// The piece of the bytes at a place, `None` past the last.
+// The piece of the bytes at a place; `None` past the last.
 #[tactic(auto, using(crate::proofs::WordBytesLemmas::piece_read))]
 fn piece_at<'a>(bytes: &'a [u8], ends: &'a [usize], i: usize) -> Option<&'a [u8]>
     requires { CutsAt bytes.now 0 ends.now }
@@ -143,7 +144,7 @@ fn piece_at<'a>(bytes: &'a [u8], ends: &'a [usize], i: usize) -> Option<&'a [u8]
     Some(&bytes[start..end])
 }
 
-// Where the piece at a place begins: at the end of the piece before it.
+// The start of the piece at a place: the end of the piece before it.
 fn start_of(ends: &[usize], i: usize) -> usize
     requires { i < length ends.now }
     ensures { result ≡ slice_index (0 ∷ ends.now) i }

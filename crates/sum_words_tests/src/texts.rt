@@ -2,7 +2,7 @@
 use std::test::Fail;
 use sum_engine::Stop;
 use sum_lines::{SinkFault, ToldSink};
-use sum_words::{Tool, put_help, put_stop, put_unknown, put_version};
+use sum_words::{Tool, put_help, put_not_read, put_stop, put_unknown, put_version};
 
 #[test]
 fn tools(rt: HostRuntime) {
@@ -19,10 +19,13 @@ fn tools(rt: HostRuntime) {
 }
 
 #[test]
-fn no_tool(rt: HostRuntime) -> Result<(), Fail> {
+fn no_tool_and_no_words(rt: HostRuntime) -> Result<(), Fail> {
     let mut err = ToldSink::<64>::new(64);
     put_unknown(&mut err)?;
     assert_eq!(rt; err.bytes(), b"digests: unknown tool\n".as_slice());
+    let mut err = ToldSink::<64>::new(64);
+    put_not_read(&mut err)?;
+    assert_eq!(rt; err.bytes(), b"digests: words not read\n".as_slice());
     Ok(())
 }
 
@@ -57,17 +60,23 @@ fn stopped_texts(rt: HostRuntime) {
     }
 }
 
-const B2SUM_HELP_START: &str = "Usage: b2sum [OPTION]... [FILE]...
-Print or check BLAKE2b checksums. With no FILE, or when FILE is -, read standard input.
-  -b, --binary          mark each line as binary
+const FIRST_OPTIONS: &str = "  -b, --binary          mark each line as binary
   -c, --check           read checksums from the FILEs and check them
-  -l, --length=BITS     digest length in bits, a multiple of 8, at most 512
-      --tag             write lines of the tagged form
 ";
 
-const ANYSUM_HELP_START: &str = "Usage: anysum [OPTION]... [FILE]...
-Check checksums of tagged lines. With no FILE, or when FILE is -, read standard input.
-  -b, --binary          mark each line as binary
+const LENGTH: &str =
+    "  -l, --length=BITS     digest length in bits, a multiple of 8, at most 512\n";
+
+const LAST_OPTIONS: &str = "      --tag             write lines of the tagged form
+  -t, --text            mark each line as text (default)
+  -z, --zero            end each line with NUL and escape no name
+      --ignore-missing  with -c: neither fail nor report for missing files
+      --quiet           with -c: print no OK lines
+      --status          with -c: print no report
+      --strict          with -c: fail for improperly formatted lines
+  -w, --warn            with -c: name each improperly formatted line
+      --help            print this text
+      --version         print the version
 ";
 
 // The help of a tool. Without a contract, as above.
@@ -78,11 +87,20 @@ fn help_of(tool: Tool) -> Result<ToldSink<1024>, Fail> {
 }
 
 #[test]
-fn texts(rt: HostRuntime) -> Result<(), Fail> {
-    let b2sum = help_of(Tool::B2sum)?;
-    assert!(rt; b2sum.bytes().starts_with(B2SUM_HELP_START.as_bytes()));
-    let anysum = help_of(Tool::Anysum)?;
-    assert!(rt; anysum.bytes().starts_with(ANYSUM_HELP_START.as_bytes()));
+fn help(rt: HostRuntime) -> Result<(), Fail> {
+    for (tool, purpose, length) in [
+        (Tool::Md5sum, "Print or check MD5 checksums.", ""),
+        (Tool::B2sum, "Print or check BLAKE2b checksums.", LENGTH),
+        (Tool::Anysum, "Check checksums of tagged lines.", ""),
+    ] {
+        let name = tool.name();
+        let want = format!(in rt.alloc();
+            "Usage: {name} [OPTION]... [FILE]...\n\
+             {purpose} With no FILE, or when FILE is -, read standard input.\n\
+             {FIRST_OPTIONS}{length}{LAST_OPTIONS}"
+        )?;
+        assert_eq!(rt; help_of(tool)?.bytes(), want.as_bytes());
+    }
     Ok(())
 }
 

@@ -1,15 +1,15 @@
 -- Joins the texts that the program writes as a whole to what they say.
-use Rattle.std.specs.Prelude.{codes}
 use Rattle.sum_words.specs.Items.{ByteString as Bytes}
-use Rattle.sum_words.specs.Texts.{fault_lines, help, version, stop_line}
+use Rattle.sum_words.specs.Texts.{fault_lines, help, version, stop_line, unknown_tool_line, not_read_line}
 use Rattle.sum_words.specs.refinement.ItemIterator.{fault_of}
 use Rattle.digests.specs.declared.messages.Message.{Message}
 use Rattle.digests.specs.declared.messages.Message.TheVariants as texts
 
+-- the text of a message
 abbrev pub message_text : Message → Bytes
 message_text (texts.Fault tool fault) = fault_lines tool (fault_of fault.now)
 message_text (texts.Help tool) = help tool
 message_text (texts.Version tool) = version tool
-message_text texts.UnknownTool = codes "digests: unknown tool\n"
-message_text texts.NotRead = codes "digests: words not read\n"
+message_text texts.UnknownTool = unknown_tool_line
+message_text texts.NotRead = not_read_line
 message_text (texts.Stop tool stop) = stop_line tool stop

@@ -1,5 +1,4 @@
--- Joins the iterator over the words to the list of items: what its values say, and what is still to come where it
--- stands.
+-- Relates the iterator over the words to the list of items: the values of its types, and the items that remain.
 use Rattle.std.specs.Prelude.{◌≡◌, ◌==◌, ℕ, drop, length, true, map, List, [], ◌∷◌, ◌++◌, Option, None, Some, chars}
 use Rattle.std.specs.List.{starts_with}
 use Rattle.sum_words.specs.declared.tool.Tool.{Tool}
@@ -14,12 +13,12 @@ use Rattle.sum_words.specs.declared.parsing.items.Item.TheVariants as says
 use Rattle.sum_words.specs.declared.parsing.items.ParserState.TheVariants as states
 use Rattle.sum_words.specs.declared.parsing.items.ParserStep.TheVariants as steps
 
--- a letter as a text, where there is one
+-- an option's letter as the table has it
 abbrev pub letter_text : Option ℕ → ByteString
 letter_text None = []
 letter_text (Some c) = c ∷ []
 
--- the fault that the program's value says
+-- the value of a `WordFault`
 abbrev pub fault_of : WordFault → WordFaultValue
 fault_of (words.UnknownLong name) = unknown_long name.now
 fault_of (words.AmbiguousLong name) = ambiguous_long name.now
@@ -39,35 +38,35 @@ fault_of words.QuietWithoutCheck = quiet_without_check
 fault_of words.StrictWithoutCheck = strict_without_check
 fault_of words.CheckNeeded = check_needed
 
--- the item that the program's value says
+-- the value of an `Item`
 abbrev pub item_of : WordItem → ItemValue
 item_of (says.Flag flag) = option flag
 item_of (says.Length value) = length_value value.now
 item_of (says.Operand word) = operand word.now
 item_of (says.Fault f) = fault (fault_of f)
 
--- what a word says, and then the words behind it
+-- the items of a word that was read, and of the words after it
 abbrev pub read_then : Tool → List ItemValue × NextWord → List ByteString → List ItemValue
 read_then t r words = r.0 ++ items_from t r.1 words
 
--- the items still to come where the iterator stands, before these words
+-- the items that remain in a state, before these words
 abbrev pub remaining_items : Tool → ParserState → List ByteString → List ItemValue
 remaining_items t states.Word words = items_from t a_word words
 remaining_items t (states.Cluster c rest) words = read_then t (cluster t (c ∷ chars rest.now)) words
 remaining_items t states.OnlyOperands words = map operand words
 remaining_items t states.Ended words = items_from t no_word words
 
--- the items that a step makes of these words
+-- the items that remain from a step on, before these words
 abbrev pub step_items : Tool → ParserStep → List ByteString → List ItemValue
 step_items t (steps.Say x state) words = item_of x ∷ remaining_items t state words
 step_items t (steps.Value spelling) words = items_from t (a_value spelling) words
 step_items t steps.OnlyOperands words = map operand words
 
--- the first member was taken, as this says, or there is none
+-- the first member was taken, or there is none
 abbrev pub TakesFirst : {X Y : Type 0} → (X → Y) → List Y → Option X → List Y → Type 0
 TakesFirst f old None new = (old ≡ []) × (new ≡ [])
 TakesFirst f old (Some x) new = old ≡ f x ∷ new
 
--- what stands behind a prefix of a word
+-- the rest of a word after a prefix
 abbrev pub IsAfterPrefix : ByteString → ByteString → ByteString → Type 0
 IsAfterPrefix prefix word rest = (starts_with ◌==◌ word prefix ≡ true) × (rest ≡ drop (length prefix) word)

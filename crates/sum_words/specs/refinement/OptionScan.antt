@@ -1,4 +1,4 @@
--- Joins the reader of the words to the request: what its running values say, and its answers.
+-- Relates the scan of the options to the request: the values so far, and the answers.
 use Rattle.std.specs.Prelude.{ℕ, ◌≡◌, ◌≤◌, ◌^◌, ◌||◌, true, Bool, List, [], Option, None, Some, Result, Ok, Err, filter, option_map, option_copied, filter_map}
 use Rattle.std.specs.List.{last_or}
 use Rattle.std.specs.Str.Parse.{digits_value}
@@ -19,15 +19,15 @@ mode_flag modes.Text = flags.Text
 mode_flag modes.Binary = flags.Binary
 mode_flag modes.Tag = flags.Tag
 
--- the last of these options that is given; or an earlier one, where there is none
+-- the last of these options that is given, or an earlier one if none is
 abbrev pub last_after : List Flag → Option Flag → List Flag → Option Flag
 last_after kind earlier given = last_or earlier (filter (λ flag. has flag kind) given)
 
--- an option was there earlier, or is in the rest, exactly where it is among all
+-- an option was given earlier, or is in the rest, exactly if it is among all
 abbrev pub IsThere : Flag → Bool → List ItemValue → List ItemValue → Type 0
 IsThere flag earlier rest all = (has flag (filter_map option_in rest) || earlier) ≡ has flag (filter_map option_in all)
 
--- the running values and the rest, which is still to be read, say what all items say
+-- the options chosen so far and those of the rest are those of all items
 pub record IsChosenBy (c : Chosen) (rest all : List ItemValue) : Type 0 where
   pub mode : last_after mode_flags (option_map mode_flag c.mode) (filter_map option_in rest)
       ≡ last_after mode_flags None (filter_map option_in all)
@@ -42,17 +42,17 @@ pub record IsChosenBy (c : Chosen) (rest all : List ItemValue) : Type 0 where
   pub ignore_missing : IsThere flags.IgnoreMissing c.ignore_missing rest all
   pub strict : IsThere flags.Strict c.strict rest all
 
--- an answer whose fault is the program's value
+-- the value of a result
 abbrev pub result_of : {X : Type 0} → Result X WordFault → Result X WordFaultValue
 result_of (Ok x) = Ok x
 result_of (Err f) = Err (fault_of f)
 
--- reading says what the options of all items say, where none of them decides the answer; else it says that answer
+-- the scan returns the options of all items if none of these decides the answer, else that answer
 abbrev pub IsScanOf : ScannedOptions → List ItemValue → Type 0
 IsScanOf (Options c) xs = IsChosenBy c [] xs × (early_answer xs ≡ None)
 IsScanOf (Answer r) xs = early_answer xs ≡ Some (result_of r)
 
--- whether a text is a number, and which, where a u64 holds it
+-- a value's number, or `None` if it isn't one below 2^64
 abbrev pub IsNumberOf : ByteString → Option ℕ → Type 0
 IsNumberOf value None = is_number value ≡ true → 2 ^ 64 ≤ digits_value 10 value
 IsNumberOf value (Some n) = (is_number value ≡ true) × (n ≡ digits_value 10 value)

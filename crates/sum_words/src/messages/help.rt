@@ -1,88 +1,123 @@
 //! The help and the version text.
-ghost use Rattle.std.specs.Prelude.{◌≡◌, ◌++◌, flat_map};
+ghost use Rattle.std.specs.Prelude.{◌≡◌, ◌-◌, ◌∷◌, ◌++◌, [], replicate};
 ghost use Rattle.sum_lines.specs.sinks.Sinks.{WritesAll};
 ghost use Rattle.sum_lines.specs.refinement.PartTexts.{part_text};
-ghost use Rattle.sum_words.specs.Items.{flags_of};
-ghost use Rattle.sum_words.specs.Texts.{help, help_line, purpose, version};
+ghost use Rattle.sum_words.specs.Texts.{usage, help, help_line, letter_column, value_column, option_lines, purpose, version};
 ghost use Rattle.sum_words.specs.Tools.{algos_of};
 
+use crate::parsing::options::{Flag, all_flags, has_option};
 use crate::tool::Tool;
 use digest_kinds::Algos;
-use sum_lines::{Part, Sink, SinkFault, put_parts};
+use sum_lines::{Part, Sink, SinkFault, put_all, put_parts};
 
-/// Writes the help text. A fault of the sink where a write failed; of what was held and of the text a proper prefix is
-/// then handed on, and nothing is held.
+/// Writes the help text, or returns `SinkFault` as [`sum_lines::put_all`] does.
 pub fn put_help<O: Sink>(out: &mut O, tool: Tool) -> Result<(), SinkFault>
     ensures { WritesAll (O.state out.old) (O.state out.new) (help tool) result }
+{
+    put_usage(out, tool)?;
+    put_options(out, tool, all_flags())
+}
+
+// Writes the first two lines.
+fn put_usage<O: Sink>(out: &mut O, tool: Tool) -> Result<(), SinkFault>
+    ensures { WritesAll (O.state out.old) (O.state out.new) (usage tool) result }
 {
     let usage = Part::Bytes(b"Usage: ");
     let name = Part::Bytes(tool.name().as_bytes());
     let operands = Part::Bytes(b" [OPTION]... [FILE]...\n");
-    let (prefix, tag, back) = purpose(tool);
+    let (prefix, tag, suffix) = purpose(tool);
     let input = Part::Bytes(b" With no FILE, or when FILE is -, read standard input.\n");
-    let (first, length, last) = options(tool);
-    put_parts(
-        out,
-        &[
-            usage, name, operands, prefix, tag, back, input, first, length, last,
-        ],
-    )
+    put_parts(out, &[usage, name, operands, prefix, tag, suffix, input])
 }
 
-// What the tool is for: the algorithm's tag, and what stands before and behind it.
+// What the tool is for: the algorithm's tag, and what precedes and follows it.
 fn purpose(tool: Tool) -> (Part<'static>, Part<'static>, Part<'static>)
     ensures { part_text result.0 ++ part_text result.1 ++ part_text result.2 ≡ purpose (algos_of tool) }
 {
-    let (prefix, tag, back) = match tool.algos() {
+    let (prefix, tag, suffix) = match tool.algos() {
         Algos::One(algo) => ("Print or check ", algo.tag(), " checksums."),
         Algos::Any => ("Check checksums of tagged lines.", "", ""),
     };
     (
         Part::Bytes(prefix.as_bytes()),
         Part::Bytes(tag.as_bytes()),
-        Part::Bytes(back.as_bytes()),
+        Part::Bytes(suffix.as_bytes()),
     )
 }
 
-// The lines of the tool's options.
-fn options(tool: Tool) -> (Part<'static>, Part<'static>, Part<'static>)
-    ensures { part_text result.0 ++ part_text result.1 ++ part_text result.2 ≡ flat_map help_line (flags_of tool) }
+// Writes the lines of those of these options that the tool has.
+fn put_options<O: Sink>(out: &mut O, tool: Tool, flags: &[Flag]) -> Result<(), SinkFault>
+    ensures { WritesAll (O.state out.old) (O.state out.new) (option_lines tool flags.now) result }
 {
-    match tool {
-        Tool::B2sum => (FIRST_OPTIONS, LENGTH, LAST_OPTIONS),
-        _ => (FIRST_OPTIONS, Part::Bytes(b""), LAST_OPTIONS),
+    for flag in flags {
+        put_option(out, tool, *flag)?;
+    }
+    Ok(())
+}
+
+// Writes the line of an option, if the tool has it.
+fn put_option<O: Sink>(out: &mut O, tool: Tool, flag: Flag) -> Result<(), SinkFault>
+    ensures { WritesAll (O.state out.old) (O.state out.new) (option_lines tool (flag ∷ [])) result }
+{
+    if !has_option(tool, flag) {
+        return put_all(out, b"");
+    }
+    match flag.row().letter {
+        Some(letter) => put_row(out, flag, b"  -", &[letter], b", "),
+        None => put_row(out, flag, b"      ", b"", b""),
     }
 }
 
-/// Writes the version text. A fault of the sink where a write failed; of what was held and of the text a proper prefix
-/// is then handed on, and nothing is held.
+// Writes the line of an option: its letter between these bytes, its name in 18 columns, and its text.
+fn put_row<'a, O: Sink>(
+    out: &mut O,
+    flag: Flag,
+    prefix: &'a [u8],
+    letter: &'a [u8],
+    suffix: &'a [u8],
+) -> Result<(), SinkFault>
+    requires { prefix.now ++ letter.now ++ suffix.now ≡ letter_column flag }
+    ensures { WritesAll (O.state out.old) (O.state out.new) (help_line flag) result }
+{
+    let row = flag.row();
+    let value = value_column(flag);
+    let columns = 2 + row.name.len() + value.len();
+    put_parts(
+        out,
+        &[
+            Part::Bytes(prefix),
+            Part::Bytes(letter),
+            Part::Bytes(suffix),
+            Part::Bytes(b"--"),
+            Part::Bytes(row.name.as_bytes()),
+            Part::Bytes(value.as_bytes()),
+            Part::Bytes(padding(columns)),
+            Part::Bytes(row.help.as_bytes()),
+            Part::Bytes(b"\n"),
+        ],
+    )
+}
+
+// The value in the line of an option that takes one.
+fn value_column(flag: Flag) -> &'static str
+    ensures { result.now ≡ value_column flag }
+{
+    if flag.takes_value() { "=BITS" } else { "" }
+}
+
+// The spaces that fill a name of so many bytes up to 18 columns.
+fn padding(columns: usize) -> &'static [u8]
+    ensures { result.now ≡ replicate (18 - columns) 32 }
+{
+    &SPACES[..18usize.saturating_sub(columns)]
+}
+
+static SPACES: [u8; 18] = [b' '; 18];
+
+/// Writes the version text, or returns `SinkFault` as [`sum_lines::put_all`] does.
 pub fn put_version<O: Sink>(out: &mut O, tool: Tool) -> Result<(), SinkFault>
     ensures { WritesAll (O.state out.old) (O.state out.new) (version tool) result }
 {
     let name = Part::Bytes(tool.name().as_bytes());
     put_parts(out, &[name, Part::Bytes(b" (digests), profile 2\n")])
 }
-
-const FIRST_OPTIONS: Part<'static> = Part::Bytes(
-    b"  -b, --binary          mark each line as binary
-  -c, --check           read checksums from the FILEs and check them
-",
-);
-
-const LENGTH: Part<'static> = Part::Bytes(
-    b"  -l, --length=BITS     digest length in bits, a multiple of 8, at most 512\n",
-);
-
-const LAST_OPTIONS: Part<'static> = Part::Bytes(
-    b"      --tag             write lines of the tagged form
-  -t, --text            mark each line as text (default)
-  -z, --zero            end each line with NUL and escape no name
-      --ignore-missing  with -c: neither fail nor report for missing files
-      --quiet           with -c: print no OK lines
-      --status          with -c: print no report
-      --strict          with -c: fail for improperly formatted lines
-  -w, --warn            with -c: name each improperly formatted line
-      --help            print this text
-      --version         print the version
-",
-);

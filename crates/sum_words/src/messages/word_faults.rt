@@ -1,21 +1,21 @@
-//! What the program itself writes on standard error: for a fault in the words, for a tool that it doesn't know, and for
-//! a run that stopped.
-ghost use Rattle.std.specs.Prelude.{◌≡◌, ◌++◌, codes};
+//! What the program itself writes on standard error: for a fault in the words, an unknown tool, words that could not be
+//! read, and a stop.
+ghost use Rattle.std.specs.Prelude.{◌≡◌, ◌++◌};
 ghost use Rattle.sum_lines.specs.sinks.Sinks.{WritesAll};
 ghost use Rattle.sum_lines.specs.refinement.PartTexts.{part_text};
 ghost use Rattle.sum_words.specs.WordFaults.{WordFaultValue};
 ghost use Rattle.sum_words.specs.refinement.ItemIterator.{fault_of};
 ghost use Rattle.sum_words.specs.declared.tool.Tool.{Tool};
 ghost use Rattle.sum_words.specs.Tools.{name_of};
-ghost use Rattle.sum_words.specs.Texts.{wording, fault_lines, stop_line};
+ghost use Rattle.sum_words.specs.Texts.{wording, fault_lines, stop_line, unknown_tool_line, not_read_line};
 
 use crate::parsing::options::Spelling;
 use crate::tool::Tool;
 use sum_engine::Stop;
 use sum_lines::{Part, Sink, SinkFault, put_all, put_parts};
 
-/// A fault in the words. Each holds what its text shows. Of the first five, those of one option, the one counts that
-/// comes first among the words; the others count behind them, in the order in which they stand.
+/// A fault in the words, with what its text shows. Of the first five, each of one option, the first among the words
+/// counts; the others follow in the order of the variants.
 #[derive(Clone, Copy, Debug, PartialEq, Eq)]
 pub enum WordFault<'a> {
     /// A long option, of this name as it was typed, that no option's name begins with.
@@ -32,7 +32,7 @@ pub enum WordFault<'a> {
     LengthInvalid(&'a [u8]),
     /// A length that isn't a multiple of 8.
     LengthNotBytes(&'a [u8]),
-    /// `--tag`, where `--text` is the last of `--binary`, `--tag` and `--text`.
+    /// `--tag`, if `--text` is the last of `--binary`, `--tag` and `--text`.
     TagWithText,
     /// `--zero` with `--check`.
     ZeroWithCheck,
@@ -54,8 +54,7 @@ pub enum WordFault<'a> {
     CheckNeeded,
 }
 
-/// Writes the two lines of a fault. A fault of the sink where a write failed; of what was held and of the lines a
-/// proper prefix is then handed on, and nothing is held.
+/// Writes the two lines of a fault, or returns `SinkFault` as [`sum_lines::put_all`] does.
 pub fn put_fault<E: Sink>(err: &mut E, tool: Tool, fault: &WordFault<'_>) -> Result<(), SinkFault>
     ensures { WritesAll (E.state err.old) (E.state err.new) (fault_lines tool (fault_of fault.now)) result }
 {
@@ -64,7 +63,7 @@ pub fn put_fault<E: Sink>(err: &mut E, tool: Tool, fault: &WordFault<'_>) -> Res
     put_lines(err, tool, prefix, shown, suffix)
 }
 
-// Writes the two lines of a fault, of whose text these are the parts.
+// Writes the two lines of the fault whose text has these parts.
 fn put_lines<'a, E: Sink>(
     err: &mut E,
     tool: Tool,
@@ -84,8 +83,8 @@ fn put_lines<'a, E: Sink>(
     put_parts(err, &[name, colon, prefix, shown, suffix, hint, name, end])
 }
 
-// A fault's text: what stands before what it shows of the words, that, and what stands behind it. A letter that it
-// shows is put into the buffer. A full name needs no escape.
+// A fault's text: what it shows of the words, between a prefix and a suffix. A letter that it shows is put into the
+// buffer. A full name needs no escape.
 #[rattlefmt::skip]
 fn wording<'a>(fault: WordFault<'a>, buffer: &'a mut [u8; 4]) -> (&'static str, Part<'a>, &'static str)
     ensures { result.0.now ++ part_text result.1 ++ result.2.now ≡ wording (fault_of fault.entry) }
@@ -122,25 +121,30 @@ fn wording<'a>(fault: WordFault<'a>, buffer: &'a mut [u8; 4]) -> (&'static str, 
 
 const NOTHING: Part<'static> = Part::Bytes(b"");
 
-/// Writes the line for an unknown or missing tool. A fault of the sink where a write failed; of what was held and of
-/// the line a proper prefix is then handed on, and nothing is held.
+/// Writes the line for an unknown or missing tool, or returns `SinkFault` as [`sum_lines::put_all`] does.
 pub fn put_unknown<E: Sink>(err: &mut E) -> Result<(), SinkFault>
-    ensures { WritesAll (E.state err.old) (E.state err.new) (codes "digests: unknown tool\n") result }
+    ensures { WritesAll (E.state err.old) (E.state err.new) unknown_tool_line result }
 {
     put_all(err, b"digests: unknown tool\n")
 }
 
-/// Writes the line for a run of the tool that stopped. A fault of the sink where a write failed; of what was held and
-/// of the line a proper prefix is then handed on, and nothing is held.
+/// Writes the line for words that could not be read, or returns `SinkFault` as [`sum_lines::put_all`] does.
+pub fn put_not_read<E: Sink>(err: &mut E) -> Result<(), SinkFault>
+    ensures { WritesAll (E.state err.old) (E.state err.new) not_read_line result }
+{
+    put_all(err, b"digests: words not read\n")
+}
+
+/// Writes the line for a stop of the tool's run, or returns `SinkFault` as [`sum_lines::put_all`] does.
 pub fn put_stop<E: Sink>(err: &mut E, tool: Tool, stop: Stop) -> Result<(), SinkFault>
     ensures { WritesAll (E.state err.old) (E.state err.new) (stop_line tool stop) result }
 {
     let name = Part::Bytes(tool.name().as_bytes());
-    put_parts(err, &[name, behind_name(stop)])
+    put_parts(err, &[name, after_name(stop)])
 }
 
-// The words of `Stop`'s Display, which writes to a formatter and to no sink, once more.
-fn behind_name(stop: Stop) -> Part<'static>
+// The texts of `Stop`'s `Display`, which writes to a formatter and not to a sink.
+fn after_name(stop: Stop) -> Part<'static>
     ensures { (t : Tool) → name_of t ++ part_text result ≡ stop_line t stop }
 {
     match stop {

@@ -1,5 +1,6 @@
-//! What the words say, item by item.
+//! The items of the words: options, values, operands, or a fault.
 ghost use Rattle.std.specs.Prelude.{◌≡◌, ◌==◌, List, ℕ, [], ◌∷◌, IfSome, MatchOption, drop, true, false, filter_map};
+ghost use Rattle.std.specs.Iterator.{item_count};
 ghost use Rattle.std.specs.Option.{option_copied};
 ghost use Rattle.std.specs.List.{starts_with};
 ghost use Rattle.std.specs.Str.{chars};
@@ -16,8 +17,8 @@ use crate::words::{LentWords, Words};
 use std::alloc::Allocator;
 use std::marker::Model;
 
-/// What words say: an option without a value, the value of `--length`, an operand, or that something is wrong.
-#[derive(Clone, Copy)]
+/// An item: an option without a value, the value of `--length`, an operand, or a fault.
+#[derive(Clone, Copy, Debug, PartialEq, Eq)]
 pub enum Item<'a> {
     Flag(Flag),
     Length(&'a [u8]),
@@ -25,8 +26,8 @@ pub enum Item<'a> {
     Fault(WordFault<'a>),
 }
 
-/// The items that a tool's words say, one by one. Nothing comes after a fault.
-#[derive(Drop)]
+/// An iterator over the items of a tool's words, seen as the list of those that remain. None follows a fault.
+#[derive(Debug, Drop)]
 pub struct Items<'a> {
     tool: Tool,
     words: LentWords<'a>,
@@ -34,8 +35,8 @@ pub struct Items<'a> {
     state: ParserState<'a>,
 }
 
-// How reading goes on: with a whole word, with the rest of a cluster, with operands alone, or not at all.
-#[derive(Clone, Copy)]
+// What is read next: a whole word, the rest of a cluster, only operands, or nothing.
+#[derive(Clone, Copy, Debug)]
 enum ParserState<'a> {
     Word,
     Cluster(char, &'a str),
@@ -43,8 +44,8 @@ enum ParserState<'a> {
     Ended,
 }
 
-// What one option or word makes of reading: it says an item, it wants the next word as the value of an option that was
-// written so, or it makes operands of all that come.
+// The step of one option or word: an item, and what is read next; or the next word is the value of an option that was
+// written so; or all further words are operands.
 #[derive(Clone, Copy)]
 enum ParserStep<'a> {
     Say(Item<'a>, ParserState<'a>),
@@ -63,7 +64,7 @@ impl<'a> Model for Items<'a> {
 }
 
 impl<'a> Items<'a> {
-    /// All items of the words.
+    /// All items of a tool's words.
     pub fn new<A: Allocator>(tool: Tool, words: &'a Words<A>) -> Items<'a>
         ensures { result ≡ items_from tool a_word words.now }
     {
@@ -74,11 +75,16 @@ impl<'a> Items<'a> {
             state: ParserState::Word,
         }
     }
+}
 
-    /// Takes the first item that is left; `None` where none is left.
-    pub fn next(&mut self) -> Option<Item<'a>>
-        ensures { TakesFirst item_of self.old result self.new }
-    {
+impl<'a> Iterator for Items<'a> {
+    type Item = Item<'a>;
+
+    ghost next_gives = { TakesFirst item_of };
+
+    ghost remaining = { item_count (λ items. items) };
+
+    fn next(&mut self) -> Option<Item<'a>> {
         let step = match self.state {
             ParserState::Ended => return None,
             ParserState::OnlyOperands => ParserStep::OnlyOperands,
@@ -89,7 +95,7 @@ impl<'a> Items<'a> {
     }
 }
 
-// The word at a place, which then moves on by one.
+// The word at a place, which moves to the next.
 #[tactic(auto, using(crate::proofs::CommandLineLemmas::drop_at_none, crate::proofs::CommandLineLemmas::drop_at_some))]
 fn take_word<'a>(words: &LentWords<'a>, at: &mut usize) -> Option<&'a [u8]>
     ensures word { TakesFirst (λ word. word) (drop at.old words.now) (option_copied result) (drop at.new words.now) }
@@ -100,7 +106,7 @@ fn take_word<'a>(words: &LentWords<'a>, at: &mut usize) -> Option<&'a [u8]>
     Some(word)
 }
 
-// The item that a step says.
+// The next item, by a step.
 fn say<'a>(
     tool: Tool,
     words: &LentWords<'a>,
@@ -133,7 +139,7 @@ fn say<'a>(
     }
 }
 
-// What a whole word makes of reading.
+// The step of a whole word.
 #[tactic(auto, using(crate::proofs::WordLemmas::option_text))]
 fn word_step<'a>(tool: Tool, word: &'a [u8]) -> ParserStep<'a>
     requires { is_readable word.now ≡ true }
@@ -155,7 +161,7 @@ fn is_option_word(word: &[u8]) -> bool
     matches!(word, [b'-', _, ..])
 }
 
-// What such a word makes of reading.
+// The step of such a word.
 fn option_step<'a>(tool: Tool, word: &'a str) -> ParserStep<'a>
     requires { is_option_word word.now ≡ true }
     ensures { (ws : List (List ℕ)) → step_items tool result ws ≡ items_from tool a_word (word.now ∷ ws) }
@@ -170,7 +176,7 @@ fn option_step<'a>(tool: Tool, word: &'a str) -> ParserStep<'a>
     letter_step(tool, letter, rest)
 }
 
-// What a long option makes of reading, its two dashes left out.
+// The step of a long option, without its two dashes.
 fn long_step<'a>(tool: Tool, text: &'a str) -> ParserStep<'a>
     ensures { (ws : List (List ℕ)) → step_items tool result ws
         ≡ read_then tool (long_option (name_or_fault tool (name_part text.now)) (value_part text.now)) ws }
@@ -191,7 +197,7 @@ fn long_step<'a>(tool: Tool, text: &'a str) -> ParserStep<'a>
     }
 }
 
-// What a letter of a cluster makes of reading, with the rest of the word behind it.
+// The step of a letter of a cluster, which the rest of the word follows.
 fn letter_step<'a>(tool: Tool, letter: char, rest: &'a str) -> ParserStep<'a>
     ensures { (ws : List (List ℕ)) → step_items tool result ws
         ≡ read_then tool (cluster tool (letter ∷ chars rest.now)) ws }
@@ -206,7 +212,7 @@ fn letter_step<'a>(tool: Tool, letter: char, rest: &'a str) -> ParserStep<'a>
     }
 }
 
-// What the letter of an option that takes a value makes of reading: the rest of the word is the value, if any is left.
+// The step of the letter of an option that takes a value: the rest of the word, if any is left.
 #[tactic(auto, using(crate::proofs::WordLemmas::no_value, crate::proofs::WordLemmas::own_value))]
 fn attached_value(rest: &str) -> ParserStep<'_>
     ensures { (t : Tool) (ws : List (List ℕ)) →
@@ -219,7 +225,7 @@ fn attached_value(rest: &str) -> ParserStep<'_>
     }
 }
 
-// How reading goes on with the rest of a cluster.
+// What is read next of a cluster.
 fn rest_of_cluster(letters: &str) -> ParserState<'_>
     ensures { (t : Tool) (ws : List (List ℕ)) → remaining_items t result ws
         ≡ read_then t (cluster t (chars letters.now)) ws }
@@ -230,8 +236,8 @@ fn rest_of_cluster(letters: &str) -> ParserState<'_>
     }
 }
 
-// The characters behind a word's dash, the first and those behind it.
-#[tactic(auto, using(crate::proofs::WordLemmas::goes_on))]
+// The first character after a word's dash, and the rest.
+#[tactic(auto, using(crate::proofs::WordLemmas::nonempty_after_dash))]
 fn letters_of(word: &str) -> (char, &str)
     requires { is_option_word word.now ≡ true }
     ensures { chars (drop 1 word.now) ≡ result.0 ∷ chars result.1.now }
@@ -245,7 +251,7 @@ fn letters_of(word: &str) -> (char, &str)
     }
 }
 
-// The first character of a text, and what stands behind it; `None` where it is empty.
+// The first character of a text, and the rest; `None` if it is empty.
 #[tactic(auto, using(crate::proofs::WordLemmas::first_char))]
 fn first(text: &str) -> Option<(char, &str)>
     ensures { MatchOption result ((text.now ≡ []) × (chars text.now ≡ []))
@@ -256,8 +262,8 @@ fn first(text: &str) -> Option<(char, &str)>
     Some((letter, rest.as_str()))
 }
 
-// What stands behind a prefix of a word.
-#[tactic(auto, using(crate::proofs::WordLemmas::behind_prefix))]
+// The word after a prefix; `None` if it doesn't begin with it.
+#[tactic(auto, using(crate::proofs::WordLemmas::prefix_stripped))]
 fn after_prefix<'a>(prefix: &str, word: &'a str) -> Option<&'a str>
     ensures { MatchOption result (starts_with ◌==◌ word.now prefix.now ≡ false)
         (λ rest. IsAfterPrefix prefix.now word.now rest.now) }
@@ -265,7 +271,7 @@ fn after_prefix<'a>(prefix: &str, word: &'a str) -> Option<&'a str>
     word.strip_prefix(prefix)
 }
 
-// A long option's name, and the value behind its first `=`.
+// A long option's name, and the value after its first `=`.
 fn name_and_value(text: &str) -> (&str, Option<&str>)
     ensures name { result.0.now ≡ name_part text.now }
     ensures value { option_copied result.1 ≡ value_part text.now }
@@ -276,8 +282,8 @@ fn name_and_value(text: &str) -> (&str, Option<&str>)
     }
 }
 
-/// The operands that the words give, one by one. It is seen as the list of those still to come.
-#[derive(Drop)]
+/// An iterator over the operands of a tool's words, seen as the list of those that remain.
+#[derive(Debug, Drop)]
 pub struct Operands<'a> {
     items: Items<'a>,
 }
@@ -292,7 +298,7 @@ impl<'a> Model for Operands<'a> {
 }
 
 impl<'a> Operands<'a> {
-    /// All operands that a tool's words give.
+    /// All operands of a tool's words.
     pub fn new<A: Allocator>(tool: Tool, words: &'a Words<A>) -> Operands<'a>
         ensures { result ≡ filter_map operand_in (items_from tool a_word words.now) }
     {
@@ -300,11 +306,16 @@ impl<'a> Operands<'a> {
             items: Items::new(tool, words),
         }
     }
+}
 
-    /// Takes the first operand that is left; `None` where none is left.
-    pub fn next(&mut self) -> Option<&'a [u8]>
-        ensures { TakesFirst (λ word. word.now) self.old result self.new }
-    {
+impl<'a> Iterator for Operands<'a> {
+    type Item = &'a [u8];
+
+    ghost next_gives = { TakesFirst (λ word. word.now) };
+
+    ghost remaining = { item_count (λ operands. operands) };
+
+    fn next(&mut self) -> Option<&'a [u8]> {
         while let Some(item) = self.items.next() {
             if let Item::Operand(word) = item {
                 return Some(word);

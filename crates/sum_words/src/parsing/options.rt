@@ -1,8 +1,8 @@
 //! The options of the tools, by name and by letter (coreutils manual, "md5sum invocation" and "b2sum invocation").
-ghost use Rattle.std.specs.Prelude.{◌≡◌, ◌==◌, [], ◌∷◌, find};
+ghost use Rattle.std.specs.Prelude.{◌≡◌, ◌==◌, ◌&&◌, [], ◌∷◌, find};
 ghost use Rattle.std.specs.List.{filter, starts_with};
 ghost use Rattle.std.specs.Str.{bytes_eq};
-ghost use Rattle.sum_words.specs.Items.{row_of, full_name, flags_of, takes_value};
+ghost use Rattle.sum_words.specs.Items.{row_of, full_name, all_flags, flags_of, has_option, takes_value};
 ghost use Rattle.sum_words.specs.Items.{option_of_letter, the_one, name_or_fault};
 ghost use Rattle.sum_words.specs.refinement.ItemIterator.{letter_text};
 ghost use Rattle.sum_words.specs.refinement.OptionScan.{result_of};
@@ -15,6 +15,7 @@ use crate::tool::Tool;
 pub enum Flag {
     Binary,
     Check,
+    Length,
     Tag,
     Text,
     Zero,
@@ -25,50 +26,77 @@ pub enum Flag {
     Warn,
     Help,
     Version,
-    Length,
 }
 
-/// How an option is written: by its full name or the beginning of it, or by its letter.
+/// How an option is written: by its full name or a prefix of it, or by its letter.
 #[derive(Clone, Copy, Debug, PartialEq, Eq)]
 pub enum Spelling {
     Long,
     Short,
 }
 
-// The options of b2sum, in the order of its help text.
+// All options, in the order of help.
 #[rattlefmt::skip]
 static FLAGS: [Flag; 13] = [
     Flag::Binary, Flag::Check, Flag::Length, Flag::Tag, Flag::Text, Flag::Zero, Flag::IgnoreMissing, Flag::Quiet,
     Flag::Status, Flag::Strict, Flag::Warn, Flag::Help, Flag::Version,
 ];
 
-// Those of the other tools, which have no `--length`.
-#[rattlefmt::skip]
-static COMMON: [Flag; 12] = [
-    Flag::Binary, Flag::Check, Flag::Tag, Flag::Text, Flag::Zero, Flag::IgnoreMissing, Flag::Quiet,
-    Flag::Status, Flag::Strict, Flag::Warn, Flag::Help, Flag::Version,
-];
+/// All options, in the order of help.
+pub(crate) fn all_flags() -> &'static [Flag]
+    ensures { result.now ≡ all_flags }
+{
+    &FLAGS
+}
+
+/// Whether a tool has an option.
+pub(crate) fn has_option(tool: Tool, flag: Flag) -> bool
+    ensures { result ≡ has_option tool flag }
+{
+    !flag.takes_value() || tool == Tool::B2sum
+}
+
+/// A row of the table of options: the letter, if there is one, the full name, and the text in the help.
+#[derive(Clone, Copy)]
+pub(crate) struct Row {
+    pub(crate) letter: Option<u8>,
+    pub(crate) name: &'static str,
+    pub(crate) help: &'static str,
+}
+
+impl Row {
+    fn new(letter: Option<u8>, name: &'static str, help: &'static str) -> Row
+        ensures letter { result.letter ≡ letter }
+        ensures name { result.name ≡ name.entry }
+        ensures help { result.help ≡ help.entry }
+    {
+        Row { letter, name, help }
+    }
+}
 
 impl Flag {
-    // The table of the options: the letter, where there is one, and the full name.
-    fn row(self) -> (Option<char>, &'static str)
-        ensures letter { letter_text result.0 ≡ (row_of self).0 }
-        ensures name { result.1.now ≡ full_name self }
+    /// The option's row in the table.
+    #[rattlefmt::skip]
+    pub(crate) fn row(self) -> Row
+        ensures letter { letter_text result.letter ≡ (row_of self).0 }
+        ensures name { result.name.now ≡ full_name self }
+        ensures help { result.help.now ≡ (row_of self).2 }
     {
         match self {
-            Flag::Binary => (Some('b'), "binary"),
-            Flag::Check => (Some('c'), "check"),
-            Flag::Tag => (None, "tag"),
-            Flag::Text => (Some('t'), "text"),
-            Flag::Zero => (Some('z'), "zero"),
-            Flag::IgnoreMissing => (None, "ignore-missing"),
-            Flag::Quiet => (None, "quiet"),
-            Flag::Status => (None, "status"),
-            Flag::Strict => (None, "strict"),
-            Flag::Warn => (Some('w'), "warn"),
-            Flag::Help => (None, "help"),
-            Flag::Version => (None, "version"),
-            Flag::Length => (Some('l'), "length"),
+            Flag::Binary => Row::new(Some(b'b'), "binary", "mark each line as binary"),
+            Flag::Check => Row::new(Some(b'c'), "check", "read checksums from the FILEs and check them"),
+            Flag::Length => Row::new(Some(b'l'), "length", "digest length in bits, a multiple of 8, at most 512"),
+            Flag::Tag => Row::new(None, "tag", "write lines of the tagged form"),
+            Flag::Text => Row::new(Some(b't'), "text", "mark each line as text (default)"),
+            Flag::Zero => Row::new(Some(b'z'), "zero", "end each line with NUL and escape no name"),
+            Flag::IgnoreMissing =>
+                Row::new(None, "ignore-missing", "with -c: neither fail nor report for missing files"),
+            Flag::Quiet => Row::new(None, "quiet", "with -c: print no OK lines"),
+            Flag::Status => Row::new(None, "status", "with -c: print no report"),
+            Flag::Strict => Row::new(None, "strict", "with -c: fail for improperly formatted lines"),
+            Flag::Warn => Row::new(Some(b'w'), "warn", "with -c: name each improperly formatted line"),
+            Flag::Help => Row::new(None, "help", "print this text"),
+            Flag::Version => Row::new(None, "version", "print the version"),
         }
     }
 
@@ -76,8 +104,7 @@ impl Flag {
     pub fn name(self) -> &'static str
         ensures { result.now ≡ full_name self }
     {
-        let (_, name) = self.row();
-        name
+        self.row().name
     }
 
     /// Whether the option takes a value.
@@ -87,68 +114,68 @@ impl Flag {
         matches!(self, Flag::Length)
     }
 
-    /// The option that a long name means: the one that has it in full, else the only one that begins with it.
-    /// `UnknownLong` where none does, `AmbiguousLong` where several do.
+    /// The tool's option that a long name means: the one of this full name, else the only one that begins with it.
+    /// `UnknownLong` if none does, `AmbiguousLong` if several do.
     #[tactic(auto, unfolding(crate::specs::Items::name_or_fault))]
     pub fn of_name(tool: Tool, name: &str) -> Result<Flag, WordFault<'_>>
         ensures { result_of result ≡ name_or_fault tool name.now }
     {
-        let flags = flags(tool);
-        match first_named(flags, name) {
+        match first_named(tool, name) {
             Some(flag) => Ok(flag),
-            None => only_begun(flags, name),
+            None => only_begun(tool, all_flags(), name),
         }
     }
 
-    /// The option that a letter means.
+    /// The tool's option of this letter.
     #[tactic(auto, unfolding(crate::specs::Items::option_of_letter))]
     pub fn of_letter(tool: Tool, letter: char) -> Option<Flag>
         ensures { result ≡ option_of_letter tool letter }
     {
-        let flags = flags(tool);
-        flags.iter().copied().find(|flag| has_letter(*flag, letter))
+        FLAGS
+            .iter()
+            .copied()
+            .filter(|flag| has_option(tool, *flag))
+            .find(|flag| has_letter(*flag, letter))
     }
 }
 
-// The options of a tool.
-fn flags(tool: Tool) -> &'static [Flag]
-    ensures { result.now ≡ flags_of tool }
-{
-    match tool {
-        Tool::B2sum => &FLAGS,
-        _ => &COMMON,
-    }
-}
-
+// Whether this is the option's letter.
 fn has_letter(flag: Flag, letter: char) -> bool
     ensures { result ≡ bytes_eq (row_of flag).0 (letter ∷ []) }
 {
-    let (own, _) = flag.row();
-    own == Some(letter)
+    match flag.row().letter {
+        Some(own) => char::from(own) == letter,
+        None => false,
+    }
 }
 
-// The option that has this full name.
-fn first_named(flags: &[Flag], name: &str) -> Option<Flag>
-    ensures { result ≡ find (λ flag. bytes_eq name.now (full_name flag)) flags.now }
+// The tool's option of this full name.
+fn first_named(tool: Tool, name: &str) -> Option<Flag>
+    ensures { result ≡ find (λ flag. bytes_eq name.now (full_name flag)) (flags_of tool) }
 {
-    flags.iter().copied().find(|flag| name == flag.name())
+    FLAGS
+        .iter()
+        .copied()
+        .filter(|flag| has_option(tool, *flag))
+        .find(|flag| name == flag.name())
 }
 
+// Whether the tool has the option, and its full name begins with this text.
 #[tactic(auto, using(std::proofs::lemmas::Str::Pattern::starts_text))]
-fn begins(flag: Flag, name: &str) -> bool
-    ensures { result ≡ starts_with ◌==◌ (full_name flag) name.now }
+fn begins(tool: Tool, flag: Flag, name: &str) -> bool
+    ensures { result ≡ (has_option tool flag && starts_with ◌==◌ (full_name flag) name.now) }
 {
-    flag.name().starts_with(name)
+    has_option(tool, flag) && flag.name().starts_with(name)
 }
 
-// The only option whose full name begins with this text.
-fn only_begun<'a>(flags: &[Flag], name: &'a str) -> Result<Flag, WordFault<'a>>
-    ensures { result_of result
-        ≡ the_one name.now (filter (λ flag. starts_with ◌==◌ (full_name flag) name.now) flags.now) }
+// The tool's only option among these whose full name begins with this text.
+fn only_begun<'a>(tool: Tool, flags: &[Flag], name: &'a str) -> Result<Flag, WordFault<'a>>
+    ensures { result_of result ≡ the_one name.now
+        (filter (λ flag. has_option tool flag && starts_with ◌==◌ (full_name flag) name.now) flags.now) }
 {
     let mut found = None;
     for flag in flags {
-        if begins(*flag, name) {
+        if begins(tool, *flag, name) {
             if found.is_some() {
                 return Err(WordFault::AmbiguousLong(name));
             }

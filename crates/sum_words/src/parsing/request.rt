@@ -2,7 +2,7 @@
 ghost use Rattle.std.specs.Prelude.{◌≡◌, ◌∷◌, List, [], Ok, filter_map, find};
 ghost use Rattle.std.specs.Option.{option_copied, option_map, option_transpose};
 ghost use Rattle.std.specs.Str.{all_ascii_digits};
-ghost use Rattle.sum_words.specs.Items.{ItemValue as ItemSaid, a_word, items_from, option, option_in};
+ghost use Rattle.sum_words.specs.Items.{ItemValue, a_word, items_from, option, option_in};
 ghost use Rattle.sum_words.specs.refinement.ItemIterator.{fault_of};
 ghost use Rattle.sum_words.specs.Request.{length_kind, mode_of, faults, request_or_fault, request};
 ghost use Rattle.sum_words.specs.refinement.OptionScan.{IsChosenBy, IsScanOf, result_of, IsNumberOf};
@@ -18,7 +18,7 @@ use sum_engine::{CheckSettings, Report, Settings};
 use sum_lines::{Mode, Style};
 
 /// What a tool's words ask for. No operand means `-`: the caller sees to that.
-#[derive(Drop)]
+#[derive(Debug, Drop)]
 pub enum Request<'a> {
     /// A line for each operand.
     Generate(Settings, Operands<'a>),
@@ -30,9 +30,9 @@ pub enum Request<'a> {
     Version,
 }
 
-/// What a tool's words ask for (coreutils manual, "md5sum invocation" and "b2sum invocation"). An option that is
-/// unknown or ambiguous, lacks its value or may have none, `--help` and `--version` decide where they come first; else
-/// the first fault holds in the order of [`WordFault`]. It takes no memory.
+/// Reads what a tool's words ask for (coreutils manual, "md5sum invocation" and "b2sum invocation"). The first of
+/// `--help`, `--version` and the faults of one option decides; without one, the first of the other faults in the order
+/// of [`WordFault`]. It takes no memory.
 pub fn read_words<'a, A: Allocator>(
     tool: Tool,
     words: &'a Words<A>,
@@ -43,6 +43,7 @@ pub fn read_words<'a, A: Allocator>(
         ScannedOptions::Options(chosen) => chosen,
         ScannedOptions::Answer(answer) => return answer,
     };
+    // Not `?`: the borrow checker has no rule for it if the error holds a `&'static str`.
     let kind = match asked_kind(chosen.length) {
         Ok(kind) => kind,
         Err(fault) => return Err(fault),
@@ -50,7 +51,7 @@ pub fn read_words<'a, A: Allocator>(
     asked_request(tool.algos(), kind, &chosen, Operands::new(tool, words))
 }
 
-// What the options say, as far as they were read. Of several report settings or lengths the last counts.
+// The options read so far. The last report setting and the last length count.
 #[derive(Clone, Copy)]
 struct Chosen<'a> {
     mode: Option<Mode>,
@@ -65,13 +66,14 @@ struct Chosen<'a> {
     strict: bool,
 }
 
-// What reading all words comes to: what their options say, or the answer where one of the words decides it.
+// What reading the words returns: their options, or the answer if an item decides it.
 #[derive(Drop)]
 enum ScannedOptions<'a> {
     Options(Chosen<'a>),
     Answer(Result<Request<'a>, WordFault<'a>>),
 }
 
+// The options among the items, or the answer if an item decides it.
 fn read_options<'a, A: Allocator>(tool: Tool, words: &'a Words<A>) -> ScannedOptions<'a>
     ensures { IsScanOf result (items_from tool a_word words.now) }
 {
@@ -103,8 +105,9 @@ fn read_options<'a, A: Allocator>(tool: Tool, words: &'a Words<A>) -> ScannedOpt
     ScannedOptions::Options(chosen)
 }
 
+// The options with one more.
 fn with_flag(chosen: Chosen<'_>, flag: Flag) -> Chosen<'_>
-    ensures { (rest all : List ItemSaid) → IsChosenBy chosen.entry (option flag ∷ rest) all →
+    ensures { (rest all : List ItemValue) → IsChosenBy chosen.entry (option flag ∷ rest) all →
         IsChosenBy result rest all }
 {
     let mut chosen = chosen;
@@ -139,6 +142,7 @@ fn asked_kind(length: Option<&[u8]>) -> Result<Option<Kind>, WordFault<'_>>
 {
     match length {
         None => Ok(None),
+        // Not `?`, as above.
         Some(value) => match length_kind(value) {
             Ok(kind) => Ok(Some(kind)),
             Err(fault) => Err(fault),
@@ -160,7 +164,7 @@ fn length_kind(value: &[u8]) -> Result<Kind, WordFault<'_>>
     }
 }
 
-// The number that digits write; `None` where there is another character or none, and for 2^64 and more.
+// The number of these digits; `None` if there is none or another byte, or if it is 2^64 or more.
 #[tactic(auto, using(crate::proofs::RequestLemmas::number_parsed, crate::proofs::RequestLemmas::digits_text))]
 fn number(value: &[u8]) -> Option<u64>
     ensures { IsNumberOf value.now result }
@@ -174,6 +178,7 @@ fn number(value: &[u8]) -> Option<u64>
     }
 }
 
+// Whether all bytes are digits.
 fn all_digits(bytes: &[u8]) -> bool
     ensures { result ≡ all_ascii_digits bytes.now }
 {
@@ -185,9 +190,9 @@ fn all_digits(bytes: &[u8]) -> bool
     true
 }
 
-// The first fault of the options together: of some that don't go with others, or of one that needs `--check`.
+// The first fault of the options together.
 fn fault_of_options(chosen: &Chosen<'_>) -> Option<WordFault<'static>>
-    ensures { (xs : List ItemSaid) → IsChosenBy chosen.now [] xs →
+    ensures { (xs : List ItemValue) → IsChosenBy chosen.now [] xs →
         option_map fault_of result
         ≡ option_map (λ row. row.1) (find (λ row. row.0) (faults (filter_map option_in xs))) }
 {
@@ -225,7 +230,7 @@ fn asked_request<'a>(
     chosen: &Chosen<'_>,
     operands: Operands<'a>,
 ) -> Result<Request<'a>, WordFault<'a>>
-    ensures { (xs : List ItemSaid) → IsChosenBy chosen.now [] xs →
+    ensures { (xs : List ItemValue) → IsChosenBy chosen.now [] xs →
         result_of result ≡ request_or_fault algos (Ok kind) (filter_map option_in xs) operands.entry }
 {
     if let Some(fault) = fault_of_options(chosen) {
@@ -253,9 +258,9 @@ fn asked_request<'a>(
     }
 }
 
-// The form of the lines that are written.
+// The mode of the lines that are written.
 fn mode(chosen: &Chosen<'_>) -> Mode
-    ensures { (xs : List ItemSaid) → IsChosenBy chosen.now [] xs → result ≡ mode_of (filter_map option_in xs) }
+    ensures { (xs : List ItemValue) → IsChosenBy chosen.now [] xs → result ≡ mode_of (filter_map option_in xs) }
 {
     if chosen.tag {
         return Mode::Tag;

@@ -38,7 +38,7 @@ operands-preserved g c =
     record { one = operand_behavior c.args.job.now (name_of c.args.tool); names = or_dash c.args.operands } in
     let so_far = c.operands.invariant in
     record {
-      reached = λ hold. rw (is, ← c.in-Some.ensures) (reached_step g.S.Source.state all c.operands.good c.in-Ok.this
+      reached = λ hold. rw (is, ← c.in-Some.ensures.steps) (reached_step g.S.Source.state all c.operands.good c.in-Ok.this
           c.operands.name.now c.operands.operands c.args.streams.now c.operands.streams c.run_operand.new.streams
           (so_far.reached hold) (c.in-Ok.ensures.behavior (so_far.so_far.flushed hold)));
       so_far = search rules;
@@ -60,4 +60,4 @@ returns-in-None-clause-behavior g c =
     c.args.streams.now c.operands.streams c.run_operand.new.streams (so_far.reached hold)
     (c.in-Ok.ensures.behavior (so_far.so_far.flushed hold)) in
     rw c.status.ensures (reached_end g.S.Source.state all _ c.args.streams.now c.run_operand.new.streams
-    (rw (← is, c.in-None.ensures.0) at reached))
+    (rw (← is, c.in-None.ensures.steps.0) at reached))

@@ -2,7 +2,7 @@ use Rattle.std.proofs.Common.{◌<◌}
 use Rattle.sum_words.specs.refinement.Arguments.{WordsUpTo, HasArgument}
 use Rattle.sum_words.proofs.command_line.words_from.Given as goal
 
--- the words before the place were read, and where it isn't the first place there is one
+-- the words before the place were read, and past the first place there is one
 abbrev pub invariant-places : goal.invariant-places
 invariant-places g l =
     WordsUpTo (g.G.Arguments.known l.arguments) l.first l.place l.words

@@ -3,7 +3,7 @@ use Rattle.std.proofs.lemmas.List.{take_at}
 use Rattle.std.proofs.lemmas.Option.{slice_get_read, slice_get-map}
 use Rattle.sum_words.proofs.arguments.ToldArgumentsArguments.fill.Goals as goal
 
--- the argument stands in front of the buffer
+-- the buffer starts with the argument
 pub returns-clause-bytes : goal.returns-clause-bytes
 returns-clause-bytes c =
     let all = c.self.inside.arguments.now in

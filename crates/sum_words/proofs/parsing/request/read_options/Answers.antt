@@ -2,22 +2,22 @@ use Rattle.std.proofs.Common.{rules, ◌≡◌, sym, ◌∙◌, ap, ◌∷◌}
 use Rattle.sum_words.specs.Items.{a_word, items_from, option}
 use Rattle.sum_words.specs.refinement.ItemIterator.{item_of}
 use Rattle.sum_words.specs.Request.{early_answer}
-use Rattle.sum_words.proofs.RequestLemmas.{ending_not}
+use Rattle.sum_words.proofs.RequestLemmas.{no_early_answer}
 use Rattle.sum_words.proofs.parsing.request.read_options.Goals as goal
 
 -- before the first item nothing was chosen
 pub loop-item-init : goal.loop-item-init
 loop-item-init g c = rw c.new-items.ensures (search rules)
 
--- an option that isn't help or version is kept, and doesn't end the matter
+-- an option other than help and version is chosen, and decides no answer
 pub loop-item-preserved-in_default-flag : goal.loop-item-preserved-in_default-flag
 loop-item-preserved-in_default-flag g c =
     let one = option c.in-Flag.flag in
     let rest = c.next.new.self in
     let all = items_from c.args.tool a_word c.args.words.now in
-    let taken : c.loop-item.items ≡ one ∷ rest = c.in-Some.ensures ∙ ap (λ i. item_of i ∷ rest) c.in-Flag.is in
+    let taken : c.loop-item.items ≡ one ∷ rest = c.in-Some.ensures.steps ∙ ap (λ i. item_of i ∷ rest) c.in-Flag.is in
     record {
       says = c.with_flag-chosen.ensures rest all (rw taken at c.loop-item.invariant.says);
-      ending = sym (ending_not c.in-Flag.flag rest c.in_default-flag.not-Help c.in_default-flag.not-Version)
+      ending = sym (no_early_answer c.in-Flag.flag rest c.in_default-flag.not-Help c.in_default-flag.not-Version)
           ∙ ap early_answer (sym taken) ∙ c.loop-item.invariant.ending;
     }

@@ -4,13 +4,13 @@ use Rattle.sum_words.specs.Request.{early_answer}
 use Rattle.sum_words.specs.refinement.OptionScan.{IsChosenBy}
 use Rattle.sum_words.proofs.parsing.request.read_options.Given as goal
 
--- the running values and the items still to come say what all items say
+-- the options chosen so far and those of the remaining items are those of all items
 abbrev pub invariant-loop-item : goal.invariant-loop-item
 invariant-loop-item g l = record {
   says : IsChosenBy l.chosen l.items (items_from l.fn.tool a_word l.words);
   ending : early_answer l.items ≡ early_answer (items_from l.fn.tool a_word l.words);
 }
 
--- the items still to come
+-- the items that remain
 abbrev pub decreases-loop-item : goal.decreases-loop-item
 decreases-loop-item g l = length l.items
