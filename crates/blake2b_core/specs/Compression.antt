@@ -1,4 +1,4 @@
--- The compression function F of BLAKE2b (RFC 7693, 2.6, 2.7, 3.1 and 3.2). A word is a number below 2 ^ 64, a block is a
+-- The compression function F of BLAKE2b (RFC 7693, 2.6, 2.7, 3.1 and 3.2). A word is a number below 2 ^ 64, a block a
 -- list of 128 bytes.
 use Rattle.std.specs.Prelude.{ℕ, ◌+◌, ◌/◌, ◌%◌, ◌^◌, Bool, List, [], ◌∷◌, ◌++◌, map, fold, bit_xor, slice_index, slice_index_or, slice_set, if◌then◌else◌}
 use Rattle.std.specs.List.{range_with_len}

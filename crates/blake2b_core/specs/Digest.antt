@@ -11,8 +11,8 @@ blocks m =
     let count = max 1 ((length m + 127) / 128) in
     first_chunks 128 count (m ++ replicate (128 * count - length m) 0)
 
--- the digest of n bytes, at most 64: a block is compressed with the number of bytes up to its end, the last one with that
--- of the message
+-- the digest of n bytes, at most 64: a block is compressed with the number of bytes up to its end, the last block with
+-- that of the message
 unfoldable pub blake2b : ℕ → List ℕ → List ℕ
 blake2b n m =
     let d = blocks m in

@@ -56,8 +56,8 @@ fn rotated_row(row: u64x4, places: usize) -> u64x4
     }
 }
 
-// G on the diagonals: they are columns if the other rows are rotated against the second. That one stays, since G is done
-// with it last and needs it first.
+// G on the diagonals: they are columns if the other rows are rotated against the second. That one stays, since G ends
+// with it and begins with it.
 #[inline(always)]
 pub(crate) fn mixed_diagonals(v: [u64x4; 4], x: u64x4, y: u64x4) -> [u64x4; 4]
     ensures { words result ≡ diagonals (words v) x y }

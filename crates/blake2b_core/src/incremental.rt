@@ -98,8 +98,8 @@ impl Blake2b {
         room
     }
 
-    // Compresses the whole blocks at the front of the piece that a byte follows, if nothing is buffered. Returns how many
-    // bytes it took.
+    // Compresses the whole blocks at the front of the piece that a byte follows, if nothing is buffered. Returns how
+    // many bytes it took.
     fn absorb(&mut self, piece: &[u8]) -> usize
         requires fits { self.old.taken + length piece.now < LIMIT }
         requires room { 128 < self.old.buffer_len + length piece.now → self.old.buffer_len ≡ 0 }

@@ -1,5 +1,5 @@
-//! BLAKE2b without a key (RFC 7693): the compression function, the digest of a whole message, and the digest of a message
-//! in pieces. Nothing here takes memory.
+//! BLAKE2b without a key (RFC 7693): the compression function, the digest of a whole message, and the digest of a
+//! message in pieces. Nothing here takes memory.
 //!
 //! ```rust
 //! let mut hasher = Blake2b::new(64).ok_or("no such length")?;

@@ -1,4 +1,4 @@
--- The bounds of counts, as code has them, for the definitions of the crates above: `LIMIT`, and counts that stay below it.
+-- The bounds of counts, as code has them, for the definitions of the crates above.
 use Rattle.std.specs.Prelude.{ℕ, ◌+◌, ◌-◌, ◌^◌, min}
 pub use Rattle.blake2b_core.specs.declared.incremental.TheConstants.{LIMIT}
 

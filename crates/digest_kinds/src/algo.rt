@@ -42,9 +42,10 @@ impl Algo {
         Algo::Blake2b,
     ];
 
-    /// The algorithm whose tag is a prefix of the bytes, `None` if there is none. No tag is a prefix of another, so there
-    /// is at most one ([`tags_apart`](crate::laws::tags_apart)).
+    /// The algorithm whose tag is a prefix of the bytes, `None` if there is none. No tag is a prefix of another, so
+    /// there is at most one ([`tags_apart`](crate::laws::tags_apart)).
     pub fn of_tag_prefix(bytes: &[u8]) -> Option<Algo>
+        // The algorithm that is returned is such a one, and any such one is returned.
         ensures tagged { IfSome result (λ a. BeginsWithTag bytes.now a) }
         ensures found { (a : Algo) → BeginsWithTag bytes.now a → result ≡ Some a }
     {

@@ -39,8 +39,8 @@ impl Digest {
         }
     }
 
-    /// The digest that the digits spell, in either case; `None` if and only if the text isn't 2 to 128 hexadecimal digits
-    /// of an even count.
+    /// The digest that the digits spell, in either case; `None` if and only if the text isn't 2 to 128 hexadecimal
+    /// digits of an even count.
     pub fn from_hex(text: &[u8]) -> Option<Digest>
         ensures value { IfSome result (λ digest. decode_of text.now ≡ Ok digest) }
         ensures found { IsSome result ↔ IsDigits text.now }

@@ -48,8 +48,8 @@ impl Kind {
         }
     }
 
-    /// BLAKE2b with a digest of so many bits (RFC 7693, 2.1), 0 for the full 512. `TooLong` if they are more than 512, and
-    /// otherwise `NotBytes` if they are no multiple of 8.
+    /// BLAKE2b with a digest of so many bits (RFC 7693, 2.1), 0 for the full 512. `TooLong` if they are more than 512,
+    /// and otherwise `NotBytes` if they are no multiple of 8.
     pub fn blake2b_bits(bits: u64) -> Result<Kind, LengthFault>
         ensures { result ≡ blake2b_of_bits bits }
     {

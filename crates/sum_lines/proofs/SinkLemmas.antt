@@ -35,28 +35,29 @@ Accepted-trans {a} {b} {c} xs ys first second = record {
 written_prefix : (a b c : Option (List ℕ)) (buffered_before buffered_after text : List ℕ) → Grows a b
     → Appends (append_known a buffered_before) (append_known b buffered_after) text → AppendsPrefix b c buffered_after
     → AppendsPrefix a c (buffered_before ++ text)
-written_prefix None b c buffered_before buffered_after text grows taken handed = ([], (buffered_before ++ text, refl), tt)
-written_prefix (Some x) b c buffered_before buffered_after text grows taken handed =
+written_prefix None b c buffered_before buffered_after text grows accepted written =
+    ([], (buffered_before ++ text, refl), tt)
+written_prefix (Some x) b c buffered_before buffered_after text grows accepted written =
     let grown = grows.1 in
-    let cut = handed.1.1 in
-    let end = handed.2 in
-    (grows.0 ++ handed.0, (handed.1.0, grind (arith, append_assoc, append_cancel_left)), grind (arith, append_assoc))
+    let cut = written.1.1 in
+    let end = written.2 in
+    (grows.0 ++ written.0, (written.1.0, grind (arith, append_assoc, append_cancel_left)), grind (arith, append_assoc))
 
 -- a text was accepted, and then a proper prefix of the buffered bytes and one more piece was written
 written_proper_prefix : (a b c : Option (List ℕ)) (buffered_before buffered_after text piece later : List ℕ) → Grows a b
     → Appends (append_known a buffered_before) (append_known b buffered_after) text → 0 < length piece
     → AppendsProperPrefix b c (buffered_after ++ piece)
     → AppendsProperPrefix a c (buffered_before ++ (text ++ (piece ++ later)))
-written_proper_prefix None b c buffered_before buffered_after text piece later grows taken some handed =
+written_proper_prefix None b c buffered_before buffered_after text piece later grows accepted some written =
     ([], buffered_before ++ (text ++ (piece ++ later)), refl, grind (arith, length-append), tt)
-written_proper_prefix (Some x) b c buffered_before buffered_after text piece later grows taken some handed =
+written_proper_prefix (Some x) b c buffered_before buffered_after text piece later grows accepted some written =
     let grown = grows.1 in
-    let cut = handed.2 in
-    let end = handed.4 in (
-      grows.0 ++ handed.0,
-      handed.1 ++ later,
+    let cut = written.2 in
+    let end = written.4 in (
+      grows.0 ++ written.0,
+      written.1 ++ later,
       grind (arith, append_assoc, append_cancel_left),
-      omega (arith, handed.3, length-append handed.1 later),
+      omega (arith, written.3, length-append written.1 later),
       grind (arith, append_assoc),
     )
 
@@ -70,7 +71,7 @@ Accepted-flush_failed {a} {b} {c} text wrote dropped =
 -- a text was accepted, and then all that was buffered was written
 pub Accepted-flushed : {a b : SinkState} (c : Option (List ℕ)) (text : List ℕ) → Accepted a b text
     → Appends b.written c b.buffered → Appends a.written c (a.buffered ++ text)
-Accepted-flushed c text wrote handed = let taken = wrote.accepted in grind (arith, append_assoc)
+Accepted-flushed c text wrote written = let taken = wrote.accepted in grind (arith, append_assoc)
 
 -- nothing was written, and then a flush came
 pub Flushes-with_buffered : {E : Type 0} {a : SinkState} (b c : SinkState) (r : Result (Unit {0}) E) → Accepted a b []
@@ -84,7 +85,8 @@ Flushes-with_buffered b c (Err e) wrote dropped = record {
 }
 
 -- a write failed that was to accept some of a text
-pub FlushFailed-write_failed : {a b : SinkState} {text : List ℕ} → FlushFailed a b → 0 < length text → WriteFailed a b text
+pub FlushFailed-write_failed : {a b : SinkState} {text : List ℕ} → FlushFailed a b → 0 < length text
+    → WriteFailed a b text
 FlushFailed-write_failed {text = text} dropped some =
     let prefix = dropped.written.0 in
     let rest = dropped.written.1.0 in
@@ -136,8 +138,8 @@ Left-stop {a} {b} {c} {piece = piece} more left cut failed =
     let size = length-append left.prefix (piece ++ more) in
     record {
       nonempty = rw whole (omega (arith, failed.nonempty, size, length-append piece more));
-      written = rw whole (written_proper_prefix a.written b.written c.written a.buffered b.buffered left.prefix piece more
-          left.wrote.written left.wrote.accepted failed.nonempty failed.written);
+      written = rw whole (written_proper_prefix a.written b.written c.written a.buffered b.buffered left.prefix piece
+          more left.wrote.written left.wrote.accepted failed.nonempty failed.written);
       buffered = failed.buffered;
       failures = failed.failures ∙ ap one_more left.wrote.failures;
     }

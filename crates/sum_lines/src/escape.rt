@@ -73,7 +73,7 @@ pub fn unescape_in<A: Allocator>(line: &mut Vec<u8, A>, from: usize) -> bool
     }
 }
 
-// Unescapes in place: leaves the name in front and returns its length; `None` if the bytes are no escape.
+// Unescapes in place: leaves the name at the front and returns its length; `None` if the bytes are no escape.
 fn unescape(bytes: &mut [u8]) -> Option<usize>
     ensures len { IfSome result (λ len. len ≤ length bytes.old) }
     ensures name { IfSome result (λ len. bytes.old ≡ escape (take len bytes.new)) }

@@ -1,6 +1,7 @@
 //! Laws of the line grammar: what holds of its definitions, whatever the code does.
 
-ghost use Rattle.sum_lines.specs.grammar.LineLaws.{Apart, OneEntry, OneForm, ReadBack, SameForm, SameParse, ParseIsGrammar};
+ghost use Rattle.sum_lines.specs.grammar.LineLaws.{Apart, OneEntry, OneForm, ParseIsGrammar, ReadBack, SameForm};
+ghost use Rattle.sum_lines.specs.grammar.LineLaws.{SameParse};
 
 /// For given algorithms and a given form a line spells at most one entry; and no line is both plain and tagged,
 /// whichever algorithms these are.

@@ -193,8 +193,8 @@ fn nothing_is_written_before_a_flush(rt: HostRuntime) {
     follow(&rt, (8192, 0), &steps, b"a\nb\0c");
 }
 
-// Writes so many bytes, in pieces of at most so many. Wants pieces of the first of these lengths written before a flush,
-// and all of them after it.
+// Writes so many bytes, in pieces of at most so many. Wants pieces of the first of these lengths written before a
+// flush, and all of them after it.
 fn check_long(rt: &impl Abort, len: usize, step: usize, before: usize, lens: &[usize]) {
     let long = [b'x'; 20000];
     let mut buffer = recorded(32768, 0);

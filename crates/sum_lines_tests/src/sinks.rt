@@ -110,8 +110,8 @@ fn only_interruptions_are_tried_again(rt: HostRuntime) {
     }
 }
 
-// The writes of a sink over a writer that accepts at most so many bytes of a piece return this, by so many writes of the
-// writer, of so many bytes in all.
+// The writes of a sink over a writer that accepts at most so many bytes of a piece return this, by so many writes of
+// the writer, of so many bytes in all.
 fn check_calls(rt: &impl Abort, most: usize, turns: &[Turn], asked: (u64, usize)) {
     let mut writer = Counts::new(most, None);
     check_turns(rt, &mut FromWrite::new(&mut writer), turns);

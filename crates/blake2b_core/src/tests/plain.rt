@@ -1,4 +1,4 @@
-//! The compression function F of RFC 7693, one G after another as the standard has it: what the lanes are compared with.
+//! The compression function F as RFC 7693 has it, one G after another: what the lanes are compared with.
 ghost use Rattle.std.specs.Prelude.{◌<◌};
 
 use crate::compression::IV;

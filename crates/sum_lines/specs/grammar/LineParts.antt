@@ -53,7 +53,7 @@ tag_in Any s = find (λ a. starts_with ◌==◌ s (tag a)) all_algos
 abbrev pub kind_at : List ℕ → Option KindValue
 kind_at ds = option_map blake2b_kind (find (λ n. bytes_eq (decimal (8 * n)) ds) (range_with_len 1 64))
 
--- the kind behind a tag, and what follows it: for BLAKE2b a `-` (45) may lead to its bits
+-- the kind that follows a tag, and what follows that: for BLAKE2b a `-` (45) may precede its bits
 abbrev pub width_at : Algo → List ℕ → Option (KindValue × List ℕ)
 width_at Blake2b (b ∷ bs) =
     if b == 45 then option_map (λ k. (k, after_while is_ascii_digit bs)) (kind_at (take_while is_ascii_digit bs))

@@ -65,11 +65,13 @@ pub enum Reading {
 /// isn't empty. Any other line is bad.
 #[tactic(auto, using(crate::proofs::EntryLemmas::ignored_mute))]
 pub fn read_line<A: Allocator>(algos: Algos, form: Form, line: &mut Vec<u8, A>) -> (Reading, Form)
+    // A form that is decided stays; otherwise a plain line decides it, even a bad one.
     ensures form { result.1 ≡ form_then form (line_form algos line.old.items) }
     // What the line says, as it is computed; of an entry the name is the range of the vector.
     ensures parsed { parsed_line_by line.new.items result.0 ≡ parse_line present algos result.1 line.old.items }
     // The same by the line grammar: ignored, an entry, or bad, each if and only if the grammar says so.
     ensures grammar { ParseMatches present algos result.1 line.old.items (parsed_line_by line.new.items result.0) }
+    // The range of an entry's name is in the vector, and its digest is as long as the kind's.
     ensures within { Within line.new.items result.0 }
     ensures ignored { result.0 ≡ Reading.Ignored → line.new ≡ line.old }
     ensures len { vec_len line.new ≤ vec_len line.old }

@@ -9,7 +9,7 @@ use std::io::{ErrorKind, Write};
 const TRIES: u32 = 1000;
 
 /// A sink that writes its bytes to a writer, and buffers none. They are known if the writer's are.
-#[derive(Drop)]
+#[derive(Debug, Drop)]
 pub struct FromWrite<W> {
     writer: W,
     failures: u64,
@@ -18,6 +18,7 @@ pub struct FromWrite<W> {
 impl<W: Write> FromWrite<W> {
     /// A sink over the writer, which has written what the writer contains.
     pub fn new(writer: W) -> Self
+        // Known if the writer's bytes are.
         ensures written { (⟦<FromWrite<W> as Sink>⟧.state result).written ≡ W.contents writer }
         ensures failures { (⟦<FromWrite<W> as Sink>⟧.state result).failures ≡ 0 }
     {

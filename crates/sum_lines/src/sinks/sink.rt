@@ -25,6 +25,7 @@ pub trait Sink {
     /// Accepts the first bytes of the piece and returns how many: at least one of a piece that isn't empty, none of an
     /// empty one. `SinkFault` if it accepted nothing, of a piece that isn't empty.
     fn write(&mut self, piece: &[u8]) -> Result<usize, SinkFault>
+        // What is accepted, written and still buffered, and the count of failures.
         ensures bytes { WritesSome (state self.old) (state self.new) piece.now result }
         ensures empty { piece.now ≡ [] → result ≡ Ok 0 }
         ensures offers { Offers (offered self.old) (offered self.new) (piece.now ∷ []) };
@@ -32,6 +33,7 @@ pub trait Sink {
     /// Writes all that is buffered, down to the lowest sink. `SinkFault` if that failed.
     fn flush(&mut self) -> Result<(), SinkFault>
         ensures bytes { Flushes (state self.old) (state self.new) result }
+        // Only a write offers something.
         ensures offers { offered self.new ≡ offered self.old };
 }
 
@@ -39,6 +41,7 @@ pub trait Sink {
 /// failed; as many of the buffered bytes and of these were then written as [`Sink`] says.
 pub fn put_all<S: Sink>(sink: &mut S, bytes: &[u8]) -> Result<(), SinkFault>
     ensures text { WritesAll (S.state sink.old) (S.state sink.new) bytes.now result }
+    // If the pieces are known: the text in one piece, and again only what remains of it; of no text none.
     ensures offers { OffersWhole (S.offered sink.old) (S.offered sink.new) bytes.now }
 {
     let mut rest = bytes;

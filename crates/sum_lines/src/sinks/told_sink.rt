@@ -4,7 +4,7 @@ ghost use Rattle.std.specs.Prelude.{◌≡◌, ◌≤◌, ◌+◌, ◌<◌, [], 
 use crate::sinks::sink::{Sink, SinkFault};
 
 /// A sink that keeps up to N bytes, which are known, and fails when it is full.
-#[derive(Drop)]
+#[derive(Debug, Drop)]
 pub struct ToldSink<const N: usize> {
     bytes: [u8; N],
     len: usize,
@@ -51,6 +51,7 @@ impl<const N: usize> Sink for ToldSink<N> {
         ensures bytes { WritesSome (told_sink_state self.old) (told_sink_state self.new) piece.now result }
         ensures empty { piece.now ≡ [] → result ≡ Ok 0 }
         ensures count { IfOk result (λ n. n ≡ min (remaining_capacity self.old) (length piece.now)) }
+        // It fails if and only if there is no room for a byte.
         ensures full { IsErr result ↔ ((remaining_capacity self.old ≡ 0) × (0 < length piece.now)) }
         ensures room { IfOk result (λ n. remaining_capacity self.new + n ≡ remaining_capacity self.old) }
         ensures room_on_err { OnErr result (remaining_capacity self.new ≡ remaining_capacity self.old) }

@@ -12,10 +12,10 @@ searched c =
     ∙ find_from_yields_List (begins c.args.bytes.now) _ _ c.find.result c.find.ensures.ran
     (YieldsList-from_slice all_algos cc) (λ x b q k. search (rules, tests))
 
--- what it finds has its tag in front
+-- the tag of what it finds begins the bytes
 pub returns-clause-tagged : goal.returns-clause-tagged
 returns-clause-tagged c = rw (searched c) (IfSome-find-begins c.args.bytes.now all_algos)
 
--- an algorithm whose tag is in front is found
+-- an algorithm whose tag begins the bytes is found
 pub returns-clause-found : goal.returns-clause-found
 returns-clause-found c a begun = searched c ∙ rw begun.1 (find-begins a begun.0)

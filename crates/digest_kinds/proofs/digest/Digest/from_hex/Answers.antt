@@ -5,7 +5,7 @@ use Rattle.digest_kinds.proofs.DigitLemmas.{IsOk-decoded}
 use Rattle.digest_kinds.proofs.digest.Digest.from_hex.Goals.{After-decode_to_slice}
 use Rattle.digest_kinds.proofs.digest.Digest.from_hex.Goals as goal
 
--- the text is decoded exactly where it is digits of a digest
+-- the text is decoded if and only if it is a digest's digits
 decoded : (c : After-decode_to_slice) → IsOk c.decode_to_slice.result ↔ IsDigits c.args.text.now
 decoded c =
     IsOk-decoded c.args.text.now _ _ (grind (arith, common_steps)) (grind (arith, common_steps))
