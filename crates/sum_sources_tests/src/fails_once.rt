@@ -92,7 +92,12 @@ impl<'a, A: Allocator + Copy> Source for FilesFailOnce<'a, A> {
 
     fn open_file(&mut self, name: &[u8]) -> Result<FailsOnce<'a>, OpenFault> {
         match self.files.open_file(name) {
-            Ok(file) => Ok(FailsOnce::new(file, self.before, self.fault)),
+            Ok(bytes) => Ok(FailsOnce {
+                bytes,
+                before: self.before,
+                fault: self.fault,
+                phase: Phase::Reading,
+            }),
             Err(fault) => Err(fault),
         }
     }
