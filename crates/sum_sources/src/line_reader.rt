@@ -142,8 +142,8 @@ impl<I: Input> LineReader<I> {
         Ok(self.end != 0)
     }
 
-    // Moves the buffer's bytes up to its first newline to the line's end, and drops that newline. Returns false if there
-    // is none, and all bytes were moved.
+    // Moves the buffer's bytes up to its first newline to the line's end, and drops that newline. Returns false if
+    // there is none, and all bytes were moved.
     fn take_piece<A: Allocator>(&mut self, line: &mut Vec<u8, A>) -> Result<bool, AllocError>
         requires going { self.old.final_answer ≡ None }
         ensures piece { IfOk result (λ ended.
