@@ -3,7 +3,7 @@ use Rattle.std.proofs.Common.{rules, ◌≡◌, Bool, true, List, [], ◌∷◌,
 use Rattle.std.proofs.Math.Bool.{and_assoc, and-true}
 use Rattle.std.proofs.lemmas.List.{append-nil}
 use Rattle.sum_sources.specs.Contents.{IfKnown, SourceState}
-use Rattle.sum_sources.proofs.ToldLemmas.{IfKnown-then}
+use Rattle.sum_sources.proofs.KnownLemmas.{IfKnown-then}
 use Rattle.sum_engine.specs.declared.stop.Stop.{Stop}
 use Rattle.sum_engine.specs.Behavior.{World, after, Behavior, behavior_then, asks}
 use Rattle.sum_engine.specs.Execution.{StreamsState, KnownState, known_state, PerformsSteps}

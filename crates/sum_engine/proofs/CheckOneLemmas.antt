@@ -5,7 +5,7 @@ use Rattle.sum_engine.specs.Behavior.{Fault, World, is_dash, reply, after, Step,
 use Rattle.sum_sources.specs.declared.sources.source.OpenFault.{OpenFault}
 use Rattle.sum_sources.specs.Contents.{Content, InputState, IfKnown, clip, SourceState, Reply, KnownSource, OpenOf, empty_content}
 use Rattle.sum_lines.specs.sinks.Sinks.{SinkState}
-use Rattle.sum_sources.proofs.ToldLemmas.{IfKnown-map}
+use Rattle.sum_sources.proofs.KnownLemmas.{IfKnown-map}
 use Rattle.digest_kinds.specs.Limits.{one_more}
 use Rattle.sum_lines.specs.Escape.{present}
 use Rattle.sum_engine.specs.check.CheckerSteps.{Progress, Going, Ended, CheckState, initial_state, IsAtStart, state_at, StepIsIfKnown, remaining_behavior, CursorValue, check_state}

@@ -1,14 +1,14 @@
--- Contents that are the same, what came of one so far, and when it is its own clip.
+-- Contents that are the same, what was read of one so far, and when it is its own clip.
 use Rattle.std.proofs.Common.{◌≡◌, ℕ, ◌^◌, ◌<◌, List, ◌++◌, length, refl, ap, sym, ◌∙◌, nat_lt}
 use Rattle.std.proofs.lemmas.Bool.{cond-true, lt-ltb}
 use Rattle.sum_sources.specs.Contents.{Ending, Content, clip, limit}
 use Rattle.sum_sources.specs.LineReaders.{with_prefix}
 
--- these bytes came between the two
+-- these bytes were read between the two
 abbrev pub Gave : Content → Content → List ℕ → Type 0
 Gave c d bytes = (c.bytes ≡ bytes ++ d.bytes) × (d.ending ≡ c.ending)
 
--- so the first is the second with them in front
+-- so the first is the second with them as a prefix
 pub Gave-is : (c d : Content) (bytes : List ℕ) → Gave c d bytes → c ≡ with_prefix bytes d
 Gave-is c d bytes gave =
     let make : List ℕ → Ending → Content = λ l e. record { bytes = l; ending = e } in

@@ -24,7 +24,7 @@ cut_plain b bs plain (p ∷ ps, tail, is, all, none) =
     let rest : All NoNewline ps = All-tail NoNewline p ps all in
     ((b ∷ p) ∷ ps, tail, ap (λ l. b ∷ l) is, All-cons NoNewline (b ∷ p) ps longer rest, none)
 
--- so bytes with one more in front can be cut; a newline begins an empty piece
+-- so a byte before them can be cut, too; a newline begins an empty piece
 cut_more : (b : ℕ) (bs : List ℕ) → IsCut bs → IsCut (b ∷ bs)
 cut_more b bs (ended, tail, is, all, none) = elim (eqb_tells b 10) [
   | inl newline ↦

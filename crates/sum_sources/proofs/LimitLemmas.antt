@@ -1,4 +1,4 @@
--- What a read makes of the bytes that count, up to the limit.
+-- Reads of the bytes that count, up to the limit.
 use Rattle.std.proofs.Common.{◌≡◌, ℕ, ◌+◌, ◌-◌, ◌^◌, ◌<◌, ◌≤◌, List, [], ◌++◌, length, take, Ok, Err, ap, sym, ◌∙◌, Option, None, Some, refl, arith, nat_lt, inl, inr, length-append}
 use Rattle.std.proofs.lemmas.Bool.{cond-true, cond-false, lt-ltb, le-ltb, cases_lt}
 use Rattle.std.proofs.lemmas.List.{length-take-le, take-append-le}
@@ -16,10 +16,10 @@ clip_to-long : (n : ℕ) (c : Content) → n ≤ length c.bytes
     → clip_to n c ≡ record { bytes = take (n - 1) c.bytes; ending = Broken Other }
 clip_to-long n c long = cond-false (nat_lt (length c.bytes) n) c _ (le-ltb _ _ long)
 
--- bytes in front of a content may be clipped with it or before it
-clip_to-behind : (n k : ℕ) (prefix : List ℕ) (c : Content) → n ≡ length prefix + k → 0 < k
+-- a prefix of a content may be clipped with it or before it
+clip_to-with_prefix : (n k : ℕ) (prefix : List ℕ) (c : Content) → n ≡ length prefix + k → 0 < k
     → clip_to n (with_prefix prefix c) ≡ with_prefix prefix (clip_to k c)
-clip_to-behind n k prefix c sum some = elim (cases_lt (length c.bytes) k) [
+clip_to-with_prefix n k prefix c sum some = elim (cases_lt (length c.bytes) k) [
   | inl short ↦
       rw (clip_to-short k c short)
       (clip_to-short n (with_prefix prefix c) (omega (arith, length-append prefix c.bytes)))
@@ -37,7 +37,7 @@ clipped-bytes c d part rest n t few some fits read =
     let size : length (take n part) ≡ n = length-take-le n part few in
     let split : c ≡ with_prefix (take n part) d = Gave-is c d (take n part) (read.0, read.1) in
     let cut : clip_to (limit - t) c ≡ with_prefix (take n part) (clip_to (limit - (t + n)) d) =
-    rw split (clip_to-behind (limit - t) (limit - (t + n)) (take n part) d
+    rw split (clip_to-with_prefix (limit - t) (limit - (t + n)) (take n part) d
     (rw limit-value (omega arith)) (rw limit-value (omega arith))) in (
       rw (take-append-le n part rest few) (ap (λ (x : Content). x.bytes) cut),
       sym (ap (λ (x : Content). x.ending) cut),

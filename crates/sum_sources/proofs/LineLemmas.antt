@@ -1,4 +1,4 @@
--- What the steps of the line reader make of pieces and lines.
+-- Pieces and lines at the steps of the line reader.
 use Rattle.std.proofs.Common.{◌≡◌, ℕ, ◌+◌, ◌-◌, ◌<◌, suc, false, Bool, List, [], ◌∷◌, ◌++◌, length, map, Option, None, Some, Result, Ok, Err, OnOk, refl, ap, sym, ◌∙◌, append_assoc, arith, ◌==◌, option_map}
 use Rattle.std.specs.List.{slice_split, after_first, position_or_len}
 use Rattle.std.specs.Str.Lines.{strip_carriage_return}
@@ -9,7 +9,7 @@ use Rattle.sum_sources.specs.Contents.{Fault, Ending, Whole, Broken, Content, If
 use Rattle.sum_sources.specs.ManifestLines.{Next, Line, NoMore, LineStop, last_line, raw_lines, lines, NoNewline, NextLineIs}
 use Rattle.sum_sources.specs.LineReaders.{left_by}
 use Rattle.sum_sources.proofs.ContentLemmas.{Gave, Gave-is}
-use Rattle.sum_sources.proofs.ToldLemmas.{IfKnown-remade}
+use Rattle.sum_sources.proofs.KnownLemmas.{IfKnown-remade}
 use Rattle.sum_sources.specs.declared.line_reader.LineStop.TheVariants as stops
 
 -- a newline ends the first piece
@@ -29,7 +29,7 @@ pub pieces-last : (e : Ending) (piece : List ℕ) → NoNewline piece
 unfolding raw_lines
 pieces-last e piece none = rw (slice_split_none (λ b. b == 10) piece none) refl
 
--- the first newline stands past a piece that has none
+-- the first newline is past a piece that has none
 after_piece : (piece rest : List ℕ) → NoNewline piece
     → after_first (λ b. b == 10) (piece ++ rest) ≡ after_first (λ b. b == 10) rest
 after_piece [] rest none = refl
@@ -63,12 +63,12 @@ NextLineIs-last c (b ∷ bs) none some gave =
     rw (Gave-is c empty_content (b ∷ bs) gave, after_piece (b ∷ bs) [] none, append-nil, lines-nil Whole)
     (ap (map strip_carriage_return) (pieces-last Whole (b ∷ bs) none), refl)
 
--- where nothing is left, there is no line
+-- if nothing remains, there is no line
 pub NextLineIs-none : (c : Content) (line : List ℕ) → Gave c empty_content []
     → NextLineIs c empty_content (Ok NoMore) line
 NextLineIs-none c line gave = rw (Gave-is c empty_content [] gave) (lines-nil Whole, refl)
 
--- a fault leaves no line, whatever stands before it
+-- a fault leaves no line, whatever precedes it
 pub NextLineIs-fault : (c d : Content) (f : Fault) (piece : List ℕ) → NoNewline piece
     → Gave c (record { bytes = []; ending = Broken f }) piece → NextLineIs c d (Err (stops.Fault f)) []
 NextLineIs-fault c d f piece none gave =
@@ -88,7 +88,7 @@ gives_stop {e = stops.Memory} x z f g piece line n m is h =
 gives_stop {e = stops.Fault q} x z f g piece line n m is h =
     rw is (IfKnown-remade x z f g _ _ (λ c d h. (h, tt)) (rw is at h))
 
--- the end was answered before, and is answered again
+-- the end was returned before, and is returned again
 pub gives_ended : (z : Option Content) (line : List ℕ) (n : ℕ)
     → IfKnown (option_map (λ _. empty_content) z) (option_map (λ _. empty_content) z) (Gives n n (Ok NoMore) line)
 gives_ended None line n = tt

@@ -1,4 +1,4 @@
--- The piece of a line that stands in the reader's buffer.
+-- The piece of a line in the reader's buffer.
 use Rattle.std.proofs.Common.{◌≡◌, ℕ, ◌+◌, ◌-◌, ◌<◌, ◌≤◌, ◌==◌, List, ◌∷◌, ◌++◌, length, take, drop, get_or, false, refl, ap, ◌∙◌, arith, add-one, length-append, length-take, length-drop}
 use Rattle.std.proofs.lemmas.List.{length-take-le, get_or-take, drop-take, drop-drop}
 use Rattle.std.proofs.lemmas.Bool.{false_from_ne_true}
@@ -7,11 +7,11 @@ use Rattle.std.proofs.Math.Seq.{split_at, take-length}
 use Rattle.memchr.specs.Find.{Nowhere, Passes, is_byte}
 use Rattle.sum_sources.specs.ManifestLines.{NoNewline}
 
--- how many bytes stand between the buffer's places
+-- how many bytes are between the buffer's places
 pub length-buffered : (buf : List ℕ) (s e : ℕ) → s ≤ e → e ≤ length buf → length (take (e - s) (drop s buf)) ≡ e - s
 length-buffered buf s e low high = simp (length-take, length-drop) (omega arith)
 
--- some are to come, where some stand there
+-- some remain if some are buffered
 pub some_buffered : (buf rest : List ℕ) (s e : ℕ) → s < e → e ≤ length buf
     → 0 < length (take (e - s) (drop s buf) ++ rest)
 some_buffered buf rest s e low high =
@@ -24,7 +24,7 @@ plain_prefix bytes n few none = All-from_get_or (λ b. (b == 10) ≡ false) (tak
     let below : k < n = omega (arith, low, length-take-le n bytes few) in
     rw (get_or-take n bytes k 0 below) (false_from_ne_true _ (none k (omega arith) below)))
 
--- nor have all bytes, where none is found
+-- nor have all bytes, if none is found
 pub plain_piece : (bytes : List ℕ) → Nowhere (Passes (is_byte 10) bytes) 0 (length bytes) → NoNewline bytes
 plain_piece bytes none = rw take-length at (plain_prefix bytes (length bytes) (omega arith) none)
 

@@ -1,4 +1,4 @@
--- Contents of inputs, bytes and an ending, and what counts of them; what sources answer, and what they were asked.
+-- Contents of inputs, and what counts of them; states of inputs and of sources, and what a read and an opening change.
 use Rattle.std.specs.Prelude.{ℕ, ◌≡◌, ◌<◌, ◌-◌, ◌^◌, List, [], ◌++◌, take, length, Option, None, Some, Result, Ok, Err, ⊤, nat_lt, if◌then◌else◌, codes, ◌∷◌, ◌||◌, Bool, is_none, is_some, option_map}
 use Rattle.std.specs.Option.{option_or}
 use Rattle.digest_kinds.specs.Kinds.{digest, KindValue}
@@ -13,7 +13,7 @@ use Rattle.sum_sources.specs.declared.inputs.closable.Closable.TheVariants.{Open
 use Rattle.sum_sources.specs.declared.sources.source.OpenFault.{OpenFault}
 use Rattle.sum_sources.specs.declared.sources.source.OpenFault.TheVariants as faults
 
--- bytes that come, and how they end
+-- bytes, and how they end
 pub record Content : Type 0 where
   pub bytes : List ℕ
   pub ending : Ending
@@ -27,18 +27,18 @@ pub record InputState : Type 0 where
 unfoldable pub limit : ℕ
 limit = 2 ^ 61
 
--- what is too long counts as its prefix and then a fault
+-- a content that is too long counts as its prefix and then a fault
 abbrev pub clip : Content → Content
 clip c = if nat_lt (length c.bytes) limit then c else record { bytes = take (limit - 1) c.bytes; ending = Broken Other }
 
--- what holds between a value before and after, where it is told; what is told stays told
+-- P holds between the values before and after, if they are known; what is known stays known
 abbrev pub IfKnown : {A : Type 0} → Option A → Option A → (A → A → Type 0) → Type 0
 IfKnown None new P = ⊤
 IfKnown (Some a) None P = ⊥
 IfKnown (Some a) (Some b) P = P a b
 
--- a read takes the first bytes; it finds the end only where no byte is left and the ending is whole, and a fault only
--- where no byte is left and the ending is that fault
+-- a read takes the first bytes; it finds the end only if no byte remains and the ending is whole, and fails only if no
+-- byte remains and the ending is that fault
 abbrev pub ReadsFrom : Content → Content → Result ℕ Fault → List ℕ → Type 0
 ReadsFrom c d (Ok n) buf = (c.bytes ≡ take n buf ++ d.bytes) × (d.ending ≡ c.ending)
     × (n ≡ 0 → 0 < length buf → (c.bytes ≡ []) × (c.ending ≡ Whole))
@@ -49,12 +49,13 @@ abbrev pub Hashes : KindValue → Content → Result (List ℕ) Fault → Type 0
 Hashes kind c (Ok d) = (c.ending ≡ Whole) × (d ≡ digest kind c.bytes)
 Hashes kind c (Err f) = c.ending ≡ Broken f
 
--- the words for the faults
+-- the texts of the faults
 abbrev pub fault_text : Fault → List ℕ
 fault_text NotFound = codes "No such file or directory"
 fault_text Denied = codes "Permission denied"
 fault_text Other = codes "Input/output error"
 
+-- no bytes, and a whole ending
 abbrev pub empty_content : Content
 empty_content = record { bytes = []; ending = Whole }
 
@@ -94,7 +95,7 @@ pub record OverReader (R : Type 0) : Type 0 where
 abbrev pub Reply : Type 0
 Reply = Result Content Fault
 
--- what a source tells: its reply to each name, and the names that it was asked, in order
+-- what is known of a source: its reply to each name, and the names that it was asked, in order
 pub record KnownSource : Type 0 where
   pub answer : List ℕ → Reply
   pub asked : List (List ℕ)
@@ -105,7 +106,7 @@ pub record SourceState : Type 0 where
   pub known : Option KnownSource
   pub refusals : ℕ  -- how often an opening was refused memory
   pub opened : ℕ  -- how many files were opened
-  pub ended : ℕ  -- how many files were closed that had been read to their end, and no further
+  pub ended : ℕ  -- how many of these were closed at their end, and not read again after it
 
 -- the counts of real files
 pub record FileCounts : Type 0 where
@@ -123,7 +124,7 @@ abbrev pub opened_after : {F : Type 0} → ℕ → Result F OpenFault → ℕ
 opened_after n (Ok file) = one_more n
 opened_after n (Err fault) = n
 
--- the source after a file of this phase was closed: only one that gave its end and was not asked again is counted
+-- the source after a file of this phase was closed: it is counted only at its end
 abbrev pub closed_state : SourceState → Phase → SourceState
 closed_state s Ended = record s { ended = one_more s.ended }
 closed_state s phase = s
@@ -132,7 +133,7 @@ closed_state s phase = s
 abbrev pub AsksName : KnownSource → KnownSource → List ℕ → Option Reply → Type 0
 AsksName s t name reply = (t ≡ record s { asked = s.asked ++ name ∷ [] }) × (reply ≡ Some (s.answer name))
 
--- opening a name: the same is told for want of memory; else it was asked, and its reply is the file's content or fault
+-- opening a name: nothing changes for want of memory; else it was asked, and its reply is the file's content or fault
 abbrev pub OpenOf : {F : Type 0} → (F → InputState) → KnownSource → KnownSource → List ℕ → Result F OpenFault → Type 0
 OpenOf state s t name (Ok file) = AsksName s t name (option_map Ok (state file).content)
 OpenOf state s t name (Err (faults.Fault f)) = AsksName s t name (Some (Err f))

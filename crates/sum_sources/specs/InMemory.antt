@@ -14,7 +14,7 @@ pub record Pair : Type 0 where
   pub name : List ℕ
   pub reply : Reply
 
--- the first pair with the name answers; a name without a pair is not found
+-- the reply of the first pair with the name; a name without a pair is not found
 abbrev pub first_reply : List Pair → List ℕ → Reply
 first_reply [] name = Err NotFound
 first_reply (p ∷ ps) name = if bytes_eq p.name name then p.reply else first_reply ps name

@@ -1,4 +1,4 @@
--- A reader of lines, as its callers see it.
+-- The state of a reader of lines, and what a call changes in it.
 use Rattle.std.specs.Prelude.{ℕ, ◌≡◌, ◌+◌, ◌-◌, ◌≤◌, ◌⊎◌, ⊤, List, [], ◌++◌, take, length, nat_lt, if◌then◌else◌, Option, None, Some, Result, Ok, Err, option_map}
 use Rattle.digest_kinds.specs.Limits.{LIMIT}
 use Rattle.sum_sources.specs.Contents.{Other, Broken, Content, InputState, limit, empty_content}
@@ -8,23 +8,23 @@ use Rattle.sum_sources.specs.declared.line_reader.LineStop.TheVariants as stops
 
 -- a reader of lines
 pub record LineReaderValue (I : Type 0) : Type 0 where
-  pub input : I  -- its input, past the bytes that it has given
+  pub input : I  -- its input, past the bytes that were read from it
   pub ahead : List ℕ  -- of these bytes, those that were not moved into a line
-  pub taken : ℕ  -- how many bytes the input has given
-  pub lines : ℕ  -- how many lines were answered
-  pub final_answer : Option (Result Next LineStop)  -- what every later call answers again, where there is one
+  pub taken : ℕ  -- how many bytes were read from the input
+  pub lines : ℕ  -- how many lines were returned
+  pub final_answer : Option (Result Next LineStop)  -- what every later call returns, if that is settled
 
--- how many bytes the lines have used, newlines included; after a stop also those of a line that was begun
+-- how many bytes made up lines, newlines included; after a stop also those of a line that was begun
 abbrev pub consumed : {I : Type 0} → LineReaderValue I → ℕ
 consumed r = r.taken - length r.ahead
 
--- what holds of every reader: each line has used a byte at least, at most a piece is ahead, and the limit stands
+-- what holds of every reader: each line consumed a byte at least, at most 8,192 bytes are ahead, and taken is bounded
 pub record Bounded {I : Type 0} (r : LineReaderValue I) : Type 0 where
   pub lines : r.lines + length r.ahead ≤ r.taken
   pub ahead : length r.ahead ≤ 8192
   pub taken : r.taken ≤ LIMIT
 
--- a content of which fewer than n bytes are taken
+-- a content of which fewer than n bytes count
 abbrev pub clip_to : ℕ → Content → Content
 clip_to n c = if nat_lt (length c.bytes) n then c else record { bytes = take (n - 1) c.bytes; ending = Broken Other }
 
@@ -32,18 +32,18 @@ clip_to n c = if nat_lt (length c.bytes) n then c else record { bytes = take (n 
 abbrev pub with_prefix : List ℕ → Content → Content
 with_prefix prefix c = record { bytes = prefix ++ c.bytes; ending = c.ending }
 
--- what is still to come, where this is answered again: nothing after the end, and just the fault after a fault
+-- the remaining content, given the final answer: nothing after the end, and just the fault after a fault
 abbrev pub left_by : Option (Result Next LineStop) → Content → Content
 left_by (Some (Ok n)) c = empty_content
 left_by (Some (Err (stops.Fault f))) c = record { bytes = []; ending = Broken f }
 left_by _ c = c
 
--- what is still to come: the bytes read ahead and then the input's content, as far as the limit allows
+-- the remaining content: the bytes read ahead and then the input's content, as far as the limit allows
 abbrev pub remaining_content : {I : Type 0} → (I → InputState) → LineReaderValue I → Option Content
 remaining_content state r =
     option_map (λ c. left_by r.final_answer (with_prefix r.ahead (clip_to (limit - r.taken) c))) (state r.input).content
 
--- what every later call answers, once this was answered: after a line nothing is settled, or the end; after the end or
+-- what every later call returns, once this was returned: after a line nothing is settled, or the end; after the end or
 -- a stop, the same
 abbrev pub FinalAnswerAfter : Result Next LineStop → Option (Result Next LineStop) → Type 0
 FinalAnswerAfter (Ok Line) later = (later ≡ None) ⊎ (later ≡ Some (Ok NoMore))

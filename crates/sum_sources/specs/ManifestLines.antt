@@ -8,7 +8,7 @@ pub use Rattle.sum_sources.specs.declared.line_reader.Next.TheVariants.{Line, No
 pub use Rattle.sum_sources.specs.declared.line_reader.LineStop.{LineStop}
 use Rattle.sum_sources.specs.declared.line_reader.LineStop.TheVariants as stops
 
--- the last piece, which no newline ended, is a line where it isn't empty and the content ends whole
+-- the last piece, which no newline ended, is a line if it isn't empty and the content ends whole
 abbrev pub last_line : Ending → List ℕ → List (List ℕ)
 last_line Whole (b ∷ bs) = (b ∷ bs) ∷ []
 last_line _ _ = []
@@ -18,11 +18,11 @@ unfoldable pub raw_lines : Content → List (List ℕ)
 raw_lines c = let all = slice_split (λ b. b == 10) c.bytes in
     take (length all - 1) all ++ last_line c.ending (slice_index_or all (length all - 1) [])
 
--- the lines of a content: each without one carriage return at its end, where it has one
+-- the lines of a content: each without one carriage return at its end, if it has one
 abbrev pub lines : Content → List (List ℕ)
 lines c = map strip_carriage_return (raw_lines c)
 
--- what stands past the first line
+-- the content past the first line
 abbrev pub past_line : Content → Content
 past_line c = record { bytes = after_first (λ b. b == 10) c.bytes; ending = c.ending }
 
@@ -34,15 +34,15 @@ NoNewline piece = All (λ b. (b == 10) ≡ false) piece
 abbrev pub bytes_of_lines : List (List ℕ) → List ℕ → List ℕ
 bytes_of_lines ended tail = flat_map (λ piece. piece ++ 10 ∷ []) ended ++ tail
 
--- what next_line answers: the first line, with what stands past it still to come; or that none is left, by the ending;
--- or that it wants memory, only where something is still to come
+-- what next_line returns: the first line, and the content past it remains; or that none remains, by the ending; or that
+-- memory was refused, only if something remains
 abbrev pub NextLineIs : Content → Content → Result Next LineStop → List ℕ → Type 0
 NextLineIs c d (Ok Line) line = (lines c ≡ line ∷ lines d) × (d ≡ past_line c)
 NextLineIs c d (Ok NoMore) line = (lines c ≡ []) × (c.ending ≡ Whole)
 NextLineIs c d (Err (stops.Fault f)) line = (lines c ≡ []) × (c.ending ≡ Broken f)
 NextLineIs c d (Err stops.Memory) line = 0 < length c.bytes
 
--- how many lines were answered
+-- only a line changes the count of lines
 abbrev pub lines_after : ℕ → Result Next LineStop → ℕ
 lines_after n (Ok Line) = n + 1
 lines_after n _ = n

@@ -1,4 +1,3 @@
--- How the code's values stand for those of the definitions. The headline reaches none of it; contracts of calls that a
--- user of the crate meets by themselves name some.
+-- Views of the code's values. The headline reaches none of it; some contracts of single calls name it.
 pub mod LineStates
 pub mod ToldPairs

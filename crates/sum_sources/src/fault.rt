@@ -1,4 +1,4 @@
-//! What may go wrong in opening and reading, and how an input ends.
+//! Faults of opening and reading, and how an input ends.
 ghost use Rattle.std.specs.Prelude.{◌≡◌};
 ghost use Rattle.sum_sources.specs.Contents.{fault_text};
 
@@ -49,8 +49,8 @@ pub struct NoRoom;
 /// How an input ends after its last byte.
 #[derive(Clone, Copy, Debug, PartialEq, Eq)]
 pub enum Ending {
-    /// All bytes were given.
+    /// All bytes were read.
     Whole,
-    /// Reading on met this fault.
+    /// Then a read fails by this fault.
     Broken(Fault),
 }

@@ -1,5 +1,11 @@
-//! Where bytes come from: inputs and sources of files, told ones and real ones, the digest of an
-//! input, and the lines of a manifest.
+//! Where bytes come from: inputs and sources of files, in memory and real ones, the digest of an input, and the lines
+//! of a manifest. Who opened a file closes it; `files.ended()` counts those that were read to their end.
+//!
+//! ```rust
+//! let mut file = files.open_file(b"notes.txt")?;
+//! let digest = hash_input(&mut file, Md5Hasher::new());
+//! files.close_file(file);
+//! ```
 #![tactic(auto)]
 
 mod fault;

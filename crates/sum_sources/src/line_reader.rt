@@ -12,17 +12,17 @@ use std::alloc::{AllocError, Allocator};
 use std::marker::Model;
 use thiserror::Error;
 
-/// What there was to read.
+/// What `next_line` found.
 #[derive(Clone, Copy, Debug, PartialEq, Eq)]
 pub enum Next {
     /// The next line.
     Line,
-    /// No line any more.
+    /// No line remains.
     NoMore,
 }
 
-/// Why there is no next line: `Fault` where the input ended by that fault, after every line that a newline ended;
-/// `Memory` where there was no memory for the line, or to open the file that the line names.
+/// Why there is no next line: the input ended by this `Fault`, after every line that a newline ended; or there was no
+/// `Memory` for the line, or to open the file that the line names.
 #[derive(Clone, Copy, Debug, PartialEq, Eq, Error)]
 pub enum LineStop {
     #[error(transparent)]
@@ -42,9 +42,9 @@ enum ReaderState {
 #[derive(Drop)]
 pub struct LineReader<I> {
     input: I,
-    // how many bytes the input has given
+    // how many bytes were read from the input
     taken: u64,
-    // What was read and isn't used yet is `buf[start..end]`.
+    // What was read ahead is `buf[start..end]`.
     buf: [u8; PIECE],
     start: usize,
     end: usize,
@@ -64,7 +64,7 @@ impl<I> Model for LineReader<I> {
     ghost invariant = { λ s. LineReaderInvariant s };
 }
 
-// Drops the one carriage return at the end of the line, where there is one.
+// Drops the one carriage return at the end of the line, if there is one.
 fn drop_return<A: Allocator>(line: &mut Vec<u8, A>)
     ensures { line.new.items ≡ strip_carriage_return line.old.items }
 {
@@ -98,7 +98,7 @@ impl<I: Input> LineReader<I> {
         }
     }
 
-    /// How many bytes the input has given.
+    /// How many bytes were read from the input.
     pub fn taken(&self) -> u64
         ensures value { result ≡ self.now.taken }
         ensures most { result ≤ LIMIT }
@@ -106,7 +106,7 @@ impl<I: Input> LineReader<I> {
         self.taken
     }
 
-    /// How many lines were given.
+    /// How many lines were returned.
     pub fn lines(&self) -> u64
         ensures value { result ≡ self.now.lines }
         ensures few { result ≤ self.now.taken }
@@ -114,14 +114,14 @@ impl<I: Input> LineReader<I> {
         self.lines
     }
 
-    /// The input, past the bytes that it has given; those that were read ahead of the last line are lost.
+    /// The input, past the bytes that were read from it; those read ahead of the last line are lost.
     pub fn into_inner(self) -> I
         ensures { result ≡ self.input }
     {
         self.input
     }
 
-    // Reads into the empty buffer. False means that the input has ended.
+    // Reads into the empty buffer. Returns false if the input has ended.
     fn fill(&mut self) -> Result<bool, Fault>
         requires empty { self.old.ahead ≡ [] }
         requires going { self.old.final_answer ≡ None }
@@ -142,8 +142,8 @@ impl<I: Input> LineReader<I> {
         Ok(self.end != 0)
     }
 
-    // Moves the buffer's bytes up to its first newline to the line's end, and drops that newline.
-    // False means that there was none, and all bytes were moved.
+    // Moves the buffer's bytes up to its first newline to the line's end, and drops that newline. Returns false if
+    // there is none, and all bytes were moved.
     fn take_piece<A: Allocator>(&mut self, line: &mut Vec<u8, A>) -> Result<bool, AllocError>
         requires going { self.old.final_answer ≡ None }
         ensures piece { IfOk result (λ ended.
@@ -209,19 +209,19 @@ impl<I: Input> LineReader<I> {
         }
     }
 
-    /// Puts the next line into `line`, without its newline and without one carriage return at its end. `NoMore` where
-    /// none is left and the input ended whole. `LineStop::Fault` where it ended by that fault, `LineStop::Memory` where
-    /// memory for the line was refused. Each of these is answered again by every later call. What `line` holds after
-    /// them isn't said; what it held before doesn't matter.
+    /// Puts the next line into `line`, without its newline and without one carriage return at its end. `NoMore` if none
+    /// remains and the input ended whole, `LineStop::Fault` if it ended by that fault, `LineStop::Memory` if memory for
+    /// the line was refused. Every later call returns the same, and doesn't read the input. The content of `line` is
+    /// open after these, and doesn't matter before.
     pub fn next_line<A: Allocator>(&mut self, line: &mut Vec<u8, A>) -> Result<Next, LineStop>
         // Bytes consumed and bytes that remain add up to the same, except after a stop.
         ensures line { IfKnown (remaining_content I.state self.old) (remaining_content I.state self.new)
             (λ c d. NextLineIs c d result line.new.items
             × OnOk result (consumed self.new + length d.bytes ≡ consumed self.old + length c.bytes)) }
-        // What was answered for good is answered again, and nothing changes.
+        // A final answer is returned again, and changes nothing.
         ensures repeats { IfSome self.old.final_answer (λ answer. (result ≡ answer) × (self.new ≡ self.old)) }
         ensures reader { AdvancesLines I.state self.old self.new result }
-        // Bytes taken and bytes left in the input add up to the same.
+        // Bytes taken and bytes that remain in the input add up to the same.
         ensures input { IfKnown (I.state self.old.input).content (I.state self.new.input).content
             (λ c d. self.new.taken + length d.bytes ≡ self.old.taken + length c.bytes) }
         ensures bounds { Bounded self.new }

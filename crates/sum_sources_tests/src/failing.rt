@@ -1,42 +1,14 @@
-//! Inputs of which one read fails and which then go on. A told input repeats its fault, so it doesn't show what a body
-//! reads behind one.
+//! Inputs of which one read fails and which then go on: how far they were read, and what was counted.
+use crate::fails_once::{FailsOnce, FilesFailOnce};
 use digest_kinds::Md5Hasher;
+use std::cell::Cell;
 use std::io::{self, ErrorKind, Read};
 use std::process::Abort;
 use std::test::Fail;
 use sum_sources::{
-    Closable, Ending, Fault, FromRead, Input, LineReader, LineStop, Next, PIECE, Stdin, Told,
-    hash_input, hash_input_over,
+    Answer, Closable, Ending, Fault, FromRead, Input, LineReader, LineStop, Next, PIECE, Phase,
+    Source, Stdin, Told, ToldSource, hash_input, hash_input_over,
 };
-
-// An input of which one read fails: so many come before it, and behind it the bytes go on.
-#[derive(Drop)]
-struct FailsOnce<'a> {
-    bytes: Told<'a>,
-    before: Option<usize>,
-    fault: Fault,
-}
-
-impl<'a> FailsOnce<'a> {
-    fn new(bytes: &'a [u8], piece: usize, before: usize, fault: Fault) -> FailsOnce<'a> {
-        FailsOnce {
-            bytes: Told::new(bytes, Ending::Whole, piece),
-            before: Some(before),
-            fault,
-        }
-    }
-}
-
-impl<'a> Input for FailsOnce<'a> {
-    fn read(&mut self, buf: &mut [u8]) -> Result<usize, Fault> {
-        if self.before == Some(0) {
-            self.before = None;
-            return Err(self.fault);
-        }
-        self.before = self.before.and_then(|left| left.checked_sub(1));
-        self.bytes.read(buf)
-    }
-}
 
 // The reader of such an input, whose fault is an error of this kind.
 #[derive(Drop)]
@@ -52,6 +24,15 @@ impl<'a> Read for Reader<'a> {
             Err(_) => Err(io::Error::from(self.kind)),
         }
     }
+}
+
+// "abc", a byte a read.
+fn abc<'a>(before: &'a Cell<usize>, fault: Fault) -> FailsOnce<'a> {
+    FailsOnce::new(Told::new(b"abc", Ending::Whole, 1), before, fault)
+}
+
+fn reader_of<'a>(input: FailsOnce<'a>, kind: ErrorKind) -> FromRead<Reader<'a>> {
+    FromRead::new(Reader { input, kind })
 }
 
 const FAULTS: [(Fault, ErrorKind); 4] = [
@@ -79,39 +60,68 @@ fn goes_on(rt: &impl Abort, input: &mut impl Input, before: usize, fault: Fault)
 fn through_wrappers(rt: HostRuntime) {
     for (fault, kind) in FAULTS {
         for before in 0..=5 {
-            let input = || FailsOnce::new(b"abc", 1, before, fault);
-            goes_on(&rt, &mut input(), before, fault);
-            let mut stdin = Stdin::new(input());
+            let count = Cell::new(before);
+            goes_on(&rt, &mut abc(&count, fault), before, fault);
+            count.set(before);
+            let mut stdin = Stdin::new(abc(&count, fault));
             let mut given = stdin.take();
             goes_on(&rt, &mut given, before, fault);
             stdin.put_back(given);
-            goes_on(&rt, &mut Closable::Open(input()), before, fault);
-            let reader = Reader {
-                input: input(),
-                kind,
-            };
-            goes_on(&rt, &mut FromRead::new(reader), before, fault);
+            count.set(before);
+            goes_on(&rt, &mut Closable::Open(abc(&count, fault)), before, fault);
+            count.set(before);
+            goes_on(&rt, &mut reader_of(abc(&count, fault), kind), before, fault);
         }
     }
     // What only interrupts a reader is no fault.
     for before in 0..=5 {
-        let reader = Reader {
-            input: FailsOnce::new(b"abc", 1, before, Fault::Other),
-            kind: ErrorKind::Interrupted,
-        };
-        goes_on(&rt, &mut FromRead::new(reader), 6, Fault::Other);
+        let count = Cell::new(before);
+        let mut input = reader_of(abc(&count, Fault::Other), ErrorKind::Interrupted);
+        goes_on(&rt, &mut input, 6, Fault::Other);
     }
 }
 
-// No digest comes of an input that failed, but that of "abc" (RFC 1321) of one that would have failed behind its end.
+// After its end or a fault, a read more is past that. A read of no bytes finds no end.
+#[test]
+fn phases(rt: HostRuntime) {
+    let (reading, past) = (Phase::Reading, Phase::Past);
+    for (before, phases) in [
+        (0, [Phase::Failed, past, past, past, past]),
+        (2, [reading, reading, Phase::Failed, past, past]),
+        (3, [reading, reading, reading, Phase::Failed, past]),
+        (9, [reading, reading, reading, Phase::Ended, past]),
+    ] {
+        let count = Cell::new(before);
+        let mut input = reader_of(abc(&count, Fault::Other), ErrorKind::Other);
+        assert!(rt; input.phase() == reading);
+        for phase in phases {
+            let _ = input.read(&mut [0; 4]);
+            assert!(rt; input.phase() == phase, "{before}");
+        }
+    }
+    let count = Cell::new(9);
+    let mut input = reader_of(abc(&count, Fault::Other), ErrorKind::Other);
+    assert!(rt; input.read(&mut []) == Ok(0));
+    assert!(rt; input.phase() == reading);
+}
+
+// No digest comes of an input that failed, but that of "abc" (RFC 1321) of one that would have failed after its end.
 #[test]
 fn hashes(rt: HostRuntime) -> Result<(), Fail> {
     let mut buffer = [0; PIECE];
     for (fault, _) in FAULTS {
         for before in 0..=5 {
-            let mut input = FailsOnce::new(b"abc", 1, before, fault);
+            let count = Cell::new(before);
+            let mut input = abc(&count, fault);
             let one = hash_input(&mut input, Md5Hasher::new());
-            let mut input = FailsOnce::new(b"abc", 1, before, fault);
+            let phase = if before > 3 {
+                Phase::Ended
+            } else {
+                Phase::Failed
+            };
+            assert!(rt; input.phase() == phase, "at {before}");
+            count.set(before);
+            let mut input = abc(&count, fault);
             let over = hash_input_over(&mut input, Md5Hasher::new(), &mut buffer);
             for result in [one, over] {
                 match result {
@@ -131,6 +141,35 @@ fn hashes(rt: HostRuntime) -> Result<(), Fail> {
     Ok(())
 }
 
+// Files are counted as ended only if all was hashed; one read more, and a file is past its end.
+#[test]
+fn counts(rt: HostRuntime) -> Result<(), Fail> {
+    for before in 0..=8 {
+        let count = Cell::new(before);
+        let mut files = ToldSource::new(rt.alloc(), 1);
+        files.add(b"a", Answer::Content(b"abc", Ending::Whole))?;
+        let mut source = FilesFailOnce::new(files, &count, Fault::Denied);
+        assert!(rt; source.open_file(b"b").is_err());
+        let mut ended = 0;
+        for i in 1..=2 {
+            let mut file = source.open_file(b"a").ok().ok_or("a")?;
+            if hash_input(&mut file, Md5Hasher::new()).is_ok() {
+                ended = u64::saturating_add(ended, 1);
+            }
+            source.close_file(file);
+            assert!(rt; source.counts() == (i, ended));
+        }
+        assert!(rt; ended == if before < 8 { 1 } else { 2 });
+        let mut file = source.open_file(b"a").ok().ok_or("a")?;
+        assert!(rt; hash_input(&mut file, Md5Hasher::new()).is_ok() == (before != 8));
+        let _ = file.read(&mut [0; 1]);
+        assert!(rt; file.phase() == Phase::Past);
+        source.close_file(file);
+        assert!(rt; source.counts() == (3, ended));
+    }
+    Ok(())
+}
+
 // The lines that a newline ended before the fault, and then that fault for good.
 #[test]
 fn lines(rt: HostRuntime) -> Result<(), Fail> {
@@ -142,15 +181,18 @@ fn lines(rt: HostRuntime) -> Result<(), Fail> {
         for before in 0..=reads {
             let given = content.get(..14.min(before * piece)).ok_or("given")?;
             let ended = given.iter().filter(|byte| **byte == b'\n').count();
-            let (count, end) = if before < reads {
-                (ended, Err(LineStop::Fault(Fault::Denied)))
+            let (lines, end, phase) = if before < reads {
+                let stop = LineStop::Fault(Fault::Denied);
+                (ended, Err(stop), Phase::Failed)
             } else {
-                (4, Ok(Next::NoMore))
+                (4, Ok(Next::NoMore), Phase::Ended)
             };
-            let input = FailsOnce::new(content, piece, before, Fault::Denied);
-            let mut reader = LineReader::new(input);
+            let count = Cell::new(before);
+            let bytes = Told::new(content, Ending::Whole, piece);
+            let input = FailsOnce::new(bytes, &count, Fault::Denied);
+            let mut reader = LineReader::new(reader_of(input, ErrorKind::PermissionDenied));
             let mut line = Vec::new(rt.alloc());
-            for want in all.get(..count).ok_or("count")? {
+            for want in all.get(..lines).ok_or("lines")? {
                 assert!(rt;
                     reader.next_line(&mut line) == Ok(Next::Line),
                     "{piece}, {before}"
@@ -160,6 +202,7 @@ fn lines(rt: HostRuntime) -> Result<(), Fail> {
             for _ in 0..2 {
                 assert!(rt; reader.next_line(&mut line) == end, "{piece}, {before}");
             }
+            assert!(rt; reader.into_inner().phase() == phase, "{piece}, {before}");
         }
     }
     Ok(())

@@ -3,6 +3,7 @@
 
 #[cfg(test)]
 mod failing;
+pub mod fails_once;
 #[cfg(test)]
 mod hashing;
 #[cfg(test)]

@@ -1,4 +1,4 @@
--- Joins the line reader's fields and steps to what its callers see of it, and says what the fields keep.
+-- The view of a reader of lines, its invariant, and what its steps change.
 use Rattle.std.specs.Prelude.{◌≡◌, ◌+◌, ◌-◌, ◌<◌, ◌≤◌, take, drop, Option, None, Some, Result, Ok, Err, Bool, true, false, ℕ, List, [], ◌∷◌, ◌++◌}
 use Rattle.digest_kinds.specs.Limits.{LIMIT}
 use Rattle.sum_sources.specs.declared.inputs.input.TheConstants.{PIECE}
@@ -10,7 +10,7 @@ use Rattle.sum_sources.specs.ManifestLines.{Next, NoMore, LineStop, NoNewline}
 use Rattle.sum_sources.specs.LineReaders.{LineReaderValue}
 use Rattle.sum_sources.specs.declared.line_reader.LineStop.TheVariants as stops
 
--- what every later call answers again
+-- what every later call returns
 abbrev pub final_answer_in : ReaderState → Option (Result Next LineStop)
 final_answer_in Active = None
 final_answer_in Ended = Some (Ok NoMore)
@@ -34,13 +34,13 @@ pub record LineReaderInvariant {I : Type 0} (s : Inside I) : Type 0 where
   pub most : s.taken ≤ LIMIT
   pub wants : s.state ≡ Stopped stops.Memory → s.start < s.end
 
--- filling the empty buffer: what is still to come stays, or nothing is, by the ending
+-- filling the empty buffer: the remaining content stays, or nothing remains, by the ending
 abbrev pub FillOf : Content → Content → Result Bool Fault → Type 0
 FillOf c d (Ok true) = d ≡ c
 FillOf c d (Ok false) = c ≡ empty_content
 FillOf c d (Err f) = c ≡ record { bytes = []; ending = Broken f }
 
--- a piece went from the front of the buffer to the line's end: up to a newline, which went too, or the whole buffer
+-- a piece moves from the front of the buffer to the line's end: up to a newline, which is dropped, or the whole buffer
 abbrev pub TakesPiece : Bool → List ℕ → List ℕ → List ℕ → List ℕ → Type 0
 TakesPiece true old new line line' = (piece : List ℕ) × NoNewline piece × (old ≡ piece ++ (10 ∷ new))
     × (line' ≡ line ++ piece)

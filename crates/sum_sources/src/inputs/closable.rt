@@ -9,7 +9,7 @@ use crate::{Fault, Input, Phase};
 pub enum Closable<I> {
     /// This input.
     Open(I),
-    /// Nothing can be read; so far it was asked.
+    /// Nothing can be read; so far it was tried.
     Closed(Phase),
 }
 

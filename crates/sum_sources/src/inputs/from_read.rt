@@ -10,7 +10,7 @@ use std::marker::Model;
 /// How many interruptions in a row are a fault.
 const INTERRUPTIONS: u32 = 1000;
 
-/// The fault that an error of std's is.
+/// The fault for an error of std's.
 pub(crate) fn fault_of(error: &io::Error) -> Fault {
     match error.kind() {
         ErrorKind::NotFound => Fault::NotFound,
@@ -35,8 +35,8 @@ impl<R> Model for FromRead<R> {
 }
 
 impl<R: Read> FromRead<R> {
-    /// The input that gives what `reader` gives. Each fault of the reader is answered by its kind;
-    /// the 1,000th interruption in a row within one read is `Fault::Other`.
+    /// The input that reads from `reader`. A fault of the reader is returned by its kind; the 1,000th interruption in a
+    /// row within one read is `Fault::Other`.
     pub fn new(reader: R) -> Self
         ensures { result ≡ record { reader = reader; phase = Phase.Reading } }
     {
@@ -77,7 +77,7 @@ impl<R: Read> Input for FromRead<R> {
     }
 }
 
-// One read of the reader, which is asked again where it is interrupted.
+// One read of the reader, repeated if it is interrupted.
 fn read_uninterrupted<R: Read>(reader: &mut R, buf: &mut [u8]) -> Result<usize, Fault>
     ensures count { IfOk result (λ n. n ≤ length buf.new) }
     ensures given { ReadConsumes (R.remaining reader.old) (R.remaining reader.new) result buf.new }

@@ -6,13 +6,14 @@ use crate::inputs::size_limit::read_limited;
 use crate::{Fault, Input, PIECE, Phase};
 use digest_kinds::{Digest, Hasher};
 
-/// Reads `input` once, in order and to its end, in pieces of at most `PIECE` bytes, and answers the
-/// digest that `hasher` makes of its bytes, or the fault that the input ends by. An input of `LIMIT`
-/// bytes or more is `Fault::Other`. The hasher has to be a new one.
+/// Reads `input` once, in order and to its end, in pieces of at most `PIECE` bytes. Returns the digest that `hasher`
+/// makes of its bytes, or the fault that the input ends by. An input of `LIMIT` bytes or more is `Fault::Other`. The
+/// hasher has to be a new one.
 pub fn hash_input<I: Input, H: Hasher + Drop>(input: &mut I, hasher: H) -> Result<Digest, Fault>
     requires { H.holds hasher [] }
     ensures digest { IfSome (I.state input.old).content (λ c. Hashes (H.kind_of hasher) (clip c) result) }
     ensures len { IfOk result (λ d. length d ≡ (H.kind_of hasher).len) }
+    // A digest is returned only if no read failed, and the input was not read again after its end.
     ensures phase { IfOk result (λ _. (I.state input.old).phase ≡ Phase.Reading
         → (I.state input.new).phase ≡ Phase.Ended) }
 {
@@ -20,8 +21,8 @@ pub fn hash_input<I: Input, H: Hasher + Drop>(input: &mut I, hasher: H) -> Resul
     hash_input_over(input, hasher, &mut buffer)
 }
 
-/// As `hash_input`, but reads into the caller's buffer, so that one buffer serves many inputs. What the buffer holds
-/// doesn't matter, and what is left in it isn't said.
+/// As `hash_input`, but reads into the caller's buffer, so that one buffer serves many inputs. Its content doesn't
+/// matter before, and is open after.
 pub fn hash_input_over<I: Input, H: Hasher + Drop>(
     input: &mut I,
     mut hasher: H,
@@ -30,6 +31,7 @@ pub fn hash_input_over<I: Input, H: Hasher + Drop>(
     requires { H.holds hasher [] }
     ensures digest { IfSome (I.state input.old).content (λ c. Hashes (H.kind_of hasher) (clip c) result) }
     ensures len { IfOk result (λ d. length d ≡ (H.kind_of hasher).len) }
+    // A digest is returned only if no read failed, and the input was not read again after its end.
     ensures phase { IfOk result (λ _. (I.state input.old).phase ≡ Phase.Reading
         → (I.state input.new).phase ≡ Phase.Ended) }
 {

@@ -8,14 +8,14 @@ use crate::Fault;
 /// The most bytes that are read at once.
 pub const PIECE: usize = 8192;
 
-/// An input: bytes to come, and then an end or a fault.
+/// An input: bytes, and then an end or a fault.
 pub trait Input {
     /// What remains, if it is known; and how far the input was read, `Past` if it doesn't keep that.
     ghost state: { Self → InputState } = { λ _. record { content = None; phase = Past } };
 
-    /// Reads some of the bytes to come into the front of `buf` and answers how many, at most as many
-    /// as `buf` holds. It answers 0 for a `buf` that isn't empty only where the input has ended, and
-    /// a fault only where no byte is to come and the input ends by that fault.
+    /// Reads some of the remaining bytes into the front of `buf` and returns how many, at most its length. Returns 0
+    /// for a `buf` that isn't empty only if the input has ended whole, and a fault only if no byte remains and the
+    /// input ends by that fault.
     fn read(&mut self, buf: &mut [u8]) -> Result<usize, Fault>
         ensures count { IfOk result (λ n. n ≤ length buf.new) }
         ensures bytes { IfKnown (state self.old).content (state self.new).content (λ c d.

@@ -13,7 +13,7 @@ pub enum Phase {
     Ended,
     /// A read failed.
     Failed,
-    /// It was asked again after its end or a fault, and stays so for ever. A type that keeps no phase counts as this.
+    /// It was read again after its end or a fault, and stays so for ever. A type that keeps no phase counts as this.
     Past,
 }
 

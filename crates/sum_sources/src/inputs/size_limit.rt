@@ -9,8 +9,8 @@ ghost use Rattle.sum_sources.specs.declared.inputs.input.TheConstants.{PIECE};
 use crate::{Fault, Input, PIECE};
 use digest_kinds::LIMIT;
 
-/// Reads as `Input::read` from an input that has given `taken` bytes, of which `LIMIT - 1` count: one byte more is
-/// `Fault::Other`.
+/// Reads as `Input::read` from an input from which `taken` bytes were read, of which `LIMIT - 1` count: one byte more
+/// is `Fault::Other`.
 pub(crate) fn read_limited<I: Input>(
     input: &mut I,
     taken: &mut u64,
@@ -32,7 +32,7 @@ pub(crate) fn read_limited<I: Input>(
     if *taken == LIMIT {
         return Err(Fault::Other);
     }
-    // Where no byte more counts, one byte shows whether the input ends there.
+    // If no byte more counts, one byte shows whether the input ends there.
     let size = (LIMIT - 1 - *taken).min(PIECE as u64).max(1) as usize;
     let n = input.read(&mut buffer[..size])?;
     *taken += n as u64;

@@ -20,7 +20,7 @@ impl<I> Model for Stdin<I> {
     ghost view = { λ s. record { input = s.input; returned = s.returned } };
 }
 
-/// What taking standard input gave: its input, or an empty one. It can't be dropped: who took it puts it back.
+/// Standard input that was taken: its input, or an empty one. It can't be dropped: who took it puts it back.
 pub struct Given<I> {
     input: Option<I>,
 }
@@ -34,7 +34,7 @@ impl<I> Model for Given<I> {
 }
 
 impl<I: Input> Stdin<I> {
-    /// Standard input that gives `input` once.
+    /// Standard input whose input is `input`.
     pub fn new(input: I) -> Self
         ensures { result ≡ record { input = Some input; returned = None } }
     {
@@ -44,7 +44,7 @@ impl<I: Input> Stdin<I> {
         }
     }
 
-    /// The input the first time, an empty input afterwards.
+    /// Returns the input the first time, an empty input afterwards.
     pub fn take(&mut self) -> Given<I>
         ensures given { result ≡ self.old.input }
         ensures taken { self.new ≡ record self.old { input = None } }

@@ -6,7 +6,7 @@ ghost use Rattle.sum_sources.specs.Phases.{phase_after};
 use crate::{Ending, Fault, Input, Phase};
 use std::marker::Model;
 
-/// An input that gives bytes from memory, and tells them.
+/// An input of bytes in memory, which are known.
 #[derive(Drop)]
 pub struct Told<'a> {
     rest: &'a [u8],
@@ -31,8 +31,7 @@ impl<'a> Model for Told<'a> {
 }
 
 impl<'a> Told<'a> {
-    /// An input that gives `content`, at most `piece` bytes a read (0 counts as 1), and then ends by
-    /// `ending`.
+    /// An input of the bytes `content`, at most `piece` a read (0 counts as 1), and then `ending`.
     pub fn new(content: &'a [u8], ending: Ending, piece: usize) -> Told<'a>
         ensures { result ≡ record {
           content = record { bytes = content.entry.now; ending = ending };
@@ -55,7 +54,7 @@ impl<'a> Told<'a> {
         self.phase
     }
 
-    // Gives some of the bytes that remain, or how they end.
+    // One read: some of the bytes that remain, or their ending.
     fn give(&mut self, buf: &mut [u8]) -> Result<usize, Fault>
         ensures count { IfOk result (λ n. n ≤ length buf.new) }
         ensures bytes { ReadsFrom self.old.content self.new.content result buf.new }

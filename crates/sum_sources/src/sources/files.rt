@@ -46,7 +46,7 @@ impl<R: rt::Files + Drop> Files<R> {
         self.opened
     }
 
-    /// How many of those closed had given their end, and were not asked again.
+    /// How many of these were closed at their end, and not read again after it.
     pub fn ended(&self) -> u64
         ensures { result ≡ self.now.ended }
     {

@@ -20,8 +20,8 @@ pub trait Source {
     type File: Input;
 
     /// What the source answers for each name and the names asked so far, if they are known; how many openings were
-    /// refused memory, how many files were opened, and how many of those closed had given their end. Each count stays
-    /// at 2^64 - 1 once it is there.
+    /// refused memory, how many files were opened, and how many of these were closed at their end. Each count stays at
+    /// 2^64 - 1 once it is there.
     ghost state: { Self → SourceState };
 
     /// Opens the file of that name. `OpenFault::Fault` if it can't be opened, `OpenFault::Memory` only if memory was
@@ -34,7 +34,7 @@ pub trait Source {
             × ((state self.new).ended ≡ (state self.old).ended) }
         ensures phase { IfOk result (λ file. (Self.File.state file).phase ≡ Phase.Reading) };
 
-    /// Closes a file. It is counted if it gave its end, and was not asked again.
+    /// Closes a file. It is counted if it is at its end, and was not read again after it.
     fn close_file(&mut self, file: Self::File)
         ensures closed { state self.new ≡ closed_state (state self.old) (Self.File.state file).phase };
 }

@@ -10,12 +10,12 @@ use crate::{Ending, Fault, Input, NoRoom, OpenFault, Phase, Source, Told};
 use std::alloc::Allocator;
 use std::marker::Model;
 
-/// What a told source answers for a name.
+/// What a source in memory answers for a name.
 #[derive(Clone, Copy)]
 pub enum Answer<'a> {
     /// The file can't be opened.
     Fault(Fault),
-    /// The file has these bytes and ends so.
+    /// The file has these bytes, and then this ending.
     Content(&'a [u8], Ending),
 }
 
@@ -25,7 +25,7 @@ struct StoredPair<'a, A: Allocator> {
     answer: Answer<'a>,
 }
 
-/// A source that answers from pairs of names and answers, and tells them.
+/// A source that answers from pairs of names and answers, which are known.
 #[derive(Drop)]
 pub struct ToldSource<'a, A: Allocator + Copy> {
     pairs: Vec<StoredPair<'a, A>, A>,
@@ -54,7 +54,7 @@ impl<'a, A: Allocator + Copy> Model for ToldSource<'a, A> {
     } };
 }
 
-/// The answer of the first pair that has the name.
+// The answer of the first pair with the name.
 fn answer_to<'a, A: Allocator>(pairs: &[StoredPair<'a, A>], name: &[u8]) -> Answer<'a>
     ensures { reply_of result ≡ first_reply (map pair_of pairs.now) name.now }
 {
@@ -89,8 +89,7 @@ impl<'a, A: Allocator + Copy> ToldSource<'a, A> {
         }
     }
 
-    /// Has `answer` stand for `name`, unless an earlier pair has that name. For want of memory the
-    /// pairs stay as they were.
+    /// Adds the answer for `name`, unless an earlier pair has that name. After `NoRoom` the pairs are as before.
     pub fn add(&mut self, name: &[u8], answer: Answer<'a>) -> Result<(), NoRoom>
         ensures ok { OnOk result (self.new ≡ record self.old {
           pairs = self.old.pairs ++ record { name = name.now; reply = reply_of answer.entry } ∷ [];
@@ -106,7 +105,7 @@ impl<'a, A: Allocator + Copy> ToldSource<'a, A> {
         }
     }
 
-    // Adds the name to those asked, or counts the refusal.
+    // Records the name as asked, or counts the refusal.
     fn record_asked(&mut self, name: &[u8]) -> Result<(), NoRoom>
         ensures ok { OnOk result (self.new ≡ record self.old { asked = self.old.asked ++ name.now ∷ [] }) }
         ensures err { OnErr result (self.new ≡ record self.old { refusals = one_more self.old.refusals }) }
@@ -139,7 +138,7 @@ impl<'a, A: Allocator + Copy> ToldSource<'a, A> {
         self.opened
     }
 
-    /// How many of those closed had given their end, and were not asked again.
+    /// How many of these were closed at their end, and not read again after it.
     pub fn ended(&self) -> u64
         ensures { result ≡ self.now.ended }
     {

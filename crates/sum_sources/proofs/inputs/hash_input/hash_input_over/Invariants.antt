@@ -5,10 +5,10 @@ use Rattle.sum_sources.specs.Phases.{Reading}
 use Rattle.sum_sources.proofs.ContentLemmas.{Gave}
 use Rattle.sum_sources.proofs.inputs.hash_input.hash_input_over.Given as goal
 
--- the hasher holds the bytes that the input has given
+-- the hasher's message is what was read of the input
 abbrev pub invariant-loop-hasher : goal.invariant-loop-hasher
 invariant-loop-hasher g l = record {
-  came : (m : List ℕ) × g.H.Hasher.holds l.hasher m
+  read : (m : List ℕ) × g.H.Hasher.holds l.hasher m
       × IfKnown (g.I.Input.state l.fn.input).content (g.I.Input.state l.input).content
       (λ c d. Gave (clip c) (clip_to (limit - l.taken) d) m);
   taken : g.H.Hasher.taken_of l.hasher ≡ l.taken;

@@ -1,7 +1,7 @@
 use Rattle.std.proofs.Common.{rules, arith, ◌≡◌, ◌≤◌, length}
 use Rattle.std.proofs.lemmas.Result.{err_from_is_err_and}
 use Rattle.sum_sources.proofs.LimitLemmas.{clipped-bytes, clipped-fault, clipped-long, clipped-none}
-use Rattle.sum_sources.proofs.ToldLemmas.{IfKnown-map}
+use Rattle.sum_sources.proofs.KnownLemmas.{IfKnown-map}
 use Rattle.sum_sources.proofs.inputs.size_limit.read_limited.Goals as goal
 
 -- that it is too long was seen before

@@ -4,11 +4,11 @@ use Rattle.sum_sources.proofs.PieceLemmas.{some_buffered}
 use Rattle.sum_sources.proofs.LineLemmas.{gives_ended, gives_stopped, gives_stop}
 use Rattle.sum_sources.proofs.line_reader.LineReader.next_line.Goals as goal
 
--- the end is answered again
+-- the end is returned again
 pub returns-in-Ended-clause-line : goal.returns-in-Ended-clause-line
 returns-in-Ended-clause-line g c = rw (← c.self.view_is, c.in-Ended.is) (gives_ended _ [] _)
 
--- a stop is answered again
+-- a stop is returned again
 pub returns-in-Stopped-clause-line : goal.returns-in-Stopped-clause-line
 returns-in-Stopped-clause-line g c = rw (← c.self.view_is, c.in-Stopped.is) (gives_stopped _ _ _ _
     (λ is k. some_buffered c.self.inside.buf _ _ _ (c.self.invariant.wants (c.in-Stopped.is ∙ ap Stopped is))

@@ -1,4 +1,4 @@
--- What holds between told values, carried along.
+-- Facts between known values.
 use Rattle.std.proofs.Common.{Option, None, Some, option_map}
 use Rattle.sum_sources.specs.Contents.{IfKnown}
 
@@ -24,7 +24,7 @@ IfKnown-both None y f p q = tt
 IfKnown-both (Some a) None f p q = p
 IfKnown-both (Some a) (Some b) f p q = f a b p q
 
--- what follows where something else is made of the last value
+-- what follows if the last value is made otherwise
 pub IfKnown-remade : {A : Type 0} (x z : Option A) (f g : A → A) (P Q : A → A → Type 0)
     → ((a b : A) → P a (f b) → Q a (g b)) → IfKnown x (option_map f z) P → IfKnown x (option_map g z) Q
 IfKnown-remade None z f g P Q h p = tt
