@@ -21,10 +21,10 @@ TOP = os.path.dirname(HERE)
 sys.dont_write_bytecode = True
 sys.path[:0] = [HERE, os.path.join(TOP, "tools")]
 
-import page_texts  # noqa: E402  (it stands in tools)
-from measure import Contender, count_calls, measure, peak_memory  # noqa: E402  (it stands beside this file)
+import options  # noqa: E402  (it is in tools)
+from measure import Contender, count_calls, measure, peak_memory  # noqa: E402  (it is beside this file)
 
-TOOLS = [tool for tool in page_texts.TOOLS if tool != "anysum"]
+TOOLS = [tool for tool in options.TOOLS if tool != "anysum"]
 CHECKED = ("md5sum", "sha256sum", "b2sum")
 MIB = 1 << 20
 GNU, BARE, OPENSSL = "GNU", "kit's loop", "openssl"

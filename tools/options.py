@@ -1,4 +1,4 @@
-"""The options of each tool, as the program itself tells them: its help names them, and it takes or refuses them."""
+"""The tools, and the options of each as the program itself has them: its help names them, and it takes or refuses them."""
 
 import re
 import subprocess
@@ -6,6 +6,18 @@ import sys
 from typing import NamedTuple, Optional
 
 LINE = re.compile(r"  (?:-(?P<short>\w), |    )--(?P<long>[a-z-]+)(?:=(?P<value>[A-Z]+))? +(?P<help>.*)")
+
+# Tool: its standard, the algorithm's name there, and the bits of its digest. The last has none of its own.
+TOOLS = {
+    "md5sum": ("RFC 1321", "MD5", 128),
+    "sha1sum": ("FIPS 180-4", "SHA1", 160),
+    "sha224sum": ("FIPS 180-4", "SHA224", 224),
+    "sha256sum": ("FIPS 180-4", "SHA256", 256),
+    "sha384sum": ("FIPS 180-4", "SHA384", 384),
+    "sha512sum": ("FIPS 180-4", "SHA512", 512),
+    "b2sum": ("RFC 7693", "BLAKE2b", 512),
+    "anysum": (None, None, None),
+}
 
 # Where the program takes an option.
 ALWAYS, WITH_CHECK, WITHOUT_CHECK, NEVER = "always", "with check", "without check", "never"
