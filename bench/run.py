@@ -3,8 +3,7 @@
 `bench/run.py [--size MIB] [--rounds N] [--only PART].. [--program FILE].. [--no-bare]`.
 
 The program of each level that runs on this machine is measured, or each `--program`, beside GNU's tools; in the
-part `hashing` also beside uutils, busybox, OpenSSL and a bare loop over the kit's digest. What isn't installed is left
-out. Times are processor time on one processor, in rounds in which the programs take turns. A speed is GNU's least time
+part `hashing` also beside OpenSSL and a bare loop over the kit's digest. What isn't installed is left out. Times are processor time on one processor, in rounds in which the programs take turns. A speed is GNU's least time
 divided by the program's own: 1.00 is as fast as GNU, 2.00 twice as fast. `docs/PERFORMANCE.md` has the tables."""
 
 import argparse
@@ -28,7 +27,6 @@ TOOLS = [tool for tool in options.TOOLS if tool != "anysum"]
 CHECKED = ("md5sum", "sha256sum", "b2sum")
 MIB = 1 << 20
 GNU, BARE, OPENSSL = "GNU", "kit's loop", "openssl"
-OTHERS = {"uutils": "coreutils", "busybox": "busybox"}  # programs that are every tool, by the first word
 
 
 def built_programs():
@@ -108,10 +106,8 @@ class Bench:
         found = self.contenders(tool)
         if self.bare and tool != "b2sum":
             found.append(Contender(BARE, [self.bare, tool]))
-        digest = "blake2b512" if tool == "b2sum" else tool[: -len("sum")]
-        others = [(name, [first, tool]) for name, first in OTHERS.items()]
-        others.append((OPENSSL, ["openssl", "dgst", "-" + digest]))
-        return found + [Contender(name, words) for name, words in others if works(words)]
+        words = ["openssl", "dgst", "-blake2b512" if tool == "b2sum" else f"-{tool[:-3]}"]
+        return found + ([Contender(OPENSSL, words)] if works(words) else [])
 
     def large(self, mebibytes):
         """A file of that size."""
@@ -173,7 +169,7 @@ def bound(times, name):
 def print_speeds(bench):
     """The table of speeds, and the one of the times that they come from."""
     ours = list(bench.ours)
-    names = [*ours, BARE, *OTHERS, OPENSSL]
+    names = [*ours, BARE, OPENSSL]
     names = [name for name in names if any(name in times for _, times in bench.rows)]
     rows = [[work, *(speed(times, name) for name in names), bound(times, ours[0])] for work, times in bench.rows]
     table(["times as fast as GNU", *names, "bound by"], rows)
@@ -236,9 +232,6 @@ def reading(bench):
         words = ["-c", *words, "--status"]
         found = bench.contenders("sha256sum", *words, manifest, status=1)
         bench.add(f"`sha256sum {' '.join(words)}`, {lines}", found, rounds * bench.rounds)
-    size = os.path.getsize(manifest)
-    rows = [[name, f"{it.least / size * 1e9:.2f}"] for name, it in bench.rows[-1][1].items()]
-    table(["bad lines of 75 bytes", "ns a byte"], rows)
 
 
 def calls(bench):
@@ -271,29 +264,12 @@ def memory(bench):
     for work, tool, words in works_on:
         found = bench.contenders(tool, *words)
         peaks = [peak_memory(it, stdout=bench.out, folder=bench.folder) for it in found]
-        rows.append([work, *(f"{peak / 1e6:.1f}" if peak else "-" for peak in peaks)])
+        rows.append([work, *(f"{peak / 1e6:.1f}" for peak in peaks)])
     table(["megabytes at most", *(it.name for it in found)], rows)
 
 
-def lines(bench):
-    """Improperly formatted lines of several lengths, 64 MiB of them in all: the time for a byte."""
-    manifest = os.path.join(bench.folder, "long")
-    rows = []
-    for name, length in (("1 KiB", 1 << 10), ("1 MiB", MIB), ("64 MiB", 64 * MIB)):
-        cells = [f"64 MiB of lines of {name}"]
-        for line in (b")" * (length - 1), b" " * (length - 1), b"a" * (length - 1), b"MD5 (" + b")" * (length - 6)):
-            with open(manifest, "wb") as file:
-                for _ in range(64 * MIB // length):
-                    file.write(line + b"\n")
-            ours = bench.contenders("md5sum", "-c", manifest, status=1)[:1]
-            (times,) = measure(ours, bench.rounds, folder=bench.folder).values()
-            cells.append(f"{times.least / (64 * MIB) * 1e9:.3f}")
-        rows.append(cells)
-    table(["ns a byte", "of `)`", "of blanks", "of digits", "tagged, of `)`"], rows)
-
-
 TIMED = {"hashing": hashing, "start": start, "files": files, "reading": reading}
-OTHER = {"calls": calls, "lines": lines, "memory": memory}
+OTHER = {"calls": calls, "memory": memory}
 
 
 class Reader(argparse.ArgumentParser):
@@ -323,20 +299,14 @@ def print_conditions(bench, rounds):
     print(f"{platform.platform()}, {os.cpu_count()} processors ({model()}); all on processor {processor}")
     print(f"load {os.getloadavg()[0]:.1f} at the start; {rounds} rounds or more")
     print(f"GNU: {gnu_tool('md5sum')[1] or 'not installed, left out'}")
-    for name, first in (*OTHERS.items(), (OPENSSL, "openssl")):
-        if shutil.which(first) is None:
-            print(f"{name}: not installed, left out")
-    if bench.bare is None:
-        print(f"{BARE}: left out")
+    for name in ([] if shutil.which("openssl") else [OPENSSL]) + ([] if bench.bare else [BARE]):
+        print(f"{name}: left out")
 
 
 def model():
-    """The processor's name, where Linux tells it."""
-    try:
-        with open("/proc/cpuinfo") as file:
-            return next((line.partition(":")[2].strip() for line in file if line.startswith("model name")), "unknown")
-    except OSError:
-        return "unknown"
+    """The processor's name."""
+    with open("/proc/cpuinfo") as file:
+        return next((line.partition(":")[2].strip() for line in file if line.startswith("model name")), "unknown")
 
 
 def main():

@@ -87,9 +87,8 @@ class Ended(Case):
         """A run that is ended after 500 files leaves their 500 lines."""
         os.mkfifo(self.path("p"))
         for number in (signal.SIGTERM, signal.SIGKILL, signal.SIGINT):
-            with self.subTest(signal=number):
-                out = self.ended_at_the_pipe(["md5sum", *["a"] * 500, "p", "e"], number)
-                self.same(out, [f"{M}  a"] * 500)
+            out = self.ended_at_the_pipe(["md5sum", *["a"] * 500, "p", "e"], number)
+            self.same(out, [f"{M}  a"] * 500)
 
     @needs_check
     def test_after_500_reports(self):
@@ -97,23 +96,21 @@ class Ended(Case):
         os.mkfifo(self.path("p"))
         self.write("l", [*[f"{M}  a"] * 500, f"{M}  p", f"{M}  a"])
         for number in (signal.SIGTERM, signal.SIGKILL):
-            with self.subTest(signal=number):
-                self.same(self.ended_at_the_pipe("md5sum -c l", number), ["a: OK"] * 500)
+            self.same(self.ended_at_the_pipe("md5sum -c l", number), ["a: OK"] * 500)
 
     def test_at_any_moment(self):
         """A run that is ended while it writes leaves whole lines, and at most one that is cut at the end of a page."""
         line = as_bytes([f"{M}  a"])
         for number in (signal.SIGTERM, signal.SIGKILL):
-            with self.subTest(signal=number):
-                with open(self.path("out"), "wb") as out:
-                    started = self.start(["md5sum", *["a"] * 50000], stdout=out)
-                self.until(lambda: os.path.getsize(self.path("out")) >= 100 * len(line), "100 lines are in the file")
-                started.send_signal(number)
-                started.wait(timeout=harness.RUN_SECONDS)
-                out = self.read("out")
-                if len(out) % mmap.PAGESIZE == 0:  # the system can end a write with the process between two pages
-                    out = out[: len(out) - len(out) % len(line)]
-                self.same(out, line * (len(out) // len(line)))
+            with open(self.path("out"), "wb") as out:
+                started = self.start(["md5sum", *["a"] * 50000], stdout=out)
+            self.until(lambda: os.path.getsize(self.path("out")) >= 100 * len(line), "100 lines are in the file")
+            started.send_signal(number)
+            started.wait(timeout=harness.RUN_SECONDS)
+            out = self.read("out")
+            if len(out) % mmap.PAGESIZE == 0:  # the system can end a write with the process between two pages
+                out = out[: len(out) - len(out) % len(line)]
+            self.same(out, line * (len(out) // len(line)))
 
 
 class OneFile(Case):
@@ -144,8 +141,7 @@ class OneFile(Case):
         """What a line comes to stands in its place: for a file that can't be read the diagnostic, then the report."""
         os.mkdir(self.path("d"))
         self.write("l", [f"{M}  a", f"{M}  x", "junk", f"{M}  e", f"{M}  d", f"{E}  e"])
-        self.expect_together("md5sum -cw l x l", [
-            *self.reports("l"), X_MISSING, *self.reports("l")], 1)
+        self.expect_together("md5sum -cw l x l", [*self.reports("l"), X_MISSING, *self.reports("l")], 1)
 
     def reports(self, name):
         """What the manifest of `test_checking` comes to."""

@@ -179,7 +179,7 @@ class Sizes(Case):
         """The run ends at what comes first, and says that one: a line for which there is no memory, or a report that
         can't be written. What is full isn't asked for anything where memory was short before the first report."""
         for before, said in (("", b"md5sum: memory exhausted\n"), (f"{M}  a\n", b"md5sum: write error\n")):
-            with self.subTest(before=before), self.full() as full:
+            with self.full() as full:
                 with open(self.path("l"), "wb") as file:
                     file.write(as_bytes(before))
                     file.seek(2000 * MEGA, os.SEEK_CUR)

@@ -40,10 +40,9 @@ class ClosedInput(Closing):
     def test_alone(self):
         """`md5sum <&-` says that it can't read standard input, under every tool."""
         for tool in TOOLS:
-            with self.subTest(tool=tool):
-                fault = as_bytes([f"{tool}: -: Input/output error"])
-                self.assertEqual(self.closed(tool, 0), Ran(1, b"", fault))
-                self.assertEqual(self.closed([tool, "-"], 0), Ran(1, b"", fault))
+            fault = as_bytes([f"{tool}: -: Input/output error"])
+            self.assertEqual(self.closed(tool, 0), Ran(1, b"", fault))
+            self.assertEqual(self.closed([tool, "-"], 0), Ran(1, b"", fault))
 
     def test_among_others(self):
         """The other operands are read all the same; a second `-` is an empty input, as after any other one."""
@@ -58,16 +57,14 @@ class ClosedInput(Closing):
     def test_words_need_no_input(self):
         """Help, version and faults of the words are as ever."""
         for words in ("md5sum --help", "md5sum --version", "md5sum --foo", "shasum", []):
-            with self.subTest(words=words):
-                self.assertEqual(self.closed(words, 0), self.run_words(words))
+            self.assertEqual(self.closed(words, 0), self.run_words(words))
 
     @needs_check
     def test_as_the_manifest(self):
         """`md5sum -c <&-` can't read its manifest."""
         for words in ("md5sum -c", "md5sum -c -", "md5sum -c --status"):
-            with self.subTest(words=words):
-                ran = self.closed(words, 0)
-                self.assertEqual(ran, Ran(1, b"", b"md5sum: standard input: Input/output error\n"))
+            ran = self.closed(words, 0)
+            self.assertEqual(ran, Ran(1, b"", b"md5sum: standard input: Input/output error\n"))
         self.write("l", [f"{M}  a"])
         ran = self.closed("md5sum -c l - l", 0)
         self.assertEqual(ran, Ran(1, b"a: OK\na: OK\n", b"md5sum: standard input: Input/output error\n"))
@@ -76,10 +73,9 @@ class ClosedInput(Closing):
     def test_listed(self):
         """Its entry can't be read; the manifest's own bytes never stand for it, whatever digest is listed."""
         for manifest in hostile_manifests():
-            with self.subTest(length=len(manifest)):
-                self.write("l", manifest)
-                ran = self.closed("md5sum -c l", 0)
-                self.assertEqual(ran, Ran(1, b"-: FAILED open or read\n", as_bytes([FAULT, ONE_UNREAD])))
+            self.write("l", manifest)
+            ran = self.closed("md5sum -c l", 0)
+            self.assertEqual(ran, Ran(1, b"-: FAILED open or read\n", as_bytes([FAULT, ONE_UNREAD])))
 
     @needs_check
     def test_listed_among_others(self):
@@ -131,10 +127,9 @@ class NoRootFolder(Traced):
             os.close(0)
 
         for manifest in hostile_manifests():
-            with self.subTest(length=len(manifest)):
-                self.write("root/l", manifest)
-                ran = self.run_command(["/digests", "md5sum", "-c", "l"], stdin=None, cwd=None, preexec_fn=enter)
-                self.assertEqual(ran, Ran(1, b"-: FAILED open or read\n", as_bytes([FAULT, ONE_UNREAD])))
+            self.write("root/l", manifest)
+            ran = self.run_command(["/digests", "md5sum", "-c", "l"], stdin=None, cwd=None, preexec_fn=enter)
+            self.assertEqual(ran, Ran(1, b"-: FAILED open or read\n", as_bytes([FAULT, ONE_UNREAD])))
         ran = self.run_command(["/digests", "md5sum", "a", "-"], stdin=None, cwd=None, preexec_fn=enter)
         self.assertEqual(ran, Ran(1, as_bytes([f"{M}  a"]), as_bytes([FAULT])))
 
@@ -159,11 +154,10 @@ class NoRootFolder(Traced):
     def test_refused(self):
         """Where the system refuses to open the root folder: never `OK`."""
         for manifest in hostile_manifests():
-            with self.subTest(length=len(manifest)):
-                self.write("l", manifest)
-                options = "-P / -e trace=openat -e inject=openat:error=EACCES"
-                ran, _ = self.traced(options, "md5sum -c l", preexec_fn=lambda: os.close(0))
-                self.assertEqual(ran, Ran(1, b"-: FAILED open or read\n", as_bytes([FAULT, ONE_UNREAD])))
+            self.write("l", manifest)
+            options = "-P / -e trace=openat -e inject=openat:error=EACCES"
+            ran, _ = self.traced(options, "md5sum -c l", preexec_fn=lambda: os.close(0))
+            self.assertEqual(ran, Ran(1, b"-: FAILED open or read\n", as_bytes([FAULT, ONE_UNREAD])))
 
     @needs_strace
     def test_nothing_is_opened_in_its_place(self):
@@ -182,8 +176,7 @@ class ClosedOutputs(Closing):
     def test_standard_output_with_a_line(self):
         """A line that can't be written is a write error."""
         for words in ("md5sum a", "md5sum -z a", "md5sum --help", "md5sum --version"):
-            with self.subTest(words=words):
-                self.assertEqual(self.closed(words, 1), Ran(1, b"", WRITE_ERROR))
+            self.assertEqual(self.closed(words, 1), Ran(1, b"", WRITE_ERROR))
 
     def test_standard_output_without_a_line(self):
         """Where nothing is to be written on standard output it isn't needed."""
@@ -197,8 +190,7 @@ class ClosedOutputs(Closing):
         self.write("good", [f"{M}  a"])
         self.write("l", VERDICTS)
         for words in ("md5sum -c --status good", "md5sum -c --quiet good"):
-            with self.subTest(words=words):
-                self.assertEqual(self.closed(words, 1), Ran(0, b"", b""))
+            self.assertEqual(self.closed(words, 1), Ran(0, b"", b""))
         self.assertEqual(self.closed("md5sum -c good", 1), Ran(1, b"", WRITE_ERROR))
         self.assertEqual(self.closed("md5sum -c --status l", 1), Ran(1, b"", as_bytes([X_MISSING])))
 

@@ -26,10 +26,10 @@ class FailedRead(Traced):
         or as one that would have to wait. Both are no end of the file. Of `outs` each belongs to one read."""
         for error in ("EIO", "EAGAIN"):
             for read, out in enumerate(outs, 1):
-                with self.subTest(words=words, error=error, read=read), open(self.path(stdin), "rb") as file:
+                with open(self.path(stdin), "rb") as file:
                     only = os.fsdecode(self.path(name))
                     ran, _ = self.failing("read", error, words, only=only, when=str(read), stdin=file)
-                    self.assertEqual(ran, Ran(1, as_bytes(out), err))
+                    self.assertEqual(ran, Ran(1, as_bytes(out), err), (words, error, read))
 
     def test_hashing(self):
         """No digest comes of a part of the file."""

@@ -18,10 +18,9 @@ class Digests(Case):
 
     def test_published_digests(self):
         for tool, (_, of_nothing, of_abc) in TOOLS.items():
-            with self.subTest(tool=tool):
-                self.expect([tool], out=[f"{of_nothing}  -"])
-                self.expect([tool], stdin="abc", out=[f"{of_abc}  -"])
-                self.expect([tool, "a", "e"], out=[f"{of_abc}  a", f"{of_nothing}  e"])
+            self.expect([tool], out=[f"{of_nothing}  -"])
+            self.expect([tool], stdin="abc", out=[f"{of_abc}  -"])
+            self.expect([tool, "a", "e"], out=[f"{of_abc}  a", f"{of_nothing}  e"])
 
     def test_sizes_around_blocks_and_pieces(self):
         """Python's own digests over the sizes at which a block, a padding or the reading buffer ends."""
@@ -31,10 +30,9 @@ class Digests(Case):
         for name, size in zip(names, near):
             self.write(name, content[:size])
         for tool, (tag, *_) in TOOLS.items():
-            with self.subTest(tool=tool):
-                hashed = [hashlib.new(tag.lower(), content[:size]).hexdigest() for size in near]
-                lines = [f"{digits}  {name}" for digits, name in zip(hashed, names)]
-                self.expect([tool, *names], out=lines)
+            hashed = [hashlib.new(tag.lower(), content[:size]).hexdigest() for size in near]
+            lines = [f"{digits}  {name}" for digits, name in zip(hashed, names)]
+            self.expect([tool, *names], out=lines)
 
     def test_a_large_file(self):
         block = bytes(range(256)) * 4096
@@ -46,8 +44,7 @@ class Digests(Case):
                 for hasher in hashers.values():
                     hasher.update(piece)
         for tool, hasher in hashers.items():
-            with self.subTest(tool=tool):
-                self.expect([tool, "large"], out=[f"{hasher.hexdigest()}  large"])
+            self.expect([tool, "large"], out=[f"{hasher.hexdigest()}  large"])
 
     def test_lengths_of_blake2b(self):
         full = TOOLS["b2sum"][1]
@@ -68,8 +65,7 @@ class Styles(Case):
 
     def test_tagged(self):
         for tool, (tag, of_nothing, of_abc) in TOOLS.items():
-            with self.subTest(tool=tool):
-                self.expect([tool, "--tag", "a", "e"], out=[f"{tag} (a) = {of_abc}", f"{tag} (e) = {of_nothing}"])
+            self.expect([tool, "--tag", "a", "e"], out=[f"{tag} (a) = {of_abc}", f"{tag} (e) = {of_nothing}"])
 
     def test_zero(self):
         self.expect("md5sum -z a e", out=f"{M}  a\0{E}  e\0")
@@ -91,16 +87,14 @@ class Styles(Case):
 
     def test_other_names_stand_as_they_are(self):
         for name in (" ", " a", "a ", "*a", "a)", "(", "#", "tab\there", "\x01\x7f", "été", "日本", "'\"$`", "= x"):
-            with self.subTest(name=name):
-                self.write(name, "abc")
-                self.expect(["md5sum", name], out=[f"{M}  {name}"])
-                self.expect(["md5sum", "--tag", name], out=[f"MD5 ({name}) = {M}"])
+            self.write(name, "abc")
+            self.expect(["md5sum", name], out=[f"{M}  {name}"])
+            self.expect(["md5sum", "--tag", name], out=[f"MD5 ({name}) = {M}"])
 
     def test_each_special_byte_alone(self):
         for name, shown in (("\\", "\\\\"), ("\\\\", "\\\\\\\\"), ("\n", "\\n"), ("\r", "\\r"), ("\\n", "\\\\n")):
-            with self.subTest(name=name):
-                self.write(name, "abc")
-                self.expect(["md5sum", name], out=[f"\\{M}  {shown}"])
+            self.write(name, "abc")
+            self.expect(["md5sum", name], out=[f"\\{M}  {shown}"])
 
 
 class Operands(Case):
@@ -141,8 +135,7 @@ class Operands(Case):
     def test_other_failures_are_input_output_errors(self):
         os.symlink("loop", self.path("loop"))
         for name in ("a/", "a/x", "a/.", "loop", "n" * 300, "d/" * 3000):
-            with self.subTest(name=name[:9]):
-                self.expect(["md5sum", name], err=[f"md5sum: {name}: Input/output error"], status=1)
+            self.expect(["md5sum", name], err=[f"md5sum: {name}: Input/output error"], status=1)
 
     def test_links(self):
         os.symlink("a", self.path("good"))

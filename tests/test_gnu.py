@@ -48,23 +48,20 @@ class SameLines(Beside):
     def test_every_style(self):
         for tool in TOOLS:
             for style in STYLES:
-                with self.subTest(tool=tool, style=style):
-                    ours, theirs = self.both(tool, *style, "--", *self.names, *BACKSLASH_NAMES)
-                    self.assertEqual(theirs.status, 0)
-                    self.assertEqual(ours, theirs)
+                ours, theirs = self.both(tool, *style, "--", *self.names, *BACKSLASH_NAMES)
+                self.assertEqual(theirs.status, 0)
+                self.assertEqual(ours, theirs)
 
     def test_standard_input(self):
         for tool in TOOLS:
             for style in STYLES:
-                with self.subTest(tool=tool, style=style):
-                    ours, theirs = self.both(tool, *style, stdin=b"some bytes\r\n\0")
-                    self.assertEqual(ours, theirs)
+                ours, theirs = self.both(tool, *style, stdin=b"some bytes\r\n\0")
+                self.assertEqual(ours, theirs)
 
     def test_lengths(self):
         for bits in range(8, 513, 8):
-            with self.subTest(bits=bits):
-                ours, theirs = self.both("b2sum", "-l", str(bits), "--tag", "a", "d/f", "back\\slash")
-                self.assertEqual(ours, theirs)
+            ours, theirs = self.both("b2sum", "-l", str(bits), "--tag", "a", "d/f", "back\\slash")
+            self.assertEqual(ours, theirs)
 
     def test_missing_files(self):
         ours, theirs = self.both("md5sum", "a", "x", "e")
@@ -122,24 +119,22 @@ class Verified(Beside):
     def test_untouched(self):
         for tool in TOOLS:
             for style in STYLES[:3]:
-                with self.subTest(tool=tool, style=style):
-                    theirs = self.lines_of([gnu(tool)], tool, style)
-                    ours = self.lines_of([harness.PROGRAM, tool], tool, style)
-                    self.assertEqual(ours, theirs)
-                    for options in ([], ["--strict"], ["--quiet"], ["--status"], ["-w"], ["--ignore-missing"]):
-                        ran_ours, ran_theirs = self.checks(tool, theirs, *options)
-                        self.assertEqual(ran_ours, ran_theirs)
-                        self.assertEqual((ran_ours.status, ran_ours.err), (0, b""))
+                theirs = self.lines_of([gnu(tool)], tool, style)
+                ours = self.lines_of([harness.PROGRAM, tool], tool, style)
+                self.assertEqual(ours, theirs)
+                for options in ([], ["--strict"], ["--quiet"], ["--status"], ["-w"], ["--ignore-missing"]):
+                    ran_ours, ran_theirs = self.checks(tool, theirs, *options)
+                    self.assertEqual(ran_ours, ran_theirs)
+                    self.assertEqual((ran_ours.status, ran_ours.err), (0, b""))
 
     def test_names_with_backslashes(self):
         self.names = BACKSLASH_NAMES
         shown = ["\\back\\\\slash: OK", "\\\\\\n: OK", "\\\\\\: OK", "\\d/\\\\: OK"]
         for tool in TOOLS:
             for style in STYLES[:3]:
-                with self.subTest(tool=tool, style=style):
-                    ours, theirs = self.checks(tool, self.lines_of([gnu(tool)], tool, style), "--strict")
-                    self.assertEqual(ours, (0, as_bytes(shown), b""))
-                    self.assertEqual((theirs.status, theirs.out.count(b": OK\n"), theirs.err), (0, len(shown), b""))
+                ours, theirs = self.checks(tool, self.lines_of([gnu(tool)], tool, style), "--strict")
+                self.assertEqual(ours, (0, as_bytes(shown), b""))
+                self.assertEqual((theirs.status, theirs.out.count(b": OK\n"), theirs.err), (0, len(shown), b""))
 
     def test_tagged_manifests_of_all_tools_under_anysum(self):
         manifest = b"".join(self.lines_of([gnu(tool)], tool, ["--tag"]) for tool in TOOLS)
@@ -162,11 +157,10 @@ class Verified(Beside):
                 file.write(b"!")
             for manifest in manifests:
                 for options in ([], ["--quiet"], ["--status"], ["--ignore-missing"], ["--strict", "-w"]):
-                    with self.subTest(tool=tool, options=options, manifest=manifest[:9]):
-                        ours, theirs = self.checks(tool, manifest, *options)
-                        self.assertEqual(ours.status, 1)
-                        self.assertEqual((ours.status, ours.out), (theirs.status, theirs.out))
-                        self.assertEqual(ours.err.count(b"WARNING"), theirs.err.count(b"WARNING"))
+                    ours, theirs = self.checks(tool, manifest, *options)
+                    self.assertEqual(ours.status, 1)
+                    self.assertEqual((ours.status, ours.out), (theirs.status, theirs.out))
+                    self.assertEqual(ours.err.count(b"WARNING"), theirs.err.count(b"WARNING"))
             self.write("a", "abc")
             self.write("*star", "star")
             self.write("new\nline", "")
@@ -183,9 +177,8 @@ class Verified(Beside):
                 lines.append(lines[0].rstrip(b"\n"))
                 manifest = b"".join(lines)
                 for options in ([], ["-w"], ["--strict"], ["--status"], ["--strict", "--quiet"]):
-                    with self.subTest(tool=tool, style=style, options=options):
-                        ours, theirs = self.checks(tool, manifest, *options)
-                        self.assertEqual(ours, theirs)
+                    ours, theirs = self.checks(tool, manifest, *options)
+                    self.assertEqual(ours, theirs)
 
     def test_a_digit_changed(self):
         for tool in TOOLS:
@@ -194,10 +187,9 @@ class Verified(Beside):
                 at = lines[0].index(b"= ") + 2 if style == ["--tag"] else 0
                 digit = b"0" if lines[0][at : at + 1] != b"0" else b"1"
                 lines[0] = lines[0][:at] + digit + lines[0][at + 1 :]
-                with self.subTest(tool=tool, style=style):
-                    ours, theirs = self.checks(tool, b"".join(lines))
-                    self.assertEqual(ours, theirs)
-                    self.assertEqual(ours.status, 1)
+                ours, theirs = self.checks(tool, b"".join(lines))
+                self.assertEqual(ours, theirs)
+                self.assertEqual(ours.status, 1)
 
     def test_upper_case_digits(self):
         lines = self.run_command([gnu("md5sum"), "a", "e"]).out.splitlines(keepends=True)

@@ -21,19 +21,17 @@ class Interrupted(Traced):
         self.write("l", [f"{M}  a"])
         words = ["md5sum a e", "md5sum x", "md5sum --help", "md5sum --version", "md5sum --foo", "shasum"]
         for one in words if harness.WITHOUT_CHECK else [*words, "md5sum -c l"]:
-            with self.subTest(words=one):
-                ran, calls = self.failing("write,writev", "EINTR", one, timeout=ENDLESS)
-                self.assertEqual(ran, Ran(1, b"", b""))
-                self.assertLessEqual(len(calls), 2000)
+            ran, calls = self.failing("write,writev", "EINTR", one, timeout=ENDLESS)
+            self.assertEqual(ran, Ran(1, b"", b""))
+            self.assertLessEqual(len(calls), 2000)
 
     def test_every_write_to_standard_output(self):
         """It is a write error, which standard error still tells."""
         out = self.path("out")
         for words in ("md5sum a e", "md5sum -z a", "md5sum --help", "md5sum --version"):
-            with self.subTest(words=words):
-                ran, calls = self.failing("write,writev", "EINTR", words, only=out, timeout=ENDLESS)
-                self.assertEqual(ran, Ran(1, b"", WRITE_ERROR))
-                self.assertEqual(len(calls), 1000)
+            ran, calls = self.failing("write,writev", "EINTR", words, only=out, timeout=ENDLESS)
+            self.assertEqual(ran, Ran(1, b"", WRITE_ERROR))
+            self.assertEqual(len(calls), 1000)
 
     @needs_check
     def test_every_write_of_a_report(self):
@@ -51,13 +49,11 @@ class Interrupted(Traced):
         """Fewer interruptions than a thousand in a row change nothing."""
         lines = as_bytes([f"{M}  a", f"{E}  e"])
         for words, status, err in (("md5sum a e", 0, b""), ("md5sum x a e", 1, as_bytes([X_MISSING]))):
-            with self.subTest(words=words):
-                ran, _ = self.failing("write", "EINTR", words, when=FEW, timeout=ENDLESS)
-                self.assertEqual(ran, Ran(status, lines, err))
+            ran, _ = self.failing("write", "EINTR", words, when=FEW, timeout=ENDLESS)
+            self.assertEqual(ran, Ran(status, lines, err))
         for when in ("1+2", "2+2", "1+3"):
-            with self.subTest(when=when):
-                ran, _ = self.failing("write", "EINTR", ["md5sum", *["a", "x"] * 50], when=when)
-                self.assertEqual(ran, Ran(1, as_bytes([f"{M}  a"] * 50), as_bytes([X_MISSING] * 50)))
+            ran, _ = self.failing("write", "EINTR", ["md5sum", *["a", "x"] * 50], when=when)
+            self.assertEqual(ran, Ran(1, as_bytes([f"{M}  a"] * 50), as_bytes([X_MISSING] * 50)))
 
     def test_every_read(self):
         """A file or a standard input that can never be read is a fault, and the run goes on with the next one."""
@@ -107,13 +103,12 @@ class Calls(Traced):
         """A line of up to 8,192 bytes is one write, and what is longer takes as few as can be."""
         rest = len("md5sum: : Input/output error\n")
         for length in (4097, 8191, 8192, 8193, 16384, 16385, 20000):
-            with self.subTest(length=length):
-                name = "y" * (length - rest)
-                ran, calls = self.traced("-e trace=write,writev", ["md5sum", "x", name, "x", "a"])
-                whole, behind = divmod(length, 8192)
-                short = len(X_MISSING) + 1
-                self.assertEqual(sizes(calls, 2), [short, *[8192] * whole, *[behind] * (behind > 0), short])
-                self.assertEqual(ran.err, as_bytes([X_MISSING, f"md5sum: {name}: Input/output error", X_MISSING]))
+            name = "y" * (length - rest)
+            ran, calls = self.traced("-e trace=write,writev", ["md5sum", "x", name, "x", "a"])
+            whole, behind = divmod(length, 8192)
+            short = len(X_MISSING) + 1
+            self.assertEqual(sizes(calls, 2), [short, *[8192] * whole, *[behind] * (behind > 0), short])
+            self.assertEqual(ran.err, as_bytes([X_MISSING, f"md5sum: {name}: Input/output error", X_MISSING]))
 
     def test_escapes(self):
         """An escaped name makes no more writes than any other."""
@@ -157,10 +152,9 @@ class Counts(Case):
         """`md5sum x 2>/dev/full` tries to tell of the file and then of the write error, and no more."""
         with self.full() as full:
             for words in ("md5sum x", "md5sum x x x", "md5sum --foo", "shasum"):
-                with self.subTest(words=words):
-                    status, count = self.writes_of(words, stderr=full)
-                    self.assertEqual(status, 1)
-                    self.assertLessEqual(count, 2)
+                status, count = self.writes_of(words, stderr=full)
+                self.assertEqual(status, 1)
+                self.assertLessEqual(count, 2)
 
     def test_standard_output_that_takes_nothing(self):
         """`md5sum a a a >/dev/full` tries one line, and tells the write error in one write."""

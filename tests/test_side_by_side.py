@@ -50,18 +50,17 @@ class SideBySide(Case):
     def expect_whole_lines(self, script):
         """Runs a script several times, which leaves the lines of the files: each of them once."""
         for turn in range(TIMES):
-            with self.subTest(turn=turn):
-                ran = self.run_script(script, "sums")
-                self.assertEqual((ran.status, ran.err), (0, b""))
-                got = self.read("sums").splitlines()
-                known = set(self.lines)
-                torn = [line for line in got if line not in known]
-                self.assertEqual((len(torn), torn[:3]), (0, []))
-                self.assertTrue(sorted(got) == self.lines, "a line is missing, or stands there twice")
-                if not harness.WITHOUT_CHECK:
-                    with open(self.path("sums"), "rb") as sums:
-                        checked = self.run_words("sha256sum -c --quiet --strict", stdin=sums, cwd=self.tree)
-                    self.assertEqual(checked, (0, b"", b""))
+            ran = self.run_script(script, "sums")
+            self.assertEqual((ran.status, ran.err), (0, b""))
+            got = self.read("sums").splitlines()
+            known = set(self.lines)
+            torn = [line for line in got if line not in known]
+            self.assertEqual((len(torn), torn[:3]), (0, []))
+            self.assertTrue(sorted(got) == self.lines, "a line is missing, or stands there twice")
+            if not harness.WITHOUT_CHECK:
+                with open(self.path("sums"), "rb") as sums:
+                    checked = self.run_words("sha256sum -c --quiet --strict", stdin=sums, cwd=self.tree)
+                self.assertEqual(checked, (0, b"", b""))
 
     def test_into_a_file(self):
         """`xargs -P 8 digests sha256sum < names > SUMS` gives every line whole."""

@@ -51,8 +51,7 @@ class SmallMemory(Case):
         first = None
         for limit in self.limits():
             ran = self.limited(limit, words)
-            with self.subTest(words=as_words(words)[:9], limit=limit):
-                self.assertTrue(not self.has_started(ran) or ran in (right, *wrongs), ran)
+            self.assertTrue(not self.has_started(ran) or ran in (right, *wrongs), (as_words(words)[:9], limit, ran))
             if ran == right:
                 first = first or limit
             else:

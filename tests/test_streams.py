@@ -71,10 +71,9 @@ class BrokenInput(Case):
 
     def test_a_content_that_breaks_off_has_no_digest(self):
         for content in ("", "abc", "y" * 300, "y" * 9000):
-            with self.subTest(length=len(content)):
-                broken = self.broken_input(content)
-                err = ["md5sum: -: Input/output error"]
-                self.expect("md5sum - a", stdin=broken, out=[f"{M}  a"], err=err, status=1)
+            broken = self.broken_input(content)
+            err = ["md5sum: -: Input/output error"]
+            self.expect("md5sum - a", stdin=broken, out=[f"{M}  a"], err=err, status=1)
 
     @needs_check
     def test_a_listed_standard_input_that_breaks_off(self):
@@ -93,8 +92,7 @@ class BrokenInput(Case):
             handled = reports.get(cut, handled)
             out = VERDICTS_OUT.splitlines()[: [0, 1, 1, 1, 2, 3][handled]]
             err = [X_MISSING, fault] if handled >= 4 else [fault]
-            with self.subTest(cut=cut):
-                self.expect("md5sum -c", stdin=self.broken_input(manifest[:cut]), out=out, err=err, status=1)
+            self.expect("md5sum -c", stdin=self.broken_input(manifest[:cut]), out=out, err=err, status=1)
 
 
 class Outputs(Case):
@@ -103,8 +101,7 @@ class Outputs(Case):
     def test_standard_output_full(self):
         with self.full() as full:
             for words in ("md5sum a", "md5sum --help", "md5sum --version", "md5sum -z a e"):
-                with self.subTest(words=words):
-                    self.expect(words, err=WRITE_ERROR, status=1, stdout=full)
+                self.expect(words, err=WRITE_ERROR, status=1, stdout=full)
 
     def test_standard_output_full_names_each_tool(self):
         with self.full() as full:
@@ -130,14 +127,13 @@ class Outputs(Case):
         """It is a write error, whether or not the caller ignores the signal for it."""
         words = [harness.PROGRAM, "md5sum", *["a"] * 20000]
         for ignored in (False, True):
-            with self.subTest(ignored=ignored):
-                started = subprocess.Popen(words, cwd=self.folder, stdout=subprocess.PIPE, stderr=subprocess.PIPE,
-                                           restore_signals=not ignored)
-                self.addCleanup(harness.end, started)
-                self.assertEqual(started.stdout.read(10), M[:10].encode())
-                started.stdout.close()
-                self.assertEqual(started.stderr.read(), WRITE_ERROR)
-                self.assertEqual(started.wait(timeout=harness.RUN_SECONDS), 1)
+            started = subprocess.Popen(words, cwd=self.folder, stdout=subprocess.PIPE, stderr=subprocess.PIPE,
+                                       restore_signals=not ignored)
+            self.addCleanup(harness.end, started)
+            self.assertEqual(started.stdout.read(10), M[:10].encode())
+            started.stdout.close()
+            self.assertEqual(started.stderr.read(), WRITE_ERROR)
+            self.assertEqual(started.wait(timeout=harness.RUN_SECONDS), 1)
 
     def test_a_pipe_into_head(self):
         script = 'exec 3>&1; { "$0" md5sum "$@"; echo "$?" >&3; } | head -c 10 >/dev/null'

@@ -15,16 +15,14 @@ class ToolNames(Case):
 
     def test_unknown_tool(self):
         for words in ([], ["shasum"], [""], ["md5"], ["MD5SUM"], ["md5sum "], ["--help"], ["md5sums", "a"]):
-            with self.subTest(words=words):
-                self.expect(words, err=["digests: unknown tool"], status=1)
+            self.expect(words, err=["digests: unknown tool"], status=1)
 
     def test_called_by_a_link(self):
         for tool, (_, of_nothing, of_abc) in TOOLS.items():
             os.symlink(harness.PROGRAM, self.path(tool))
             for called in (f"./{tool}", os.fsdecode(self.path(tool))):
-                with self.subTest(called=called):
-                    ran = self.run_command([called, "a", "e"])
-                    self.assertEqual(ran, (0, f"{of_abc}  a\n{of_nothing}  e\n".encode(), b""))
+                ran = self.run_command([called, "a", "e"])
+                self.assertEqual(ran, (0, f"{of_abc}  a\n{of_nothing}  e\n".encode(), b""))
 
     def test_called_by_a_link_faults_name_the_tool(self):
         os.symlink(harness.PROGRAM, self.path("b2sum"))
@@ -55,13 +53,11 @@ class Texts(Case):
 
     def test_help(self):
         for tool in [*TOOLS, "anysum"]:
-            with self.subTest(tool=tool):
-                self.expect([tool, "--help"], out=help_text(tool))
+            self.expect([tool, "--help"], out=help_text(tool))
 
     def test_version(self):
         for tool in [*TOOLS, "anysum"]:
-            with self.subTest(tool=tool):
-                self.expect([tool, "--version"], out=[f"{tool} (digests), profile 2"])
+            self.expect([tool, "--version"], out=[f"{tool} (digests), profile 2"])
 
     def test_the_first_of_fault_help_and_version_decides(self):
         self.expect("md5sum --help --version", out=help_text("md5sum"))
@@ -82,8 +78,7 @@ class LongOptions(Case):
         for word, name in (("--foo", "foo"), ("--foo=1", "foo"), ("--taga", "taga"), ("--Tag", "Tag"), ("---", "-"),
                            ("--length", "length"), ("--length=8", "length"), ("--é", "é"),
                            ("--a\\\n\r=x", "a\\\\\\n\\r")):
-            with self.subTest(word=word):
-                self.expect_fault(["md5sum", word, "a"], f"unrecognized option '--{name}'")
+            self.expect_fault(["md5sum", word, "a"], f"unrecognized option '--{name}'")
 
     def test_ambiguous(self):
         self.expect_fault("md5sum --t=1 a", "option '--t' is ambiguous")
@@ -120,8 +115,7 @@ class LongOptions(Case):
     def test_value_not_allowed(self):
         for word, full in (("--tag=", "tag"), ("--ta=1", "tag"), ("--help=1", "help"),
                            ("--version=", "version"), ("--i=x", "ignore-missing"), ("--zero=a=b", "zero")):
-            with self.subTest(word=word):
-                self.expect_fault(["md5sum", word, "a"], f"option '--{full}' doesn't allow an argument")
+            self.expect_fault(["md5sum", word, "a"], f"option '--{full}' doesn't allow an argument")
 
     def test_value_missing(self):
         self.expect_fault("b2sum e --length", "option '--length' requires an argument")
@@ -162,15 +156,13 @@ class Lengths(Case):
 
     def test_invalid(self):
         for value in ("520", "513", "+8", "", " 8", "8 ", "-8", "0x8", "8.0", "٨", "9" * 50, "a\n"):
-            with self.subTest(value=value):
-                shown = value.replace("\n", "\\n")
-                self.expect_fault(["b2sum", "-l", value, "e"], f"invalid length: '{shown}'")
-                self.expect_fault(["b2sum", f"--length={value}", "e"], f"invalid length: '{shown}'")
+            shown = value.replace("\n", "\\n")
+            self.expect_fault(["b2sum", "-l", value, "e"], f"invalid length: '{shown}'")
+            self.expect_fault(["b2sum", f"--length={value}", "e"], f"invalid length: '{shown}'")
 
     def test_not_bytes(self):
         for value in ("12", "1", "511", "0012"):
-            with self.subTest(value=value):
-                self.expect_fault(["b2sum", "-l", value, "e"], f"length is not a multiple of 8: '{value}'")
+            self.expect_fault(["b2sum", "-l", value, "e"], f"length is not a multiple of 8: '{value}'")
 
     def test_the_last_counts(self):
         self.expect("b2sum -l 12 -l 256 e", out=[f"{B}  e"])
@@ -194,8 +186,7 @@ class Combinations(Case):
                 ("-c -z -t --tag l", "the --zero option is not supported when verifying checksums"),
                 ("-c -t --tag l", f"the --tag option is {WITH_CHECK}"),
                 ("-c -t l", f"the --binary and --text options are {WITH_CHECK}")):
-            with self.subTest(words=words):
-                self.expect_fault(f"b2sum {words}", text)
+            self.expect_fault(f"b2sum {words}", text)
 
     def test_the_order_without_check(self):
         """The same of the faults for which `--check` is missing."""
@@ -209,8 +200,7 @@ class Combinations(Case):
                 ("anysum --strict --quiet", f"the --quiet option is {WITHOUT_CHECK}"),
                 ("anysum --strict", f"the --strict option is {WITHOUT_CHECK}"),
                 ("anysum", "--check is required")):
-            with self.subTest(words=words):
-                self.expect_fault(words, text)
+            self.expect_fault(words, text)
     def test_tag_and_text(self):
         self.expect_fault("md5sum --tag -b -t a", "--tag does not support --text mode")
         self.expect("md5sum --tag -t -b a", out=[f"MD5 (a) = {M}"])
@@ -230,8 +220,7 @@ class Combinations(Case):
 
     def test_anysum_needs_check(self):
         for words in ("anysum", "anysum --tag m"):
-            with self.subTest(words=words):
-                self.expect_fault(words, "--check is required")
+            self.expect_fault(words, "--check is required")
 
     @needs_check
     def test_check_takes_a_length_and_does_nothing_with_it(self):

@@ -65,5 +65,4 @@ def cuts(option, options):
     """The words that mean a long option: its name, and the beginnings of it that no other name has."""
     others = [other.long for other in options if other != option]
     names = (option.long[:length] for length in range(1, len(option.long) + 1))
-    return [f"--{name}" for name in names
-            if name == option.long or not any(other.startswith(name) for other in others)]
+    return [f"--{name}" for name in names if name == option.long or not any(other.startswith(name) for other in others)]

@@ -1,7 +1,6 @@
 """What the end-to-end tests share: a folder for each test, a run of the program with a time limit, and the values that
 the tests expect. The values are published digests, and were not taken from any output of the program."""
 
-import contextlib
 import datetime
 import errno
 import functools
@@ -146,22 +145,12 @@ class Case(unittest.TestCase):
         os.chmod(self.folder, 0o755)
         self.write("a", "abc")
         self.write("e", "")
-        self.over = False
         signal.signal(signal.SIGALRM, self.too_long)
         signal.alarm(TEST_SECONDS)
         self.addCleanup(signal.alarm, 0)
 
     def too_long(self, *_):
-        self.over = True
         raise TooLong(f"a test took longer than {TEST_SECONDS} seconds")
-
-    @contextlib.contextmanager
-    def subTest(self, *message, **parts):
-        """A part of a test. Where the time of the test was over in it, the test ends there: no other part begins."""
-        with super().subTest(*message, **parts):
-            yield
-        if self.over:
-            raise TooLong("the other parts were left out")
 
     def path(self, name):
         """The path of a name in the test's folder, as bytes."""
