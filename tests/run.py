@@ -1,6 +1,5 @@
 #!/usr/bin/env python3
-"""Runs the end-to-end tests of the built program: `run.py [--without-check] [--only WORD] [--seed N] [--cases N]
-[PROGRAM..]`.
+"""Runs the end-to-end tests of the built program: `run.py [--only WORD] [--seed N] [--cases N] [PROGRAM..]`.
 
 The tests run the program from the outside, on real files, pipes, terminals and devices; some look at the repository.
 With no PROGRAM it is this repository's own, for each level for which it is built. If tests ran, the last line counts
@@ -104,13 +103,11 @@ def take_usual_settings():
 def main():
     reader = argparse.ArgumentParser(description="Tests the built program from the outside.")
     reader.add_argument("program", nargs="*", help="the program digests; without it, this repository's own")
-    reader.add_argument("--without-check", action="store_true", help="leave out the tests of --check")
     reader.add_argument("--only", default="", metavar="WORD", help="run only the tests whose name holds WORD")
     reader.add_argument("--verbose", action="store_true", help="name each test")
     reader.add_argument("--seed", type=int, help="of the first case at random; without it, a new one each day")
     reader.add_argument("--cases", type=int, default=harness.CASES, help=f"cases at random ({harness.CASES})")
     asked = reader.parse_args()
-    harness.WITHOUT_CHECK = asked.without_check
     harness.SEED, harness.CASES = harness.SEED if asked.seed is None else asked.seed, asked.cases
     programs = [os.path.abspath(program) for program in asked.program] or built_programs()
     if not programs:

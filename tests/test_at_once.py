@@ -7,7 +7,7 @@ import signal
 import subprocess
 
 import harness
-from harness import E, M, VERDICTS, X_MISSING, Case, as_bytes, needs_check
+from harness import E, M, VERDICTS, X_MISSING, Case, as_bytes
 
 
 class FirstLines(Case):
@@ -47,7 +47,6 @@ class FirstLines(Case):
         self.assertEqual(started.wait(timeout=harness.RUN_SECONDS), 0)
         self.assertEqual(self.read("out"), as_bytes([f"{M}  a", f"{E}  e", f"{E}  p"]))
 
-    @needs_check
     def test_a_report_before_the_next_file_is_there(self):
         """`md5sum -c | while read line` shows the first report at once."""
         self.write("l", [f"{M}  a", f"{M}  p", f"{E}  e"])
@@ -56,7 +55,6 @@ class FirstLines(Case):
         self.finish(started, 0)
         self.shown(started.stdout.fileno(), ["p: OK", "e: OK"])
 
-    @needs_check
     def test_reports_before_the_manifest_ends(self):
         """From a pipe into a pipe: each report is there before the next line of the manifest comes."""
         started = self.start("md5sum -c", stdin=subprocess.PIPE, stdout=subprocess.PIPE, stderr=subprocess.PIPE)
@@ -90,7 +88,6 @@ class Ended(Case):
             out = self.ended_at_the_pipe(["md5sum", *["a"] * 500, "p", "e"], number)
             self.same(out, [f"{M}  a"] * 500)
 
-    @needs_check
     def test_after_500_reports(self):
         """A check that is ended after 500 files leaves their 500 reports."""
         os.mkfifo(self.path("p"))
@@ -136,7 +133,6 @@ class OneFile(Case):
         """The same with 2,000 files, of which every other one is missing."""
         self.expect_together(["md5sum", *["a", "x"] * 1000], [f"{M}  a", X_MISSING] * 1000, 1)
 
-    @needs_check
     def test_checking(self):
         """What a line comes to stands in its place: for a file that can't be read the diagnostic, then the report."""
         os.mkdir(self.path("d"))
@@ -152,7 +148,6 @@ class OneFile(Case):
                 "md5sum: WARNING: 2 listed files could not be read",
                 "md5sum: WARNING: 1 computed checksum did NOT match"]
 
-    @needs_check
     def test_all_verdicts(self):
         """The manifest that comes to every verdict."""
         self.write("l", VERDICTS)

@@ -1,7 +1,6 @@
 """The benchmark's command: what is wrong with its words is told in one line, before anything is built or measured."""
 
 import os
-import shutil
 import sys
 
 import harness

@@ -3,7 +3,7 @@
 import os
 
 import harness
-from harness import E, M, S, TOOLS, VERDICTS, VERDICTS_ERR, VERDICTS_OUT, X_MISSING, Case, Ran, as_bytes, needs_check
+from harness import E, M, S, TOOLS, VERDICTS, VERDICTS_ERR, VERDICTS_OUT, X_MISSING, Case, Ran, as_bytes
 
 NONE_FOUND = "no properly formatted checksum lines found"
 SPECIAL = "q\\\nz"
@@ -25,7 +25,6 @@ def wrong(count, tool="md5sum"):
     return f"{tool}: WARNING: {count} computed checksum" + ("" if count == 1 else "s") + " did NOT match"
 
 
-@needs_check
 class Verdicts(Case):
     """What each line of a manifest comes to, and the settings that change what is written."""
 
@@ -85,7 +84,6 @@ class Verdicts(Case):
                         err=[named, bad(1, tool), wrong(1, tool)], status=1)
 
 
-@needs_check
 class Manifests(Case):
     """Operands of checking."""
 
@@ -141,7 +139,6 @@ class Manifests(Case):
         self.expect("anysum -c m", out=["a: OK"] * len(TOOLS))
 
 
-@needs_check
 class Lines(Case):
     """How one line is read."""
 
@@ -196,7 +193,6 @@ class Lines(Case):
         self.expect("md5sum -c --strict", stdin=f"{M}  a\n\r", out=["a: OK"])
 
 
-@needs_check
 class Hostile(Case):
     """Manifests that mean harm."""
 

@@ -5,12 +5,11 @@ import os
 import subprocess
 
 import harness
-from harness import E, M, VERDICTS, X_MISSING, Case, Ran, as_bytes, limits, needs_check
+from harness import E, M, VERDICTS, X_MISSING, Case, Ran, as_bytes, limits
 
 MEGA = 1000 * 1000
 
 
-@needs_check
 class WhileItComes(Case):
     """Each line is handled before the next one is read."""
 
@@ -71,7 +70,6 @@ class WhileItComes(Case):
                     err=["md5sum: WARNING: 1 computed checksum did NOT match"], status=1)
 
 
-@needs_check
 class Outputs(Case):
     """Reports into outputs that fail."""
 
@@ -106,7 +104,6 @@ class Outputs(Case):
         self.assertEqual(started.wait(timeout=harness.RUN_SECONDS), 1)
 
 
-@needs_check
 class Sizes(Case):
     """Manifests of many lines and of very long ones. The bounds on memory are wide: they tell a program that holds one
     line from one that holds the manifest."""

@@ -7,7 +7,7 @@ import pwd
 import shutil
 
 import harness
-from harness import E, M, S, TOOLS, VERDICTS, X_MISSING, Case, Ran, as_bytes, as_words, needs_check
+from harness import E, M, S, TOOLS, VERDICTS, X_MISSING, Case, Ran, as_bytes, as_words
 from tracing import Traced, needs_strace
 
 FAULT = "md5sum: -: Input/output error"
@@ -59,7 +59,6 @@ class ClosedInput(Closing):
         for words in ("md5sum --help", "md5sum --version", "md5sum --foo", "shasum", []):
             self.assertEqual(self.closed(words, 0), self.run_words(words))
 
-    @needs_check
     def test_as_the_manifest(self):
         """`md5sum -c <&-` can't read its manifest."""
         for words in ("md5sum -c", "md5sum -c -", "md5sum -c --status"):
@@ -69,7 +68,6 @@ class ClosedInput(Closing):
         ran = self.closed("md5sum -c l - l", 0)
         self.assertEqual(ran, Ran(1, b"a: OK\na: OK\n", b"md5sum: standard input: Input/output error\n"))
 
-    @needs_check
     def test_listed(self):
         """Its entry can't be read; the manifest's own bytes never stand for it, whatever digest is listed."""
         for manifest in hostile_manifests():
@@ -77,7 +75,6 @@ class ClosedInput(Closing):
             ran = self.closed("md5sum -c l", 0)
             self.assertEqual(ran, Ran(1, b"-: FAILED open or read\n", as_bytes([FAULT, ONE_UNREAD])))
 
-    @needs_check
     def test_listed_among_others(self):
         """The other entries, and the next manifests, are checked as ever."""
         self.write("l", [f"{M}  a", f"{E}  -", f"{E}  e"])
@@ -86,7 +83,6 @@ class ClosedInput(Closing):
         self.assertEqual(self.closed("md5sum -c l l2", 0), Ran(1, as_bytes(out), as_bytes([FAULT, ONE_UNREAD])))
         self.assertEqual(self.closed("md5sum -c l2", 0), Ran(0, b"a: OK\n", b""))
 
-    @needs_check
     def test_listed_under_ignore_missing_and_status(self):
         """It isn't missing, so --ignore-missing doesn't pass it over."""
         self.write("l", [f"{M}  a", f"{E}  -"])
@@ -95,7 +91,6 @@ class ClosedInput(Closing):
         self.assertEqual(ran, Ran(1, b"a: OK\n-: FAILED open or read\n", err))
         self.assertEqual(self.closed("md5sum -c --status l", 0), Ran(1, b"", as_bytes([FAULT])))
 
-    @needs_check
     def test_listed_under_anysum(self):
         """The same with tagged lines of two algorithms."""
         nothing = TOOLS["sha256sum"][1]
@@ -105,7 +100,6 @@ class ClosedInput(Closing):
         self.assertEqual(ran, Ran(1, as_bytes(["-: FAILED open or read", "a: OK", "a: OK"]), as_bytes(err)))
 
 
-@needs_check
 class NoRootFolder(Traced):
     """Standard input is closed, and the root folder can't be opened: nothing may depend on its being readable."""
 
@@ -184,7 +178,6 @@ class ClosedOutputs(Closing):
         self.assertEqual(self.closed("md5sum --foo", 1), self.run_words("md5sum --foo"))
         self.assertEqual(self.closed("shasum", 1), Ran(1, b"", b"digests: unknown tool\n"))
 
-    @needs_check
     def test_checking_without_standard_output(self):
         """Checking is good where no report was to be written, and a write error else."""
         self.write("good", [f"{M}  a"])
@@ -209,7 +202,6 @@ class ClosedOutputs(Closing):
         self.assertEqual(self.closed("md5sum a", 0, 1, 2), Ran(1, b"", b""))
         self.assertEqual(self.closed("md5sum", 0, 1, 2), Ran(1, b"", b""))
 
-    @needs_check
     def test_checking_with_several(self):
         """The same in checking: what was listed isn't written to, and standard input is no file."""
         self.write("good", [f"{M}  a"])

@@ -7,7 +7,7 @@ import pty
 import subprocess
 
 import harness
-from harness import E, M, Case, Ran, as_bytes, gnu, needs_check
+from harness import E, M, Case, Ran, as_bytes, gnu
 from tracing import needs_strace, strace
 
 VERSION = "(GNU coreutils) 9.1"  # what these tests pin
@@ -139,7 +139,6 @@ class Messages(Described):
         self.expect_alike("md5sum a -b", 0, [f"{M} *a"])
 
 
-@needs_check
 class Checks(Described):
     """Checking."""
 

@@ -3,7 +3,7 @@
 import hashlib
 import os
 
-from harness import E, M, Ran, as_bytes, needs_check
+from harness import E, M, Ran, as_bytes
 from tracing import Traced, needs_strace
 
 PIECE = 8192  # the most bytes of a read
@@ -37,14 +37,12 @@ class FailedRead(Traced):
         self.expect_each("f", "md5sum f a f", [[f"{M}  a", self.line]] * READS, fault)
         self.expect_each("f", "md5sum", [b""] * READS, b"md5sum: -: Input/output error\n", stdin="f")
 
-    @needs_check
     def test_listed_file(self):
         """It isn't OK, though its digest is right."""
         self.write("l", [self.line, f"{M}  a", self.line])
         reports = ["f: FAILED open or read", "a: OK", "f: OK"]
         self.expect_each("f", "md5sum -c l", [reports] * READS, b"md5sum: f: Input/output error\n" + LISTED)
 
-    @needs_check
     def test_list(self):
         """What is whole before the fault is checked, and nothing behind it."""
         line = as_bytes([f"{M}  a"])
@@ -69,7 +67,6 @@ class FailedRead(Traced):
     def test_each_read_of_a_run(self):
         self.expect_failure("sha256sum f a - e f", "f")
 
-    @needs_check
     def test_each_read_of_a_check(self):
         self.write("l", [self.line, f"#{'#' * PIECE}", f"{M}  a", f"{E}  e"])
         self.write("-l", [f"{M}  a", f"{hashlib.md5(self.read('l')).hexdigest()}  -"])

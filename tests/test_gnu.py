@@ -6,7 +6,7 @@ import random
 import subprocess
 
 import harness
-from harness import TOOLS, Case, as_bytes, gnu, needs_check
+from harness import TOOLS, Case, as_bytes, gnu
 
 STYLES = (["-t"], ["-b"], ["--tag"], ["-z"], ["-z", "-b"], ["-z", "--tag"])
 PLAIN_NAMES = ["a", "e", " ", " lead", "trail ", "*star", "a)", "(b", "x = y", "-dash", "--", "#", "tab\t", "\x01"]
@@ -96,12 +96,10 @@ class SameLines(Beside):
         for tool, (tag, _, _) in TOOLS.items():
             self.assertEqual(lines[tool, harness.PROGRAM], lines[tool, gnu(tool)])
             self.assertTrue(lines[tool, gnu(tool)].startswith(f"{tag} (large) = ".encode()))
-        if not harness.WITHOUT_CHECK:
-            manifest = b"".join(lines[tool, gnu(tool)] for tool in TOOLS)
-            self.expect("anysum -c --strict", stdin=manifest, out=["large: OK"] * len(TOOLS))
+        manifest = b"".join(lines[tool, gnu(tool)] for tool in TOOLS)
+        self.expect("anysum -c --strict", stdin=manifest, out=["large: OK"] * len(TOOLS))
 
 
-@needs_check
 class Verified(Beside):
     """Manifests of one, checked by the other."""
 

@@ -3,8 +3,7 @@ which makes a call fail."""
 
 import os
 
-import harness
-from harness import E, M, S, X_MISSING, Case, Ran, as_bytes, needs_check
+from harness import E, M, S, X_MISSING, Case, Ran, as_bytes
 from tracing import Traced, needs_strace, sizes
 
 WRITE_ERROR = b"md5sum: write error\n"
@@ -19,9 +18,9 @@ class Interrupted(Traced):
     def test_every_write(self):
         """A run of which every write is interrupted ends with status 1, and writes nothing."""
         self.write("l", [f"{M}  a"])
-        words = ["md5sum a e", "md5sum x", "md5sum --help", "md5sum --version", "md5sum --foo", "shasum"]
-        for one in words if harness.WITHOUT_CHECK else [*words, "md5sum -c l"]:
-            ran, calls = self.failing("write,writev", "EINTR", one, timeout=ENDLESS)
+        for words in ("md5sum a e", "md5sum x", "md5sum --help", "md5sum --version", "md5sum --foo", "shasum",
+                      "md5sum -c l"):
+            ran, calls = self.failing("write,writev", "EINTR", words, timeout=ENDLESS)
             self.assertEqual(ran, Ran(1, b"", b""))
             self.assertLessEqual(len(calls), 2000)
 
@@ -33,7 +32,6 @@ class Interrupted(Traced):
             self.assertEqual(ran, Ran(1, b"", WRITE_ERROR))
             self.assertEqual(len(calls), 1000)
 
-    @needs_check
     def test_every_write_of_a_report(self):
         """The same in checking."""
         self.write("l", [f"{M}  a"])
@@ -129,14 +127,12 @@ class Counts(Case):
         self.assertEqual(self.writes_of(["md5sum", *["a", "x"] * 500]), (1, 1000))
         self.assertEqual(self.writes_of(["md5sum", "-z", *["a"] * 500]), (0, 500))
 
-    @needs_check
     def test_reports(self):
         """So do N reports."""
         self.write("l", [f"{M}  a"] * 5000)
         self.assertEqual(self.writes_of("md5sum -c l"), (0, 5000))
         self.assertEqual(self.writes_of("md5sum -c --quiet l"), (0, 0))
 
-    @needs_check
     def test_a_million_escapes(self):
         """A line of a manifest with a million escaped characters is written by the buffer, not by the character."""
         self.write("l", [f"\\{M}  " + "\\\\" * 1000000, f"{M}  a"])

@@ -3,7 +3,7 @@
 import os
 
 import harness
-from harness import E, M, Case, Ran, gnu, needs_check
+from harness import E, M, Case, Ran, gnu
 
 NAME = b"r\xe9sum\xe9.txt"
 NOT_READ = ["digests: words not read"]
@@ -49,7 +49,6 @@ class OddNames(Case):
         words = ["md5sum", *["a"] * 50000, NAME, *["a"] * 49998]
         self.expect(words, out=[f"{M}  a"] * 99998, err=unread(NAME), status=1)
 
-    @needs_check
     def test_manifests(self):
         self.write("l", [f"{M}  a"])
         for words in ([NAME, "l"], ["--", NAME, "l"], ["l", NAME]):

@@ -6,7 +6,7 @@ import re
 import shutil
 
 import harness
-from harness import TOP, Case, Ran, needs_check
+from harness import TOP, Case, Ran
 from options import takes
 from recipes import NAMES, TOOLS, path_of, sections_of
 
@@ -50,7 +50,6 @@ class Pages(Case):
             self.assertEqual(self.run_command(["mandoc", "-T", "lint", *map(path_of, NAMES)]), Ran(0, b"", b""))
 
 
-@needs_check
 class Said(Case):
     """What the program says on standard error is in the DIAGNOSTICS of its page."""
 

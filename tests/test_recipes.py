@@ -8,7 +8,7 @@ import re
 import shutil
 
 import harness
-from harness import Case, Ran, needs_check
+from harness import Case, Ran
 from recipes import NAMES, TOOLS, sections_of
 
 # What a recipe is for, and how it is known. Each recipe is of one sort.
@@ -160,7 +160,6 @@ class Typed(Case):
         self.assertEqual(set(os.listdir(self.folder)), {"commands", "here", "a", "e"})
 
 
-@needs_check
 class Recipes(Typed):
     """Each recipe."""
 
@@ -340,7 +339,6 @@ class Recipes(Typed):
             self.assertEqual(sorted(self.read("here/SUMS").splitlines()), before)
             self.passes(self.recipe("unlisted"))
 
-@needs_check
 class Examples(Typed):
     """The examples of each tool's page."""
 

@@ -7,7 +7,7 @@ import subprocess
 import tempfile
 
 import harness
-from harness import Case, as_bytes, needs_check
+from harness import Case, as_bytes
 
 FILES = 12000
 TIMES = 5
@@ -57,10 +57,9 @@ class SideBySide(Case):
             torn = [line for line in got if line not in known]
             self.assertEqual((len(torn), torn[:3]), (0, []))
             self.assertTrue(sorted(got) == self.lines, "a line is missing, or stands there twice")
-            if not harness.WITHOUT_CHECK:
-                with open(self.path("sums"), "rb") as sums:
-                    checked = self.run_words("sha256sum -c --quiet --strict", stdin=sums, cwd=self.tree)
-                self.assertEqual(checked, (0, b"", b""))
+            with open(self.path("sums"), "rb") as sums:
+                checked = self.run_words("sha256sum -c --quiet --strict", stdin=sums, cwd=self.tree)
+            self.assertEqual(checked, (0, b"", b""))
 
     def test_into_a_file(self):
         """`xargs -P 8 digests sha256sum < names > SUMS` gives every line whole."""
@@ -82,7 +81,6 @@ class SideBySide(Case):
         self.assertEqual((len(torn), torn[:3]), (0, []))
         self.assertEqual(len(said), FILES)
 
-    @needs_check
     def test_reports_into_one_pipe(self):
         """Eight checks at a time write whole reports into one pipe, from which a slow reader takes a page at a time."""
         self.write("l", b"\n".join(self.lines) + b"\n")

@@ -4,7 +4,7 @@ does what it should, or says that memory is short; it never does something else.
 import os
 
 import harness
-from harness import E, M, S, X_MISSING, Case, Ran, as_bytes, as_words, needs_check
+from harness import E, M, S, X_MISSING, Case, Ran, as_bytes, as_words
 from reference_words import help_text
 
 STEP = 4  # KiB, a page: no system hands out less
@@ -84,7 +84,6 @@ class SmallMemory(Case):
         self.sweep("md5sum a x e", Ran(1, as_bytes(lines), missing), Ran(1, b"", NOT_READ), Ran(1, b"", stop),
                    Ran(1, as_bytes(lines[:1]), stop), Ran(1, as_bytes(lines[:1]), missing + stop))
 
-    @needs_check
     def test_checking(self):
         """A check reports whole lines, and never a wrong one."""
         self.write("l", [f"{M}  a", f"{M}  e"])
@@ -94,7 +93,6 @@ class SmallMemory(Case):
                    Ran(1, b"a: OK\n", stop))
 
 
-@needs_check
 class SmallStack(Case):
     """A limit on the stack, with no environment."""
 

@@ -8,7 +8,7 @@ import subprocess
 
 import harness
 from harness import E, M, TOOLS, VERDICTS, VERDICTS_ERR, VERDICTS_OUT, X_MISSING
-from harness import Case, Ran, as_bytes, limits, needs_check
+from harness import Case, Ran, as_bytes, limits
 
 WRITE_ERROR = b"md5sum: write error\n"
 
@@ -75,13 +75,11 @@ class BrokenInput(Case):
             err = ["md5sum: -: Input/output error"]
             self.expect("md5sum - a", stdin=broken, out=[f"{M}  a"], err=err, status=1)
 
-    @needs_check
     def test_a_listed_standard_input_that_breaks_off(self):
         self.write("l", [f"{M}  -", f"{M}  a"])
         self.expect("md5sum -c l", stdin=self.broken_input("abc"), out=["-: FAILED open or read", "a: OK"], status=1,
                     err=["md5sum: -: Input/output error", "md5sum: WARNING: 1 listed file could not be read"])
 
-    @needs_check
     def test_a_manifest_cut_at_every_byte(self):
         """Only lines that a newline ended are reported, then the fault, and no summary."""
         manifest = as_bytes(VERDICTS)
@@ -198,7 +196,6 @@ class EachByteTheLast(Case):
             ran = self.run_words("md5sum a e", stdout=file, preexec_fn=limits(file_size=10))
         self.assertEqual((ran, self.read("limited")), (Ran(-signal.SIGXFSZ, b"", b""), b"900150983c"))
 
-    @needs_check
     def test_checking_into_standard_output(self):
         self.write("l", VERDICTS)
         for size in range(len(VERDICTS_OUT) + 1):
@@ -210,7 +207,6 @@ class EachByteTheLast(Case):
             else:
                 self.assertEqual(ran.err, VERDICTS_ERR)
 
-    @needs_check
     def test_checking_into_standard_error(self):
         self.write("l", VERDICTS)
         for size in range(len(VERDICTS_ERR) + 1):

@@ -10,7 +10,7 @@ import unittest
 
 import harness
 from harness import E, M, S, TOOLS, VERDICTS, VERDICTS_ERR, VERDICTS_OUT, X_MISSING
-from harness import Case, Ran, as_bytes, as_words, needs_check
+from harness import Case, Ran, as_bytes, as_words
 from reference_words import help_text
 
 SPECIAL = "q\\\nz\r"
@@ -159,7 +159,6 @@ class OneWriteALine(Packets):
         self.assertLessEqual(len(err[1:-1]), 6)
 
 
-@needs_check
 class OneWriteAReport(Packets):
     """Checking."""
 
@@ -255,7 +254,6 @@ class ShortWrites(Case):
         self.same(err, lines)
         self.assertEqual(status, 1)
 
-    @needs_check
     def test_a_part_of_a_long_report(self):
         """The same for reports on standard output."""
         name = "y" * 30000

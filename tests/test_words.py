@@ -3,7 +3,7 @@
 import os
 
 import harness
-from harness import B, E, M, S, TOOLS, Case, needs_check
+from harness import B, E, M, S, TOOLS, Case
 from reference_words import help_text
 
 WITH_CHECK = "meaningless when verifying checksums"
@@ -93,7 +93,6 @@ class LongOptions(Case):
         for form in ("-l 256", "-l256", "--length 256", "--length=256", "--l 256", "--l=256"):
             self.expect(f"b2sum {form} e", out=[f"{B}  e"])
 
-    @needs_check
     def test_each_form_of_checking(self):
         self.write("l", [f"{M}  a", "junk"])
         self.write("some", [f"{M}  a", f"{M}  x"])
@@ -222,7 +221,6 @@ class Combinations(Case):
         for words in ("anysum", "anysum --tag m"):
             self.expect_fault(words, "--check is required")
 
-    @needs_check
     def test_check_takes_a_length_and_does_nothing_with_it(self):
         self.write("l", [f"{B}  e"])
         self.expect("b2sum -c -l 8 l", out=["e: OK"])
