@@ -32,14 +32,12 @@ class FirstLines(Case):
         self.shown(started.stdout.fileno(), [f"{M}  p", f"{E}  e"])
 
     def test_a_line_with_a_nul_at_its_end(self):
-        """The same under -z."""
         started = self.start("md5sum -z a p", stdout=subprocess.PIPE)
         self.shown(started.stdout.fileno(), f"{M}  a\0")
         self.finish(started, 0)
         self.shown(started.stdout.fileno(), f"{M}  p\0")
 
     def test_a_line_stands_in_a_file_at_once(self):
-        """The same where the output is a file."""
         with open(self.path("out"), "wb") as out:
             started = self.start("md5sum a e p", stdout=out)
         with self.fed("p"):
@@ -89,7 +87,6 @@ class Ended(Case):
             self.same(out, [f"{M}  a"] * 500)
 
     def test_after_500_reports(self):
-        """A check that is ended after 500 files leaves their 500 reports."""
         os.mkfifo(self.path("p"))
         self.write("l", [*[f"{M}  a"] * 500, f"{M}  p", f"{M}  a"])
         for number in (signal.SIGTERM, signal.SIGKILL):
@@ -130,7 +127,6 @@ class OneFile(Case):
         self.expect_together("md5sum a x e d x a", lines, 1)
 
     def test_many_operands(self):
-        """The same with 2,000 files, of which every other one is missing."""
         self.expect_together(["md5sum", *["a", "x"] * 1000], [f"{M}  a", X_MISSING] * 1000, 1)
 
     def test_checking(self):
@@ -149,7 +145,6 @@ class OneFile(Case):
                 "md5sum: WARNING: 1 computed checksum did NOT match"]
 
     def test_all_verdicts(self):
-        """The manifest that comes to every verdict."""
         self.write("l", VERDICTS)
         lines = ["a: OK", X_MISSING, "x: FAILED open or read", "e: FAILED",
                  "md5sum: WARNING: 1 line is improperly formatted",

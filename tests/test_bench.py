@@ -19,7 +19,6 @@ class Words(Case):
         return self.run_command([sys.executable, BENCH, *words], **how)
 
     def test_wrong_words(self):
-        """Each fault is one line that names the option."""
         for option, word in (("--rounds", "0"), ("--size", "1.5"), ("--program", "a"), ("--only", "nothing")):
             ran = self.bench(option, word)
             self.assertEqual((ran.status, ran.out, ran.err.count(b"\n")), (1, b"", 1), ran.err)

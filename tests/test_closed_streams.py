@@ -51,11 +51,9 @@ class ClosedInput(Closing):
         self.assertEqual(ran, Ran(1, as_bytes([f"{M}  a", f"{E}  -"]), as_bytes([FAULT])))
 
     def test_not_asked_for(self):
-        """Nobody asks for it: the run is good."""
         self.assertEqual(self.closed("md5sum a e", 0), Ran(0, as_bytes([f"{M}  a", f"{E}  e"]), b""))
 
     def test_words_need_no_input(self):
-        """Help, version and faults of the words are as ever."""
         for words in ("md5sum --help", "md5sum --version", "md5sum --foo", "shasum", []):
             self.assertEqual(self.closed(words, 0), self.run_words(words))
 
@@ -76,7 +74,6 @@ class ClosedInput(Closing):
             self.assertEqual(ran, Ran(1, b"-: FAILED open or read\n", as_bytes([FAULT, ONE_UNREAD])))
 
     def test_listed_among_others(self):
-        """The other entries, and the next manifests, are checked as ever."""
         self.write("l", [f"{M}  a", f"{E}  -", f"{E}  e"])
         self.write("l2", [f"{M}  a"])
         out = ["a: OK", "-: FAILED open or read", "e: OK", "a: OK"]
@@ -92,7 +89,6 @@ class ClosedInput(Closing):
         self.assertEqual(self.closed("md5sum -c --status l", 0), Ran(1, b"", as_bytes([FAULT])))
 
     def test_listed_under_anysum(self):
-        """The same with tagged lines of two algorithms."""
         nothing = TOOLS["sha256sum"][1]
         self.write("l", [f"SHA256 (-) = {nothing}", f"SHA256 (a) = {S}", f"MD5 (a) = {M}"])
         ran = self.closed("anysum -c l", 0)
@@ -168,12 +164,10 @@ class ClosedOutputs(Closing):
     """Standard output or standard error is closed."""
 
     def test_standard_output_with_a_line(self):
-        """A line that can't be written is a write error."""
         for words in ("md5sum a", "md5sum -z a", "md5sum --help", "md5sum --version"):
             self.assertEqual(self.closed(words, 1), Ran(1, b"", WRITE_ERROR))
 
     def test_standard_output_without_a_line(self):
-        """Where nothing is to be written on standard output it isn't needed."""
         self.assertEqual(self.closed("md5sum x", 1), Ran(1, b"", as_bytes([X_MISSING])))
         self.assertEqual(self.closed("md5sum --foo", 1), self.run_words("md5sum --foo"))
         self.assertEqual(self.closed("shasum", 1), Ran(1, b"", b"digests: unknown tool\n"))

@@ -104,7 +104,6 @@ class Bash(Typed, Case):
             self.assertEqual((ran.status, ran.out), (0, b""))
 
     def test_one_key(self):
-        """As it is most often used."""
         self.terminal.keys = "\t"
         self.assertEqual(self.offered("sha256sum --che"), {"--check"})
         self.assertEqual(self.offered("digests sha5"), {"sha512sum"})

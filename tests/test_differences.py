@@ -68,7 +68,6 @@ class Messages(Described):
         self.expect_both("md5sum -c d", *said)
 
     def test_help_and_version(self):
-        """Both print other texts."""
         for option in ("--help", "--version"):
             ours, theirs = self.both(["md5sum", option])
             self.assertEqual((ours.status, ours.err, theirs.status, theirs.err), (0, b"", 0, b""))

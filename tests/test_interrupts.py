@@ -33,7 +33,6 @@ class Interrupted(Traced):
             self.assertEqual(len(calls), 1000)
 
     def test_every_write_of_a_report(self):
-        """The same in checking."""
         self.write("l", [f"{M}  a"])
         ran, _ = self.failing("write,writev", "EINTR", "md5sum -c l", only=self.path("out"), timeout=ENDLESS)
         self.assertEqual(ran, Ran(1, b"", WRITE_ERROR))
@@ -65,7 +64,6 @@ class Interrupted(Traced):
         self.assertEqual(ran, Ran(1, b"", fault % b"-"))
 
     def test_some_reads(self):
-        """Fewer interruptions than a thousand in a row change nothing."""
         a = os.fsdecode(self.path("a"))
         ran, _ = self.failing("read", "EINTR", ["sha256sum", a], only=a, when=FEW, timeout=ENDLESS)
         self.assertEqual(ran, Ran(0, as_bytes([f"{S}  {a}"]), b""))
@@ -123,12 +121,10 @@ class Counts(Case):
     """How often the system is called to write, as it counts itself."""
 
     def test_lines(self):
-        """N lines make N writes."""
         self.assertEqual(self.writes_of(["md5sum", *["a", "x"] * 500]), (1, 1000))
         self.assertEqual(self.writes_of(["md5sum", "-z", *["a"] * 500]), (0, 500))
 
     def test_reports(self):
-        """So do N reports."""
         self.write("l", [f"{M}  a"] * 5000)
         self.assertEqual(self.writes_of("md5sum -c l"), (0, 5000))
         self.assertEqual(self.writes_of("md5sum -c --quiet l"), (0, 0))

@@ -39,7 +39,6 @@ class Pages(Case):
                 self.assertIn(f"--{long}", sections_of(tool)["DESCRIPTION"])
 
     def test_as_a_person_sees_them(self):
-        """`man` and `mandoc` find no fault."""
         if shutil.which("man") is None:
             self.skipTest("man isn't installed")
         for name in NAMES:

@@ -66,7 +66,6 @@ class SideBySide(Case):
         self.expect_whole_lines('xargs -0 -P 8 -n 1500 "$0" sha256sum <"$1" >"$2"')
 
     def test_into_a_pipe(self):
-        """The same through a pipe."""
         self.expect_whole_lines('xargs -0 -P 8 -n 1500 "$0" sha256sum <"$1" | cat >"$2"')
 
     def test_diagnostics_into_one_file(self):

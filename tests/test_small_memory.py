@@ -72,7 +72,6 @@ class SmallMemory(Case):
         self.sweep("sha256sum --version", Ran(0, b"sha256sum (digests), profile 2\n", b""), Ran(1, b"", NOT_READ))
 
     def test_faults_of_the_words(self):
-        """What is wrong with the words is told without memory, too."""
         err = ["md5sum: unrecognized option '--foo'", "Try 'md5sum --help' for more information."]
         self.sweep("md5sum --foo", Ran(1, b"", as_bytes(err)), Ran(1, b"", NOT_READ))
         self.sweep("shasum", Ran(1, b"", b"digests: unknown tool\n"), Ran(1, b"", NOT_READ))
@@ -97,7 +96,6 @@ class SmallStack(Case):
     """A limit on the stack, with no environment."""
 
     def test_64_kib(self):
-        """That is enough, for each tool."""
         for tool, (_, _, of_abc) in harness.TOOLS.items():
             self.write("l", self.run_words([tool, "--tag", "a"]).out)
             for words, out in (([tool, "a"], f"{of_abc}  a\n"), ([tool, "-c", "l"], "a: OK\n"),

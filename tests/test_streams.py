@@ -255,7 +255,6 @@ class Many(Case):
         self.expect(["b2sum", "-l", zeros, "e"], out=[f"{harness.B}  e"])
 
     def test_open_files_are_closed_again(self):
-        """With few descriptors allowed, many operands are still read one after the other."""
         script = 'ulimit -n 16; exec "$0" md5sum "$@"'
         ran = self.run_command(["sh", "-c", script, harness.PROGRAM, *["a"] * 100])
         self.assertEqual(ran, Ran(0, as_bytes([f"{M}  a"] * 100), b""))

@@ -93,7 +93,6 @@ class OneWriteALine(Packets):
                 f"{tag} (a) = {of_abc}\0", f"{tag} ({SPECIAL}) = {of_abc}\0"])
 
     def test_standard_input(self):
-        """The digest of standard input is one write, too."""
         with open(self.path("a"), "rb") as file:
             self.expect_packets("sha256sum", out=[f"{S}  -\n"], stdin=file)
 
@@ -109,13 +108,11 @@ class OneWriteALine(Packets):
                                 err=[X_MISSING + "\n", missing, directory], status=1)
 
     def test_help_and_version(self):
-        """The help is one write, and so is the version."""
         for tool in [*TOOLS, "anysum"]:
             self.expect_packets([tool, "--help"], out=[help_text(tool)])
             self.expect_packets([tool, "--version"], out=[f"{tool} (digests), profile 2\n"])
 
     def test_faults_of_the_words(self):
-        """What is wrong with the words is told in one write of two lines."""
         faults = [(["--foo"], "unrecognized option '--foo'"), (["-\n"], "invalid option -- '\\n'"),
                   (["--s"], "option '--s' is ambiguous"), (["--tag=\\"], "option '--tag' doesn't allow an argument"),
                   (["-z", "-c"], "the --zero option is not supported when verifying checksums")]
@@ -187,7 +184,6 @@ class OneWriteAReport(Packets):
                                  "md5sum: WARNING: 1 listed file could not be read\n"])
 
     def test_manifests_that_are_no_good(self):
-        """What is said of a whole manifest is one write."""
         os.mkdir(self.path("d"))
         self.write(SPECIAL, "junk\n")
         self.write("missing", [f"{M}  x"])
@@ -199,7 +195,6 @@ class OneWriteAReport(Packets):
                             err=["md5sum: missing: no file was verified\n"])
 
     def test_tags_of_every_algorithm(self):
-        """anysum's reports come whole like those of the other tools."""
         self.write("l", [f"{tag} (a) = {of_abc}" for tag, _, of_abc in TOOLS.values()] + ["junk"])
         self.expect_packets("anysum -cw l", out=["a: OK\n"] * len(TOOLS), err=[
             "anysum: l: 8: improperly formatted tagged checksum line\n",
@@ -255,7 +250,6 @@ class ShortWrites(Case):
         self.assertEqual(status, 1)
 
     def test_a_part_of_a_long_report(self):
-        """The same for reports on standard output."""
         name = "y" * 30000
         self.write("l", [f"{M}  {name}", f"{M}  a"] * 3)
         status, out = self.taken_in_parts("md5sum -c l", "stdout")

@@ -188,7 +188,6 @@ class Combinations(Case):
             self.expect_fault(f"b2sum {words}", text)
 
     def test_the_order_without_check(self):
-        """The same of the faults for which `--check` is missing."""
         for words, text in (
                 ("b2sum --strict --status --ignore-missing --tag -t -l x", "invalid length: 'x'"),
                 ("b2sum --strict --status --ignore-missing --tag -t -l 12", "length is not a multiple of 8: '12'"),
@@ -198,8 +197,9 @@ class Combinations(Case):
                 ("anysum --strict --warn", f"the --warn option is {WITHOUT_CHECK}"),
                 ("anysum --strict --quiet", f"the --quiet option is {WITHOUT_CHECK}"),
                 ("anysum --strict", f"the --strict option is {WITHOUT_CHECK}"),
-                ("anysum", "--check is required")):
+                ("anysum", "--check is required"), ("anysum --tag m", "--check is required")):
             self.expect_fault(words, text)
+
     def test_tag_and_text(self):
         self.expect_fault("md5sum --tag -b -t a", "--tag does not support --text mode")
         self.expect("md5sum --tag -t -b a", out=[f"MD5 (a) = {M}"])
@@ -216,10 +216,6 @@ class Combinations(Case):
         self.expect_fault("md5sum --status -w a", f"the --warn option is {WITHOUT_CHECK}")
         self.expect_fault("md5sum --status --quiet a", f"the --quiet option is {WITHOUT_CHECK}")
         self.expect_fault("sha256sum --str l", f"the --strict option is {WITHOUT_CHECK}")
-
-    def test_anysum_needs_check(self):
-        for words in ("anysum", "anysum --tag m"):
-            self.expect_fault(words, "--check is required")
 
     def test_check_takes_a_length_and_does_nothing_with_it(self):
         self.write("l", [f"{B}  e"])
