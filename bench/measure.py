@@ -1,10 +1,8 @@
-"""Running commands for the benchmarks: their processor time in interleaved rounds, how often they call the system, and
-the peak of their memory."""
+"""Running commands for the benchmarks: their processor time in interleaved rounds, and the peak of their memory."""
 
 import os
 import statistics
 import subprocess
-import tempfile
 from typing import NamedTuple
 
 
@@ -62,20 +60,6 @@ def measure(contenders, rounds, stdin=os.devnull, stdout=os.devnull, folder=None
         for contender in contenders[first:] + contenders[:first]:
             runs[contender.name].append(run_once(contender, stdin, stdout, folder))
     return {name: times_of(some) for name, some in runs.items()}
-
-
-def count_calls(contender, strace, stdin=os.devnull, stdout=os.devnull, folder=None):
-    """How often it calls the system in one run, and how often to write, as `strace` at this path counts; None where
-    that may not trace."""
-    with tempfile.NamedTemporaryFile() as summary:
-        traced = [contender.program or contender.words[0], *contender.words[1:]]
-        words = [strace, "-f", "-c", "-o", summary.name, *traced]
-        if Contender(contender.name, words).start(stdin, stdout, folder).wait() != contender.status:
-            return None
-        rows = [line.split() for line in summary.read().decode().splitlines()]
-    calls = {row[-1]: int(row[3]) for row in rows if len(row) > 4 and row[3].isdecimal()}
-    calls.pop("total", None)
-    return sum(calls.values()), sum(calls.get(name, 0) for name in ("write", "writev"))
 
 
 def peak_memory(contender, stdin=os.devnull, stdout=os.devnull, folder=None):

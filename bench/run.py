@@ -21,7 +21,7 @@ sys.dont_write_bytecode = True
 sys.path[:0] = [HERE, os.path.join(TOP, "tools")]
 
 import options  # noqa: E402  (it is in tools)
-from measure import Contender, count_calls, measure, peak_memory  # noqa: E402  (it is beside this file)
+from measure import Contender, measure, peak_memory  # noqa: E402  (it is beside this file)
 
 TOOLS = [tool for tool in options.TOOLS if tool != "anysum"]
 CHECKED = ("md5sum", "sha256sum", "b2sum")
@@ -92,7 +92,6 @@ class Bench:
         self.size = asked.size
         self.folder = folder
         self.out = os.path.join(folder, "out")
-        self.strace = shutil.which("strace")
         self.rows = []
 
     def contenders(self, tool, *words, status=0):
@@ -234,22 +233,6 @@ def reading(bench):
         bench.add(f"`sha256sum {' '.join(words)}`, {lines}", found, rounds * bench.rounds)
 
 
-def calls(bench):
-    """How often the system is called, and how often to write."""
-    if bench.strace is None:
-        print("\nstrace: not installed, system calls aren't counted")
-        return
-    rows = []
-    for words in (("-c",), ("-c", "--status")):
-        cells = [f"`sha256sum {' '.join(words)}`, 200,000 lines"]
-        found = bench.contenders("sha256sum", *words, bench.manifest("sha256sum"))
-        for it in (found[0], found[-1]):
-            counted = count_calls(it, bench.strace, stdout=bench.out, folder=bench.folder)
-            cells.append(f"{counted[0]:,}, {counted[1]:,} to write" if counted else "-")
-        rows.append(cells)
-    table(["system calls", "ours", "GNU" if gnu_tool("sha256sum")[0] else "ours again"], rows)
-
-
 def memory(bench):
     """The peak of resident memory."""
     with open(os.path.join(bench.folder, "a"), "wb") as file:
@@ -269,7 +252,7 @@ def memory(bench):
 
 
 TIMED = {"hashing": hashing, "start": start, "files": files, "reading": reading}
-OTHER = {"calls": calls, "memory": memory}
+OTHER = {"memory": memory}
 
 
 class Reader(argparse.ArgumentParser):

@@ -10,8 +10,6 @@ BENCH = os.path.join(TOP, "bench", "run.py")
 
 
 class Words(Case):
-    """What `bench/run.py` is called with."""
-
     of_the_repository = True
 
     def bench(self, *words, **how):

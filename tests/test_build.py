@@ -12,8 +12,6 @@ from repository import ASKED, BOTH, DEFAULT, FAST, OF_A, Repository
 
 
 class Build(Repository):
-    """In a small copy of the repository."""
-
     def expect_built(self, why, calls=BOTH):
         """A call builds, and a second one finds nothing to build; answers what the first said."""
         ran = self.script("digests", "md5sum", "a")
@@ -118,8 +116,6 @@ class Build(Repository):
 
 
 class Launcher(Repository):
-    """`./digests` is the program."""
-
     def setUp(self):
         super().setUp()
         self.build()
@@ -156,8 +152,6 @@ class Launcher(Repository):
 
 
 class SameBytes(Case):
-    """The programs that were really built, and rt itself."""
-
     of_the_repository = True
 
     def test_from_another_folder(self):

@@ -85,8 +85,6 @@ class Verdicts(Case):
 
 
 class Manifests(Case):
-    """Operands of checking."""
-
     def test_a_manifest_that_is_missing(self):
         self.expect("md5sum -c --status x", err=[X_MISSING], status=1)
         self.expect("md5sum -c --ignore-missing x", err=[X_MISSING], status=1)
@@ -140,8 +138,6 @@ class Manifests(Case):
 
 
 class Lines(Case):
-    """How one line is read."""
-
     def test_written_lines_are_read_back(self):
         names = ["a", SPECIAL, "a\rb", "\\", " ", "*", "a)", "x = y", "#", "\r", "end\r", "tab\t", "é"]
         for name in names:
@@ -194,8 +190,6 @@ class Lines(Case):
 
 
 class Hostile(Case):
-    """Manifests that mean harm."""
-
     def test_nothing_in_them(self):
         for content in ("x" * 1000000, "\0" * 1000 + "\n", "   \t\n", "\n" * 100000):
             self.write("h", content)

@@ -26,8 +26,6 @@ def hostile_manifests():
 
 
 class Closing(Case):
-    """A run with some of its streams closed."""
-
     def closed(self, words, *streams, **how):
         """Runs `digests` with these streams closed: 0 is standard input, 1 standard output, 2 standard error."""
         shut = "".join(f" {number}>&-" if number else " 0<&-" for number in streams)
@@ -35,8 +33,6 @@ class Closing(Case):
 
 
 class ClosedInput(Closing):
-    """Standard input is closed."""
-
     def test_alone(self):
         """`md5sum <&-` says that it can't read standard input, under every tool."""
         for tool in TOOLS:
@@ -161,8 +157,6 @@ class NoRootFolder(Traced):
 
 
 class ClosedOutputs(Closing):
-    """Standard output or standard error is closed."""
-
     def test_standard_output_with_a_line(self):
         for words in ("md5sum a", "md5sum -z a", "md5sum --help", "md5sum --version"):
             self.assertEqual(self.closed(words, 1), Ran(1, b"", WRITE_ERROR))

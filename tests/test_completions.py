@@ -76,8 +76,6 @@ class Shell:
 
 
 class Typed(Shell):
-    """A shell at a terminal."""
-
     def setUp(self):
         super().setUp()
         self.terminal = Terminal(self.shell, self.folder, self.load, ["digests", *NAMES])
@@ -117,8 +115,6 @@ class Zsh(Typed, Case):
 
 
 class Fish(Shell, Case):
-    """In fish, which has a command for it."""
-
     of_the_repository = True
     shell = "fish"
 

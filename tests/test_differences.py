@@ -40,8 +40,6 @@ class Described(Case):
 
 
 class Messages(Described):
-    """Texts on standard error."""
-
     def test_quoted_names(self):
         """GNU's tools quote some names in messages as a shell does, as one with a space or a control byte."""
         for name, ours, theirs in (("x", "x", "x"), ("x y", "x y", "'x y'"), ("x\ty", "x\ty", "'x'$'\\t''y'"),
@@ -139,8 +137,6 @@ class Messages(Described):
 
 
 class Checks(Described):
-    """Checking."""
-
     def test_reports(self):
         """GNU's tools escape a name only where it holds a newline."""
         for name, ours, theirs in (("x", "x", "x"), ("x y", "x y", "x y"), ("x\\y", "\\x\\\\y", "x\\y"),
@@ -315,8 +311,6 @@ class Checks(Described):
 
 
 class Writing(Described):
-    """Lines and outputs."""
-
     def test_tag_and_text(self):
         """`--tag` is refused where `--text` is the last of `--binary`, `--tag` and `--text`, and only there."""
         tagged, more = [f"MD5 (a) = {M}"], "Try 'md5sum --help' for more information."

@@ -10,8 +10,6 @@ from rattle import Code, Module, text_of
 
 
 class Documents(Case):
-    """What is made from the tree, or is quoted."""
-
     of_the_repository = True
 
     def test_what_is_believed(self):

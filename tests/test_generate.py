@@ -14,8 +14,6 @@ SPECIAL_SHOWN = "q\\\\\\nz"
 
 
 class Digests(Case):
-    """The bytes of each digest."""
-
     def test_published_digests(self):
         for tool, (_, of_nothing, of_abc) in TOOLS.items():
             self.expect([tool], out=[f"{of_nothing}  -"])

@@ -43,8 +43,6 @@ class Beside(Case):
 
 
 class SameLines(Beside):
-    """Generation."""
-
     def test_every_style(self):
         for tool in TOOLS:
             for style in STYLES:
@@ -101,8 +99,6 @@ class SameLines(Beside):
 
 
 class Verified(Beside):
-    """Manifests of one, checked by the other."""
-
     def each(self, styles=STYLES[:3]):
         """Each tool, each style that can be checked, and the manifest that GNU's tool writes for all files."""
         for tool in TOOLS:

@@ -79,8 +79,6 @@ class Interrupted(Traced):
 
 @needs_strace
 class Calls(Traced):
-    """The calls of a run, one by one."""
-
     def test_one_write_a_line(self):
         """Each descriptor gets one write for each of its lines, and none besides."""
         _, calls = self.traced("-e trace=write,writev", ["md5sum", *["a", "x", "e"] * 100])

@@ -73,8 +73,6 @@ class OddNames(Case):
 
 
 class OddWords(Case):
-    """Words that aren't UTF-8, and no names."""
-
     def test_what_begins_with_a_dash(self):
         for words in (["md5sum", b"-\xff"], ["md5sum", "a", b"--\xc3"], ["md5sum", "--help", b"-\x80"],
                       ["md5sum", "--", b"-\xff"], ["b2sum", "-l", b"-\xff", "e"], ["b2sum", b"--length=\xff", "e"],

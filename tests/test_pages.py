@@ -12,8 +12,6 @@ from recipes import NAMES, TOOLS, path_of, sections_of
 
 
 class Pages(Case):
-    """Each page."""
-
     of_the_repository = True
 
     def test_made_pages_are_in_the_tree(self):

@@ -161,8 +161,6 @@ class Typed(Case):
 
 
 class Recipes(Typed):
-    """Each recipe."""
-
     def report(self, sort, verdict):
         """What a check writes of image.iso."""
         name = {"check": "image.iso", "check by pv": "-", "check one": "./image.iso"}.get(sort)
@@ -328,8 +326,6 @@ class Recipes(Typed):
             os.chmod(self.path("here/shut"), 0o755)
 
 class Examples(Typed):
-    """The examples of each tool's page."""
-
     def each_tool(self):
         """Each tool with a new tree, and what downloads come with: lines of the image, and of a file that isn't
         there."""

@@ -93,8 +93,6 @@ class SmallMemory(Case):
 
 
 class SmallStack(Case):
-    """A limit on the stack, with no environment."""
-
     def test_64_kib(self):
         for tool, (_, _, of_abc) in harness.TOOLS.items():
             self.write("l", self.run_words([tool, "--tag", "a"]).out)

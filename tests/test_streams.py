@@ -94,8 +94,6 @@ class BrokenInput(Case):
 
 
 class Outputs(Case):
-    """Outputs that fail, end or are slow."""
-
     def test_standard_output_full(self):
         with self.full() as full:
             for words in ("md5sum a", "md5sum --help", "md5sum --version", "md5sum -z a e"):
@@ -218,8 +216,6 @@ class EachByteTheLast(Case):
 
 
 class Many(Case):
-    """Very many operands, and long ones."""
-
     def test_fifty_thousand_operands(self):
         self.expect(["md5sum", *["a"] * 50000], out=[f"{M}  a"] * 50000)
 

@@ -73,8 +73,6 @@ class Packets(Case):
 
 
 class OneWriteALine(Packets):
-    """Generating, and what is said of the words."""
-
     def test_every_style(self):
         """Every line comes whole in each style, with a newline at its end or, under -z, with a NUL."""
         self.write(SPECIAL, "abc")
@@ -157,8 +155,6 @@ class OneWriteALine(Packets):
 
 
 class OneWriteAReport(Packets):
-    """Checking."""
-
     def test_all_verdicts(self):
         """Every report and every warning comes whole, under each setting."""
         self.write("l", VERDICTS)

@@ -49,8 +49,6 @@ class ToolNames(Case):
 
 
 class Texts(Case):
-    """Help and version."""
-
     def test_help(self):
         for tool in [*TOOLS, "anysum"]:
             self.expect([tool, "--help"], out=help_text(tool))

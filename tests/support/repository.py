@@ -21,8 +21,6 @@ with open(os.path.join(TOP, "tests", "support", "rt.sh"), encoding="utf-8") as s
 
 
 class Repository(Case):
-    """The copy, with two crates."""
-
     of_the_repository = True
 
     def setUp(self):
