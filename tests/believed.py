@@ -12,12 +12,12 @@ function's parameters, and the models through which it sees their types. So thei
 A definition is counted with the comment above it, without blank lines and those that say how an operator binds. What
 the toolchain's own libraries define, and the types and constants that the code declares, are not counted."""
 
+import collections
 import functools
 import os
 import re
 import signal
 import sys
-from typing import NamedTuple
 
 sys.dont_write_bytecode = True
 
@@ -30,26 +30,11 @@ CLAIMS = [("digests", "run", "The headline"), ("digests", "command", "The progra
 MARKS = "<!-- made by tests/believed.py: what stands below -->\n", "\n<!-- and above this line -->"
 
 
-class Claim(NamedTuple):
-    """A function whose contract is believed, with what the page calls it: the function itself and what gives its words
-    a meaning, the definitions that it reaches, and those of them that no claim before it reaches, by their files."""
+# A function whose contract is believed, with what the page calls it: the function itself and what gives its words a
+# meaning, the definitions that it reaches, and those of them that no claim before it reaches, by their files.
+Claim = collections.namedtuple("Claim", "function crate title behind reached files")
 
-    function: str
-    crate: str
-    title: str
-    behind: list
-    reached: set
-    files: dict
-
-
-@functools.lru_cache(maxsize=None)
-def code():
-    return Code()
-
-
-@functools.lru_cache(maxsize=None)
-def every_definition():
-    return Specs()
+code, every_definition = functools.lru_cache(Code), functools.lru_cache(Specs)  # each is read once
 
 
 def declared(those):
@@ -63,11 +48,10 @@ def declared(those):
 
 def cited(item):
     """The definitions that the clauses of an item name."""
-    specs = every_definition()
+    specs, uses = every_definition(), item.uses
 
     def find(name):
-        module, there = item.uses.get(name, (None, None))
-        return specs.find(module, there) if there else None
+        return specs.find(*uses.get(name, (None, None)))
     return {found for clause in item.clauses for found in specs.named(clause, find, item.uses)}
 
 
@@ -79,10 +63,9 @@ def in_files(definitions):
     def place(file):
         return listed.index(file[0]), file[1]
 
-    for module in specs.modules.values():
-        for definition in module.definitions.values():
-            if definition in definitions:
-                files.setdefault(definition.file, []).append(definition)
+    for definition in (it for module in specs.modules.values() for it in module.definitions.values()):
+        if definition in definitions:
+            files.setdefault(definition.file, []).append(definition)
 
     def put(file, above):
         if file in above:
@@ -137,12 +120,9 @@ def text():
         yield ""
 
 
-def lines_of(definitions):
-    return sum(it.size for it in definitions)
-
-
 def counted(definitions):
-    return f"{len(definitions)} definition{'s' * (len(definitions) != 1)}, {lines_of(definitions):,} lines"
+    size = sum(it.size for it in definitions)
+    return f"{len(definitions)} definition{'s' * (len(definitions) != 1)}, {size:,} lines"
 
 
 def renamed(those, several):
@@ -181,7 +161,8 @@ def tables(page):
                   "| definitions | what they say | lines |", "|---|---|---|"]
         says = rows_of(page.partition(f"**{claim.title}**")[2].partition("\n**")[0])
         for (crate, file), them in claim.files.items():
-            lines += [f"| `{crate}/specs/{file}.antt` | {says.get((crate, file), '?')} | {lines_of(them)} |"]
+            size = sum(it.size for it in them)
+            lines += [f"| `{crate}/specs/{file}.antt` | {says.get((crate, file), '?')} | {size} |"]
         lines += [""]
     return "\n".join(lines[:-1])
 

@@ -25,17 +25,12 @@ class FirstLines(Case):
 
     def test_a_line_before_the_next_file_is_there(self):
         """`md5sum a fifo | while read line` shows the first line at once."""
-        started = self.start("md5sum a p e", stdout=subprocess.PIPE)
-        self.shown(started.stdout.fileno(), [f"{M}  a"])
-        self.assertIsNone(started.poll())
-        self.finish(started, 0)
-        self.shown(started.stdout.fileno(), [f"{M}  p", f"{E}  e"])
-
-    def test_a_line_with_a_nul_at_its_end(self):
-        started = self.start("md5sum -z a p", stdout=subprocess.PIPE)
-        self.shown(started.stdout.fileno(), f"{M}  a\0")
-        self.finish(started, 0)
-        self.shown(started.stdout.fileno(), f"{M}  p\0")
+        for words, end in (("md5sum a p e", "\n"), ("md5sum -z a p e", "\0")):
+            started = self.start(words, stdout=subprocess.PIPE)
+            self.shown(started.stdout.fileno(), f"{M}  a{end}")
+            self.assertIsNone(started.poll())
+            self.finish(started, 0)
+            self.shown(started.stdout.fileno(), f"{M}  p{end}{E}  e{end}")
 
     def test_a_line_stands_in_a_file_at_once(self):
         with open(self.path("out"), "wb") as out:

@@ -45,8 +45,6 @@ class ClosedInput(Closing):
         self.assertEqual(self.closed("md5sum a - e", 0), Ran(1, as_bytes([f"{M}  a", f"{E}  e"]), as_bytes([FAULT])))
         ran = self.closed("md5sum - a -", 0)
         self.assertEqual(ran, Ran(1, as_bytes([f"{M}  a", f"{E}  -"]), as_bytes([FAULT])))
-
-    def test_not_asked_for(self):
         self.assertEqual(self.closed("md5sum a e", 0), Ran(0, as_bytes([f"{M}  a", f"{E}  e"]), b""))
 
     def test_words_need_no_input(self):

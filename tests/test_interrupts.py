@@ -27,15 +27,11 @@ class Interrupted(Traced):
     def test_every_write_to_standard_output(self):
         """It is a write error, which standard error still tells."""
         out = self.path("out")
-        for words in ("md5sum a e", "md5sum -z a", "md5sum --help", "md5sum --version"):
+        self.write("l", [f"{M}  a"])
+        for words in ("md5sum a e", "md5sum -z a", "md5sum --help", "md5sum --version", "md5sum -c l"):
             ran, calls = self.failing("write,writev", "EINTR", words, only=out, timeout=ENDLESS)
             self.assertEqual(ran, Ran(1, b"", WRITE_ERROR))
             self.assertEqual(len(calls), 1000)
-
-    def test_every_write_of_a_report(self):
-        self.write("l", [f"{M}  a"])
-        ran, _ = self.failing("write,writev", "EINTR", "md5sum -c l", only=self.path("out"), timeout=ENDLESS)
-        self.assertEqual(ran, Ran(1, b"", WRITE_ERROR))
 
     def test_every_write_to_standard_error(self):
         """The run stops with status 1, and the lines before stand."""
@@ -63,15 +59,12 @@ class Interrupted(Traced):
             ran, _ = self.failing("read", "EINTR", "md5sum", only=a, stdin=file, timeout=ENDLESS)
         self.assertEqual(ran, Ran(1, b"", fault % b"-"))
 
-    def test_some_reads(self):
+    def test_some_reads_and_opens(self):
+        """Fewer interruptions than a thousand in a row change nothing. The library tries an opening 2^64 - 1 times, so
+        no limit is looked for."""
         a = os.fsdecode(self.path("a"))
         ran, _ = self.failing("read", "EINTR", ["sha256sum", a], only=a, when=FEW, timeout=ENDLESS)
         self.assertEqual(ran, Ran(0, as_bytes([f"{S}  {a}"]), b""))
-
-    def test_some_opens(self):
-        """An opening that is interrupted is tried again, too. The library does so 2^64 - 1 times, so no limit is
-        looked for."""
-        a = os.fsdecode(self.path("a"))
         ran, calls = self.failing("openat", "EINTR", ["md5sum", a], only=a, when=FEW, timeout=ENDLESS)
         self.assertEqual(ran, Ran(0, as_bytes([f"{M}  {a}"]), b""))
         self.assertEqual(len(calls), 1000)
@@ -118,11 +111,9 @@ class Calls(Traced):
 class Counts(Case):
     """How often the system is called to write, as it counts itself."""
 
-    def test_lines(self):
+    def test_lines_and_reports(self):
         self.assertEqual(self.writes_of(["md5sum", *["a", "x"] * 500]), (1, 1000))
         self.assertEqual(self.writes_of(["md5sum", "-z", *["a"] * 500]), (0, 500))
-
-    def test_reports(self):
         self.write("l", [f"{M}  a"] * 5000)
         self.assertEqual(self.writes_of("md5sum -c l"), (0, 5000))
         self.assertEqual(self.writes_of("md5sum -c --quiet l"), (0, 0))

@@ -24,15 +24,12 @@ class StandardInput(Case):
         out, _ = started.communicate(timeout=harness.RUN_SECONDS)
         self.assertEqual(out, f"{harness.S}  -\n".encode())
 
-    def test_a_file(self):
-        with open(self.path("a"), "rb") as file:
-            self.expect("md5sum", stdin=file, out=[f"{M}  -"])
-
-    def test_a_file_is_read_from_where_it_stands(self):
+    def test_a_file_is_read_from_its_position(self):
         self.write("f", "xxabc")
-        with open(self.path("f"), "rb", buffering=0) as file:
-            file.seek(2)
-            self.expect("md5sum", stdin=file, out=[f"{M}  -"])
+        for name, position in (("a", 0), ("f", 2)):
+            with open(self.path(name), "rb", buffering=0) as file:
+                file.seek(position)
+                self.expect("md5sum", stdin=file, out=[f"{M}  -"])
 
     def test_a_directory(self):
         folder = os.open(self.folder, os.O_RDONLY)
@@ -98,14 +95,8 @@ class Outputs(Case):
         with self.full() as full:
             for words in ("md5sum a", "md5sum --help", "md5sum --version", "md5sum -z a e"):
                 self.expect(words, err=WRITE_ERROR, status=1, stdout=full)
-
-    def test_standard_output_full_names_each_tool(self):
-        with self.full() as full:
             for tool in TOOLS:
                 self.expect([tool, "a"], err=[f"{tool}: write error"], status=1, stdout=full)
-
-    def test_nothing_to_write_needs_no_output(self):
-        with self.full() as full:
             self.expect("md5sum x", err=[X_MISSING], status=1, stdout=full)
 
     def test_standard_error_full(self):
@@ -114,9 +105,6 @@ class Outputs(Case):
             for words in ("md5sum --foo", "shasum", ["md5sum", b"-\xff"]):
                 self.expect(words, status=1, stderr=full)
             self.expect("md5sum a", out=[f"{M}  a"], stderr=full)
-
-    def test_both_outputs_full(self):
-        with self.full() as full:
             self.expect("md5sum a x", status=1, stdout=full, stderr=full)
 
     def test_a_reader_that_goes_away(self):
@@ -147,24 +135,15 @@ class Outputs(Case):
         self.shown(shows, [f"{M}  p", f"{E}  e"])
         self.assertEqual(started.wait(timeout=harness.RUN_SECONDS), 0)
 
-    def test_a_terminal_as_standard_error(self):
+    def test_a_terminal_and_a_pipe_as_standard_error(self):
         os.mkfifo(self.path("p"))
-        shows, writes = self.terminal()
-        started = self.start("md5sum x p", stdout=subprocess.DEVNULL, stderr=writes)
-        os.close(writes)
-        self.shown(shows, [X_MISSING])
-        with open(self.path("p"), "wb"):
-            pass
-        self.assertEqual(started.wait(timeout=harness.RUN_SECONDS), 1)
-
-    def test_a_pipe_as_standard_error_has_faults_at_once(self):
-        os.mkfifo(self.path("p"))
-        started = self.start("md5sum x p", stdout=subprocess.DEVNULL, stderr=subprocess.PIPE)
-        self.shown(started.stderr.fileno(), [X_MISSING])
-        with open(self.path("p"), "wb"):
-            pass
-        self.assertEqual(started.wait(timeout=harness.RUN_SECONDS), 1)
-
+        for shows, writes in (self.terminal(), os.pipe()):
+            started = self.start("md5sum x p", stdout=subprocess.DEVNULL, stderr=writes)
+            os.close(writes)
+            self.shown(shows, [X_MISSING])
+            with open(self.path("p"), "wb"):
+                pass
+            self.assertEqual(started.wait(timeout=harness.RUN_SECONDS), 1)
 
 class EachByteTheLast(Case):
     """An output that takes so many bytes and no more: a file of limited size."""
@@ -216,17 +195,15 @@ class EachByteTheLast(Case):
 
 
 class Many(Case):
-    def test_fifty_thousand_operands(self):
+    def test_fifty_thousand_operands_and_options(self):
         self.expect(["md5sum", *["a"] * 50000], out=[f"{M}  a"] * 50000)
+        self.expect(["md5sum", *["-b"] * 50000, "a"], out=[f"{M} *a"])
 
     def test_as_many_operands_as_the_system_passes_on(self):
         """Linux passes on a quarter of the stack's limit, a word's bytes, its end and a pointer each."""
         count = (os.sysconf("SC_ARG_MAX") - (1 << 16)) // 10
         count = min(count, 200000) - sum(len(name) + len(value) + 10 for name, value in os.environ.items()) // 10
         self.expect(["md5sum", *["a"] * count], out=[f"{M}  a"] * count)
-
-    def test_fifty_thousand_options(self):
-        self.expect(["md5sum", *["-b"] * 50000, "a"], out=[f"{M} *a"])
 
     def test_a_long_name(self):
         name = "./" * 2000 + "a"

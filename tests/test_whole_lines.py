@@ -75,6 +75,8 @@ class Packets(Case):
 class OneWriteALine(Packets):
     def test_every_style(self):
         """Every line comes whole in each style, with a newline at its end or, under -z, with a NUL."""
+        with open(self.path("a"), "rb") as file:
+            self.expect_packets("sha256sum", out=[f"{S}  -\n"], stdin=file)
         self.write(SPECIAL, "abc")
         for tool, (tag, of_nothing, of_abc) in TOOLS.items():
             forms = {
@@ -89,10 +91,6 @@ class OneWriteALine(Packets):
                 self.expect_packets([tool, style, "a", "e", SPECIAL], out=lines)
             self.expect_packets([tool, "-z", "--tag", "a", SPECIAL], out=[
                 f"{tag} (a) = {of_abc}\0", f"{tag} ({SPECIAL}) = {of_abc}\0"])
-
-    def test_standard_input(self):
-        with open(self.path("a"), "rb") as file:
-            self.expect_packets("sha256sum", out=[f"{S}  -\n"], stdin=file)
 
     def test_diagnostics(self):
         """Every line about a file that can't be read comes whole on standard error."""

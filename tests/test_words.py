@@ -49,13 +49,12 @@ class ToolNames(Case):
 
 
 class Texts(Case):
-    def test_help(self):
+    def test_each(self):
         for tool in [*TOOLS, "anysum"]:
-            self.expect([tool, "--help"], out=help_text(tool))
-
-    def test_version(self):
-        for tool in [*TOOLS, "anysum"]:
-            self.expect([tool, "--version"], out=[f"{tool} (digests), profile 2"])
+            for cut in ("--h", "--help"):
+                self.expect([tool, cut], out=help_text(tool))
+            for cut in ("--v", "--version"):
+                self.expect([tool, cut], out=[f"{tool} (digests), profile 2"])
 
     def test_the_first_of_fault_help_and_version_decides(self):
         self.expect("md5sum --help --version", out=help_text("md5sum"))
@@ -63,11 +62,6 @@ class Texts(Case):
         self.expect("md5sum a -zc --tag -t --help x", out=help_text("md5sum"))
         self.expect("b2sum -l 12 --version", out=["b2sum (digests), profile 2"])
         self.expect_fault("b2sum -l --help x -l", "option requires an argument -- 'l'")
-
-    def test_a_name_may_be_cut_short(self):
-        self.expect("md5sum --h", out=help_text("md5sum"))
-        self.expect("md5sum --v", out=["md5sum (digests), profile 2"])
-
 
 class LongOptions(Case):
     """Faults 1 to 4, and names that are cut short."""
@@ -162,14 +156,11 @@ class Lengths(Case):
             self.expect_fault(["b2sum", "-l", value, "e"], f"length is not a multiple of 8: '{value}'")
 
     def test_the_last_counts(self):
+        self.expect(["b2sum", "-l", "0" * 60 + "256", "e"], out=[f"{B}  e"])
+        self.expect(["b2sum", "-l", "0" * 60, "e"], out=[f"{TOOLS['b2sum'][1]}  e"])
         self.expect("b2sum -l 12 -l 256 e", out=[f"{B}  e"])
         self.expect("b2sum -l x --length=256 e", out=[f"{B}  e"])
         self.expect_fault("b2sum -l 256 -l 12 e", "length is not a multiple of 8: '12'")
-
-    def test_leading_zeros(self):
-        self.expect(["b2sum", "-l", "0" * 60 + "256", "e"], out=[f"{B}  e"])
-        self.expect(["b2sum", "-l", "0" * 60, "e"], out=[f"{TOOLS['b2sum'][1]}  e"])
-
 
 class Combinations(Case):
     """Faults 8 to 17, and the order in which the faults from 6 on are tried."""
@@ -177,6 +168,9 @@ class Combinations(Case):
     def test_the_order_with_check(self):
         """Each line has all faults that come behind its own, as far as they can stand together."""
         for words, text in (
+                ("-c --tag -z l", "the --zero option is not supported when verifying checksums"),
+                ("-t -c l", f"the --binary and --text options are {WITH_CHECK}"),
+                ("-c -l 12 -z l", "length is not a multiple of 8: '12'"),
                 ("-c -z -t --tag --text -l x l", "invalid length: 'x'"),
                 ("-c -z -t --tag --text -l 12 l", "length is not a multiple of 8: '12'"),
                 ("-c -z -t --tag --text l", "--tag does not support --text mode"),
@@ -195,25 +189,17 @@ class Combinations(Case):
                 ("anysum --strict --warn", f"the --warn option is {WITHOUT_CHECK}"),
                 ("anysum --strict --quiet", f"the --quiet option is {WITHOUT_CHECK}"),
                 ("anysum --strict", f"the --strict option is {WITHOUT_CHECK}"),
-                ("anysum", "--check is required"), ("anysum --tag m", "--check is required")):
+                ("anysum", "--check is required"), ("anysum --tag m", "--check is required"),
+                ("md5sum --strict --ignore-missing a", f"the --ignore-missing option is {WITHOUT_CHECK}"),
+                ("md5sum --quiet -w --status a", f"the --status option is {WITHOUT_CHECK}"),
+                ("md5sum --status -w a", f"the --warn option is {WITHOUT_CHECK}"),
+                ("md5sum --status --quiet a", f"the --quiet option is {WITHOUT_CHECK}"),
+                ("sha256sum --str l", f"the --strict option is {WITHOUT_CHECK}")):
             self.expect_fault(words, text)
 
     def test_tag_and_text(self):
         self.expect_fault("md5sum --tag -b -t a", "--tag does not support --text mode")
         self.expect("md5sum --tag -t -b a", out=[f"MD5 (a) = {M}"])
-
-    def test_with_check(self):
-        self.expect_fault("md5sum -c --tag -z l", "the --zero option is not supported when verifying checksums")
-        self.expect_fault("md5sum -c --tag l", f"the --tag option is {WITH_CHECK}")
-        self.expect_fault("md5sum -t -c l", f"the --binary and --text options are {WITH_CHECK}")
-        self.expect_fault("b2sum -c -l 12 -z l", "length is not a multiple of 8: '12'")
-
-    def test_without_check(self):
-        self.expect_fault("md5sum --strict --ignore-missing a", f"the --ignore-missing option is {WITHOUT_CHECK}")
-        self.expect_fault("md5sum --quiet -w --status a", f"the --status option is {WITHOUT_CHECK}")
-        self.expect_fault("md5sum --status -w a", f"the --warn option is {WITHOUT_CHECK}")
-        self.expect_fault("md5sum --status --quiet a", f"the --quiet option is {WITHOUT_CHECK}")
-        self.expect_fault("sha256sum --str l", f"the --strict option is {WITHOUT_CHECK}")
 
     def test_check_takes_a_length_and_does_nothing_with_it(self):
         self.write("l", [f"{B}  e"])
