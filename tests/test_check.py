@@ -85,22 +85,18 @@ class Verdicts(Case):
 
 
 class Manifests(Case):
-    def test_a_manifest_that_is_missing(self):
+    def test_manifests_that_cannot_be_read(self):
         self.expect("md5sum -c --status x", err=[X_MISSING], status=1)
         self.expect("md5sum -c --ignore-missing x", err=[X_MISSING], status=1)
         self.expect(["md5sum", "-c", SPECIAL], err=["md5sum: q\\\\\\nz: No such file or directory"], status=1)
-
-    def test_a_manifest_that_is_a_directory(self):
         os.mkdir(self.path("d"))
         self.expect("md5sum -c d", err=["md5sum: d: Input/output error"], status=1)
         self.expect("md5sum -c --status d", err=["md5sum: d: Input/output error"], status=1)
 
-    def test_counts_of_their_own(self):
+    def test_counts_and_forms_of_their_own(self):
         self.write("l9", ["junk", f"{M}  a"])
         self.expect("md5sum -cw l9 l9", out=["a: OK"] * 2,
                     err=["md5sum: l9: 1: improperly formatted MD5 checksum line", bad(1)] * 2)
-
-    def test_a_form_of_their_own(self):
         self.write("standard", [f"{M}  a"])
         self.write("reversed", [f"{M} a"])
         self.expect("md5sum -c standard reversed standard", out=["a: OK"] * 3)
@@ -111,11 +107,9 @@ class Manifests(Case):
         script = 'ulimit -n 16; exec "$0" md5sum -c --quiet --strict "$@"'
         self.assertEqual(self.run_command(["sh", "-c", script, harness.PROGRAM, *["l"] * 50]), Ran(0, b"", b""))
 
-    def test_standard_input_listed(self):
+    def test_standard_input(self):
         self.write("l5", [f"{M}  -"])
         self.expect("md5sum -c l5 l5", stdin="abc", out=["-: OK", "-: FAILED"], err=[wrong(1)], status=1)
-
-    def test_standard_input_twice(self):
         self.expect("md5sum -c - -", stdin=[f"{M}  a"], out=["a: OK"],
                     err=[f"md5sum: standard input: {NONE_FOUND}"], status=1)
         self.expect("md5sum -cw - a", stdin=["junk", f"{M}  a"], out=["a: OK"], status=1,
@@ -128,11 +122,9 @@ class Manifests(Case):
         self.expect(["md5sum", "-cw", SPECIAL], status=1,
                     err=[f"{shown} 1: improperly formatted MD5 checksum line", f"{shown} {NONE_FOUND}"])
 
-    def test_a_manifest_that_lists_itself(self):
+    def test_itself_and_every_tag(self):
         self.write("l", [f"{E}  l", f"{M}  a"])
         self.expect("md5sum -c l", out=["l: FAILED", "a: OK"], err=[wrong(1)], status=1)
-
-    def test_every_tag_under_anysum(self):
         self.write("m", [f"{tag} (a) = {of_abc}" for tag, _, of_abc in TOOLS.values()])
         self.expect("anysum -c m", out=["a: OK"] * len(TOOLS))
 
@@ -180,11 +172,9 @@ class Lines(Case):
         written = self.run_words(["md5sum", "-z", "a\nb"]).out
         self.expect("md5sum -c", stdin=written, out=["a: OK"], err=[bad(1)])
 
-    def test_another_tools_lines(self):
+    def test_another_tools_lines_and_no_last_newline(self):
         manifest = [f"SHA512 (a) = {S}", f"SHA256 (a) = {S}"]
         self.expect("sha256sum -c", stdin=manifest, out=["a: OK"], err=[bad(1, "sha256sum")])
-
-    def test_no_last_newline(self):
         self.expect("md5sum -c", stdin=f"{M}  a\r", out=["a: OK"])
         self.expect("md5sum -c --strict", stdin=f"{M}  a\n\r", out=["a: OK"])
 

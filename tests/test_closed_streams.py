@@ -73,6 +73,11 @@ class ClosedInput(Closing):
         out = ["a: OK", "-: FAILED open or read", "e: OK", "a: OK"]
         self.assertEqual(self.closed("md5sum -c l l2", 0), Ran(1, as_bytes(out), as_bytes([FAULT, ONE_UNREAD])))
         self.assertEqual(self.closed("md5sum -c l2", 0), Ran(0, b"a: OK\n", b""))
+        nothing = TOOLS["sha256sum"][1]
+        self.write("l", [f"SHA256 (-) = {nothing}", f"SHA256 (a) = {S}", f"MD5 (a) = {M}"])
+        ran = self.closed("anysum -c l", 0)
+        err = ["anysum: -: Input/output error", "anysum: WARNING: 1 listed file could not be read"]
+        self.assertEqual(ran, Ran(1, as_bytes(["-: FAILED open or read", "a: OK", "a: OK"]), as_bytes(err)))
 
     def test_listed_under_ignore_missing_and_status(self):
         """It isn't missing, so --ignore-missing doesn't pass it over."""
@@ -81,13 +86,6 @@ class ClosedInput(Closing):
         err = as_bytes([FAULT, ONE_UNREAD])
         self.assertEqual(ran, Ran(1, b"a: OK\n-: FAILED open or read\n", err))
         self.assertEqual(self.closed("md5sum -c --status l", 0), Ran(1, b"", as_bytes([FAULT])))
-
-    def test_listed_under_anysum(self):
-        nothing = TOOLS["sha256sum"][1]
-        self.write("l", [f"SHA256 (-) = {nothing}", f"SHA256 (a) = {S}", f"MD5 (a) = {M}"])
-        ran = self.closed("anysum -c l", 0)
-        err = ["anysum: -: Input/output error", "anysum: WARNING: 1 listed file could not be read"]
-        self.assertEqual(ran, Ran(1, as_bytes(["-: FAILED open or read", "a: OK", "a: OK"]), as_bytes(err)))
 
 
 class NoRootFolder(Traced):

@@ -56,32 +56,29 @@ class Digests(Case):
 class Styles(Case):
     """Text, binary and tagged lines, with a newline or a NUL at the end."""
 
-    def test_text_and_binary(self):
+    def test_each_style(self):
         self.expect("md5sum -t a", out=[f"{M}  a"])
         self.expect("md5sum -b -t a", out=[f"{M}  a"])
         self.expect("md5sum -b", stdin="abc", out=[f"{M} *-"])
-
-    def test_tagged(self):
         for tool, (tag, of_nothing, of_abc) in TOOLS.items():
             self.expect([tool, "--tag", "a", "e"], out=[f"{tag} (a) = {of_abc}", f"{tag} (e) = {of_nothing}"])
-
-    def test_zero(self):
         self.expect("md5sum -z a e", out=f"{M}  a\0{E}  e\0")
         self.expect("md5sum -bz a", out=f"{M} *a\0")
         self.expect("md5sum --tag -z a", out=f"MD5 (a) = {M}\0")
 
-    def test_special_name(self):
+    def test_special_names(self):
         self.write(SPECIAL, "abc")
         self.expect(["md5sum", SPECIAL], out=[f"\\{M}  {SPECIAL_SHOWN}"])
         self.expect(["md5sum", "-b", SPECIAL], out=[f"\\{M} *{SPECIAL_SHOWN}"])
         self.expect(["md5sum", "--tag", SPECIAL], out=[f"\\MD5 ({SPECIAL_SHOWN}) = {M}"])
         self.expect(["md5sum", "-z", SPECIAL], out=f"{M}  {SPECIAL}\0")
         self.expect(["md5sum", "-z", "--tag", SPECIAL], out=f"MD5 ({SPECIAL}) = {M}\0")
-
-    def test_carriage_return_in_a_name(self):
         self.write("a\rb", "abc")
         self.expect(["md5sum", "a\rb"], out=[f"\\{M}  a\\rb"])
         self.expect(["md5sum", "-z", "a\rb"], out=f"{M}  a\rb\0")
+        for name, shown in (("\\", "\\\\"), ("\\\\", "\\\\\\\\"), ("\n", "\\n"), ("\r", "\\r"), ("\\n", "\\\\n")):
+            self.write(name, "abc")
+            self.expect(["md5sum", name], out=[f"\\{M}  {shown}"])
 
     def test_other_names_stand_as_they_are(self):
         for name in (" ", " a", "a ", "*a", "a)", "(", "#", "tab\there", "\x01\x7f", "été", "日本", "'\"$`", "= x"):
@@ -89,34 +86,23 @@ class Styles(Case):
             self.expect(["md5sum", name], out=[f"{M}  {name}"])
             self.expect(["md5sum", "--tag", name], out=[f"MD5 ({name}) = {M}"])
 
-    def test_each_special_byte_alone(self):
-        for name, shown in (("\\", "\\\\"), ("\\\\", "\\\\\\\\"), ("\n", "\\n"), ("\r", "\\r"), ("\\n", "\\\\n")):
-            self.write(name, "abc")
-            self.expect(["md5sum", name], out=[f"\\{M}  {shown}"])
-
 
 class Operands(Case):
     """Which names are read, in which order, and what a name that can't be read gives."""
 
-    def test_missing_file(self):
+    def test_missing_and_empty_names(self):
         missing = "md5sum: x: No such file or directory"
         self.expect("md5sum a x e", out=[f"{M}  a", f"{E}  e"], err=[missing], status=1)
         self.expect("md5sum x x", err=[missing, missing], status=1)
+        self.expect(["md5sum", ""], err=["md5sum: : No such file or directory"], status=1)
+        self.expect(["md5sum", "", "a"], out=[f"{M}  a"], err=["md5sum: : No such file or directory"], status=1)
 
-    def test_standard_input_is_given_once(self):
+    def test_dashes_and_files_that_come_twice(self):
         self.expect("md5sum a - e -", stdin="abc", out=[f"{M}  a", f"{M}  -", f"{E}  e", f"{E}  -"])
-
-    def test_a_file_named_dash(self):
         self.write("-", "")
         self.expect("md5sum -", stdin="abc", out=[f"{M}  -"])
         self.expect("md5sum ./-", stdin="abc", out=[f"{E}  ./-"])
-
-    def test_a_file_may_come_twice(self):
         self.expect("md5sum a a a", out=[f"{M}  a"] * 3)
-
-    def test_empty_name(self):
-        self.expect(["md5sum", ""], err=["md5sum: : No such file or directory"], status=1)
-        self.expect(["md5sum", "", "a"], out=[f"{M}  a"], err=["md5sum: : No such file or directory"], status=1)
 
     def test_names_behind_two_dashes(self):
         for name in ("-b", "--tag", "--", "-c", "--help"):
@@ -124,13 +110,11 @@ class Operands(Case):
             self.expect(["sha256sum", "--", name], out=[f"{S}  {name}"])
         self.expect(["sha256sum", "--", "a", "--"], out=[f"{S}  a", f"{S}  --"])
 
-    def test_directory(self):
+    def test_other_failures(self):
         os.mkdir(self.path("d"))
         err = ["md5sum: d: Input/output error"]
         self.expect("md5sum d", err=err, status=1)
         self.expect("md5sum a d e", out=[f"{M}  a", f"{E}  e"], err=err, status=1)
-
-    def test_other_failures_are_input_output_errors(self):
         os.symlink("loop", self.path("loop"))
         for name in ("a/", "a/x", "a/.", "loop", "n" * 300, "d/" * 3000):
             self.expect(["md5sum", name], err=[f"md5sum: {name}: Input/output error"], status=1)

@@ -49,8 +49,6 @@ class SameLines(Beside):
                 ours, theirs = self.both(tool, *style, "--", *self.names, *BACKSLASH_NAMES)
                 self.assertEqual(theirs.status, 0)
                 self.assertEqual(ours, theirs)
-
-    def test_standard_input(self):
         for tool in TOOLS:
             for style in STYLES:
                 ours, theirs = self.both(tool, *style, stdin=b"some bytes\r\n\0")
@@ -75,7 +73,6 @@ class SameLines(Beside):
         for tool in TOOLS:
             ours, theirs = self.both(tool, *names)
             self.assertEqual(ours, theirs)
-
 
     def test_more_than_2_to_the_32_bits(self):
         """A sparse file of 512 MiB and 5 bytes, whose number of bits passes 2^32: all tools side by side, and then,

@@ -26,16 +26,12 @@ class OddNames(Case):
                            (["a", NAME], [f"{M}  a"]), ([NAME], b""), (["-b", "--", NAME, "a"], [f"{M} *a"])):
             self.expect(["md5sum", *words], out=out, err=unread(NAME), status=1)
 
-    def test_by_a_link(self):
+    def test_each_kind(self):
         os.symlink(harness.PROGRAM, self.path("sha256sum"))
         ran = self.run_command(["./sha256sum", "a", NAME])
         self.assertEqual(ran, Ran(1, f"{harness.S}  a\n".encode(), unread(NAME, b"sha256sum")))
-
-    def test_escaped(self):
         name = b"\xff\\\n\r"
         self.expect(["md5sum", name, "a"], out=[f"{M}  a"], err=unread(b"\xff\\\\\\n\\r"), status=1)
-
-    def test_what_is_no_character(self):
         for name in (b"\xff", b"b\xc3", b"\x80", b"\xed\xa0\x80", b"\xc0\xaf", b"d/\xff"):
             self.expect(["md5sum", name, "a"], out=[f"{M}  a"], err=unread(name), status=1)
 
@@ -73,22 +69,16 @@ class OddNames(Case):
 
 
 class OddWords(Case):
-    def test_what_begins_with_a_dash(self):
+    def test_each(self):
         for words in (["md5sum", b"-\xff"], ["md5sum", "a", b"--\xc3"], ["md5sum", "--help", b"-\x80"],
                       ["md5sum", "--", b"-\xff"], ["b2sum", "-l", b"-\xff", "e"], ["b2sum", b"--length=\xff", "e"],
                       ["shasum", b"-\xff"], [b"-\xff"]):
             self.expect(words, err=NOT_READ, status=1)
-
-    def test_the_tools_name(self):
         for words in ([b"\xff"], [b"md5sum\x80", "a"], ["shasum", b"\xff"]):
             self.expect(words, err=["digests: unknown tool"], status=1)
-
-    def test_a_length(self):
         for words in (["-l", b"\xff8"], ["--length", b"\xff8"], ["-b", "-l", b"\xff8", "e"]):
             self.expect(["b2sum", *words], status=1, err=b"b2sum: invalid length: '\xff8'\n"
                                                          b"Try 'b2sum --help' for more information.\n")
-
-    def test_the_name_of_the_call(self):
         os.symlink(harness.PROGRAM, self.path(b"\xff"))
         ran = self.run_command([b"./\xff", "md5sum", "a"])
         self.assertEqual(ran, Ran(0, f"{M}  a\n".encode(), b""))

@@ -31,13 +31,11 @@ class StandardInput(Case):
                 file.seek(position)
                 self.expect("md5sum", stdin=file, out=[f"{M}  -"])
 
-    def test_a_directory(self):
+    def test_what_cannot_be_read(self):
         folder = os.open(self.folder, os.O_RDONLY)
         self.addCleanup(os.close, folder)
         self.expect("md5sum", stdin=folder, err=["md5sum: -: Input/output error"], status=1)
         self.expect("md5sum - a", stdin=folder, out=[f"{M}  a"], err=["md5sum: -: Input/output error"], status=1)
-
-    def test_only_writable(self):
         with open(self.path("w"), "wb") as file:
             self.expect("md5sum", stdin=file, err=["md5sum: -: Input/output error"], status=1)
 
@@ -144,6 +142,7 @@ class Outputs(Case):
             with open(self.path("p"), "wb"):
                 pass
             self.assertEqual(started.wait(timeout=harness.RUN_SECONDS), 1)
+
 
 class EachByteTheLast(Case):
     """An output that takes so many bytes and no more: a file of limited size."""

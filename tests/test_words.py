@@ -24,7 +24,7 @@ class ToolNames(Case):
                 ran = self.run_command([called, "a", "e"])
                 self.assertEqual(ran, (0, f"{of_abc}  a\n{of_nothing}  e\n".encode(), b""))
 
-    def test_called_by_a_link_faults_name_the_tool(self):
+    def test_other_links(self):
         os.symlink(harness.PROGRAM, self.path("b2sum"))
         os.symlink(harness.PROGRAM, self.path("anysum"))
         ran = self.run_command(["./b2sum", "x"])
@@ -33,6 +33,9 @@ class ToolNames(Case):
         self.assertEqual(ran, (1, b"", b"b2sum: md5sum: No such file or directory\n"))
         ran = self.run_command(["./anysum", "--version"])
         self.assertEqual(ran, (0, b"anysum (digests), profile 2\n", b""))
+        os.symlink(harness.PROGRAM, self.path("other"))
+        self.assertEqual(self.run_command(["./other", "md5sum", "a"]), (0, f"{M}  a\n".encode(), b""))
+        self.assertEqual(self.run_command(["./other", "a"]), (1, b"", b"digests: unknown tool\n"))
 
     def test_called_by_a_link_from_the_search_path(self):
         folder = os.fsdecode(self.path("bin folder"))
@@ -41,11 +44,6 @@ class ToolNames(Case):
         path = folder + os.pathsep + os.environ["PATH"]
         ran = self.run_command(["sh", "-c", 'sha256sum "$1"', "sh", "a"], env={**os.environ, "PATH": path})
         self.assertEqual(ran, (0, f"{S}  a\n".encode(), b""))
-
-    def test_called_by_another_link(self):
-        os.symlink(harness.PROGRAM, self.path("other"))
-        self.assertEqual(self.run_command(["./other", "md5sum", "a"]), (0, f"{M}  a\n".encode(), b""))
-        self.assertEqual(self.run_command(["./other", "a"]), (1, b"", b"digests: unknown tool\n"))
 
 
 class Texts(Case):
@@ -63,16 +61,15 @@ class Texts(Case):
         self.expect("b2sum -l 12 --version", out=["b2sum (digests), profile 2"])
         self.expect_fault("b2sum -l --help x -l", "option requires an argument -- 'l'")
 
+
 class LongOptions(Case):
     """Faults 1 to 4, and names that are cut short."""
 
-    def test_unrecognized(self):
+    def test_unrecognized_and_ambiguous(self):
         for word, name in (("--foo", "foo"), ("--foo=1", "foo"), ("--taga", "taga"), ("--Tag", "Tag"), ("---", "-"),
                            ("--length", "length"), ("--length=8", "length"), ("--é", "é"),
                            ("--a\\\n\r=x", "a\\\\\\n\\r")):
             self.expect_fault(["md5sum", word, "a"], f"unrecognized option '--{name}'")
-
-    def test_ambiguous(self):
         self.expect_fault("md5sum --t=1 a", "option '--t' is ambiguous")
         self.expect_fault("md5sum --=x a", "option '--' is ambiguous")
 
@@ -103,12 +100,10 @@ class LongOptions(Case):
             for passed in ("--ignore-missing", "--i"):
                 self.expect(f"md5sum {form} {passed} some", out=["a: OK"])
 
-    def test_value_not_allowed(self):
+    def test_values(self):
         for word, full in (("--tag=", "tag"), ("--ta=1", "tag"), ("--help=1", "help"),
                            ("--version=", "version"), ("--i=x", "ignore-missing"), ("--zero=a=b", "zero")):
             self.expect_fault(["md5sum", word, "a"], f"option '--{full}' doesn't allow an argument")
-
-    def test_value_missing(self):
         self.expect_fault("b2sum e --length", "option '--length' requires an argument")
         self.expect_fault("b2sum e -bl", "option requires an argument -- 'l'")
 
@@ -124,20 +119,16 @@ class ShortOptions(Case):
         self.expect_fault(["md5sum", "-\\"], "invalid option -- '\\\\'")
         self.expect_fault(["md5sum", "- a"], "invalid option -- ' '")
 
-    def test_clusters(self):
+    def test_clusters_and_operands(self):
         self.expect("md5sum -bz a", out=f"{M} *a\0")
         self.expect("b2sum -bl 256 e", out=[f"{B} *e"])
         self.expect_fault("b2sum -l256b e", "invalid length: '256b'")
-
-    def test_options_and_operands_mix(self):
         self.expect("md5sum a -b e", out=[f"{M} *a", f"{E} *e"])
         self.expect("md5sum a --tag e", out=[f"MD5 (a) = {M}", f"MD5 (e) = {E}"])
         self.expect("md5sum a - e", stdin="abc", out=[f"{M}  a", f"{M}  -", f"{E}  e"])
         self.write("-b", "abc")
         self.expect("md5sum -b -- -b", out=[f"{M} *-b"])
         self.expect_fault("md5sum a --foo x", "unrecognized option '--foo'")
-
-    def test_two_dashes_alone_name_no_operand(self):
         self.expect("md5sum --", stdin="abc", out=[f"{M}  -"])
         self.expect_fault("b2sum -l -- e", "invalid length: '--'")
 
@@ -150,8 +141,6 @@ class Lengths(Case):
             shown = value.replace("\n", "\\n")
             self.expect_fault(["b2sum", "-l", value, "e"], f"invalid length: '{shown}'")
             self.expect_fault(["b2sum", f"--length={value}", "e"], f"invalid length: '{shown}'")
-
-    def test_not_bytes(self):
         for value in ("12", "1", "511", "0012"):
             self.expect_fault(["b2sum", "-l", value, "e"], f"length is not a multiple of 8: '{value}'")
 
@@ -161,6 +150,7 @@ class Lengths(Case):
         self.expect("b2sum -l 12 -l 256 e", out=[f"{B}  e"])
         self.expect("b2sum -l x --length=256 e", out=[f"{B}  e"])
         self.expect_fault("b2sum -l 256 -l 12 e", "length is not a multiple of 8: '12'")
+
 
 class Combinations(Case):
     """Faults 8 to 17, and the order in which the faults from 6 on are tried."""
