@@ -2,9 +2,10 @@
 """Measures the built programs beside GNU coreutils and other tools, in one run:
 `bench/run.py [--size MIB] [--rounds N] [--only PART].. [--program FILE].. [--no-bare]`.
 
-The program of each level that runs on this machine is measured, or each `--program`, beside GNU's tools; in the
-part `hashing` also beside OpenSSL and a bare loop over the kit's digest. What isn't installed is left out. Times are processor time on one processor, in rounds in which the programs take turns. A speed is GNU's least time
-divided by the program's own: 1.00 is as fast as GNU, 2.00 twice as fast. `docs/PERFORMANCE.md` has the tables."""
+The program of each level that runs on this machine is measured, or each `--program`, beside GNU's tools; in the part
+`hashing` also beside OpenSSL and a bare loop over the kit's digest. What isn't installed is left out. Times are
+processor time on one processor, in rounds in which the programs take turns. A speed is GNU's least time divided by the
+program's own: 1.00 is as fast as GNU, 2.00 twice as fast. `docs/PERFORMANCE.md` has the tables."""
 
 import argparse
 import os
@@ -18,9 +19,10 @@ import tempfile
 HERE = os.path.dirname(os.path.abspath(__file__))
 TOP = os.path.dirname(HERE)
 sys.dont_write_bytecode = True
-sys.path[:0] = [HERE, os.path.join(TOP, "tools")]
+sys.path[:0] = [HERE, os.path.join(TOP, "tools"), os.path.join(TOP, "tests", "support")]
 
 import options  # noqa: E402  (it is in tools)
+from harness import gnu  # noqa: E402  (it is in tests/support)
 from measure import Contender, measure, peak_memory  # noqa: E402  (it is beside this file)
 
 TOOLS = [tool for tool in options.TOOLS if tool != "anysum"]
@@ -65,15 +67,6 @@ def built_bare():
     return program
 
 
-def gnu_tool(tool):
-    """The path of GNU coreutils' tool, the first on the PATH, and its version, or None and None."""
-    for path in filter(None, (shutil.which(tool, path=folder) for folder in os.get_exec_path())):
-        said = subprocess.run([path, "--version"], stdout=subprocess.PIPE, stderr=subprocess.DEVNULL, text=True).stdout
-        if "GNU coreutils" in said:
-            return path, said.splitlines()[0]
-    return None, None
-
-
 def works(words):
     """Whether there is such a command and it hashes nothing well."""
     quiet = {"stdin": subprocess.DEVNULL, "stdout": subprocess.DEVNULL, "stderr": subprocess.DEVNULL}
@@ -97,8 +90,7 @@ class Bench:
     def contenders(self, tool, *words, status=0):
         """Ours, and GNU's where it is installed, with the same words."""
         found = [Contender(name, [path, tool, *words], status=status) for name, path in self.ours.items()]
-        path, _ = gnu_tool(tool)
-        return found + ([Contender(GNU, [tool, *words], path, status)] if path else [])
+        return found + ([Contender(GNU, [tool, *words], gnu(tool), status)] if gnu(tool) else [])
 
     def hashers(self, tool):
         """All that hash standard input as the tool does."""
@@ -178,15 +170,10 @@ def print_speeds(bench):
 
 
 def spread(times):
-    """The least time and the quartiles in milliseconds."""
-    if times is None:
-        return "-"
-    return f"{in_milliseconds(times.least)}, " + " ".join(in_milliseconds(it) for it in times.quartiles)
-
-
-def in_milliseconds(seconds):
-    """A time in milliseconds, of three digits or more."""
-    return f"{seconds * 1000:.0f}" if seconds >= 0.1 else f"{seconds * 1000:.2f}"
+    """The least time and the quartiles in milliseconds, of three digits or more."""
+    found = [times.least, *times.quartiles] if times else []
+    least, *rest = [f"{it * 1000:.0f}" if it >= 0.1 else f"{it * 1000:.2f}" for it in found] or ["-"]
+    return least + (f", {' '.join(rest)}" if rest else "")
 
 
 def hashing(bench):
@@ -279,17 +266,14 @@ def program(word):
 def print_conditions(bench, rounds):
     """What the numbers depend on."""
     (processor,) = os.sched_getaffinity(0)
-    print(f"{platform.platform()}, {os.cpu_count()} processors ({model()}); all on processor {processor}")
+    with open("/proc/cpuinfo") as file:
+        model = next((line.partition(":")[2].strip() for line in file if line.startswith("model name")), "unknown")
+    print(f"{platform.platform()}, {os.cpu_count()} processors ({model}); all on processor {processor}")
     print(f"load {os.getloadavg()[0]:.1f} at the start; {rounds} rounds or more")
-    print(f"GNU: {gnu_tool('md5sum')[1] or 'not installed, left out'}")
+    for path in filter(None, [gnu("md5sum")]):
+        print(subprocess.run([path, "--version"], stdout=subprocess.PIPE, text=True).stdout.splitlines()[0])
     for name in ([] if shutil.which("openssl") else [OPENSSL]) + ([] if bench.bare else [BARE]):
         print(f"{name}: left out")
-
-
-def model():
-    """The processor's name."""
-    with open("/proc/cpuinfo") as file:
-        return next((line.partition(":")[2].strip() for line in file if line.startswith("model name")), "unknown")
 
 
 def main():

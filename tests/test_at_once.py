@@ -120,8 +120,6 @@ class OneFile(Case):
         os.mkdir(self.path("d"))
         lines = [f"{M}  a", X_MISSING, f"{E}  e", "md5sum: d: Input/output error", X_MISSING, f"{M}  a"]
         self.expect_together("md5sum a x e d x a", lines, 1)
-
-    def test_many_operands(self):
         self.expect_together(["md5sum", *["a", "x"] * 1000], [f"{M}  a", X_MISSING] * 1000, 1)
 
     def test_checking(self):
@@ -129,6 +127,12 @@ class OneFile(Case):
         os.mkdir(self.path("d"))
         self.write("l", [f"{M}  a", f"{M}  x", "junk", f"{M}  e", f"{M}  d", f"{E}  e"])
         self.expect_together("md5sum -cw l x l", [*self.reports("l"), X_MISSING, *self.reports("l")], 1)
+        self.write("l", VERDICTS)
+        lines = ["a: OK", X_MISSING, "x: FAILED open or read", "e: FAILED",
+                 "md5sum: WARNING: 1 line is improperly formatted",
+                 "md5sum: WARNING: 1 listed file could not be read",
+                 "md5sum: WARNING: 1 computed checksum did NOT match"]
+        self.expect_together("md5sum -c l", lines, 1)
 
     def reports(self, name):
         """What the manifest of `test_checking` comes to."""
@@ -138,11 +142,3 @@ class OneFile(Case):
                 "md5sum: WARNING: 1 line is improperly formatted",
                 "md5sum: WARNING: 2 listed files could not be read",
                 "md5sum: WARNING: 1 computed checksum did NOT match"]
-
-    def test_all_verdicts(self):
-        self.write("l", VERDICTS)
-        lines = ["a: OK", X_MISSING, "x: FAILED open or read", "e: FAILED",
-                 "md5sum: WARNING: 1 line is improperly formatted",
-                 "md5sum: WARNING: 1 listed file could not be read",
-                 "md5sum: WARNING: 1 computed checksum did NOT match"]
-        self.expect_together("md5sum -c l", lines, 1)

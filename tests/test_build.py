@@ -28,7 +28,8 @@ class Build(Repository):
         self.assertIn(b"rt says: lib\n", self.read(self.in_top("out/build.log")))
 
     def test_a_changed_source(self):
-        self.build()
+        self.build(RT_EDITS=self.sources[0])
+        self.expect_built("a source changed while it was built")
         for path in [*self.sources, self.in_top("crates/low/src/inner/New.antt")]:
             before = self.programs()
             self.put(path, f"another {path}\n")
@@ -49,10 +50,6 @@ class Build(Repository):
             shutil.rmtree(self.in_top(f"out/{level}"))
             self.expect_built(level, calls)
             self.assertEqual(self.programs(), before)
-
-    def test_a_source_that_changes_while_it_builds(self):
-        self.build(RT_EDITS=self.sources[0])
-        self.expect_built("the next call")
 
     def test_a_failed_build(self):
         """It says why, with the status 1, however often; the old program is neither run nor installed."""

@@ -28,15 +28,13 @@ def wrong(count, tool="md5sum"):
 class Verdicts(Case):
     """What each line of a manifest comes to, and the settings that change what is written."""
 
-    def test_all_verdicts(self):
+    def test_reports_and_strict(self):
         self.write("l", VERDICTS)
         self.expect("md5sum -c l", out=VERDICTS_OUT, err=VERDICTS_ERR, status=1)
         self.expect("md5sum -c", stdin=VERDICTS, out=VERDICTS_OUT, err=VERDICTS_ERR, status=1)
         first, *warnings = VERDICTS_ERR.decode().splitlines()
         named = "md5sum: l: 3: improperly formatted MD5 checksum line"
         self.expect("md5sum -c -w l", out=VERDICTS_OUT, err=[named, first, *warnings], status=1)
-
-    def test_the_last_report_setting_counts(self):
         self.write("l", VERDICTS)
         self.expect("md5sum -c --quiet --status l", err=[X_MISSING], status=1)
         self.expect("md5sum -c --status -w --quiet l", out=NO_OK, err=VERDICTS_ERR, status=1)
@@ -52,8 +50,6 @@ class Verdicts(Case):
                     err=[wrong(1), "md5sum: l4: no file was verified"], status=1)
         err = ["md5sum: l2: no file was verified"]
         self.expect("md5sum -c --ignore-missing l3 l2", out=["a: OK"], err=err, status=1)
-
-    def test_ignore_missing_holds_for_missing_files_alone(self):
         os.mkdir(self.path("d"))
         self.write("l", [f"{M}  d", f"{M}  a/x", f"{M}  a"])
         err = ["md5sum: d: Input/output error", "md5sum: a/x: Input/output error", unread(2)]
@@ -116,13 +112,11 @@ class Manifests(Case):
                     err=["md5sum: standard input: 1: improperly formatted MD5 checksum line", bad(1),
                          "md5sum: a: 1: improperly formatted MD5 checksum line", f"md5sum: a: {NONE_FOUND}"])
 
-    def test_lists_are_named_escaped(self):
+    def test_lists_in_lists(self):
         self.write(SPECIAL, ["junk"])
         shown = "md5sum: q\\\\\\nz:"
         self.expect(["md5sum", "-cw", SPECIAL], status=1,
                     err=[f"{shown} 1: improperly formatted MD5 checksum line", f"{shown} {NONE_FOUND}"])
-
-    def test_itself_and_every_tag(self):
         self.write("l", [f"{E}  l", f"{M}  a"])
         self.expect("md5sum -c l", out=["l: FAILED", "a: OK"], err=[wrong(1)], status=1)
         self.write("m", [f"{tag} (a) = {of_abc}" for tag, _, of_abc in TOOLS.values()])
@@ -156,8 +150,6 @@ class Lines(Case):
         self.expect("md5sum -c", stdin=[f"{M}  "], out=[" : OK"])
         self.write("*", "abc")
         self.expect("md5sum -c", stdin=[f"{M} *"], out=["*: OK"])
-
-    def test_no_entries(self):
         for line in (f"{M} ", f"{M}", f"\\{M}  q\\x", f"{M}  a\0", f"\\{M}  a\rb", f"\\\\{M}  a",
                      f"MD5 () = {M}", f"MD5  (a) = {M}", f"md5 (a) = {M}", f"MD5 (a) = {M} ", f"MD5 (a) {M}",
                      f"SHA1 (a) = {M}", f"{M[:-1]}  a", f"{M}0  a", f"{M[:-1]}g  a"):
@@ -180,18 +172,14 @@ class Lines(Case):
 
 
 class Hostile(Case):
-    def test_nothing_in_them(self):
+    def test_nothing_in_them_and_a_long_name(self):
         for content in ("x" * 1000000, "\0" * 1000 + "\n", "   \t\n", "\n" * 100000):
             self.write("h", content)
             self.expect("md5sum -c h", err=[f"md5sum: h: {NONE_FOUND}"], status=1)
-
-    def test_a_very_long_name(self):
         name = "y" * 99966
         self.write("h", f"{M}  {name}")
         self.expect("md5sum -c h", out=[f"{name}: FAILED open or read"],
                     err=[f"md5sum: {name}: Input/output error", unread(1)], status=1)
-
-    def test_lines_around_the_buffer(self):
         for size in range(8185, 8200):
             self.expect("md5sum -c --strict", stdin=["#" * size, f"{M}  a", "", f"{M}  a"], out=["a: OK"] * 2)
 

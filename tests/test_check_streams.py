@@ -30,8 +30,6 @@ class WhileItComes(Case):
         self.assertEqual(started.wait(timeout=harness.RUN_SECONDS), 1)
         self.assertEqual(started.stderr.read(), as_bytes([
             "md5sum: WARNING: 1 listed file could not be read", "md5sum: WARNING: 1 computed checksum did NOT match"]))
-
-    def test_bad_lines_are_named_before_the_manifest_ends(self):
         started = self.start("md5sum -cw", stdin=subprocess.PIPE, stdout=subprocess.DEVNULL, stderr=subprocess.PIPE)
         for number in (1, 2, 3):
             started.stdin.write(b"junk\n")
@@ -125,8 +123,6 @@ class Sizes(Case):
         del reports[77777]
         self.assertEqual(self.read("out"), as_bytes(reports))
         self.assertLess(peak, 25 * MEGA)
-
-    def test_many_lines_from_a_pipe(self):
         self.expect("md5sum -c --quiet --strict", stdin=[f"{M}  a"] * 200000)
 
     def test_one_line_of_100_megabytes_of_nothing(self):

@@ -153,11 +153,9 @@ class NoRootFolder(Traced):
 
 
 class ClosedOutputs(Closing):
-    def test_standard_output_with_a_line(self):
+    def test_standard_output(self):
         for words in ("md5sum a", "md5sum -z a", "md5sum --help", "md5sum --version"):
             self.assertEqual(self.closed(words, 1), Ran(1, b"", WRITE_ERROR))
-
-    def test_standard_output_without_a_line(self):
         self.assertEqual(self.closed("md5sum x", 1), Ran(1, b"", as_bytes([X_MISSING])))
         self.assertEqual(self.closed("md5sum --foo", 1), self.run_words("md5sum --foo"))
         self.assertEqual(self.closed("shasum", 1), Ran(1, b"", b"digests: unknown tool\n"))

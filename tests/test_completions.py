@@ -59,15 +59,13 @@ class Shell:
             self.assertEqual(self.lengths(f"{command} --length=51"), {"512"})
         self.assertTrue(all(takes(harness.PROGRAM, "b2sum", "-l", bits) for bits in every))
 
-    def test_files(self):
+    def test_files_and_tools(self):
         for command in ("md5sum ", "digests sha1sum ", "b2sum -c ", "anysum -c ", "b2sum -l 8 ", "b2sum --length=8 ",
                         "md5sum -w some "):
             self.assertEqual(self.offered(f"{command}so"), {"some", "some more"}, command)
         self.write("here/-file", "")
         self.assertEqual(self.offered("md5sum -- -"), {"-file"})
         self.assertEqual(self.offered("digests md5sum -- -"), {"-file"})
-
-    def test_tools(self):
         self.assertEqual(self.offered("digests "), set(NAMES))
         self.assertEqual(self.offered("digests sha2"), {"sha224sum", "sha256sum"})
 

@@ -71,19 +71,15 @@ class Messages(Described):
             self.assertEqual((ours.status, ours.err, theirs.status, theirs.err), (0, b"", 0, b""))
             self.assertNotEqual(ours.out, theirs.out)
 
-    def test_options_that_are_cut_too_short(self):
-        """GNU's tools name those that are possible, and a value."""
-        more = "Try 'md5sum --help' for more information."
-        said = "md5sum: option '--st' is ambiguous"
-        for value in ("", "=x"):
-            theirs = f"md5sum: option '--st{value}' is ambiguous; possibilities: '--status' '--strict'"
-            self.expect_both(f"md5sum -c --st{value} a", (1, b"", [said, more]), (1, b"", [theirs, more]))
-
     def test_unknown_options(self):
-        """GNU's tools name the value of one, too."""
-        more = "Try 'md5sum --help' for more information."
-        ours, theirs = (f"md5sum: unrecognized option '--{name}'" for name in ("other", "other=x"))
-        self.expect_both("md5sum --other=x a", (1, b"", [ours, more]), (1, b"", [theirs, more]))
+        """GNU's tools name those that are possible, and a value."""
+        cut, possible = "option '--st' is ambiguous", "; possibilities: '--status' '--strict'"
+        for words, ours, theirs in (("-c --st a", cut, cut + possible),
+                                    ("-c --st=x a", cut, f"option '--st=x' is ambiguous{possible}"),
+                                    ("--oth=x a", "unrecognized option '--oth'", "unrecognized option '--oth=x'")):
+            more = "Try 'md5sum --help' for more information."
+            said = [(1, b"", [f"md5sum: {text}", more]) for text in (ours, theirs)]
+            self.expect_both(f"md5sum {words}", *said)
 
     def test_lengths(self):
         """GNU's tool takes blanks or a plus sign before the number, and tells of a fault in other lines."""
@@ -124,6 +120,7 @@ class Messages(Described):
             ran = self.run_command([*command, "-", "-"], stdin=shown)
             os.close(shown)
             self.assertEqual(ran, Ran(0, as_bytes([f"{first}  -", f"{wanted}  -"]), b""), command)
+
     def test_what_has_no_effect(self):
         """The language changes GNU's quotes, and POSIXLY_CORRECT makes every word behind a name one; here neither."""
         ran = [self.both("b2sum -l x e", env={**os.environ, "LC_ALL": name}) for name in ("C", "C.UTF-8")]

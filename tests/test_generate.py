@@ -14,11 +14,21 @@ SPECIAL_SHOWN = "q\\\\\\nz"
 
 
 class Digests(Case):
-    def test_published_digests(self):
+    def test_published_digests_and_a_large_file(self):
         for tool, (_, of_nothing, of_abc) in TOOLS.items():
             self.expect([tool], out=[f"{of_nothing}  -"])
             self.expect([tool], stdin="abc", out=[f"{of_abc}  -"])
             self.expect([tool, "a", "e"], out=[f"{of_abc}  a", f"{of_nothing}  e"])
+        block = bytes(range(256)) * 4096
+        hashers = {tool: hashlib.new(tag.lower()) for tool, (tag, *_) in TOOLS.items()}
+        with open(self.path("large"), "wb") as file:
+            for i in range(16):
+                piece = block[i:] + b"\x80" * i
+                file.write(piece)
+                for hasher in hashers.values():
+                    hasher.update(piece)
+        for tool, hasher in hashers.items():
+            self.expect([tool, "large"], out=[f"{hasher.hexdigest()}  large"])
 
     def test_sizes_around_blocks_and_pieces(self):
         """Python's own digests over the sizes at which a block, a padding or the reading buffer ends."""
@@ -31,18 +41,6 @@ class Digests(Case):
             hashed = [hashlib.new(tag.lower(), content[:size]).hexdigest() for size in near]
             lines = [f"{digits}  {name}" for digits, name in zip(hashed, names)]
             self.expect([tool, *names], out=lines)
-
-    def test_a_large_file(self):
-        block = bytes(range(256)) * 4096
-        hashers = {tool: hashlib.new(tag.lower()) for tool, (tag, *_) in TOOLS.items()}
-        with open(self.path("large"), "wb") as file:
-            for i in range(16):
-                piece = block[i:] + b"\x80" * i
-                file.write(piece)
-                for hasher in hashers.values():
-                    hasher.update(piece)
-        for tool, hasher in hashers.items():
-            self.expect([tool, "large"], out=[f"{hasher.hexdigest()}  large"])
 
     def test_lengths_of_blake2b(self):
         full = TOOLS["b2sum"][1]
@@ -66,7 +64,7 @@ class Styles(Case):
         self.expect("md5sum -bz a", out=f"{M} *a\0")
         self.expect("md5sum --tag -z a", out=f"MD5 (a) = {M}\0")
 
-    def test_special_names(self):
+    def test_names(self):
         self.write(SPECIAL, "abc")
         self.expect(["md5sum", SPECIAL], out=[f"\\{M}  {SPECIAL_SHOWN}"])
         self.expect(["md5sum", "-b", SPECIAL], out=[f"\\{M} *{SPECIAL_SHOWN}"])
@@ -79,8 +77,6 @@ class Styles(Case):
         for name, shown in (("\\", "\\\\"), ("\\\\", "\\\\\\\\"), ("\n", "\\n"), ("\r", "\\r"), ("\\n", "\\\\n")):
             self.write(name, "abc")
             self.expect(["md5sum", name], out=[f"\\{M}  {shown}"])
-
-    def test_other_names_stand_as_they_are(self):
         for name in (" ", " a", "a ", "*a", "a)", "(", "#", "tab\there", "\x01\x7f", "été", "日本", "'\"$`", "= x"):
             self.write(name, "abc")
             self.expect(["md5sum", name], out=[f"{M}  {name}"])
@@ -109,6 +105,9 @@ class Operands(Case):
             self.write(name, "abc")
             self.expect(["sha256sum", "--", name], out=[f"{S}  {name}"])
         self.expect(["sha256sum", "--", "a", "--"], out=[f"{S}  a", f"{S}  --"])
+        err = [f"md5sum: {SPECIAL_SHOWN}: No such file or directory", "md5sum: a\\rb: No such file or directory"]
+        self.expect(["md5sum", SPECIAL, "a\rb"], err=err, status=1)
+        self.expect(["md5sum", "-z", SPECIAL, "a\rb"], err=err, status=1)
 
     def test_other_failures(self):
         os.mkdir(self.path("d"))
@@ -118,26 +117,17 @@ class Operands(Case):
         os.symlink("loop", self.path("loop"))
         for name in ("a/", "a/x", "a/.", "loop", "n" * 300, "d/" * 3000):
             self.expect(["md5sum", name], err=[f"md5sum: {name}: Input/output error"], status=1)
-
-    def test_links(self):
         os.symlink("a", self.path("good"))
         os.symlink("x", self.path("bad"))
         err = ["md5sum: bad: No such file or directory"]
         self.expect("md5sum good bad", out=[f"{M}  good"], err=err, status=1)
 
-    def test_names_in_faults_are_escaped(self):
-        err = [f"md5sum: {SPECIAL_SHOWN}: No such file or directory", "md5sum: a\\rb: No such file or directory"]
-        self.expect(["md5sum", SPECIAL, "a\rb"], err=err, status=1)
-        self.expect(["md5sum", "-z", SPECIAL, "a\rb"], err=err, status=1)
-
-    def test_a_device_and_other_folders(self):
+    def test_devices_and_pipes(self):
         os.mkdir(self.path("d"))
         self.write("d/f", "abc")
         full = os.fsdecode(self.path("d/f"))
         self.expect(["md5sum", "/dev/null", "d/f", "./d/../a", full],
                     out=[f"{E}  /dev/null", f"{M}  d/f", f"{M}  ./d/../a", f"{M}  {full}"])
-
-    def test_a_pipe_with_a_name(self):
         os.mkfifo(self.path("p"))
         started = self.start("md5sum p", stdout=-1)
         with open(self.path("p"), "wb") as pipe:

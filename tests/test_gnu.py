@@ -59,12 +59,7 @@ class SameLines(Beside):
             ours, theirs = self.both("b2sum", "-l", str(bits), "--tag", "a", "d/f", "back\\slash")
             self.assertEqual(ours, theirs)
 
-    def test_missing_files(self):
-        ours, theirs = self.both("md5sum", "a", "x", "e")
-        self.assertEqual((ours.status, ours.out), (theirs.status, theirs.out))
-        self.assertEqual(ours.err, b"md5sum: x: No such file or directory\n")
-
-    def test_sizes(self):
+    def test_sizes_and_missing_files(self):
         chance = random.Random(2)
         names = []
         for size in [*range(0, 300, 7), 4095, 4096, 4097, 8191, 8193, 32767, 32768, 32769, 100003, 1 << 20]:
@@ -73,6 +68,9 @@ class SameLines(Beside):
         for tool in TOOLS:
             ours, theirs = self.both(tool, *names)
             self.assertEqual(ours, theirs)
+        ours, theirs = self.both("md5sum", "a", "x", "e")
+        self.assertEqual((ours.status, ours.out), (theirs.status, theirs.out))
+        self.assertEqual(ours.err, b"md5sum: x: No such file or directory\n")
 
     def test_more_than_2_to_the_32_bits(self):
         """A sparse file of 512 MiB and 5 bytes, whose number of bits passes 2^32: all tools side by side, and then,
@@ -117,18 +115,16 @@ class Verified(Beside):
                 self.assertEqual(ours, theirs)
                 self.assertEqual((ours.status, ours.err), (0, b""))
 
-    def test_names_with_backslashes(self):
+    def test_tags_and_backslashes(self):
+        manifest = b"".join(lines for _, _, lines in self.each([["--tag"]]))
+        ran = self.run_words("anysum -c --strict", stdin=manifest)
+        self.assertEqual((ran.status, ran.err, ran.out.count(b": OK\n")), (0, b"", len(TOOLS) * len(self.names)))
         self.names = BACKSLASH_NAMES
         shown = ["\\back\\\\slash: OK", "\\\\\\n: OK", "\\\\\\: OK", "\\d/\\\\: OK"]
         for tool, _, manifest in self.each():
             ours, theirs = self.checks(tool, manifest, "--strict")
             self.assertEqual(ours, (0, as_bytes(shown), b""))
             self.assertEqual((theirs.status, theirs.out.count(b": OK\n"), theirs.err), (0, len(shown), b""))
-
-    def test_tagged_manifests_of_all_tools_under_anysum(self):
-        manifest = b"".join(lines for _, _, lines in self.each([["--tag"]]))
-        ran = self.run_words("anysum -c --strict", stdin=manifest)
-        self.assertEqual((ran.status, ran.err, ran.out.count(b": OK\n")), (0, b"", len(TOOLS) * len(self.names)))
 
     def test_lengths(self):
         for bits in range(8, 513, 8):
@@ -160,14 +156,12 @@ class Verified(Beside):
                 ours, theirs = self.checks(tool, b"".join(lines), *options)
                 self.assertEqual(ours, theirs)
 
-    def test_a_digit_changed(self):
+    def test_changed_digits(self):
         for tool, style, manifest in self.each():
             at = manifest.index(b"= ") + 2 if style == ["--tag"] else 0
             digit = b"0" if manifest[at : at + 1] != b"0" else b"1"
             ours, theirs = self.checks(tool, manifest[:at] + digit + manifest[at + 1 :])
             self.assertEqual((ours, ours.status), (theirs, 1))
-
-    def test_upper_case_digits(self):
         lines = self.run_command([gnu("md5sum"), "a", "e"]).out.splitlines(keepends=True)
         manifest = b"".join(line[:32].upper() + line[32:] for line in lines)
         self.assertEqual(self.checks("md5sum", manifest), ((0, b"a: OK\ne: OK\n", b""),) * 2)

@@ -127,8 +127,6 @@ class Install(Repository):
             self.assertTrue(os.path.exists(self.path(f"{prefix}/bin/b2sum")))
             self.installs("--remove", "--", words[-1])
             self.assertFalse(os.path.exists(self.path(f"{prefix}/bin/b2sum")))
-
-    def test_on_the_path(self):
         advice = f"to call the tools by their names, put {self.prefix}/bin first on the PATH\n"
         os.symlink(self.prefix, self.path("same"))
         for first, wanted in ((self.prefix, False), (f"{self.folder}/same", False), (f"{self.folder}/other", True)):

@@ -20,7 +20,7 @@ class Library(Case):
                 for name in re.findall(r"\w+", use):
                     self.assertRegex(page, rf"(?m)^- `(fn|struct|enum|trait|const|type|use \w+::) ?{name}\b")
 
-    def test_taking_one_elsewhere(self):
+    def test_taking_crates_elsewhere(self):
         """The page's commands take just the crates, without what the kit keeps, and just their lines."""
         commands = re.findall(r"(?m)^    ((?:mkdir|cp|rm|grep) .*)$", text_of("docs", "LIBRARY.md"))
         self.assertEqual(len(commands), 4)

@@ -21,12 +21,10 @@ class OddNames(Case):
         super().setUp()
         self.write(NAME, "abc")
 
-    def test_at_every_place(self):
+    def test_each_kind_and_place(self):
         for words, out in ((["a", NAME, "e"], [f"{M}  a", f"{E}  e"]), ([NAME, "a"], [f"{M}  a"]),
                            (["a", NAME], [f"{M}  a"]), ([NAME], b""), (["-b", "--", NAME, "a"], [f"{M} *a"])):
             self.expect(["md5sum", *words], out=out, err=unread(NAME), status=1)
-
-    def test_each_kind(self):
         os.symlink(harness.PROGRAM, self.path("sha256sum"))
         ran = self.run_command(["./sha256sum", "a", NAME])
         self.assertEqual(ran, Ran(1, f"{harness.S}  a\n".encode(), unread(NAME, b"sha256sum")))
@@ -34,21 +32,17 @@ class OddNames(Case):
         self.expect(["md5sum", name, "a"], out=[f"{M}  a"], err=unread(b"\xff\\\\\\n\\r"), status=1)
         for name in (b"\xff", b"b\xc3", b"\x80", b"\xed\xa0\x80", b"\xc0\xaf", b"d/\xff"):
             self.expect(["md5sum", name, "a"], out=[f"{M}  a"], err=unread(name), status=1)
+        self.write("l", [f"{M}  a"])
+        for words in ([NAME, "l"], ["--", NAME, "l"], ["l", NAME]):
+            self.expect(["md5sum", "-c", *words], out=["a: OK"], err=unread(NAME), status=1)
 
-    def test_long_names(self):
+    def test_long_names_and_many(self):
         """Names about as long as a page, and one as long as the system passes on."""
         for length in (4095, 4096, 4097, 8193, 131071):
             name = b"\xff" * length
             self.expect(["md5sum", name, "a"], out=[f"{M}  a"], err=unread(name), status=1)
-
-    def test_one_among_100000(self):
         words = ["md5sum", *["a"] * 50000, NAME, *["a"] * 49998]
         self.expect(words, out=[f"{M}  a"] * 99998, err=unread(NAME), status=1)
-
-    def test_manifests(self):
-        self.write("l", [f"{M}  a"])
-        for words in ([NAME, "l"], ["--", NAME, "l"], ["l", NAME]):
-            self.expect(["md5sum", "-c", *words], out=["a: OK"], err=unread(NAME), status=1)
 
     def test_beside_gnu(self):
         """1,000 names, of which three aren't UTF-8: the lines of the others are GNU's."""

@@ -1,5 +1,5 @@
-"""What the manual pages and README show to be typed: each recipe and example is typed as it is there, over trees in which
-all is well and in which it isn't. Its status is 0 only if all that it is for was done."""
+"""What the manual pages show to be typed: each recipe and example is typed as it is there, over trees in which all is
+well and in which it isn't. Its status is 0 only if all that it is for was done."""
 
 import hashlib
 import os
@@ -193,8 +193,6 @@ class Recipes(Typed):
             self.assertEqual(self.read("here/SUMS"), before)
         for recipe, sort, shell in self.each("check list", "check list on all", "check one"):
             self.passes(recipe, self.report(sort, "OK"), shell)
-
-    def test_unlisted(self):
         self.make()
         self.passes(self.recipe("list"))
         more = BAD + [b"./more\nlines", b"./more\\"]
@@ -324,6 +322,7 @@ class Recipes(Typed):
             self.assertRegex(ran.err, rb"\Afind: [^\n]*\./shut[^\n]*: Permission denied\n\Z")
             self.assertEqual(self.is_there("SUMS"), sort == "unlisted")
             os.chmod(self.path("here/shut"), 0o755)
+
 
 class Examples(Typed):
     def each_tool(self):

@@ -66,12 +66,10 @@ class SmallMemory(Case):
         many = self.limited(first, ["sha256sum", *["-t"] * 8000])
         self.assertNotEqual(many, right, "a short run needs as much memory as one of many words")
 
-    def test_help_and_version(self):
+    def test_help_version_and_faults(self):
         """The texts need no memory but that for the words, so they never answer that it is exhausted."""
         self.sweep("sha256sum --help", Ran(0, as_bytes(help_text("sha256sum")), b""), Ran(1, b"", NOT_READ))
         self.sweep("sha256sum --version", Ran(0, b"sha256sum (digests), profile 2\n", b""), Ran(1, b"", NOT_READ))
-
-    def test_faults_of_the_words(self):
         err = ["md5sum: unrecognized option '--foo'", "Try 'md5sum --help' for more information."]
         self.sweep("md5sum --foo", Ran(1, b"", as_bytes(err)), Ran(1, b"", NOT_READ))
         self.sweep("shasum", Ran(1, b"", b"digests: unknown tool\n"), Ran(1, b"", NOT_READ))

@@ -16,22 +16,18 @@ WRITE_ERROR = b"md5sum: write error\n"
 class StandardInput(Case):
     """Input that comes in pieces, late, or not at all."""
 
-    def test_pieces_of_a_pipe(self):
+    def test_pieces_positions_and_faults(self):
         started = self.start("sha256sum", stdin=subprocess.PIPE, stdout=subprocess.PIPE)
         for piece in (b"a", b"b", b"c"):
             started.stdin.write(piece)
             started.stdin.flush()
         out, _ = started.communicate(timeout=harness.RUN_SECONDS)
         self.assertEqual(out, f"{harness.S}  -\n".encode())
-
-    def test_a_file_is_read_from_its_position(self):
         self.write("f", "xxabc")
         for name, position in (("a", 0), ("f", 2)):
             with open(self.path(name), "rb", buffering=0) as file:
                 file.seek(position)
                 self.expect("md5sum", stdin=file, out=[f"{M}  -"])
-
-    def test_what_cannot_be_read(self):
         folder = os.open(self.folder, os.O_RDONLY)
         self.addCleanup(os.close, folder)
         self.expect("md5sum", stdin=folder, err=["md5sum: -: Input/output error"], status=1)
@@ -64,13 +60,11 @@ class StandardInput(Case):
 class BrokenInput(Case):
     """Standard input that gives bytes and then a fault."""
 
-    def test_a_content_that_breaks_off_has_no_digest(self):
+    def test_a_fault_after_bytes(self):
         for content in ("", "abc", "y" * 300, "y" * 9000):
             broken = self.broken_input(content)
             err = ["md5sum: -: Input/output error"]
             self.expect("md5sum - a", stdin=broken, out=[f"{M}  a"], err=err, status=1)
-
-    def test_a_listed_standard_input_that_breaks_off(self):
         self.write("l", [f"{M}  -", f"{M}  a"])
         self.expect("md5sum -c l", stdin=self.broken_input("abc"), out=["-: FAILED open or read", "a: OK"], status=1,
                     err=["md5sum: -: Input/output error", "md5sum: WARNING: 1 listed file could not be read"])
@@ -172,7 +166,7 @@ class EachByteTheLast(Case):
             ran = self.run_words("md5sum a e", stdout=file, preexec_fn=limits(file_size=10))
         self.assertEqual((ran, self.read("limited")), (Ran(-signal.SIGXFSZ, b"", b""), b"900150983c"))
 
-    def test_checking_into_standard_output(self):
+    def test_checking(self):
         self.write("l", VERDICTS)
         for size in range(len(VERDICTS_OUT) + 1):
             ran, out = self.run_limited("md5sum -c l", size, "stdout")
@@ -182,8 +176,6 @@ class EachByteTheLast(Case):
                 self.assertTrue(VERDICTS_ERR.startswith(ran.err[: -len(WRITE_ERROR)]), ran.err)
             else:
                 self.assertEqual(ran.err, VERDICTS_ERR)
-
-    def test_checking_into_standard_error(self):
         self.write("l", VERDICTS)
         for size in range(len(VERDICTS_ERR) + 1):
             ran, err = self.run_limited("md5sum -c l", size, "stderr")
@@ -204,11 +196,9 @@ class Many(Case):
         count = min(count, 200000) - sum(len(name) + len(value) + 10 for name, value in os.environ.items()) // 10
         self.expect(["md5sum", *["a"] * count], out=[f"{M}  a"] * count)
 
-    def test_a_long_name(self):
+    def test_long_names_and_words(self):
         name = "./" * 2000 + "a"
         self.expect(["md5sum", name, "e"], out=[f"{M}  {name}", f"{E}  e"])
-
-    def test_a_long_word(self):
         name = "y" * 100000
         self.expect(["md5sum", name], err=[f"md5sum: {name}: Input/output error"], status=1)
         self.expect_fault(["md5sum", f"--{name}"], f"unrecognized option '--{name}'")

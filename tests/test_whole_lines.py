@@ -103,12 +103,10 @@ class OneWriteALine(Packets):
             self.expect_packets(words, out=[f"{M}  a{end}", f"{E}  e{end}"],
                                 err=[X_MISSING + "\n", missing, directory], status=1)
 
-    def test_help_and_version(self):
+    def test_help_and_faults_of_the_words(self):
         for tool in [*TOOLS, "anysum"]:
             self.expect_packets([tool, "--help"], out=[help_text(tool)])
             self.expect_packets([tool, "--version"], out=[f"{tool} (digests), profile 2\n"])
-
-    def test_faults_of_the_words(self):
         faults = [(["--foo"], "unrecognized option '--foo'"), (["-\n"], "invalid option -- '\\n'"),
                   (["--s"], "option '--s' is ambiguous"), (["--tag=\\"], "option '--tag' doesn't allow an argument"),
                   (["-z", "-c"], "the --zero option is not supported when verifying checksums")]
@@ -177,7 +175,7 @@ class OneWriteAReport(Packets):
                             err=[f"md5sum: x{SPECIAL_SHOWN}: No such file or directory\n",
                                  "md5sum: WARNING: 1 listed file could not be read\n"])
 
-    def test_manifests_that_are_no_good(self):
+    def test_whole_manifests(self):
         os.mkdir(self.path("d"))
         self.write(SPECIAL, "junk\n")
         self.write("missing", [f"{M}  x"])
@@ -187,8 +185,6 @@ class OneWriteAReport(Packets):
             "md5sum: e: no properly formatted checksum lines found\n"])
         self.expect_packets("md5sum -c --ignore-missing missing", status=1,
                             err=["md5sum: missing: no file was verified\n"])
-
-    def test_tags_of_every_algorithm(self):
         self.write("l", [f"{tag} (a) = {of_abc}" for tag, _, of_abc in TOOLS.values()] + ["junk"])
         self.expect_packets("anysum -cw l", out=["a: OK\n"] * len(TOOLS), err=[
             "anysum: l: 8: improperly formatted tagged checksum line\n",
@@ -242,8 +238,6 @@ class ShortWrites(Case):
         status, err = self.taken_in_parts(["md5sum", *[name, "x"] * 3], "stderr")
         self.same(err, lines)
         self.assertEqual(status, 1)
-
-    def test_a_part_of_a_long_report(self):
         name = "y" * 30000
         self.write("l", [f"{M}  {name}", f"{M}  a"] * 3)
         status, out = self.taken_in_parts("md5sum -c l", "stdout")

@@ -17,12 +17,18 @@ class ToolNames(Case):
         for words in ([], ["shasum"], [""], ["md5"], ["MD5SUM"], ["md5sum "], ["--help"], ["md5sums", "a"]):
             self.expect(words, err=["digests: unknown tool"], status=1)
 
-    def test_called_by_a_link(self):
+    def test_links(self):
         for tool, (_, of_nothing, of_abc) in TOOLS.items():
             os.symlink(harness.PROGRAM, self.path(tool))
             for called in (f"./{tool}", os.fsdecode(self.path(tool))):
                 ran = self.run_command([called, "a", "e"])
                 self.assertEqual(ran, (0, f"{of_abc}  a\n{of_nothing}  e\n".encode(), b""))
+        folder = os.fsdecode(self.path("bin folder"))
+        os.mkdir(folder)
+        os.symlink(harness.PROGRAM, os.path.join(folder, "sha256sum"))
+        path = folder + os.pathsep + os.environ["PATH"]
+        ran = self.run_command(["sh", "-c", 'sha256sum "$1"', "sh", "a"], env={**os.environ, "PATH": path})
+        self.assertEqual(ran, (0, f"{S}  a\n".encode(), b""))
 
     def test_other_links(self):
         os.symlink(harness.PROGRAM, self.path("b2sum"))
@@ -37,24 +43,14 @@ class ToolNames(Case):
         self.assertEqual(self.run_command(["./other", "md5sum", "a"]), (0, f"{M}  a\n".encode(), b""))
         self.assertEqual(self.run_command(["./other", "a"]), (1, b"", b"digests: unknown tool\n"))
 
-    def test_called_by_a_link_from_the_search_path(self):
-        folder = os.fsdecode(self.path("bin folder"))
-        os.mkdir(folder)
-        os.symlink(harness.PROGRAM, os.path.join(folder, "sha256sum"))
-        path = folder + os.pathsep + os.environ["PATH"]
-        ran = self.run_command(["sh", "-c", 'sha256sum "$1"', "sh", "a"], env={**os.environ, "PATH": path})
-        self.assertEqual(ran, (0, f"{S}  a\n".encode(), b""))
-
 
 class Texts(Case):
-    def test_each(self):
+    def test_help_and_version(self):
         for tool in [*TOOLS, "anysum"]:
             for cut in ("--h", "--help"):
                 self.expect([tool, cut], out=help_text(tool))
             for cut in ("--v", "--version"):
                 self.expect([tool, cut], out=[f"{tool} (digests), profile 2"])
-
-    def test_the_first_of_fault_help_and_version_decides(self):
         self.expect("md5sum --help --version", out=help_text("md5sum"))
         self.expect("md5sum --version --help", out=["md5sum (digests), profile 2"])
         self.expect("md5sum a -zc --tag -t --help x", out=help_text("md5sum"))
@@ -65,13 +61,18 @@ class Texts(Case):
 class LongOptions(Case):
     """Faults 1 to 4, and names that are cut short."""
 
-    def test_unrecognized_and_ambiguous(self):
+    def test_faults_and_values(self):
         for word, name in (("--foo", "foo"), ("--foo=1", "foo"), ("--taga", "taga"), ("--Tag", "Tag"), ("---", "-"),
                            ("--length", "length"), ("--length=8", "length"), ("--é", "é"),
                            ("--a\\\n\r=x", "a\\\\\\n\\r")):
             self.expect_fault(["md5sum", word, "a"], f"unrecognized option '--{name}'")
         self.expect_fault("md5sum --t=1 a", "option '--t' is ambiguous")
         self.expect_fault("md5sum --=x a", "option '--' is ambiguous")
+        for word, full in (("--tag=", "tag"), ("--ta=1", "tag"), ("--help=1", "help"),
+                           ("--version=", "version"), ("--i=x", "ignore-missing"), ("--zero=a=b", "zero")):
+            self.expect_fault(["md5sum", word, "a"], f"option '--{full}' doesn't allow an argument")
+        self.expect_fault("b2sum e --length", "option '--length' requires an argument")
+        self.expect_fault("b2sum e -bl", "option requires an argument -- 'l'")
 
     def test_each_form(self):
         """Each option by its letter, by its name, and by the shortest cut that is left of that."""
@@ -100,26 +101,17 @@ class LongOptions(Case):
             for passed in ("--ignore-missing", "--i"):
                 self.expect(f"md5sum {form} {passed} some", out=["a: OK"])
 
-    def test_values(self):
-        for word, full in (("--tag=", "tag"), ("--ta=1", "tag"), ("--help=1", "help"),
-                           ("--version=", "version"), ("--i=x", "ignore-missing"), ("--zero=a=b", "zero")):
-            self.expect_fault(["md5sum", word, "a"], f"option '--{full}' doesn't allow an argument")
-        self.expect_fault("b2sum e --length", "option '--length' requires an argument")
-        self.expect_fault("b2sum e -bl", "option requires an argument -- 'l'")
-
 
 class ShortOptions(Case):
     """Fault 5, clusters, and where options end."""
 
-    def test_unknown(self):
+    def test_faults_and_clusters(self):
         self.expect_fault("md5sum -l 8 a", "invalid option -- 'l'")
         self.expect_fault("md5sum -b- a", "invalid option -- '-'")
         self.expect_fault(["md5sum", "-é"], "invalid option -- 'é'")
         self.expect_fault(["md5sum", "-\n"], "invalid option -- '\\n'")
         self.expect_fault(["md5sum", "-\\"], "invalid option -- '\\\\'")
         self.expect_fault(["md5sum", "- a"], "invalid option -- ' '")
-
-    def test_clusters_and_operands(self):
         self.expect("md5sum -bz a", out=f"{M} *a\0")
         self.expect("b2sum -bl 256 e", out=[f"{B} *e"])
         self.expect_fault("b2sum -l256b e", "invalid length: '256b'")
@@ -136,15 +128,13 @@ class ShortOptions(Case):
 class Lengths(Case):
     """Faults 6 and 7."""
 
-    def test_invalid(self):
+    def test_lengths(self):
         for value in ("520", "513", "+8", "", " 8", "8 ", "-8", "0x8", "8.0", "٨", "9" * 50, "a\n"):
             shown = value.replace("\n", "\\n")
             self.expect_fault(["b2sum", "-l", value, "e"], f"invalid length: '{shown}'")
             self.expect_fault(["b2sum", f"--length={value}", "e"], f"invalid length: '{shown}'")
         for value in ("12", "1", "511", "0012"):
             self.expect_fault(["b2sum", "-l", value, "e"], f"length is not a multiple of 8: '{value}'")
-
-    def test_the_last_counts(self):
         self.expect(["b2sum", "-l", "0" * 60 + "256", "e"], out=[f"{B}  e"])
         self.expect(["b2sum", "-l", "0" * 60, "e"], out=[f"{TOOLS['b2sum'][1]}  e"])
         self.expect("b2sum -l 12 -l 256 e", out=[f"{B}  e"])
@@ -187,11 +177,9 @@ class Combinations(Case):
                 ("sha256sum --str l", f"the --strict option is {WITHOUT_CHECK}")):
             self.expect_fault(words, text)
 
-    def test_tag_and_text(self):
+    def test_tag_and_length(self):
         self.expect_fault("md5sum --tag -b -t a", "--tag does not support --text mode")
         self.expect("md5sum --tag -t -b a", out=[f"MD5 (a) = {M}"])
-
-    def test_check_takes_a_length_and_does_nothing_with_it(self):
         self.write("l", [f"{B}  e"])
         self.expect("b2sum -c -l 8 l", out=["e: OK"])
 

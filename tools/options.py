@@ -1,4 +1,4 @@
-"""The tools, and the options of each as the program itself has them: its help names them, and it takes or refuses them."""
+"""The tools, and the options of each as the program has them: its help names them, and it takes or refuses them."""
 
 import re
 import subprocess

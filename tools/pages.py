@@ -19,6 +19,7 @@ HERE = os.path.dirname(os.path.abspath(__file__))
 TOP = os.path.dirname(HERE)
 PROGRAM = os.path.join(TOP, "digests")  # builds what is stale
 DATE = "2026-11-26"  # of the last change of the texts
+FEWER = ", or fewer with `--length`"
 
 
 def text_of(*names):
@@ -48,7 +49,7 @@ def part_of(block):
 
 
 def page_of(name, source, words, made):
-    """The page of that name by the text in pages/: with these words in the place of @such@, and parts that were made."""
+    """The page of that name by its text in pages/, with these words in the place of @such@, and with made parts."""
     sections = []
     for block in text_of("tools", "pages", source).rstrip("\n").split("\n\n")[1:]:
         condition = re.match(r"\[(!?)([\w ]+)\]\n", block)
@@ -101,7 +102,7 @@ def page_of_tool(tool, known, said):
     standard, tag, bits = TOOLS[tool]
     *names, last = (f"`--{option.long}`" for option in taken(known, NEVER) or known)
     words = {"tool": tool, "tag": tag, "standard": standard, "bits": str(bits), "digits": str((bits or 0) // 4),
-             "fewer": ", or fewer with `--length`" if tool == "b2sum" else "", "refused": f"{', '.join(names)} and {last}",
+             "fewer": FEWER if tool == "b2sum" else "", "refused": f"{', '.join(names)} and {last}",
              "SUMS": "CHECKSUMS" if tag is None else f"{tool[:-3].upper()}SUMS"}
     writing = [option for option in taken(known, ALWAYS, WITHOUT_CHECK) if option.long != "check"]
     items = [option_item(option, said) for option in taken(known, ALWAYS)]
@@ -110,15 +111,16 @@ def page_of_tool(tool, known, said):
         items += [title, *group] if group else []
     purpose = f"print or check {tag} checksums" if tag else "check lists of tagged checksums"
     return page_of(tool, "tool.txt", words, {
-        "NAME": [[f"{tool} \\- {purpose}"]], "OPTIONS": items, "SEE ALSO": see_also(*(it for it in TOOLS if it != tool)),
+        "NAME": [[f"{tool} \\- {purpose}"]], "OPTIONS": items,
+        "SEE ALSO": see_also(*(it for it in TOOLS if it != tool)),
         "SYNOPSIS": [[".nf", *(usage(tool, writing) if taken(known, WITHOUT_CHECK) else ()),
                       *usage(tool, taken(known, WITH_CHECK), "-c"), ".fi"]]})
 
 
 def page_of_program():
     """The page of the program that has all tools in it."""
-    tools = [item(f"`{tool}`", f"{tag} ({standard}), {bits} bits{', or fewer with `--length`' * (tool == 'b2sum')}" if tag
-                  else "checks lists of all these", "12") for tool, (standard, tag, bits) in TOOLS.items()]
+    tools = [item(f"`{tool}`", f"{tag} ({standard}), {bits} bits{FEWER * (tool == 'b2sum')}" if tag else
+                  "checks lists of all these", "12") for tool, (standard, tag, bits) in TOOLS.items()]
     uses = ("`digests` {TOOL} [{OPTION}]... [{FILE}]...", "{TOOL} [{OPTION}]... [{FILE}]...")
     return page_of("digests", "digests.txt", {}, {
         "NAME": [["digests \\- print or check checksums"]], "SYNOPSIS": [[".nf", *map(inline, uses), ".fi"]],

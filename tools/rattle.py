@@ -1,7 +1,6 @@
-"""Reads the crates for those who make pages of them: what the code (`.rt`) declares, with its comments and contracts, and
-what the definitions of `specs/` (`.antt`) say and name. What can't be read raises a ValueError, so that nothing is left
-out unseen. A name counts also where something in its text binds it: so what is reached may be too much, and never too
-little."""
+"""Reads the crates for the makers of pages: what the code (`.rt`) declares, with its comments and contracts, and what
+the definitions of `specs/` (`.antt`) say and name. What can't be read raises a ValueError, so that nothing is left out
+unseen. A name counts also where its text binds it: so what is reached may be too much, and never too little."""
 
 import glob
 import os
@@ -200,7 +199,8 @@ class Code:
         crate, file, owner = found.groups()
         wanted = crate, file.replace(".", "/") + ".rt", name if owner == "TheConstants" else owner
         item = next(it for it in self.items if (it.crate, it.file, it.name) == wanted)
-        if item.kind == "const" and re.search(r"\b[A-Z][A-Z_]+\b", re.sub(r'"(?:\\.|[^"\\])*"', "", item.text[6:].split("=")[1])):
+        value = re.sub(r'"(?:\\.|[^"\\])*"', "", item.text.partition("=")[2])
+        if item.kind == "const" and re.search(r"\b[A-Z][A-Z_]+\b", value):
             raise ValueError(f"a constant that names another can't be read: {item.text}")
         return self.reached(item)
 

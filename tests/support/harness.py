@@ -27,7 +27,7 @@ CASES = 1500
 NOT_FOR_THIS_MACHINE = 127  # the status of a program for later processors than the machine's
 TOP = os.path.dirname(os.path.dirname(os.path.dirname(os.path.abspath(__file__))))
 
-# Against what never ends, and far above what anything takes: a machine that stands still for a while fails no test.
+# Against what never ends, and far above what anything takes: a machine that halts for a while fails no test.
 RUN_SECONDS = 600
 TEST_SECONDS = 1200
 SOON = 60  # for what is there at once

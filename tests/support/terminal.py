@@ -13,7 +13,7 @@ ALL = "\x18a"  # the keys that put all completions into the line
 
 # For each shell: how it is started, and the name of the file that it reads first. That is made of the one beside this,
 # in which each of the names is a function that writes its words into a file.
-SHELLS = {"bash": (["bash", "--noprofile", "--rcfile", "{rc}", "-i"], ".bashrc"), "zsh": (["zsh", "-d", "-i"], ".zshrc")}
+SHELLS = {"bash": ("bash --noprofile --rcfile {rc} -i".split(), ".bashrc"), "zsh": ("zsh -d -i".split(), ".zshrc")}
 
 
 class Terminal:
