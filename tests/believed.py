@@ -56,8 +56,8 @@ def cited(item):
 
 
 def in_files(definitions):
-    """The definitions by their files, each file behind those that it stands on, and else in the order of the crates and
-    of names. In a file its own order is such an order: a definition can use only what stands above it, or elsewhere."""
+    """The definitions by their files, each file after those that it uses, and else in the order of the crates and of
+    names. In a file its own order is such an order: a definition can use only what precedes it there, or elsewhere."""
     specs, files, order, listed = every_definition(), {}, {}, crates()
 
     def place(file):
@@ -69,7 +69,7 @@ def in_files(definitions):
 
     def put(file, above):
         if file in above:
-            raise ValueError(f"these files stand on each other: {above}")
+            raise ValueError(f"these files use each other: {above}")
         needs = {it.file for definition in files[file] for it in specs.meant(definition) & definitions}
         for need in sorted(needs - {file} - order.keys(), key=place):
             put(need, [*above, file])
@@ -91,14 +91,14 @@ def claims():
 
 
 def text():
-    """The contracts, and the definitions themselves behind what their files say of themselves; behind each contract and
+    """The contracts, and the definitions themselves after what their files say of themselves; after each contract and
     before each file what it names of the code, which is shown once and without comments."""
     every, shown = list(claims()), []
     parts = [(f"{it.title} ({it.function} of {it.crate})", it.behind, it.files) for it in every]
     laws = [item for law in code().laws() for item in code().reached(law)]
     besides = every_definition().reached(found for item in laws for found in cited(item)).difference(
         *(it.reached for it in every))
-    parts.append(("The laws, besides what stands above", laws, in_files(besides)))
+    parts.append(("The laws, besides what precedes", laws, in_files(besides)))
     several = of_several(it for _, _, files in parts for them in files.values() for it in them)
 
     def code_of(items):
@@ -126,8 +126,8 @@ def counted(definitions):
 
 
 def renamed(those, several):
-    """The names in definitions or items of one file that stand for another name, or for a module, or for several things
-    in all, each with what it is."""
+    """The names in definitions or items of one file that mean another name, or a module, or several things in all, each
+    with what it is."""
     origins = {name: origin for it in those for name, origin in it.origins().items()}
     for name, (module, there) in sorted(origins.items()):
         if name in several or there not in (name, None) or there is None and module.split(".")[-1] != name:
@@ -152,8 +152,8 @@ def rows_of(page):
 
 
 def tables(page):
-    """The tables of the page, a row a file, as they have to be. What files say is taken from the page, and is `?` where
-    that doesn't tell it."""
+    """The tables of the page, a row a file, as they have to be. What files say is taken from the page, and is `?` if it
+    isn't there."""
     lines = []
     for claim in claims():
         besides = "besides the above:" if lines else "in these files:"

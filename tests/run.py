@@ -81,15 +81,15 @@ def run_over(program, asked, again):
 
 def print_counts(what, counts, seconds):
     passed, failed, skipped = counts
-    told = f"{passed} end-to-end tests passed, {failed} failed, {skipped} skipped, in {seconds:.0f} s"
-    print(f"{what}: {told}", flush=True)
+    said = f"{passed} end-to-end tests passed, {failed} failed, {skipped} skipped, in {seconds:.0f} s"
+    print(f"{what}: {said}", flush=True)
 
 
 def take_usual_settings():
     """Has the tests run under the same settings whoever calls them: what they start is ended by each signal and finds
     the three streams open, and others may read the files that they make."""
-    # As nohup and a shell's background ignore some: what is caught here isn't handed on. The two that Python ignores
-    # itself, some tests hand on.
+    # As nohup and a shell's background ignore some: what is caught here isn't passed on. The two that Python ignores
+    # itself, some tests pass on.
     for number in signal.valid_signals() - {signal.SIGPIPE, signal.SIGXFSZ}:
         if signal.getsignal(number) is signal.SIG_IGN:
             signal.signal(number, lambda *_: None)

@@ -103,7 +103,7 @@ class Ended(Case):
 
 
 class OneFile(Case):
-    """Both outputs in one file or pipe: the lines stand in the order in which they came."""
+    """Both outputs in one file or pipe: the lines have the order in which they came."""
 
     def expect_together(self, words, lines, status):
         """Expects these lines from both outputs together, in a file and through a pipe."""
@@ -116,14 +116,14 @@ class OneFile(Case):
         self.assertEqual(ran.status, status)
 
     def test_good_and_bad_operands(self):
-        """`md5sum a x e d x a 2>&1` tells of each file in its place."""
+        """`md5sum a x e d x a 2>&1` reports each file in its place."""
         os.mkdir(self.path("d"))
         lines = [f"{M}  a", X_MISSING, f"{E}  e", "md5sum: d: Input/output error", X_MISSING, f"{M}  a"]
         self.expect_together("md5sum a x e d x a", lines, 1)
         self.expect_together(["md5sum", *["a", "x"] * 1000], [f"{M}  a", X_MISSING] * 1000, 1)
 
     def test_checking(self):
-        """What a line comes to stands in its place: for a file that can't be read the diagnostic, then the report."""
+        """What a line gives is in its place: for a file that can't be read the diagnostic, then the report."""
         os.mkdir(self.path("d"))
         self.write("l", [f"{M}  a", f"{M}  x", "junk", f"{M}  e", f"{M}  d", f"{E}  e"])
         self.expect_together("md5sum -cw l x l", [*self.reports("l"), X_MISSING, *self.reports("l")], 1)

@@ -18,7 +18,7 @@ class Bench(Case):
             self.assertRegex(ran.err.decode(), rf"\Arun.py: .*{option}")
 
     def test_one_part(self):
-        """Every row has a speed beside GNU, if that is installed, though ours precedes it on the PATH; and quartiles."""
+        """Every row has a speed beside GNU, if that is installed, though ours is first on the PATH; and quartiles."""
         for tool in ("md5sum", "sha256sum"):
             os.symlink(harness.PROGRAM, self.path(tool))
         words = ["--no-bare", "--rounds", "2", "--only", "start", "--program", harness.PROGRAM]

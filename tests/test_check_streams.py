@@ -103,8 +103,8 @@ class Outputs(Case):
 
 
 class Sizes(Case):
-    """Manifests of many lines and of very long ones. The bounds on memory are wide: they tell a program that holds one
-    line from one that holds the manifest."""
+    """Manifests of many lines and of very long ones. The bounds on memory are wide: they tell a program that keeps
+    one line from one that keeps the manifest."""
 
     def test_many_lines(self):
         lines = [f"{M}  a", f"{E} *e"] * 100000

@@ -1,5 +1,5 @@
 """Closed standard streams. Closed standard input is an input that faults, whatever file the system gives its number to;
-closed outputs are write errors where there is something to write."""
+closed outputs are write errors if there is something to write."""
 
 import hashlib
 import os
@@ -17,7 +17,7 @@ ONE_UNREAD = "md5sum: WARNING: 1 listed file could not be read"
 
 def hostile_manifests():
     """Manifests whose entry `-` has the digest of what a reader of the manifest itself would still find in it: nothing
-    where the manifest fits into the reading buffer of 8,192 bytes, else what stands behind that."""
+    if the manifest fits into the reading buffer of 8,192 bytes, else what follows that."""
     yield as_bytes([f"{E}  -"])
     yield as_bytes(["#" * 5000, f"{E}  -"])
     for behind in (b"#" + b"t" * 99 + b"\n", b"#\n" * 5000):
@@ -61,7 +61,7 @@ class ClosedInput(Closing):
         self.assertEqual(ran, Ran(1, b"a: OK\na: OK\n", b"md5sum: standard input: Input/output error\n"))
 
     def test_listed(self):
-        """Its entry can't be read; the manifest's own bytes never stand for it, whatever digest is listed."""
+        """Its entry can't be read; the manifest's own bytes never take its place, whatever digest is listed."""
         for manifest in hostile_manifests():
             self.write("l", manifest)
             ran = self.closed("md5sum -c l", 0)
@@ -134,7 +134,7 @@ class NoRootFolder(Traced):
 
     @needs_strace
     def test_refused(self):
-        """Where the system refuses to open the root folder: never `OK`."""
+        """If the system refuses to open the root folder: never `OK`."""
         for manifest in hostile_manifests():
             self.write("l", manifest)
             options = "-P / -e trace=openat -e inject=openat:error=EACCES"
@@ -161,7 +161,7 @@ class ClosedOutputs(Closing):
         self.assertEqual(self.closed("shasum", 1), Ran(1, b"", b"digests: unknown tool\n"))
 
     def test_checking_without_standard_output(self):
-        """Checking is good where no report was to be written, and a write error else."""
+        """Checking is good if no report was to be written, and a write error else."""
         self.write("good", [f"{M}  a"])
         self.write("l", VERDICTS)
         for words in ("md5sum -c --status good", "md5sum -c --quiet good"):

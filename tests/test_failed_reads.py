@@ -13,7 +13,7 @@ LISTED = b"md5sum: WARNING: 1 listed file could not be read\n"
 
 @needs_strace
 class FailedRead(Traced):
-    """Each read of one file in turn, where the other files can be read, and this one the next time."""
+    """Each read of one file in turn, while the other files can be read, and this one the next time."""
 
     def setUp(self):
         super().setUp()
@@ -44,7 +44,7 @@ class FailedRead(Traced):
         self.expect_each("f", "md5sum -c l", [reports] * READS, b"md5sum: f: Input/output error\n" + LISTED)
 
     def test_list(self):
-        """What is whole before the fault is checked, and nothing behind it."""
+        """What is whole before the fault is checked, and nothing after it."""
         line = as_bytes([f"{M}  a"])
         lines = 2 * PIECE // len(line) + 1
         self.write("l", line * lines)

@@ -12,7 +12,7 @@ STYLES = (["-t"], ["-b"], ["--tag"], ["-z"], ["-z", "-b"], ["-z", "--tag"])
 PLAIN_NAMES = ["a", "e", " ", " lead", "trail ", "*star", "a)", "(b", "x = y", "-dash", "--", "#", "tab\t", "\x01"]
 PLAIN_NAMES += ["é", "日本", "d/f"]
 NEWLINE_NAMES = ["new\nline", "\n", "both\\\n"]
-# In reports of checking, GNU 9.1 escapes a name only where it holds a newline; ours escapes these too, as lines do.
+# In reports of checking, GNU 9.1 escapes a name only if it has a newline; ours escapes these too, as lines do.
 BACKSLASH_NAMES = ["back\\slash", "\\n", "\\", "d/\\"]
 
 

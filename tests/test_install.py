@@ -98,7 +98,7 @@ class Install(Repository):
             self.assertEqual([os.path.relpath(at, self.prefix) for at, _, _ in os.walk(self.prefix)], left)
 
     def test_a_name_that_is_taken(self):
-        """It is named, and nothing is installed or taken away; nor where a file stands in the place of a folder."""
+        """It is named, and nothing is installed or taken away; nor if a file is in the place of a folder."""
         for name in ("bin/md5sum", "bin/sha1sum", "bin/b2sum", "share/man/man1/b2sum.1", LIST, "bin"):
             path = os.path.join(self.prefix, name)
             os.makedirs(os.path.dirname(path))
@@ -114,7 +114,7 @@ class Install(Repository):
             shutil.rmtree(self.prefix)
 
     def test_a_stage(self):
-        """With DESTDIR all stands below that folder, and nothing names it."""
+        """With DESTDIR all is below that folder, and nothing names it."""
         self.prefix = os.path.join(self.folder, "a stage/usr")
         self.assertNotIn("PATH", self.installs("/usr", DESTDIR=self.prefix[:-4]))
         self.assertNotIn(b"stage", self.tree()[LIST])

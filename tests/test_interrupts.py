@@ -25,7 +25,7 @@ class Interrupted(Traced):
             self.assertLessEqual(len(calls), 2000)
 
     def test_every_write_to_standard_output(self):
-        """It is a write error, which standard error still tells."""
+        """It is a write error, which standard error still reports."""
         out = self.path("out")
         self.write("l", [f"{M}  a"])
         for words in ("md5sum a e", "md5sum -z a", "md5sum --help", "md5sum --version", "md5sum -c l"):
@@ -130,7 +130,7 @@ class Counts(Case):
         self.assertLessEqual(count, (len(report) + len(fault)) // 8192 + 4)
 
     def test_standard_error_that_takes_nothing(self):
-        """`md5sum x 2>/dev/full` tries to tell of the file and then of the write error, and no more."""
+        """`md5sum x 2>/dev/full` tries to report the file and then the write error, and no more."""
         with self.full() as full:
             for words in ("md5sum x", "md5sum x x x", "md5sum --foo", "shasum"):
                 status, count = self.writes_of(words, stderr=full)
@@ -138,7 +138,7 @@ class Counts(Case):
                 self.assertLessEqual(count, 2)
 
     def test_standard_output_that_takes_nothing(self):
-        """`md5sum a a a >/dev/full` tries one line, and tells the write error in one write."""
+        """`md5sum a a a >/dev/full` tries one line, and reports the write error in one write."""
         with self.full() as full:
             self.assertEqual(self.writes_of("md5sum a a a", stdout=full), (1, 2))
             self.assertEqual(self.read("err"), WRITE_ERROR)

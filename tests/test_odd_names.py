@@ -1,4 +1,4 @@
-"""Names that aren't UTF-8: such a name is told of, with its own bytes, and everything else is done as without it."""
+"""Names that aren't UTF-8: such a name is reported with its own bytes, and everything else is done as without it."""
 
 import os
 

@@ -66,7 +66,7 @@ BOTH = [line_of(tool, b"image.iso", IMAGE, tagged=True) for tool in ("sha256sum"
 
 
 class Typed(Case):
-    """A folder in which recipes are typed, in bash; and in sh where one isn't for bash alone."""
+    """A folder in which recipes are typed, in bash; and in sh if one isn't for bash alone."""
 
     of_the_repository = True
 
@@ -217,7 +217,7 @@ class Recipes(Typed):
         self.assertEqual(ran.out.count(b"\n"), len(self.there()))
 
     def test_a_changed_file(self):
-        """Each check tells of it; and those of a whole list, of any other file."""
+        """Each check reports it; and those of a whole list, any other file."""
         self.make()
         for recipe, sort, shell in self.each():
             self.put("image.iso", IMAGE)

@@ -67,7 +67,7 @@ class SideBySide(Case):
             self.expect_whole_lines(f'xargs -0 -P 8 -n 1500 "$0" sha256sum <"$1" {end}')
 
     def test_diagnostics_into_one_file(self):
-        """What eight runs say of missing files stands there in whole lines, too."""
+        """What eight runs say of missing files is there in whole lines, too."""
         missing = as_bytes([name_of(number) + "-missing" for number in range(FILES)])
         self.write("names", missing.replace(b"\n", b"\0"))
         script = 'xargs -0 -P 8 -n 1500 "$0" sha256sum <"$1" 2>"$2"'

@@ -47,7 +47,7 @@ class StandardInput(Case):
         self.expect("md5sum", stdin=reads, err=err, status=1)
 
     def test_a_terminal(self):
-        """The end that is typed at a terminal is the end: nothing is read behind it."""
+        """The end that is typed at a terminal is the end: nothing is read after it."""
         shows, writes = pty.openpty()
         self.addCleanup(os.close, shows)
         started = self.start("md5sum - -", stdin=writes, stdout=subprocess.PIPE)

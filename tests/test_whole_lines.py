@@ -1,5 +1,5 @@
 """Each line is handed to the system whole: through a pipe that keeps every write apart, each packet is one line. And
-nothing is lost where the system takes only a part of a write, or nothing."""
+nothing is lost if the system takes only a part of a write, or nothing."""
 
 import fcntl
 import os
@@ -25,7 +25,7 @@ def lines_of(text, end=b"\n"):
 
 
 def state_of(pid):
-    """The state of a process as the system tells it: `S` where it waits, `Z` where it has ended."""
+    """The state of a process as the system has it: `S` if it waits, `Z` if it has ended."""
     try:
         with open(f"/proc/{pid}/stat", "rb") as file:
             return file.read().rpartition(b")")[2].split()[0].decode()
@@ -251,7 +251,7 @@ class ShortWrites(Case):
         self.assertEqual(status, 0)
 
     def test_a_pipe_that_does_not_wait(self):
-        """Where the output has room for one more line and then answers that it has none, that line stands there whole,
+        """If the output has room for one more line and then answers that it has none, that line is there whole,
         nothing of the next one does, and it is a write error."""
         reads, writes, size = self.small_pipe()
         os.set_blocking(writes, False)

@@ -146,7 +146,7 @@ class Combinations(Case):
     """Faults 8 to 17, and the order in which the faults from 6 on are tried."""
 
     def test_the_order_with_check(self):
-        """Each line has all faults that come behind its own, as far as they can stand together."""
+        """Each line has all faults that come after its own, as far as they can be together."""
         for words, text in (
                 ("-c --tag -z l", "the --zero option is not supported when verifying checksums"),
                 ("-t -c l", f"the --binary and --text options are {WITH_CHECK}"),
@@ -190,7 +190,7 @@ class LaterProcessors(Case):
     of_the_repository = True
 
     def test_hidden(self):
-        """Where AVX2 is hidden it ends at once, with a clear message and its own status, before any work."""
+        """If AVX2 is hidden it ends at once, with a clear message and its own status, before any work."""
         program = os.path.join(harness.TOP, "out", "x86-64-v3", "digests")
         if not os.path.exists(program):
             self.skipTest("the program for x86-64-v3 isn't built")

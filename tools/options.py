@@ -25,7 +25,7 @@ ALWAYS, WITH_CHECK, WITHOUT_CHECK, NEVER = "always", "with check", "without chec
 
 class Option(NamedTuple):
     """An option: its letter, name and value, what the help says of it, where it is taken, and whether the program then
-    answers at once and reads no word behind it."""
+    answers at once and reads no word after it."""
 
     short: Optional[str]
     long: str

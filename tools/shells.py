@@ -18,7 +18,7 @@ def quoted(text):
 
 
 def zsh_option(option):
-    """What _arguments is told of an option: what it keeps out, its words, its text and its value."""
+    """What _arguments gets of an option: what it keeps out, its words, its text and its value."""
     text = f"[{option.help}]"
     if option.at_once:
         return quoted(f"(- *)--{option.long}{text}")

@@ -66,7 +66,7 @@ def as_words(words):
 
 @functools.lru_cache
 def gnu(tool):
-    """The path of GNU coreutils' tool of that name, the first on the PATH, or None where it is not installed."""
+    """The path of GNU coreutils' tool of that name, the first on the PATH, or None if it isn't installed."""
     quiet = {"stdin": subprocess.DEVNULL, "stdout": subprocess.PIPE, "stderr": subprocess.DEVNULL}
     for path in filter(None, (shutil.which(tool, path=folder) for folder in os.get_exec_path())):
         said = subprocess.run([path, "--version"], **quiet, timeout=RUN_SECONDS)
@@ -207,7 +207,7 @@ class Case(unittest.TestCase):
         self.assertEqual(got, wanted)
 
     def same(self, got, wanted):
-        """Compares two long texts, and shows only where they part: a whole comparison could take minutes."""
+        """Compares two long texts, and shows only where they differ: a whole comparison could take minutes."""
         got, wanted = as_bytes(got), as_bytes(wanted)
         if got != wanted:
             place = len(os.path.commonprefix([got, wanted]))
@@ -215,7 +215,7 @@ class Case(unittest.TestCase):
             self.fail(f"at byte {place} of {len(got)}, {len(wanted)} wanted: {got[near]!r} != {wanted[near]!r}")
 
     def until(self, condition, what, seconds=SOON):
-        """Waits until the condition holds; the test fails, saying what was awaited, where it doesn't in that time."""
+        """Waits until the condition holds; the test fails, saying what was awaited, if it doesn't in that time."""
         stop = time.monotonic() + seconds
         while not condition():
             self.assertLess(time.monotonic(), stop, f"in {seconds} seconds: {what}")

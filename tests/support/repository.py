@@ -56,7 +56,7 @@ class Repository(Case):
         os.chmod(self.path(f"commands/{name}"), 0o755)
 
     def script(self, name, *words, stdin=b"", **how):
-        """Runs a script of the repository; `RT_..` are told to what stands in for rt, and `calls` says how that was
+        """Runs a script of the repository; `RT_..` are for the script in the place of rt, and `calls` says how it was
         called: the crates and the words."""
         self.write(self.notes, "")
         env = {**self.env, **{key: how.pop(key) for key in list(how) if key.isupper()}}
