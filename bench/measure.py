@@ -1,11 +1,8 @@
-"""Running commands for the benchmarks: their processor time in interleaved rounds, how often they call the system, and
-the peak of their memory."""
+"""Running commands for the benchmarks: their processor time in interleaved rounds, and the peak of their memory."""
 
 import os
 import statistics
 import subprocess
-import tempfile
-import time
 from typing import NamedTuple
 
 
@@ -23,9 +20,8 @@ class Contender:
         """Starts it with standard input from the file `stdin` and standard output into the file `stdout`."""
         with open(stdin, "rb") as source, open(stdout, "wb") as sink:
             err = subprocess.DEVNULL if self.status else None
-            return subprocess.Popen(
-                self.words, executable=self.program, stdin=source, stdout=sink, stderr=err, cwd=folder
-            )
+            return subprocess.Popen(self.words, executable=self.program, stdin=source, stdout=sink, stderr=err,
+                                    cwd=folder)
 
 
 class Times(NamedTuple):
@@ -66,42 +62,17 @@ def measure(contenders, rounds, stdin=os.devnull, stdout=os.devnull, folder=None
     return {name: times_of(some) for name, some in runs.items()}
 
 
-def count_calls(contender, strace, stdin=os.devnull, stdout=os.devnull, folder=None):
-    """How often it calls the system in one run, and how often to write, as `strace` at this path counts; None where
-    that may not trace."""
-    with tempfile.NamedTemporaryFile() as summary:
-        traced = [contender.program or contender.words[0], *contender.words[1:]]
-        words = [strace, "-f", "-c", "-o", summary.name, *traced]
-        if Contender(contender.name, words).start(stdin, stdout, folder).wait() != contender.status:
-            return None
-        rows = [line.split() for line in summary.read().decode().splitlines()]
-    calls = {row[-1]: int(row[3]) for row in rows if len(row) > 4 and row[3].isdecimal()}
-    calls.pop("total", None)
-    return sum(calls.values()), sum(calls.get(name, 0) for name in ("write", "writev"))
-
-
 def peak_memory(contender, stdin=os.devnull, stdout=os.devnull, folder=None):
-    """The peak of resident memory in bytes, or None where the system tells none.
-
-    Linux tells the peak of a running process, which is asked for again and again. What `wait4` tells afterwards is no
-    use here: it counts what the process shared with its parent before it became the command."""
-    for _ in range(5):  # a process that ends very soon may not be seen
+    """The peak of resident memory in bytes, of which Linux is asked again and again while it runs. What `wait4` says
+    afterwards counts what the process shared with its parent before it became the command."""
+    program, peak = os.path.realpath(contender.program or contender.words[0]), 0
+    while not peak:  # a process that ends very soon may not be seen
         started = contender.start(stdin, stdout, folder)
-        peak = 0
         while started.poll() is None:
-            peak = max(peak, peak_so_far(started.pid, os.path.realpath(contender.program or contender.words[0])))
-            time.sleep(0.0002)
-        if peak:
-            return peak
-    return None
-
-
-def peak_so_far(pid, program):
-    """The peak of a running process in bytes; 0 where it isn't that program yet, or no more."""
-    try:
-        if os.readlink(f"/proc/{pid}/exe") != program:
-            return 0
-        with open(f"/proc/{pid}/status", "rb") as file:
-            return next((int(line.split()[1]) * 1024 for line in file if line.startswith(b"VmHWM:")), 0)
-    except OSError:
-        return 0
+            try:
+                if os.readlink(f"/proc/{started.pid}/exe") == program:
+                    with open(f"/proc/{started.pid}/status") as file:
+                        peak = max([peak, *(int(line.split()[1]) * 1024 for line in file if line.startswith("VmHWM:"))])
+            except OSError:  # it has ended
+                pass
+    return peak

@@ -2,10 +2,10 @@
 """Measures the built programs beside GNU coreutils and other tools, in one run:
 `bench/run.py [--size MIB] [--rounds N] [--only PART].. [--program FILE].. [--no-bare]`.
 
-The program of each level that runs on this machine is measured, or each `--program`, beside GNU's tools; in the
-part `hashing` also beside uutils, busybox, OpenSSL and a bare loop over the kit's digest. What isn't installed is left
-out. Times are processor time on one processor, in rounds in which the programs take turns. A speed is GNU's least time
-divided by the program's own: 1.00 is as fast as GNU, 2.00 twice as fast. `docs/PERFORMANCE.md` has the tables."""
+The program of each level that runs on this machine is measured, or each `--program`, beside GNU's tools; in the part
+`hashing` also beside OpenSSL and a bare loop over the kit's digest. What isn't installed is left out. Times are
+processor time on one processor, in rounds in which the programs take turns. A speed is GNU's least time divided by the
+program's own: 1.00 is as fast as GNU, 2.00 twice as fast. `docs/PERFORMANCE.md` has the tables."""
 
 import argparse
 import os
@@ -19,16 +19,16 @@ import tempfile
 HERE = os.path.dirname(os.path.abspath(__file__))
 TOP = os.path.dirname(HERE)
 sys.dont_write_bytecode = True
-sys.path[:0] = [HERE, os.path.join(TOP, "tools")]
+sys.path[:0] = [HERE, os.path.join(TOP, "tools"), os.path.join(TOP, "tests", "support")]
 
-import page_texts  # noqa: E402  (it stands in tools)
-from measure import Contender, count_calls, measure, peak_memory  # noqa: E402  (it stands beside this file)
+import options  # noqa: E402  (it is in tools)
+from harness import gnu  # noqa: E402  (it is in tests/support)
+from measure import Contender, measure, peak_memory  # noqa: E402  (it is beside this file)
 
-TOOLS = [tool for tool in page_texts.TOOLS if tool != "anysum"]
+TOOLS = [tool for tool in options.TOOLS if tool != "anysum"]
 CHECKED = ("md5sum", "sha256sum", "b2sum")
 MIB = 1 << 20
 GNU, BARE, OPENSSL = "GNU", "kit's loop", "openssl"
-OTHERS = {"uutils": "coreutils", "busybox": "busybox"}  # programs that are every tool, by the first word
 
 
 def built_programs():
@@ -67,15 +67,6 @@ def built_bare():
     return program
 
 
-def gnu_tool(tool):
-    """The path of GNU coreutils' tool, the first on the PATH, and its version, or None and None."""
-    for path in filter(None, (shutil.which(tool, path=folder) for folder in os.get_exec_path())):
-        said = subprocess.run([path, "--version"], stdout=subprocess.PIPE, stderr=subprocess.DEVNULL, text=True).stdout
-        if "GNU coreutils" in said:
-            return path, said.splitlines()[0]
-    return None, None
-
-
 def works(words):
     """Whether there is such a command and it hashes nothing well."""
     quiet = {"stdin": subprocess.DEVNULL, "stdout": subprocess.DEVNULL, "stderr": subprocess.DEVNULL}
@@ -94,24 +85,20 @@ class Bench:
         self.size = asked.size
         self.folder = folder
         self.out = os.path.join(folder, "out")
-        self.strace = shutil.which("strace")
         self.rows = []
 
     def contenders(self, tool, *words, status=0):
         """Ours, and GNU's where it is installed, with the same words."""
         found = [Contender(name, [path, tool, *words], status=status) for name, path in self.ours.items()]
-        path, _ = gnu_tool(tool)
-        return found + ([Contender(GNU, [tool, *words], path, status)] if path else [])
+        return found + ([Contender(GNU, [tool, *words], gnu(tool), status)] if gnu(tool) else [])
 
     def hashers(self, tool):
         """All that hash standard input as the tool does."""
         found = self.contenders(tool)
         if self.bare and tool != "b2sum":
             found.append(Contender(BARE, [self.bare, tool]))
-        digest = "blake2b512" if tool == "b2sum" else tool[: -len("sum")]
-        others = [(name, [first, tool]) for name, first in OTHERS.items()]
-        others.append((OPENSSL, ["openssl", "dgst", "-" + digest]))
-        return found + [Contender(name, words) for name, words in others if works(words)]
+        words = ["openssl", "dgst", "-blake2b512" if tool == "b2sum" else f"-{tool[:-3]}"]
+        return found + ([Contender(OPENSSL, words)] if works(words) else [])
 
     def large(self, mebibytes):
         """A file of that size."""
@@ -173,7 +160,7 @@ def bound(times, name):
 def print_speeds(bench):
     """The table of speeds, and the one of the times that they come from."""
     ours = list(bench.ours)
-    names = [*ours, BARE, *OTHERS, OPENSSL]
+    names = [*ours, BARE, OPENSSL]
     names = [name for name in names if any(name in times for _, times in bench.rows)]
     rows = [[work, *(speed(times, name) for name in names), bound(times, ours[0])] for work, times in bench.rows]
     table(["times as fast as GNU", *names, "bound by"], rows)
@@ -183,15 +170,10 @@ def print_speeds(bench):
 
 
 def spread(times):
-    """The least time and the quartiles in milliseconds."""
-    if times is None:
-        return "-"
-    return f"{in_milliseconds(times.least)}, " + " ".join(in_milliseconds(it) for it in times.quartiles)
-
-
-def in_milliseconds(seconds):
-    """A time in milliseconds, of three digits or more."""
-    return f"{seconds * 1000:.0f}" if seconds >= 0.1 else f"{seconds * 1000:.2f}"
+    """The least time and the quartiles in milliseconds, of three digits or more."""
+    found = [times.least, *times.quartiles] if times else []
+    least, *rest = [f"{it * 1000:.0f}" if it >= 0.1 else f"{it * 1000:.2f}" for it in found] or ["-"]
+    return least + (f", {' '.join(rest)}" if rest else "")
 
 
 def hashing(bench):
@@ -236,25 +218,6 @@ def reading(bench):
         words = ["-c", *words, "--status"]
         found = bench.contenders("sha256sum", *words, manifest, status=1)
         bench.add(f"`sha256sum {' '.join(words)}`, {lines}", found, rounds * bench.rounds)
-    size = os.path.getsize(manifest)
-    rows = [[name, f"{it.least / size * 1e9:.2f}"] for name, it in bench.rows[-1][1].items()]
-    table(["bad lines of 75 bytes", "ns a byte"], rows)
-
-
-def calls(bench):
-    """How often the system is called, and how often to write."""
-    if bench.strace is None:
-        print("\nstrace: not installed, system calls aren't counted")
-        return
-    rows = []
-    for words in (("-c",), ("-c", "--status")):
-        cells = [f"`sha256sum {' '.join(words)}`, 200,000 lines"]
-        found = bench.contenders("sha256sum", *words, bench.manifest("sha256sum"))
-        for it in (found[0], found[-1]):
-            counted = count_calls(it, bench.strace, stdout=bench.out, folder=bench.folder)
-            cells.append(f"{counted[0]:,}, {counted[1]:,} to write" if counted else "-")
-        rows.append(cells)
-    table(["system calls", "ours", "GNU" if gnu_tool("sha256sum")[0] else "ours again"], rows)
 
 
 def memory(bench):
@@ -271,29 +234,12 @@ def memory(bench):
     for work, tool, words in works_on:
         found = bench.contenders(tool, *words)
         peaks = [peak_memory(it, stdout=bench.out, folder=bench.folder) for it in found]
-        rows.append([work, *(f"{peak / 1e6:.1f}" if peak else "-" for peak in peaks)])
+        rows.append([work, *(f"{peak / 1e6:.1f}" for peak in peaks)])
     table(["megabytes at most", *(it.name for it in found)], rows)
 
 
-def lines(bench):
-    """Improperly formatted lines of several lengths, 64 MiB of them in all: the time for a byte."""
-    manifest = os.path.join(bench.folder, "long")
-    rows = []
-    for name, length in (("1 KiB", 1 << 10), ("1 MiB", MIB), ("64 MiB", 64 * MIB)):
-        cells = [f"64 MiB of lines of {name}"]
-        for line in (b")" * (length - 1), b" " * (length - 1), b"a" * (length - 1), b"MD5 (" + b")" * (length - 6)):
-            with open(manifest, "wb") as file:
-                for _ in range(64 * MIB // length):
-                    file.write(line + b"\n")
-            ours = bench.contenders("md5sum", "-c", manifest, status=1)[:1]
-            (times,) = measure(ours, bench.rounds, folder=bench.folder).values()
-            cells.append(f"{times.least / (64 * MIB) * 1e9:.3f}")
-        rows.append(cells)
-    table(["ns a byte", "of `)`", "of blanks", "of digits", "tagged, of `)`"], rows)
-
-
 TIMED = {"hashing": hashing, "start": start, "files": files, "reading": reading}
-OTHER = {"calls": calls, "lines": lines, "memory": memory}
+OTHER = {"memory": memory}
 
 
 class Reader(argparse.ArgumentParser):
@@ -320,23 +266,14 @@ def program(word):
 def print_conditions(bench, rounds):
     """What the numbers depend on."""
     (processor,) = os.sched_getaffinity(0)
-    print(f"{platform.platform()}, {os.cpu_count()} processors ({model()}); all on processor {processor}")
+    with open("/proc/cpuinfo") as file:
+        model = next((line.partition(":")[2].strip() for line in file if line.startswith("model name")), "unknown")
+    print(f"{platform.platform()}, {os.cpu_count()} processors ({model}); all on processor {processor}")
     print(f"load {os.getloadavg()[0]:.1f} at the start; {rounds} rounds or more")
-    print(f"GNU: {gnu_tool('md5sum')[1] or 'not installed, left out'}")
-    for name, first in (*OTHERS.items(), (OPENSSL, "openssl")):
-        if shutil.which(first) is None:
-            print(f"{name}: not installed, left out")
-    if bench.bare is None:
-        print(f"{BARE}: left out")
-
-
-def model():
-    """The processor's name, where Linux tells it."""
-    try:
-        with open("/proc/cpuinfo") as file:
-            return next((line.partition(":")[2].strip() for line in file if line.startswith("model name")), "unknown")
-    except OSError:
-        return "unknown"
+    for path in filter(None, [gnu("md5sum")]):
+        print(subprocess.run([path, "--version"], stdout=subprocess.PIPE, text=True).stdout.splitlines()[0])
+    for name in ([] if shutil.which("openssl") else [OPENSSL]) + ([] if bench.bare else [BARE]):
+        print(f"{name}: left out")
 
 
 def main():

@@ -12,12 +12,12 @@ function's parameters, and the models through which it sees their types. So thei
 A definition is counted with the comment above it, without blank lines and those that say how an operator binds. What
 the toolchain's own libraries define, and the types and constants that the code declares, are not counted."""
 
+import collections
 import functools
 import os
 import re
 import signal
 import sys
-from typing import NamedTuple
 
 sys.dont_write_bytecode = True
 
@@ -30,26 +30,11 @@ CLAIMS = [("digests", "run", "The headline"), ("digests", "command", "The progra
 MARKS = "<!-- made by tests/believed.py: what stands below -->\n", "\n<!-- and above this line -->"
 
 
-class Claim(NamedTuple):
-    """A function whose contract is believed, with what the page calls it: the function itself and what gives its words
-    a meaning, the definitions that it reaches, and those of them that no claim before it reaches, by their files."""
+# A function whose contract is believed, with what the page calls it: the function itself and what gives its words a
+# meaning, the definitions that it reaches, and those of them that no claim before it reaches, by their files.
+Claim = collections.namedtuple("Claim", "function crate title behind reached files")
 
-    function: str
-    crate: str
-    title: str
-    behind: list
-    reached: set
-    files: dict
-
-
-@functools.lru_cache(maxsize=None)
-def code():
-    return Code()
-
-
-@functools.lru_cache(maxsize=None)
-def every_definition():
-    return Specs()
+code, every_definition = functools.lru_cache(Code), functools.lru_cache(Specs)  # each is read once
 
 
 def declared(those):
@@ -63,30 +48,28 @@ def declared(those):
 
 def cited(item):
     """The definitions that the clauses of an item name."""
-    specs = every_definition()
+    specs, uses = every_definition(), item.uses
 
     def find(name):
-        module, there = item.uses.get(name, (None, None))
-        return specs.find(module, there) if there else None
+        return specs.find(*uses.get(name, (None, None)))
     return {found for clause in item.clauses for found in specs.named(clause, find, item.uses)}
 
 
 def in_files(definitions):
-    """The definitions by their files, each file behind those that it stands on, and else in the order of the crates and
-    of names. In a file its own order is such an order: a definition can use only what stands above it, or elsewhere."""
+    """The definitions by their files, each file after those that it uses, and else in the order of the crates and of
+    names. In a file its own order is such an order: a definition can use only what precedes it there, or elsewhere."""
     specs, files, order, listed = every_definition(), {}, {}, crates()
 
     def place(file):
         return listed.index(file[0]), file[1]
 
-    for module in specs.modules.values():
-        for definition in module.definitions.values():
-            if definition in definitions:
-                files.setdefault(definition.file, []).append(definition)
+    for definition in (it for module in specs.modules.values() for it in module.definitions.values()):
+        if definition in definitions:
+            files.setdefault(definition.file, []).append(definition)
 
     def put(file, above):
         if file in above:
-            raise ValueError(f"these files stand on each other: {above}")
+            raise ValueError(f"these files use each other: {above}")
         needs = {it.file for definition in files[file] for it in specs.meant(definition) & definitions}
         for need in sorted(needs - {file} - order.keys(), key=place):
             put(need, [*above, file])
@@ -108,14 +91,14 @@ def claims():
 
 
 def text():
-    """The contracts, and the definitions themselves behind what their files say of themselves; behind each contract and
+    """The contracts, and the definitions themselves after what their files say of themselves; after each contract and
     before each file what it names of the code, which is shown once and without comments."""
     every, shown = list(claims()), []
     parts = [(f"{it.title} ({it.function} of {it.crate})", it.behind, it.files) for it in every]
     laws = [item for law in code().laws() for item in code().reached(law)]
     besides = every_definition().reached(found for item in laws for found in cited(item)).difference(
         *(it.reached for it in every))
-    parts.append(("The laws, besides what stands above", laws, in_files(besides)))
+    parts.append(("The laws, besides what precedes", laws, in_files(besides)))
     several = of_several(it for _, _, files in parts for them in files.values() for it in them)
 
     def code_of(items):
@@ -137,17 +120,14 @@ def text():
         yield ""
 
 
-def lines_of(definitions):
-    return sum(it.size for it in definitions)
-
-
 def counted(definitions):
-    return f"{len(definitions)} definition{'s' * (len(definitions) != 1)}, {lines_of(definitions):,} lines"
+    size = sum(it.size for it in definitions)
+    return f"{len(definitions)} definition{'s' * (len(definitions) != 1)}, {size:,} lines"
 
 
 def renamed(those, several):
-    """The names in definitions or items of one file that stand for another name, or for a module, or for several things
-    in all, each with what it is."""
+    """The names in definitions or items of one file that mean another name, or a module, or several things in all, each
+    with what it is."""
     origins = {name: origin for it in those for name, origin in it.origins().items()}
     for name, (module, there) in sorted(origins.items()):
         if name in several or there not in (name, None) or there is None and module.split(".")[-1] != name:
@@ -172,8 +152,8 @@ def rows_of(page):
 
 
 def tables(page):
-    """The tables of the page, a row a file, as they have to be. What files say is taken from the page, and is `?` where
-    that doesn't tell it."""
+    """The tables of the page, a row a file, as they have to be. What files say is taken from the page, and is `?` if it
+    isn't there."""
     lines = []
     for claim in claims():
         besides = "besides the above:" if lines else "in these files:"
@@ -181,7 +161,8 @@ def tables(page):
                   "| definitions | what they say | lines |", "|---|---|---|"]
         says = rows_of(page.partition(f"**{claim.title}**")[2].partition("\n**")[0])
         for (crate, file), them in claim.files.items():
-            lines += [f"| `{crate}/specs/{file}.antt` | {says.get((crate, file), '?')} | {lines_of(them)} |"]
+            size = sum(it.size for it in them)
+            lines += [f"| `{crate}/specs/{file}.antt` | {says.get((crate, file), '?')} | {size} |"]
         lines += [""]
     return "\n".join(lines[:-1])
 

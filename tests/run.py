@@ -1,6 +1,5 @@
 #!/usr/bin/env python3
-"""Runs the end-to-end tests of the built program: `run.py [--without-check] [--only WORD] [--seed N] [--cases N]
-[PROGRAM..]`.
+"""Runs the end-to-end tests of the built program: `run.py [--only WORD] [--seed N] [--cases N] [PROGRAM..]`.
 
 The tests run the program from the outside, on real files, pipes, terminals and devices; some look at the repository.
 With no PROGRAM it is this repository's own, for each level for which it is built. If tests ran, the last line counts
@@ -82,15 +81,15 @@ def run_over(program, asked, again):
 
 def print_counts(what, counts, seconds):
     passed, failed, skipped = counts
-    told = f"{passed} end-to-end tests passed, {failed} failed, {skipped} skipped, in {seconds:.0f} s"
-    print(f"{what}: {told}", flush=True)
+    said = f"{passed} end-to-end tests passed, {failed} failed, {skipped} skipped, in {seconds:.0f} s"
+    print(f"{what}: {said}", flush=True)
 
 
 def take_usual_settings():
     """Has the tests run under the same settings whoever calls them: what they start is ended by each signal and finds
     the three streams open, and others may read the files that they make."""
-    # As nohup and a shell's background ignore some: what is caught here isn't handed on. The two that Python ignores
-    # itself, some tests hand on.
+    # As nohup and a shell's background ignore some: what is caught here isn't passed on. The two that Python ignores
+    # itself, some tests pass on.
     for number in signal.valid_signals() - {signal.SIGPIPE, signal.SIGXFSZ}:
         if signal.getsignal(number) is signal.SIG_IGN:
             signal.signal(number, lambda *_: None)
@@ -104,13 +103,11 @@ def take_usual_settings():
 def main():
     reader = argparse.ArgumentParser(description="Tests the built program from the outside.")
     reader.add_argument("program", nargs="*", help="the program digests; without it, this repository's own")
-    reader.add_argument("--without-check", action="store_true", help="leave out the tests of --check")
     reader.add_argument("--only", default="", metavar="WORD", help="run only the tests whose name holds WORD")
     reader.add_argument("--verbose", action="store_true", help="name each test")
     reader.add_argument("--seed", type=int, help="of the first case at random; without it, a new one each day")
     reader.add_argument("--cases", type=int, default=harness.CASES, help=f"cases at random ({harness.CASES})")
     asked = reader.parse_args()
-    harness.WITHOUT_CHECK = asked.without_check
     harness.SEED, harness.CASES = harness.SEED if asked.seed is None else asked.seed, asked.cases
     programs = [os.path.abspath(program) for program in asked.program] or built_programs()
     if not programs:

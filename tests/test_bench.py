@@ -1,8 +1,6 @@
-"""The benchmark's command: what is wrong with its words is told in one line, before anything is built or measured."""
+"""The benchmark's command: each wrong word is named in one line, before anything is built or measured; and one part."""
 
 import os
-import shutil
-import sys
 
 import harness
 from harness import TOP, Case
@@ -10,34 +8,26 @@ from harness import TOP, Case
 BENCH = os.path.join(TOP, "bench", "run.py")
 
 
-class Words(Case):
-    """What `bench/run.py` is called with."""
-
+class Bench(Case):
     of_the_repository = True
 
-    def bench(self, *words, **how):
-        """Runs the benchmark with these words."""
-        return self.run_command([sys.executable, BENCH, *words], **how)
-
     def test_wrong_words(self):
-        """Each fault is one line that names the option."""
         for option, word in (("--rounds", "0"), ("--size", "1.5"), ("--program", "a"), ("--only", "nothing")):
-            ran = self.bench(option, word)
+            ran = self.run_command([BENCH, option, word])
             self.assertEqual((ran.status, ran.out, ran.err.count(b"\n")), (1, b"", 1), ran.err)
             self.assertRegex(ran.err.decode(), rf"\Arun.py: .*{option}")
 
     def test_one_part(self):
-        """A part can be measured alone; every row has a speed beside GNU, where that is installed, also behind ours on
-        the PATH, and quartiles."""
+        """Every row has a speed beside GNU, if that is installed, though ours is first on the PATH; and quartiles."""
         for tool in ("md5sum", "sha256sum"):
             os.symlink(harness.PROGRAM, self.path(tool))
-        how = {"env": {**os.environ, "PATH": f"{self.folder}:{os.environ['PATH']}"}}
-        ran = self.bench("--no-bare", "--rounds", "2", "--only", "start", "--program", harness.PROGRAM, **how)
+        words = ["--no-bare", "--rounds", "2", "--only", "start", "--program", harness.PROGRAM]
+        ran = self.run_command([BENCH, *words], env={**os.environ, "PATH": f"{self.folder}:{os.environ['PATH']}"})
         self.assertEqual((ran.status, ran.err), (0, b""))
-        self.assertIn(b"\nkit's loop: left out\n", ran.out)
-        for work in ("`sha256sum`, start", "`md5sum /dev/null`, start"):
-            rows = [line for line in ran.out.decode().splitlines() if line.startswith(f"| {work} |")]
-            self.assertEqual(len(rows), 2, ran.out)
-            speed = r"\d+\.\d\d" if harness.gnu("md5sum") else "-"
-            self.assertRegex(rows[0], rf"\| {speed} \| the start of a process \|$")
-            self.assertRegex(rows[1], r"\| \d+\.\d\d, \d+\.\d\d \d+\.\d\d \d+\.\d\d \|$")
+        rows = [line for line in ran.out.decode().splitlines() if ", start |" in line]
+        self.assertEqual(len(rows), 4, ran.out)
+        speed = r"\d+\.\d\d" if harness.gnu("md5sum") else "-"
+        for row in rows[:2]:
+            self.assertRegex(row, rf"\| {speed} \| the start of a process \|$")
+        for row in rows[2:]:
+            self.assertRegex(row, r"\| \d+\.\d\d, \d+\.\d\d \d+\.\d\d \d+\.\d\d \|$")

@@ -12,8 +12,6 @@ from repository import ASKED, BOTH, DEFAULT, FAST, OF_A, Repository
 
 
 class Build(Repository):
-    """In a small copy of the repository."""
-
     def expect_built(self, why, calls=BOTH):
         """A call builds, and a second one finds nothing to build; answers what the first said."""
         ran = self.script("digests", "md5sum", "a")
@@ -30,7 +28,8 @@ class Build(Repository):
         self.assertIn(b"rt says: lib\n", self.read(self.in_top("out/build.log")))
 
     def test_a_changed_source(self):
-        self.build()
+        self.build(RT_EDITS=self.sources[0])
+        self.expect_built("a source changed while it was built")
         for path in [*self.sources, self.in_top("crates/low/src/inner/New.antt")]:
             before = self.programs()
             self.put(path, f"another {path}\n")
@@ -51,10 +50,6 @@ class Build(Repository):
             shutil.rmtree(self.in_top(f"out/{level}"))
             self.expect_built(level, calls)
             self.assertEqual(self.programs(), before)
-
-    def test_a_source_that_changes_while_it_builds(self):
-        self.build(RT_EDITS=self.sources[0])
-        self.expect_built("the next call")
 
     def test_a_failed_build(self):
         """It says why, with the status 1, however often; the old program is neither run nor installed."""
@@ -118,8 +113,6 @@ class Build(Repository):
 
 
 class Launcher(Repository):
-    """`./digests` is the program."""
-
     def setUp(self):
         super().setUp()
         self.build()
@@ -156,8 +149,6 @@ class Launcher(Repository):
 
 
 class SameBytes(Case):
-    """The programs that were really built, and rt itself."""
-
     of_the_repository = True
 
     def test_from_another_folder(self):

@@ -3,7 +3,7 @@
 import os
 
 import harness
-from harness import E, M, S, TOOLS, VERDICTS, VERDICTS_ERR, VERDICTS_OUT, X_MISSING, Case, Ran, as_bytes, needs_check
+from harness import E, M, S, TOOLS, VERDICTS, VERDICTS_ERR, VERDICTS_OUT, X_MISSING, Case, Ran, as_bytes
 
 NONE_FOUND = "no properly formatted checksum lines found"
 SPECIAL = "q\\\nz"
@@ -25,19 +25,16 @@ def wrong(count, tool="md5sum"):
     return f"{tool}: WARNING: {count} computed checksum" + ("" if count == 1 else "s") + " did NOT match"
 
 
-@needs_check
 class Verdicts(Case):
     """What each line of a manifest comes to, and the settings that change what is written."""
 
-    def test_all_verdicts(self):
+    def test_reports_and_strict(self):
         self.write("l", VERDICTS)
         self.expect("md5sum -c l", out=VERDICTS_OUT, err=VERDICTS_ERR, status=1)
         self.expect("md5sum -c", stdin=VERDICTS, out=VERDICTS_OUT, err=VERDICTS_ERR, status=1)
         first, *warnings = VERDICTS_ERR.decode().splitlines()
         named = "md5sum: l: 3: improperly formatted MD5 checksum line"
         self.expect("md5sum -c -w l", out=VERDICTS_OUT, err=[named, first, *warnings], status=1)
-
-    def test_the_last_report_setting_counts(self):
         self.write("l", VERDICTS)
         self.expect("md5sum -c --quiet --status l", err=[X_MISSING], status=1)
         self.expect("md5sum -c --status -w --quiet l", out=NO_OK, err=VERDICTS_ERR, status=1)
@@ -53,8 +50,6 @@ class Verdicts(Case):
                     err=[wrong(1), "md5sum: l4: no file was verified"], status=1)
         err = ["md5sum: l2: no file was verified"]
         self.expect("md5sum -c --ignore-missing l3 l2", out=["a: OK"], err=err, status=1)
-
-    def test_ignore_missing_holds_for_missing_files_alone(self):
         os.mkdir(self.path("d"))
         self.write("l", [f"{M}  d", f"{M}  a/x", f"{M}  a"])
         err = ["md5sum: d: Input/output error", "md5sum: a/x: Input/output error", unread(2)]
@@ -72,41 +67,32 @@ class Verdicts(Case):
     def test_nothing_to_check(self):
         self.expect("md5sum -c", stdin=[f"{M}  -"], err=[f"md5sum: standard input: {NONE_FOUND}"], status=1)
         for words in ("md5sum -c -w e", "md5sum -c --ignore-missing e"):
-            with self.subTest(words=words):
-                self.expect(words, err=[f"md5sum: e: {NONE_FOUND}"], status=1)
+            self.expect(words, err=[f"md5sum: e: {NONE_FOUND}"], status=1)
         self.write("l", ["junk", "", "#"])
         self.expect("md5sum -c -w l", err=["md5sum: l: 1: improperly formatted MD5 checksum line",
                                            f"md5sum: l: {NONE_FOUND}"], status=1)
 
     def test_every_tool_checks_its_own(self):
         for tool, (tag, of_nothing, of_abc) in TOOLS.items():
-            with self.subTest(tool=tool):
-                self.write("l", [f"{of_abc}  a", f"{tag} (e) = {of_nothing}", f"{of_nothing} *a", f"{of_nothing}0  e"])
-                named = f"{tool}: l: 4: improperly formatted {tag} checksum line"
-                self.expect([tool, "-cw", "l"], out=["a: OK", "e: OK", "a: FAILED"],
-                            err=[named, bad(1, tool), wrong(1, tool)], status=1)
+            self.write("l", [f"{of_abc}  a", f"{tag} (e) = {of_nothing}", f"{of_nothing} *a", f"{of_nothing}0  e"])
+            named = f"{tool}: l: 4: improperly formatted {tag} checksum line"
+            self.expect([tool, "-cw", "l"], out=["a: OK", "e: OK", "a: FAILED"],
+                        err=[named, bad(1, tool), wrong(1, tool)], status=1)
 
 
-@needs_check
 class Manifests(Case):
-    """Operands of checking."""
-
-    def test_a_manifest_that_is_missing(self):
+    def test_manifests_that_cannot_be_read(self):
         self.expect("md5sum -c --status x", err=[X_MISSING], status=1)
         self.expect("md5sum -c --ignore-missing x", err=[X_MISSING], status=1)
         self.expect(["md5sum", "-c", SPECIAL], err=["md5sum: q\\\\\\nz: No such file or directory"], status=1)
-
-    def test_a_manifest_that_is_a_directory(self):
         os.mkdir(self.path("d"))
         self.expect("md5sum -c d", err=["md5sum: d: Input/output error"], status=1)
         self.expect("md5sum -c --status d", err=["md5sum: d: Input/output error"], status=1)
 
-    def test_counts_of_their_own(self):
+    def test_counts_and_forms_of_their_own(self):
         self.write("l9", ["junk", f"{M}  a"])
         self.expect("md5sum -cw l9 l9", out=["a: OK"] * 2,
                     err=["md5sum: l9: 1: improperly formatted MD5 checksum line", bad(1)] * 2)
-
-    def test_a_form_of_their_own(self):
         self.write("standard", [f"{M}  a"])
         self.write("reversed", [f"{M} a"])
         self.expect("md5sum -c standard reversed standard", out=["a: OK"] * 3)
@@ -117,36 +103,27 @@ class Manifests(Case):
         script = 'ulimit -n 16; exec "$0" md5sum -c --quiet --strict "$@"'
         self.assertEqual(self.run_command(["sh", "-c", script, harness.PROGRAM, *["l"] * 50]), Ran(0, b"", b""))
 
-    def test_standard_input_listed(self):
+    def test_standard_input(self):
         self.write("l5", [f"{M}  -"])
         self.expect("md5sum -c l5 l5", stdin="abc", out=["-: OK", "-: FAILED"], err=[wrong(1)], status=1)
-
-    def test_standard_input_twice(self):
         self.expect("md5sum -c - -", stdin=[f"{M}  a"], out=["a: OK"],
                     err=[f"md5sum: standard input: {NONE_FOUND}"], status=1)
         self.expect("md5sum -cw - a", stdin=["junk", f"{M}  a"], out=["a: OK"], status=1,
                     err=["md5sum: standard input: 1: improperly formatted MD5 checksum line", bad(1),
                          "md5sum: a: 1: improperly formatted MD5 checksum line", f"md5sum: a: {NONE_FOUND}"])
 
-    def test_lists_are_named_escaped(self):
+    def test_lists_in_lists(self):
         self.write(SPECIAL, ["junk"])
         shown = "md5sum: q\\\\\\nz:"
         self.expect(["md5sum", "-cw", SPECIAL], status=1,
                     err=[f"{shown} 1: improperly formatted MD5 checksum line", f"{shown} {NONE_FOUND}"])
-
-    def test_a_manifest_that_lists_itself(self):
         self.write("l", [f"{E}  l", f"{M}  a"])
         self.expect("md5sum -c l", out=["l: FAILED", "a: OK"], err=[wrong(1)], status=1)
-
-    def test_every_tag_under_anysum(self):
         self.write("m", [f"{tag} (a) = {of_abc}" for tag, _, of_abc in TOOLS.values()])
         self.expect("anysum -c m", out=["a: OK"] * len(TOOLS))
 
 
-@needs_check
 class Lines(Case):
-    """How one line is read."""
-
     def test_written_lines_are_read_back(self):
         names = ["a", SPECIAL, "a\rb", "\\", " ", "*", "a)", "x = y", "#", "\r", "end\r", "tab\t", "é"]
         for name in names:
@@ -155,18 +132,16 @@ class Lines(Case):
                  "#: OK", "\\\\r: OK", "\\end\\r: OK", "tab\t: OK", "é: OK"]
         for tool in TOOLS:
             for style in ("-t", "-b", "--tag"):
-                with self.subTest(tool=tool, style=style):
-                    ran = self.run_words([tool, style, *names])
-                    self.assertEqual((ran.status, ran.err), (0, b""))
-                    self.expect([tool, "-c", "--strict"], stdin=ran.out, out=shown)
-                    if style == "--tag":
-                        self.expect("anysum -c --strict", stdin=ran.out, out=shown)
+                ran = self.run_words([tool, style, *names])
+                self.assertEqual((ran.status, ran.err), (0, b""))
+                self.expect([tool, "-c", "--strict"], stdin=ran.out, out=shown)
+                if style == "--tag":
+                    self.expect("anysum -c --strict", stdin=ran.out, out=shown)
 
     def test_entries(self):
         for line in (f"  {M}  a", f"{M}\t a", f"\\{M}  a", f" \t\\{M} *a",
                      f"MD5 (a) = {M}", f"MD5(a)\t=\t{M}", f" MD5 (a)={M}"):
-            with self.subTest(line=line):
-                self.expect("md5sum -c --strict", stdin=[line], out=["a: OK"])
+            self.expect("md5sum -c --strict", stdin=[line], out=["a: OK"])
         self.write("a)", "abc")
         self.expect("md5sum -c", stdin=[f"MD5 (a)) = {M}"], out=["a): OK"])
         self.write("a\nb", "abc")
@@ -175,13 +150,10 @@ class Lines(Case):
         self.expect("md5sum -c", stdin=[f"{M}  "], out=[" : OK"])
         self.write("*", "abc")
         self.expect("md5sum -c", stdin=[f"{M} *"], out=["*: OK"])
-
-    def test_no_entries(self):
         for line in (f"{M} ", f"{M}", f"\\{M}  q\\x", f"{M}  a\0", f"\\{M}  a\rb", f"\\\\{M}  a",
                      f"MD5 () = {M}", f"MD5  (a) = {M}", f"md5 (a) = {M}", f"MD5 (a) = {M} ", f"MD5 (a) {M}",
                      f"SHA1 (a) = {M}", f"{M[:-1]}  a", f"{M}0  a", f"{M[:-1]}g  a"):
-            with self.subTest(line=line):
-                self.expect("md5sum -c", stdin=[line], err=[f"md5sum: standard input: {NONE_FOUND}"], status=1)
+            self.expect("md5sum -c", stdin=[line], err=[f"md5sum: standard input: {NONE_FOUND}"], status=1)
 
     def test_lines_of_zero(self):
         """None can be read; but what stands before a newline in a name is a line."""
@@ -192,35 +164,24 @@ class Lines(Case):
         written = self.run_words(["md5sum", "-z", "a\nb"]).out
         self.expect("md5sum -c", stdin=written, out=["a: OK"], err=[bad(1)])
 
-    def test_another_tools_lines(self):
+    def test_another_tools_lines_and_no_last_newline(self):
         manifest = [f"SHA512 (a) = {S}", f"SHA256 (a) = {S}"]
         self.expect("sha256sum -c", stdin=manifest, out=["a: OK"], err=[bad(1, "sha256sum")])
-
-    def test_no_last_newline(self):
         self.expect("md5sum -c", stdin=f"{M}  a\r", out=["a: OK"])
         self.expect("md5sum -c --strict", stdin=f"{M}  a\n\r", out=["a: OK"])
 
 
-@needs_check
 class Hostile(Case):
-    """Manifests that mean harm."""
-
-    def test_nothing_in_them(self):
+    def test_nothing_in_them_and_a_long_name(self):
         for content in ("x" * 1000000, "\0" * 1000 + "\n", "   \t\n", "\n" * 100000):
             self.write("h", content)
-            with self.subTest(content=content[:9]):
-                self.expect("md5sum -c h", err=[f"md5sum: h: {NONE_FOUND}"], status=1)
-
-    def test_a_very_long_name(self):
+            self.expect("md5sum -c h", err=[f"md5sum: h: {NONE_FOUND}"], status=1)
         name = "y" * 99966
         self.write("h", f"{M}  {name}")
         self.expect("md5sum -c h", out=[f"{name}: FAILED open or read"],
                     err=[f"md5sum: {name}: Input/output error", unread(1)], status=1)
-
-    def test_lines_around_the_buffer(self):
         for size in range(8185, 8200):
-            with self.subTest(size=size):
-                self.expect("md5sum -c --strict", stdin=["#" * size, f"{M}  a", "", f"{M}  a"], out=["a: OK"] * 2)
+            self.expect("md5sum -c --strict", stdin=["#" * size, f"{M}  a", "", f"{M}  a"], out=["a: OK"] * 2)
 
     def test_names_with_control_bytes(self):
         """They are written as they are, as the manual says."""

@@ -5,12 +5,11 @@ import os
 import subprocess
 
 import harness
-from harness import E, M, VERDICTS, X_MISSING, Case, Ran, as_bytes, limits, needs_check
+from harness import E, M, VERDICTS, X_MISSING, Case, Ran, as_bytes, limits
 
 MEGA = 1000 * 1000
 
 
-@needs_check
 class WhileItComes(Case):
     """Each line is handled before the next one is read."""
 
@@ -31,8 +30,6 @@ class WhileItComes(Case):
         self.assertEqual(started.wait(timeout=harness.RUN_SECONDS), 1)
         self.assertEqual(started.stderr.read(), as_bytes([
             "md5sum: WARNING: 1 listed file could not be read", "md5sum: WARNING: 1 computed checksum did NOT match"]))
-
-    def test_bad_lines_are_named_before_the_manifest_ends(self):
         started = self.start("md5sum -cw", stdin=subprocess.PIPE, stdout=subprocess.DEVNULL, stderr=subprocess.PIPE)
         for number in (1, 2, 3):
             started.stdin.write(b"junk\n")
@@ -71,7 +68,6 @@ class WhileItComes(Case):
                     err=["md5sum: WARNING: 1 computed checksum did NOT match"], status=1)
 
 
-@needs_check
 class Outputs(Case):
     """Reports into outputs that fail."""
 
@@ -106,10 +102,9 @@ class Outputs(Case):
         self.assertEqual(started.wait(timeout=harness.RUN_SECONDS), 1)
 
 
-@needs_check
 class Sizes(Case):
-    """Manifests of many lines and of very long ones. The bounds on memory are wide: they tell a program that holds one
-    line from one that holds the manifest."""
+    """Manifests of many lines and of very long ones. The bounds on memory are wide: they tell a program that keeps
+    one line from one that keeps the manifest."""
 
     def test_many_lines(self):
         lines = [f"{M}  a", f"{E} *e"] * 100000
@@ -128,8 +123,6 @@ class Sizes(Case):
         del reports[77777]
         self.assertEqual(self.read("out"), as_bytes(reports))
         self.assertLess(peak, 25 * MEGA)
-
-    def test_many_lines_from_a_pipe(self):
         self.expect("md5sum -c --quiet --strict", stdin=[f"{M}  a"] * 200000)
 
     def test_one_line_of_100_megabytes_of_nothing(self):
@@ -179,7 +172,7 @@ class Sizes(Case):
         """The run ends at what comes first, and says that one: a line for which there is no memory, or a report that
         can't be written. What is full isn't asked for anything where memory was short before the first report."""
         for before, said in (("", b"md5sum: memory exhausted\n"), (f"{M}  a\n", b"md5sum: write error\n")):
-            with self.subTest(before=before), self.full() as full:
+            with self.full() as full:
                 with open(self.path("l"), "wb") as file:
                     file.write(as_bytes(before))
                     file.seek(2000 * MEGA, os.SEEK_CUR)

@@ -59,15 +59,13 @@ class Shell:
             self.assertEqual(self.lengths(f"{command} --length=51"), {"512"})
         self.assertTrue(all(takes(harness.PROGRAM, "b2sum", "-l", bits) for bits in every))
 
-    def test_files(self):
+    def test_files_and_tools(self):
         for command in ("md5sum ", "digests sha1sum ", "b2sum -c ", "anysum -c ", "b2sum -l 8 ", "b2sum --length=8 ",
                         "md5sum -w some "):
             self.assertEqual(self.offered(f"{command}so"), {"some", "some more"}, command)
         self.write("here/-file", "")
         self.assertEqual(self.offered("md5sum -- -"), {"-file"})
         self.assertEqual(self.offered("digests md5sum -- -"), {"-file"})
-
-    def test_tools(self):
         self.assertEqual(self.offered("digests "), set(NAMES))
         self.assertEqual(self.offered("digests sha2"), {"sha224sum", "sha256sum"})
 
@@ -76,8 +74,6 @@ class Shell:
 
 
 class Typed(Shell):
-    """A shell at a terminal."""
-
     def setUp(self):
         super().setUp()
         self.terminal = Terminal(self.shell, self.folder, self.load, ["digests", *NAMES])
@@ -104,7 +100,6 @@ class Bash(Typed, Case):
             self.assertEqual((ran.status, ran.out), (0, b""))
 
     def test_one_key(self):
-        """As it is most often used."""
         self.terminal.keys = "\t"
         self.assertEqual(self.offered("sha256sum --che"), {"--check"})
         self.assertEqual(self.offered("digests sha5"), {"sha512sum"})
@@ -118,8 +113,6 @@ class Zsh(Typed, Case):
 
 
 class Fish(Shell, Case):
-    """In fish, which has a command for it."""
-
     of_the_repository = True
     shell = "fish"
 

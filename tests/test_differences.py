@@ -7,7 +7,7 @@ import pty
 import subprocess
 
 import harness
-from harness import E, M, Case, Ran, as_bytes, gnu, needs_check
+from harness import E, M, Case, Ran, as_bytes, gnu
 from tracing import needs_strace, strace
 
 VERSION = "(GNU coreutils) 9.1"  # what these tests pin
@@ -40,8 +40,6 @@ class Described(Case):
 
 
 class Messages(Described):
-    """Texts on standard error."""
-
     def test_quoted_names(self):
         """GNU's tools quote some names in messages as a shell does, as one with a space or a control byte."""
         for name, ours, theirs in (("x", "x", "x"), ("x y", "x y", "'x y'"), ("x\ty", "x\ty", "'x'$'\\t''y'"),
@@ -68,28 +66,23 @@ class Messages(Described):
         self.expect_both("md5sum -c d", *said)
 
     def test_help_and_version(self):
-        """Both print other texts."""
         for option in ("--help", "--version"):
             ours, theirs = self.both(["md5sum", option])
             self.assertEqual((ours.status, ours.err, theirs.status, theirs.err), (0, b"", 0, b""))
             self.assertNotEqual(ours.out, theirs.out)
 
-    def test_options_that_are_cut_too_short(self):
-        """GNU's tools name those that are possible, and a value."""
-        more = "Try 'md5sum --help' for more information."
-        said = "md5sum: option '--st' is ambiguous"
-        for value in ("", "=x"):
-            theirs = f"md5sum: option '--st{value}' is ambiguous; possibilities: '--status' '--strict'"
-            self.expect_both(f"md5sum -c --st{value} a", (1, b"", [said, more]), (1, b"", [theirs, more]))
-
     def test_unknown_options(self):
-        """GNU's tools name the value of one, too."""
-        more = "Try 'md5sum --help' for more information."
-        ours, theirs = (f"md5sum: unrecognized option '--{name}'" for name in ("other", "other=x"))
-        self.expect_both("md5sum --other=x a", (1, b"", [ours, more]), (1, b"", [theirs, more]))
+        """GNU's tools name those that are possible, and a value."""
+        cut, possible = "option '--st' is ambiguous", "; possibilities: '--status' '--strict'"
+        for words, ours, theirs in (("-c --st a", cut, cut + possible),
+                                    ("-c --st=x a", cut, f"option '--st=x' is ambiguous{possible}"),
+                                    ("--oth=x a", "unrecognized option '--oth'", "unrecognized option '--oth=x'")):
+            more = "Try 'md5sum --help' for more information."
+            said = [(1, b"", [f"md5sum: {text}", more]) for text in (ours, theirs)]
+            self.expect_both(f"md5sum {words}", *said)
 
     def test_lengths(self):
-        """GNU's tool takes blanks or a plus sign before the number, and tells of a fault in other lines."""
+        """GNU's tool takes blanks or a plus sign before the number, and reports a fault in other lines."""
         for value in (" 256", "\t256", "+256"):
             ours, theirs = self.both(["b2sum", "-l", value, "e"])
             self.assertEqual((ours.status, theirs.status, theirs.out), (1, 0, f"{harness.B}  e\n".encode()))
@@ -110,7 +103,7 @@ class Messages(Described):
             self.assertEqual([ran.status for ran in self.both(f"b2sum {words}")], [0, 0], words)
 
     def test_standard_input_twice(self):
-        """A second `-` is an empty file; GNU's tools read on, and tell a fault again."""
+        """A second `-` is an empty file; GNU's tools read on, and report a fault again."""
         folder = os.open(self.path("d"), os.O_RDONLY)
         self.addCleanup(os.close, folder)
         ours, theirs = ([f"md5sum: -: {fault}"] for fault in ("Input/output error", "Is a directory"))
@@ -118,7 +111,7 @@ class Messages(Described):
         self.expect_alike("md5sum - -", 0, [f"{M}  -", f"{E}  -"], stdin=b"abc")
 
     def test_standard_input_twice_at_a_terminal(self):
-        """There GNU's tools take what comes behind the end that was typed."""
+        """There GNU's tools take what follows the end that was typed."""
         first, second = (hashlib.md5(text).hexdigest() for text in (b"abc\n", b"more\n"))
         for command, wanted in (([harness.PROGRAM, "md5sum"], E), ([gnu("md5sum")], second)):
             typed, shown = pty.openpty()
@@ -127,11 +120,12 @@ class Messages(Described):
             ran = self.run_command([*command, "-", "-"], stdin=shown)
             os.close(shown)
             self.assertEqual(ran, Ran(0, as_bytes([f"{first}  -", f"{wanted}  -"]), b""), command)
+
     def test_what_has_no_effect(self):
-        """The language changes GNU's quotes, and POSIXLY_CORRECT makes every word behind a name one; here neither."""
+        """The language changes GNU's quotes, and POSIXLY_CORRECT makes every word after a name one; here neither."""
         ran = [self.both("b2sum -l x e", env={**os.environ, "LC_ALL": name}) for name in ("C", "C.UTF-8")]
         self.assertEqual(ran[0][0], ran[1][0])
-        if ran[0][1] != ran[1][1]:  # where that language is there
+        if ran[0][1] != ran[1][1]:  # if that language is there
             self.assertIn("\u2018x\u2019", ran[1][1].err.decode())
         theirs = (1, [f"{M}  a"], ["md5sum: -b: No such file or directory"])
         env = {**os.environ, "POSIXLY_CORRECT": "1"}
@@ -139,12 +133,9 @@ class Messages(Described):
         self.expect_alike("md5sum a -b", 0, [f"{M} *a"])
 
 
-@needs_check
 class Checks(Described):
-    """Checking."""
-
     def test_reports(self):
-        """GNU's tools escape a name only where it holds a newline."""
+        """GNU's tools escape a name only if it has a newline."""
         for name, ours, theirs in (("x", "x", "x"), ("x y", "x y", "x y"), ("x\\y", "\\x\\\\y", "x\\y"),
                                    ("x\ry", "\\x\\ry", "x\ry"), ("x\n\\y", "\\x\\n\\\\y", "\\x\\n\\\\y")):
             self.write(name, "abc")
@@ -213,14 +204,14 @@ class Checks(Described):
         self.expect_alike("md5sum -c --strict list", 0, ["a: OK"])
 
     def test_a_name_that_hides_what_follows(self):
-        """Where a list was written with `--zero`, a newline and `#` in a name hide all that follows, in both."""
+        """If a list was written with `--zero`, a newline and `#` in a name hide all that follows, in both."""
         self.write("a\n#", "abc")
         self.write("list", self.run_words(["md5sum", "-z", "a\n#", "e"]).out)
         self.write("e", "changed")
         self.expect_alike("md5sum -c --strict list", 0, ["a: OK"])
 
     def test_a_byte_order_mark(self):
-        """The line behind it is improperly formatted, and the status tells of it with `--strict` alone."""
+        """The line after it is improperly formatted, and the status shows it with `--strict` alone."""
         self.write("list", f"\ufeff{M}  a\n{E}  e\n")
         said = ["md5sum: WARNING: 1 line is improperly formatted"]
         self.expect_alike("md5sum -c list", 0, ["e: OK"], said)
@@ -257,7 +248,7 @@ class Checks(Described):
             self.expect_both("b2sum -c list", ours, theirs)
 
     def test_lines_that_they_do_not_write(self):
-        """GNU's tools read a carriage return as it is in a name behind a leading backslash."""
+        """GNU's tools read a carriage return as it is in a name after a leading backslash."""
         self.write("q\\\rz", "abc")
         self.write("list", f"\\{M}  q\\\\\rz\n{M}  a\n")
         ours = (0, ["a: OK"], ["md5sum: WARNING: 1 line is improperly formatted"])
@@ -317,8 +308,6 @@ class Checks(Described):
 
 
 class Writing(Described):
-    """Lines and outputs."""
-
     def test_tag_and_text(self):
         """`--tag` is refused where `--text` is the last of `--binary`, `--tag` and `--text`, and only there."""
         tagged, more = [f"MD5 (a) = {M}"], "Try 'md5sum --help' for more information."
@@ -328,7 +317,7 @@ class Writing(Described):
             self.expect_alike(f"md5sum {words} a", 1, err=["md5sum: --tag does not support --text mode", more])
 
     def test_an_output_that_fails(self):
-        """It ends the run here; GNU's tools still read the other files, and tell the reason of some faults."""
+        """It ends the run here; GNU's tools still read the other files, and name the reason of some faults."""
         missing = "md5sum: x: No such file or directory"
         with self.full() as full:
             theirs = (1, b"", [missing, "md5sum: write error"])
@@ -355,7 +344,7 @@ class Writing(Described):
             self.assertEqual(found, (status, as_bytes([f"{M}  a"]), status == 1))
 
     def test_one_write_a_line(self):
-        """GNU's tools write each line of standard output at once, as ours do; but not with `--zero`, nor where one has
+        """GNU's tools write each line of standard output at once, as ours do; but not with `--zero`, nor if one has
         over 4,096 bytes."""
         for words, ours, theirs in (("md5sum a e a", 3, 3), ("md5sum --tag a e a", 3, 3), ("md5sum -z a e a", 3, 1),
                                     (f"md5sum {'./' * 2030}a", 1, 1), (f"md5sum {'./' * 2031}a", 1, 2)):

@@ -10,8 +10,6 @@ from rattle import Code, Module, text_of
 
 
 class Documents(Case):
-    """What is made from the tree, or is quoted."""
-
     of_the_repository = True
 
     def test_what_is_believed(self):
@@ -27,7 +25,8 @@ class Documents(Case):
             for name in names:
                 text = code.function(crate, name).text.strip()
                 contract = re.sub(r"(?m)^ +", "", text[text.index("ensures"):] if page == "PROMISES" else text)
-                self.assertIn(contract, re.sub(r"(?m)^ +//.*\n|^ +", "", text_of("docs", f"{page}.md")))
+                shown = re.sub(r"(?m)^ +//.*\n|^ +", "", text_of("docs", f"{page}.md"))
+                self.assertTrue(contract in shown, f"docs/{page}.md doesn't show the contract of {name} as it is")
 
     def test_text(self):
         """`--text` begins with the headline, and counts its definitions as the page does."""
@@ -58,11 +57,10 @@ class Documents(Case):
 
     def test_commands_that_find_files(self):
         """Those of docs/AUDITING.md and docs/CHANGING.md find what they have to."""
-        for page, command, wanted in (
-                ("AUDITING", r"    git diff OLD -- 'crates/\*/specs' (.*)", ["digests/src/run", "digests/src/command",
-                                                                           "digests/src/laws", "sum_lines/src/sinks/sink"]),
-                ("CHANGING", r" +grep -rnF 'No such file' (.*)", ["sum_sources/specs/Contents", "sum_sources/src/fault",
-                                                                  "digests/proofs/MeaningRows"])):
+        contracts = ["digests/src/run", "digests/src/command", "digests/src/laws", "sum_lines/src/sinks/sink"]
+        texts = ["sum_sources/specs/Contents", "sum_sources/src/fault", "digests/proofs/MeaningRows"]
+        for page, command, wanted in (("AUDITING", r"    git diff OLD -- 'crates/\*/specs' (.*)", contracts),
+                                      ("CHANGING", r" +grep -rnF 'No such file' (.*)", texts)):
             words = re.search(rf"(?m)^{command}$", text_of("docs", f"{page}.md"))[1]
             start = "ls" if page == "AUDITING" else "grep -rlF 'No such file'"
             ran = self.run_command(["sh", "-c", f"{start} {words}"], cwd=TOP)

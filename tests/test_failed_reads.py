@@ -3,7 +3,7 @@
 import hashlib
 import os
 
-from harness import E, M, Ran, as_bytes, needs_check
+from harness import E, M, Ran, as_bytes
 from tracing import Traced, needs_strace
 
 PIECE = 8192  # the most bytes of a read
@@ -13,7 +13,7 @@ LISTED = b"md5sum: WARNING: 1 listed file could not be read\n"
 
 @needs_strace
 class FailedRead(Traced):
-    """Each read of one file in turn, where the other files can be read, and this one the next time."""
+    """Each read of one file in turn, while the other files can be read, and this one the next time."""
 
     def setUp(self):
         super().setUp()
@@ -26,10 +26,10 @@ class FailedRead(Traced):
         or as one that would have to wait. Both are no end of the file. Of `outs` each belongs to one read."""
         for error in ("EIO", "EAGAIN"):
             for read, out in enumerate(outs, 1):
-                with self.subTest(words=words, error=error, read=read), open(self.path(stdin), "rb") as file:
+                with open(self.path(stdin), "rb") as file:
                     only = os.fsdecode(self.path(name))
                     ran, _ = self.failing("read", error, words, only=only, when=str(read), stdin=file)
-                    self.assertEqual(ran, Ran(1, as_bytes(out), err))
+                    self.assertEqual(ran, Ran(1, as_bytes(out), err), (words, error, read))
 
     def test_hashing(self):
         """No digest comes of a part of the file."""
@@ -37,16 +37,14 @@ class FailedRead(Traced):
         self.expect_each("f", "md5sum f a f", [[f"{M}  a", self.line]] * READS, fault)
         self.expect_each("f", "md5sum", [b""] * READS, b"md5sum: -: Input/output error\n", stdin="f")
 
-    @needs_check
     def test_listed_file(self):
         """It isn't OK, though its digest is right."""
         self.write("l", [self.line, f"{M}  a", self.line])
         reports = ["f: FAILED open or read", "a: OK", "f: OK"]
         self.expect_each("f", "md5sum -c l", [reports] * READS, b"md5sum: f: Input/output error\n" + LISTED)
 
-    @needs_check
     def test_list(self):
-        """What is whole before the fault is checked, and nothing behind it."""
+        """What is whole before the fault is checked, and nothing after it."""
         line = as_bytes([f"{M}  a"])
         lines = 2 * PIECE // len(line) + 1
         self.write("l", line * lines)
@@ -69,7 +67,6 @@ class FailedRead(Traced):
     def test_each_read_of_a_run(self):
         self.expect_failure("sha256sum f a - e f", "f")
 
-    @needs_check
     def test_each_read_of_a_check(self):
         self.write("l", [self.line, f"#{'#' * PIECE}", f"{M}  a", f"{E}  e"])
         self.write("-l", [f"{M}  a", f"{hashlib.md5(self.read('l')).hexdigest()}  -"])

@@ -6,13 +6,13 @@ import random
 import subprocess
 
 import harness
-from harness import TOOLS, Case, as_bytes, gnu, needs_check
+from harness import TOOLS, Case, as_bytes, gnu
 
 STYLES = (["-t"], ["-b"], ["--tag"], ["-z"], ["-z", "-b"], ["-z", "--tag"])
 PLAIN_NAMES = ["a", "e", " ", " lead", "trail ", "*star", "a)", "(b", "x = y", "-dash", "--", "#", "tab\t", "\x01"]
 PLAIN_NAMES += ["é", "日本", "d/f"]
 NEWLINE_NAMES = ["new\nline", "\n", "both\\\n"]
-# In reports of checking, GNU 9.1 escapes a name only where it holds a newline; ours escapes these too, as lines do.
+# In reports of checking, GNU 9.1 escapes a name only if it has a newline; ours escapes these too, as lines do.
 BACKSLASH_NAMES = ["back\\slash", "\\n", "\\", "d/\\"]
 
 
@@ -43,35 +43,23 @@ class Beside(Case):
 
 
 class SameLines(Beside):
-    """Generation."""
-
     def test_every_style(self):
         for tool in TOOLS:
             for style in STYLES:
-                with self.subTest(tool=tool, style=style):
-                    ours, theirs = self.both(tool, *style, "--", *self.names, *BACKSLASH_NAMES)
-                    self.assertEqual(theirs.status, 0)
-                    self.assertEqual(ours, theirs)
-
-    def test_standard_input(self):
+                ours, theirs = self.both(tool, *style, "--", *self.names, *BACKSLASH_NAMES)
+                self.assertEqual(theirs.status, 0)
+                self.assertEqual(ours, theirs)
         for tool in TOOLS:
             for style in STYLES:
-                with self.subTest(tool=tool, style=style):
-                    ours, theirs = self.both(tool, *style, stdin=b"some bytes\r\n\0")
-                    self.assertEqual(ours, theirs)
+                ours, theirs = self.both(tool, *style, stdin=b"some bytes\r\n\0")
+                self.assertEqual(ours, theirs)
 
     def test_lengths(self):
         for bits in range(8, 513, 8):
-            with self.subTest(bits=bits):
-                ours, theirs = self.both("b2sum", "-l", str(bits), "--tag", "a", "d/f", "back\\slash")
-                self.assertEqual(ours, theirs)
+            ours, theirs = self.both("b2sum", "-l", str(bits), "--tag", "a", "d/f", "back\\slash")
+            self.assertEqual(ours, theirs)
 
-    def test_missing_files(self):
-        ours, theirs = self.both("md5sum", "a", "x", "e")
-        self.assertEqual((ours.status, ours.out), (theirs.status, theirs.out))
-        self.assertEqual(ours.err, b"md5sum: x: No such file or directory\n")
-
-    def test_sizes(self):
+    def test_sizes_and_missing_files(self):
         chance = random.Random(2)
         names = []
         for size in [*range(0, 300, 7), 4095, 4096, 4097, 8191, 8193, 32767, 32768, 32769, 100003, 1 << 20]:
@@ -80,7 +68,9 @@ class SameLines(Beside):
         for tool in TOOLS:
             ours, theirs = self.both(tool, *names)
             self.assertEqual(ours, theirs)
-
+        ours, theirs = self.both("md5sum", "a", "x", "e")
+        self.assertEqual((ours.status, ours.out), (theirs.status, theirs.out))
+        self.assertEqual(ours.err, b"md5sum: x: No such file or directory\n")
 
     def test_more_than_2_to_the_32_bits(self):
         """A sparse file of 512 MiB and 5 bytes, whose number of bits passes 2^32: all tools side by side, and then,
@@ -99,20 +89,18 @@ class SameLines(Beside):
         for tool, (tag, _, _) in TOOLS.items():
             self.assertEqual(lines[tool, harness.PROGRAM], lines[tool, gnu(tool)])
             self.assertTrue(lines[tool, gnu(tool)].startswith(f"{tag} (large) = ".encode()))
-        if not harness.WITHOUT_CHECK:
-            manifest = b"".join(lines[tool, gnu(tool)] for tool in TOOLS)
-            self.expect("anysum -c --strict", stdin=manifest, out=["large: OK"] * len(TOOLS))
+        manifest = b"".join(lines[tool, gnu(tool)] for tool in TOOLS)
+        self.expect("anysum -c --strict", stdin=manifest, out=["large: OK"] * len(TOOLS))
 
 
-@needs_check
 class Verified(Beside):
-    """Manifests of one, checked by the other."""
-
-    def lines_of(self, command, tool, style):
-        """The manifest that a command writes for all files."""
-        ran = self.run_command([*command, *style, "--", *self.names])
-        self.assertEqual((ran.status, ran.err), (0, b""), tool)
-        return ran.out
+    def each(self, styles=STYLES[:3]):
+        """Each tool, each style that can be checked, and the manifest that GNU's tool writes for all files."""
+        for tool in TOOLS:
+            for style in styles:
+                ran = self.run_command([gnu(tool), *style, "--", *self.names])
+                self.assertEqual((ran.status, ran.err), (0, b""), tool)
+                yield tool, style, ran.out
 
     def checks(self, tool, manifest, *options):
         """What ours and theirs say of a manifest."""
@@ -120,91 +108,63 @@ class Verified(Beside):
         return self.both(tool, "-c", *options, "manifest")
 
     def test_untouched(self):
-        for tool in TOOLS:
-            for style in STYLES[:3]:
-                with self.subTest(tool=tool, style=style):
-                    theirs = self.lines_of([gnu(tool)], tool, style)
-                    ours = self.lines_of([harness.PROGRAM, tool], tool, style)
-                    self.assertEqual(ours, theirs)
-                    for options in ([], ["--strict"], ["--quiet"], ["--status"], ["-w"], ["--ignore-missing"]):
-                        ran_ours, ran_theirs = self.checks(tool, theirs, *options)
-                        self.assertEqual(ran_ours, ran_theirs)
-                        self.assertEqual((ran_ours.status, ran_ours.err), (0, b""))
+        for tool, style, manifest in self.each():
+            self.assertEqual(self.run_words([tool, *style, "--", *self.names]).out, manifest)
+            for options in ([], ["--strict"], ["--quiet"], ["--status"], ["-w"], ["--ignore-missing"]):
+                ours, theirs = self.checks(tool, manifest, *options)
+                self.assertEqual(ours, theirs)
+                self.assertEqual((ours.status, ours.err), (0, b""))
 
-    def test_names_with_backslashes(self):
-        self.names = BACKSLASH_NAMES
-        shown = ["\\back\\\\slash: OK", "\\\\\\n: OK", "\\\\\\: OK", "\\d/\\\\: OK"]
-        for tool in TOOLS:
-            for style in STYLES[:3]:
-                with self.subTest(tool=tool, style=style):
-                    ours, theirs = self.checks(tool, self.lines_of([gnu(tool)], tool, style), "--strict")
-                    self.assertEqual(ours, (0, as_bytes(shown), b""))
-                    self.assertEqual((theirs.status, theirs.out.count(b": OK\n"), theirs.err), (0, len(shown), b""))
-
-    def test_tagged_manifests_of_all_tools_under_anysum(self):
-        manifest = b"".join(self.lines_of([gnu(tool)], tool, ["--tag"]) for tool in TOOLS)
+    def test_tags_and_backslashes(self):
+        manifest = b"".join(lines for _, _, lines in self.each([["--tag"]]))
         ran = self.run_words("anysum -c --strict", stdin=manifest)
         self.assertEqual((ran.status, ran.err, ran.out.count(b": OK\n")), (0, b"", len(TOOLS) * len(self.names)))
+        self.names = BACKSLASH_NAMES
+        shown = ["\\back\\\\slash: OK", "\\\\\\n: OK", "\\\\\\: OK", "\\d/\\\\: OK"]
+        for tool, _, manifest in self.each():
+            ours, theirs = self.checks(tool, manifest, "--strict")
+            self.assertEqual(ours, (0, as_bytes(shown), b""))
+            self.assertEqual((theirs.status, theirs.out.count(b": OK\n"), theirs.err), (0, len(shown), b""))
 
     def test_lengths(self):
         for bits in range(8, 513, 8):
             manifest = self.run_command([gnu("b2sum"), "-l", str(bits), "--tag", "a", "d/f", "new\nline"]).out
             ours, theirs = self.checks("b2sum", manifest, "--strict")
-            self.assertEqual(ours, theirs)
-            self.assertEqual(ours.status, 0)
+            self.assertEqual((ours, ours.status), (theirs, 0))
 
     def test_files_changed_and_removed(self):
-        for tool in TOOLS:
-            manifests = [self.lines_of([gnu(tool)], tool, style) for style in STYLES[:3]]
-            self.write("a", "changed")
-            os.remove(self.path("*star"))
-            with open(self.path("new\nline"), "ab") as file:
-                file.write(b"!")
-            for manifest in manifests:
-                for options in ([], ["--quiet"], ["--status"], ["--ignore-missing"], ["--strict", "-w"]):
-                    with self.subTest(tool=tool, options=options, manifest=manifest[:9]):
-                        ours, theirs = self.checks(tool, manifest, *options)
-                        self.assertEqual(ours.status, 1)
-                        self.assertEqual((ours.status, ours.out), (theirs.status, theirs.out))
-                        self.assertEqual(ours.err.count(b"WARNING"), theirs.err.count(b"WARNING"))
-            self.write("a", "abc")
-            self.write("*star", "star")
-            self.write("new\nline", "")
+        manifests = list(self.each())
+        self.write("a", "changed")
+        os.remove(self.path("*star"))
+        self.write("new\nline", "!")
+        for tool, _, manifest in manifests:
+            for options in ([], ["--quiet"], ["--status"], ["--ignore-missing"], ["--strict", "-w"]):
+                ours, theirs = self.checks(tool, manifest, *options)
+                self.assertEqual((ours.status, ours.out), (1, theirs.out))
+                self.assertEqual((theirs.status, theirs.err.count(b"WARNING")), (1, ours.err.count(b"WARNING")))
 
     def test_lines_corrupted_and_reordered(self):
         """Lines in another order, comments, and lines that neither holds to be well formed."""
         chance = random.Random(3)
-        for tool in TOOLS:
-            for style in STYLES[:3]:
-                lines = self.lines_of([gnu(tool)], tool, style).splitlines(keepends=True)
-                chance.shuffle(lines)
-                lines[3:3] = [b"# a comment\n", b"junk\n"]
-                lines[9] = lines[9].replace(b"0", b"g").replace(b"1", b"h").replace(b"2", b"i").replace(b"3", b"j")
-                lines.append(lines[0].rstrip(b"\n"))
-                manifest = b"".join(lines)
-                for options in ([], ["-w"], ["--strict"], ["--status"], ["--strict", "--quiet"]):
-                    with self.subTest(tool=tool, style=style, options=options):
-                        ours, theirs = self.checks(tool, manifest, *options)
-                        self.assertEqual(ours, theirs)
+        for tool, _, manifest in self.each():
+            lines = manifest.splitlines(keepends=True)
+            chance.shuffle(lines)
+            lines[3:3] = [b"# a comment\n", b"junk\n"]
+            lines[9] = lines[9].replace(b"0", b"g").replace(b"1", b"h").replace(b"2", b"i").replace(b"3", b"j")
+            lines.append(lines[0].rstrip(b"\n"))
+            for options in ([], ["-w"], ["--strict"], ["--status"], ["--strict", "--quiet"]):
+                ours, theirs = self.checks(tool, b"".join(lines), *options)
+                self.assertEqual(ours, theirs)
 
-    def test_a_digit_changed(self):
-        for tool in TOOLS:
-            for style in STYLES[:3]:
-                lines = self.lines_of([gnu(tool)], tool, style).splitlines(keepends=True)
-                at = lines[0].index(b"= ") + 2 if style == ["--tag"] else 0
-                digit = b"0" if lines[0][at : at + 1] != b"0" else b"1"
-                lines[0] = lines[0][:at] + digit + lines[0][at + 1 :]
-                with self.subTest(tool=tool, style=style):
-                    ours, theirs = self.checks(tool, b"".join(lines))
-                    self.assertEqual(ours, theirs)
-                    self.assertEqual(ours.status, 1)
-
-    def test_upper_case_digits(self):
+    def test_changed_digits(self):
+        for tool, style, manifest in self.each():
+            at = manifest.index(b"= ") + 2 if style == ["--tag"] else 0
+            digit = b"0" if manifest[at : at + 1] != b"0" else b"1"
+            ours, theirs = self.checks(tool, manifest[:at] + digit + manifest[at + 1 :])
+            self.assertEqual((ours, ours.status), (theirs, 1))
         lines = self.run_command([gnu("md5sum"), "a", "e"]).out.splitlines(keepends=True)
         manifest = b"".join(line[:32].upper() + line[32:] for line in lines)
-        ours, theirs = self.checks("md5sum", manifest)
-        self.assertEqual(ours, theirs)
-        self.assertEqual(ours, (0, b"a: OK\ne: OK\n", b""))
+        self.assertEqual(self.checks("md5sum", manifest), ((0, b"a: OK\ne: OK\n", b""),) * 2)
 
     def test_returns_at_line_ends_and_empty_lines(self):
         """Ours reads what an editor of another system made of a manifest; older versions of theirs don't."""

@@ -90,24 +90,22 @@ class Install(Repository):
 
     def test_folders(self):
         """Those that were made are taken away, and those that were there stay."""
-        self.installs()
-        self.installs("--remove", self.prefix)
-        self.assertFalse(os.path.exists(self.prefix))
-        os.makedirs(os.path.join(self.prefix, "share/man"))
-        self.installs()
-        self.installs("--remove", self.prefix)
-        self.assertEqual([names for _, *names in os.walk(self.prefix)], [[["share"], []], [["man"], []], [[], []]])
+        for left in ([], [".", "share", "share/man"]):
+            if left:
+                os.makedirs(os.path.join(self.prefix, left[-1]))
+            self.installs()
+            self.installs("--remove", self.prefix)
+            self.assertEqual([os.path.relpath(at, self.prefix) for at, _, _ in os.walk(self.prefix)], left)
 
     def test_a_name_that_is_taken(self):
-        """It is named, and nothing is installed or taken away; nor where a file stands in the place of a folder."""
-        for name, make in (("bin/md5sum", lambda path: self.write(path, "theirs")), ("bin/sha1sum", os.mkdir),
-                           ("bin/b2sum", lambda path: os.symlink("/nowhere", path)),
-                           ("share/man/man1/b2sum.1", lambda path: self.write(path, "theirs")),
-                           (LIST, lambda path: self.write(path, "theirs")),
-                           ("bin", lambda path: self.write(path, "theirs"))):
+        """It is named, and nothing is installed or taken away; nor if a file is in the place of a folder."""
+        for name in ("bin/md5sum", "bin/sha1sum", "bin/b2sum", "share/man/man1/b2sum.1", LIST, "bin"):
             path = os.path.join(self.prefix, name)
             os.makedirs(os.path.dirname(path))
-            make(path)
+            if name == "bin/sha1sum":
+                os.mkdir(path)
+            else:
+                os.symlink("/nowhere", path) if name == "bin/b2sum" else self.write(path, "theirs")
             before = self.tree()
             said = self.installs(status=1)
             self.assertIn("" if name == "bin" else f"nothing was installed:\ninstall: {path}\n", said)
@@ -116,7 +114,7 @@ class Install(Repository):
             shutil.rmtree(self.prefix)
 
     def test_a_stage(self):
-        """With DESTDIR all stands below that folder, and nothing names it."""
+        """With DESTDIR all is below that folder, and nothing names it."""
         self.prefix = os.path.join(self.folder, "a stage/usr")
         self.assertNotIn("PATH", self.installs("/usr", DESTDIR=self.prefix[:-4]))
         self.assertNotIn(b"stage", self.tree()[LIST])
@@ -129,8 +127,6 @@ class Install(Repository):
             self.assertTrue(os.path.exists(self.path(f"{prefix}/bin/b2sum")))
             self.installs("--remove", "--", words[-1])
             self.assertFalse(os.path.exists(self.path(f"{prefix}/bin/b2sum")))
-
-    def test_on_the_path(self):
         advice = f"to call the tools by their names, put {self.prefix}/bin first on the PATH\n"
         os.symlink(self.prefix, self.path("same"))
         for first, wanted in ((self.prefix, False), (f"{self.folder}/same", False), (f"{self.folder}/other", True)):

@@ -3,8 +3,7 @@ which makes a call fail."""
 
 import os
 
-import harness
-from harness import E, M, S, X_MISSING, Case, Ran, as_bytes, needs_check
+from harness import E, M, S, X_MISSING, Case, Ran, as_bytes
 from tracing import Traced, needs_strace, sizes
 
 WRITE_ERROR = b"md5sum: write error\n"
@@ -19,28 +18,20 @@ class Interrupted(Traced):
     def test_every_write(self):
         """A run of which every write is interrupted ends with status 1, and writes nothing."""
         self.write("l", [f"{M}  a"])
-        words = ["md5sum a e", "md5sum x", "md5sum --help", "md5sum --version", "md5sum --foo", "shasum"]
-        for one in words if harness.WITHOUT_CHECK else [*words, "md5sum -c l"]:
-            with self.subTest(words=one):
-                ran, calls = self.failing("write,writev", "EINTR", one, timeout=ENDLESS)
-                self.assertEqual(ran, Ran(1, b"", b""))
-                self.assertLessEqual(len(calls), 2000)
+        for words in ("md5sum a e", "md5sum x", "md5sum --help", "md5sum --version", "md5sum --foo", "shasum",
+                      "md5sum -c l"):
+            ran, calls = self.failing("write,writev", "EINTR", words, timeout=ENDLESS)
+            self.assertEqual(ran, Ran(1, b"", b""))
+            self.assertLessEqual(len(calls), 2000)
 
     def test_every_write_to_standard_output(self):
-        """It is a write error, which standard error still tells."""
+        """It is a write error, which standard error still reports."""
         out = self.path("out")
-        for words in ("md5sum a e", "md5sum -z a", "md5sum --help", "md5sum --version"):
-            with self.subTest(words=words):
-                ran, calls = self.failing("write,writev", "EINTR", words, only=out, timeout=ENDLESS)
-                self.assertEqual(ran, Ran(1, b"", WRITE_ERROR))
-                self.assertEqual(len(calls), 1000)
-
-    @needs_check
-    def test_every_write_of_a_report(self):
-        """The same in checking."""
         self.write("l", [f"{M}  a"])
-        ran, _ = self.failing("write,writev", "EINTR", "md5sum -c l", only=self.path("out"), timeout=ENDLESS)
-        self.assertEqual(ran, Ran(1, b"", WRITE_ERROR))
+        for words in ("md5sum a e", "md5sum -z a", "md5sum --help", "md5sum --version", "md5sum -c l"):
+            ran, calls = self.failing("write,writev", "EINTR", words, only=out, timeout=ENDLESS)
+            self.assertEqual(ran, Ran(1, b"", WRITE_ERROR))
+            self.assertEqual(len(calls), 1000)
 
     def test_every_write_to_standard_error(self):
         """The run stops with status 1, and the lines before stand."""
@@ -51,13 +42,11 @@ class Interrupted(Traced):
         """Fewer interruptions than a thousand in a row change nothing."""
         lines = as_bytes([f"{M}  a", f"{E}  e"])
         for words, status, err in (("md5sum a e", 0, b""), ("md5sum x a e", 1, as_bytes([X_MISSING]))):
-            with self.subTest(words=words):
-                ran, _ = self.failing("write", "EINTR", words, when=FEW, timeout=ENDLESS)
-                self.assertEqual(ran, Ran(status, lines, err))
+            ran, _ = self.failing("write", "EINTR", words, when=FEW, timeout=ENDLESS)
+            self.assertEqual(ran, Ran(status, lines, err))
         for when in ("1+2", "2+2", "1+3"):
-            with self.subTest(when=when):
-                ran, _ = self.failing("write", "EINTR", ["md5sum", *["a", "x"] * 50], when=when)
-                self.assertEqual(ran, Ran(1, as_bytes([f"{M}  a"] * 50), as_bytes([X_MISSING] * 50)))
+            ran, _ = self.failing("write", "EINTR", ["md5sum", *["a", "x"] * 50], when=when)
+            self.assertEqual(ran, Ran(1, as_bytes([f"{M}  a"] * 50), as_bytes([X_MISSING] * 50)))
 
     def test_every_read(self):
         """A file or a standard input that can never be read is a fault, and the run goes on with the next one."""
@@ -70,16 +59,12 @@ class Interrupted(Traced):
             ran, _ = self.failing("read", "EINTR", "md5sum", only=a, stdin=file, timeout=ENDLESS)
         self.assertEqual(ran, Ran(1, b"", fault % b"-"))
 
-    def test_some_reads(self):
-        """Fewer interruptions than a thousand in a row change nothing."""
+    def test_some_reads_and_opens(self):
+        """Fewer interruptions than a thousand in a row change nothing. The library tries an opening 2^64 - 1 times, so
+        no limit is looked for."""
         a = os.fsdecode(self.path("a"))
         ran, _ = self.failing("read", "EINTR", ["sha256sum", a], only=a, when=FEW, timeout=ENDLESS)
         self.assertEqual(ran, Ran(0, as_bytes([f"{S}  {a}"]), b""))
-
-    def test_some_opens(self):
-        """An opening that is interrupted is tried again, too. The library does so 2^64 - 1 times, so no limit is
-        looked for."""
-        a = os.fsdecode(self.path("a"))
         ran, calls = self.failing("openat", "EINTR", ["md5sum", a], only=a, when=FEW, timeout=ENDLESS)
         self.assertEqual(ran, Ran(0, as_bytes([f"{M}  {a}"]), b""))
         self.assertEqual(len(calls), 1000)
@@ -87,8 +72,6 @@ class Interrupted(Traced):
 
 @needs_strace
 class Calls(Traced):
-    """The calls of a run, one by one."""
-
     def test_one_write_a_line(self):
         """Each descriptor gets one write for each of its lines, and none besides."""
         _, calls = self.traced("-e trace=write,writev", ["md5sum", *["a", "x", "e"] * 100])
@@ -107,13 +90,12 @@ class Calls(Traced):
         """A line of up to 8,192 bytes is one write, and what is longer takes as few as can be."""
         rest = len("md5sum: : Input/output error\n")
         for length in (4097, 8191, 8192, 8193, 16384, 16385, 20000):
-            with self.subTest(length=length):
-                name = "y" * (length - rest)
-                ran, calls = self.traced("-e trace=write,writev", ["md5sum", "x", name, "x", "a"])
-                whole, behind = divmod(length, 8192)
-                short = len(X_MISSING) + 1
-                self.assertEqual(sizes(calls, 2), [short, *[8192] * whole, *[behind] * (behind > 0), short])
-                self.assertEqual(ran.err, as_bytes([X_MISSING, f"md5sum: {name}: Input/output error", X_MISSING]))
+            name = "y" * (length - rest)
+            ran, calls = self.traced("-e trace=write,writev", ["md5sum", "x", name, "x", "a"])
+            whole, behind = divmod(length, 8192)
+            short = len(X_MISSING) + 1
+            self.assertEqual(sizes(calls, 2), [short, *[8192] * whole, *[behind] * (behind > 0), short])
+            self.assertEqual(ran.err, as_bytes([X_MISSING, f"md5sum: {name}: Input/output error", X_MISSING]))
 
     def test_escapes(self):
         """An escaped name makes no more writes than any other."""
@@ -129,19 +111,13 @@ class Calls(Traced):
 class Counts(Case):
     """How often the system is called to write, as it counts itself."""
 
-    def test_lines(self):
-        """N lines make N writes."""
+    def test_lines_and_reports(self):
         self.assertEqual(self.writes_of(["md5sum", *["a", "x"] * 500]), (1, 1000))
         self.assertEqual(self.writes_of(["md5sum", "-z", *["a"] * 500]), (0, 500))
-
-    @needs_check
-    def test_reports(self):
-        """So do N reports."""
         self.write("l", [f"{M}  a"] * 5000)
         self.assertEqual(self.writes_of("md5sum -c l"), (0, 5000))
         self.assertEqual(self.writes_of("md5sum -c --quiet l"), (0, 0))
 
-    @needs_check
     def test_a_million_escapes(self):
         """A line of a manifest with a million escaped characters is written by the buffer, not by the character."""
         self.write("l", [f"\\{M}  " + "\\\\" * 1000000, f"{M}  a"])
@@ -154,16 +130,15 @@ class Counts(Case):
         self.assertLessEqual(count, (len(report) + len(fault)) // 8192 + 4)
 
     def test_standard_error_that_takes_nothing(self):
-        """`md5sum x 2>/dev/full` tries to tell of the file and then of the write error, and no more."""
+        """`md5sum x 2>/dev/full` tries to report the file and then the write error, and no more."""
         with self.full() as full:
             for words in ("md5sum x", "md5sum x x x", "md5sum --foo", "shasum"):
-                with self.subTest(words=words):
-                    status, count = self.writes_of(words, stderr=full)
-                    self.assertEqual(status, 1)
-                    self.assertLessEqual(count, 2)
+                status, count = self.writes_of(words, stderr=full)
+                self.assertEqual(status, 1)
+                self.assertLessEqual(count, 2)
 
     def test_standard_output_that_takes_nothing(self):
-        """`md5sum a a a >/dev/full` tries one line, and tells the write error in one write."""
+        """`md5sum a a a >/dev/full` tries one line, and reports the write error in one write."""
         with self.full() as full:
             self.assertEqual(self.writes_of("md5sum a a a", stdout=full), (1, 2))
             self.assertEqual(self.read("err"), WRITE_ERROR)

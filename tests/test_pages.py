@@ -6,14 +6,12 @@ import re
 import shutil
 
 import harness
-from harness import TOP, Case, Ran, needs_check
+from harness import TOP, Case, Ran
 from options import takes
 from recipes import NAMES, TOOLS, path_of, sections_of
 
 
 class Pages(Case):
-    """Each page."""
-
     of_the_repository = True
 
     def test_made_pages_are_in_the_tree(self):
@@ -39,7 +37,6 @@ class Pages(Case):
                 self.assertIn(f"--{long}", sections_of(tool)["DESCRIPTION"])
 
     def test_as_a_person_sees_them(self):
-        """`man` and `mandoc` find no fault."""
         if shutil.which("man") is None:
             self.skipTest("man isn't installed")
         for name in NAMES:
@@ -50,7 +47,6 @@ class Pages(Case):
             self.assertEqual(self.run_command(["mandoc", "-T", "lint", *map(path_of, NAMES)]), Ran(0, b"", b""))
 
 
-@needs_check
 class Said(Case):
     """What the program says on standard error is in the DIAGNOSTICS of its page."""
 

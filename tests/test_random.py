@@ -6,7 +6,7 @@ import random
 import harness
 import reference
 import reference_words
-from harness import Case, needs_check
+from harness import Case
 
 # What names are made of: whatever lines, escapes and words treat in a way of their own.
 CHARACTERS = ["a", "b", "n", "r", "0", "f", "é", " ", "\t", "*", "\\", "\n", "\r", "(", ")", "=", "#", "-"]
@@ -90,7 +90,6 @@ class AtRandom(Case):
         again = f"tests/run.py --only {self.id()} --seed {self.seed} --cases 1 {harness.PROGRAM}"
         self.assertEqual(self.run_words([tool, *words], stdin), expected, (again, tool, words, manifest, stdin))
 
-    @needs_check
     def test_manifests(self):
         for _ in self.cases():
             words = ["-c"]
@@ -100,7 +99,6 @@ class AtRandom(Case):
                                          ["folder", "manifest"], ["manifest", "x", "-"]])
             self.compare(self.random.choice(list(reference.ALGORITHMS)), words)
 
-    @needs_check
     def test_words(self):
         for _ in self.cases():
             words = self.random.choices(WORDS, k=self.random.randrange(6))

@@ -1,5 +1,5 @@
-"""What the manual pages and README show to be typed: each recipe and example is typed as it is there, over trees in which
-all is well and in which it isn't. Its status is 0 only if all that it is for was done."""
+"""What the manual pages show to be typed: each recipe and example is typed as it is there, over trees in which all is
+well and in which it isn't. Its status is 0 only if all that it is for was done."""
 
 import hashlib
 import os
@@ -8,7 +8,7 @@ import re
 import shutil
 
 import harness
-from harness import Case, Ran, needs_check
+from harness import Case, Ran
 from recipes import NAMES, TOOLS, sections_of
 
 # What a recipe is for, and how it is known. Each recipe is of one sort.
@@ -66,7 +66,7 @@ BOTH = [line_of(tool, b"image.iso", IMAGE, tagged=True) for tool in ("sha256sum"
 
 
 class Typed(Case):
-    """A folder in which recipes are typed, in bash; and in sh where one isn't for bash alone."""
+    """A folder in which recipes are typed, in bash; and in sh if one isn't for bash alone."""
 
     of_the_repository = True
 
@@ -112,8 +112,8 @@ class Typed(Case):
         for folder, _, names in os.walk(top):
             for name in names:
                 path = os.path.join(folder, name)
-                with open(path, "rb") as file:
-                    found[b"." + path[len(top):]] = file.read()
+                if os.path.isfile(path) and not os.path.islink(path):
+                    found[b"." + path[len(top):]] = self.read(path)
         found.pop(b"./SUMS", None)
         return found
 
@@ -160,10 +160,7 @@ class Typed(Case):
         self.assertEqual(set(os.listdir(self.folder)), {"commands", "here", "a", "e"})
 
 
-@needs_check
 class Recipes(Typed):
-    """Each recipe."""
-
     def report(self, sort, verdict):
         """What a check writes of image.iso."""
         name = {"check": "image.iso", "check by pv": "-", "check one": "./image.iso"}.get(sort)
@@ -174,6 +171,8 @@ class Recipes(Typed):
     def test_good_names(self):
         """All of them, in the page's order: lists are as the standards say, and each check passes."""
         self.make()
+        os.symlink("c", self.path("here/some folder/link"))  # which no list has, nor a pipe
+        os.mkfifo(self.path("here/some folder/pipe"))
         for recipe, sort, shell in self.each():
             self.passes(recipe, self.report(sort, "OK") if sort.startswith("check") else b"", shell)
             if sort.startswith("list"):
@@ -194,9 +193,6 @@ class Recipes(Typed):
             self.assertEqual(self.read("here/SUMS"), before)
         for recipe, sort, shell in self.each("check list", "check list on all", "check one"):
             self.passes(recipe, self.report(sort, "OK"), shell)
-
-    def test_unlisted(self):
-        """They are shown escaped."""
         self.make()
         self.passes(self.recipe("list"))
         more = BAD + [b"./more\nlines", b"./more\\"]
@@ -221,7 +217,7 @@ class Recipes(Typed):
         self.assertEqual(ran.out.count(b"\n"), len(self.there()))
 
     def test_a_changed_file(self):
-        """Each check tells of it; and those of a whole list, of any other file."""
+        """Each check reports it; and those of a whole list, any other file."""
         self.make()
         for recipe, sort, shell in self.each():
             self.put("image.iso", IMAGE)
@@ -327,23 +323,8 @@ class Recipes(Typed):
             self.assertEqual(self.is_there("SUMS"), sort == "unlisted")
             os.chmod(self.path("here/shut"), 0o755)
 
-    def test_what_is_no_file(self):
-        """Links, pipes and devices are left out, of a list and of what it lacks."""
-        for recipe, _, shell in self.each("list", "list on all"):
-            self.make()
-            self.passes(recipe, shell=shell)
-            before = sorted(self.read("here/SUMS").splitlines())
-            os.symlink("image.iso", self.path("here/link"))
-            os.symlink("some folder", self.path("here/linked folder"))
-            os.mkfifo(self.path("here/pipe"))
-            self.passes(recipe, shell=shell)
-            self.assertEqual(sorted(self.read("here/SUMS").splitlines()), before)
-            self.passes(self.recipe("unlisted"))
 
-@needs_check
 class Examples(Typed):
-    """The examples of each tool's page."""
-
     def each_tool(self):
         """Each tool with a new tree, and what downloads come with: lines of the image, and of a file that isn't
         there."""
@@ -353,7 +334,6 @@ class Examples(Typed):
             yield tool, [line_of(other, name, IMAGE, tool == "anysum") for name in (b"image.iso", b"other.iso")]
 
     def test_good(self):
-        """Lists are as the standards say, and each check passes."""
         for tool, lines in self.each_tool():
             wanted = {"anysum": BOTH}.get(tool, lines[:1])
             if tool == "b2sum":

@@ -6,18 +6,14 @@ import shutil
 
 import harness
 from harness import TOP, Case, Ran
+from rattle import text_of
 from repository import DEFAULT, FAST, RT, Repository
 
 SCRIPTS = ["digests", "install", "test", "tools/build", ".ci/run"]
 
 
 class Documented(Case):
-    """The scripts themselves, and the sums of what they build."""
-
     of_the_repository = True
-
-    def text(self, name):
-        return self.read(os.path.join(TOP, name)).decode()
 
     def test_shell(self):
         if shutil.which("shellcheck") is None:
@@ -26,10 +22,10 @@ class Documented(Case):
 
     def test_sums(self):
         """Those of the newest version are those of what is built, as docs/PACKAGING.md checks them."""
-        newest = re.split(r"(?m)^## ", self.text("CHANGELOG.md"))[1]
+        newest = re.split(r"(?m)^## ", text_of("CHANGELOG.md"))[1]
         if "  out/" not in newest or not os.path.exists(os.path.join(TOP, "out", FAST, "digests")):
             self.skipTest("the newest version has no sums yet, or nothing is built")
-        command = re.search(r"(?m)^    (grep .* CHANGELOG\.md .*)$", self.text("docs/PACKAGING.md"))[1]
+        command = re.search(r"(?m)^    (grep .* CHANGELOG\.md .*)$", text_of("docs", "PACKAGING.md"))[1]
         ran = self.run_command(["sh", "-c", command.replace("./digests", f"'{harness.PROGRAM}'")], cwd=TOP)
         self.assertEqual(ran, Ran(0, f"out/{DEFAULT}/digests: OK\nout/{FAST}/digests: OK\n".encode(), b""),
                          "what is built is older than its sources, or by another kit (`rt version`) than CHANGELOG's")

@@ -7,7 +7,7 @@ import subprocess
 import tempfile
 
 import harness
-from harness import Case, as_bytes, needs_check
+from harness import Case, as_bytes
 
 FILES = 12000
 TIMES = 5
@@ -50,29 +50,24 @@ class SideBySide(Case):
     def expect_whole_lines(self, script):
         """Runs a script several times, which leaves the lines of the files: each of them once."""
         for turn in range(TIMES):
-            with self.subTest(turn=turn):
-                ran = self.run_script(script, "sums")
-                self.assertEqual((ran.status, ran.err), (0, b""))
-                got = self.read("sums").splitlines()
-                known = set(self.lines)
-                torn = [line for line in got if line not in known]
-                self.assertEqual((len(torn), torn[:3]), (0, []))
-                self.assertTrue(sorted(got) == self.lines, "a line is missing, or stands there twice")
-                if not harness.WITHOUT_CHECK:
-                    with open(self.path("sums"), "rb") as sums:
-                        checked = self.run_words("sha256sum -c --quiet --strict", stdin=sums, cwd=self.tree)
-                    self.assertEqual(checked, (0, b"", b""))
+            ran = self.run_script(script, "sums")
+            self.assertEqual((ran.status, ran.err), (0, b""))
+            got = self.read("sums").splitlines()
+            known = set(self.lines)
+            torn = [line for line in got if line not in known]
+            self.assertEqual((len(torn), torn[:3]), (0, []))
+            self.assertTrue(sorted(got) == self.lines, "a line is missing, or stands there twice")
+            with open(self.path("sums"), "rb") as sums:
+                checked = self.run_words("sha256sum -c --quiet --strict", stdin=sums, cwd=self.tree)
+            self.assertEqual(checked, (0, b"", b""))
 
-    def test_into_a_file(self):
-        """`xargs -P 8 digests sha256sum < names > SUMS` gives every line whole."""
-        self.expect_whole_lines('xargs -0 -P 8 -n 1500 "$0" sha256sum <"$1" >"$2"')
-
-    def test_into_a_pipe(self):
-        """The same through a pipe."""
-        self.expect_whole_lines('xargs -0 -P 8 -n 1500 "$0" sha256sum <"$1" | cat >"$2"')
+    def test_into_a_file_and_a_pipe(self):
+        """`xargs -P 8 digests sha256sum < names > SUMS` gives every line whole, and so does a pipe in its place."""
+        for end in ('>"$2"', '| cat >"$2"'):
+            self.expect_whole_lines(f'xargs -0 -P 8 -n 1500 "$0" sha256sum <"$1" {end}')
 
     def test_diagnostics_into_one_file(self):
-        """What eight runs say of missing files stands there in whole lines, too."""
+        """What eight runs say of missing files is there in whole lines, too."""
         missing = as_bytes([name_of(number) + "-missing" for number in range(FILES)])
         self.write("names", missing.replace(b"\n", b"\0"))
         script = 'xargs -0 -P 8 -n 1500 "$0" sha256sum <"$1" 2>"$2"'
@@ -83,7 +78,6 @@ class SideBySide(Case):
         self.assertEqual((len(torn), torn[:3]), (0, []))
         self.assertEqual(len(said), FILES)
 
-    @needs_check
     def test_reports_into_one_pipe(self):
         """Eight checks at a time write whole reports into one pipe, from which a slow reader takes a page at a time."""
         self.write("l", b"\n".join(self.lines) + b"\n")
@@ -97,23 +91,18 @@ class SideBySide(Case):
         wanted = sorted(8 * [line.partition(b"  ")[2] + b": OK" for line in self.lines])
         self.assertTrue(sorted(got.splitlines()) == wanted, "reports are torn")
 
-    def said_of_missing(self, size, stderr):
-        """Starts eight runs, each over 40 names of missing files for which it says lines of just that size."""
-        rest = b"md5sum: : No such file or directory\n"
-        names = [b"./" * ((size - len(rest) - 9) // 2) for _ in range(8)]
-        names = [name + b"missing%d" % run + b"x" * (size - len(rest) - 8 - len(name))
-                 for run, name in enumerate(names)]
-        started = [self.start(["md5sum", *[os.fsdecode(name)] * 40], stderr=stderr) for name in names]
-        return started, sorted(40 * [b"md5sum: " + name + b": No such file or directory" for name in names])
-
     def test_longest_lines_into_one_pipe(self):
-        """Linux keeps a write into a pipe together up to 4,096 bytes."""
+        """Linux keeps a write into a pipe together up to 4,096 bytes. Each run has 40 names of missing files, of which
+        it says lines of just that size."""
         reads, writes = os.pipe()
         self.addCleanup(os.close, reads)
-        started, wanted = self.said_of_missing(4096, writes)
+        size = 4096 - len(b"md5sum: : No such file or directory\n")
+        names = [(b"./" * 2000 + b"missing%d" % run).ljust(size, b"x") for run in range(8)]
+        started = [self.start(["md5sum", *[os.fsdecode(name)] * 40], stderr=writes) for name in names]
         os.close(writes)
         got = b"".join(iter(lambda: os.read(reads, 1000), b""))
         self.assertEqual([one.wait(timeout=harness.RUN_SECONDS) for one in started], [1] * 8)
+        wanted = sorted(40 * [b"md5sum: " + name + b": No such file or directory" for name in names])
         self.assertTrue(sorted(got.splitlines()) == wanted, "lines are torn")
 
     def test_longest_lines_into_one_file(self):

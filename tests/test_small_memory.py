@@ -4,7 +4,7 @@ does what it should, or says that memory is short; it never does something else.
 import os
 
 import harness
-from harness import E, M, S, X_MISSING, Case, Ran, as_bytes, as_words, needs_check
+from harness import E, M, S, X_MISSING, Case, Ran, as_bytes, as_words
 from reference_words import help_text
 
 STEP = 4  # KiB, a page: no system hands out less
@@ -51,8 +51,7 @@ class SmallMemory(Case):
         first = None
         for limit in self.limits():
             ran = self.limited(limit, words)
-            with self.subTest(words=as_words(words)[:9], limit=limit):
-                self.assertTrue(not self.has_started(ran) or ran in (right, *wrongs), ran)
+            self.assertTrue(not self.has_started(ran) or ran in (right, *wrongs), (as_words(words)[:9], limit, ran))
             if ran == right:
                 first = first or limit
             else:
@@ -67,13 +66,10 @@ class SmallMemory(Case):
         many = self.limited(first, ["sha256sum", *["-t"] * 8000])
         self.assertNotEqual(many, right, "a short run needs as much memory as one of many words")
 
-    def test_help_and_version(self):
+    def test_help_version_and_faults(self):
         """The texts need no memory but that for the words, so they never answer that it is exhausted."""
         self.sweep("sha256sum --help", Ran(0, as_bytes(help_text("sha256sum")), b""), Ran(1, b"", NOT_READ))
         self.sweep("sha256sum --version", Ran(0, b"sha256sum (digests), profile 2\n", b""), Ran(1, b"", NOT_READ))
-
-    def test_faults_of_the_words(self):
-        """What is wrong with the words is told without memory, too."""
         err = ["md5sum: unrecognized option '--foo'", "Try 'md5sum --help' for more information."]
         self.sweep("md5sum --foo", Ran(1, b"", as_bytes(err)), Ran(1, b"", NOT_READ))
         self.sweep("shasum", Ran(1, b"", b"digests: unknown tool\n"), Ran(1, b"", NOT_READ))
@@ -85,7 +81,6 @@ class SmallMemory(Case):
         self.sweep("md5sum a x e", Ran(1, as_bytes(lines), missing), Ran(1, b"", NOT_READ), Ran(1, b"", stop),
                    Ran(1, as_bytes(lines[:1]), stop), Ran(1, as_bytes(lines[:1]), missing + stop))
 
-    @needs_check
     def test_checking(self):
         """A check reports whole lines, and never a wrong one."""
         self.write("l", [f"{M}  a", f"{M}  e"])
@@ -95,12 +90,8 @@ class SmallMemory(Case):
                    Ran(1, b"a: OK\n", stop))
 
 
-@needs_check
 class SmallStack(Case):
-    """A limit on the stack, with no environment."""
-
     def test_64_kib(self):
-        """That is enough, for each tool."""
         for tool, (_, _, of_abc) in harness.TOOLS.items():
             self.write("l", self.run_words([tool, "--tag", "a"]).out)
             for words, out in (([tool, "a"], f"{of_abc}  a\n"), ([tool, "-c", "l"], "a: OK\n"),

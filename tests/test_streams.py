@@ -8,7 +8,7 @@ import subprocess
 
 import harness
 from harness import E, M, TOOLS, VERDICTS, VERDICTS_ERR, VERDICTS_OUT, X_MISSING
-from harness import Case, Ran, as_bytes, limits, needs_check
+from harness import Case, Ran, as_bytes, limits
 
 WRITE_ERROR = b"md5sum: write error\n"
 
@@ -16,31 +16,22 @@ WRITE_ERROR = b"md5sum: write error\n"
 class StandardInput(Case):
     """Input that comes in pieces, late, or not at all."""
 
-    def test_pieces_of_a_pipe(self):
+    def test_pieces_positions_and_faults(self):
         started = self.start("sha256sum", stdin=subprocess.PIPE, stdout=subprocess.PIPE)
         for piece in (b"a", b"b", b"c"):
             started.stdin.write(piece)
             started.stdin.flush()
         out, _ = started.communicate(timeout=harness.RUN_SECONDS)
         self.assertEqual(out, f"{harness.S}  -\n".encode())
-
-    def test_a_file(self):
-        with open(self.path("a"), "rb") as file:
-            self.expect("md5sum", stdin=file, out=[f"{M}  -"])
-
-    def test_a_file_is_read_from_where_it_stands(self):
         self.write("f", "xxabc")
-        with open(self.path("f"), "rb", buffering=0) as file:
-            file.seek(2)
-            self.expect("md5sum", stdin=file, out=[f"{M}  -"])
-
-    def test_a_directory(self):
+        for name, position in (("a", 0), ("f", 2)):
+            with open(self.path(name), "rb", buffering=0) as file:
+                file.seek(position)
+                self.expect("md5sum", stdin=file, out=[f"{M}  -"])
         folder = os.open(self.folder, os.O_RDONLY)
         self.addCleanup(os.close, folder)
         self.expect("md5sum", stdin=folder, err=["md5sum: -: Input/output error"], status=1)
         self.expect("md5sum - a", stdin=folder, out=[f"{M}  a"], err=["md5sum: -: Input/output error"], status=1)
-
-    def test_only_writable(self):
         with open(self.path("w"), "wb") as file:
             self.expect("md5sum", stdin=file, err=["md5sum: -: Input/output error"], status=1)
 
@@ -56,7 +47,7 @@ class StandardInput(Case):
         self.expect("md5sum", stdin=reads, err=err, status=1)
 
     def test_a_terminal(self):
-        """The end that is typed at a terminal is the end: nothing is read behind it."""
+        """The end that is typed at a terminal is the end: nothing is read after it."""
         shows, writes = pty.openpty()
         self.addCleanup(os.close, shows)
         started = self.start("md5sum - -", stdin=writes, stdout=subprocess.PIPE)
@@ -69,20 +60,15 @@ class StandardInput(Case):
 class BrokenInput(Case):
     """Standard input that gives bytes and then a fault."""
 
-    def test_a_content_that_breaks_off_has_no_digest(self):
+    def test_a_fault_after_bytes(self):
         for content in ("", "abc", "y" * 300, "y" * 9000):
-            with self.subTest(length=len(content)):
-                broken = self.broken_input(content)
-                err = ["md5sum: -: Input/output error"]
-                self.expect("md5sum - a", stdin=broken, out=[f"{M}  a"], err=err, status=1)
-
-    @needs_check
-    def test_a_listed_standard_input_that_breaks_off(self):
+            broken = self.broken_input(content)
+            err = ["md5sum: -: Input/output error"]
+            self.expect("md5sum - a", stdin=broken, out=[f"{M}  a"], err=err, status=1)
         self.write("l", [f"{M}  -", f"{M}  a"])
         self.expect("md5sum -c l", stdin=self.broken_input("abc"), out=["-: FAILED open or read", "a: OK"], status=1,
                     err=["md5sum: -: Input/output error", "md5sum: WARNING: 1 listed file could not be read"])
 
-    @needs_check
     def test_a_manifest_cut_at_every_byte(self):
         """Only lines that a newline ended are reported, then the fault, and no summary."""
         manifest = as_bytes(VERDICTS)
@@ -93,26 +79,16 @@ class BrokenInput(Case):
             handled = reports.get(cut, handled)
             out = VERDICTS_OUT.splitlines()[: [0, 1, 1, 1, 2, 3][handled]]
             err = [X_MISSING, fault] if handled >= 4 else [fault]
-            with self.subTest(cut=cut):
-                self.expect("md5sum -c", stdin=self.broken_input(manifest[:cut]), out=out, err=err, status=1)
+            self.expect("md5sum -c", stdin=self.broken_input(manifest[:cut]), out=out, err=err, status=1)
 
 
 class Outputs(Case):
-    """Outputs that fail, end or are slow."""
-
     def test_standard_output_full(self):
         with self.full() as full:
             for words in ("md5sum a", "md5sum --help", "md5sum --version", "md5sum -z a e"):
-                with self.subTest(words=words):
-                    self.expect(words, err=WRITE_ERROR, status=1, stdout=full)
-
-    def test_standard_output_full_names_each_tool(self):
-        with self.full() as full:
+                self.expect(words, err=WRITE_ERROR, status=1, stdout=full)
             for tool in TOOLS:
                 self.expect([tool, "a"], err=[f"{tool}: write error"], status=1, stdout=full)
-
-    def test_nothing_to_write_needs_no_output(self):
-        with self.full() as full:
             self.expect("md5sum x", err=[X_MISSING], status=1, stdout=full)
 
     def test_standard_error_full(self):
@@ -121,23 +97,19 @@ class Outputs(Case):
             for words in ("md5sum --foo", "shasum", ["md5sum", b"-\xff"]):
                 self.expect(words, status=1, stderr=full)
             self.expect("md5sum a", out=[f"{M}  a"], stderr=full)
-
-    def test_both_outputs_full(self):
-        with self.full() as full:
             self.expect("md5sum a x", status=1, stdout=full, stderr=full)
 
     def test_a_reader_that_goes_away(self):
         """It is a write error, whether or not the caller ignores the signal for it."""
         words = [harness.PROGRAM, "md5sum", *["a"] * 20000]
         for ignored in (False, True):
-            with self.subTest(ignored=ignored):
-                started = subprocess.Popen(words, cwd=self.folder, stdout=subprocess.PIPE, stderr=subprocess.PIPE,
-                                           restore_signals=not ignored)
-                self.addCleanup(harness.end, started)
-                self.assertEqual(started.stdout.read(10), M[:10].encode())
-                started.stdout.close()
-                self.assertEqual(started.stderr.read(), WRITE_ERROR)
-                self.assertEqual(started.wait(timeout=harness.RUN_SECONDS), 1)
+            started = subprocess.Popen(words, cwd=self.folder, stdout=subprocess.PIPE, stderr=subprocess.PIPE,
+                                       restore_signals=not ignored)
+            self.addCleanup(harness.end, started)
+            self.assertEqual(started.stdout.read(10), M[:10].encode())
+            started.stdout.close()
+            self.assertEqual(started.stderr.read(), WRITE_ERROR)
+            self.assertEqual(started.wait(timeout=harness.RUN_SECONDS), 1)
 
     def test_a_pipe_into_head(self):
         script = 'exec 3>&1; { "$0" md5sum "$@"; echo "$?" >&3; } | head -c 10 >/dev/null'
@@ -155,23 +127,15 @@ class Outputs(Case):
         self.shown(shows, [f"{M}  p", f"{E}  e"])
         self.assertEqual(started.wait(timeout=harness.RUN_SECONDS), 0)
 
-    def test_a_terminal_as_standard_error(self):
+    def test_a_terminal_and_a_pipe_as_standard_error(self):
         os.mkfifo(self.path("p"))
-        shows, writes = self.terminal()
-        started = self.start("md5sum x p", stdout=subprocess.DEVNULL, stderr=writes)
-        os.close(writes)
-        self.shown(shows, [X_MISSING])
-        with open(self.path("p"), "wb"):
-            pass
-        self.assertEqual(started.wait(timeout=harness.RUN_SECONDS), 1)
-
-    def test_a_pipe_as_standard_error_has_faults_at_once(self):
-        os.mkfifo(self.path("p"))
-        started = self.start("md5sum x p", stdout=subprocess.DEVNULL, stderr=subprocess.PIPE)
-        self.shown(started.stderr.fileno(), [X_MISSING])
-        with open(self.path("p"), "wb"):
-            pass
-        self.assertEqual(started.wait(timeout=harness.RUN_SECONDS), 1)
+        for shows, writes in (self.terminal(), os.pipe()):
+            started = self.start("md5sum x p", stdout=subprocess.DEVNULL, stderr=writes)
+            os.close(writes)
+            self.shown(shows, [X_MISSING])
+            with open(self.path("p"), "wb"):
+                pass
+            self.assertEqual(started.wait(timeout=harness.RUN_SECONDS), 1)
 
 
 class EachByteTheLast(Case):
@@ -202,8 +166,7 @@ class EachByteTheLast(Case):
             ran = self.run_words("md5sum a e", stdout=file, preexec_fn=limits(file_size=10))
         self.assertEqual((ran, self.read("limited")), (Ran(-signal.SIGXFSZ, b"", b""), b"900150983c"))
 
-    @needs_check
-    def test_checking_into_standard_output(self):
+    def test_checking(self):
         self.write("l", VERDICTS)
         for size in range(len(VERDICTS_OUT) + 1):
             ran, out = self.run_limited("md5sum -c l", size, "stdout")
@@ -213,9 +176,6 @@ class EachByteTheLast(Case):
                 self.assertTrue(VERDICTS_ERR.startswith(ran.err[: -len(WRITE_ERROR)]), ran.err)
             else:
                 self.assertEqual(ran.err, VERDICTS_ERR)
-
-    @needs_check
-    def test_checking_into_standard_error(self):
         self.write("l", VERDICTS)
         for size in range(len(VERDICTS_ERR) + 1):
             ran, err = self.run_limited("md5sum -c l", size, "stderr")
@@ -226,10 +186,9 @@ class EachByteTheLast(Case):
 
 
 class Many(Case):
-    """Very many operands, and long ones."""
-
-    def test_fifty_thousand_operands(self):
+    def test_fifty_thousand_operands_and_options(self):
         self.expect(["md5sum", *["a"] * 50000], out=[f"{M}  a"] * 50000)
+        self.expect(["md5sum", *["-b"] * 50000, "a"], out=[f"{M} *a"])
 
     def test_as_many_operands_as_the_system_passes_on(self):
         """Linux passes on a quarter of the stack's limit, a word's bytes, its end and a pointer each."""
@@ -237,14 +196,9 @@ class Many(Case):
         count = min(count, 200000) - sum(len(name) + len(value) + 10 for name, value in os.environ.items()) // 10
         self.expect(["md5sum", *["a"] * count], out=[f"{M}  a"] * count)
 
-    def test_fifty_thousand_options(self):
-        self.expect(["md5sum", *["-b"] * 50000, "a"], out=[f"{M} *a"])
-
-    def test_a_long_name(self):
+    def test_long_names_and_words(self):
         name = "./" * 2000 + "a"
         self.expect(["md5sum", name, "e"], out=[f"{M}  {name}", f"{E}  e"])
-
-    def test_a_long_word(self):
         name = "y" * 100000
         self.expect(["md5sum", name], err=[f"md5sum: {name}: Input/output error"], status=1)
         self.expect_fault(["md5sum", f"--{name}"], f"unrecognized option '--{name}'")
@@ -263,7 +217,6 @@ class Many(Case):
         self.expect(["b2sum", "-l", zeros, "e"], out=[f"{harness.B}  e"])
 
     def test_open_files_are_closed_again(self):
-        """With few descriptors allowed, many operands are still read one after the other."""
         script = 'ulimit -n 16; exec "$0" md5sum "$@"'
         ran = self.run_command(["sh", "-c", script, harness.PROGRAM, *["a"] * 100])
         self.assertEqual(ran, Ran(0, as_bytes([f"{M}  a"] * 100), b""))

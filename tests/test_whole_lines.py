@@ -1,5 +1,5 @@
 """Each line is handed to the system whole: through a pipe that keeps every write apart, each packet is one line. And
-nothing is lost where the system takes only a part of a write, or nothing."""
+nothing is lost if the system takes only a part of a write, or nothing."""
 
 import fcntl
 import os
@@ -10,7 +10,7 @@ import unittest
 
 import harness
 from harness import E, M, S, TOOLS, VERDICTS, VERDICTS_ERR, VERDICTS_OUT, X_MISSING
-from harness import Case, Ran, as_bytes, as_words, needs_check
+from harness import Case, Ran, as_bytes, as_words
 from reference_words import help_text
 
 SPECIAL = "q\\\nz\r"
@@ -25,7 +25,7 @@ def lines_of(text, end=b"\n"):
 
 
 def state_of(pid):
-    """The state of a process as the system tells it: `S` where it waits, `Z` where it has ended."""
+    """The state of a process as the system has it: `S` if it waits, `Z` if it has ended."""
     try:
         with open(f"/proc/{pid}/stat", "rb") as file:
             return file.read().rpartition(b")")[2].split()[0].decode()
@@ -73,10 +73,10 @@ class Packets(Case):
 
 
 class OneWriteALine(Packets):
-    """Generating, and what is said of the words."""
-
     def test_every_style(self):
         """Every line comes whole in each style, with a newline at its end or, under -z, with a NUL."""
+        with open(self.path("a"), "rb") as file:
+            self.expect_packets("sha256sum", out=[f"{S}  -\n"], stdin=file)
         self.write(SPECIAL, "abc")
         for tool, (tag, of_nothing, of_abc) in TOOLS.items():
             forms = {
@@ -88,16 +88,9 @@ class OneWriteALine(Packets):
                 "-zb": [f"{of_abc} *a\0", f"{of_nothing} *e\0", f"{of_abc} *{SPECIAL}\0"],
             }
             for style, lines in forms.items():
-                with self.subTest(tool=tool, style=style):
-                    self.expect_packets([tool, style, "a", "e", SPECIAL], out=lines)
-            with self.subTest(tool=tool, style="-z --tag"):
-                self.expect_packets([tool, "-z", "--tag", "a", SPECIAL], out=[
-                    f"{tag} (a) = {of_abc}\0", f"{tag} ({SPECIAL}) = {of_abc}\0"])
-
-    def test_standard_input(self):
-        """The digest of standard input is one write, too."""
-        with open(self.path("a"), "rb") as file:
-            self.expect_packets("sha256sum", out=[f"{S}  -\n"], stdin=file)
+                self.expect_packets([tool, style, "a", "e", SPECIAL], out=lines)
+            self.expect_packets([tool, "-z", "--tag", "a", SPECIAL], out=[
+                f"{tag} (a) = {of_abc}\0", f"{tag} ({SPECIAL}) = {of_abc}\0"])
 
     def test_diagnostics(self):
         """Every line about a file that can't be read comes whole on standard error."""
@@ -106,27 +99,20 @@ class OneWriteALine(Packets):
         directory = "md5sum: d: Input/output error\n"
         for style in ("-t", "-z"):
             end = "\0" if style == "-z" else "\n"
-            with self.subTest(style=style):
-                words = ["md5sum", style, "a", "x", SPECIAL, "d", "e"]
-                self.expect_packets(words, out=[f"{M}  a{end}", f"{E}  e{end}"],
-                                    err=[X_MISSING + "\n", missing, directory], status=1)
+            words = ["md5sum", style, "a", "x", SPECIAL, "d", "e"]
+            self.expect_packets(words, out=[f"{M}  a{end}", f"{E}  e{end}"],
+                                err=[X_MISSING + "\n", missing, directory], status=1)
 
-    def test_help_and_version(self):
-        """The help is one write, and so is the version."""
+    def test_help_and_faults_of_the_words(self):
         for tool in [*TOOLS, "anysum"]:
-            with self.subTest(tool=tool):
-                self.expect_packets([tool, "--help"], out=[help_text(tool)])
-                self.expect_packets([tool, "--version"], out=[f"{tool} (digests), profile 2\n"])
-
-    def test_faults_of_the_words(self):
-        """What is wrong with the words is told in one write of two lines."""
+            self.expect_packets([tool, "--help"], out=[help_text(tool)])
+            self.expect_packets([tool, "--version"], out=[f"{tool} (digests), profile 2\n"])
         faults = [(["--foo"], "unrecognized option '--foo'"), (["-\n"], "invalid option -- '\\n'"),
                   (["--s"], "option '--s' is ambiguous"), (["--tag=\\"], "option '--tag' doesn't allow an argument"),
                   (["-z", "-c"], "the --zero option is not supported when verifying checksums")]
         for words, text in faults:
-            with self.subTest(words=words):
-                lines = [f"md5sum: {text}", "Try 'md5sum --help' for more information."]
-                self.expect_packets(["md5sum", *words], err=[lines], status=1)
+            lines = [f"md5sum: {text}", "Try 'md5sum --help' for more information."]
+            self.expect_packets(["md5sum", *words], err=[lines], status=1)
 
     def test_the_programs_own_lines(self):
         """An unknown tool, words that aren't read, and a write error are one write each."""
@@ -140,10 +126,9 @@ class OneWriteALine(Packets):
         """A line about a long name is one write as long as a packet holds it."""
         rest = len("md5sum: : Input/output error\n")
         for length in (300, 1000, 2047, 2048, 4094, 4095, 4096):
-            with self.subTest(length=length):
-                name = "y" * (length - rest)
-                err = [f"md5sum: {name}: Input/output error\n"]
-                self.expect_packets(["md5sum", name, "a"], out=[f"{M}  a\n"], err=err, status=1)
+            name = "y" * (length - rest)
+            err = [f"md5sum: {name}: Input/output error\n"]
+            self.expect_packets(["md5sum", name, "a"], out=[f"{M}  a\n"], err=err, status=1)
 
     def test_a_fault_with_a_long_word(self):
         """Its two lines count as one: they are one write as long as both together fit into the buffer."""
@@ -165,10 +150,7 @@ class OneWriteALine(Packets):
         self.assertLessEqual(len(err[1:-1]), 6)
 
 
-@needs_check
 class OneWriteAReport(Packets):
-    """Checking."""
-
     def test_all_verdicts(self):
         """Every report and every warning comes whole, under each setting."""
         self.write("l", VERDICTS)
@@ -193,8 +175,7 @@ class OneWriteAReport(Packets):
                             err=[f"md5sum: x{SPECIAL_SHOWN}: No such file or directory\n",
                                  "md5sum: WARNING: 1 listed file could not be read\n"])
 
-    def test_manifests_that_are_no_good(self):
-        """What is said of a whole manifest is one write."""
+    def test_whole_manifests(self):
         os.mkdir(self.path("d"))
         self.write(SPECIAL, "junk\n")
         self.write("missing", [f"{M}  x"])
@@ -204,9 +185,6 @@ class OneWriteAReport(Packets):
             "md5sum: e: no properly formatted checksum lines found\n"])
         self.expect_packets("md5sum -c --ignore-missing missing", status=1,
                             err=["md5sum: missing: no file was verified\n"])
-
-    def test_tags_of_every_algorithm(self):
-        """anysum's reports come whole like those of the other tools."""
         self.write("l", [f"{tag} (a) = {of_abc}" for tag, _, of_abc in TOOLS.values()] + ["junk"])
         self.expect_packets("anysum -cw l", out=["a: OK\n"] * len(TOOLS), err=[
             "anysum: l: 8: improperly formatted tagged checksum line\n",
@@ -260,10 +238,6 @@ class ShortWrites(Case):
         status, err = self.taken_in_parts(["md5sum", *[name, "x"] * 3], "stderr")
         self.same(err, lines)
         self.assertEqual(status, 1)
-
-    @needs_check
-    def test_a_part_of_a_long_report(self):
-        """The same for reports on standard output."""
         name = "y" * 30000
         self.write("l", [f"{M}  {name}", f"{M}  a"] * 3)
         status, out = self.taken_in_parts("md5sum -c l", "stdout")
@@ -277,7 +251,7 @@ class ShortWrites(Case):
         self.assertEqual(status, 0)
 
     def test_a_pipe_that_does_not_wait(self):
-        """Where the output has room for one more line and then answers that it has none, that line stands there whole,
+        """If the output has room for one more line and then answers that it has none, that line is there whole,
         nothing of the next one does, and it is a write error."""
         reads, writes, size = self.small_pipe()
         os.set_blocking(writes, False)

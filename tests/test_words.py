@@ -3,7 +3,7 @@
 import os
 
 import harness
-from harness import B, E, M, S, TOOLS, Case, needs_check
+from harness import B, E, M, S, TOOLS, Case
 from reference_words import help_text
 
 WITH_CHECK = "meaningless when verifying checksums"
@@ -15,18 +15,22 @@ class ToolNames(Case):
 
     def test_unknown_tool(self):
         for words in ([], ["shasum"], [""], ["md5"], ["MD5SUM"], ["md5sum "], ["--help"], ["md5sums", "a"]):
-            with self.subTest(words=words):
-                self.expect(words, err=["digests: unknown tool"], status=1)
+            self.expect(words, err=["digests: unknown tool"], status=1)
 
-    def test_called_by_a_link(self):
+    def test_links(self):
         for tool, (_, of_nothing, of_abc) in TOOLS.items():
             os.symlink(harness.PROGRAM, self.path(tool))
             for called in (f"./{tool}", os.fsdecode(self.path(tool))):
-                with self.subTest(called=called):
-                    ran = self.run_command([called, "a", "e"])
-                    self.assertEqual(ran, (0, f"{of_abc}  a\n{of_nothing}  e\n".encode(), b""))
+                ran = self.run_command([called, "a", "e"])
+                self.assertEqual(ran, (0, f"{of_abc}  a\n{of_nothing}  e\n".encode(), b""))
+        folder = os.fsdecode(self.path("bin folder"))
+        os.mkdir(folder)
+        os.symlink(harness.PROGRAM, os.path.join(folder, "sha256sum"))
+        path = folder + os.pathsep + os.environ["PATH"]
+        ran = self.run_command(["sh", "-c", 'sha256sum "$1"', "sh", "a"], env={**os.environ, "PATH": path})
+        self.assertEqual(ran, (0, f"{S}  a\n".encode(), b""))
 
-    def test_called_by_a_link_faults_name_the_tool(self):
+    def test_other_links(self):
         os.symlink(harness.PROGRAM, self.path("b2sum"))
         os.symlink(harness.PROGRAM, self.path("anysum"))
         ran = self.run_command(["./b2sum", "x"])
@@ -35,59 +39,40 @@ class ToolNames(Case):
         self.assertEqual(ran, (1, b"", b"b2sum: md5sum: No such file or directory\n"))
         ran = self.run_command(["./anysum", "--version"])
         self.assertEqual(ran, (0, b"anysum (digests), profile 2\n", b""))
-
-    def test_called_by_a_link_from_the_search_path(self):
-        folder = os.fsdecode(self.path("bin folder"))
-        os.mkdir(folder)
-        os.symlink(harness.PROGRAM, os.path.join(folder, "sha256sum"))
-        path = folder + os.pathsep + os.environ["PATH"]
-        ran = self.run_command(["sh", "-c", 'sha256sum "$1"', "sh", "a"], env={**os.environ, "PATH": path})
-        self.assertEqual(ran, (0, f"{S}  a\n".encode(), b""))
-
-    def test_called_by_another_link(self):
         os.symlink(harness.PROGRAM, self.path("other"))
         self.assertEqual(self.run_command(["./other", "md5sum", "a"]), (0, f"{M}  a\n".encode(), b""))
         self.assertEqual(self.run_command(["./other", "a"]), (1, b"", b"digests: unknown tool\n"))
 
 
 class Texts(Case):
-    """Help and version."""
-
-    def test_help(self):
+    def test_help_and_version(self):
         for tool in [*TOOLS, "anysum"]:
-            with self.subTest(tool=tool):
-                self.expect([tool, "--help"], out=help_text(tool))
-
-    def test_version(self):
-        for tool in [*TOOLS, "anysum"]:
-            with self.subTest(tool=tool):
-                self.expect([tool, "--version"], out=[f"{tool} (digests), profile 2"])
-
-    def test_the_first_of_fault_help_and_version_decides(self):
+            for cut in ("--h", "--help"):
+                self.expect([tool, cut], out=help_text(tool))
+            for cut in ("--v", "--version"):
+                self.expect([tool, cut], out=[f"{tool} (digests), profile 2"])
         self.expect("md5sum --help --version", out=help_text("md5sum"))
         self.expect("md5sum --version --help", out=["md5sum (digests), profile 2"])
         self.expect("md5sum a -zc --tag -t --help x", out=help_text("md5sum"))
         self.expect("b2sum -l 12 --version", out=["b2sum (digests), profile 2"])
         self.expect_fault("b2sum -l --help x -l", "option requires an argument -- 'l'")
 
-    def test_a_name_may_be_cut_short(self):
-        self.expect("md5sum --h", out=help_text("md5sum"))
-        self.expect("md5sum --v", out=["md5sum (digests), profile 2"])
-
 
 class LongOptions(Case):
     """Faults 1 to 4, and names that are cut short."""
 
-    def test_unrecognized(self):
+    def test_faults_and_values(self):
         for word, name in (("--foo", "foo"), ("--foo=1", "foo"), ("--taga", "taga"), ("--Tag", "Tag"), ("---", "-"),
                            ("--length", "length"), ("--length=8", "length"), ("--é", "é"),
                            ("--a\\\n\r=x", "a\\\\\\n\\r")):
-            with self.subTest(word=word):
-                self.expect_fault(["md5sum", word, "a"], f"unrecognized option '--{name}'")
-
-    def test_ambiguous(self):
+            self.expect_fault(["md5sum", word, "a"], f"unrecognized option '--{name}'")
         self.expect_fault("md5sum --t=1 a", "option '--t' is ambiguous")
         self.expect_fault("md5sum --=x a", "option '--' is ambiguous")
+        for word, full in (("--tag=", "tag"), ("--ta=1", "tag"), ("--help=1", "help"),
+                           ("--version=", "version"), ("--i=x", "ignore-missing"), ("--zero=a=b", "zero")):
+            self.expect_fault(["md5sum", word, "a"], f"option '--{full}' doesn't allow an argument")
+        self.expect_fault("b2sum e --length", "option '--length' requires an argument")
+        self.expect_fault("b2sum e -bl", "option requires an argument -- 'l'")
 
     def test_each_form(self):
         """Each option by its letter, by its name, and by the shortest cut that is left of that."""
@@ -98,7 +83,6 @@ class LongOptions(Case):
         for form in ("-l 256", "-l256", "--length 256", "--length=256", "--l 256", "--l=256"):
             self.expect(f"b2sum {form} e", out=[f"{B}  e"])
 
-    @needs_check
     def test_each_form_of_checking(self):
         self.write("l", [f"{M}  a", "junk"])
         self.write("some", [f"{M}  a", f"{M}  x"])
@@ -117,42 +101,26 @@ class LongOptions(Case):
             for passed in ("--ignore-missing", "--i"):
                 self.expect(f"md5sum {form} {passed} some", out=["a: OK"])
 
-    def test_value_not_allowed(self):
-        for word, full in (("--tag=", "tag"), ("--ta=1", "tag"), ("--help=1", "help"),
-                           ("--version=", "version"), ("--i=x", "ignore-missing"), ("--zero=a=b", "zero")):
-            with self.subTest(word=word):
-                self.expect_fault(["md5sum", word, "a"], f"option '--{full}' doesn't allow an argument")
-
-    def test_value_missing(self):
-        self.expect_fault("b2sum e --length", "option '--length' requires an argument")
-        self.expect_fault("b2sum e -bl", "option requires an argument -- 'l'")
-
 
 class ShortOptions(Case):
     """Fault 5, clusters, and where options end."""
 
-    def test_unknown(self):
+    def test_faults_and_clusters(self):
         self.expect_fault("md5sum -l 8 a", "invalid option -- 'l'")
         self.expect_fault("md5sum -b- a", "invalid option -- '-'")
         self.expect_fault(["md5sum", "-é"], "invalid option -- 'é'")
         self.expect_fault(["md5sum", "-\n"], "invalid option -- '\\n'")
         self.expect_fault(["md5sum", "-\\"], "invalid option -- '\\\\'")
         self.expect_fault(["md5sum", "- a"], "invalid option -- ' '")
-
-    def test_clusters(self):
         self.expect("md5sum -bz a", out=f"{M} *a\0")
         self.expect("b2sum -bl 256 e", out=[f"{B} *e"])
         self.expect_fault("b2sum -l256b e", "invalid length: '256b'")
-
-    def test_options_and_operands_mix(self):
         self.expect("md5sum a -b e", out=[f"{M} *a", f"{E} *e"])
         self.expect("md5sum a --tag e", out=[f"MD5 (a) = {M}", f"MD5 (e) = {E}"])
         self.expect("md5sum a - e", stdin="abc", out=[f"{M}  a", f"{M}  -", f"{E}  e"])
         self.write("-b", "abc")
         self.expect("md5sum -b -- -b", out=[f"{M} *-b"])
         self.expect_fault("md5sum a --foo x", "unrecognized option '--foo'")
-
-    def test_two_dashes_alone_name_no_operand(self):
         self.expect("md5sum --", stdin="abc", out=[f"{M}  -"])
         self.expect_fault("b2sum -l -- e", "invalid length: '--'")
 
@@ -160,45 +128,38 @@ class ShortOptions(Case):
 class Lengths(Case):
     """Faults 6 and 7."""
 
-    def test_invalid(self):
+    def test_lengths(self):
         for value in ("520", "513", "+8", "", " 8", "8 ", "-8", "0x8", "8.0", "٨", "9" * 50, "a\n"):
-            with self.subTest(value=value):
-                shown = value.replace("\n", "\\n")
-                self.expect_fault(["b2sum", "-l", value, "e"], f"invalid length: '{shown}'")
-                self.expect_fault(["b2sum", f"--length={value}", "e"], f"invalid length: '{shown}'")
-
-    def test_not_bytes(self):
+            shown = value.replace("\n", "\\n")
+            self.expect_fault(["b2sum", "-l", value, "e"], f"invalid length: '{shown}'")
+            self.expect_fault(["b2sum", f"--length={value}", "e"], f"invalid length: '{shown}'")
         for value in ("12", "1", "511", "0012"):
-            with self.subTest(value=value):
-                self.expect_fault(["b2sum", "-l", value, "e"], f"length is not a multiple of 8: '{value}'")
-
-    def test_the_last_counts(self):
+            self.expect_fault(["b2sum", "-l", value, "e"], f"length is not a multiple of 8: '{value}'")
+        self.expect(["b2sum", "-l", "0" * 60 + "256", "e"], out=[f"{B}  e"])
+        self.expect(["b2sum", "-l", "0" * 60, "e"], out=[f"{TOOLS['b2sum'][1]}  e"])
         self.expect("b2sum -l 12 -l 256 e", out=[f"{B}  e"])
         self.expect("b2sum -l x --length=256 e", out=[f"{B}  e"])
         self.expect_fault("b2sum -l 256 -l 12 e", "length is not a multiple of 8: '12'")
-
-    def test_leading_zeros(self):
-        self.expect(["b2sum", "-l", "0" * 60 + "256", "e"], out=[f"{B}  e"])
-        self.expect(["b2sum", "-l", "0" * 60, "e"], out=[f"{TOOLS['b2sum'][1]}  e"])
 
 
 class Combinations(Case):
     """Faults 8 to 17, and the order in which the faults from 6 on are tried."""
 
     def test_the_order_with_check(self):
-        """Each line has all faults that come behind its own, as far as they can stand together."""
+        """Each line has all faults that come after its own, as far as they can be together."""
         for words, text in (
+                ("-c --tag -z l", "the --zero option is not supported when verifying checksums"),
+                ("-t -c l", f"the --binary and --text options are {WITH_CHECK}"),
+                ("-c -l 12 -z l", "length is not a multiple of 8: '12'"),
                 ("-c -z -t --tag --text -l x l", "invalid length: 'x'"),
                 ("-c -z -t --tag --text -l 12 l", "length is not a multiple of 8: '12'"),
                 ("-c -z -t --tag --text l", "--tag does not support --text mode"),
                 ("-c -z -t --tag l", "the --zero option is not supported when verifying checksums"),
                 ("-c -t --tag l", f"the --tag option is {WITH_CHECK}"),
                 ("-c -t l", f"the --binary and --text options are {WITH_CHECK}")):
-            with self.subTest(words=words):
-                self.expect_fault(f"b2sum {words}", text)
+            self.expect_fault(f"b2sum {words}", text)
 
     def test_the_order_without_check(self):
-        """The same of the faults for which `--check` is missing."""
         for words, text in (
                 ("b2sum --strict --status --ignore-missing --tag -t -l x", "invalid length: 'x'"),
                 ("b2sum --strict --status --ignore-missing --tag -t -l 12", "length is not a multiple of 8: '12'"),
@@ -208,33 +169,17 @@ class Combinations(Case):
                 ("anysum --strict --warn", f"the --warn option is {WITHOUT_CHECK}"),
                 ("anysum --strict --quiet", f"the --quiet option is {WITHOUT_CHECK}"),
                 ("anysum --strict", f"the --strict option is {WITHOUT_CHECK}"),
-                ("anysum", "--check is required")):
-            with self.subTest(words=words):
-                self.expect_fault(words, text)
-    def test_tag_and_text(self):
+                ("anysum", "--check is required"), ("anysum --tag m", "--check is required"),
+                ("md5sum --strict --ignore-missing a", f"the --ignore-missing option is {WITHOUT_CHECK}"),
+                ("md5sum --quiet -w --status a", f"the --status option is {WITHOUT_CHECK}"),
+                ("md5sum --status -w a", f"the --warn option is {WITHOUT_CHECK}"),
+                ("md5sum --status --quiet a", f"the --quiet option is {WITHOUT_CHECK}"),
+                ("sha256sum --str l", f"the --strict option is {WITHOUT_CHECK}")):
+            self.expect_fault(words, text)
+
+    def test_tag_and_length(self):
         self.expect_fault("md5sum --tag -b -t a", "--tag does not support --text mode")
         self.expect("md5sum --tag -t -b a", out=[f"MD5 (a) = {M}"])
-
-    def test_with_check(self):
-        self.expect_fault("md5sum -c --tag -z l", "the --zero option is not supported when verifying checksums")
-        self.expect_fault("md5sum -c --tag l", f"the --tag option is {WITH_CHECK}")
-        self.expect_fault("md5sum -t -c l", f"the --binary and --text options are {WITH_CHECK}")
-        self.expect_fault("b2sum -c -l 12 -z l", "length is not a multiple of 8: '12'")
-
-    def test_without_check(self):
-        self.expect_fault("md5sum --strict --ignore-missing a", f"the --ignore-missing option is {WITHOUT_CHECK}")
-        self.expect_fault("md5sum --quiet -w --status a", f"the --status option is {WITHOUT_CHECK}")
-        self.expect_fault("md5sum --status -w a", f"the --warn option is {WITHOUT_CHECK}")
-        self.expect_fault("md5sum --status --quiet a", f"the --quiet option is {WITHOUT_CHECK}")
-        self.expect_fault("sha256sum --str l", f"the --strict option is {WITHOUT_CHECK}")
-
-    def test_anysum_needs_check(self):
-        for words in ("anysum", "anysum --tag m"):
-            with self.subTest(words=words):
-                self.expect_fault(words, "--check is required")
-
-    @needs_check
-    def test_check_takes_a_length_and_does_nothing_with_it(self):
         self.write("l", [f"{B}  e"])
         self.expect("b2sum -c -l 8 l", out=["e: OK"])
 
@@ -245,7 +190,7 @@ class LaterProcessors(Case):
     of_the_repository = True
 
     def test_hidden(self):
-        """Where AVX2 is hidden it ends at once, with a clear message and its own status, before any work."""
+        """If AVX2 is hidden it ends at once, with a clear message and its own status, before any work."""
         program = os.path.join(harness.TOP, "out", "x86-64-v3", "digests")
         if not os.path.exists(program):
             self.skipTest("the program for x86-64-v3 isn't built")

@@ -1,4 +1,4 @@
-"""The options of each tool, as the program itself tells them: its help names them, and it takes or refuses them."""
+"""The tools, and the options of each as the program has them: its help names them, and it takes or refuses them."""
 
 import re
 import subprocess
@@ -7,13 +7,25 @@ from typing import NamedTuple, Optional
 
 LINE = re.compile(r"  (?:-(?P<short>\w), |    )--(?P<long>[a-z-]+)(?:=(?P<value>[A-Z]+))? +(?P<help>.*)")
 
+# Tool: its standard, the algorithm's name there, and the bits of its digest. The last has none of its own.
+TOOLS = {
+    "md5sum": ("RFC 1321", "MD5", 128),
+    "sha1sum": ("FIPS 180-4", "SHA1", 160),
+    "sha224sum": ("FIPS 180-4", "SHA224", 224),
+    "sha256sum": ("FIPS 180-4", "SHA256", 256),
+    "sha384sum": ("FIPS 180-4", "SHA384", 384),
+    "sha512sum": ("FIPS 180-4", "SHA512", 512),
+    "b2sum": ("RFC 7693", "BLAKE2b", 512),
+    "anysum": (None, None, None),
+}
+
 # Where the program takes an option.
 ALWAYS, WITH_CHECK, WITHOUT_CHECK, NEVER = "always", "with check", "without check", "never"
 
 
 class Option(NamedTuple):
     """An option: its letter, name and value, what the help says of it, where it is taken, and whether the program then
-    answers at once and reads no word behind it."""
+    answers at once and reads no word after it."""
 
     short: Optional[str]
     long: str
@@ -53,5 +65,4 @@ def cuts(option, options):
     """The words that mean a long option: its name, and the beginnings of it that no other name has."""
     others = [other.long for other in options if other != option]
     names = (option.long[:length] for length in range(1, len(option.long) + 1))
-    return [f"--{name}" for name in names
-            if name == option.long or not any(other.startswith(name) for other in others)]
+    return [f"--{name}" for name in names if name == option.long or not any(other.startswith(name) for other in others)]

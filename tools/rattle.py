@@ -1,7 +1,6 @@
-"""Reads the crates for those who make pages of them: what the code (`.rt`) declares, with its comments and contracts, and
-what the definitions of `specs/` (`.antt`) say and name. What can't be read raises a ValueError, so that nothing is left
-out unseen. A name counts also where something in its text binds it: so what is reached may be too much, and never too
-little."""
+"""Reads the crates for the makers of pages: what the code (`.rt`) declares, with its comments and contracts, and what
+the definitions of `specs/` (`.antt`) say and name. What can't be read raises a ValueError, so that nothing is left out
+unseen. A name counts also where its text binds it: so what is reached may be too much, and never too little."""
 
 import glob
 import os
@@ -200,7 +199,8 @@ class Code:
         crate, file, owner = found.groups()
         wanted = crate, file.replace(".", "/") + ".rt", name if owner == "TheConstants" else owner
         item = next(it for it in self.items if (it.crate, it.file, it.name) == wanted)
-        if item.kind == "const" and re.search(r"\b[A-Z][A-Z_]+\b", re.sub(r'"(?:\\.|[^"\\])*"', "", item.text[6:].split("=")[1])):
+        value = re.sub(r'"(?:\\.|[^"\\])*"', "", item.text.partition("=")[2])
+        if item.kind == "const" and re.search(r"\b[A-Z][A-Z_]+\b", value):
             raise ValueError(f"a constant that names another can't be read: {item.text}")
         return self.reached(item)
 
@@ -221,7 +221,7 @@ class Code:
 START = re.compile(r"(?:abbrev|unfoldable|irreducible|infixl|infixr|infix|pub|record|data)(?= (?!use |mod ))")
 NAMED = re.compile(r"(?:(?:abbrev|unfoldable|irreducible) )*(?:pub )?(?:(record|data) )?([^\s:({]+)")
 WORD = r'[^\s(){}\[\];,.:λ→×⊎"]+'
-# A comment, a text, or a name with what follows it behind a dot.
+# A comment, a text, or a name with what follows it after a dot.
 TOKEN = re.compile(rf'--[^\n]*|"(?:\\.|[^"\\])*"|({WORD})(?:\.({WORD}))?(?:\.{WORD})*')
 
 
@@ -240,12 +240,12 @@ def imports_of(line):
 
 
 def spellings(name):
-    """How a name may stand in a `use` line or a declaration: as it is, or as an operator; `do` stands for one."""
+    """How a name may be spelled in a `use` line or a declaration: as it is, or as an operator; `do` means one."""
     return ("◌>>=◌",) if name == "do" else (name, f"◌{name}◌", f"{name}◌", f"◌{name}")
 
 
 def names_in(text):
-    """The names in a text, each with the one behind its dot."""
+    """The names in a text, each with the one after its dot."""
     return {(it[1], it[2]) for it in TOKEN.finditer(text) if it[1]}
 
 
@@ -332,7 +332,7 @@ class Specs:
         return None
 
     def origin(self, module, name):
-        """Where a name of a module comes from, through files that only hand it on."""
+        """Where a name of a module comes from, through files that only pass it on."""
         there = self.modules.get(module)
         while there and name not in there.definitions and name in there.imports:
             module, name = there.imports[name]

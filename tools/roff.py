@@ -1,5 +1,4 @@
-"""Manual pages in the macros of man(7). In a text `these marks` stand around what is typed as it is, and {these} around
-a name that stands for another."""
+"""Manual pages in the macros of man(7). In a text `this` is typed as it is, and {this} is a name of others."""
 
 import re
 import textwrap
@@ -44,9 +43,8 @@ def item(mark, text, width=""):
     return [f".TP {width}".rstrip(), inline(mark), *paragraph(text)]
 
 
-def bullets(texts):
-    """A list of texts."""
-    return [line for text in texts for line in (".IP \\(bu 2", *paragraph(text))]
+def bullet(text):
+    return [".IP \\(bu 2", *paragraph(text)]
 
 
 def shown(*commands):

@@ -1,10 +1,9 @@
-"""Completions for bash, zsh and fish, of the program and of each tool under its own name. The shells' own text stands
-in shells/; what the options and tools are goes in where that says @NAME@."""
+"""Completions for bash, zsh and fish, of the program and of each tool under its own name. The shells' own text is in
+shells/; what the options and tools are takes the place of @NAME@ there."""
 
 import os
 
-from options import ALWAYS, WITH_CHECK, WITHOUT_CHECK, cuts
-from page_texts import TOOLS
+from options import ALWAYS, TOOLS, WITH_CHECK, WITHOUT_CHECK, cuts
 
 HERE = os.path.join(os.path.dirname(os.path.abspath(__file__)), "shells")
 
@@ -19,7 +18,7 @@ def quoted(text):
 
 
 def zsh_option(option):
-    """What _arguments is told of an option: what it keeps out, its words, its text and its value."""
+    """What _arguments gets of an option: what it keeps out, its words, its text and its value."""
     text = f"[{option.help}]"
     if option.at_once:
         return quoted(f"(- *)--{option.long}{text}")

@@ -1,7 +1,6 @@
 """What the end-to-end tests share: a folder for each test, a run of the program with a time limit, and the values that
 the tests expect. The values are published digests, and were not taken from any output of the program."""
 
-import contextlib
 import datetime
 import errno
 import functools
@@ -19,17 +18,16 @@ import tty
 import unittest
 from typing import NamedTuple
 
-# Set by run.py: the program's absolute path, whether checking is left out, the seed of the first case at random, and
-# how many cases a test tries. Without `--seed` each day has cases of its own.
+# Set by run.py: the program's absolute path, the seed of the first case at random, and how many cases a test tries.
+# Without `--seed` each day has cases of its own.
 PROGRAM = ""
-WITHOUT_CHECK = False
 SEED = int(f"{datetime.date.today():%Y%m%d}0000")
 CASES = 1500
 
 NOT_FOR_THIS_MACHINE = 127  # the status of a program for later processors than the machine's
 TOP = os.path.dirname(os.path.dirname(os.path.dirname(os.path.abspath(__file__))))
 
-# Against what never ends, and far above what anything takes: a machine that stands still for a while fails no test.
+# Against what never ends, and far above what anything takes: a machine that halts for a while fails no test.
 RUN_SECONDS = 600
 TEST_SECONDS = 1200
 SOON = 60  # for what is there at once
@@ -40,35 +38,8 @@ B = "0e5751c026e543b2e8ab2eb06099daa1d1e5df47778f7787faab45cdf12fe3a8"  # BLAKE2
 S = "ba7816bf8f01cfea414140de5dae2223b00361a396177a9cb410ff61f20015ad"  # SHA-256 of "abc"
 
 # Tool: tag, digest of nothing, digest of "abc", as they were published.
-TOOLS = {
-    "md5sum": ("MD5", E, M),
-    "sha1sum": ("SHA1", "da39a3ee5e6b4b0d3255bfef95601890afd80709", "a9993e364706816aba3e25717850c26c9cd0d89d"),
-    "sha224sum": (
-        "SHA224",
-        "d14a028c2a3a2bc9476102bb288234c415a2b01f828ea62ac5b3e42f",
-        "23097d223405d8228642a477bda255b32aadbce4bda0b3f7e36c9da7",
-    ),
-    "sha256sum": ("SHA256", "e3b0c44298fc1c149afbf4c8996fb92427ae41e4649b934ca495991b7852b855", S),
-    "sha384sum": (
-        "SHA384",
-        "38b060a751ac96384cd9327eb1b1e36a21fdb71114be07434c0cc7bf63f6e1da274edebfe76f65fbd51ad2f14898b95b",
-        "cb00753f45a35e8bb5a03d699ac65007272c32ab0eded1631a8b605a43ff5bed8086072ba1e7cc2358baeca134c825a7",
-    ),
-    "sha512sum": (
-        "SHA512",
-        "cf83e1357eefb8bdf1542850d66d8007d620e4050b5715dc83f4a921d36ce9ce"
-        "47d0d13c5d85f2b0ff8318d2877eec2f63b931bd47417a81a538327af927da3e",
-        "ddaf35a193617abacc417349ae20413112e6fa4e89a97ea20a9eeee64b55d39a"
-        "2192992a274fc1a836ba3c23a3feebbd454d4423643ce80e2a9ac94fa54ca49f",
-    ),
-    "b2sum": (
-        "BLAKE2b",
-        "786a02f742015903c6c6fd852552d272912f4740e15847618a86e217f71f5419"
-        "d25e1031afee585313896444934eb04b903a685b1448b755d56f701afe9be2ce",
-        "ba80a53f981c4d0d6a2797b69f12f6e94c212f14685ac4b74b12bb6fdbffa2d1"
-        "7d87c5392aab792dc252d5de4533cc9518d38aa8dbf1925ab92386edd4009923",
-    ),
-}
+with open(os.path.join(TOP, "tests", "support", "digests.txt"), encoding="utf-8") as table:
+    TOOLS = {tool: tuple(row) for tool, *row in map(str.split, table)}
 
 
 class Ran(NamedTuple):
@@ -95,7 +66,7 @@ def as_words(words):
 
 @functools.lru_cache
 def gnu(tool):
-    """The path of GNU coreutils' tool of that name, the first on the PATH, or None where it is not installed."""
+    """The path of GNU coreutils' tool of that name, the first on the PATH, or None if it isn't installed."""
     quiet = {"stdin": subprocess.DEVNULL, "stdout": subprocess.PIPE, "stderr": subprocess.DEVNULL}
     for path in filter(None, (shutil.which(tool, path=folder) for folder in os.get_exec_path())):
         said = subprocess.run([path, "--version"], **quiet, timeout=RUN_SECONDS)
@@ -114,11 +85,6 @@ VERDICTS_ERR = as_bytes([
     "md5sum: WARNING: 1 listed file could not be read",
     "md5sum: WARNING: 1 computed checksum did NOT match",
 ])
-
-
-def needs_check(test):
-    """Marks a test, or a class of tests, that calls the checker."""
-    return unittest.skipIf(WITHOUT_CHECK, "checking is left out")(test)
 
 
 def limits(file_size=None, memory=None):
@@ -146,22 +112,12 @@ class Case(unittest.TestCase):
         os.chmod(self.folder, 0o755)
         self.write("a", "abc")
         self.write("e", "")
-        self.over = False
         signal.signal(signal.SIGALRM, self.too_long)
         signal.alarm(TEST_SECONDS)
         self.addCleanup(signal.alarm, 0)
 
     def too_long(self, *_):
-        self.over = True
         raise TooLong(f"a test took longer than {TEST_SECONDS} seconds")
-
-    @contextlib.contextmanager
-    def subTest(self, *message, **parts):
-        """A part of a test. Where the time of the test was over in it, the test ends there: no other part begins."""
-        with super().subTest(*message, **parts):
-            yield
-        if self.over:
-            raise TooLong("the other parts were left out")
 
     def path(self, name):
         """The path of a name in the test's folder, as bytes."""
@@ -251,7 +207,7 @@ class Case(unittest.TestCase):
         self.assertEqual(got, wanted)
 
     def same(self, got, wanted):
-        """Compares two long texts, and shows only where they part: a whole comparison could take minutes."""
+        """Compares two long texts, and shows only where they differ: a whole comparison could take minutes."""
         got, wanted = as_bytes(got), as_bytes(wanted)
         if got != wanted:
             place = len(os.path.commonprefix([got, wanted]))
@@ -259,7 +215,7 @@ class Case(unittest.TestCase):
             self.fail(f"at byte {place} of {len(got)}, {len(wanted)} wanted: {got[near]!r} != {wanted[near]!r}")
 
     def until(self, condition, what, seconds=SOON):
-        """Waits until the condition holds; the test fails, saying what was awaited, where it doesn't in that time."""
+        """Waits until the condition holds; the test fails, saying what was awaited, if it doesn't in that time."""
         stop = time.monotonic() + seconds
         while not condition():
             self.assertLess(time.monotonic(), stop, f"in {seconds} seconds: {what}")

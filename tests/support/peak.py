@@ -9,7 +9,7 @@ import sys
 
 child = os.fork()
 if child == 0:
-    signal.alarm(600)  # holds after the exec: nothing is left running where the test has given up
+    signal.alarm(600)  # holds after the exec, so that nothing is left running if the test has given up
     os.execv(sys.argv[2], sys.argv[2:])
 _, status, used = os.wait4(child, 0)
 with open(sys.argv[1], "w") as file:

@@ -101,13 +101,13 @@ def is_standard(tail):
 
 
 def is_reversed(tag, texts):
-    """Whether the first plain line of a manifest has its name right behind the blank."""
+    """Whether the first plain line of a manifest has its name right after the blank."""
     tails = [plain(tag, text)[2] for text in texts if not is_ignored(text) and plain(tag, text)]
     return bool(tails) and not is_standard(tails[0])
 
 
 def entry(tag, in_reversed, text):
-    """The tag, the digest and the name of a line, or None where it is improperly formatted."""
+    """The tag, the digest and the name of a line, or None if it is improperly formatted."""
     if tagged(tag, text):
         escaped, own, found, raw = tagged(tag, text)
     elif plain(tag, text):

@@ -136,23 +136,8 @@ def options_of(words):
     return Options("tag" if has("tag") else mode, has("zero"), size, report, has("strict"), has("ignore-missing"))
 
 
-HELP = """\
-Usage: TOOL [OPTION]... [FILE]...
-Print or check TAG checksums. With no FILE, or when FILE is -, read standard input.
-  -b, --binary          mark each line as binary
-  -c, --check           read checksums from the FILEs and check them
-  -l, --length=BITS     digest length in bits, a multiple of 8, at most 512
-      --tag             write lines of the tagged form
-  -t, --text            mark each line as text (default)
-  -z, --zero            end each line with NUL and escape no name
-      --ignore-missing  with -c: neither fail nor report for missing files
-      --quiet           with -c: print no OK lines
-      --status          with -c: print no report
-      --strict          with -c: fail for improperly formatted lines
-  -w, --warn            with -c: name each improperly formatted line
-      --help            print this text
-      --version         print the version
-"""
+with open(os.path.join(os.path.dirname(os.path.abspath(__file__)), "help.txt"), encoding="utf-8") as file:
+    HELP = file.read()
 LENGTH_LINE = "  -l, --length=BITS     digest length in bits, a multiple of 8, at most 512\n"
 
 

@@ -1,5 +1,5 @@
-"""A small copy of the repository, in a folder with a space in its name, for tests of building and installing. A script
-stands in for the command `rt`, so that nothing is proved."""
+"""A small copy of the repository, in a folder with a space in its name, for tests of building and installing. In the
+place of the command `rt` is a script, so that nothing is proved."""
 
 import os
 import shutil
@@ -16,33 +16,11 @@ BOTH = [*ASKED, f"digests run --cpu {FAST} -- sha256sum"]
 # What `digests md5sum a` comes to.
 OF_A = Ran(0, f"{M}  a\n".encode(), b"")
 
-# What stands in for the command rt: notes its calls, and makes the program of a level, which ends in the level's name
-# and a sum of the sources, where it isn't there.
-RT = """#!/bin/sh
-[ "$1" != version ] || exec echo 'a kit'
-echo "${PWD##*/} $*" >>"$RT_NOTES"
-echo "rt says: $*"
-[ -z "${RT_HANGS-}" ] || { : >"$RT_HANGS"; exec sleep 60; }
-case ${RT_FAILS-none} in "$1 ${PWD##*/}" | "$2") echo 'rt: this is why'; exit 1 ;; esac
-[ -z "${RT_EDITS-}" ] || { sleep 0.05; echo edited >>"$RT_EDITS"; }
-[ "$1" = run ] || exit 0
-sum=$(find ../.. -name '*.antt' -exec cat ../../crates.txt {} + | cksum)
-mkdir -p out
-if [ "$2" = --cpu ]; then
-    rm -f out/digests.stamp
-    { cat "$RT_FAST"; echo "$3 of $sum"; } >out/digests
-elif ! [ -e out/digests ] || [ "$sum" != "$(cat out/digests.stamp 2>/dev/null)" ]; then
-    { cat "$RT_PROGRAM"; echo "default of $sum"; } >out/digests
-    printf %s "$sum" >out/digests.stamp
-fi
-chmod 755 out/digests
-exec out/digests sha256sum
-"""
+with open(os.path.join(TOP, "tests", "support", "rt.sh"), encoding="utf-8") as script:
+    RT = script.read()
 
 
 class Repository(Case):
-    """The copy, with two crates."""
-
     of_the_repository = True
 
     def setUp(self):
@@ -78,7 +56,7 @@ class Repository(Case):
         os.chmod(self.path(f"commands/{name}"), 0o755)
 
     def script(self, name, *words, stdin=b"", **how):
-        """Runs a script of the repository; `RT_..` are told to what stands in for rt, and `calls` says how that was
+        """Runs a script of the repository; `RT_..` are for the script in the place of rt, and `calls` says how it was
         called: the crates and the words."""
         self.write(self.notes, "")
         env = {**self.env, **{key: how.pop(key) for key in list(how) if key.isupper()}}

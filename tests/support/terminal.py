@@ -11,40 +11,18 @@ import harness
 PROMPT = b"ready to type> "
 ALL = "\x18a"  # the keys that put all completions into the line
 
-# For each shell: how it is started, the name of the file that it reads first, and what stands there. Each of the names
-# is a function that writes its words into a file.
-SHELLS = {
-    "bash": (["bash", "--noprofile", "--rcfile", "{rc}", "-i"], ".bashrc", """
-PS1='{prompt}' PS2=
-bind 'set enable-bracketed-paste off'
-bind '"\\C-xa": insert-completions'
-{load}
-for name in {names}; do
-    eval "$name() {{ printf '%s\\n' \\"\\$@\\" >words.new; mv words.new words; }}"
-done
-"""),
-    "zsh": (["zsh", "-d", "-i"], ".zshrc", """
-PS1='{prompt}' PROMPT_SP= RPS1=
-unsetopt prompt_cr prompt_sp
-{load}
-autoload -Uz compinit && compinit -u -d '{folder}/dump'
-zle -C everything complete-word _generic
-bindkey '^Xa' everything
-zstyle ':completion:everything::::' completer _all_matches _complete
-zstyle ':completion:everything:*' insert true
-LISTMAX=1000
-for name in {names}; do
-    eval "$name() {{ printf '%s\\n' \\"\\$@\\" >words.new; mv words.new words; }}"
-done
-"""),
-}
+# For each shell: how it is started, and the name of the file that it reads first. That is made of the one beside this,
+# in which each of the names is a function that writes its words into a file.
+SHELLS = {"bash": ("bash --noprofile --rcfile {rc} -i".split(), ".bashrc"), "zsh": ("zsh -d -i".split(), ".zshrc")}
 
 
 class Terminal:
     """A shell in a folder, which loads completions by a line of its own; they are for functions of these names."""
 
     def __init__(self, shell, folder, load, names):
-        words, rc_name, rc = SHELLS[shell]
+        words, rc_name = SHELLS[shell]
+        with open(os.path.join(harness.TOP, "tests", "support", f"{shell}rc"), encoding="utf-8") as file:
+            rc = file.read()
         home = os.path.join(folder, "home")
         os.makedirs(home, exist_ok=True)
         self.words = os.path.join(folder, "here", "words")

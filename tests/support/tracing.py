@@ -13,7 +13,7 @@ from harness import Case, Ran, as_words
 
 @functools.lru_cache
 def strace():
-    """The path of `strace`, where it is installed and may trace."""
+    """The path of `strace`, if it is installed and may trace."""
     path = shutil.which("strace")
     if path is None:
         return None

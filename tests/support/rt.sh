@@ -1,0 +1,21 @@
+#!/bin/sh
+# In the place of the command rt: notes its calls, and makes the program of a level, which ends in the level's name and
+# a sum of the sources, if it isn't there.
+[ "$1" != version ] || exec echo 'a kit'
+echo "${PWD##*/} $*" >>"$RT_NOTES"
+echo "rt says: $*"
+[ -z "${RT_HANGS-}" ] || { : >"$RT_HANGS"; exec sleep 60; }
+case ${RT_FAILS-none} in "$1 ${PWD##*/}" | "$2") echo 'rt: this is why'; exit 1 ;; esac
+[ -z "${RT_EDITS-}" ] || { sleep 0.05; echo edited >>"$RT_EDITS"; }
+[ "$1" = run ] || exit 0
+sum=$(find ../.. -name '*.antt' -exec cat ../../crates.txt {} + | cksum)
+mkdir -p out
+if [ "$2" = --cpu ]; then
+    rm -f out/digests.stamp
+    { cat "$RT_FAST"; echo "$3 of $sum"; } >out/digests
+elif ! [ -e out/digests ] || [ "$sum" != "$(cat out/digests.stamp 2>/dev/null)" ]; then
+    { cat "$RT_PROGRAM"; echo "default of $sum"; } >out/digests
+    printf %s "$sum" >out/digests.stamp
+fi
+chmod 755 out/digests
+exec out/digests sha256sum
