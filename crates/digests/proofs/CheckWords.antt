@@ -2,7 +2,6 @@
 use Rattle.std.proofs.Common.{◌≡◌, Bool, true, false, not, List, [], ◌∷◌, ◌++◌, map, find, codes, None, Some, Ok, refl, ap, sym, ◌∙◌, bytes_eq}
 use Rattle.std.specs.List.{list_all}
 use Rattle.std.proofs.lemmas.Bool.{and_parts}
-use Rattle.std.proofs.lemmas.List.Elements.{All-nil, All-cons}
 use Rattle.sum_engine.specs.declared.settings.CheckSettings.{CheckSettings}
 use Rattle.sum_words.specs.Request.{Report, request, request_of_items}
 use Rattle.sum_words.specs.declared.parsing.options.Flag.{Flag}
@@ -10,9 +9,7 @@ use Rattle.sum_words.specs.declared.tool.Tool.{Tool}
 use Rattle.sum_words.specs.declared.parsing.request.Request.TheVariants.{Check}
 use Rattle.sum_words.specs.Tools.{algos_of}
 use Rattle.sum_words.specs.Items.{ByteString, option, operand, a_word, items_from, full_name, flags_of, takes_value, name_part, value_part, name_or_fault}
-use Rattle.sum_words.specs.PlainWords.{is_plain}
-use Rattle.sum_words.proofs.PlainWordLemmas.{plain_words}
-use Rattle.digests.specs.GenerationRuns.{check_options, check_words, ChecksBy}
+use Rattle.digests.specs.GenerationRuns.{check_options, check_words}
 use Rattle.sum_engine.specs.declared.settings.Report.TheVariants as reports
 use Rattle.sum_words.specs.declared.parsing.options.Flag.TheVariants as flags
 use Rattle.sum_words.specs.declared.tool.Tool.TheVariants as tools
@@ -62,12 +59,8 @@ long_words t (flag ∷ fs) more all =
 -- they are those options and an operand
 items-are : (t : Tool) (check : CheckSettings) (manifest : ByteString)
     → list_all takes_none (check_options check) ≡ true
-    → is_plain manifest ≡ true
     → items_from t a_word (check_words check manifest) ≡ map option (check_options check) ++ operand manifest ∷ []
-items-are t check manifest all plain =
-    long_words t (check_options check) (manifest ∷ []) all
-    ∙ ap (λ xs. map option (check_options check) ++ xs) (plain_words t (manifest ∷ []) []
-    (All-cons (λ w. is_plain w ≡ true) manifest [] plain (All-nil (λ w. is_plain w ≡ true))))
+items-are t check manifest all = long_words t (check_options check) (codes "--" ∷ manifest ∷ []) all
 
 abbrev settings : Tool → Report → Bool → Bool → CheckSettings
 settings t r s i = record { algo = algos_of t; report = r; strict = s; ignore_missing = i }
@@ -95,9 +88,9 @@ checked t m reports.Status true false = (refl, refl)
 checked t m reports.Status true true = (refl, refl)
 
 -- so the words ask for the check
-pub request-check_words : (t : Tool) (check : CheckSettings) (manifest : ByteString) → ChecksBy t check manifest
+pub request-check_words : (t : Tool) (check : CheckSettings) (manifest : ByteString) → check.algo ≡ algos_of t
     → request t (check_words check manifest) ≡ Ok (Check check (manifest ∷ []))
 request-check_words t check manifest h =
     let is = checked t manifest check.report check.strict check.ignore_missing in
-    ap (request_of_items t) (items-are t check manifest is.0 h.operand) ∙ is.1
-    ∙ ap (λ a. Ok (Check (record check { algo = a }) (manifest ∷ []))) (sym h.algo)
+    ap (request_of_items t) (items-are t check manifest is.0) ∙ is.1
+    ∙ ap (λ a. Ok (Check (record check { algo = a }) (manifest ∷ []))) (sym h)

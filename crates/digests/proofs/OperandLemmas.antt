@@ -1,13 +1,14 @@
 -- Operands, one after another: what those before came to, joined to what the rest comes to, is the whole.
-use Rattle.std.proofs.Common.{rules, ◌≡◌, Bool, true, List, [], ◌∷◌, Option, Ok, Err, None, Some, refl, ap, sym, ◌∙◌, subst, append_assoc, ◌&&◌}
+use Rattle.std.proofs.Common.{rules, ◌≡◌, ℕ, Bool, true, false, List, [], ◌∷◌, Option, Result, Ok, Err, None, Some, refl, ap, sym, ◌∙◌, subst, append_assoc, ◌&&◌}
 use Rattle.std.proofs.Math.Bool.{and_assoc, and-true}
 use Rattle.std.proofs.lemmas.List.{append-nil}
 use Rattle.sum_sources.specs.Contents.{IfKnown, SourceState}
 use Rattle.sum_sources.proofs.KnownLemmas.{IfKnown-then}
 use Rattle.sum_engine.specs.declared.stop.Stop.{Stop}
 use Rattle.sum_engine.specs.Behavior.{World, after, Behavior, behavior_then, asks}
-use Rattle.sum_engine.specs.Execution.{StreamsState, KnownState, known_state, PerformsSteps}
+use Rattle.sum_engine.specs.Execution.{StreamsState, KnownState, known_state, PerformsSteps, ReadToEnd}
 use Rattle.sum_engine.proofs.ExecutionLemmas.{Runs, did_nothing}
+use Rattle.sum_engine.proofs.ReadToEndLemmas.{ReadToEnd-trans}
 use Rattle.sum_engine.proofs.BehaviorLemmas.{behavior_then-did, behavior_then-first, behavior_then-second, events_extend}
 use Rattle.sum_words.specs.Items.{ByteString}
 use Rattle.digests.specs.Meaning.{operands_behavior, status_of}
@@ -81,3 +82,21 @@ reached_stop state o stop good name rest x y z h k =
     let next = behavior_then-first b c status run.good run.steps later.steps stop q in
     let all = behavior_then-second c status status p.done.steps (behavior_then run later).steps stop p.happened next in
     subst (λ (r : Behavior). PerformsSteps r.steps (status_of r.good) a c (Err stop)) (sym p.total) all) h k
+
+-- ---- read to the end, known or not
+
+-- the operands before were, if they were good, and this one, if it was
+pub read_step : {S : Type 0} (state : S → SourceState) (good this : Bool) (x y z : StreamsState S)
+    → (good ≡ true → ReadToEnd state x y)
+    → (let answer : Result Bool Stop = Ok this in let yes : Result Bool Stop = Ok true in answer ≡ yes
+    → ReadToEnd state y z)
+    → good && this ≡ true → ReadToEnd state x z
+read_step state true true x y z h k all = ReadToEnd-trans (h refl) (k refl)
+read_step state true false x y z h k all = let no : false ≡ true = all in cc
+read_step state false this x y z h k all = let no : false ≡ true = all in cc
+
+-- so are all at status 0
+pub read_end : {R : Type 0} (status : ℕ) (good : Bool) → status ≡ status_of good → (good ≡ true → R)
+    → (let answer : Result ℕ Stop = Ok status in let zero : Result ℕ Stop = Ok 0 in answer ≡ zero) → R
+read_end status true is h answer = h refl
+read_end status false is h answer = let no : ◌≡◌ {A = ℕ} 1 0 = cc in cc

@@ -5,7 +5,10 @@ use Rattle.std.proofs.lemmas.List.Concat.{flat_map-append}
 use Rattle.std.proofs.lemmas.List.Folds.{flat_map-map}
 use Rattle.std.proofs.lemmas.List.Elements.{All-nil, All-head, All-tail, All-append, All-map, All-weaker, All-contains, All-contains_itself}
 use Rattle.digest_kinds.specs.Kinds.{digest}
-use Rattle.sum_engine.specs.check.Reports.{Algos, right_line}
+use Rattle.sum_engine.specs.check.Verdicts.{Algos}
+use Rattle.sum_engine.specs.declared.check.judge.Verdict.TheVariants.{Right}
+use Rattle.sum_engine.specs.check.Reports.{out_by}
+use Rattle.sum_lines.specs.Escape.{present}
 use Rattle.sum_engine.specs.Behavior.{Whole, World, reply, after, digest_or_fault, out_text, asks}
 use Rattle.sum_sources.specs.Contents.{limit, Reply}
 use Rattle.sum_engine.specs.declared.settings.Settings.{Settings}
@@ -14,11 +17,11 @@ use Rattle.sum_engine.specs.Generation.{generate_behavior}
 use Rattle.sum_engine.proofs.ListedEntryLemmas.{Item, written_text, Listed}
 use Rattle.sum_engine.proofs.GoodLemmas.{manifest_good}
 use Rattle.sum_words.specs.declared.tool.Tool.{Tool}
-use Rattle.sum_words.specs.Tools.{name_of}
+use Rattle.sum_words.specs.Tools.{name_of, algos_of}
 use Rattle.sum_words.specs.Items.{ByteString}
 use Rattle.digests.specs.Meaning.{operands_behavior}
 use Rattle.digests.proofs.CheckWords.{request-check_words}
-use Rattle.digests.specs.GenerationRuns.{Listable, GenerationRun, generation_output, names_of, Checkable, ChecksBy, ReportsAllOk, WrittenIsGood, JoinedIsGood}
+use Rattle.digests.specs.GenerationRuns.{Listable, GenerationRun, generation_output, names_of, Checkable, ReportsAllOk, WrittenIsGood, JoinedIsGood}
 
 -- ---- the lines of a run
 
@@ -83,7 +86,7 @@ run-listed algos w v g c =
 -- a manifest that holds the lines for some names is good
 lines-good : (t : Tool) (check : CheckSettings) (manifest : ByteString) (v : World) (xs : List Item)
     (names : List ByteString)
-    (text : ByteString) → ChecksBy t check manifest
+    (text : ByteString) → check.algo ≡ algos_of t
     → All (Listed check.algo v.answer) xs → map (λ i. i.name) xs ≡ names → flat_map written_text xs ≡ text
     → 0 < length names → length text < limit
     → reply v manifest ≡ Ok (record { bytes = text; ending = Whole })
@@ -91,11 +94,11 @@ lines-good : (t : Tool) (check : CheckSettings) (manifest : ByteString) (v : Wor
 lines-good t check manifest v xs names text by all is same some fits given =
     let count : length xs ≡ length names = sym (length-map xs (λ i. i.name)) ∙ ap length is in
     let f = manifest_good check (name_of t) manifest v xs all (rw count some) (rw same fits) (rw same given) in
-    let reported = f.out ∙ sym (flat_map-map (right_line check.report) (λ i. i.name) xs) in
+    let reported = f.out ∙ sym (flat_map-map (out_by present check.report Right) (λ i. i.name) xs) in
     let asked = request-check_words t check manifest by in
     record {
       status = rw (asked, f.good) refl;
-      out = rw (asked, append-nil) (reported ∙ ap (flat_map (right_line check.report)) is);
+      out = rw (asked, append-nil) (reported ∙ ap (flat_map (out_by present check.report Right)) is);
       err = rw (asked, append-nil) f.err;
     }
 

@@ -1,7 +1,10 @@
 -- What is written is good: manifests that generation wrote, checked while the files stay as they were.
 use Rattle.std.specs.Prelude.{ℕ, ◌≡◌, ◌<◌, true, false, List, [], ◌∷◌, ◌++◌, IsTrue, length, map, flat_map, codes, if◌then◌else◌, All, Ok, option_to_list}
 use Rattle.digest_kinds.specs.Kinds.{has_len}
-use Rattle.sum_engine.specs.check.Reports.{Algos, right_line}
+use Rattle.sum_engine.specs.check.Verdicts.{Algos}
+use Rattle.sum_engine.specs.declared.check.judge.Verdict.TheVariants.{Right}
+use Rattle.sum_engine.specs.check.Reports.{out_by}
+use Rattle.sum_lines.specs.Escape.{present}
 use Rattle.sum_engine.specs.Behavior.{Whole, World, is_dash, reply, out_text, err_text}
 use Rattle.sum_sources.specs.Contents.{limit, Reply}
 use Rattle.sum_lines.specs.grammar.LineLaws.{ReadBy}
@@ -13,7 +16,6 @@ use Rattle.sum_words.specs.declared.tool.Tool.{Tool}
 use Rattle.sum_words.specs.Tools.{algos_of}
 use Rattle.sum_words.specs.Items.{ByteString, full_name}
 use Rattle.sum_words.specs.Request.{report_flag}
-use Rattle.sum_words.specs.PlainWords.{is_plain}
 use Rattle.digests.specs.Meaning.{operands_behavior, meaning, status_of}
 use Rattle.sum_words.specs.declared.parsing.options.Flag.TheVariants as flags
 
@@ -39,8 +41,8 @@ generation_output w g = out_text (operands_behavior (generate_behavior g.setting
 abbrev pub names_of : GenerationRun → List ByteString
 names_of g = g.names
 
--- What a run wrote in the world w can be checked in the world v: its lines end with newlines; who checks reads them, as
--- the tool itself does in whatever style, and `anysum` where they are tagged; and its files are the same in both.
+-- what a run wrote in the world w can be checked in the world v: its lines end with newlines; the checking tool reads
+-- them, as the tool itself does in every style, and `anysum` if they are tagged; and its files are the same in both
 pub record Checkable (algos : Algos) (w v : World) (g : GenerationRun) : Type 0 where
   pub newlines : g.settings.style.zero ≡ false
   pub has : IsTrue (has_len g.settings.kind.algo g.settings.kind.len)
@@ -54,35 +56,30 @@ check_options check = flags.Check ∷ option_to_list (report_flag check.report)
     ++ (if check.strict then flags.Strict ∷ [] else [])
     ++ (if check.ignore_missing then flags.IgnoreMissing ∷ [] else [])
 
--- the words of such a check of one manifest, as `--check --quiet SUMS`
+-- the words of such a check of one manifest, as `--check --quiet -- SUMS`
 abbrev pub check_words : CheckSettings → ByteString → List ByteString
-check_words check manifest = map (λ flag. codes "--" ++ full_name flag) (check_options check) ++ manifest ∷ []
+check_words check manifest = map (λ flag. codes "--" ++ full_name flag) (check_options check) ++ codes "--" ∷ manifest ∷ []
 
--- A tool, called with these words, ends with the status 0; it writes `NAME: OK` for each name, where the report setting
--- has such lines, and nothing else.
+-- a tool, called with these words, ends with status 0; it writes `NAME: OK` for each name, if the report setting shows
+-- such lines, and nothing else
 pub record ReportsAllOk (t : Tool) (check : CheckSettings) (v : World) (manifest : ByteString)
     (names : List ByteString) : Type 0 where
   pub status : status_of (meaning t (check_words check manifest) v).good ≡ 0
-  pub out : out_text (meaning t (check_words check manifest) v) ≡ flat_map (right_line check.report) names
+  pub out : out_text (meaning t (check_words check manifest) v) ≡ flat_map (out_by present check.report Right) names
   pub err : err_text (meaning t (check_words check manifest) v) ≡ []
 
--- the settings are some of that tool's, and the manifest's name is taken for an operand
-pub record ChecksBy (t : Tool) (check : CheckSettings) (manifest : ByteString) : Type 0 where
-  pub algo : check.algo ≡ algos_of t
-  pub operand : is_plain manifest ≡ true
-
--- what generation wrote for one name or more is good as a manifest, where it isn't too long
+-- what generation wrote for one name or more is good as a manifest, if it isn't too long
 abbrev pub WrittenIsGood : Type 0
 WrittenIsGood = (t : Tool) (check : CheckSettings) (manifest : ByteString) (w v : World) (g : GenerationRun)
-    → ChecksBy t check manifest → Checkable check.algo w v g → 0 < length g.names
+    → check.algo ≡ algos_of t → Checkable check.algo w v g → 0 < length g.names
     → length (generation_output w g) < limit
     → reply v manifest ≡ Ok (record { bytes = generation_output w g; ending = Whole })
     → ReportsAllOk t check v manifest g.names
 
--- so is what several runs wrote, one behind the other
+-- so is what several runs wrote, one after another
 abbrev pub JoinedIsGood : Type 0
 JoinedIsGood = (t : Tool) (check : CheckSettings) (manifest : ByteString) (w v : World) (gs : List GenerationRun)
-    → ChecksBy t check manifest → All (Checkable check.algo w v) gs → 0 < length (flat_map names_of gs)
+    → check.algo ≡ algos_of t → All (Checkable check.algo w v) gs → 0 < length (flat_map names_of gs)
     → length (flat_map (generation_output w) gs) < limit
     → reply v manifest ≡ Ok (record { bytes = flat_map (generation_output w) gs; ending = Whole })
     → ReportsAllOk t check v manifest (flat_map names_of gs)

@@ -1,6 +1,6 @@
 //! The whole program, from the list of its arguments to its exit status.
-ghost use Rattle.std.specs.Prelude.{◌≡◌, [], Ok, IsOk};
-ghost use Rattle.sum_engine.specs.Execution.{IsFlushed, FailuresMatch};
+ghost use Rattle.std.specs.Prelude.{◌≡◌, [], Ok};
+ghost use Rattle.sum_engine.specs.Execution.{IsFlushed, NoFailures, ReadToEnd};
 ghost use Rattle.sum_engine.specs.refinement.FlushedWrites.{NoneFailed};
 ghost use Rattle.digests.specs.Program.{ProgramPerforms};
 ghost use Rattle.digests.specs.refinement.FinishRun.{FinishesRun, tool_stop_line};
@@ -31,7 +31,9 @@ pub fn command<A: Allocator + Copy, G: Arguments, I: Input + Drop, S: Source, O:
 ) -> u8
     ensures behavior { ProgramPerforms S.state (G.known arguments.now) streams.old streams.new result }
     ensures flushed { IsFlushed streams.old → IsFlushed streams.new }
-    ensures no_failures { result ≡ 0 → FailuresMatch streams.old streams.new (Ok result) }
+    ensures no_failures { result ≡ 0 → NoFailures streams.old streams.new }
+    // Known or not: status 0 only if every file that was opened, and standard input, was read to its end.
+    ensures read_to_end { result ≡ 0 → ReadToEnd S.state streams.old streams.new }
 {
     match read_command_line(alloc, arguments) {
         Ok(CommandLine::Invoke(tool, words)) => {
@@ -63,7 +65,7 @@ fn finish_run<O: Sink, E: Sink>(
     ensures flushed { (O.state out.old).buffered ≡ [] → (E.state err.old).buffered ≡ []
         → ((O.state out.new).buffered ≡ []) × ((E.state err.new).buffered ≡ []) }
     ensures no_failures { result ≡ 0
-        → IsOk answer × NoneFailed (O.state out.old) (O.state out.new) (E.state err.old) (E.state err.new) }
+        → (answer ≡ Ok 0) × NoneFailed (O.state out.old) (O.state out.new) (E.state err.old) (E.state err.new) }
 {
     match flush_both(answer, out, err) {
         Ok(status) => status,

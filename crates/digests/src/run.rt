@@ -1,6 +1,6 @@
 //! What a whole command line does.
-ghost use Rattle.std.specs.Prelude.{◌≡◌, ◌∷◌};
-ghost use Rattle.sum_engine.specs.Execution.{IsFlushed, FailuresMatch, RefusalsMatch, StopHasCause, Performs};
+ghost use Rattle.std.specs.Prelude.{◌≡◌, ◌∷◌, true, Ok};
+ghost use Rattle.sum_engine.specs.Execution.{IsFlushed, FailuresMatch, ReadToEnd, RefusalsMatch, StopHasCause, Performs};
 ghost use Rattle.sum_words.specs.Tools.{name_of};
 ghost use Rattle.sum_words.specs.refinement.OptionScan.{result_of};
 ghost use Rattle.sum_words.specs.Request.{request};
@@ -33,6 +33,8 @@ pub fn run<A: Allocator + Copy, I: Input + Drop, S: Source, O: Sink, E: Sink>(
     ensures flushed { IsFlushed streams.old → IsFlushed streams.new }
     ensures refusals { RefusalsMatch S.state (RefusalsOf (request tool words.now)) streams.old streams.new result }
     ensures failures { FailuresMatch streams.old streams.new result }
+    // Known or not: status 0 only if every file that was opened, and standard input, was read to its end.
+    ensures read_to_end { result ≡ Ok 0 → ReadToEnd S.state streams.old streams.new }
 {
     run_request(alloc, tool, read_words(tool, words), streams)
 }
@@ -46,6 +48,7 @@ fn run_request<A: Allocator + Copy, I: Input + Drop, S: Source, O: Sink, E: Sink
     ensures behavior { Performs S.state (request_behavior tool (result_of asked.entry)) status_of streams.old
         streams.new result }
     ensures cause { StopHasCause S.state (RefusalsOf (result_of asked.entry)) streams.old streams.new result }
+    ensures read_to_end { result ≡ Ok 0 → ReadToEnd S.state streams.old streams.new }
 {
     match asked {
         Err(fault) => status_after_write(
@@ -94,6 +97,7 @@ fn run_operand<A: Allocator + Copy, I: Input + Drop, S: Source, O: Sink, E: Sink
     ensures behavior { Performs S.state (λ w. operand_behavior job.now (name_of tool) w name.now) (λ good. good)
         streams.old streams.new result }
     ensures cause { StopHasCause S.state (RefusalsOfJob job.now) streams.old streams.new result }
+    ensures read_to_end { result ≡ Ok true → ReadToEnd S.state streams.old streams.new }
 {
     match job {
         Job::Generate(settings) => generate_one(settings, tool.name(), name, streams),
@@ -122,6 +126,7 @@ fn run_operands<A: Allocator + Copy, I: Input + Drop, S: Source, O: Sink, E: Sin
         (or_dash operands.entry)) status_of
         streams.old streams.new result }
     ensures cause { StopHasCause S.state (RefusalsOfJob job.now) streams.old streams.new result }
+    ensures read_to_end { result ≡ Ok 0 → ReadToEnd S.state streams.old streams.new }
 {
     let mut operands = operands;
     let mut name = first_name(&mut operands);

@@ -1,6 +1,7 @@
 //! Standard input as the program is started with it.
-ghost use Rattle.std.specs.Prelude.{◌≡◌, ◌⊎◌, false};
+ghost use Rattle.std.specs.Prelude.{◌≡◌, ◌⊎◌};
 ghost use Rattle.sum_sources.specs.declared.inputs.closable.Closable.TheVariants.{Open, Closed};
+ghost use Rattle.sum_sources.specs.declared.inputs.phase.Phase.TheVariants.{Reading};
 
 use std::io::{Error, Stdin};
 use std::os::fd::AsFd;
@@ -9,13 +10,13 @@ use sum_sources::{Closable, FromRead};
 /// The system's number for "bad file descriptor", `EBADF`.
 const EBADF: i32 = 9;
 
-/// Standard input. A closed one is found out here, before any file is opened: the system would give its number to the
-/// next file, whose bytes would then stand for those of standard input. Of an open one nothing is read.
+/// Standard input, of which nothing is read yet. A closed one is noticed here, before any file is opened: the system
+/// would give its number to the next file, and that file's bytes would be read as standard input.
 pub fn standard_input(stdin: Stdin) -> Closable<FromRead<Stdin>>
-    ensures { (result ≡ Closed) ⊎ (result ≡ Open (record { reader = stdin; failed = false })) }
+    ensures { (result ≡ Closed Reading) ⊎ (result ≡ Open (record { reader = stdin; phase = Reading })) }
 {
     match stdin.as_fd().try_clone_to_owned() {
-        Err(error) if is_closed(&error) => Closable::Closed,
+        Err(error) if is_closed(&error) => Closable::closed(),
         _ => Closable::Open(FromRead::new(stdin)),
     }
 }

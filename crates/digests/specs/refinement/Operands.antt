@@ -1,13 +1,12 @@
 -- Joins the calls of a run to its operands.
-use Rattle.std.specs.Prelude.{ℕ, ◌≡◌, ◌⊎◌, Bool, List, Result, Ok, Err}
+use Rattle.std.specs.Prelude.{ℕ, ◌≡◌, Bool, List, Result, Ok, Err}
 use Rattle.sum_sources.specs.Contents.{SourceState, IfKnown}
 use Rattle.sum_engine.specs.declared.stop.Stop.{Stop}
 use Rattle.sum_engine.specs.declared.stop.Stop.TheVariants.{Write}
 use Rattle.sum_engine.specs.Behavior.{World, Behavior, behavior_then, trace}
-use Rattle.sum_engine.specs.Execution.{StreamsState, KnownState, known_state, Happened}
+use Rattle.sum_engine.specs.Execution.{StreamsState, KnownState, known_state, Happened, OneMore, OneMoreAtMost}
 use Rattle.sum_engine.specs.Generation.{generate_behavior}
 use Rattle.sum_engine.specs.check.Checking.{check_behavior}
-use Rattle.digest_kinds.specs.Limits.{one_more}
 use Rattle.sum_words.specs.Items.{ByteString}
 use Rattle.digests.specs.declared.run.Job.{Job}
 use Rattle.digests.specs.declared.run.Job.TheVariants.{Generate, Check}
@@ -20,10 +19,10 @@ operand_behavior (Check settings) tool w name = check_behavior settings tool w n
 
 -- how a job that runs out of memory may change the count of refusals
 abbrev pub RefusalsOfJob : Job → ℕ → ℕ → Type 0
-RefusalsOfJob (Generate settings) n m = m ≡ one_more n
-RefusalsOfJob (Check settings) n m = (m ≡ n) ⊎ (m ≡ one_more n)
+RefusalsOfJob (Generate settings) = OneMore
+RefusalsOfJob (Check settings) = OneMoreAtMost
 
--- the operands before the rest happened, and were good or not
+-- the operands before the rest were done: their behavior happened, and was good or not
 pub record OperandsDone (one : World → ByteString → Behavior) (names rest : List ByteString) (a b : KnownState)
     (good : Bool) : Type 0 where
   pub done : Behavior
@@ -31,7 +30,7 @@ pub record OperandsDone (one : World → ByteString → Behavior) (names rest : 
   pub happened : Happened a b (trace done.steps)
   pub is : good ≡ done.good
 
--- the same where it is told
+-- the same, if the worlds are known
 abbrev pub OperandsDoneIfKnown : {S : Type 0} → (S → SourceState) → (World → ByteString → Behavior) → List ByteString
     → List ByteString → StreamsState S
     → StreamsState S → Bool → Type 0

@@ -287,7 +287,7 @@ fn stopped_and_not_kept(rt: HostRuntime) -> Result<(), Fail> {
 
 #[test]
 fn closed_standard_input(rt: HostRuntime) -> Result<(), Fail> {
-    let closed: Closable<Told> = Closable::Closed;
+    let closed: Closable<Told> = Closable::closed();
     let ended = call(
         rt.alloc(),
         rt.alloc(),

@@ -1,5 +1,5 @@
 use Rattle.std.proofs.Common.{Some, None, sym, subst}
-use Rattle.sum_engine.proofs.ExecutionLemmas.{Runs}
+use Rattle.sum_engine.proofs.ExecutionLemmas.{Runs, streams_of}
 use Rattle.sum_engine.specs.Execution.{StreamsState, IsFlushed, FailuresMatch}
 use Rattle.sum_words.specs.CommandLines.{invoke, unknown_tool}
 use Rattle.digests.specs.Meaning.{status_of}
@@ -28,19 +28,21 @@ pub returns-in-Ok-UnknownTool-clause-behavior : goal.returns-in-Ok-UnknownTool-c
 returns-in-Ok-UnknownTool-clause-behavior g c =
     let read = rw c.in-Ok-UnknownTool.field-0-is at c.in-Ok-UnknownTool.ensures.line in
     let closed = rw c.status_after_write-answer.ensures at c.finish_run-in-Ok-UnknownTool.ensures.finish in
+    let first = streams_of g.I.Input.state c.streams-in-Ok-UnknownTool.inside.stdin _ _ _ in
     let told = c.put_message.ensures in
-    rw (← c.streams-in-Ok-UnknownTool.view_is) (λ hold. program_read g.S.Source.state _ _
+    rw (← c.streams-in-Ok-UnknownTool.view_is) (λ hold. program_read g.S.Source.state first _
     c.finish_run-in-Ok-UnknownTool.result _ unknown_tool read
-    (program_told g.S.Source.state c.finish_run-in-Ok-UnknownTool.result (Some unknown_tool) _ _ _ _ _
+    (program_told g.S.Source.state c.finish_run-in-Ok-UnknownTool.result (Some unknown_tool) first _ _ _ _
     c.put_message.result hold told
-    (told_on_err g.S.Source.state _ _ _ c.put_message.result hold.1 told) closed))
+    (told_on_err g.S.Source.state first _ _ c.put_message.result hold.1 told) closed))
 
 -- the words couldn't be read: another line says so
 pub returns-in-Err-clause-behavior : goal.returns-in-Err-clause-behavior
 returns-in-Err-clause-behavior g c =
     let closed = rw c.status_after_write-answer-in-Err.ensures at c.finish_run-in-Err.ensures.finish in
+    let first = streams_of g.I.Input.state c.streams-in-Err.inside.stdin _ _ _ in
     let told = c.put_message-in-Err.ensures in
-    rw (← c.streams-in-Err.view_is) (λ hold. program_unread g.S.Source.state _ _ c.finish_run-in-Err.result _
+    rw (← c.streams-in-Err.view_is) (λ hold. program_unread g.S.Source.state first _ c.finish_run-in-Err.result _
     c.in-Err.ensures.not_read
-    (program_told g.S.Source.state c.finish_run-in-Err.result None _ _ _ _ _ c.put_message-in-Err.result hold told
-    (told_on_err g.S.Source.state _ _ _ c.put_message-in-Err.result hold.1 told) closed))
+    (program_told g.S.Source.state c.finish_run-in-Err.result None first _ _ _ _ c.put_message-in-Err.result hold told
+    (told_on_err g.S.Source.state first _ _ c.put_message-in-Err.result hold.1 told) closed))

@@ -1,8 +1,9 @@
-use Rattle.std.proofs.Common.{◌≡◌, ◌∙◌, rules, ◌&&◌}
+use Rattle.std.proofs.Common.{◌≡◌, ◌∙◌, rules, ◌&&◌, true, refl}
 use Rattle.sum_words.specs.Tools.{name_of}
 use Rattle.digests.specs.Meaning.{or_dash}
 use Rattle.digests.specs.refinement.Operands.{operand_behavior}
-use Rattle.digests.proofs.OperandLemmas.{Operands, reached_start, reached_step, reached_end, reached_stop}
+use Rattle.sum_engine.proofs.ReadToEndLemmas.{ReadToEnd-none}
+use Rattle.digests.proofs.OperandLemmas.{Operands, reached_start, reached_step, reached_end, reached_stop, read_step, read_end}
 use Rattle.digests.proofs.run.run_operands.Goals.{then-good, else-good}
 use Rattle.digests.proofs.run.run_operands.Goals as goal
 
@@ -14,6 +15,7 @@ operands-init g c =
     record {
       reached = λ hold. reached_start g.S.Source.state all c.args.streams.now c.first_name-name.ensures;
       so_far = search rules;
+      whole = λ good. ReadToEnd-none g.S.Source.state c.args.streams.now c.args.streams.now refl refl refl refl;
     }
 
 -- an operand stopped the run
@@ -42,6 +44,8 @@ operands-preserved g c =
           c.operands.name.now c.operands.operands c.args.streams.now c.operands.streams c.run_operand.new.streams
           (so_far.reached hold) (c.in-Ok.ensures.behavior (so_far.so_far.flushed hold)));
       so_far = search rules;
+      whole = rw is (read_step g.S.Source.state c.operands.good c.in-Ok.this c.args.streams.now c.operands.streams
+          c.run_operand.new.streams so_far.whole c.in-Ok.ensures.read_to_end);
     }
 
 -- an operand happened, and it was the last
@@ -61,3 +65,15 @@ returns-in-None-clause-behavior g c =
     (c.in-Ok.ensures.behavior (so_far.so_far.flushed hold)) in
     rw c.status.ensures (reached_end g.S.Source.state all _ c.args.streams.now c.run_operand.new.streams
     (rw (← is, c.in-None.ensures.steps.0) at reached))
+
+-- then all were read to the end, if all are good
+pub returns-in-None-clause-read_to_end : goal.returns-in-None-clause-read_to_end
+returns-in-None-clause-read_to_end g c =
+    let is : c.if-good.good ≡ (c.operands.good && c.in-Ok.this) =
+    elim c.if-good.branch [
+      | then-good w ↦ rw w.if-good.true w.good-is
+      | else-good w ↦ rw w.if-good.false (w.good-is ∙ w.if-good.false)
+    ] in
+    read_end c.status.result (c.operands.good && c.in-Ok.this) (rw (← is) c.status.ensures)
+    (read_step g.S.Source.state c.operands.good c.in-Ok.this c.args.streams.now c.operands.streams
+    c.run_operand.new.streams c.operands.invariant.whole c.in-Ok.ensures.read_to_end)
