@@ -23,8 +23,3 @@ pub returns-in_ok-digits_end-in-One-clause-leads : goal.returns-in_ok-digits_end
 returns-in_ok-digits_end-in-One-clause-leads c =
     let tagged = untagged _ _ (rw c.text_in.ensures.text at (sym c.in_default.ensures)) in
     (rw c.text_in.ensures.text at c.in_ok-digits_end-in-One.ensures.some, tagged, rw c.in-One.is refl)
-
--- no tag begins the text, and no line is plain
-pub returns-in-Any-clause-tagged : goal.returns-in-Any-clause-tagged
-returns-in-Any-clause-tagged c =
-    untagged _ _ (rw c.text_in.ensures.text at (sym c.in_default.ensures))
