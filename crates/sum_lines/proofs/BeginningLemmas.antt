@@ -58,9 +58,9 @@ by-tag algos line a h =
     )
 
 -- a line without a tag isn't tagged
-pub untagged : (algos : Algos) (line : List ℕ) → tag_in algos (text line).1 ≡ None → None ≡ tagged_parts algos line
+pub no_tag : (algos : Algos) (line : List ℕ) → tag_in algos (text line).1 ≡ None → None ≡ tagged_parts algos line
 unfolding tagged_parts
-untagged algos line h = rw h refl
+no_tag algos line h = rw h refl
 
 -- a text that begins with a tag is as long
 pub tag-within : {a : Algo} {front : List ℕ} (s : List ℕ) → front ≡ tag a → tag_in (One a) s ≡ Some a

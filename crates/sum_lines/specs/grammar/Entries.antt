@@ -42,8 +42,8 @@ IsForm algos [] form = form ≡ Undecided
 IsForm algos (line ∷ later) form = DecidesForm algos line form
     ⊎ (((f : Form) → ¬ DecidesForm algos line f) × IsForm algos later form)
 
--- The raw name, as the line has it, spells a name: the name has no NUL; the raw name is its escape if a backslash
--- begins the line, and the name itself if not.
+-- The raw name, as the line has it, spells a name: the name has no NUL; the raw name is its escape if the line has the
+-- backslash for that, and the name itself if not.
 pub record Spells (escape : List ℕ → List ℕ) (escaped : Bool) (raw name : List ℕ) : Type 0 where
   pub no_nul : All (λ b. 0 < b) name
   pub is : raw ≡ (if escaped then escape name else name)

@@ -1,7 +1,6 @@
 -- What a buffer over a sink buffers, and when it writes that to the sink below.
 use Rattle.std.specs.Prelude.{ℕ, ◌==◌, List, [], ◌∷◌, ◌++◌, length, if◌then◌else◌}
 use Rattle.sum_lines.specs.sinks.Sinks.{SinkState}
-use Rattle.sum_lines.specs.declared.sinks.buffered.TheConstants.{CAPACITY}
 
 -- a buffer: the sink below it, and what is buffered
 pub record BufferedValue (S : Type 0) : Type 0 where
@@ -16,13 +15,13 @@ with_buffered a own = record { written = a.written; buffered = a.buffered ++ own
 abbrev pub buffer_state : {S : Type 0} → (S → SinkState) → BufferedValue S → SinkState
 buffer_state state b = with_buffered (state b.sink) b.buffered
 
--- what is written to make room: all that is buffered, if there is no room for more
+-- what is written to make room: all that is buffered, if that is 8,192 bytes, so that there is no room for more
 abbrev pub flushed_if_full : List ℕ → List ℕ
-flushed_if_full buffered = if length buffered == CAPACITY then buffered else []
+flushed_if_full buffered = if length buffered == 8192 then buffered else []
 
 -- what stays buffered then: all, if there is room for more
 abbrev pub kept_unless_full : List ℕ → List ℕ
-kept_unless_full buffered = if length buffered == CAPACITY then [] else buffered
+kept_unless_full buffered = if length buffered == 8192 then [] else buffered
 
 -- what is written before a piece is accepted: nothing if it is empty
 abbrev pub flushed_before_write : List ℕ → List ℕ → List ℕ

@@ -23,7 +23,7 @@ pub(crate) enum Beginning {
 /// What a line of these algorithms begins with. `None` only if it is neither tagged nor plain. A call of its own, so
 /// that an ignored line needs no room for it.
 #[inline(never)]
-#[tactic(auto, unfolding(crate::specs::grammar::LineParts::plain_parts))]
+#[tactic(auto, using(crate::proofs::BeginningLemmas::no_tag), unfolding(crate::specs::grammar::LineParts::plain_parts))]
 pub(crate) fn find_beginning(algos: Algos, line: &[u8]) -> Option<Beginning>
     ensures tagged { IfNone result (None ≡ tagged_parts algos line.now) }
     ensures plain { IfNone result (None ≡ plain_parts algos line.now) }

@@ -100,7 +100,7 @@ impl<S: Sink> Sink for Buffered<S> {
         ensures offers { OffersWhole (S.offered self.old.sink) (S.offered self.new.sink)
             (flushed_before_write self.old.buffered piece.now) }
         ensures count { IfOk result
-            (λ n. n ≡ min (length piece.now) (CAPACITY - length (kept_unless_full self.old.buffered))) }
+            (λ n. n ≡ min (length piece.now) (8192 - length (kept_unless_full self.old.buffered))) }
     {
         if piece.is_empty() {
             return Ok(0);

@@ -1,5 +1,5 @@
 use Rattle.std.proofs.Common.{refl, sym}
-use Rattle.sum_lines.proofs.BeginningLemmas.{by-tag, untagged}
+use Rattle.sum_lines.proofs.BeginningLemmas.{by-tag, no_tag}
 use Rattle.sum_lines.proofs.PlainLemmas.{uncut}
 use Rattle.sum_lines.proofs.reading.beginnings.find_beginning.Goals as goal
 
@@ -11,7 +11,7 @@ returns-in-Some-clause-leads c =
 -- there is no blank where the digits would end
 pub returns-in_err-digits_end-in-One-clause-tagged : goal.returns-in_err-digits_end-in-One-clause-tagged
 returns-in_err-digits_end-in-One-clause-tagged c =
-    rw c.from_residual.ensures (untagged _ _ (rw c.text_in.ensures.text at (sym c.in_default.ensures)))
+    rw c.from_residual.ensures (no_tag _ _ (rw c.text_in.ensures.text at (sym c.in_default.ensures)))
 
 pub returns-in_err-digits_end-in-One-clause-plain : goal.returns-in_err-digits_end-in-One-clause-plain
 returns-in_err-digits_end-in-One-clause-plain c =
@@ -21,10 +21,5 @@ returns-in_err-digits_end-in-One-clause-plain c =
 -- there is one
 pub returns-in_ok-digits_end-in-One-clause-leads : goal.returns-in_ok-digits_end-in-One-clause-leads
 returns-in_ok-digits_end-in-One-clause-leads c =
-    let tagged = untagged _ _ (rw c.text_in.ensures.text at (sym c.in_default.ensures)) in
+    let tagged = no_tag _ _ (rw c.text_in.ensures.text at (sym c.in_default.ensures)) in
     (rw c.text_in.ensures.text at c.in_ok-digits_end-in-One.ensures.some, tagged, rw c.in-One.is refl)
-
--- no tag begins the text, and no line is plain
-pub returns-in-Any-clause-tagged : goal.returns-in-Any-clause-tagged
-returns-in-Any-clause-tagged c =
-    untagged _ _ (rw c.text_in.ensures.text at (sym c.in_default.ensures))
