@@ -28,15 +28,15 @@ WritesLine line a b = (said : ByteString) × Appends a.written b.written said
     × (((said ≡ line) × (b.failures ≡ a.failures)) ⊎ (IsPrefix said line × (b.failures ≡ one_more a.failures)))
 
 -- what an answer leaves to do: nothing, and it is the status; or standard error tells of the stop, and the status is 1
-abbrev pub ReportsStop : {S : Type 0} → Option CommandLineValue → Result ℕ Stop → StreamsState S → StreamsState S → ℕ
-    → Type 0
+abbrev pub ReportsStop : {S : Type 0} → Option CommandLineValue → Result ℕ Stop
+    → StreamsState S → StreamsState S → ℕ → Type 0
 ReportsStop line (Ok answer) a b status = (status ≡ answer) × (b ≡ a)
 ReportsStop line (Err stop) a b status = (status ≡ 1) × (b ≡ record a { err = b.err })
     × WritesLine (call_stop_line line stop) a.err b.err
 
 -- THE PROGRAM, for what it was called for: its run, as the headline has it, and then what its answer leaves to be done
-abbrev pub CallPerforms : {S : Type 0} → (S → SourceState) → Option CommandLineValue → StreamsState S → StreamsState S
-    → ℕ → Type 0
+abbrev pub CallPerforms : {S : Type 0} → (S → SourceState) → Option CommandLineValue
+    → StreamsState S → StreamsState S → ℕ → Type 0
 CallPerforms {S} state line a b status = (answer : Result ℕ Stop) × (between : StreamsState S)
     × Performs state (call_behavior line) status_of a between answer × FailuresMatch a between answer
     × ReportsStop line answer between b status

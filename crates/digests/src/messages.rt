@@ -4,7 +4,9 @@ ghost use Rattle.sum_engine.specs.refinement.FlushedWrites.{WritesAndFlushes};
 
 use sum_engine::Stop;
 use sum_lines::{Sink, SinkFault};
-use sum_words::{Tool, WordFault, put_fault, put_help, put_not_read, put_stop, put_unknown, put_version};
+use sum_words::{
+    Tool, WordFault, put_fault, put_help, put_not_read, put_stop, put_unknown, put_version,
+};
 
 /// A text of the program.
 #[derive(Clone, Copy)]

@@ -32,9 +32,8 @@ pub record OperandsDone (one : World → ByteString → Behavior) (names rest : 
   pub is : good ≡ done.good
 
 -- the same where it is told
-abbrev pub OperandsDoneIfKnown : {S : Type 0} → (S → SourceState) → (World → ByteString → Behavior) → List ByteString
-    → List ByteString → StreamsState S
-    → StreamsState S → Bool → Type 0
+abbrev pub OperandsDoneIfKnown : {S : Type 0} → (S → SourceState) → (World → ByteString → Behavior)
+    → List ByteString → List ByteString → StreamsState S → StreamsState S → Bool → Type 0
 OperandsDoneIfKnown state one names rest a b good =
     IfKnown (known_state state a) (known_state state b) (λ s t. OperandsDone one names rest s t good)
 
