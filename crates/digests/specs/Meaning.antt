@@ -1,5 +1,4 @@
--- What a command line means: a run, which opens names and writes to both outputs, and whether all is good, which the
--- status tells.
+-- What a tool's words mean: a behavior, of which the status is whether all is good.
 use Rattle.std.specs.Prelude.{ℕ, Bool, true, false, List, [], ◌∷◌, Result, Ok, Err, codes, if◌then◌else◌}
 use Rattle.sum_engine.specs.Behavior.{World, after, Behavior, behavior_then, single_step, asks}
 use Rattle.sum_engine.specs.Generation.{generate_behavior}
@@ -13,12 +12,12 @@ use Rattle.sum_words.specs.Items.{ByteString}
 use Rattle.sum_words.specs.Request.{request}
 use Rattle.sum_words.specs.Texts.{fault_lines, help, version}
 
--- all operands, each in the world that those before it leave
+-- the behavior of all operands, each in the world that the earlier ones leave
 abbrev pub operands_behavior : (World → ByteString → Behavior) → World → List ByteString → Behavior
 operands_behavior one w [] = record { steps = []; good = true }
 operands_behavior one w (n ∷ ns) = behavior_then (one w n) (operands_behavior one (after w (asks (one w n))) ns)
 
--- where there is no operand, `-` is the one
+-- the operands, or `-` if there is none
 abbrev pub or_dash : List ByteString → List ByteString
 or_dash [] = codes "-" ∷ []
 or_dash (n ∷ ns) = n ∷ ns
@@ -37,6 +36,6 @@ request_behavior t (Ok (Check settings names)) w =
 abbrev pub meaning : Tool → List ByteString → World → Behavior
 meaning t words w = request_behavior t (request t words) w
 
--- the status: 0 where all is good, else 1
+-- the status: 0 if all is good, else 1
 abbrev pub status_of : Bool → ℕ
 status_of good = if good then 0 else 1

@@ -12,37 +12,38 @@ use Rattle.sum_words.specs.CommandLines.{CommandLineValue, unknown_tool, invoke,
 use Rattle.sum_words.specs.Texts.{stop_line, unknown_tool_line, not_read_line}
 use Rattle.digests.specs.Meaning.{meaning, status_of}
 
--- what a call means, and the line that tells of its stop, where there is a tool to tell of it
+-- the behavior of a call; `None` is a call whose words could not be read
 abbrev pub call_behavior : Option CommandLineValue → World → Behavior
 call_behavior None w = single_step [] not_read_line [] false
 call_behavior (Some unknown_tool) w = single_step [] unknown_tool_line [] false
 call_behavior (Some (invoke tool words)) w = meaning tool words w
 
+-- the line that reports a stop, if there is a tool
 abbrev pub call_stop_line : Option CommandLineValue → Stop → ByteString
 call_stop_line (Some (invoke tool words)) stop = stop_line tool stop
 call_stop_line line stop = []
 
--- a line was handed on by an output: all of it; or a prefix, where that output failed
+-- an output wrote a line: all of it, or a prefix if the output failed
 abbrev pub WritesLine : ByteString → SinkState → SinkState → Type 0
 WritesLine line a b = (said : ByteString) × Appends a.written b.written said
     × (((said ≡ line) × (b.failures ≡ a.failures)) ⊎ (IsPrefix said line × (b.failures ≡ one_more a.failures)))
 
--- what an answer leaves to do: nothing, and it is the status; or standard error tells of the stop, and the status is 1
-abbrev pub ReportsStop : {S : Type 0} → Option CommandLineValue → Result ℕ Stop → StreamsState S → StreamsState S → ℕ
-    → Type 0
+-- after an answer, it is the status; after a stop, standard error gets its line, and the status is 1
+abbrev pub ReportsStop : {S : Type 0} → Option CommandLineValue → Result ℕ Stop
+    → StreamsState S → StreamsState S → ℕ → Type 0
 ReportsStop line (Ok answer) a b status = (status ≡ answer) × (b ≡ a)
 ReportsStop line (Err stop) a b status = (status ≡ 1) × (b ≡ record a { err = b.err })
     × WritesLine (call_stop_line line stop) a.err b.err
 
--- THE PROGRAM, for what it was called for: its run, as the headline has it, and then what its answer leaves to be done
-abbrev pub CallPerforms : {S : Type 0} → (S → SourceState) → Option CommandLineValue → StreamsState S → StreamsState S
-    → ℕ → Type 0
+-- THE PROGRAM, for one call: it performs the call's behavior, and then reports a stop
+abbrev pub CallPerforms : {S : Type 0} → (S → SourceState) → Option CommandLineValue
+    → StreamsState S → StreamsState S → ℕ → Type 0
 CallPerforms {S} state line a b status = (answer : Result ℕ Stop) × (between : StreamsState S)
     × Performs state (call_behavior line) status_of a between answer × FailuresMatch a between answer
     × ReportsStop line answer between b status
 
--- what it is called for is said by the arguments, where these are told; or the words couldn't be read, which needed
--- memory; both outputs hold nothing at first
+-- the program performs the call of its arguments, if these are known and both outputs flushed; or the words could not
+-- be read, since memory is needed
 abbrev pub ProgramPerforms :
     {S : Type 0} → (S → SourceState) → Option (List ByteString) → StreamsState S → StreamsState S → ℕ → Type 0
 ProgramPerforms state told a b status = IsFlushed a → IfSome told (λ arguments.

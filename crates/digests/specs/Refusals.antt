@@ -1,4 +1,4 @@
--- How want of memory may change the count of a source's refusals, told or not.
+-- How a stop out of memory may change the count of a source's refusals, known or not.
 use Rattle.std.specs.Prelude.{ℕ, Result, Ok}
 use Rattle.sum_engine.specs.Execution.{OneMore, OneMoreAtMost}
 use Rattle.sum_words.specs.declared.parsing.request.Request.{Request}

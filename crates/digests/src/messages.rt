@@ -4,7 +4,9 @@ ghost use Rattle.sum_engine.specs.refinement.FlushedWrites.{WritesAndFlushes};
 
 use sum_engine::Stop;
 use sum_lines::{Sink, SinkFault};
-use sum_words::{Tool, WordFault, put_fault, put_help, put_not_read, put_stop, put_unknown, put_version};
+use sum_words::{
+    Tool, WordFault, put_fault, put_help, put_not_read, put_stop, put_unknown, put_version,
+};
 
 /// A text of the program.
 #[derive(Clone, Copy)]
@@ -13,11 +15,11 @@ pub(crate) enum Message<'a> {
     Fault(Tool, &'a WordFault<'a>),
     Help(Tool),
     Version(Tool),
-    /// The line for a tool that isn't known.
+    /// The line for an unknown or missing tool.
     UnknownTool,
-    /// The line for words that couldn't be read.
+    /// The line for words that could not be read.
     NotRead,
-    /// The line for a run that stopped.
+    /// The line for a stop.
     Stop(Tool, Stop),
 }
 
@@ -31,6 +33,7 @@ pub(crate) fn put_message<S: Sink>(sink: &mut S, text: Message) -> Result<(), Si
     sink.flush()
 }
 
+// Writes a text, without a flush.
 fn buffer_message<S: Sink>(sink: &mut S, text: Message) -> Result<(), SinkFault>
     ensures { WritesAll (S.state sink.old) (S.state sink.new) (message_text text.entry) result }
 {

@@ -1,4 +1,4 @@
-//! What a whole command line does.
+//! The run of a tool on its words.
 ghost use Rattle.std.specs.Prelude.{◌≡◌, ◌∷◌, true, Ok};
 ghost use Rattle.sum_engine.specs.Execution.{IsFlushed, FailuresMatch, ReadToEnd, RefusalsMatch, StopHasCause, Performs};
 ghost use Rattle.sum_words.specs.Tools.{name_of};
@@ -15,20 +15,18 @@ use sum_lines::{Sink, SinkFault};
 use sum_sources::{Input, Source};
 use sum_words::{Operands, Request, Tool, WordFault, Words, read_words};
 
-/// Runs a tool on its words: writes what they mean for what standard input and the source have to give, and answers the
-/// status, 0 where all is good and 1 where anything isn't (coreutils manual, "md5sum invocation"). Each line, and the
-/// help and the two lines of a fault as one, is handed on as soon as it is complete.
+/// Runs a tool on its words, and returns the status: 0 if all is good, else 1 (coreutils manual, "md5sum invocation").
+/// Each line, and the help and the two lines of a fault as one, is flushed as soon as it is complete.
 ///
-/// `Stop::Memory` where memory was refused; just the first steps of the run happened, up to an operand or, in checking,
-/// up to a line of a manifest or its end. `Stop::Write` where an output failed; one prefix of all that is to be asked
-/// and written, in its order, happened. What is said of bytes and of what is held is said of outputs that hold nothing
-/// when they are lent.
+/// `Stop::Memory` if memory was refused: the first steps of the behavior happened, up to an operand or, in checking, up
+/// to a line of a manifest or its end. `Stop::Write` if an output failed: a prefix of the trace happened.
 pub fn run<A: Allocator + Copy, I: Input + Drop, S: Source, O: Sink, E: Sink>(
     alloc: A,
     tool: Tool,
     words: &Words<A>,
     streams: &mut Streams<I, S, O, E>,
 ) -> Result<u8, Stop>
+    // If the source and standard input are known and both outputs flushed: the behavior that the words mean.
     ensures behavior { Performs S.state (meaning tool words.now) status_of streams.old streams.new result }
     ensures flushed { IsFlushed streams.old → IsFlushed streams.new }
     ensures refusals { RefusalsMatch S.state (RefusalsOf (request tool words.now)) streams.old streams.new result }
@@ -39,6 +37,7 @@ pub fn run<A: Allocator + Copy, I: Input + Drop, S: Source, O: Sink, E: Sink>(
     run_request(alloc, tool, read_words(tool, words), streams)
 }
 
+// Does what a request, or a fault in the words, asks for.
 fn run_request<A: Allocator + Copy, I: Input + Drop, S: Source, O: Sink, E: Sink>(
     alloc: A,
     tool: Tool,
@@ -72,7 +71,7 @@ fn run_request<A: Allocator + Copy, I: Input + Drop, S: Source, O: Sink, E: Sink
     }
 }
 
-// The end of a run that wrote one text.
+// The status after a text was written.
 pub(crate) fn status_after_write(told: Result<(), SinkFault>, status: u8) -> Result<u8, Stop>
     ensures { result ≡ status_after_write told status }
 {
@@ -87,6 +86,7 @@ enum Job {
     Check(CheckSettings),
 }
 
+// Does a job with one operand.
 fn run_operand<A: Allocator + Copy, I: Input + Drop, S: Source, O: Sink, E: Sink>(
     alloc: A,
     job: &Job,
@@ -105,7 +105,7 @@ fn run_operand<A: Allocator + Copy, I: Input + Drop, S: Source, O: Sink, E: Sink
     }
 }
 
-// The first of all operands; `-` where there is none.
+// The first operand, or `-` if there is none.
 fn first_name<'a>(operands: &mut Operands<'a>) -> &'a [u8]
     ensures { or_dash operands.old ≡ result.now ∷ operands.new }
 {
@@ -115,6 +115,7 @@ fn first_name<'a>(operands: &mut Operands<'a>) -> &'a [u8]
     }
 }
 
+// Does a job with all operands, one after another.
 fn run_operands<A: Allocator + Copy, I: Input + Drop, S: Source, O: Sink, E: Sink>(
     alloc: A,
     job: &Job,
@@ -143,6 +144,7 @@ fn run_operands<A: Allocator + Copy, I: Input + Drop, S: Source, O: Sink, E: Sin
     }
 }
 
+// The status.
 fn status(good: bool) -> u8
     ensures { result ≡ status_of good }
 {

@@ -93,7 +93,8 @@ abbrev pub long_option : Result Flag WordFaultValue → Option ByteString → Li
 long_option (Err f) value = (fault f ∷ [], no_word)
 long_option (Ok flag) None = if takes_value flag then ([], a_value Long) else (option flag ∷ [], a_word)
 long_option (Ok flag) (Some value) =
-    if takes_value flag then (length_value value ∷ [], a_word) else (fault (value_not_allowed (full_name flag)) ∷ [], no_word)
+    if takes_value flag then (length_value value ∷ [], a_word)
+    else (fault (value_not_allowed (full_name flag)) ∷ [], no_word)
 
 -- a tool's option of this letter
 unfoldable pub option_of_letter : Tool → ℕ → Option Flag

@@ -42,7 +42,8 @@ impl Tool {
     #[tactic(auto, unfolding(crate::specs::Tools::tool_called))]
     pub fn of_name(name: &[u8]) -> Option<Tool>
         ensures tool { result ≡ tool_called name.now }
-        ensures named { IfSome result (λ tool. name_of tool ≡ name.now) }
+        // So the tool's name is this one.
+        ensures name { IfSome result (λ tool. name_of tool ≡ name.now) }
     {
         TOOLS
             .iter()

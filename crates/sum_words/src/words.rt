@@ -126,6 +126,7 @@ impl<'a> LentWords<'a> {
     pub fn get(&self, i: usize) -> Option<&'a [u8]>
         ensures word { option_copied result ≡ slice_get self.now i }
         ensures readable { IfSome result (λ word. is_readable word.now ≡ true) }
+        // So the next place is a `usize`, too.
         ensures within { OnSome result (i + 1 < 2 ^ 64) }
     {
         piece_at(self.bytes, self.ends, i)

@@ -1,4 +1,4 @@
--- Joins the texts that the program writes as a whole to what they say.
+-- Relates the messages of the program to their texts.
 use Rattle.sum_words.specs.Items.{ByteString as Bytes}
 use Rattle.sum_words.specs.Texts.{fault_lines, help, version, stop_line, unknown_tool_line, not_read_line}
 use Rattle.sum_words.specs.refinement.ItemIterator.{fault_of}

@@ -1,4 +1,4 @@
--- Joins the calls of a run to its operands.
+-- Relates the calls of a run to its operands.
 use Rattle.std.specs.Prelude.{ℕ, ◌≡◌, Bool, List, Result, Ok, Err}
 use Rattle.sum_sources.specs.Contents.{SourceState, IfKnown}
 use Rattle.sum_engine.specs.declared.stop.Stop.{Stop}
@@ -22,7 +22,7 @@ abbrev pub RefusalsOfJob : Job → ℕ → ℕ → Type 0
 RefusalsOfJob (Generate settings) = OneMore
 RefusalsOfJob (Check settings) = OneMoreAtMost
 
--- the operands before the rest were done: their behavior happened, and was good or not
+-- the behavior of the operands before the rest happened, and was good or not
 pub record OperandsDone (one : World → ByteString → Behavior) (names rest : List ByteString) (a b : KnownState)
     (good : Bool) : Type 0 where
   pub done : Behavior
@@ -30,14 +30,13 @@ pub record OperandsDone (one : World → ByteString → Behavior) (names rest : 
   pub happened : Happened a b (trace done.steps)
   pub is : good ≡ done.good
 
--- the same, if the worlds are known
-abbrev pub OperandsDoneIfKnown : {S : Type 0} → (S → SourceState) → (World → ByteString → Behavior) → List ByteString
-    → List ByteString → StreamsState S
-    → StreamsState S → Bool → Type 0
+-- the same, if the world is known
+abbrev pub OperandsDoneIfKnown : {S : Type 0} → (S → SourceState) → (World → ByteString → Behavior)
+    → List ByteString → List ByteString → StreamsState S → StreamsState S → Bool → Type 0
 OperandsDoneIfKnown state one names rest a b good =
     IfKnown (known_state state a) (known_state state b) (λ s t. OperandsDone one names rest s t good)
 
--- the end of a run that wrote one text
+-- the status after a text was written
 abbrev pub status_after_write : {U E : Type 0} → Result U E → ℕ → Result ℕ Stop
 status_after_write (Ok u) status = Ok status
 status_after_write (Err e) status = Err Write

@@ -40,8 +40,9 @@ operands-preserved g c =
     record { one = operand_behavior c.args.job.now (name_of c.args.tool); names = or_dash c.args.operands } in
     let so_far = c.operands.invariant in
     record {
-      reached = λ hold. rw (is, ← c.in-Some.ensures.steps) (reached_step g.S.Source.state all c.operands.good c.in-Ok.this
-          c.operands.name.now c.operands.operands c.args.streams.now c.operands.streams c.run_operand.new.streams
+      reached = λ hold. rw (is, ← c.in-Some.ensures.steps)
+          (reached_step g.S.Source.state all c.operands.good c.in-Ok.this c.operands.name.now c.operands.operands
+          c.args.streams.now c.operands.streams c.run_operand.new.streams
           (so_far.reached hold) (c.in-Ok.ensures.behavior (so_far.so_far.flushed hold)));
       so_far = search rules;
       whole = rw is (read_step g.S.Source.state c.operands.good c.in-Ok.this c.args.streams.now c.operands.streams

@@ -7,4 +7,4 @@ use Rattle.sum_words.proofs.tool.Tool.from_word.Goals as goal
 pub returns : goal.returns
 returns c =
     named c.args.word.now c.of_name.result (c.of_name.ensures.tool ∙ ap tool_called c.as_bytes.ensures.value)
-    (rw c.as_bytes.ensures.value at c.of_name.ensures.named)
+    (rw c.as_bytes.ensures.value at c.of_name.ensures.name)
