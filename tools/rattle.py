@@ -58,7 +58,7 @@ def end_of(text, start, kind):
     if kind == "const":
         return text.index(";\n", start) + 1
     if kind != "fn":
-        first = re.compile(r"[{;\[]").search(text, start)
+        first = re.compile(r"[{;]|\[(?![^;\[\]{}]*\])").search(text, start)  # a slice's type isn't in the way
         if first[0] == "[":
             raise ValueError(f"an array in a type without braces can't be read: {text[start:first.end()]}")
         return first.end() if first[0] == ";" else behind_brace(text, first.start())
