@@ -1,4 +1,4 @@
-//! One read of a run that fails, after which all files go on.
+//! One read of a run that fails, after which all files could be read further.
 use super::program::status_of;
 use super::{File, assert_text, joined, source_of, spelled};
 use std::alloc::Global;
@@ -7,31 +7,40 @@ use std::process::Abort;
 use std::test::Fail;
 use sum_engine::Streams;
 use sum_lines::ToldSink;
-use sum_sources::{Ending, Fault, Input, OpenFault, Source, Stdin, Told, ToldSource};
+use sum_sources::{Ending, Fault, Input, OpenFault, Phase, Source, Stdin, Told, ToldSource};
 
-// Of all reads of the inputs that share the count, the one before which so many come fails.
+// An input of which one read fails: the one that so many precede, of all inputs that share the count.
 #[derive(Drop)]
 struct FailsOnce<'a> {
-    input: Told<'a>,
+    bytes: Told<'a>,
     before: &'a Cell<usize>,
+    phase: Phase,
 }
 
 impl<'a> Input for FailsOnce<'a> {
+    ghost use Rattle.std.specs.Prelude.{None};
+
+    ghost state = { λ s. record { content = None; phase = s.phase } };
+
     fn read(&mut self, buf: &mut [u8]) -> Result<usize, Fault> {
         let before = self.before.get();
         self.before.set(before.wrapping_sub(1));
-        if before == 0 {
-            return Err(Fault::Other);
-        }
-        self.input.read(buf)
+        let result = if before == 0 {
+            Err(Fault::Other)
+        } else {
+            self.bytes.read(buf)
+        };
+        self.phase = self.phase.after(buf.len(), &result);
+        result
     }
 }
 
-// The files of a source as such inputs.
+// The files of a source as such inputs, and how many came back read to their end.
 #[derive(Drop)]
 struct FilesFailOnce<'a> {
-    source: ToldSource<'a, Global>,
+    files: ToldSource<'a, Global>,
     before: &'a Cell<usize>,
+    ended: u64,
 }
 
 impl<'a> Source for FilesFailOnce<'a> {
@@ -39,15 +48,27 @@ impl<'a> Source for FilesFailOnce<'a> {
 
     ghost use Rattle.std.specs.Prelude.{None};
 
-    ghost state = { λ s. record { known = None; refusals = s.source.refusals } };
+    ghost state = { λ s. record {
+      known = None;
+      refusals = s.files.refusals;
+      opened = s.files.opened;
+      ended = s.ended;
+    } };
 
     fn open_file(&mut self, name: &[u8]) -> Result<FailsOnce<'a>, OpenFault> {
-        match self.source.open_file(name) {
-            Ok(input) => Ok(FailsOnce {
-                input,
+        match self.files.open_file(name) {
+            Ok(bytes) => Ok(FailsOnce {
+                bytes,
                 before: self.before,
+                phase: Phase::Reading,
             }),
             Err(fault) => Err(fault),
+        }
+    }
+
+    fn close_file(&mut self, file: FailsOnce<'a>) {
+        if file.phase == Phase::Ended {
+            self.ended = self.ended.saturating_add(1);
         }
     }
 }
@@ -59,8 +80,8 @@ const LINE_B: &str = "e3b0c44298fc1c149afbf4c8996fb92427ae41e4649b934ca495991b78
 
 const LINE_C: &str = "248d6a61d20638b8e5c026930c3e6039a33ce45964ff2167f6ecedd419db06c1  c\n";
 
-// That the program, called so, leaves these texts, where so many reads come before the one that fails. Each read gives
-// at most a line of the list `l`.
+// That the program, called so, leaves these texts, if so many reads precede the one that fails. Each read gives at most
+// a line of the manifest `l`.
 fn assert_leaves(
     rt: &(impl Abort + AllocGlobal),
     arguments: &[&[u8]],
@@ -81,8 +102,9 @@ fn assert_leaves(
     let mut streams = Streams {
         stdin: Stdin::new(Told::new(b"", Ending::Whole, 1)),
         source: FilesFailOnce {
-            source: source_of(rt.alloc(), &added, 68)?,
+            files: source_of(rt.alloc(), &added, 68)?,
             before: &count,
+            ended: 0,
         },
         out: ToldSink::<1024>::new(1024),
         err: ToldSink::<1024>::new(1024),
@@ -101,6 +123,9 @@ fn assert_leaves(
         ("standard error", "the program"),
     )?;
     assert_eq!(rt; answer, status, "{before}");
+    // Every file was opened; the one of which a read failed has no end, and no file has one by a read after its fault.
+    let unread = streams.source.files.opened() - streams.source.ended;
+    assert_eq!(rt; unread, u64::from(status), "{before}");
     Ok(())
 }
 
@@ -129,7 +154,7 @@ fn each_read_of_hashing(rt: HostRuntime) -> Result<(), Fail> {
     Ok(())
 }
 
-// A list is read up to its fault, a file that it names counts as not read, and the list behind it is good.
+// A manifest is read up to its fault, a file that it lists counts as not read, and the manifest after it is good.
 #[test]
 fn each_read_of_checking(rt: HostRuntime) -> Result<(), Fail> {
     let arguments: [&[u8]; 4] = [b"sha256sum", b"-c", b"l", b"l"];
@@ -155,7 +180,7 @@ fn each_read_of_checking(rt: HostRuntime) -> Result<(), Fail> {
         let out = joined(rt.alloc(), &[first, "a: OK\nb: OK\n"])?;
         assert_leaves(&rt, &arguments, before, (out.as_str(), err, status))?;
     }
-    // the last read of the second list, and none of all
+    // the last read of the second manifest, and none of all
     for (before, err, status) in [(11, fault_of_l, 1), (12, "", 0)] {
         assert_leaves(
             &rt,
