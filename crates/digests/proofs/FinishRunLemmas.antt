@@ -14,24 +14,25 @@ no_prefix : (prefix rest : ByteString) → [] ≡ prefix ++ rest → prefix ≡ 
 no_prefix [] rest h = refl
 no_prefix (b ∷ bs) rest h = cc
 
--- a flush of a sink that holds nothing hands on nothing
+-- a flush of a sink that buffers nothing writes nothing
 pub flushed-none : (a b : Option ByteString) {held : ByteString} → Appends a b held → held ≡ [] → Keeps a b
 flushed-none None b h none = tt
 flushed-none (Some x) None h none = h
 flushed-none (Some x) (Some y) h none = h ∙ ap (λ l. x ++ l) none ∙ append-nil x
 
--- also where it fails
+-- also if it fails
 pub dropped-none : (a b : SinkState) → FlushFailed a b → a.buffered ≡ [] → Keeps a.written b.written
 dropped-none a b h none =
     flushed-none a.written b.written h.written.2 (no_prefix h.written.0 h.written.1.0 (rw none at h.written.1.1))
 
--- the line for a stop was told, whole or in part
+-- the line for a stop was written, or a prefix of it
 pub tells-stop : {E : Type 0} (line : ByteString) (a b : SinkState) (r : Result (Unit {0}) E) → a.buffered ≡ []
     → WritesAndFlushes a b line r → WritesLine line a b
 tells-stop line a b (Ok u) none h = (line, (h.1 none).1, inl (refl, h.0))
 tells-stop line a b (Err x) none h = let part = (h.1 none).1 in (part.0, part.2, inr (part.1, h.0))
 
--- a run that answered so was settled, and stopped then or before: from a to b and from c to e; then the line was told
+-- both outputs were flushed after a run, from a to b and from c to e, and it stopped then or before; then the line was
+-- written
 pub closes-stop : {E : Type 0} (line : Stop → ByteString) (answer : Result ℕ Stop) (stop : Stop) (a b c e d : SinkState)
     (r : Result (Unit {0}) E) → FlushesBoth a b c e answer (Err stop) → Keeps a.written b.written
     → Keeps c.written e.written → e.buffered ≡ [] → WritesAndFlushes e d (line stop) r

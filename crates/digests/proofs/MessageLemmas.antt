@@ -11,7 +11,7 @@ use Rattle.sum_words.specs.Items.{ByteString}
 use Rattle.digests.specs.Meaning.{status_of}
 use Rattle.digests.specs.refinement.Operands.{status_after_write}
 
--- a text alone was handed on by standard output, or a prefix of it
+-- a text alone was written to standard output, or a prefix of it
 pub told_on_out : {S E : Type 0} (state : S → SourceState) (a : StreamsState S) (out : SinkState) (text : ByteString)
     (r : Result (Unit {0}) E) → a.out.buffered ≡ [] → WritesAndFlushes a.out out text r
     → Runs state (λ w. single_step [] [] text true) status_of a (record a { out = out }) (status_after_write r 0)
@@ -24,7 +24,7 @@ told_on_out state a out text (Err e) none h = where_known state a (record a { ou
     rw (append-nil (events_by [] [] text)) (
     prefix_out [] [] text (asks_none same refl refl) (Appends-nil a.err.written) (h.1 none).1))
 
--- a text alone was handed on by standard error, or a prefix of it
+-- a text alone was written to standard error, or a prefix of it
 pub told_on_err : {S E : Type 0} (state : S → SourceState) (a : StreamsState S) (err : SinkState) (text : ByteString)
     (r : Result (Unit {0}) E) → a.err.buffered ≡ [] → WritesAndFlushes a.err err text r
     → Runs state (λ w. single_step [] text [] false) status_of a (record a { err = err }) (status_after_write r 1)

@@ -1,4 +1,4 @@
--- Operands, one after another: what those before came to, joined to what the rest comes to, is the whole.
+-- Operands, one after another: the behavior of those before, followed by that of the rest, is the whole.
 use Rattle.std.proofs.Common.{rules, ◌≡◌, ℕ, Bool, true, false, List, [], ◌∷◌, Option, Result, Ok, Err, None, Some, refl, ap, sym, ◌∙◌, subst, append_assoc, ◌&&◌}
 use Rattle.std.proofs.Math.Bool.{and_assoc, and-true}
 use Rattle.std.proofs.lemmas.List.{append-nil}
@@ -14,17 +14,17 @@ use Rattle.sum_words.specs.Items.{ByteString}
 use Rattle.digests.specs.Meaning.{operands_behavior, status_of}
 use Rattle.digests.specs.refinement.Operands.{OperandsDone, OperandsDoneIfKnown}
 
--- ---- runs, one after another
+-- ---- behaviors, one after another
 
--- which two of three runs are joined first makes no difference
+-- which two of three behaviors are joined first makes no difference
 behavior_then-assoc : (a b c : Behavior) → behavior_then (behavior_then a b) c ≡ behavior_then a (behavior_then b c)
 behavior_then-assoc a b c = rw (append_assoc a.steps b.steps c.steps, and_assoc a.good b.good c.good) refl
 
--- `nothing` behind a run adds nothing
+-- `nothing` after a behavior adds nothing
 abbrev nothing : Behavior
 nothing = record { steps = []; good = true }
 
--- and then nothing: the run itself
+-- and then nothing: the behavior itself
 behavior_then-nothing : (a : Behavior) → behavior_then a nothing ≡ a
 behavior_then-nothing a = rw (append-nil a.steps, and-true a.good) refl
 

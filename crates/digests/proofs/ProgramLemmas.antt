@@ -21,7 +21,7 @@ use Rattle.digests.proofs.MessageLemmas.{accounts_on_err}
 
 -- ---- a run that answered, and its end
 
--- one output failed, where none had before
+-- one output failed, and none had before
 failed_since : {S : Type 0} (a b : StreamsState S) (out err : SinkState) (x y : ℕ) → FailuresMatch a b (Ok x)
     → OneFailed b.out out b.err err → FailuresMatch {A = ℕ} a (record b { out = out; err = err }) (Err Write)
 failed_since a b out err x y h (inl k) = inl (k.0 ∙ ap one_more h.0, k.1 ∙ h.1)
@@ -33,7 +33,7 @@ did_kept : {a b : KnownState} (es : List Event) (out err : SinkState) → Happen
     → Keeps b.err.written err.written → Happened a (record b { out = out; err = err }) es
 did_kept {a} {b} es out err h o e = search rules
 
--- so a run that answered is still done, once both outputs were flushed; or that failed behind all events
+-- so a run that didn't stop is still done, once both outputs were flushed; or that failed after all events
 runs-kept : {S : Type 0} (state : S → SourceState) (run : World → Behavior) (a b : StreamsState S) (out err : SinkState)
     (x : ℕ)
     → Runs state run status_of a b (Ok x) → Keeps b.out.written out.written → Keeps b.err.written err.written

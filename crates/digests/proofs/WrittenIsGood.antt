@@ -48,7 +48,7 @@ line-is : (w : World) (s : Settings) (tool name : ByteString) → s.style.zero �
     → out_text (generate_behavior s tool w name) ≡ written_text (item w.answer s name)
 line-is w s tool name newlines h = rw (read-is w s name h, newlines, append-nil) refl
 
--- and for all names their lines, one behind the other; what a name answers doesn't depend on what was asked before
+-- and for all names their lines, one after another; the reply to a name doesn't depend on what was asked before
 lines-are : (s : Settings) (tool : ByteString) (names : List ByteString) (w : World)
     → s.style.zero ≡ false → All (Listable w.answer) names
     → out_text (operands_behavior (generate_behavior s tool) w names) ≡ flat_map written_text
@@ -121,7 +121,7 @@ written_is_good t check manifest w v g by c =
     lines-good t check manifest v (items w.answer g) g.names (generation_output w g) by (run-listed check.algo w v g c)
     (names-are w.answer g.settings g.names) (run-text check.algo w v g c)
 
--- ---- several runs: the same of each, one behind the other
+-- ---- several runs: the same of each, one after another
 
 -- their lines are read back
 runs-listed : (algos : Algos) (w v : World) (gs : List GenerationRun) → All (Checkable algos w v) gs

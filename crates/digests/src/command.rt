@@ -14,16 +14,16 @@ use sum_lines::Sink;
 use sum_sources::{Input, Source};
 use sum_words::{Arguments, CommandLine, NotRead, Tool, read_command_line};
 
-/// Does what the program was called for, and answers its exit status. The tool is the one by whose name the program was
-/// called, as by a link, or else the one that the first word names; the other words are the tool's. Each line, and the
-/// help and the two lines of a fault as one, is handed on as soon as it is complete. Where the run didn't stop, both
+/// Does what the program was called for, and returns its exit status. The tool is the one by whose name the program was
+/// called, as by a link, or else the one that the first word names; the other words are the tool's. Each line is
+/// flushed at its end; the help, and the two lines of a fault, are flushed as one text. If the run didn't stop, both
 /// outputs are flushed once more at the end.
 ///
-/// Where a word that begins with a dash isn't UTF-8, it writes `digests: words not read` to standard error, and the
-/// status is 1. Otherwise that comes only where memory is needed for the arguments. Where there is no such tool, it
-/// writes `digests: unknown tool`, and the status is 1. After a stop of a tool's run, or where that last flush fails,
-/// it writes `TOOL: memory exhausted` or `TOOL: write error`, as far as standard error takes it, and the status is 1.
-/// What the clauses say of bytes holds of outputs that hold nothing when they are lent.
+/// If a word that begins with a dash isn't UTF-8, it writes `digests: words not read` to standard error, and the status
+/// is 1. Otherwise it does so only if memory is needed for the arguments. If there is no such tool, it writes
+/// `digests: unknown tool`, and the status is 1. After a stop of a tool's run, or if that last flush fails, it writes
+/// `TOOL: memory exhausted` or `TOOL: write error`, as far as standard error accepts it, and the status is 1. What the
+/// clauses say of bytes holds if both outputs are flushed at the call.
 pub fn command<A: Allocator + Copy, G: Arguments, I: Input + Drop, S: Source, O: Sink, E: Sink>(
     alloc: A,
     arguments: &G,
@@ -51,8 +51,8 @@ pub fn command<A: Allocator + Copy, G: Arguments, I: Input + Drop, S: Source, O:
     }
 }
 
-// Ends a run that answered so: flushes both outputs once more, unless it stopped, and tells of a stop. Answers
-// the exit status: that of the run, or 1 after a stop or a flush that failed.
+// Ends a run that returned this: flushes both outputs once more, unless it stopped, and writes the line for a stop.
+// Returns the exit status: that of the run, or 1 after a stop or a flush that failed.
 fn finish_run<O: Sink, E: Sink>(
     tool: Option<Tool>,
     answer: Result<u8, Stop>,

@@ -1,4 +1,4 @@
-//! The end of a run: both outputs are flushed once more, and a stop is told.
+//! The end of a run: both outputs are flushed once more, and a stop has its line.
 ghost use Rattle.std.specs.Prelude.{◌≡◌, []};
 ghost use Rattle.std.specs.Io.KnownBytes.{Keeps};
 ghost use Rattle.sum_engine.specs.refinement.FlushedWrites.{WritesAndFlushes};
@@ -9,8 +9,8 @@ use sum_engine::Stop;
 use sum_lines::{Sink, SinkFault};
 use sum_words::Tool;
 
-/// Flushes both outputs, unless the run stopped or the first flush fails. Answers as the run did, or `Stop::Write`
-/// where a flush failed, which can be though nothing was held.
+/// Flushes both outputs, unless the run stopped or the first flush fails. Returns what the run returned, or
+/// `Stop::Write` if a flush failed, which is possible if nothing was buffered, too.
 pub(crate) fn flush_both<O: Sink, E: Sink>(
     answer: Result<u8, Stop>,
     out: &mut O,
@@ -29,7 +29,7 @@ pub(crate) fn flush_both<O: Sink, E: Sink>(
     Ok(status)
 }
 
-/// Writes the line for a stop and hands it on, where there is a tool to tell of it.
+/// Writes the line for a stop and flushes it, if there is a tool, whose name it begins with.
 pub(crate) fn put_stop_message<E: Sink>(
     tool: Option<Tool>,
     stop: Stop,

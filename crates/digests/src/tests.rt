@@ -1,4 +1,4 @@
-//! Worked command lines, run over told input and told files into told sinks.
+//! Worked command lines, run over known input and known files into known sinks.
 mod checking;
 mod failing;
 mod flushing;
@@ -144,7 +144,7 @@ fn run_line_over<const N: usize>(
 }
 
 // Runs a line, whose first word is the tool and whose words are parted by single spaces, on a heap. What it did, and
-// the source afterwards: `None` where the heap has no room for the words.
+// the source afterwards: `None` if the heap has no room for the words.
 fn run_line_on<'a, A: Allocator + Copy, const N: usize>(
     heap: A,
     line: &str,
@@ -166,7 +166,7 @@ fn run_line_on<'a, A: Allocator + Copy, const N: usize>(
     Ok(Some((Run { out, err, answer }, source)))
 }
 
-// The tool and the words of a line: `None` where the heap has no room for them.
+// The tool and the words of a line: `None` if the heap has no room for them.
 fn read_line<A: Allocator + Copy>(heap: A, line: &str) -> Result<Option<(Tool, Words<A>)>, Fail> {
     let mut parts = line.split(' ');
     let tool = Tool::from_word(parts.next().unwrap_or("")).ok_or("no such tool")?;
@@ -179,7 +179,7 @@ fn read_line<A: Allocator + Copy>(heap: A, line: &str) -> Result<Option<(Tool, W
     Ok(Some((tool, words)))
 }
 
-// What a run works on: told input, told files, and outputs that stop after so many bytes.
+// What a run works on: known input, known files, and outputs that stop after so many bytes.
 type ToldStreams<'i, 'f, A, const N: usize> = Streams<
     Told<'i>,
     ToldSource<'f, A>,

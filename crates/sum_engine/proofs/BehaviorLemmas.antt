@@ -73,7 +73,7 @@ along_waits {b = b} x h k = record {
   refused = k.refused;
 }
 
--- ---- a run behind a step, and one run after another
+-- ---- a behavior after a step, and one behavior after another
 
 -- both happened
 pub behavior_then-did : {a b c : KnownState} (r s : List Step) → Happened a b (trace r) → Happened b c (trace s)
@@ -123,7 +123,7 @@ behavior_then-first a b x y r s Memory h = record {
   refused = h.refused;
 }
 
--- a run behind its first step, which happened
+-- a behavior after its first step, which happened
 pub behind_step : {A : Type 0} {a b : KnownState} (c : KnownState) (x : A) (s : Step) (r : List Step)
     (y : Result A Stop)
     → Happened a b (events_of s) → PerformsSteps r x b c y → PerformsSteps (s ∷ r) x a c y

@@ -174,7 +174,7 @@ check_gives_by k dash c (Some a) (Some asked) (Some b) x is h run =
     let rest = subst (λ w. PerformsSteps (of w).steps (of w).good asked b x) world (rw (← is, h.1) at run) in
     rw h.2 (behind_step b (of later).good (opening k.name) (of later).steps x h.3 rest)
 
--- after that, what the checker does is what the call does, where source, standard input and manifest tell
+-- after that, what the checker does is what the call does, if source, standard input and manifest are known
 check_gives : {S : Type 0} (state : S → SourceState) (k : Call) (dash : Bool) (c : Option Content)
     (a asked b : StreamsState S) (x : Result Bool Stop) → is_dash k.name ≡ dash
     → IfKnown (known_state state a) (known_state state asked) (IsOpened k.name c)
@@ -182,7 +182,7 @@ check_gives : {S : Type 0} (state : S → SourceState) (k : Call) (dash : Bool) 
 check_gives state k dash c a asked b x is h run =
     check_gives_by k dash c (known_state state a) (known_state state asked) (known_state state b) x is h run
 
--- a name that was asked, where nothing was written
+-- a name that was asked, with nothing written
 asked_only : {a b : KnownState} (name : List ℕ) → b.world ≡ after a.world (name ∷ [])
     → b.stdin_taken ≡ a.stdin_taken || is_dash name → b.refusals ≡ a.refusals → b.err ≡ a.err → b.out ≡ a.out
     → Happened a b (events_of (opening name))
@@ -242,7 +242,7 @@ opens_in content name s t i (Ok file) h = search rules
 opens_in content name s t i (Err (open_faults.Fault f)) h = (rw h.0 refl, cc)
 opens_in content name s t i (Err open_faults.Memory) h = rw h refl
 
--- where source and standard input tell
+-- if source and standard input are known
 opens : {F : Type 0} (content : F → InputState) (name : List ℕ) (s t : Option KnownSource) (input : Option Content)
     (x : Result F OpenFault) → IfKnown s t (λ s t. OpenOf content s t name x)
     → IfKnown (world_by s input) (world_by t input) (OpensIn content name x)
@@ -273,7 +273,7 @@ check_file {S = S} content state k a b last source file x r rules dash h refusal
     (file_opened content state k.name a source file dash h refusals)
     (subst (λ r. Checks state r (labels_if k false) (option_map clip (content file).content) asked b x) rules run))
 
--- the manifest could not be opened, and the line of its fault was handed on, or a prefix of it
+-- the manifest could not be opened, and the line of its fault was written, or a prefix of it
 pub refused : {F S : Type 0} (content : F → InputState) (state : S → SourceState) (k : Call) (a : StreamsState S)
     (source : S) (f : Fault) (err : SinkState) (x : Writing) → is_dash k.name ≡ false
     → IfKnown (state a.source).known (state source).known (λ s t. OpenOf content s t k.name (Err (open_faults.Fault f)))

@@ -1,4 +1,4 @@
--- A text that is written and handed on at once, and one such text after another.
+-- A text that is written and flushed, and one such text after another.
 use Rattle.std.proofs.Common.{rules, ℕ, List, ◌++◌, Option, Result, Ok, Err, ap, sym, ◌∙◌, append_assoc, subst}
 use Rattle.std.specs.Io.KnownBytes.{Appends}
 use Rattle.std.proofs.KnownBytes.{Appends-trans}
@@ -15,7 +15,7 @@ pub prefix_more : (a b : Option (List ℕ)) (x y : List ℕ) → AppendsPrefix a
 prefix_more a b x y h =
     (h.0, (h.1.0 ++ y, ap (λ l. l ++ y) h.1.1 ∙ append_assoc h.0 h.1.0 y), h.2)
 
--- behind a text that was handed on, a prefix of the next
+-- after a text that was written, a prefix of the next
 pub prefix_then : (a b c : Option (List ℕ)) (x y : List ℕ) → Appends a b x → AppendsPrefix b c y
     → AppendsPrefix a c (x ++ y)
 prefix_then a b c x y h k = (

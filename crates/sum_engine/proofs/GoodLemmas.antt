@@ -46,7 +46,7 @@ verdict-right r w i h =
 abbrev right : ℕ → Item → LineVerdictValue
 right n i = record { number = n; verdict = Right; name = i.name }
 
--- those of items behind line n
+-- those of items after line n
 abbrev rights : ℕ → List Item → List LineVerdictValue
 rights n [] = []
 rights n (i ∷ is) = right (n + 1) i ∷ rights (n + 1) is

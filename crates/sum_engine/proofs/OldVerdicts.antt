@@ -177,7 +177,7 @@ old_verdicts r labels w c h =
       good = rw found.0 (good_same r c.ending (counts_of ks));
     }
 
--- ---- all that checking comes to
+-- ---- the behavior of checking
 
 -- the steps are the same
 steps_same : (r : Rules) (labels : LabelsValue) (end : List ℕ) (c : Content) (js : List LineVerdictValue)
@@ -192,7 +192,7 @@ steps_same r labels end c (j ∷ js) own all =
       steps_same r labels end (past_line c) js own (All-tail CleanName j js all),
     ) refl
 
--- what such a content comes to is the same
+-- the behavior of such a content is the same
 content_same : (r : Rules) (labels : LabelsValue) (w : World) (c : Content) → IsOldManifest r labels c
     → content_behavior (rules_under older r) labels c (all_verdicts (rules_under older r) w c)
     ≡ content_behavior (rules_under present r) labels c (all_verdicts (rules_under present r) w c)
@@ -207,14 +207,14 @@ content_same r labels w c h =
       good_same r c.ending (counts_of ks),
     ) refl
 
--- so is what its name comes to
+-- so is that of its name
 pub old_outcomes : OldOutcomes
 old_outcomes r labels name w (Err f) own h =
     ap (λ (l : List ℕ). single_step (name ∷ []) l [] false) (fault_same labels.tool labels.list f own)
 old_outcomes r labels name w (Ok c) own h =
     ap (step_then (opening name)) (content_same r labels w (clip c) (h c refl))
 
--- ---- where the profiles differ
+-- ---- how the profiles differ
 
 -- an empty line is improper to older versions
 empty_line : (algos : Algos) (f : Form) → parse_line older algos f [] ≡ bad

@@ -38,7 +38,7 @@ abbrev pub digest_or_fault : KindValue → Reply → Result (List ℕ) Fault
 digest_or_fault kind (Err f) = Err f
 digest_or_fault kind (Ok c) = digest_unless_broken (clip c).ending (digest kind (clip c).bytes)
 
--- a name is opened, where `-` is standard input; or a byte is written to standard error, or to standard output
+-- a name is opened (`-` is standard input); or a byte is written to standard error, or to standard output
 pub data Event : Type 0 where
   open_name : List ℕ → Event
   write_err : ℕ → Event

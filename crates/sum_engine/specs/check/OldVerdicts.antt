@@ -56,7 +56,7 @@ OldOutcomes = (r : Rules) (labels : LabelsValue) (name : List ℕ) (w : World) (
     → check_behavior_by (rules_under older r) labels name w reply
     ≡ check_behavior_by (rules_under present r) labels name w reply
 
--- where the older profile differs: a carriage return in a name isn't escaped, one at a line's end stays, and an empty
+-- how the older profile differs: a carriage return in a name isn't escaped, one at a line's end stays, and an empty
 -- line is improperly formatted
 abbrev pub OlderDiffers : Type 0
 OlderDiffers = (escape_by older (codes "\r") ≡ codes "\r")

@@ -5,7 +5,7 @@ pub returns-in-Generate-clause-behavior : goal.returns-in-Generate-clause-behavi
 returns-in-Generate-clause-behavior g c = λ hold.
     rw c.in-Generate.is (rw c.name.ensures at (c.generate_one.ensures.behavior hold))
 
--- where it is hashed, want of memory is one refusal
+-- if it is hashed, out of memory is one refusal more
 pub returns-in-Generate-clause-cause : goal.returns-in-Generate-clause-cause
 returns-in-Generate-clause-cause g c = rw c.in-Generate.is (record {
   flushed = c.generate_one.ensures.flushed;
@@ -18,7 +18,7 @@ pub returns-in-Check-clause-behavior : goal.returns-in-Check-clause-behavior
 returns-in-Check-clause-behavior g c = λ hold.
     rw c.in-Check.is (rw c.name-in-Check.ensures at (c.check_one.ensures.behavior hold))
 
--- where it is checked, want of memory may be one refusal
+-- if it is checked, out of memory is one refusal more at most
 pub returns-in-Check-clause-cause : goal.returns-in-Check-clause-cause
 returns-in-Check-clause-cause g c = rw c.in-Check.is (record {
   flushed = c.check_one.ensures.flushed;

@@ -2,7 +2,7 @@ use Rattle.digests.proofs.MessageLemmas.{told_on_out, told_on_err, accounts_on_o
 use Rattle.sum_engine.proofs.ExecutionLemmas.{streams_of}
 use Rattle.digests.proofs.run.run_request.Goals as goal
 
--- a fault is told on standard error
+-- a fault's lines are written to standard error
 pub returns-in-Err-clause-behavior : goal.returns-in-Err-clause-behavior
 returns-in-Err-clause-behavior g c =
     rw (c.in-Err.is, c.status_after_write.ensures, ← c.streams.view_is)
@@ -48,7 +48,7 @@ returns-in-Ok-Check-clause-cause g c = rw (c.in-Ok-Check.is, c.in-Ok-Check.field
   failures = c.run_operands-in-Ok-Check.ensures.cause.failures;
 })
 
--- one text that was told accounts for the stop
+-- one text that was written, or a prefix of it, gives the stop its cause
 pub returns-in-Err-clause-cause : goal.returns-in-Err-clause-cause
 returns-in-Err-clause-cause g c = rw (c.status_after_write.ensures, ← c.streams.view_is)
     (accounts_on_err g.S.Source.state _ (streams_of g.I.Input.state c.streams.inside.stdin _ _ _) _ _ 1 c.put_message.result c.put_message.ensures)
