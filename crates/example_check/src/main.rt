@@ -2,18 +2,16 @@
 #![tactic(auto)]
 
 use digest_kinds::{Algo, Algos};
-use sum_engine::{CheckSettings, Report, Verdict, Verdicts};
-use sum_sources::{Fault, Files, FromRead, Stdin};
+use sum_engine::{CheckSettings, Verdict, Verdicts};
+use sum_sources::{Ending, Fault, Files, FromRead, Stdin, Told};
 
 fn main(rt: HostRuntime) -> anyhow::Result<()> {
-    let settings = CheckSettings {
-        algo: Algos::One(Algo::Sha256),
-        report: Report::Status, // nothing is reported, whatever stands here
-        strict: true,
-        ignore_missing: false,
-    };
-    let (mut stdin, mut files) = (Stdin::new(FromRead::new(rt.stdin())), Files::new(rt));
-    let mut verdicts = Verdicts::new(settings, true, stdin.take());
+    let mut settings = CheckSettings::new(Algos::One(Algo::Sha256));
+    settings.strict = true;
+    let mut verdicts = Verdicts::new(settings, true, FromRead::new(rt.stdin()));
+    // A manifest from standard input can't list it: this one is never read.
+    let mut stdin = Stdin::new(Told::new(b"", Ending::Whole, 1));
+    let mut files = Files::new(rt);
     let mut line = Vec::new(rt.alloc());
     for _ in 0..u64::MAX {
         let Some(found) = verdicts.next(&mut line, &mut stdin, &mut files)? else {

@@ -7,6 +7,7 @@ use sum_engine::{CheckSettings, Report, Streams, check_one};
 use sum_lines::ToldSink;
 use sum_sources::{Answer, Ending, Fault, NoRoom, Stdin, Told, ToldSource};
 
+/// The plain check of MD5 digests, as `CheckSettings::new` gives it.
 pub(crate) const CHECK: CheckSettings = CheckSettings {
     algo: Algos::One(Algo::Md5),
     report: Report::All,
@@ -14,14 +15,14 @@ pub(crate) const CHECK: CheckSettings = CheckSettings {
     ignore_missing: false,
 };
 
-/// A manifest of which each line comes to another verdict.
+/// A manifest of which each line has another verdict.
 pub(crate) const ALL: &[u8] = b"900150983cd24fb0d6963f7d28e17f72  a\n\
     #c\n\
     junk\n\
     900150983cd24fb0d6963f7d28e17f72 *x\n\
     900150983cd24fb0d6963f7d28e17f72  e\n";
 
-/// Streams of told values: what standard input gives, and the files.
+/// Streams of known values: what standard input gives, and the files.
 pub(crate) fn told<'a, S>(
     input: &'a [u8],
     source: S,
@@ -48,8 +49,8 @@ pub(crate) fn files<'a, A: Allocator + Copy>(
     Ok(source)
 }
 
-// Checking the manifest of this name by this tool, where `l` holds this, answers so and writes these texts, in whatever
-// pieces it is read.
+// Checking the manifest of this name by this tool, if `l` contains this, returns so and writes these texts, in whatever
+// pieces it is read; all files that it opened were read to their end, if it is good.
 fn checks(
     rt: &(impl Abort + AllocGlobal),
     (tool, settings): (&str, CheckSettings),
@@ -72,6 +73,14 @@ fn checks(
         assert!(rt; good == Ok(want.0));
         assert_eq!(rt; streams.out.bytes(), want.1.as_bytes());
         assert_eq!(rt; streams.err.bytes(), want.2.as_bytes());
+        let (opened, ended) = (streams.source.opened(), streams.source.ended());
+        assert!(rt;
+            if want.0 {
+                ended == opened
+            } else {
+                ended <= opened
+            }
+        );
     }
     Ok(())
 }
@@ -100,6 +109,11 @@ fn all_verdicts(rt: HostRuntime) -> Result<(), Fail> {
     settings.report = Report::Status;
     let want = (false, "", "md5sum: x: No such file or directory\n");
     checks(&rt, ("md5sum", settings), b"l", ALL, Ending::Whole, want)
+}
+
+#[test]
+fn plain_check(rt: HostRuntime) {
+    assert!(rt; CheckSettings::new(Algos::One(Algo::Md5)) == CHECK);
 }
 
 // The manifest and each name that a line lists, and no name of a line that is ignored or bad.
@@ -156,6 +170,39 @@ fn stdin_listed(rt: HostRuntime) -> Result<(), Fail> {
 fn no_last_newline(rt: HostRuntime) -> Result<(), Fail> {
     let l8 = b"900150983cd24fb0d6963f7d28e17f72  a";
     md5sum_checks(&rt, l8, (true, "a: OK\n", ""))
+}
+
+// Checking `l` twice on the same streams returns so each time, and writes these texts in all.
+fn checks_twice(
+    rt: &(impl Abort + AllocGlobal),
+    l: &[u8],
+    good: [bool; 2],
+    (out, err): (&str, &str),
+) -> Result<(), Fail> {
+    for piece in [1, 100, 8192] {
+        let mut streams = told(b"abc", files(rt.alloc(), piece, l, Ending::Whole)?);
+        for want in good {
+            let found = check_one(rt.alloc(), CHECK, "md5sum", b"l", &mut streams);
+            assert!(rt; found == Ok(want));
+        }
+        assert_eq!(rt; streams.out.bytes(), out.as_bytes());
+        assert_eq!(rt; streams.err.bytes(), err.as_bytes());
+        // Each file that was opened was read to its end.
+        assert!(rt; streams.source.ended() == streams.source.opened());
+    }
+    Ok(())
+}
+
+// Standard input is empty the second time; and the counts of a manifest are its own.
+#[test]
+fn one_after_another(rt: HostRuntime) -> Result<(), Fail> {
+    let l5 = b"900150983cd24fb0d6963f7d28e17f72  -\n";
+    let err = "md5sum: WARNING: 1 computed checksum did NOT match\n";
+    checks_twice(&rt, l5, [true, false], ("-: OK\n-: FAILED\n", err))?;
+    let l9 = b"junk\n900150983cd24fb0d6963f7d28e17f72  a\n";
+    let err = "md5sum: WARNING: 1 line is improperly formatted\n\
+        md5sum: WARNING: 1 line is improperly formatted\n";
+    checks_twice(&rt, l9, [true, true], ("a: OK\na: OK\n", err))
 }
 
 #[test]

@@ -1,66 +1,21 @@
 //! One read that fails, after which all files go on: of a file that is hashed, of a manifest, of a file that it lists.
 use crate::checking::{CHECK, files};
 use digest_kinds::{Algo, Kind};
-use std::alloc::{Allocator, Global};
+use std::alloc::Global;
 use std::cell::Cell;
-use std::process::Abort;
 use std::test::Fail;
 use sum_engine::{
     Checker, Progress, Settings, Streams, Verdict, Verdicts, check_one, generate_one,
 };
 use sum_lines::{Mode, Style, ToldSink};
-use sum_sources::{
-    Ending, Fault, Input, LineStop, NoRoom, OpenFault, Source, Stdin, Told, ToldSource,
-};
-
-// Of all reads of the inputs that share the count, the one before which so many come fails.
-#[derive(Drop)]
-struct FailsOnce<'a> {
-    input: Told<'a>,
-    before: &'a Cell<usize>,
-}
-
-impl<'a> Input for FailsOnce<'a> {
-    fn read(&mut self, buf: &mut [u8]) -> Result<usize, Fault> {
-        let before = self.before.get();
-        self.before.set(before.wrapping_sub(1));
-        if before == 0 {
-            return Err(Fault::Denied);
-        }
-        self.input.read(buf)
-    }
-}
-
-// The files of a source as such inputs.
-#[derive(Drop)]
-struct FilesFailOnce<'a> {
-    source: ToldSource<'a, Global>,
-    before: &'a Cell<usize>,
-}
-
-impl<'a> Source for FilesFailOnce<'a> {
-    type File = FailsOnce<'a>;
-
-    ghost use Rattle.std.specs.Prelude.{None};
-
-    ghost state = { λ s. record { known = None; refusals = s.source.refusals } };
-
-    fn open_file(&mut self, name: &[u8]) -> Result<FailsOnce<'a>, OpenFault> {
-        match self.source.open_file(name) {
-            Ok(input) => Ok(FailsOnce {
-                input,
-                before: self.before,
-            }),
-            Err(fault) => Err(fault),
-        }
-    }
-}
+use sum_sources::{Ending, Fault, LineStop, NoRoom, Phase, Source, Stdin, Told};
+use sum_sources_tests::fails_once::{FailsOnce, FilesFailOnce};
 
 // A manifest that lists `a`, which holds "abc", and the empty `e` (RFC 1321).
 const MANIFEST: &[u8] =
     b"900150983cd24fb0d6963f7d28e17f72  a\nd41d8cd98f00b204e9800998ecf8427e  e\n";
 
-type Stage<'a> = Streams<FailsOnce<'a>, FilesFailOnce<'a>, ToldSink<1000>, ToldSink<1000>>;
+type Stage<'a> = Streams<FailsOnce<'a>, FilesFailOnce<'a, Global>, ToldSink<1000>, ToldSink<1000>>;
 
 // What a run works on. The manifest is the file `l`. A read gives at most so many bytes.
 fn stage<'a>(
@@ -70,20 +25,22 @@ fn stage<'a>(
     before: &'a Cell<usize>,
 ) -> Result<Stage<'a>, NoRoom> {
     Ok(Streams {
-        stdin: Stdin::new(FailsOnce {
-            input: Told::new(input, Ending::Whole, piece),
+        stdin: Stdin::new(FailsOnce::new(
+            Told::new(input, Ending::Whole, piece),
             before,
-        }),
-        source: FilesFailOnce {
-            source: files(alloc, piece, MANIFEST, Ending::Whole)?,
+            Fault::Denied,
+        )),
+        source: FilesFailOnce::new(
+            files(alloc, piece, MANIFEST, Ending::Whole)?,
             before,
-        },
+            Fault::Denied,
+        ),
         out: ToldSink::new(1000),
         err: ToldSink::new(1000),
     })
 }
 
-// No digest of a prefix, and none of what comes behind the fault.
+// No digest of a prefix, and none of what follows the fault.
 #[test]
 fn generating(rt: HostRuntime) -> Result<(), Fail> {
     let settings = Settings {
@@ -113,63 +70,110 @@ fn generating(rt: HostRuntime) -> Result<(), Fail> {
             assert!(rt; good == Ok(before == 4), "{name} at {before}");
             assert_eq!(rt; streams.out.bytes(), out.as_bytes());
             assert_eq!(rt; streams.err.bytes(), err.as_bytes());
+            // The read that failed was the last.
+            assert!(rt; count.get() == if before < 4 { usize::MAX } else { 0 });
+            let opened = u64::from(name == "a");
+            let ended = if before < 4 { 0 } else { opened };
+            assert!(rt; streams.source.counts() == (opened, ended));
         }
     }
     Ok(())
 }
 
-// Checking the manifest, a line a read, when so many reads come before the one that fails: what both outputs get, the
-// verdicts of the lines, and whether the manifest's own fault comes behind them.
-type Row = (&'static str, &'static str, &'static [Verdict], bool);
+// Checking the manifest, a line a read, if so many reads precede the one that fails.
+#[derive(Clone, Copy)]
+struct Row {
+    out: &'static str,
+    err: &'static str,
+    verdicts: &'static [Verdict],
+    // how many of the listed files were opened, and how many of these ended
+    counts: (u64, u64),
+    // whether the manifest fails
+    broken: bool,
+}
 
 const UNREAD: Verdict = Verdict::Unread(Fault::Denied);
 
-const OF_LIST: &str = "md5sum: l: Permission denied\n";
+const OF_A: Row = Row {
+    out: "a: FAILED open or read\ne: OK\n",
+    err: "md5sum: a: Permission denied\nmd5sum: WARNING: 1 listed file could not be read\n",
+    verdicts: &[UNREAD, Verdict::Right],
+    counts: (2, 1),
+    broken: false,
+};
 
-const OF_A: Row = (
-    "a: FAILED open or read\ne: OK\n",
-    "md5sum: a: Permission denied\nmd5sum: WARNING: 1 listed file could not be read\n",
-    &[UNREAD, Verdict::Right],
-    false,
-);
+// The manifest fails after these lines.
+fn of_list(out: &'static str, verdicts: &'static [Verdict], counts: (u64, u64)) -> Row {
+    Row {
+        out,
+        err: "md5sum: l: Permission denied\n",
+        verdicts,
+        counts,
+        broken: true,
+    }
+}
 
-const ROWS: [Row; 7] = [
-    ("", OF_LIST, &[], true),
-    // its bytes, and its end
-    OF_A,
-    OF_A,
-    ("a: OK\n", OF_LIST, &[Verdict::Right], true),
-    (
-        "a: OK\ne: FAILED open or read\n",
-        "md5sum: e: Permission denied\nmd5sum: WARNING: 1 listed file could not be read\n",
-        &[Verdict::Right, UNREAD],
-        false,
-    ),
-    (
-        "a: OK\ne: OK\n",
-        OF_LIST,
-        &[Verdict::Right, Verdict::Right],
-        true,
-    ),
-    (
-        "a: OK\ne: OK\n",
-        "",
-        &[Verdict::Right, Verdict::Right],
-        false,
-    ),
-];
+fn rows() -> [Row; 7] {
+    [
+        of_list("", &[], (0, 0)),
+        // its bytes, and its end
+        OF_A,
+        OF_A,
+        of_list("a: OK\n", &[Verdict::Right], (1, 1)),
+        Row {
+            out: "a: OK\ne: FAILED open or read\n",
+            err: "md5sum: e: Permission denied\nmd5sum: WARNING: 1 listed file could not be read\n",
+            verdicts: &[Verdict::Right, UNREAD],
+            counts: (2, 1),
+            broken: false,
+        },
+        of_list("a: OK\ne: OK\n", &[Verdict::Right, Verdict::Right], (2, 2)),
+        Row {
+            out: "a: OK\ne: OK\n",
+            err: "",
+            verdicts: &[Verdict::Right, Verdict::Right],
+            counts: (2, 2),
+            broken: false,
+        },
+    ]
+}
+
+impl Row {
+    // Those of the listed files, and the manifest is a file, too.
+    fn counts_with_list(&self) -> (u64, u64) {
+        let (opened, ended) = self.counts;
+        let list = if self.broken { 0 } else { 1 };
+        (
+            u64::saturating_add(opened, 1),
+            u64::saturating_add(ended, list),
+        )
+    }
+
+    // How far the manifest was read: not again after its end or its fault.
+    fn phase(&self) -> Phase {
+        if self.broken {
+            Phase::Failed
+        } else {
+            Phase::Ended
+        }
+    }
+}
 
 #[test]
 fn checking(rt: HostRuntime) -> Result<(), Fail> {
-    for (before, (out, err, _, _)) in ROWS.into_iter().enumerate() {
-        for (name, shown) in [("l", "md5sum: l:"), ("-", "md5sum: standard input:")] {
+    for (before, row) in rows().into_iter().enumerate() {
+        for (name, shown, counts) in [
+            ("l", "md5sum: l:", row.counts_with_list()),
+            ("-", "md5sum: standard input:", row.counts),
+        ] {
             let count = Cell::new(before);
             let mut streams = stage(rt.alloc(), MANIFEST, 36, &count)?;
             let good = check_one(rt.alloc(), CHECK, "md5sum", name.as_bytes(), &mut streams);
             assert!(rt; good == Ok(before == 6), "{name} at {before}");
-            assert_eq!(rt; streams.out.bytes(), out.as_bytes());
-            let err = err.replace(rt.alloc(), "md5sum: l:", shown)?;
+            assert_eq!(rt; streams.out.bytes(), row.out.as_bytes());
+            let err = row.err.replace(rt.alloc(), "md5sum: l:", shown)?;
             assert_eq!(rt; streams.err.bytes(), err.as_bytes());
+            assert!(rt; streams.source.counts() == counts, "{name} at {before}");
         }
     }
     Ok(())
@@ -177,13 +181,13 @@ fn checking(rt: HostRuntime) -> Result<(), Fail> {
 
 #[test]
 fn step_by_step(rt: HostRuntime) -> Result<(), Fail> {
-    for (before, (out, err, verdicts, _)) in ROWS.into_iter().enumerate() {
+    for (before, row) in rows().into_iter().enumerate() {
         let count = Cell::new(before);
         let mut streams = stage(rt.alloc(), b"", 36, &count)?;
         let input = streams.source.open_file(b"l").ok().ok_or("l")?;
         let mut checker = Checker::new(CHECK, "md5sum", b"l", false, input);
         let mut line = Vec::new(rt.alloc());
-        for _ in verdicts {
+        for _ in row.verdicts {
             assert!(rt;
                 checker.step(&mut line, &mut streams) == Ok(Progress::Going),
                 "at {before}"
@@ -192,27 +196,34 @@ fn step_by_step(rt: HostRuntime) -> Result<(), Fail> {
         for _ in 0..2 {
             let last = checker.step(&mut line, &mut streams);
             assert!(rt; last == Ok(Progress::Ended(before == 6)), "at {before}");
-            assert_eq!(rt; streams.out.bytes(), out.as_bytes());
-            assert_eq!(rt; streams.err.bytes(), err.as_bytes());
+            assert_eq!(rt; streams.out.bytes(), row.out.as_bytes());
+            assert_eq!(rt; streams.err.bytes(), row.err.as_bytes());
         }
+        let input = checker.into_inner();
+        assert!(rt; input.phase() == row.phase(), "at {before}");
+        streams.source.close_file(input);
+        assert!(rt;
+            streams.source.counts() == row.counts_with_list(),
+            "at {before}"
+        );
     }
     Ok(())
 }
 
 #[test]
 fn finding(rt: HostRuntime) -> Result<(), Fail> {
-    for (before, (_, _, verdicts, broken)) in ROWS.into_iter().enumerate() {
+    for (before, row) in rows().into_iter().enumerate() {
         let count = Cell::new(before);
         let streams = stage(rt.alloc(), b"", 36, &count)?;
         let (mut stdin, mut source) = (streams.stdin, streams.source);
         let input = source.open_file(b"l").ok().ok_or("l")?;
         let mut finds = Verdicts::new(CHECK, false, input);
         let mut line = Vec::new(rt.alloc());
-        for verdict in verdicts {
+        for verdict in row.verdicts {
             let found = finds.next(&mut line, &mut stdin, &mut source)?;
             assert!(rt; found.ok_or("no line")?.verdict == *verdict, "at {before}");
         }
-        let end = if broken {
+        let end = if row.broken {
             Err(LineStop::Fault(Fault::Denied))
         } else {
             Ok(None)
@@ -224,6 +235,10 @@ fn finding(rt: HostRuntime) -> Result<(), Fail> {
                 "at {before}"
             );
         }
+        let input = finds.into_inner();
+        assert!(rt; input.phase() == row.phase(), "at {before}");
+        source.close_file(input);
+        assert!(rt; source.counts() == row.counts_with_list(), "at {before}");
     }
     Ok(())
 }

@@ -3,7 +3,7 @@ use digest_kinds::{Algo, Kind};
 use std::test::Fail;
 use sum_engine::{Settings, Stop, Streams, generate_one};
 use sum_lines::{Mode, Style, ToldSink};
-use sum_sources::{Answer, Ending, Fault, Input, OpenFault, Source, Stdin, Told, ToldSource};
+use sum_sources::{Answer, Ending, Fault, OpenFault, Phase, Source, Stdin, Told, ToldSource};
 
 const TEXT: Style = Style {
     mode: Mode::Text,
@@ -69,6 +69,101 @@ fn faults(rt: HostRuntime) -> Result<(), Fail> {
     Ok(())
 }
 
+// The rows "first run" and "stdin fails": the digest of nothing (FIPS 180-4), and none of a part.
+#[test]
+fn stdin_alone(rt: HostRuntime) {
+    let settings = Settings {
+        kind: Kind::of(Algo::Sha256),
+        style: TEXT,
+    };
+    let line = "e3b0c44298fc1c149afbf4c8996fb92427ae41e4649b934ca495991b7852b855  -\n";
+    let fault = "sha256sum: -: Input/output error\n";
+    for (input, good, out, err) in [
+        (Told::new(b"", Ending::Whole, 1), true, line, ""),
+        (
+            Told::new(b"abc", Ending::Broken(Fault::Other), 1),
+            false,
+            "",
+            fault,
+        ),
+    ] {
+        let mut streams = told(input, ToldSource::new(rt.alloc(), 1));
+        assert!(rt; generate_one(&settings, "sha256sum", b"-", &mut streams) == Ok(good));
+        assert_eq!(rt; streams.out.bytes(), out.as_bytes());
+        assert_eq!(rt; streams.err.bytes(), err.as_bytes());
+    }
+}
+
+// A file of 300 bytes whose fault follows each number of them; then it isn't counted as ended.
+#[test]
+fn fault_at_each_place(rt: HostRuntime) -> Result<(), Fail> {
+    let content = vec![in rt.alloc(); b'x'; 300]?;
+    let settings = Settings {
+        kind: Kind::of(Algo::Md5),
+        style: TEXT,
+    };
+    for place in 0..=300 {
+        let given = content.get(..place).ok_or("place")?;
+        let mut source = ToldSource::new(rt.alloc(), 127);
+        source.add(b"f", Answer::Content(given, Ending::Broken(Fault::Denied)))?;
+        let mut streams = told(Told::new(b"", Ending::Whole, 1), source);
+        assert!(rt; generate_one(&settings, "md5sum", b"f", &mut streams) == Ok(false));
+        assert!(rt; streams.out.bytes().is_empty());
+        assert_eq!(rt;
+            streams.err.bytes(),
+            b"md5sum: f: Permission denied\n".as_slice()
+        );
+        assert!(rt; streams.source.opened() == 1 && streams.source.ended() == 0);
+    }
+    Ok(())
+}
+
+// A missing file is asked for, and isn't opened.
+#[test]
+fn missing_file(rt: HostRuntime) -> Result<(), Fail> {
+    let mut source = ToldSource::new(rt.alloc(), 1);
+    source.add(b"a", Answer::Content(b"abc", Ending::Whole))?;
+    source.add(b"e", Answer::Content(b"", Ending::Whole))?;
+    let mut streams = told(Told::new(b"", Ending::Whole, 1), source);
+    let settings = Settings {
+        kind: Kind::of(Algo::Md5),
+        style: TEXT,
+    };
+    for (i, name) in ["a", "x", "e"].iter().enumerate() {
+        let good = generate_one(&settings, "md5sum", name.as_bytes(), &mut streams);
+        assert!(rt; good == Ok(i != 1));
+        assert_eq!(rt;
+            streams.source.asked_name(i).ok_or("not asked")?,
+            name.as_bytes()
+        );
+    }
+    assert!(rt; streams.source.asked_name(3).is_none());
+    let lines = "900150983cd24fb0d6963f7d28e17f72  a\nd41d8cd98f00b204e9800998ecf8427e  e\n";
+    assert_eq!(rt; streams.out.bytes(), lines.as_bytes());
+    let fault = b"md5sum: x: No such file or directory\n".as_slice();
+    assert_eq!(rt; streams.err.bytes(), fault);
+    assert!(rt; streams.source.opened() == 2 && streams.source.ended() == 2);
+    Ok(())
+}
+
+// Standard output that stops after 10 bytes has these, and no name more is asked for.
+#[test]
+fn output_stops(rt: HostRuntime) -> Result<(), Fail> {
+    let mut source = ToldSource::new(rt.alloc(), 1);
+    source.add(b"a", Answer::Content(b"abc", Ending::Whole))?;
+    let mut streams = told(Told::new(b"", Ending::Whole, 1), source);
+    streams.out = ToldSink::new(10);
+    let settings = Settings {
+        kind: Kind::of(Algo::Md5),
+        style: TEXT,
+    };
+    assert!(rt; generate_one(&settings, "md5sum", b"a", &mut streams) == Err(Stop::Write));
+    assert_eq!(rt; streams.out.bytes(), b"900150983c".as_slice());
+    assert!(rt; streams.err.bytes().is_empty());
+    assert!(rt; streams.source.opened() == 1 && streams.source.ended() == 1);
+    Ok(())
+}
+
 #[test]
 fn stdin_twice(rt: HostRuntime) -> Result<(), Fail> {
     let source = ToldSource::new(rt.alloc(), 8192);
@@ -90,11 +185,15 @@ fn stdin_twice(rt: HostRuntime) -> Result<(), Fail> {
 #[derive(Drop)]
 pub(crate) struct Refusing {
     refusals: u64,
+    ended: u64,
 }
 
 impl Refusing {
     pub(crate) fn new() -> Refusing {
-        Refusing { refusals: 0 }
+        Refusing {
+            refusals: 0,
+            ended: 0,
+        }
     }
 }
 
@@ -103,11 +202,17 @@ impl Source for Refusing {
 
     ghost use Rattle.std.specs.Prelude.{None};
 
-    ghost state = { λ s. record { told = None; refusals = s.refusals } };
+    ghost state = { λ s. record { known = None; refusals = s.refusals; opened = 0; ended = s.ended } };
 
     fn open_file(&mut self, _name: &[u8]) -> Result<Told<'static>, OpenFault> {
         self.refusals = self.refusals.saturating_add(1);
         Err(OpenFault::Memory)
+    }
+
+    fn close_file(&mut self, file: Told<'static>) {
+        if file.phase() == Phase::Ended {
+            self.ended = self.ended.saturating_add(1);
+        }
     }
 }
 
