@@ -58,7 +58,8 @@ check_options check = flags.Check ∷ option_to_list (report_flag check.report)
 
 -- the words of such a check of one manifest, as `--check --quiet -- SUMS`
 abbrev pub check_words : CheckSettings → ByteString → List ByteString
-check_words check manifest = map (λ flag. codes "--" ++ full_name flag) (check_options check) ++ codes "--" ∷ manifest ∷ []
+check_words check manifest =
+    map (λ flag. codes "--" ++ full_name flag) (check_options check) ++ codes "--" ∷ manifest ∷ []
 
 -- a tool, called with these words, ends with status 0; it writes `NAME: OK` for each name, if the report setting shows
 -- such lines, and nothing else

@@ -1,6 +1,7 @@
 //! The run of a tool on its words.
 ghost use Rattle.std.specs.Prelude.{◌≡◌, ◌∷◌, true, Ok};
-ghost use Rattle.sum_engine.specs.Execution.{IsFlushed, FailuresMatch, ReadToEnd, RefusalsMatch, StopHasCause, Performs};
+ghost use Rattle.sum_engine.specs.Execution.{IsFlushed, FailuresMatch, ReadToEnd};
+ghost use Rattle.sum_engine.specs.Execution.{RefusalsMatch, StopHasCause, Performs};
 ghost use Rattle.sum_words.specs.Tools.{name_of};
 ghost use Rattle.sum_words.specs.refinement.OptionScan.{result_of};
 ghost use Rattle.sum_words.specs.Request.{request};

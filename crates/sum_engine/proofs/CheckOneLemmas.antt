@@ -51,7 +51,8 @@ comes_initial r labels p (Some c) (Some s) is =
     subst (λ a. Along whole (remaining_behavior r labels a) s a.known_state) (sym (is c s))
     (subst (λ b. Along whole b s s) (sym (remaining-initial r labels c s)) (along_none whole s))
 
-pub comes_none : {I : Type 0} (state : I → InputState) (r : Rules) (labels : LabelsValue) (p : CursorValue I) (input : I)
+pub comes_none : {I : Type 0} (state : I → InputState) (r : Rules) (labels : LabelsValue) (p : CursorValue I)
+    (input : I)
     (s : Option KnownState) → IsAtStart state p input
     → Comes r labels (option_map clip (state input).content) s (check_state state p s)
 comes_none state r labels p input s start = rw start.remaining
@@ -160,7 +161,8 @@ CheckGives state k a b x = Runs state (λ w. check_behavior k.settings k.tool w 
 check_gives_by : (k : Call) (dash : Bool) (c : Option Content) (a asked b : Option KnownState) (x : Result Bool Stop)
     → is_dash k.name ≡ dash → IfKnown a asked (IsOpened k.name c)
     → IfSome (option_map clip c) (λ c. IfKnown asked b (λ s t.
-    let run = manifest_behavior (rules_if k dash) (labels_if k dash) c s.world in PerformsSteps run.steps run.good s t x))
+    let run = manifest_behavior (rules_if k dash) (labels_if k dash) c s.world in PerformsSteps run.steps run.good s t
+    x))
     → IfKnown a b (λ s t.
     let run = check_behavior k.settings k.tool s.world k.name in PerformsSteps run.steps run.good s t x)
 check_gives_by k dash c None asked b x is h run = tt
@@ -262,7 +264,8 @@ file_opened content state name a source file dash h refusals = search rules
 
 -- so what the checker does with it is what the call does
 pub check_file : {F S : Type 0} (content : F → InputState) (state : S → SourceState) (k : Call)
-    (a b last : StreamsState S) (source : S) (file : F) (x : Result Bool Stop) (r : Rules) → r ≡ rules_if k false → is_dash k.name ≡ false
+    (a b last : StreamsState S) (source : S) (file : F) (x : Result Bool Stop) (r : Rules) → r ≡ rules_if k false →
+    is_dash k.name ≡ false
     → IfKnown (state a.source).known (state source).known (λ s t. OpenOf content s t k.name (Ok file))
     → (state source).refusals ≡ (state a.source).refusals
     → Checks state r (labels_if k false) (option_map clip (content file).content)
@@ -310,7 +313,8 @@ pub no_room : {F S : Type 0} (content : F → InputState) (state : S → SourceS
 no_room {S = S} content state k a source h refused =
     let next : StreamsState S = record a { source = source } in
     unasked state (λ w. check_behavior k.settings k.tool w k.name) (λ g. g) a next
-    (λ w. begins (rules_of k.settings k.name) (labels_of k.settings k.tool k.name) k.name (after w (k.name ∷ [])) (reply w k.name))
+    (λ w. begins (rules_of k.settings k.name) (labels_of k.settings k.tool k.name) k.name (after w (k.name ∷ []))
+    (reply w k.name))
     (known_refused state a next (IfKnown-map (world_of state a) (world_of state next) (λ w v is. is)
     (opens content k.name (state a.source).known (state source).known a.input (Err open_faults.Memory) h))
     refl refl refl refused)

@@ -115,7 +115,8 @@ module _ (r : Rules) (labels : LabelsValue) (c : Content) (s : KnownState) where
       let remaining = drop_next k whole.steps (remaining_behavior r labels d).steps step.step
       (sym h.remaining ∙ ap (λ (q : Behavior). q.steps) step.is) in
       let rest = moves.rest ∙ ap past_line h.rest ∙ past_next k c in
-      let line = drop_next k (lines_by r.profile c) (lines_by r.profile d.rest) moves.line (sym h.lines ∙ moves.lines) in
+      let line = drop_next k (lines_by r.profile c) (lines_by r.profile d.rest) moves.line (sym h.lines ∙ moves.lines)
+      in
       record {
         rest = rest;
         lines = sym line.0;
@@ -196,7 +197,8 @@ steps_join r labels c s b vectors going =
     let js = all_verdicts r s.world c in
     let k = length vectors in
     let start : 0 + k ≡ k = omega arith in
-    let h : After r labels c s b k = rw start at (after_all r labels c s (initial_state c s) b 0 vectors (after_none r labels c s) going) in
+    let h : After r labels c s b k = rw start at (after_all r labels c s (initial_state c s) b 0 vectors
+    (after_none r labels c s) going) in
     let some : Behavior = record { steps = take k (content_behavior r labels c js).steps; good = true } in
     let texts = events_extend some s b.known_state h.done in
     let by = reports r labels (end_text r labels c.ending (counts_of js)) c js k (few r labels c s h) in

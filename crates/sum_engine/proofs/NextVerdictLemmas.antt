@@ -127,7 +127,8 @@ unread-same c Missing h = refl
 unread-same c (Unread f) h = absurd (omega (arith, h))
 
 -- how far the file was read whose line has this verdict
-pub files-found : {I S : Type 0} (state : S → SourceState) (p q : CursorValue I) (a b : StreamsState S) (v : LineVerdict)
+pub files-found : {I S : Type 0} (state : S → SourceState) (p q : CursorValue I) (a b : StreamsState S)
+    (v : LineVerdict)
     (x : Result Progress Stop) → q.counts ≡ counts_with p.counts v.verdict
     → (is_unread v.verdict ≡ false → ReadToEnd state a b)
     → (p.rules.from_stdin ≡ true → (b.stdin_taken ≡ a.stdin_taken) × (b.stdin_phase ≡ a.stdin_phase))

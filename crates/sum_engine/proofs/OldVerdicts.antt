@@ -144,7 +144,8 @@ end_same r labels Whole c own = rw (same_escape labels.list own) refl
 end_same r labels (Broken f) c own = fault_same labels.tool labels.list f own
 
 -- whether the manifest is good
-good_same : (r : Rules) (e : Ending) (c : CountsValue) → good (rules_under older r) e c ≡ good (rules_under present r) e c
+good_same : (r : Rules) (e : Ending) (c : CountsValue) → good (rules_under older r) e c ≡ good (rules_under present r) e
+    c
 good_same r Whole c = refl
 good_same r (Broken f) c = refl
 

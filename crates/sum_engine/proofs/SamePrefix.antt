@@ -62,7 +62,12 @@ same_front r w before line later others =
         entry_same r.algo _ _ line s (same others later),
       );
       verdict =
-          rw (length-append before (line ∷ []), append_assoc before (line ∷ []) later, append_assoc before (line ∷ []) others)
+          rw (
+            length-append before (line ∷ []),
+            append_assoc before (line ∷ []) later,
+            append_assoc before (line ∷ [])
+                others,
+          )
           at (prefix_verdicts r w 0 Undecided prefix later ∙ sym (prefix_verdicts r w 0 Undecided prefix others));
       form = same_form r.algo before later others line;
     }

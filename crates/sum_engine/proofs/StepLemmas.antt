@@ -65,10 +65,12 @@ pub check_state-made : {I : Type 0} (state : I → InputState) (p q : CursorValu
     → ((c d : Content) (s t : KnownState) → P c d → Q s t → R (state_at p c s) (state_at q d t))
     → IfKnown (check_state state p s) (check_state state q t) R
 check_state-made state p q s t R h k f =
-    both-known (remaining_content state p.reader) (remaining_content state q.reader) s t (state_at p) (state_at q) R h k f
+    both-known (remaining_content state p.reader) (remaining_content state q.reader) s t (state_at p) (state_at q) R h k
+    f
 
 -- what follows of the streams from a fact of the whole state
-pub known_state-made : {I : Type 0} (state : I → InputState) (q : CursorValue I) (z : Option KnownState) (a : CheckState)
+pub known_state-made : {I : Type 0} (state : I → InputState) (q : CursorValue I) (z : Option KnownState)
+    (a : CheckState)
     (s : KnownState) (P : CheckState → CheckState → Type 0) (R : KnownState → KnownState → Type 0)
     → IfKnown (Some a) (check_state state q z) P
     → ((d : Content) (z : KnownState) → P a (state_at q d z) → R s z) → IfKnown (Some s) z R
@@ -155,7 +157,8 @@ module _ {I S : Type 0} (input : I → InputState) (state : S → SourceState) (
 
     -- what follows from facts of the streams without their outputs
     from_asked : (P R : CheckState → CheckState → Type 0)
-        → IfKnown (check_state input p (known_state state (asked a))) (check_state input q (known_state state (asked b))) P
+        → IfKnown (check_state input p (known_state state (asked a)))
+        (check_state input q (known_state state (asked b))) P
         → ((c d : Content) (w v : World)
         → P (state_at p c (known state (asked a) w)) (state_at q d (known state (asked b) v))
         → R (state_at p c (known state a w)) (state_at q d (known state b v)))

@@ -4,7 +4,8 @@ ghost use Rattle.sum_engine.specs.Behavior.{is_dash};
 ghost use Rattle.sum_lines.specs.Lines.{line};
 ghost use Rattle.sum_engine.specs.Generation.{generate_behavior};
 ghost use Rattle.sum_engine.specs.refinement.FlushedWrites.{WritesAndFlushes};
-ghost use Rattle.sum_engine.specs.Execution.{IsFlushed, FailuresMatch, ReadToEnd, OneMore, RefusalsMatch, NoOutputOnMemory, Performs};
+ghost use Rattle.sum_engine.specs.Execution.{IsFlushed, FailuresMatch, ReadToEnd, OneMore};
+ghost use Rattle.sum_engine.specs.Execution.{RefusalsMatch, NoOutputOnMemory, Performs};
 
 use crate::check::report::put_fault_line;
 use crate::hash_name::hash_name;

@@ -37,7 +37,8 @@ pub(crate) fn is_dash(name: &[u8]) -> bool
     name == b"-".as_slice()
 }
 
-ghost use Rattle.sum_engine.specs.refinement.HashName.{HashesNameIfKnown, IsRead, RefusedUnless, UnlessBroken, HasKindLen, digest_of_outcome, world_of};
+ghost use Rattle.sum_engine.specs.refinement.HashName.{HashesNameIfKnown, IsRead, RefusedUnless, UnlessBroken};
+ghost use Rattle.sum_engine.specs.refinement.HashName.{HasKindLen, digest_of_outcome, world_of};
 ghost use Rattle.sum_engine.specs.Execution.{ReadToEnd, Reading, Ended};
 
 /// Opens the name (`-` is standard input) and hashes it, through the buffer. `None` if the source is out of memory; the

@@ -2,10 +2,10 @@
 ghost use Rattle.sum_engine.specs.check.OldVerdicts.{OldVerdicts, OldOutcomes, OlderDiffers};
 ghost use Rattle.sum_engine.specs.check.CheckerLaws.{StepsJoin, EventsExtend, SameFront, EndStays};
 
-/// After k calls of `step` that each handled a line, both outputs grew by exactly the reports of the first k lines, whose
-/// names were asked; the input gave at most 8192 bytes beyond the end of line k; and each line's vector held at most as
-/// many bytes as its line. The call that ends comes after all lines, and writes exactly the summary or the fault line. If
-/// a call fails to write, a prefix of the manifest's whole trace happened.
+/// After k calls of `step` that each handled a line, both outputs grew by exactly the reports of the first k lines,
+/// whose names were asked; the input gave at most 8192 bytes beyond the end of line k; and each line's vector held at
+/// most as many bytes as its line. The call that ends comes after all lines, and writes exactly the summary or the
+/// fault line. If a call fails to write, a prefix of the manifest's whole trace happened.
 pub fn steps_join()
     ensures { StepsJoin }
 {}
@@ -27,11 +27,11 @@ pub fn end_stays()
     ensures { EndStays }
 {}
 
-/// A manifest without an empty line and without a carriage return, in its own name, as a byte or as the escape `\r` in a
-/// name after a leading backslash, has the same verdicts under the older profile and the present one. Older versions of
-/// the tools escaped no carriage return in names, dropped none before a line's end and found empty lines improperly
-/// formatted. The verdicts are those after the same asks; the reports and the summary are the same, too, and the manifest
-/// is good under both or under neither.
+/// A manifest without an empty line and without a carriage return, in its own name, as a byte or as the escape `\r` in
+/// a name after a leading backslash, has the same verdicts under the older profile and the present one. Older versions
+/// of the tools escaped no carriage return in names, dropped none before a line's end and found empty lines improperly
+/// formatted. The verdicts are those after the same asks; the reports and the summary are the same, too, and the
+/// manifest is good under both or under neither.
 pub fn old_verdicts()
     ensures verdicts { OldVerdicts }
     ensures outcomes { OldOutcomes }

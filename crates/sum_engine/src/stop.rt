@@ -3,8 +3,8 @@
 use sum_lines::SinkFault;
 use thiserror::Error;
 
-/// Why a call stopped before its end: `Memory` if a growth or an opening was refused memory, `Write` if an output failed.
-/// The call writes nothing after it.
+/// Why a call stopped before its end: `Memory` if a growth or an opening was refused memory, `Write` if an output
+/// failed. The call writes nothing after it.
 #[derive(Clone, Copy, Debug, PartialEq, Eq, Error)]
 pub enum Stop {
     #[error("memory exhausted")]

@@ -19,7 +19,8 @@ use Rattle.sum_engine.specs.check.NextVerdict.{LineStop, LineVerdict, NoVerdictL
 -- a new checker ran to its end, from flushed outputs
 abbrev pub ManifestPerforms : {S : Type 0} → (S → SourceState) → Rules → LabelsValue → Option Content → StreamsState S
     → StreamsState S → Result Bool Stop → Type 0
-ManifestPerforms state r labels c a b x = IsFlushed a → IfSome c (λ c. IfKnown (known_state state a) (known_state state b)
+ManifestPerforms state r labels c a b x = IsFlushed a → IfSome c
+    (λ c. IfKnown (known_state state a) (known_state state b)
     (λ s t. let all = content_behavior r labels c (all_verdicts r s.world c) in PerformsSteps all.steps all.good s t x))
 
 -- ---- the laws
@@ -68,8 +69,8 @@ StepsJoin = (r : Rules) (labels : LabelsValue) (c : Content) (s : KnownState) (b
     (vectors : List (List ℕ)) → StepsGoing r labels (initial_state c s) b vectors
     → AfterSteps r labels c (all_verdicts r s.world c) (length vectors) vectors s b
 
--- a line after the same lines, in two manifests: it spells the same entry; the verdicts up to its own are the same after
--- the same asks; and if it is plain, the form is the same
+-- a line after the same lines, in two manifests: it spells the same entry; the verdicts up to its own are the same
+-- after the same asks; and if it is plain, the form is the same
 pub record FrontIsSame (r : Rules) (w : World) (before : List (List ℕ)) (line : List ℕ) (later others : List (List ℕ))
     : Type 0 where
   pub entry : (s : EntryValue) → IsEntry escape r.algo (form r.algo (before ++ (line ∷ later))) line s

@@ -2,7 +2,8 @@
 ghost use Rattle.std.specs.Option.{option_map};
 ghost use Rattle.sum_sources.specs.Contents.{clip};
 ghost use Rattle.sum_engine.specs.check.Checking.{check_behavior};
-ghost use Rattle.sum_engine.specs.Execution.{IsFlushed, FailuresMatch, OneMoreAtMost, RefusalsMatch, StopHasCause, Performs, ReadToEnd, Reading, Ended};
+ghost use Rattle.sum_engine.specs.Execution.{IsFlushed, FailuresMatch, OneMoreAtMost, RefusalsMatch, StopHasCause};
+ghost use Rattle.sum_engine.specs.Execution.{Performs, ReadToEnd, Reading, Ended};
 ghost use Rattle.sum_engine.specs.check.CheckerSteps.{IsAtStart};
 ghost use Rattle.std.specs.Prelude.{◌≡◌, true, None, Ok};
 ghost use Rattle.sum_engine.specs.check.CheckerLaws.{ManifestPerforms};
@@ -20,13 +21,13 @@ use std::alloc::Allocator;
 use sum_lines::Sink;
 use sum_sources::{Input, OpenFault, Source};
 
-/// Checks the manifest of this name (`-` is standard input) and returns whether it is good. The reports of its lines and
-/// its summary go to `out` and `err` (coreutils manual, "md5sum invocation", `--check`). One that can't be opened, or
-/// read to its end, isn't good, and its fault goes to `err`.
+/// Checks the manifest of this name (`-` is standard input) and returns whether it is good. The reports of its lines
+/// and its summary go to `out` and `err` (coreutils manual, "md5sum invocation", `--check`). One that can't be opened,
+/// or read to its end, isn't good, and its fault goes to `err`.
 ///
-/// `Stop::Memory` if there is no memory for a line, or the source has none to open a file; then the reports of the lines
-/// handled so far were written. `Stop::Write` if an output fails; then a prefix of all that is to be written, in its
-/// order, was.
+/// `Stop::Memory` if there is no memory for a line, or the source has none to open a file; then the reports of the
+/// lines handled so far were written. `Stop::Write` if an output fails; then a prefix of all that is to be written, in
+/// its order, was.
 pub fn check_one<A: Allocator + Copy, J: Input + Drop, S: Source, O: Sink, E: Sink>(
     alloc: A,
     settings: CheckSettings,

@@ -33,14 +33,16 @@ impl<I: Input> CheckCursor<I> {
     ghost use Rattle.sum_sources.specs.Contents.{IfKnown, stdin_taken};
     ghost use Rattle.sum_sources.specs.LineReaders.{remaining_content};
     ghost use Rattle.sum_engine.specs.Execution.{known_state, IsFlushed, FailuresMatch, NoOutputOnMemory, ReadToEnd};
-    ghost use Rattle.sum_engine.specs.check.CheckerSteps.{MemoryStopHasCause, IsAtStart, check_state, PerformsStep, AdvancesCursor, ReadsListedFile};
+    ghost use Rattle.sum_engine.specs.check.CheckerSteps.{MemoryStopHasCause, IsAtStart, check_state};
+    ghost use Rattle.sum_engine.specs.check.CheckerSteps.{PerformsStep, AdvancesCursor, ReadsListedFile};
     ghost use Rattle.sum_sources.specs.declared.fault.Ending.TheVariants.{Whole};
     ghost use Rattle.sum_engine.specs.check.Reports.{good, is_unread};
     ghost use Rattle.std.specs.List.{list_any};
     ghost use Rattle.sum_engine.specs.Behavior.{is_dash};
     ghost use Rattle.sum_engine.specs.check.Verdicts.{asks_of};
     ghost use Rattle.sum_engine.specs.refinement.HashName.{RefusedUnless, world_of};
-    ghost use Rattle.sum_engine.specs.check.NextVerdict.{line_verdict_value, HasNameRange, NextVerdictIfKnown, progress_of, lent_streams, counts_after, UnlessUnread};
+    ghost use Rattle.sum_engine.specs.check.NextVerdict.{line_verdict_value, HasNameRange, NextVerdictIfKnown, progress_of};
+    ghost use Rattle.sum_engine.specs.check.NextVerdict.{lent_streams, counts_after, UnlessUnread};
     ghost use Rattle.sum_engine.specs.refinement.Judging.{TakesLine, JudgeLineOf};
     ghost use Rattle.sum_engine.specs.refinement.Cursors.{rules_in, labels_in, cursor_value};
 
@@ -137,17 +139,18 @@ impl<I: Input> CheckCursor<I> {
         source: &mut S,
     ) -> Result<Option<LineVerdict>, LineStop>
         ensures verdict { NextVerdictIfKnown (rules_in self.old.rules) line.new.items
-            (check_state I.state (cursor_value self.old) (known_state S.state (lent_streams J.state stdin.old source.old)))
-            (check_state I.state (cursor_value self.new) (known_state S.state (lent_streams J.state stdin.new source.new))) result }
+            (check_state I.state (cursor_value self.old)
+            (known_state S.state (lent_streams J.state stdin.old source.old)))
+            (check_state I.state (cursor_value self.new)
+            (known_state S.state (lent_streams J.state stdin.new source.new))) result }
         ensures name_range { IfOk result (λ found. IfSome found (λ v. HasNameRange line.new.items v)) }
         ensures out_of_memory { MemoryStopHasCause (S.state source.old) (S.state source.new)
-            (remaining_content I.state self.old.reader)
-            (progress_of result) }
+            (remaining_content I.state self.old.reader) (progress_of result) }
         ensures cursor { AdvancesCursor I.state (cursor_value self.old) (cursor_value self.new) (progress_of result) }
         ensures stdin_kept { self.old.rules.from_stdin ≡ true → stdin.new ≡ stdin.old }
         ensures counts { counts_value self.new.counts ≡ counts_after (counts_value self.old.counts) result }
-        ensures read_to_end { UnlessUnread result
-            (ReadToEnd S.state (lent_streams J.state stdin.old source.old) (lent_streams J.state stdin.new source.new)) }
+        ensures read_to_end { UnlessUnread result (ReadToEnd S.state (lent_streams J.state stdin.old source.old)
+            (lent_streams J.state stdin.new source.new)) }
     {
         match self.reader.next_line(line) {
             Err(stop) => Err(stop),

@@ -23,7 +23,8 @@ pub(crate) fn put_tool_line<'a, E: Sink>(
     name: &'a [u8],
     text: &'a [u8],
 ) -> Result<(), SinkFault>
-    ensures { WritesAndFlushes (E.state err.old) (E.state err.new) (tool_line present tool.now name.now text.now) result }
+    ensures { WritesAndFlushes (E.state err.old) (E.state err.new)
+        (tool_line present tool.now name.now text.now) result }
 {
     put_parts_flushed(
         err,

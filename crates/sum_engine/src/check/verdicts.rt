@@ -37,7 +37,8 @@ impl<I: Input> Verdicts<I> {
     ghost use Rattle.sum_engine.specs.check.Reports.{good};
     ghost use Rattle.sum_engine.specs.Execution.{known_state};
     ghost use Rattle.sum_engine.specs.check.CheckerSteps.{IsAtStart, check_state};
-    ghost use Rattle.sum_engine.specs.check.NextVerdict.{lent_streams, HasNameRange, NextVerdictIfKnown, AdvancesVerdicts, is_whole};
+    ghost use Rattle.sum_engine.specs.check.NextVerdict.{lent_streams, HasNameRange, NextVerdictIfKnown};
+    ghost use Rattle.sum_engine.specs.check.NextVerdict.{AdvancesVerdicts, is_whole};
 
     /// At the first line of the manifest that `input` gives; `from_stdin` says whether it came from standard input,
     /// where a line that names `-` is improperly formatted. The report setting has no part in this.
@@ -91,7 +92,8 @@ impl<I: Input> Verdicts<I> {
         // If manifest, source and standard input are known: the first of the verdicts that remained.
         ensures verdict { self.old.final_answer ≡ None → NextVerdictIfKnown self.old.cursor.rules line.new.items
             (check_state I.state self.old.cursor (known_state S.state (lent_streams J.state stdin.old source.old)))
-            (check_state I.state self.new.cursor (known_state S.state (lent_streams J.state stdin.new source.new))) result }
+            (check_state I.state self.new.cursor (known_state S.state (lent_streams J.state stdin.new source.new)))
+            result }
         ensures name_range { IfOk result (λ found. IfSome found (λ v. HasNameRange line.new.items v)) }
         // Known or not: how far the manifest was read, and the cause of a stop.
         ensures advances { self.old.final_answer ≡ None → AdvancesVerdicts I.state S.state self.old self.new

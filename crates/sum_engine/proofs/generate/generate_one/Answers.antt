@@ -16,10 +16,12 @@ returns-in-None-clause-behavior g c =
     let tool = c.args.tool.now in
     let name = c.args.name.now in
     rw (← c.streams.view_is) (λ flushed. unasked g.S.Source.state (λ w. generate_behavior settings tool w name) (λ g. g)
-    (streams_of g.I.Input.state c.streams.inside.stdin _ _ _) (streams_of g.I.Input.state c.hash_name-outcome.new.stdin _ _ _)
+    (streams_of g.I.Input.state c.streams.inside.stdin _ _ _)
+    (streams_of g.I.Input.state c.hash_name-outcome.new.stdin _ _ _)
     (λ w. one_step settings tool name (digest_or_fault settings.kind (reply w name)))
     (known_refused g.S.Source.state (streams_of g.I.Input.state c.streams.inside.stdin _ _ _)
-    (streams_of g.I.Input.state c.hash_name-outcome.new.stdin _ _ _) c.in-None.ensures.outcome (ap stdin_taken c.in-None.ensures.stdin_kept) refl refl
+    (streams_of g.I.Input.state c.hash_name-outcome.new.stdin _ _ _) c.in-None.ensures.outcome
+    (ap stdin_taken c.in-None.ensures.stdin_kept) refl refl
     c.in-None.ensures.refusals))
 
 -- the name was read, and writing its line failed
@@ -30,7 +32,8 @@ returns-in_err-put_line_flushed-in-Ok-clause-behavior g c =
     let done = c.in-Some.ensures in
     rw (stop.1, stop.2, ← c.streams.view_is) (λ flushed. generate-performed g.S.Source.state c.args.settings.now
     c.args.tool.now c.args.name.now _ _ _ (streams_of g.I.Input.state c.streams.inside.stdin _ _ _)
-    (streams_of g.I.Input.state c.hash_name-outcome.new.stdin _ _ _) c.in-Some.outcome (Ok c.in-Ok.digest) (Err tt) done.outcome
+    (streams_of g.I.Input.state c.hash_name-outcome.new.stdin _ _ _) c.in-Some.outcome (Ok c.in-Ok.digest) (Err tt)
+    done.outcome
     done.stdin_taken done.refusals c.in-Ok.ensures refl
     (inr (Appends-nil _, (c.in_err-put_line_flushed-in-Ok.ensures.1 flushed.0).1)))
 
@@ -41,7 +44,8 @@ returns-in_ok-put_line_flushed-in-Ok-clause-behavior g c =
     let done = c.in-Some.ensures in
     rw (← c.streams.view_is) (λ flushed. generate-performed g.S.Source.state c.args.settings.now c.args.tool.now
     c.args.name.now _ _ _ (streams_of g.I.Input.state c.streams.inside.stdin _ _ _)
-    (streams_of g.I.Input.state c.hash_name-outcome.new.stdin _ _ _) c.in-Some.outcome (Ok c.in-Ok.digest) (Ok tt) done.outcome
+    (streams_of g.I.Input.state c.hash_name-outcome.new.stdin _ _ _) c.in-Some.outcome (Ok c.in-Ok.digest) (Ok tt)
+    done.outcome
     done.stdin_taken done.refusals c.in-Ok.ensures refl
     (Appends-nil _, (c.in_ok-put_line_flushed-in-Ok.ensures.1 flushed.0).1))
 
@@ -54,7 +58,8 @@ returns-in_err-put_fault_line-in-Err-clause-behavior g c =
     let done = c.in-Some.ensures in
     rw (stop.1, stop.2, ← c.streams.view_is) (λ flushed. generate-performed g.S.Source.state c.args.settings.now
     c.args.tool.now c.args.name.now _ _ _ (streams_of g.I.Input.state c.streams.inside.stdin _ _ _)
-    (streams_of g.I.Input.state c.hash_name-outcome.new.stdin _ _ _) c.in-Some.outcome (Err c.in-Err.fault) (Err tt) done.outcome
+    (streams_of g.I.Input.state c.hash_name-outcome.new.stdin _ _ _) c.in-Some.outcome (Err c.in-Err.fault) (Err tt)
+    done.outcome
     done.stdin_taken done.refusals c.in-Err.ensures refl
     (inl ((c.in_err-put_fault_line-in-Err.ensures.1 flushed.1).1, refl)))
 
@@ -65,6 +70,7 @@ returns-in_ok-put_fault_line-in-Err-clause-behavior g c =
     let done = c.in-Some.ensures in
     rw (← c.streams.view_is) (λ flushed. generate-performed g.S.Source.state c.args.settings.now c.args.tool.now
     c.args.name.now _ _ _ (streams_of g.I.Input.state c.streams.inside.stdin _ _ _)
-    (streams_of g.I.Input.state c.hash_name-outcome.new.stdin _ _ _) c.in-Some.outcome (Err c.in-Err.fault) (Ok tt) done.outcome
+    (streams_of g.I.Input.state c.hash_name-outcome.new.stdin _ _ _) c.in-Some.outcome (Err c.in-Err.fault) (Ok tt)
+    done.outcome
     done.stdin_taken done.refusals c.in-Err.ensures refl
     ((c.in_ok-put_fault_line-in-Err.ensures.1 flushed.1).1, Appends-nil _))

@@ -7,7 +7,8 @@ pub returns-then-is_dash-clause-read_to_end : goal.returns-then-is_dash-clause-r
 returns-then-is_dash-clause-read_to_end g c =
     let old = c.args.stdin.now in
     let read = rw c.take-input.ensures.given at c.read_digest-outcome.ensures.phase in
-    rw (c.put_back.ensures.returned, c.take-input.ensures.taken) (UnlessBroken-map c.read_digest-outcome.result (λ ends. record {
+    rw (c.put_back.ensures.returned, c.take-input.ensures.taken)
+    (UnlessBroken-map c.read_digest-outcome.result (λ ends. record {
       number = 0;
       opened = refl;
       ended = refl;

@@ -37,7 +37,8 @@ returns-in-Ok-Ended-clause-behavior g c =
     let so_far = c.lines.invariant in
     let first = c.args.checker.now in
     λ flushed.
-    let step = rw c.in-Ok-Ended.field-0-is at (c.in-Ok-Ended.ensures.step so_far.going (so_far.so_far.flushed flushed)) in
+    let step = rw c.in-Ok-Ended.field-0-is at (c.in-Ok-Ended.ensures.step so_far.going (so_far.so_far.flushed flushed))
+    in
     comes_last g.I.Input.state g.S.Source.state _ first.cursor.rules _ first.labels _
     c.args.streams.now c.step.new.streams _ c.step.new.self.cursor c.step.new.line.items (Ok c.in-Ok-Ended.good)
     so_far.rules so_far.labels (so_far.comes flushed) step

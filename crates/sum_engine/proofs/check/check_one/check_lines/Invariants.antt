@@ -12,7 +12,8 @@ invariant-lines g l =
     let input = first.cursor.reader.input in
     let streams = l.fn.streams in
     record {
-      comes : IsFlushed streams → Comes first.cursor.rules first.labels (option_map clip (g.I.Input.state input).content)
+      comes : IsFlushed streams → Comes first.cursor.rules first.labels
+          (option_map clip (g.I.Input.state input).content)
           (known_state g.S.Source.state streams)
           (check_state g.I.Input.state l.checker.cursor (known_state g.S.Source.state l.streams));
       rules : l.checker.cursor.rules ≡ first.cursor.rules;

@@ -26,7 +26,8 @@ returns-then-is_dash-clause-behavior g c =
     at (checked.ensures.behavior flushed) in
     check_dash g.S.Source.state call (streams_of g.J.Input.state c.streams.inside.stdin _ _ _)
     (streams_of g.J.Input.state last.inside.stdin _ _ _) (streams_of g.J.Input.state put_back _ _ _)
-    (stdin_phase g.J.Input.state (record c.streams.inside.stdin { input = None })) _ _ (ap rules_in c.new-rules.ensures) dash
+    (stdin_phase g.J.Input.state (record c.streams.inside.stdin { input = None })) _ _ (ap rules_in c.new-rules.ensures)
+    dash
     (known_state-put_back g.J.Input.state g.S.Source.state last.inside.stdin checked.result.1 _ _ _ stdin.0) run)
 
 -- a good one was read to its end, and so were its files

@@ -16,4 +16,5 @@ returns-clause-verdict g c =
       | else-rules-via-else-rules
           w ↦ search rules
     ] in
-    judged_entry (rules_in c.args.rules) _ _ s c.in_ok-outcome.outcome _ dash c.in_ok-outcome.ensures.outcome c.compare.ensures
+    judged_entry (rules_in c.args.rules) _ _ s c.in_ok-outcome.outcome _ dash c.in_ok-outcome.ensures.outcome
+    c.compare.ensures

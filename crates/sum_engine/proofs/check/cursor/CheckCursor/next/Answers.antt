@@ -20,7 +20,8 @@ returns-in-Err-Memory-clause-step g c =
     let found = rw c.in-Err-Memory.field-0-is at c.in-Err-Memory.ensures.verdict in
     rw (← c.streams.view_is) (λ flushed. step_refused g.I.Input.state g.S.Source.state (cursor_value c.args.self.now)
     (cursor_value c.next_verdict.new.self) (streams_of g.J.Input.state c.streams.inside.stdin _ _ _)
-    (streams_of g.J.Input.state c.next_verdict.new.stdin _ _ _) (labels_in c.args.labels.now) c.next_verdict.new.line.items found refl
+    (streams_of g.J.Input.state c.next_verdict.new.stdin _ _ _) (labels_in c.args.labels.now)
+    c.next_verdict.new.line.items found refl
     refl)
 
 -- the line of the manifest's fault was written
@@ -31,7 +32,8 @@ returns-in_ok-put_fault_line-in-Err-Fault-clause-step g c =
     let written = rw c.in-Err-Fault.fault-is at c.in_ok-put_fault_line-in-Err-Fault.ensures in
     rw (← c.streams.view_is) (step_end g.I.Input.state g.S.Source.state (cursor_value c.args.self.now)
     (cursor_value c.next_verdict.new.self) (streams_of g.J.Input.state c.streams.inside.stdin _ _ _)
-    (streams_of g.J.Input.state c.next_verdict.new.stdin _ _ _) (labels_in c.args.labels.now) c.next_verdict.new.line.items
+    (streams_of g.J.Input.state c.next_verdict.new.stdin _ _ _) (labels_in c.args.labels.now)
+    c.next_verdict.new.line.items
     (Broken c.in-Err-Fault.fault) false (Ok tt) found c.in-Err-Fault.ensures.cursor.rules refl refl written)
 
 -- it was cut off
@@ -43,7 +45,8 @@ returns-in_err-put_fault_line-in-Err-Fault-clause-step g c =
     let stop = err_from_is_err_and c.from_residual.result c.from_residual.ensures.1 in
     rw (stop.1, stop.2, ← c.streams.view_is) (step_end g.I.Input.state g.S.Source.state (cursor_value c.args.self.now)
     (cursor_value c.next_verdict.new.self) (streams_of g.J.Input.state c.streams.inside.stdin _ _ _)
-    (streams_of g.J.Input.state c.next_verdict.new.stdin _ _ _) (labels_in c.args.labels.now) c.next_verdict.new.line.items
+    (streams_of g.J.Input.state c.next_verdict.new.stdin _ _ _) (labels_in c.args.labels.now)
+    c.next_verdict.new.line.items
     (Broken c.in-Err-Fault.fault) false (Err tt) found c.in-Err-Fault.ensures.cursor.rules refl refl cut)
 
 -- the summary was written
@@ -52,7 +55,8 @@ returns-in_ok-put_summary-in-Ok-None-clause-step g c =
     let found = rw c.in-Ok-None.field-0-is at c.in-Ok-None.ensures.verdict in
     rw (← c.streams.view_is) (step_end g.I.Input.state g.S.Source.state (cursor_value c.args.self.now)
     (cursor_value c.next_verdict.new.self) (streams_of g.J.Input.state c.streams.inside.stdin _ _ _)
-    (streams_of g.J.Input.state c.next_verdict.new.stdin _ _ _) (labels_in c.args.labels.now) c.next_verdict.new.line.items Whole _
+    (streams_of g.J.Input.state c.next_verdict.new.stdin _ _ _) (labels_in c.args.labels.now)
+    c.next_verdict.new.line.items Whole _
     (Ok tt) found c.in-Ok-None.ensures.cursor.rules c.is_good.ensures refl c.in_ok-put_summary-in-Ok-None.ensures)
 
 -- it was cut off
@@ -63,7 +67,8 @@ returns-in_err-put_summary-in-Ok-None-clause-step g c =
     let stop = err_from_is_err_and back.result back.ensures.1 in
     rw (stop.1, stop.2, ← c.streams.view_is) (step_end g.I.Input.state g.S.Source.state (cursor_value c.args.self.now)
     (cursor_value c.next_verdict.new.self) (streams_of g.J.Input.state c.streams.inside.stdin _ _ _)
-    (streams_of g.J.Input.state c.next_verdict.new.stdin _ _ _) (labels_in c.args.labels.now) c.next_verdict.new.line.items Whole _
+    (streams_of g.J.Input.state c.next_verdict.new.stdin _ _ _) (labels_in c.args.labels.now)
+    c.next_verdict.new.line.items Whole _
     (Err tt) found c.in-Ok-None.ensures.cursor.rules refl refl c.in_err-put_summary-in-Ok-None.ensures)
 
 -- an ignored line was found, of which nothing is reported
@@ -72,7 +77,8 @@ returns-in-Ignored-clause-step g c =
     let found = rw c.in-Ok-Some.field-0-is at c.in-Ok-Some.ensures.verdict in
     rw (← c.streams.view_is) (λ flushed. step_found g.I.Input.state g.S.Source.state (cursor_value c.args.self.now)
     (cursor_value c.next_verdict.new.self) (streams_of g.J.Input.state c.streams.inside.stdin _ _ _)
-    (streams_of g.J.Input.state c.next_verdict.new.stdin _ _ _) (labels_in c.args.labels.now) c.next_verdict.new.line.items
+    (streams_of g.J.Input.state c.next_verdict.new.stdin _ _ _) (labels_in c.args.labels.now)
+    c.next_verdict.new.line.items
     c.in-Ok-Some.found (Ok tt) found
     (rw (c.in-Ignored.is, out_by-ignored present c.args.labels.now.report _) (Appends-nil _, Appends-nil _)))
 
@@ -84,7 +90,8 @@ returns-in_ok-put_report-in-Ok-Some-clause-step g c =
     at c.in_ok-put_report-in-Ok-Some.ensures.texts in
     rw (← c.streams.view_is) (λ flushed. step_found g.I.Input.state g.S.Source.state (cursor_value c.args.self.now)
     (cursor_value c.next_verdict.new.self) (streams_of g.J.Input.state c.streams.inside.stdin _ _ _)
-    (streams_of g.J.Input.state c.next_verdict.new.stdin _ _ _) (labels_in c.args.labels.now) c.next_verdict.new.line.items
+    (streams_of g.J.Input.state c.next_verdict.new.stdin _ _ _) (labels_in c.args.labels.now)
+    c.next_verdict.new.line.items
     c.in-Ok-Some.found (Ok tt) found (texts flushed.1 flushed.0))
 
 -- it was cut off
@@ -96,7 +103,8 @@ returns-in_err-put_report-in-Ok-Some-clause-step g c =
     let back = c.from_residual-in_err-put_report-in-Ok-Some in
     let stop = err_from_is_err_and back.result back.ensures.1 in
     rw (stop.1, stop.2, ← c.streams.view_is) (λ flushed. step_found g.I.Input.state g.S.Source.state
-    (cursor_value c.args.self.now) (cursor_value c.next_verdict.new.self) (streams_of g.J.Input.state c.streams.inside.stdin _ _ _)
+    (cursor_value c.args.self.now) (cursor_value c.next_verdict.new.self)
+    (streams_of g.J.Input.state c.streams.inside.stdin _ _ _)
     (streams_of g.J.Input.state c.next_verdict.new.stdin _ _ _) (labels_in c.args.labels.now)
     c.next_verdict.new.line.items c.in-Ok-Some.found (Err tt) found (texts flushed.1 flushed.0))
 

@@ -35,7 +35,8 @@ returns-in-None-clause-verdict g c =
     let done = c.in-None.ensures in
     let first = lent_streams g.J.Input.state c.args.stdin.now c.args.source.now in
     let then = lent_streams g.J.Input.state c.judge_line.new.stdin c.judge_line.new.source in
-    next_verdict-refused g.I.Input.state g.S.Source.state (cursor_value c.args.self.now) (cursor_value c.judge_line.new.self)
+    next_verdict-refused g.I.Input.state g.S.Source.state (cursor_value c.args.self.now)
+    (cursor_value c.judge_line.new.self)
     c.next_line.new.self first then
     c.next_line.new.line.items c.judge_line.new.line.items
     (record {
@@ -44,7 +45,8 @@ returns-in-None-clause-verdict g c =
       ahead = c.in-Ok-Line.ensures.bounds.ahead;
       profile = refl;
     })
-    done.cursor.reader (known_refused g.S.Source.state first then done.verdict (ap stdin_taken done.stdin_taken) refl refl
+    done.cursor.reader (known_refused g.S.Source.state first then done.verdict (ap stdin_taken done.stdin_taken) refl
+    refl
     done.refusals)
 
 -- how far the manifest was read: up to a line that was judged
