@@ -1,4 +1,16 @@
-//! Hashes files, and checks files against manifests.
+//! Hashes files, and checks files against manifests. [`Verdicts`] writes nothing: it is for a program that shows what it
+//! finds in its own way.
+//!
+//! ```rust
+//! let mut streams = Streams {
+//!     stdin: Stdin::new(FromRead::new(rt.stdin())),
+//!     source: Files::new(rt),
+//!     out: FromWrite::new(rt.stdout()),
+//!     err: FromWrite::new(rt.stderr()),
+//! };
+//! let settings = CheckSettings::new(Algos::One(Algo::Md5));
+//! let good = check_one(rt.alloc(), settings, "md5sum", b"MD5SUMS", &mut streams)?;
+//! ```
 #![tactic(auto)]
 
 mod check;
