@@ -32,7 +32,7 @@ pub fn command<A: Allocator + Copy, G: Arguments, I: Input + Drop, S: Source, O:
     ensures behavior { ProgramPerforms S.state (G.known arguments.now) streams.old streams.new result }
     ensures flushed { IsFlushed streams.old → IsFlushed streams.new }
     ensures no_failures { result ≡ 0 → NoFailures streams.old streams.new }
-    // Known or not: status 0 only if every file that was opened, and standard input, was read to its end.
+    // Known or not: status 0 only if each file that was opened, and standard input if taken, was read to its end.
     ensures read_to_end { result ≡ 0 → ReadToEnd S.state streams.old streams.new }
 {
     match read_command_line(alloc, arguments) {

@@ -32,7 +32,7 @@ pub fn run<A: Allocator + Copy, I: Input + Drop, S: Source, O: Sink, E: Sink>(
     ensures flushed { IsFlushed streams.old → IsFlushed streams.new }
     ensures refusals { RefusalsMatch S.state (RefusalsOf (request tool words.now)) streams.old streams.new result }
     ensures failures { FailuresMatch streams.old streams.new result }
-    // Known or not: status 0 only if every file that was opened, and standard input, was read to its end.
+    // Known or not: status 0 only if each file that was opened, and standard input if taken, was read to its end.
     ensures read_to_end { result ≡ Ok 0 → ReadToEnd S.state streams.old streams.new }
 {
     run_request(alloc, tool, read_words(tool, words), streams)
