@@ -20,17 +20,19 @@ use sum_words::{Arguments, CommandLine, NotRead, Tool, read_command_line};
 /// outputs are flushed once more at the end.
 ///
 /// If a word that begins with a dash isn't UTF-8, it writes `digests: words not read` to standard error, and the status
-/// is 1. Otherwise it does so only if memory is needed for the arguments. If there is no such tool, it writes
-/// `digests: unknown tool`, and the status is 1. After a stop of a tool's run, or if that last flush fails, it writes
-/// `TOOL: memory exhausted` or `TOOL: write error`, as far as standard error accepts it, and the status is 1. What the
-/// clauses say of bytes holds if both outputs are flushed at the call.
+/// is 1. Otherwise it writes this only if memory was refused, so never if the arguments need none. If there is no such
+/// tool, it writes `digests: unknown tool`, and the status is 1. After a stop of a tool's run, or if that last flush
+/// fails, it writes `TOOL: memory exhausted` or `TOOL: write error`, as far as standard error accepts it, and the
+/// status is 1. What the clauses say of bytes holds if both outputs are flushed at the call.
 pub fn command<A: Allocator + Copy, G: Arguments, I: Input + Drop, S: Source, O: Sink, E: Sink>(
     alloc: A,
     arguments: &G,
     streams: &mut Streams<I, S, O, E>,
 ) -> u8
+    // If arguments, source and standard input are known and both outputs flushed: the behavior of the arguments.
     ensures behavior { ProgramPerforms S.state (G.known arguments.now) streams.old streams.new result }
     ensures flushed { IsFlushed streams.old → IsFlushed streams.new }
+    // Known or not: status 0 only if no call of either output failed.
     ensures no_failures { result ≡ 0 → NoFailures streams.old streams.new }
     // Known or not: status 0 only if each file that was opened, and standard input if taken, was read to its end.
     ensures read_to_end { result ≡ 0 → ReadToEnd S.state streams.old streams.new }

@@ -30,6 +30,7 @@ pub fn run<A: Allocator + Copy, I: Input + Drop, S: Source, O: Sink, E: Sink>(
     // If the source and standard input are known and both outputs flushed: the behavior that the words mean.
     ensures behavior { Performs S.state (meaning tool words.now) status_of streams.old streams.new result }
     ensures flushed { IsFlushed streams.old → IsFlushed streams.new }
+    // Known or not, a stop has its cause: refusals as the request allows, or one failure more of one output.
     ensures refusals { RefusalsMatch S.state (RefusalsOf (request tool words.now)) streams.old streams.new result }
     ensures failures { FailuresMatch streams.old streams.new result }
     // Known or not: status 0 only if each file that was opened, and standard input if taken, was read to its end.

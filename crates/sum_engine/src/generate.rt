@@ -31,6 +31,7 @@ pub fn generate_one<I: Input + Drop, S: Source, O: Sink, E: Sink>(
     ensures behavior { Performs S.state (λ w. generate_behavior settings.now tool.now w name.now) (λ good. good)
         streams.old streams.new result }
     ensures flushed { IsFlushed streams.old → IsFlushed streams.new }
+    // Known or not, a stop has its cause: one refusal more of the source, or one failure more of one output.
     ensures refusals { RefusalsMatch S.state OneMore streams.old streams.new result }
     ensures failures { FailuresMatch streams.old streams.new result }
     ensures stdin_taken { OnOk result (streams.new.stdin_taken ≡ streams.old.stdin_taken || is_dash name.now) }

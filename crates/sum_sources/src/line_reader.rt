@@ -212,18 +212,20 @@ impl<I: Input> LineReader<I> {
     /// Puts the next line into `line`, without its newline and without one carriage return at its end. `NoMore` if none
     /// remains and the input ended whole, `LineStop::Fault` if it ended by that fault, `LineStop::Memory` if memory for
     /// the line was refused. Every later call returns the same, and doesn't read the input. The content of `line` is
-    /// open after these, and doesn't matter before.
+    /// unspecified after these, and doesn't matter before.
     pub fn next_line<A: Allocator>(&mut self, line: &mut Vec<u8, A>) -> Result<Next, LineStop>
-        // Bytes consumed and bytes that remain add up to the same, except after a stop.
+        // If known: the next line of what remained; and if `Ok`, bytes consumed and remaining add up to the same.
         ensures line { IfKnown (remaining_content I.state self.old) (remaining_content I.state self.new)
             (λ c d. NextLineIs c d result line.new.items
             × OnOk result (consumed self.new + length d.bytes ≡ consumed self.old + length c.bytes)) }
-        // A final answer is returned again, and changes nothing.
+        // A final answer is returned again; the reader stays as it is.
         ensures repeats { IfSome self.old.final_answer (λ answer. (result ≡ answer) × (self.new ≡ self.old)) }
+        // Known or not: the lines counted, how far the input was read, and which answers are final.
         ensures reader { AdvancesLines I.state self.old self.new result }
         // Bytes taken and bytes that remain in the input add up to the same.
         ensures input { IfKnown (I.state self.old.input).content (I.state self.new.input).content
             (λ c d. self.new.taken + length d.bytes ≡ self.old.taken + length c.bytes) }
+        // At most 8192 bytes are read ahead of the lines, and no count passes its limit.
         ensures bounds { Bounded self.new }
     {
         match self.state {

@@ -22,8 +22,8 @@ use sum_lines::Sink;
 use sum_sources::{Input, OpenFault, Source};
 
 /// Checks the manifest of this name (`-` is standard input) and returns whether it is good. The reports of its lines
-/// and its summary go to `out` and `err` (coreutils manual, "md5sum invocation", `--check`). One that can't be opened,
-/// or read to its end, isn't good, and its fault goes to `err`.
+/// and its summary go to `out` and `err` (coreutils manual, "md5sum invocation", `--check`). A manifest that can't
+/// be opened, or read to its end, isn't good, and its fault goes to `err`.
 ///
 /// `Stop::Memory` if there is no memory for a line, or the source has none to open a file; then the reports of the
 /// lines handled so far were written. `Stop::Write` if an output fails; then a prefix of all that is to be written, in
@@ -39,6 +39,7 @@ pub fn check_one<A: Allocator + Copy, J: Input + Drop, S: Source, O: Sink, E: Si
     ensures behavior { Performs S.state (λ w. check_behavior settings tool.now w name.now) (λ good. good)
         streams.old streams.new result }
     ensures flushed { IsFlushed streams.old → IsFlushed streams.new }
+    // Known or not, a stop has its cause: at most one refusal more of the source, or one failure more of one output.
     ensures refusals { RefusalsMatch S.state OneMoreAtMost streams.old streams.new result }
     ensures failures { FailuresMatch streams.old streams.new result }
     // Known or not: true only if the manifest and each file that was opened were read to their ends.

@@ -102,7 +102,7 @@ impl<'a, I: Input> Checker<'a, I> {
     }
 
     /// Handles the next line, or the end: writes the line's report, or the summary, or the line of the fault that broke
-    /// the manifest. `line` is grown for the line; its content before doesn't matter, and its content after is open.
+    /// the manifest. `line` is grown for the line; its content before doesn't matter, and after it is unspecified.
     ///
     /// `Stop::Memory` if there is no memory for the line or to open the file that it names; nothing is then written.
     /// `Stop::Write` if an output fails; a prefix of the step's texts was then written. After `Ended` and after a stop
@@ -112,13 +112,13 @@ impl<'a, I: Input> Checker<'a, I> {
         line: &mut Vec<u8, A>,
         streams: &mut Streams<J, S, O, E>,
     ) -> Result<Progress, Stop>
-        // A final answer is returned again, and changes nothing.
+        // A final answer is returned again; checker and streams stay as they are.
         ensures repeats { IfSome self.old.final_answer
             (λ r. (result ≡ r) × (self.new ≡ self.old) × (streams.new ≡ streams.old)) }
         // If manifest, source and standard input are known, and both outputs flushed: the next step of the behavior.
         ensures step { self.old.final_answer ≡ None → PerformsStep I.state S.state line.new.items self.old.labels
             self.old.cursor self.new.cursor streams.old streams.new result }
-        // Known or not: how far the manifest was read, and the cause of a stop.
+        // Known or not: how far the manifest was read, the cause of a stop, and which answers are final.
         ensures advances { self.old.final_answer ≡ None
             → AdvancesChecker I.state S.state self.old self.new streams.old streams.new result }
         ensures flushed { IsFlushed streams.old → IsFlushed streams.new }

@@ -75,8 +75,9 @@ impl<I: Input> Verdicts<I> {
     }
 
     /// Reads the next line, and finds its verdict; `None` if none is left and the manifest ended whole. `line` is grown
-    /// for the line, and then holds the name of its entry; its content before doesn't matter. `stdin` is what the name
-    /// `-` means in a manifest that didn't come from there, and `source` is where files are opened.
+    /// for the line, and then contains the name of its entry, at the range in the result; its content before is of no
+    /// matter. `stdin` is what the name `-` means in a manifest that didn't come from there, and `source` is where
+    /// files are opened.
     ///
     /// `LineStop::Fault` if that fault broke the manifest. `LineStop::Memory` if there is no memory for the line or to
     /// open the file that it names. After either, and after `None`, each call returns the same and does nothing.
@@ -86,7 +87,7 @@ impl<I: Input> Verdicts<I> {
         stdin: &mut Stdin<J>,
         source: &mut S,
     ) -> Result<Option<LineVerdict>, LineStop>
-        // A final answer is returned again, and changes nothing.
+        // A final answer is returned again; all but `line` stays as it is.
         ensures repeats { IfSome self.old.final_answer (λ r. (result ≡ r) × (self.new ≡ self.old)
             × (stdin.new ≡ stdin.old) × (source.new ≡ source.old)) }
         // If manifest, source and standard input are known: the first of the verdicts that remained.
@@ -95,7 +96,7 @@ impl<I: Input> Verdicts<I> {
             (check_state I.state self.new.cursor (known_state S.state (lent_streams J.state stdin.new source.new)))
             result }
         ensures name_range { IfOk result (λ found. IfSome found (λ v. HasNameRange line.new.items v)) }
-        // Known or not: how far the manifest was read, and the cause of a stop.
+        // Known or not: how far the manifest was read, the cause of a stop, and which answers are final.
         ensures advances { self.old.final_answer ≡ None → AdvancesVerdicts I.state S.state self.old self.new
             (lent_streams J.state stdin.old source.old) (lent_streams J.state stdin.new source.new) result }
     {

@@ -48,8 +48,8 @@ pub enum Reading {
 }
 
 /// Reads a line, without its end, in a manifest whose earlier lines have this form, and returns what it says and the
-/// form up to and with it. An entry's name, unescaped, is left in the line's vector. An ignored line stays as it is;
-/// what a bad one leaves is open. The vector never gets longer.
+/// form up to and with it. An entry's name, unescaped, is left in the line's vector, at the range in the result. An
+/// ignored line stays as it is; what a bad one leaves is unspecified. The vector never gets longer.
 ///
 /// A line is ignored if it is empty or begins with `#`. Any other may begin with blanks (spaces and tabs) and then one
 /// backslash: its name is then escaped (`\\`, `\n`, `\r`). What follows is
@@ -65,7 +65,7 @@ pub enum Reading {
 /// isn't empty. Any other line is bad.
 #[tactic(auto, using(crate::proofs::EntryLemmas::ignored_mute))]
 pub fn read_line<A: Allocator>(algos: Algos, form: Form, line: &mut Vec<u8, A>) -> (Reading, Form)
-    // A form that is decided stays; otherwise a plain line decides it, even a bad one.
+    // A form that is decided stays; otherwise a plain line decides it, even if its name makes it bad.
     ensures form { result.1 ≡ form_then form (line_form algos line.old.items) }
     // What the line says, as it is computed; of an entry the name is the range of the vector.
     ensures parsed { parsed_line_by line.new.items result.0 ≡ parse_line present algos result.1 line.old.items }
