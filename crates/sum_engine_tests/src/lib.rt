@@ -11,3 +11,5 @@ mod finding;
 mod hashing;
 #[cfg(test)]
 mod stepping;
+#[cfg(test)]
+mod variants;
