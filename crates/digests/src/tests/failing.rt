@@ -124,7 +124,7 @@ fn assert_leaves(
     )?;
     assert_eq!(rt; answer, status, "{before}");
     // Every file was opened; the one of which a read failed has no end, and no file has one by a read after its fault.
-    let unread = streams.source.files.opened() - streams.source.ended;
+    let unread = u64::saturating_sub(streams.source.files.opened(), streams.source.ended);
     assert_eq!(rt; unread, u64::from(status), "{before}");
     Ok(())
 }
