@@ -1,5 +1,5 @@
-//! Hashes files, and checks files against manifests. [`Verdicts`] writes nothing: it is for a program that shows what it
-//! finds in its own way.
+//! Hashes files, and checks files against manifests. [`Verdicts`] writes nothing: it is for a program that shows what
+//! it finds in its own way.
 //!
 //! ```rust
 //! let mut streams = Streams {

@@ -1,7 +1,8 @@
 //! The command line: which tool is asked for, and on which words.
 ghost use Rattle.std.specs.Prelude.{◌≡◌, ◌≤◌, ◌<◌, ◌*◌, vec_len, take, IfOk, IfSome, OnOk, OnErr};
 ghost use Rattle.std.specs.Option.{option_map};
-ghost use Rattle.sum_words.specs.refinement.Arguments.{ArgumentIs, WordsAre, IsNameOf, IsFirstWord, IsCommandLine, command_line_value};
+ghost use Rattle.sum_words.specs.refinement.Arguments.{ArgumentIs, WordsAre, IsNameOf};
+ghost use Rattle.sum_words.specs.refinement.Arguments.{IsFirstWord, IsCommandLine, command_line_value};
 ghost use Rattle.sum_words.specs.refinement.Arguments.{IsLonger, HasArgument, MayBeUnread};
 ghost use Rattle.sum_words.specs.CommandLines.{last_part};
 

@@ -1,5 +1,5 @@
--- Joins `new`, `update` and `finish` of `Blake2b`: which message a state may have taken. In the kit's word, a state holds
--- a message.
+-- Joins `new`, `update` and `finish` of `Blake2b`: which message a state may have taken. In the kit's word, a state
+-- holds a message.
 use Rattle.std.specs.Prelude.{◌≡◌, ℕ, ◌+◌, ◌*◌, ◌<◌, List, [], length, take, drop, slice_index_or}
 use Rattle.blake2b_core.specs.Digest.{blocks}
 use Rattle.blake2b_core.specs.refinement.Chaining.{hash_after}

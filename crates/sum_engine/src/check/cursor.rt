@@ -41,7 +41,8 @@ impl<I: Input> CheckCursor<I> {
     ghost use Rattle.sum_engine.specs.Behavior.{is_dash};
     ghost use Rattle.sum_engine.specs.check.Verdicts.{asks_of};
     ghost use Rattle.sum_engine.specs.refinement.HashName.{RefusedUnless, world_of};
-    ghost use Rattle.sum_engine.specs.check.NextVerdict.{line_verdict_value, HasNameRange, NextVerdictIfKnown, progress_of};
+    ghost use Rattle.sum_engine.specs.check.NextVerdict.{line_verdict_value, HasNameRange};
+    ghost use Rattle.sum_engine.specs.check.NextVerdict.{NextVerdictIfKnown, progress_of};
     ghost use Rattle.sum_engine.specs.check.NextVerdict.{lent_streams, counts_after, UnlessUnread};
     ghost use Rattle.sum_engine.specs.refinement.Judging.{TakesLine, JudgeLineOf};
     ghost use Rattle.sum_engine.specs.refinement.Cursors.{rules_in, labels_in, cursor_value};

@@ -2,7 +2,8 @@
 ghost use Rattle.std.specs.Prelude.{◌≡◌, ◌-◌, ◌∷◌, ◌++◌, [], replicate};
 ghost use Rattle.sum_lines.specs.sinks.Sinks.{WritesAll};
 ghost use Rattle.sum_lines.specs.refinement.PartTexts.{part_text};
-ghost use Rattle.sum_words.specs.Texts.{usage, help, help_line, letter_column, value_column, option_lines, purpose, version};
+ghost use Rattle.sum_words.specs.Texts.{usage, help, help_line, letter_column};
+ghost use Rattle.sum_words.specs.Texts.{value_column, option_lines, purpose, version};
 ghost use Rattle.sum_words.specs.Tools.{algos_of};
 
 use crate::parsing::options::{Flag, all_flags, has_option};
