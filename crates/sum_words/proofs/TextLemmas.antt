@@ -3,7 +3,7 @@ use Rattle.std.proofs.Common.{◌≡◌, ◌+◌, ◌++◌, List, codes, length,
 use Rattle.std.proofs.lemmas.List.{append-nil}
 use Rattle.sum_words.specs.Tools.{Tool}
 use Rattle.sum_words.specs.Items.{ByteString, Flag, has_option}
-use Rattle.sum_words.specs.Texts.{help_line, option_lines}
+use Rattle.sum_words.specs.Texts.{help_line}
 
 -- the two lines of a fault
 pub fault_parts : {n n' f : ByteString} (prefix shown suffix colon hint end : ByteString) → n ≡ n'
@@ -34,7 +34,11 @@ pub columns_are : {name value : ByteString} (n v : ByteString) → n ≡ name �
     → 2 + length n + length v ≡ length (codes "--" ++ name ++ value)
 columns_are n v name value = rw (← name, ← value) (omega (arith, length-append n v))
 
--- the lines of help of one option and the others
+-- the lines of help of those of these options that a tool has
+abbrev pub option_lines : Tool → List Flag → ByteString
+option_lines t flags = flat_map help_line (filter (has_option t) flags)
+
+-- those of one option and the others
 pub option_lines_cons : (t : Tool) (flag : Flag) (flags : List Flag)
     → option_lines t (flag ∷ flags) ≡ option_lines t (flag ∷ []) ++ option_lines t flags
 option_lines_cons t flag flags = elim (has_option t flag) as (λ b.

@@ -14,8 +14,7 @@ pub data CommandLineValue : Type 0 where
   unknown_tool : CommandLineValue
   invoke : Tool → List ByteString → CommandLineValue
 
--- the tool and its words: if the last part of the program's name is a tool's, that tool and all other arguments; else
--- the first of these names the tool
+-- the tool and its words: the tool is named by the last part of the program's name, or else by the next argument
 abbrev pub tool_and_words : List ByteString → Option Tool × List ByteString
 tool_and_words all =
     let called = option_and_then (λ name. tool_called (last_part name)) (slice_get all 0) in

@@ -21,8 +21,7 @@ ByteString = List ℕ
 -- an item; the value of an option that takes one is an item of its own
 pub data ItemValue : Type 0 where
   option : Flag → ItemValue
-  length_value : ByteString → ItemValue
-  operand : ByteString → ItemValue
+  length_value operand : ByteString → ItemValue
   fault : WordFaultValue → ItemValue
 
 -- an option's letter (empty if it has none), its full name, and its text in the help
@@ -65,9 +64,8 @@ flags_of t = filter (has_option t) all_flags
 
 -- how the next word is read: as it is, as the value of an option written so, or not at all
 pub data NextWord : Type 0 where
-  a_word : NextWord
+  a_word no_word : NextWord
   a_value : Spelling → NextWord
-  no_word : NextWord
 
 -- a long option's name: up to the first '='
 abbrev pub name_part : ByteString → ByteString

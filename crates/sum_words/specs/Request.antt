@@ -46,18 +46,14 @@ report_flag reports.Quiet = Some flags.Quiet
 report_flag reports.Warn = Some flags.Warn
 report_flag reports.Status = Some flags.Status
 
--- whether a value is one or more digits
-abbrev pub is_number : ByteString → Bool
-is_number value = not (bytes_eq value []) && all_ascii_digits value
-
 -- the fault of a length value, by the fault of its bits
 abbrev pub length_fault : ByteString → LengthFault → WordFaultValue
 length_fault value TooLong = length_invalid value
 length_fault value NotBytes = length_not_bytes value
 
--- the kind that a length value asks for, in bits
+-- the kind that a length value asks for, which is one or more digits: the number of bits
 abbrev pub length_kind : ByteString → Result KindValue WordFaultValue
-length_kind value = if not (is_number value) then Err (length_invalid value)
+length_kind value = if bytes_eq value [] || not (all_ascii_digits value) then Err (length_invalid value)
     else result_map_both (λ kind. kind) (length_fault value) (blake2b_of_bits (digits_value 10 value))
 
 -- the faults of the options in the order in which they count, each after its condition
@@ -95,16 +91,9 @@ generation (One algo) kind given operands =
 
 -- what the options ask for if none of these faults holds
 abbrev pub request_of_options : Algos → Option KindValue → List Flag → List ByteString → Result Request WordFaultValue
-request_of_options algos kind given operands = if has flags.Check given then Ok (Check (record {
-  algo = algos;
-  report = report_of given;
-  strict = has flags.Strict given;
-  ignore_missing = has flags.IgnoreMissing given;
-}) operands) else generation algos kind given operands
-
--- the kind that the last length value asks for, if there is one, or the fault of that value
-abbrev pub kind_asked : List ByteString → Result (Option KindValue) WordFaultValue
-kind_asked values = option_transpose (option_map length_kind (last_or None values))
+request_of_options algos kind given operands = if not (has flags.Check given) then generation algos kind given operands
+    else Ok (Check (record { algo = algos; report = report_of given; strict = has flags.Strict given;
+      ignore_missing = has flags.IgnoreMissing given }) operands)
 
 -- the fault of the length counts first, then the first fault of the options; without one, what the options ask for
 abbrev pub request_or_fault : Algos → Result (Option KindValue) WordFaultValue → List Flag → List ByteString
@@ -121,11 +110,9 @@ early_answer (option flags.Help ∷ xs) = Some (Ok Help)
 early_answer (option flags.Version ∷ xs) = Some (Ok Version)
 early_answer (x ∷ xs) = early_answer xs
 
--- what a tool's items ask for
-abbrev pub request_of_items : Tool → List ItemValue → Result Request WordFaultValue
-request_of_items t xs = unwrap_or (early_answer xs) (request_or_fault (algos_of t)
-    (kind_asked (filter_map value_in xs)) (filter_map option_in xs) (filter_map operand_in xs))
-
--- what a tool's words ask for
+-- what a tool's words ask for, by their items; of the values of --length the last one counts
 abbrev pub request : Tool → List ByteString → Result Request WordFaultValue
-request t words = request_of_items t (items_from t a_word words)
+request t words =
+    let xs = items_from t a_word words in
+    let kind = option_transpose (option_map length_kind (last_or None (filter_map value_in xs))) in
+    unwrap_or (early_answer xs) (request_or_fault (algos_of t) kind (filter_map option_in xs) (filter_map operand_in xs))

@@ -1,6 +1,6 @@
 -- The texts that the program itself writes: of faults, help and version, and the lines for an unknown tool, for words
 -- that could not be read and for a stop.
-use Rattle.std.specs.Prelude.{List, [], filter, ◌-◌, ◌++◌, codes, flat_map, if◌then◌else◌, length, replicate, encode_utf8, bytes_eq}
+use Rattle.std.specs.Prelude.{List, [], ◌-◌, ◌++◌, codes, flat_map, if◌then◌else◌, length, replicate, encode_utf8, bytes_eq}
 use Rattle.std.specs.Str.{byte}
 use Rattle.sum_words.specs.Tools.{Algos, Tool, name_of, algos_of}
 use Rattle.digest_kinds.specs.declared.algo.Algos.TheVariants.{One, Any}
@@ -8,7 +8,7 @@ use Rattle.digest_kinds.specs.Kinds.{tag}
 use Rattle.sum_lines.specs.Escape.{escape}
 use Rattle.sum_engine.specs.declared.stop.Stop.{Stop}
 use Rattle.sum_engine.specs.declared.stop.Stop.TheVariants.{Memory, Write}
-use Rattle.sum_words.specs.Items.{Long, Short, Flag, ByteString, row_of, full_name, takes_value, all_flags, has_option}
+use Rattle.sum_words.specs.Items.{Long, Short, Flag, ByteString, row_of, full_name, takes_value, flags_of}
 use Rattle.sum_words.specs.WordFaults.{WordFaultValue, unknown_long, ambiguous_long, value_not_allowed, value_missing, unknown_short, length_invalid, length_not_bytes, tag_with_text, zero_with_check, tag_with_check, mode_with_check, ignore_without_check, status_without_check, warn_without_check, quiet_without_check, strict_without_check, check_needed}
 
 -- the text of a fault, in which what was typed is escaped as names are
@@ -47,28 +47,16 @@ abbrev pub letter_column : Flag → ByteString
 letter_column flag =
     if bytes_eq (row_of flag).0 [] then codes "      " else codes "  -" ++ (row_of flag).0 ++ codes ", "
 
--- the value in the help of an option that takes one
-abbrev pub value_column : Flag → ByteString
-value_column flag = if takes_value flag then codes "=BITS" else []
-
 -- an option's line of help: its letter, its full name in 18 columns, and its text
 abbrev pub help_line : Flag → ByteString
 help_line flag =
-    let name = codes "--" ++ full_name flag ++ value_column flag in
+    let name = codes "--" ++ full_name flag ++ (if takes_value flag then codes "=BITS" else []) in
     letter_column flag ++ name ++ replicate (18 - length name) (byte " ") ++ (row_of flag).2 ++ codes "\n"
-
--- the lines of those of these options that a tool has
-abbrev pub option_lines : Tool → List Flag → ByteString
-option_lines t flags = flat_map help_line (filter (has_option t) flags)
-
--- the first two lines of help
-abbrev pub usage : Tool → ByteString
-usage t = codes "Usage: " ++ name_of t ++ codes " [OPTION]... [FILE]...\n"
-    ++ purpose (algos_of t) ++ codes " With no FILE, or when FILE is -, read standard input.\n"
 
 -- the text of --help
 abbrev pub help : Tool → ByteString
-help t = usage t ++ option_lines t all_flags
+help t = codes "Usage: " ++ name_of t ++ codes " [OPTION]... [FILE]...\n" ++ purpose (algos_of t)
+    ++ codes " With no FILE, or when FILE is -, read standard input.\n" ++ flat_map help_line (flags_of t)
 
 -- the text of --version
 abbrev pub version : Tool → ByteString

@@ -25,11 +25,7 @@ name_of t = (name_and_algos t).0
 abbrev pub algos_of : Tool → Algos
 algos_of t = (name_and_algos t).1
 
--- all tools
-abbrev pub all_tools : List Tool
-all_tools = tools.Md5sum ∷ tools.Sha1sum ∷ tools.Sha224sum ∷ tools.Sha256sum ∷ tools.Sha384sum ∷ tools.Sha512sum ∷
-    tools.B2sum ∷ tools.Anysum ∷ []
-
--- the tool of this name
+-- the one of all tools that has this name
 unfoldable pub tool_called : List ℕ → Option Tool
-tool_called word = find (λ tool. bytes_eq (name_of tool) word) all_tools
+tool_called word = find (λ tool. bytes_eq (name_of tool) word) (tools.Md5sum ∷ tools.Sha1sum ∷ tools.Sha224sum ∷
+    tools.Sha256sum ∷ tools.Sha384sum ∷ tools.Sha512sum ∷ tools.B2sum ∷ tools.Anysum ∷ [])

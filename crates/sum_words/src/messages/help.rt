@@ -1,9 +1,9 @@
 //! The help and the version text.
-ghost use Rattle.std.specs.Prelude.{◌≡◌, ◌-◌, ◌∷◌, ◌++◌, [], replicate};
+ghost use Rattle.std.specs.Prelude.{◌≡◌, ◌-◌, ◌∷◌, ◌++◌, [], codes, filter, flat_map, if◌then◌else◌, replicate};
 ghost use Rattle.sum_lines.specs.sinks.Sinks.{WritesAll};
 ghost use Rattle.sum_lines.specs.refinement.PartTexts.{part_text};
-ghost use Rattle.sum_words.specs.Texts.{usage, help, help_line, letter_column};
-ghost use Rattle.sum_words.specs.Texts.{value_column, option_lines, purpose, version};
+ghost use Rattle.sum_words.specs.Items.{has_option, takes_value};
+ghost use Rattle.sum_words.specs.Texts.{help, help_line, letter_column, purpose, version};
 ghost use Rattle.sum_words.specs.Tools.{algos_of};
 
 use crate::parsing::options::{Flag, all_flags, has_option};
@@ -15,20 +15,13 @@ use sum_lines::{Part, Sink, SinkFault, put_all, put_parts};
 pub fn put_help<O: Sink>(out: &mut O, tool: Tool) -> Result<(), SinkFault>
     ensures { WritesAll (O.state out.old) (O.state out.new) (help tool) result }
 {
-    put_usage(out, tool)?;
-    put_options(out, tool, all_flags())
-}
-
-// Writes the first two lines.
-fn put_usage<O: Sink>(out: &mut O, tool: Tool) -> Result<(), SinkFault>
-    ensures { WritesAll (O.state out.old) (O.state out.new) (usage tool) result }
-{
     let usage = Part::Bytes(b"Usage: ");
     let name = Part::Bytes(tool.name().as_bytes());
     let operands = Part::Bytes(b" [OPTION]... [FILE]...\n");
     let (prefix, tag, suffix) = purpose(tool);
     let input = Part::Bytes(b" With no FILE, or when FILE is -, read standard input.\n");
-    put_parts(out, &[usage, name, operands, prefix, tag, suffix, input])
+    put_parts(out, &[usage, name, operands, prefix, tag, suffix, input])?;
+    put_options(out, tool, all_flags())
 }
 
 // What the tool is for: the algorithm's tag, and what precedes and follows it.
@@ -48,7 +41,8 @@ fn purpose(tool: Tool) -> (Part<'static>, Part<'static>, Part<'static>)
 
 // Writes the lines of those of these options that the tool has.
 fn put_options<O: Sink>(out: &mut O, tool: Tool, flags: &[Flag]) -> Result<(), SinkFault>
-    ensures { WritesAll (O.state out.old) (O.state out.new) (option_lines tool flags.now) result }
+    ensures { WritesAll (O.state out.old) (O.state out.new)
+        (flat_map help_line (filter (has_option tool) flags.now)) result }
 {
     for flag in flags {
         put_option(out, tool, *flag)?;
@@ -58,7 +52,8 @@ fn put_options<O: Sink>(out: &mut O, tool: Tool, flags: &[Flag]) -> Result<(), S
 
 // Writes the line of an option, if the tool has it.
 fn put_option<O: Sink>(out: &mut O, tool: Tool, flag: Flag) -> Result<(), SinkFault>
-    ensures { WritesAll (O.state out.old) (O.state out.new) (option_lines tool (flag ∷ [])) result }
+    ensures { WritesAll (O.state out.old) (O.state out.new)
+        (flat_map help_line (filter (has_option tool) (flag ∷ []))) result }
 {
     if !has_option(tool, flag) {
         return put_all(out, b"");
@@ -101,7 +96,7 @@ fn put_row<'a, O: Sink>(
 
 // The value in the line of an option that takes one.
 fn value_column(flag: Flag) -> &'static str
-    ensures { result.now ≡ value_column flag }
+    ensures { result.now ≡ (if takes_value flag then codes "=BITS" else []) }
 {
     if flag.takes_value() { "=BITS" } else { "" }
 }

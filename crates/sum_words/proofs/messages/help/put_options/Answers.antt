@@ -2,8 +2,7 @@ use Rattle.std.proofs.Common.{◌+◌, arith, ◌∙◌, drop}
 use Rattle.std.proofs.lemmas.List.{at_drop_more}
 use Rattle.std.proofs.lemmas.Result.{err_from_is_err_and}
 use Rattle.sum_lines.proofs.SinkLemmas.{Left-step, Left-stop}
-use Rattle.sum_words.specs.Texts.{option_lines}
-use Rattle.sum_words.proofs.TextLemmas.{option_lines_cons}
+use Rattle.sum_words.proofs.TextLemmas.{option_lines, option_lines_cons}
 use Rattle.sum_words.proofs.messages.help.put_options.Goals as goal
 
 -- a line failed

@@ -1,6 +1,6 @@
 use Rattle.std.proofs.Common.{drop}
 use Rattle.sum_lines.proofs.SinkLemmas.{Left}
-use Rattle.sum_words.specs.Texts.{option_lines}
+use Rattle.sum_words.proofs.TextLemmas.{option_lines}
 use Rattle.sum_words.proofs.messages.help.put_options.Given as goal
 
 -- the lines of the remaining options are left
