@@ -5,8 +5,7 @@ use Rattle.sum_words.specs.declared.parsing.request.Request.{Request}
 use Rattle.sum_words.specs.WordFaults.{WordFaultValue}
 use Rattle.sum_words.specs.declared.parsing.request.Request.TheVariants as requests
 
--- out of memory means one refusal more in generation; in checking that or none, if a line needed memory; a fault, help
--- and version need no memory
+-- out of memory means one refusal more in generation, that or none in checking; else no memory is needed
 abbrev pub RefusalsOf : Result Request WordFaultValue → ℕ → ℕ → Type 0
 RefusalsOf (Ok (requests.Generate settings names)) = OneMore
 RefusalsOf (Ok (requests.Check settings names)) = OneMoreAtMost
