@@ -16,8 +16,7 @@ pub data CommandLineValue : Type 0 where
 
 -- the tool and its words: the tool is named by the last part of the program's name, or else by the next argument
 abbrev pub tool_and_words : List ByteString → Option Tool × List ByteString
-tool_and_words all =
-    let called = option_and_then (λ name. tool_called (last_part name)) (slice_get all 0) in
+tool_and_words all = let called = option_and_then (λ name. tool_called (last_part name)) (slice_get all 0) in
     if is_some called then (called, drop 1 all) else (option_and_then tool_called (slice_get all 1), drop 2 all)
 
 -- what a command line asks for; `None` if a word that begins with a dash isn't UTF-8

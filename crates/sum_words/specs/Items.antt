@@ -90,8 +90,7 @@ name_or_fault t name = option_map_or (λ flag. Ok flag) (find (λ flag. bytes_eq
 abbrev pub long_option : Result Flag WordFaultValue → Option ByteString → List ItemValue × NextWord
 long_option (Err f) value = (fault f ∷ [], no_word)
 long_option (Ok flag) None = if takes_value flag then ([], a_value Long) else (option flag ∷ [], a_word)
-long_option (Ok flag) (Some value) =
-    if takes_value flag then (length_value value ∷ [], a_word)
+long_option (Ok flag) (Some value) = if takes_value flag then (length_value value ∷ [], a_word)
     else (fault (value_not_allowed (full_name flag)) ∷ [], no_word)
 
 -- a tool's option of this letter
@@ -103,15 +102,13 @@ abbrev pub attached_value : List ℕ → List ItemValue × NextWord
 attached_value [] = ([], a_value Short)
 attached_value cs = (length_value (encode_utf8_all cs) ∷ [], a_word)
 
--- a letter of a cluster, the option that it means, the letters after it, and what these give by themselves
-abbrev pub letter_then : ℕ → Option Flag → List ℕ → List ItemValue × NextWord → List ItemValue × NextWord
-letter_then c None cs rest = (fault (unknown_short c) ∷ [], no_word)
-letter_then c (Some flag) cs rest = if takes_value flag then attached_value cs else (option flag ∷ rest.0, rest.1)
-
 -- the items of a cluster, letter by letter, and how the next word is read
 abbrev pub cluster : Tool → List ℕ → List ItemValue × NextWord
 cluster t [] = ([], a_word)
-cluster t (c ∷ cs) = letter_then c (option_of_letter t c) cs (cluster t cs)
+cluster t (c ∷ cs) = let rest = cluster t cs in elim (option_of_letter t c) [
+  | None ↦ (fault (unknown_short c) ∷ [], no_word)
+  | Some flag ↦ if takes_value flag then attached_value cs else (option flag ∷ rest.0, rest.1)
+]
 
 -- whether a word can be read: one that begins with a dash has to be UTF-8, any other may hold any bytes
 abbrev pub is_readable : ByteString → Bool

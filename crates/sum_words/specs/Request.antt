@@ -58,8 +58,7 @@ length_kind value = if bytes_eq value [] || not (all_ascii_digits value) then Er
 
 -- the faults of the options in the order in which they count, each after its condition
 abbrev pub faults : List Flag → List (Bool × WordFaultValue)
-faults given =
-    let check = has flags.Check given in
+faults given = let check = has flags.Check given in
     (has flags.Tag given && is_last flags.Text mode_flags given, tag_with_text)
     ∷ (has flags.Zero given && check, zero_with_check)
     ∷ (has flags.Tag given && check, tag_with_check)
@@ -68,8 +67,7 @@ faults given =
     ∷ (is_last flags.Status report_flags given && not check, status_without_check)
     ∷ (is_last flags.Warn report_flags given && not check, warn_without_check)
     ∷ (is_last flags.Quiet report_flags given && not check, quiet_without_check)
-    ∷ (has flags.Strict given && not check, strict_without_check)
-    ∷ []
+    ∷ (has flags.Strict given && not check, strict_without_check) ∷ []
 
 -- the mode of the lines that are written
 abbrev pub mode_of : List Flag → Mode
@@ -89,18 +87,13 @@ generation (One algo) kind given operands =
     let style : Style = record { mode = mode_of given; zero = has flags.Zero given } in
     Ok (Generate (record { kind = unwrap_or kind (full_kind algo); style = style }) operands)
 
--- what the options ask for if none of these faults holds
-abbrev pub request_of_options : Algos → Option KindValue → List Flag → List ByteString → Result Request WordFaultValue
-request_of_options algos kind given operands = if not (has flags.Check given) then generation algos kind given operands
+-- the first of these faults, or what the options ask for
+abbrev pub request_or_fault : Algos → Option KindValue → List Flag → List ByteString → Result Request WordFaultValue
+request_or_fault algos kind given operands =
+    option_map_or Err (option_map (λ row. row.1) (find (λ row. row.0) (faults given)))
+    (if not (has flags.Check given) then generation algos kind given operands
     else Ok (Check (record { algo = algos; report = report_of given; strict = has flags.Strict given;
-      ignore_missing = has flags.IgnoreMissing given }) operands)
-
--- the fault of the length counts first, then the first fault of the options; without one, what the options ask for
-abbrev pub request_or_fault : Algos → Result (Option KindValue) WordFaultValue → List Flag → List ByteString
-    → Result Request WordFaultValue
-request_or_fault algos (Err f) given operands = Err f
-request_or_fault algos (Ok kind) given operands = option_map_or Err
-    (option_map (λ row. row.1) (find (λ row. row.0) (faults given))) (request_of_options algos kind given operands)
+      ignore_missing = has flags.IgnoreMissing given }) operands))
 
 -- the first fault among the items, --help or --version decides if there is one
 abbrev pub early_answer : List ItemValue → Option (Result Request WordFaultValue)
@@ -110,9 +103,10 @@ early_answer (option flags.Help ∷ xs) = Some (Ok Help)
 early_answer (option flags.Version ∷ xs) = Some (Ok Version)
 early_answer (x ∷ xs) = early_answer xs
 
--- what a tool's words ask for, by their items; of the values of --length the last one counts
+-- what a tool's words ask for, by their items; the last value of --length counts, and its fault before others
 abbrev pub request : Tool → List ByteString → Result Request WordFaultValue
-request t words =
-    let xs = items_from t a_word words in
-    let kind = option_transpose (option_map length_kind (last_or None (filter_map value_in xs))) in
-    unwrap_or (early_answer xs) (request_or_fault (algos_of t) kind (filter_map option_in xs) (filter_map operand_in xs))
+request t words = let xs = items_from t a_word words in
+    unwrap_or (early_answer xs) (elim (option_transpose (option_map length_kind (last_or None (filter_map value_in xs)))) [
+      | Ok kind ↦ request_or_fault (algos_of t) kind (filter_map option_in xs) (filter_map operand_in xs)
+      | Err f ↦ Err f
+    ])

@@ -49,8 +49,7 @@ letter_column flag =
 
 -- an option's line of help: its letter, its full name in 18 columns, and its text
 abbrev pub help_line : Flag → ByteString
-help_line flag =
-    let name = codes "--" ++ full_name flag ++ (if takes_value flag then codes "=BITS" else []) in
+help_line flag = let name = codes "--" ++ full_name flag ++ (if takes_value flag then codes "=BITS" else []) in
     letter_column flag ++ name ++ replicate (18 - length name) (byte " ") ++ (row_of flag).2 ++ codes "\n"
 
 -- the text of --help
