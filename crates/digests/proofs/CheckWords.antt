@@ -3,7 +3,7 @@ use Rattle.std.proofs.Common.{◌≡◌, Bool, true, false, not, List, [], ◌�
 use Rattle.std.specs.List.{list_all}
 use Rattle.std.proofs.lemmas.Bool.{and_parts}
 use Rattle.sum_engine.specs.declared.settings.CheckSettings.{CheckSettings}
-use Rattle.sum_words.specs.Request.{Report, request}
+use Rattle.sum_words.specs.Request.{Report, request, request_of_items}
 use Rattle.sum_words.specs.declared.parsing.options.Flag.{Flag}
 use Rattle.sum_words.specs.declared.tool.Tool.{Tool}
 use Rattle.sum_words.specs.declared.parsing.request.Request.TheVariants.{Check}
@@ -65,32 +65,32 @@ items-are t check manifest all = long_words t (check_options check) (codes "--" 
 abbrev settings : Tool → Report → Bool → Bool → CheckSettings
 settings t r s i = record { algo = algos_of t; report = r; strict = s; ignore_missing = i }
 
--- no option of a check takes a value, and words with these items ask for the check
+-- no option of a check takes a value, and what they ask for is the check
 checked : (t : Tool) (m : ByteString) (r : Report) (s i : Bool)
     → (list_all takes_none (check_options (settings t r s i)) ≡ true)
-    × ((words : List ByteString)
-    → items_from t a_word words ≡ map option (check_options (settings t r s i)) ++ operand m ∷ []
-    → request t words ≡ Ok (Check (settings t r s i) (m ∷ [])))
-checked t m reports.All false false = (refl, λ words is. rw is refl)
-checked t m reports.All false true = (refl, λ words is. rw is refl)
-checked t m reports.All true false = (refl, λ words is. rw is refl)
-checked t m reports.All true true = (refl, λ words is. rw is refl)
-checked t m reports.Quiet false false = (refl, λ words is. rw is refl)
-checked t m reports.Quiet false true = (refl, λ words is. rw is refl)
-checked t m reports.Quiet true false = (refl, λ words is. rw is refl)
-checked t m reports.Quiet true true = (refl, λ words is. rw is refl)
-checked t m reports.Warn false false = (refl, λ words is. rw is refl)
-checked t m reports.Warn false true = (refl, λ words is. rw is refl)
-checked t m reports.Warn true false = (refl, λ words is. rw is refl)
-checked t m reports.Warn true true = (refl, λ words is. rw is refl)
-checked t m reports.Status false false = (refl, λ words is. rw is refl)
-checked t m reports.Status false true = (refl, λ words is. rw is refl)
-checked t m reports.Status true false = (refl, λ words is. rw is refl)
-checked t m reports.Status true true = (refl, λ words is. rw is refl)
+    × (request_of_items t (map option (check_options (settings t r s i)) ++ operand m ∷ [])
+    ≡ Ok (Check (settings t r s i) (m ∷ [])))
+checked t m reports.All false false = (refl, refl)
+checked t m reports.All false true = (refl, refl)
+checked t m reports.All true false = (refl, refl)
+checked t m reports.All true true = (refl, refl)
+checked t m reports.Quiet false false = (refl, refl)
+checked t m reports.Quiet false true = (refl, refl)
+checked t m reports.Quiet true false = (refl, refl)
+checked t m reports.Quiet true true = (refl, refl)
+checked t m reports.Warn false false = (refl, refl)
+checked t m reports.Warn false true = (refl, refl)
+checked t m reports.Warn true false = (refl, refl)
+checked t m reports.Warn true true = (refl, refl)
+checked t m reports.Status false false = (refl, refl)
+checked t m reports.Status false true = (refl, refl)
+checked t m reports.Status true false = (refl, refl)
+checked t m reports.Status true true = (refl, refl)
 
 -- so the words ask for the check
 pub request-check_words : (t : Tool) (check : CheckSettings) (manifest : ByteString) → check.algo ≡ algos_of t
     → request t (check_words check manifest) ≡ Ok (Check check (manifest ∷ []))
 request-check_words t check manifest h =
     let is = checked t manifest check.report check.strict check.ignore_missing in
-    is.1 (check_words check manifest) (items-are t check manifest is.0) ∙ ap (λ a. Ok (Check (record check { algo = a }) (manifest ∷ []))) (sym h)
+    ap (request_of_items t) (items-are t check manifest is.0) ∙ is.1
+    ∙ ap (λ a. Ok (Check (record check { algo = a }) (manifest ∷ []))) (sym h)

@@ -103,10 +103,14 @@ early_answer (option flags.Help ∷ xs) = Some (Ok Help)
 early_answer (option flags.Version ∷ xs) = Some (Ok Version)
 early_answer (x ∷ xs) = early_answer xs
 
--- what a tool's words ask for, by their items; the last value of --length counts, and its fault before others
-abbrev pub request : Tool → List ByteString → Result Request WordFaultValue
-request t words = let xs = items_from t a_word words in
+-- what a tool's items ask for; the last value of --length counts, and its fault precedes those of the options
+abbrev pub request_of_items : Tool → List ItemValue → Result Request WordFaultValue
+request_of_items t xs =
     unwrap_or (early_answer xs) (elim (option_transpose (option_map length_kind (last_or None (filter_map value_in xs)))) [
       | Ok kind ↦ request_or_fault (algos_of t) kind (filter_map option_in xs) (filter_map operand_in xs)
       | Err f ↦ Err f
     ])
+
+-- what a tool's words ask for
+abbrev pub request : Tool → List ByteString → Result Request WordFaultValue
+request t words = request_of_items t (items_from t a_word words)
