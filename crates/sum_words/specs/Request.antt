@@ -3,12 +3,10 @@ use denote.Enum.Bare.{sameb}
 use Rattle.std.specs.Prelude.{◌&&◌, ◌||◌, not, Bool, List, [], ◌∷◌, false, Option, None, Some, Result, Ok, Err, if◌then◌else◌, unwrap_or, option_map, filter, find, bytes_eq, filter_map}
 use Rattle.std.specs.List.{last_or, list_any}
 use Rattle.std.specs.Option.{option_transpose, option_map_or}
-use Rattle.std.specs.Result.{result_map_both}
 use Rattle.std.specs.Str.{all_ascii_digits}
 use Rattle.std.specs.Str.Parse.{digits_value}
 use Rattle.sum_words.specs.Tools.{Algos, Tool, algos_of}
 use Rattle.digest_kinds.specs.declared.algo.Algos.TheVariants.{One, Any}
-use Rattle.digest_kinds.specs.declared.kind.LengthFault.{LengthFault}
 use Rattle.digest_kinds.specs.declared.kind.LengthFault.TheVariants.{TooLong, NotBytes}
 use Rattle.digest_kinds.specs.Kinds.{KindValue, full_kind, blake2b_of_bits}
 pub use Rattle.sum_lines.specs.declared.writing.put_line.Mode.{Mode}
@@ -46,15 +44,11 @@ report_flag reports.Quiet = Some flags.Quiet
 report_flag reports.Warn = Some flags.Warn
 report_flag reports.Status = Some flags.Status
 
--- the fault of a length value, by the fault of its bits
-abbrev pub length_fault : ByteString → LengthFault → WordFaultValue
-length_fault value TooLong = length_invalid value
-length_fault value NotBytes = length_not_bytes value
-
 -- the kind that a length value asks for, which is one or more digits: the number of bits
 abbrev pub length_kind : ByteString → Result KindValue WordFaultValue
 length_kind value = if bytes_eq value [] || not (all_ascii_digits value) then Err (length_invalid value)
-    else result_map_both (λ kind. kind) (length_fault value) (blake2b_of_bits (digits_value 10 value))
+    else elim (blake2b_of_bits (digits_value 10 value))
+    [ Ok kind ↦ Ok kind | Err TooLong ↦ Err (length_invalid value) | Err NotBytes ↦ Err (length_not_bytes value) ]
 
 -- the faults of the options in the order in which they count, each after its condition
 abbrev pub faults : List Flag → List (Bool × WordFaultValue)
@@ -108,8 +102,7 @@ abbrev pub request_of_items : Tool → List ItemValue → Result Request WordFau
 request_of_items t xs =
     unwrap_or (early_answer xs) (elim (option_transpose (option_map length_kind (last_or None (filter_map value_in xs)))) [
       | Ok kind ↦ request_or_fault (algos_of t) kind (filter_map option_in xs) (filter_map operand_in xs)
-      | Err f ↦ Err f
-    ])
+      | Err f ↦ Err f ])
 
 -- what a tool's words ask for
 abbrev pub request : Tool → List ByteString → Result Request WordFaultValue
