@@ -107,7 +107,8 @@ abbrev pub cluster : Tool → List ℕ → List ItemValue × NextWord
 cluster t [] = ([], a_word)
 cluster t (c ∷ cs) = let rest = cluster t cs in elim (option_of_letter t c) [
   | Some flag ↦ if takes_value flag then attached_value cs else (option flag ∷ rest.0, rest.1)
-  | None ↦ (fault (unknown_short c) ∷ [], no_word) ]
+  | None ↦ (fault (unknown_short c) ∷ [], no_word)
+]
 
 -- whether a word can be read: one that begins with a dash has to be UTF-8, any other may hold any bytes
 abbrev pub is_readable : ByteString → Bool

@@ -86,8 +86,12 @@ abbrev pub request_or_fault : Algos → Option KindValue → List Flag → List 
 request_or_fault algos kind given operands =
     option_map_or Err (option_map (λ row. row.1) (find (λ row. row.0) (faults given)))
     (if not (has flags.Check given) then generation algos kind given operands
-    else Ok (Check (record { algo = algos; report = report_of given; strict = has flags.Strict given;
-      ignore_missing = has flags.IgnoreMissing given }) operands))
+    else Ok (Check (record {
+      algo = algos;
+      report = report_of given;
+      strict = has flags.Strict given;
+      ignore_missing = has flags.IgnoreMissing given;
+    }) operands))
 
 -- the first fault among the items, --help or --version decides if there is one
 abbrev pub early_answer : List ItemValue → Option (Result Request WordFaultValue)
@@ -102,7 +106,8 @@ abbrev pub request_of_items : Tool → List ItemValue → Result Request WordFau
 request_of_items t xs =
     unwrap_or (early_answer xs) (elim (option_transpose (option_map length_kind (last_or None (filter_map value_in xs)))) [
       | Ok kind ↦ request_or_fault (algos_of t) kind (filter_map option_in xs) (filter_map operand_in xs)
-      | Err f ↦ Err f ])
+      | Err f ↦ Err f
+    ])
 
 -- what a tool's words ask for
 abbrev pub request : Tool → List ByteString → Result Request WordFaultValue

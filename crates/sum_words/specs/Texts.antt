@@ -1,6 +1,6 @@
 -- The texts that the program itself writes: of faults, help and version, and the lines for an unknown tool, for words
 -- that could not be read and for a stop.
-use Rattle.std.specs.Prelude.{List, [], ◌-◌, ◌++◌, codes, flat_map, if◌then◌else◌, length, replicate, encode_utf8, bytes_eq}
+use Rattle.std.specs.Prelude.{[], ◌-◌, ◌++◌, codes, flat_map, if◌then◌else◌, length, replicate, encode_utf8, bytes_eq}
 use Rattle.std.specs.Str.{byte}
 use Rattle.sum_words.specs.Tools.{Algos, Tool, name_of, algos_of}
 use Rattle.digest_kinds.specs.declared.algo.Algos.TheVariants.{One, Any}

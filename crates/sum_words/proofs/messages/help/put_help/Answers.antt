@@ -10,12 +10,12 @@ pub returns-in_err-put_parts : goal.returns-in_err-put_parts
 returns-in_err-put_parts g c =
     let failed = err_from_is_err_and c.from_residual.result c.from_residual.ensures.1 in
     let wrote = rw (usage_parts _ _ _ _ _ _ (c.as_bytes.ensures.value ∙ c.name.ensures) c.purpose.ensures)
-      at c.in_err-put_parts.ensures in
+    at c.in_err-put_parts.ensures in
     rw failed.1 (Left-stop (option_lines c.args.tool all_flags) Left-all refl wrote)
 
 -- they were written, and then those of the options
 pub returns : goal.returns
 returns g c =
     let wrote = rw (usage_parts _ _ _ _ _ _ (c.as_bytes.ensures.value ∙ c.name.ensures) c.purpose.ensures)
-      at c.in_ok-put_parts.ensures in
+    at c.in_ok-put_parts.ensures in
     Left-last _ c.put_options.result (Left-step _ Left-all refl wrote) (rw c.all_flags.ensures at c.put_options.ensures)
