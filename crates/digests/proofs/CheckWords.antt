@@ -1,5 +1,6 @@
 -- The words of a check ask for that check.
-use Rattle.std.proofs.Common.{◌≡◌, Bool, true, false, not, List, [], ◌∷◌, ◌++◌, map, find, codes, None, Some, Ok, refl, ap, sym, ◌∙◌, bytes_eq}
+use Rattle.std.proofs.Common.{rules, arith, ◌≡◌, Bool, true, false, not, List, [], ◌∷◌, ◌++◌, map, find, codes, None, Some, Ok, refl, ap, sym, ◌∙◌, bytes_eq}
+use Rattle.std.proofs.lemmas.Grind.{common_steps}
 use Rattle.std.specs.List.{list_all}
 use Rattle.std.proofs.lemmas.Bool.{and_parts}
 use Rattle.sum_engine.specs.declared.settings.CheckSettings.{CheckSettings}
@@ -22,9 +23,7 @@ takes_none flag = not (takes_value flag)
 -- the full name of one means it
 named : (t : Tool) (flag : Flag) → takes_none flag ≡ true
     → find (λ f. bytes_eq (full_name flag) (full_name f)) (flags_of t) ≡ Some flag
-named t flags.Length h = let no : false ≡ true = h in cc
-named tools.B2sum flag h = refl
-named t flag h = refl
+named = search rules
 
 -- how its word is read
 abbrev IsLong : Flag → Type 0
@@ -32,8 +31,7 @@ IsLong flag = (takes_value flag ≡ false) × (name_part (full_name flag) ≡ fu
     × (value_part (full_name flag) ≡ None) × (bytes_eq (codes "--" ++ full_name flag) (codes "--") ≡ false)
 
 is-long : (flag : Flag) → takes_none flag ≡ true → IsLong flag
-is-long flags.Length h = let no : false ≡ true = h in cc
-is-long flag h = (refl, refl, refl, refl)
+is-long = search rules
 
 long_name : (t : Tool) (flag : Flag) → takes_none flag ≡ true → name_or_fault t (full_name flag) ≡ Ok flag
 unfolding name_or_fault
@@ -70,22 +68,7 @@ checked : (t : Tool) (m : ByteString) (r : Report) (s i : Bool)
     → (list_all takes_none (check_options (settings t r s i)) ≡ true)
     × (request_of_items t (map option (check_options (settings t r s i)) ++ operand m ∷ [])
     ≡ Ok (Check (settings t r s i) (m ∷ [])))
-checked t m reports.All false false = (refl, refl)
-checked t m reports.All false true = (refl, refl)
-checked t m reports.All true false = (refl, refl)
-checked t m reports.All true true = (refl, refl)
-checked t m reports.Quiet false false = (refl, refl)
-checked t m reports.Quiet false true = (refl, refl)
-checked t m reports.Quiet true false = (refl, refl)
-checked t m reports.Quiet true true = (refl, refl)
-checked t m reports.Warn false false = (refl, refl)
-checked t m reports.Warn false true = (refl, refl)
-checked t m reports.Warn true false = (refl, refl)
-checked t m reports.Warn true true = (refl, refl)
-checked t m reports.Status false false = (refl, refl)
-checked t m reports.Status false true = (refl, refl)
-checked t m reports.Status true false = (refl, refl)
-checked t m reports.Status true true = (refl, refl)
+checked = grind (arith, common_steps)
 
 -- so the words ask for the check
 pub request-check_words : (t : Tool) (check : CheckSettings) (manifest : ByteString) → check.algo ≡ algos_of t

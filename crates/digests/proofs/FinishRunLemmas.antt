@@ -16,9 +16,7 @@ no_prefix (b ∷ bs) rest h = cc
 
 -- a flush of a sink that buffers nothing writes nothing
 pub flushed-none : (a b : Option ByteString) {held : ByteString} → Appends a b held → held ≡ [] → Keeps a b
-flushed-none None b h none = tt
-flushed-none (Some x) None h none = h
-flushed-none (Some x) (Some y) h none = h ∙ ap (λ l. x ++ l) none ∙ append-nil x
+flushed-none = search rules
 
 -- also if it fails
 pub dropped-none : (a b : SinkState) → FlushFailed a b → a.buffered ≡ [] → Keeps a.written b.written
@@ -28,8 +26,7 @@ dropped-none a b h none =
 -- the line for a stop was written, or a prefix of it
 pub tells-stop : {E : Type 0} (line : ByteString) (a b : SinkState) (r : Result (Unit {0}) E) → a.buffered ≡ []
     → WritesAndFlushes a b line r → WritesLine line a b
-tells-stop line a b (Ok u) none h = (line, (h.1 none).1, inl (refl, h.0))
-tells-stop line a b (Err x) none h = let part = (h.1 none).1 in (part.0, part.2, inr (part.1, h.0))
+tells-stop = search rules
 
 -- both outputs were flushed after a run, from a to b and from c to e, and it stopped then or before; then the line was
 -- written
@@ -37,6 +34,4 @@ pub closes-stop : {E : Type 0} (line : Stop → ByteString) (answer : Result ℕ
     (r : Result (Unit {0}) E) → FlushesBoth a b c e answer (Err stop) → Keeps a.written b.written
     → Keeps c.written e.written → e.buffered ≡ [] → WritesAndFlushes e d (line stop) r
     → FinishesRun line answer a b c d 1
-closes-stop line (Ok x) Memory a b c e d r settled kept still none told = absurd settled
-closes-stop line (Ok x) Write a b c e d r settled kept still none told = search rules
-closes-stop line (Err s) stop a b c e d r settled kept still none told = search rules
+closes-stop = search rules

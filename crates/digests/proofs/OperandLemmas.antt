@@ -98,5 +98,4 @@ read_step state false this x y z h k all = let no : false ≡ true = all in cc
 -- so are all at status 0
 pub read_end : {R : Type 0} (status : ℕ) (good : Bool) → status ≡ status_of good → (good ≡ true → R)
     → (let answer : Result ℕ Stop = Ok status in let zero : Result ℕ Stop = Ok 0 in answer ≡ zero) → R
-read_end status true is h answer = h refl
-read_end status false is h answer = let no : ◌≡◌ {A = ℕ} 1 0 = cc in cc
+read_end = search rules

@@ -24,8 +24,7 @@ use Rattle.digests.proofs.MessageLemmas.{accounts_on_err}
 -- one output failed, and none had before
 failed_since : {S : Type 0} (a b : StreamsState S) (out err : SinkState) (x y : ℕ) → FailuresMatch a b (Ok x)
     → OneFailed b.out out b.err err → FailuresMatch {A = ℕ} a (record b { out = out; err = err }) (Err Write)
-failed_since a b out err x y h (inl k) = inl (k.0 ∙ ap one_more h.0, k.1 ∙ h.1)
-failed_since a b out err x y h (inr k) = inr (k.0 ∙ h.0, k.1 ∙ ap one_more h.1)
+failed_since = search rules
 
 -- nothing more was done
 did_kept : {a b : KnownState} (es : List Event) (out err : SinkState) → Happened a b es

@@ -1,5 +1,5 @@
 -- The reading of the arguments, one after another, gives the command line.
-use Rattle.std.proofs.Common.{ℕ, ◌≡◌, ◌+◌, ◌-◌, ◌<◌, ◌≤◌, true, false, not, ◌==◌, zero, suc, List, [], ◌∷◌, length, drop, Some, None, refl, ap, sym, ◌∙◌, arith, inl, inr, add-one, slice_get, Option, ◌++◌, Any, IsSomeAnd}
+use Rattle.std.proofs.Common.{rules, ℕ, ◌≡◌, ◌+◌, ◌-◌, ◌<◌, ◌≤◌, true, false, not, ◌==◌, zero, suc, List, [], ◌∷◌, length, drop, Some, None, refl, ap, sym, ◌∙◌, arith, inl, inr, add-one, slice_get, Option, ◌++◌, Any, IsSomeAnd}
 use Rattle.std.proofs.lemmas.List.Sums.{suffix_len_is}
 use Rattle.std.proofs.lemmas.Bool.{not_from_false, not_from_true, false_from_ne_true}
 use Rattle.std.specs.List.{suffix_len}
@@ -50,14 +50,12 @@ has_argument known first place word h le =
 -- the tool by the first word
 pub is_first_word : (known : Option (List ByteString)) (word : ByteString) (tool : Option Tool)
     → ArgumentIs known 1 (Some word) → true ≡ is_readable word → tool ≡ tool_called word → IsFirstWord known tool
-is_first_word known word tool h reads is = IfSome_then known h (λ all at.
-    (rw at is, rw (drop_at_some all 1 at, ← reads) refl))
+is_first_word = search rules
 
 -- the first word, which can't be read
 pub unreadable_first_word : (known : Option (List ByteString)) (word : ByteString)
     → ArgumentIs known 1 (Some word) → false ≡ is_readable word → MayBeUnread known
-unreadable_first_word None word h bad = tt
-unreadable_first_word (Some all) word h bad = inl (rw (drop_at_some all 1 h, ← bad) refl)
+unreadable_first_word = search rules
 
 -- a long argument is one of them
 longer : (all : List ByteString) (place : ℕ) → IsSomeAnd (slice_get all place) (λ a. 4096 < length a)

@@ -1,5 +1,5 @@
 -- The options that a name may mean.
-use Rattle.std.proofs.Common.{◌≡◌, ◌==◌, ◌&&◌, Bool, true, false, List, [], ◌∷◌, None, refl, ap, if◌then◌else◌, filter, find, bytes_eq}
+use Rattle.std.proofs.Common.{rules, ◌≡◌, ◌==◌, ◌&&◌, Bool, true, false, List, [], ◌∷◌, None, refl, ap, if◌then◌else◌, filter, find, bytes_eq}
 use Rattle.std.specs.List.{starts_with}
 use Rattle.sum_words.specs.Tools.{Tool}
 use Rattle.sum_words.specs.Items.{ByteString, full_name, all_flags, flags_of, has_option, the_one, name_or_fault}
@@ -22,5 +22,4 @@ pub name_begun : (t : Tool) (name : ByteString) → find (λ flag. bytes_eq name
     → name_or_fault t name
     ≡ the_one name (filter (λ flag. has_option t flag && starts_with ◌==◌ (full_name flag) name) all_flags)
 unfolding name_or_fault
-name_begun t name none =
-    rw none (ap (the_one name) (filter_twice (λ flag. starts_with ◌==◌ (full_name flag) name) (has_option t) all_flags))
+name_begun = search rules

@@ -1,5 +1,5 @@
 -- Plain words are operands.
-use Rattle.std.proofs.Common.{◌≡◌, true, false, List, [], ◌∷◌, ◌++◌, codes, refl, ap, ◌∙◌, bytes_eq}
+use Rattle.std.proofs.Common.{rules, ◌≡◌, true, false, List, [], ◌∷◌, ◌++◌, codes, refl, ap, ◌∙◌, bytes_eq}
 use Rattle.std.proofs.lemmas.Bool.{false_from_ne_true}
 use Rattle.std.proofs.lemmas.Slice.Eq.{bytes_eq-Decides}
 use Rattle.std.proofs.lemmas.List.Elements.{All-head, All-tail}
@@ -9,8 +9,7 @@ use Rattle.sum_words.specs.PlainWords.{is_plain, PlainWordsAreOperands}
 
 -- two dashes are no plain word
 no_dashes : (word : ByteString) → is_plain word ≡ true → bytes_eq word (codes "--") ≡ false
-no_dashes word h = false_from_ne_true _ (λ same.
-    let no : false ≡ true = rw ((bytes_eq-Decides word (codes "--")).0 same) at h in cc)
+no_dashes = search rules
 
 -- a plain word is an operand
 plain_word : (t : Tool) (word : ByteString) (more : List ByteString) → is_plain word ≡ true

@@ -1,5 +1,6 @@
 -- The options read so far, and the number of a length value.
-use Rattle.std.proofs.Common.{◌≡◌, ◌≢◌, ℕ, zero, suc, get_or, ◌<◌, ◌^◌, true, List, [], ◌∷◌, length, Result, Ok, Err, refl, arith, inl, inr, IsUtf8}
+use Rattle.std.proofs.Common.{rules, ◌≡◌, ◌≢◌, ℕ, zero, suc, get_or, ◌<◌, ◌^◌, true, List, [], ◌∷◌, length, Result, Ok, Err, refl, arith, inl, inr, IsUtf8}
+use Rattle.std.proofs.lemmas.Grind.{common_steps}
 use Rattle.std.specs.Result.{result_ok, OkIff}
 use Rattle.std.specs.Str.{all_ascii_digits}
 use Rattle.std.specs.Str.Parse.{ParsesUnsigned, digits_value}
@@ -14,9 +15,7 @@ use Rattle.sum_words.specs.declared.parsing.options.Flag.TheVariants as flags
 -- an option other than help and version decides no answer
 pub no_early_answer : (flag : Flag) (rest : List ItemValue) → flag ≢ flags.Help → flag ≢ flags.Version
     → early_answer (option flag ∷ rest) ≡ early_answer rest
-no_early_answer flags.Help rest help version = absurd (help refl)
-no_early_answer flags.Version rest help version = absurd (version refl)
-no_early_answer flag rest help version = refl
+no_early_answer = search rules
 
 -- digits are a text
 digits_ascii : (value : ByteString) → all_ascii_digits value ≡ true → (i : ℕ) → get_or value i 0 < 128
@@ -35,13 +34,7 @@ numerals = numerals_by_value _ tells_all_ascii_digits
 number_of_digits : {E : Type 0} (value : ByteString) (r : Result ℕ E)
     → OkIff r ((0 < length value) × (digits_value 10 value < 2 ^ 64)) (digits_value 10 value)
     → all_ascii_digits value ≡ true → IsNumberOf value (result_ok r)
-number_of_digits [] (Ok n) h digits = absurd (omega (arith, h.0.0))
-number_of_digits [] (Err e) h digits = λ number. cc
-number_of_digits (b ∷ bs) (Ok n) h digits = (digits, h.1)
-number_of_digits (b ∷ bs) (Err e) h digits = λ number. elim (cases_lt (digits_value 10 (b ∷ bs)) (2 ^ 64)) [
-  | inl small ↦ absurd (h (omega arith, small))
-  | inr large ↦ large
-]
+number_of_digits = grind (arith, common_steps)
 
 -- the same by the contract of parsing
 pub number_parsed : {E : Type 0} (value : ByteString) (r : Result ℕ E) → ParsesUnsigned 64 10 value r

@@ -1,5 +1,6 @@
 -- Worked command lines: what the definitions give for each, computed.
-use Rattle.std.proofs.Common.{◌≡◌, ◌==◌, ◌≤◌, ◌<◌, List, ℕ, [], ◌∷◌, Result, Ok, Err, Option, Some, None, is_some, if◌then◌else◌, refl, codes, true, false, length, inl, inr, arith, lit≤, Any as SomeOne}
+use Rattle.std.proofs.Common.{rules, ◌≡◌, ◌==◌, ◌≤◌, ◌<◌, List, ℕ, [], ◌∷◌, Result, Ok, Err, Option, Some, None, is_some, if◌then◌else◌, refl, codes, true, false, length, inl, inr, arith, lit≤, Any as SomeOne}
+use Rattle.std.proofs.lemmas.Grind.{common_steps}
 use Rattle.std.specs.List.{AllByRecursion, slice_split}
 use Rattle.std.proofs.lemmas.List.Elements.{All-from_recursion}
 use Rattle.std.specs.Str.{byte, chars, is_utf8}
@@ -114,22 +115,13 @@ odd_words = (refl, refl, refl, refl, refl)
 -- no argument of these is longer than the page
 not_longer : (all : List ByteString) → AllByRecursion (λ a. length a ≤ 4096) all → SomeOne (λ a. 4096 < length a) all
     → ⊥
-not_longer all short (k, a, less, at, long) =
-    let fits = All-from_recursion (λ a. length a ≤ 4096) all short k a less in
-    absurd (omega (arith, rw at at fits, long))
+not_longer = grind (arith, common_steps)
 
 -- a command line without a word is always read, if the name is no longer than the page
 no_words : (name : ByteString) → length name ≤ 4096 → MayNotRead (name ∷ []) → ⊥
-no_words name h (inl none) = cc
-no_words name h (inr (inl kept)) = elim (tool_called (last_part name)) as (λ o.
-    let called : Option Tool × List ByteString = if is_some o then (o, []) else (None, []) in 0 < length called.1 → ⊥) [
-      | None ↦ λ some. absurd (omega (arith, some))
-      | Some tool ↦ λ some. absurd (omega (arith, some))
-    ] kept
-no_words name h (inr (inr long)) = not_longer (name ∷ []) (h, tt) long
+no_words = search rules
 
 -- a word that names the tool needs no memory
 only_tool : NeedsMemory (words "digests md5sum") → ⊥
 unfolding tool_called
-only_tool (inl kept) = absurd (omega (arith, kept))
-only_tool (inr long) = not_longer (words "digests md5sum") (lit≤ tt, (lit≤ tt, tt)) long
+only_tool = search rules

@@ -1,5 +1,6 @@
 -- Texts that are written in parts are those of the definitions.
-use Rattle.std.proofs.Common.{◌≡◌, ◌+◌, ◌++◌, List, codes, length, length-append, arith, [], ◌∷◌, true, false, if◌then◌else◌, filter, flat_map, refl, append_assoc}
+use Rattle.std.proofs.Common.{rules, ◌≡◌, ◌+◌, ◌++◌, List, codes, length, length-append, arith, [], ◌∷◌, true, false, if◌then◌else◌, filter, flat_map, refl, append_assoc}
+use Rattle.std.proofs.lemmas.Grind.{common_steps}
 use Rattle.std.proofs.lemmas.List.{append-nil}
 use Rattle.sum_words.specs.Tools.{Tool}
 use Rattle.sum_words.specs.Items.{ByteString, Flag, has_option}
@@ -17,8 +18,7 @@ pub usage_parts : {n n' p : ByteString} (usage operands prefix tag suffix input 
     → prefix ++ tag ++ suffix ≡ p
     → usage ++ (n ++ (operands ++ (prefix ++ (tag ++ (suffix ++ (input ++ []))))))
     ≡ usage ++ n' ++ operands ++ p ++ input
-usage_parts usage operands prefix tag suffix input name purpose =
-    rw (← name, ← purpose) (simp (append_assoc, append-nil))
+usage_parts = grind (arith, common_steps)
 
 -- an option's line of help
 pub row_parts : {column name' value' spaces' text' : ByteString}
@@ -26,8 +26,7 @@ pub row_parts : {column name' value' spaces' text' : ByteString}
     → prefix ++ letter ++ suffix ≡ column → name ≡ name' → value ≡ value' → spaces ≡ spaces' → text ≡ text'
     → prefix ++ (letter ++ (suffix ++ (dashes ++ (name ++ (value ++ (spaces ++ (text ++ (end ++ []))))))))
     ≡ column ++ (dashes ++ name' ++ value') ++ spaces' ++ text' ++ end
-row_parts prefix letter suffix dashes name value spaces text end c n v s t =
-    rw (← c, ← n, ← v, ← s, ← t) (simp (append_assoc, append-nil))
+row_parts = grind (arith, common_steps)
 
 -- the columns that an option's name and value take
 pub columns_are : {name value : ByteString} (n v : ByteString) → n ≡ name → v ≡ value
@@ -41,9 +40,4 @@ option_lines t flags = flat_map help_line (filter (has_option t) flags)
 -- those of one option and the others
 pub option_lines_cons : (t : Tool) (flag : Flag) (flags : List Flag)
     → option_lines t (flag ∷ flags) ≡ option_lines t (flag ∷ []) ++ option_lines t flags
-option_lines_cons t flag flags = elim (has_option t flag) as (λ b.
-    flat_map help_line (if b then flag ∷ filter (has_option t) flags else filter (has_option t) flags)
-    ≡ flat_map help_line (if b then flag ∷ [] else []) ++ flat_map help_line (filter (has_option t) flags)) [
-      | true ↦ rw append-nil refl
-      | false ↦ refl
-    ]
+option_lines_cons = search rules

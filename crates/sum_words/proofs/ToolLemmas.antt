@@ -1,13 +1,12 @@
 -- The search for a tool by its name.
-use Rattle.std.proofs.Common.{◌≡◌, ◌↔◌, List, ℕ, Option, Some, IfSome, refl, ◌∙◌}
+use Rattle.std.proofs.Common.{rules, ◌≡◌, ◌↔◌, List, ℕ, Option, Some, IfSome, refl, ◌∙◌}
 use Rattle.sum_words.specs.Tools.{Tool, name_of, tool_called}
 use Rattle.sum_words.specs.declared.tool.Tool.TheVariants as tools
 
 -- each tool is found by its own name
 called_by_name : (tool : Tool) → tool_called (name_of tool) ≡ Some tool
 unfolding tool_called
-called_by_name tools.Md5sum = refl
-called_by_name tool = refl
+called_by_name = search rules
 
 -- so the tool that is called by a word, and no other, has this name
 pub named : (word : List ℕ) (r : Option Tool) → r ≡ tool_called word → IfSome r (λ tool. name_of tool ≡ word)

@@ -1,5 +1,5 @@
 -- One word: its prefixes, its characters, and what is left of it for a value.
-use Rattle.std.proofs.Common.{◌≡◌, ◌==◌, ◌≢◌, ℕ, ◌+◌, true, false, List, [], ◌∷◌, ◌++◌, codes, length, drop, Option, None, Some, Result, Ok, Err, is_ok, refl, ap, sym, ◌∙◌, eqb, MatchOption, MatchResult, chars, encode_utf8_all, IsUtf8, encode_utf8}
+use Rattle.std.proofs.Common.{rules, ◌≡◌, ◌==◌, ◌≢◌, ℕ, ◌+◌, true, false, List, [], ◌∷◌, ◌++◌, codes, length, drop, Option, None, Some, Result, Ok, Err, is_ok, refl, ap, sym, ◌∙◌, eqb, MatchOption, MatchResult, chars, encode_utf8_all, IsUtf8, encode_utf8}
 use denote.Ref.{Bor}
 use Rattle.std.specs.List.{starts_with}
 use Rattle.std.specs.Str.{is_utf8}
@@ -32,10 +32,7 @@ starts_with_dash b bs h = sym (eqb-true 45 b (sym (and-true (eqb 45 b)) ∙ h))
 
 -- something follows the dash of a word that begins with one and goes on
 pub nonempty_after_dash : (word rest : List ℕ) → is_option_word word ≡ true → rest ≡ drop 1 word → rest ≡ [] → ⊥
-nonempty_after_dash [] rest h behind none = let no : false ≡ true = h in cc
-nonempty_after_dash (b ∷ []) rest h behind none =
-    let dash = starts_with_dash b [] (and_parts _ _ h).0 in let no : false ≡ true = rw dash at h in cc
-nonempty_after_dash (b ∷ c ∷ cs) rest h behind none = cc
+nonempty_after_dash = search rules
 
 -- such a word that can be read is a text
 pub option_text : (word : List ℕ) → is_readable word ≡ true → is_option_word word ≡ true → IsUtf8 word
