@@ -11,9 +11,6 @@ use Rattle.sum_words.specs.declared.parsing.request.Request.TheVariants.{Check}
 use Rattle.sum_words.specs.Tools.{algos_of}
 use Rattle.sum_words.specs.Items.{ByteString, option, operand, a_word, items_from, full_name, flags_of, takes_value, name_part, value_part, name_or_fault}
 use Rattle.digests.specs.GenerationRuns.{check_options, check_words}
-use Rattle.sum_engine.specs.declared.settings.Report.TheVariants as reports
-use Rattle.sum_words.specs.declared.parsing.options.Flag.TheVariants as flags
-use Rattle.sum_words.specs.declared.tool.Tool.TheVariants as tools
 
 -- ---- long options that every tool has, and that take no value
 

@@ -1,9 +1,8 @@
 -- The end of a program: a run that answered, both outputs flushed once more, and the line for a stop.
-use Rattle.std.proofs.Common.{rules, ◌≡◌, ℕ, [], ◌∷◌, ◌++◌, Option, None, Some, Result, Ok, Err, refl, ap, ◌∙◌, inl, inr, append-nil}
+use Rattle.std.proofs.Common.{rules, ◌≡◌, ℕ, [], ◌∷◌, ◌++◌, Option, Result, Err, refl}
 use Rattle.std.specs.Io.KnownBytes.{Keeps, Appends}
 use Rattle.sum_lines.specs.sinks.Sinks.{SinkState, FlushFailed}
 use Rattle.sum_engine.specs.declared.stop.Stop.{Stop}
-use Rattle.sum_engine.specs.declared.stop.Stop.TheVariants.{Memory, Write}
 use Rattle.sum_engine.specs.refinement.FlushedWrites.{WritesAndFlushes}
 use Rattle.sum_words.specs.Items.{ByteString}
 use Rattle.digests.specs.Program.{WritesLine}

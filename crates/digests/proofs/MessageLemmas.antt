@@ -12,30 +12,30 @@ use Rattle.digests.specs.Meaning.{status_of}
 use Rattle.digests.specs.refinement.Operands.{status_after_write}
 
 -- a text alone was written to standard output, or a prefix of it
-pub told_on_out : {S E : Type 0} (state : S → SourceState) (a : StreamsState S) (out : SinkState) (text : ByteString)
+pub known_on_out : {S E : Type 0} (state : S → SourceState) (a : StreamsState S) (out : SinkState) (text : ByteString)
     (r : Result (Unit {0}) E) → a.out.buffered ≡ [] → WritesAndFlushes a.out out text r
     → Runs state (λ w. single_step [] [] text true) status_of a (record a { out = out }) (status_after_write r 0)
-told_on_out state a out text (Ok u) none h = where_known state a (record a { out = out }) _ (same_known _)
+known_on_out state a out text (Ok u) none h = where_known state a (record a { out = out }) _ (same_known _)
     (λ w v same. (
       refl,
       rw (append-nil (events_by [] [] text)) (
           did_by [] [] text (asks_none same refl refl) (Appends-nil a.err.written) (h.1 none).1),
     ))
-told_on_out state a out text (Err e) none h = where_known state a (record a { out = out }) _ (same_known _) (λ w v same.
+known_on_out state a out text (Err e) none h = where_known state a (record a { out = out }) _ (same_known _) (λ w v same.
     rw (append-nil (events_by [] [] text)) (
     prefix_out [] [] text (asks_none same refl refl) (Appends-nil a.err.written) (h.1 none).1))
 
 -- a text alone was written to standard error, or a prefix of it
-pub told_on_err : {S E : Type 0} (state : S → SourceState) (a : StreamsState S) (err : SinkState) (text : ByteString)
+pub known_on_err : {S E : Type 0} (state : S → SourceState) (a : StreamsState S) (err : SinkState) (text : ByteString)
     (r : Result (Unit {0}) E) → a.err.buffered ≡ [] → WritesAndFlushes a.err err text r
     → Runs state (λ w. single_step [] text [] false) status_of a (record a { err = err }) (status_after_write r 1)
-told_on_err state a err text (Ok u) none h = where_known state a (record a { err = err }) _ (same_known _)
+known_on_err state a err text (Ok u) none h = where_known state a (record a { err = err }) _ (same_known _)
     (λ w v same. (
       refl,
       rw (append-nil (events_by [] text [])) (
           did_by [] text [] (asks_none same refl refl) (h.1 none).1 (Appends-nil a.out.written)),
     ))
-told_on_err state a err text (Err e) none h = where_known state a (record a { err = err }) _ (same_known _) (λ w v same.
+known_on_err state a err text (Err e) none h = where_known state a (record a { err = err }) _ (same_known _) (λ w v same.
     rw (append-nil (events_by [] text [])) (
     prefix_err [] text [] (asks_none same refl refl) (h.1 none).1 refl))
 

@@ -1,9 +1,8 @@
 -- A run and its end, joined: what the whole program does.
-use Rattle.std.proofs.Common.{rules, ◌≡◌, ℕ, List, [], Option, None, Some, Result, Ok, Err, ap, sym, ◌∙◌, inl, inr, refl, ◌⊎◌, subst, IfSome}
+use Rattle.std.proofs.Common.{rules, ◌≡◌, ℕ, List, [], Option, None, Some, Result, Ok, Err, sym, ◌∙◌, inl, inr, refl, ◌⊎◌, subst, IfSome}
 use Rattle.std.specs.Io.KnownBytes.{Keeps}
 use Rattle.sum_sources.specs.Contents.{SourceState}
 use Rattle.sum_lines.specs.sinks.Sinks.{SinkState}
-use Rattle.digest_kinds.specs.Limits.{one_more}
 use Rattle.sum_engine.specs.declared.stop.Stop.{Stop}
 use Rattle.sum_engine.specs.declared.stop.Stop.TheVariants.{Write}
 use Rattle.sum_engine.specs.Behavior.{World, Event, Behavior}
@@ -53,15 +52,15 @@ ends state status line a b out err (Ok x) ran failed (inl done) = (
   (done.3.0 ∙ failed.0, done.3.1 ∙ failed.1),
   (done.0, refl),
 )
-ends state status line a b out err (Ok x) ran failed (inr (e, kept, still, broken, is, told)) = (
+ends state status line a b out err (Ok x) ran failed (inr (e, kept, still, broken, is, wrote)) = (
   Err Write,
   record b { out = out; err = e },
   λ hold. (runs-kept state (call_behavior line) a b out e x ran kept still).1,
   failed_since a b out e x x failed broken,
-  (is, refl, told),
+  (is, refl, wrote),
 )
-ends state status line a b out err (Err stop) ran failed told =
-    (Err stop, b, λ hold. ran, failed, (told.1, rw told.0 refl, told.2))
+ends state status line a b out err (Err stop) ran failed wrote =
+    (Err stop, b, λ hold. ran, failed, (wrote.1, rw wrote.0 refl, wrote.2))
 
 -- the same; b is how things stood after the run, and held nothing
 pub program_ends : {S : Type 0} (state : S → SourceState) (status : ℕ) (line : Option CommandLineValue)
@@ -74,7 +73,7 @@ program_ends state status line a b out err answer ran failed none closed =
     ends state status line a b out err answer ran failed (closed none.0 none.1)
 
 -- of a run that wrote one text on standard error
-pub program_told : {S E : Type 0} (state : S → SourceState) (status : ℕ) (line : Option CommandLineValue)
+pub program_known : {S E : Type 0} (state : S → SourceState) (status : ℕ) (line : Option CommandLineValue)
     (a : StreamsState S)
     (err out last : SinkState) (text : ByteString) (r : Result (Unit {0}) E) → IsFlushed a
     → WritesAndFlushes a.err err text r
@@ -82,31 +81,31 @@ pub program_told : {S E : Type 0} (state : S → SourceState) (status : ℕ) (li
     → (a.out.buffered ≡ [] → err.buffered ≡ [] → FinishesRun (call_stop_line line) (status_after_write r 1) a.out out
     err last status)
     → CallPerforms state line a (record a { out = out; err = last }) status
-program_told state status line a err out last text r none told ran closed =
+program_known state status line a err out last text r none wrote ran closed =
     program_ends state status line a (record a { err = err }) out last (status_after_write r 1) ran
-    (accounts_on_err state (λ n m. m ≡ n) a err text 1 r told).failures (none.0, (told.1 none.1).0) closed
+    (accounts_on_err state (λ n m. m ≡ n) a err text 1 r wrote).failures (none.0, (wrote.1 none.1).0) closed
 
 -- ---- by what was read of the arguments
 
 -- what a program gives, whatever the outputs hold
 abbrev pub Gives : {S : Type 0} → (S → SourceState) → Option (List ByteString) → StreamsState S → StreamsState S → ℕ
     → Type 0
-Gives state told a b status = IfSome told (λ arguments.
+Gives state known a b status = IfSome known (λ arguments.
     CallPerforms state (command_line arguments) a b status
     ⊎ (NeedsMemory arguments × CallPerforms state None a b status))
 
 -- the command line is what they say
 pub program_read : {S : Type 0} (state : S → SourceState) (a b : StreamsState S) (status : ℕ)
-    (told : Option (List ByteString))
-    (c : CommandLineValue) → IsCommandLine told c → CallPerforms state (Some c) a b status → Gives state told a b status
+    (known : Option (List ByteString))
+    (c : CommandLineValue) → IsCommandLine known c → CallPerforms state (Some c) a b status → Gives state known a b status
 program_read state a b status None c is h = tt
 program_read state a b status (Some arguments) c is h =
     inl (subst (λ line. CallPerforms state line a b status) (sym is) h)
 
 -- it couldn't be read
 pub program_unread : {S : Type 0} (state : S → SourceState) (a b : StreamsState S) (status : ℕ)
-    (told : Option (List ByteString)) → MayBeUnread told → CallPerforms state None a b status
-    → Gives state told a b status
+    (known : Option (List ByteString)) → MayBeUnread known → CallPerforms state None a b status
+    → Gives state known a b status
 program_unread state a b status None is h = tt
 program_unread state a b status (Some arguments) (inl none) h =
     inl (subst (λ line. CallPerforms state line a b status) (sym none) h)

@@ -1,5 +1,5 @@
 -- What is written is good: manifests that generation wrote, checked while the files stay as they were.
-use Rattle.std.specs.Prelude.{ℕ, ◌≡◌, ◌<◌, true, false, List, [], ◌∷◌, ◌++◌, IsTrue, length, map, flat_map, codes, if◌then◌else◌, All, Ok, option_to_list}
+use Rattle.std.specs.Prelude.{ℕ, ◌≡◌, ◌<◌, false, List, [], ◌∷◌, ◌++◌, IsTrue, length, map, flat_map, codes, if◌then◌else◌, All, Ok, option_to_list}
 use Rattle.digest_kinds.specs.Kinds.{has_len}
 use Rattle.sum_engine.specs.check.Verdicts.{Algos}
 use Rattle.sum_engine.specs.declared.check.judge.Verdict.TheVariants.{Right}

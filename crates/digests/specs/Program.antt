@@ -46,6 +46,6 @@ CallPerforms {S} state line a b status = (answer : Result ℕ Stop) × (between 
 -- be read, since memory is needed
 abbrev pub ProgramPerforms :
     {S : Type 0} → (S → SourceState) → Option (List ByteString) → StreamsState S → StreamsState S → ℕ → Type 0
-ProgramPerforms state told a b status = IsFlushed a → IfSome told (λ arguments.
+ProgramPerforms state known a b status = IsFlushed a → IfSome known (λ arguments.
     CallPerforms state (command_line arguments) a b status
     ⊎ (NeedsMemory arguments × CallPerforms state None a b status))

@@ -74,10 +74,10 @@ fn run_request<A: Allocator + Copy, I: Input + Drop, S: Source, O: Sink, E: Sink
 }
 
 // The status after a text was written.
-pub(crate) fn status_after_write(told: Result<(), SinkFault>, status: u8) -> Result<u8, Stop>
-    ensures { result ≡ status_after_write told status }
+pub(crate) fn status_after_write(written: Result<(), SinkFault>, status: u8) -> Result<u8, Stop>
+    ensures { result ≡ status_after_write written status }
 {
-    told?;
+    written?;
     Ok(status)
 }
 

@@ -46,7 +46,7 @@ fn assert_row(rt: &(impl Abort + AllocGlobal), row: Row) -> Result<(), Fail> {
     Ok(())
 }
 
-// A name is told of, or its line is written, and the others are read, wherever it stands.
+// A name is reported, or its line is written, and the others are read, wherever it stands.
 #[test]
 fn odd_operands(rt: HostRuntime) -> Result<(), Fail> {
     let both =
@@ -93,7 +93,7 @@ fn odd_operands(rt: HostRuntime) -> Result<(), Fail> {
     Ok(())
 }
 
-// A manifest so named is told of so, and the next one is checked.
+// A manifest of such a name is reported, and the next one is checked.
 #[test]
 fn odd_manifests(rt: HostRuntime) -> Result<(), Fail> {
     let missing = b"md5sum: \xfe: No such file or directory\n".as_slice();

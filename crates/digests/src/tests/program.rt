@@ -1,4 +1,4 @@
-//! The whole program, over told arguments.
+//! The whole program, over known arguments.
 use super::{
     ENOUGH, assert_bytes, assert_same_taken, assert_text, first_of, heap_of, joined, repeated,
     source_of, spelled, taken,
@@ -145,13 +145,13 @@ fn long_words(rt: HostRuntime) -> Result<(), Fail> {
 #[test]
 fn told_arguments(rt: HostRuntime) -> Result<(), Fail> {
     let arguments = [b"ab".as_slice(), b""];
-    let told = ToldArguments::new(&arguments);
+    let known = ToldArguments::new(&arguments);
     let mut buffer = *b"xyz";
-    assert!(rt; matches!(told.fill(0, &mut buffer), Ok(2)));
+    assert!(rt; matches!(known.fill(0, &mut buffer), Ok(2)));
     assert_eq!(rt; buffer, *b"abz");
-    assert!(rt; matches!(told.fill(1, &mut []), Ok(0)));
-    assert!(rt; matches!(told.fill(0, &mut [0]), Err(FillError::TooLong)));
-    assert!(rt; matches!(told.fill(2, &mut buffer), Err(FillError::NotPresent)));
+    assert!(rt; matches!(known.fill(1, &mut []), Ok(0)));
+    assert!(rt; matches!(known.fill(0, &mut [0]), Err(FillError::TooLong)));
+    assert!(rt; matches!(known.fill(2, &mut buffer), Err(FillError::NotPresent)));
     Ok(())
 }
 
@@ -235,9 +235,9 @@ fn output_that_is_not_kept(rt: HostRuntime) -> Result<(), Fail> {
     Ok(())
 }
 
-// What a program tells that checks this list on a heap with room for so many times 8 bytes, and over a standard output
-// that isn't kept: which of three texts it is, and how many bytes it took.
-fn told_within(
+// What the program reports if it checks this list on a heap with room for so many times 8 bytes, over a standard output
+// that isn't kept: which of three texts, and how many bytes it took.
+fn reported_within(
     rt: &(impl Abort + AllocGlobal),
     units: usize,
     list: &[u8],
@@ -246,17 +246,17 @@ fn told_within(
     let arguments: [&[u8]; 2] = [b"md5sum", b"-c"];
     let (err, status) = call_not_kept(rt.alloc(), &heap, &arguments, list)?;
     assert_eq!(rt; status, 1);
-    Ok((which_told(err.bytes())?, taken(&heap, units)))
+    Ok((which_text(err.bytes())?, taken(&heap, units)))
 }
 
 // Which of three texts these bytes are.
-fn which_told(bytes: &[u8]) -> Result<usize, Fail> {
-    let told = [
+fn which_text(bytes: &[u8]) -> Result<usize, Fail> {
+    let texts = [
         "digests: words not read\n",
         "md5sum: memory exhausted\n",
         "md5sum: write error\n",
     ];
-    for (i, text) in told.iter().enumerate() {
+    for (i, text) in texts.iter().enumerate() {
         if text.as_bytes() == bytes {
             return Ok(i);
         }
@@ -264,14 +264,14 @@ fn which_told(bytes: &[u8]) -> Result<usize, Fail> {
     Err(Fail::from("the text"))
 }
 
-// Memory is short for the manifest's line, and then standard output isn't kept: what is told is why the run stopped.
+// Memory is short for the manifest's line, and then standard output isn't kept: the report is why the run stopped.
 #[test]
 fn stopped_and_not_kept(rt: HostRuntime) -> Result<(), Fail> {
     let line = spelled(rt.alloc(), "$M  a\n")?;
     let mut reached: usize = 0;
     let mut whole = None;
     for units in 0..=ENOUGH {
-        let (which, bytes) = told_within(&rt, units, line.as_bytes())?;
+        let (which, bytes) = reported_within(&rt, units, line.as_bytes())?;
         assert!(rt;
             which == reached || which == reached.saturating_add(1),
             "in {units} units"

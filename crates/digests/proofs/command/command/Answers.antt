@@ -4,8 +4,8 @@ use Rattle.sum_engine.specs.Execution.{StreamsState, IsFlushed, FailuresMatch}
 use Rattle.sum_words.specs.CommandLines.{invoke, unknown_tool}
 use Rattle.digests.specs.Meaning.{status_of}
 use Rattle.digests.specs.Program.{call_behavior}
-use Rattle.digests.proofs.MessageLemmas.{told_on_err}
-use Rattle.digests.proofs.ProgramLemmas.{program_ends, program_told, program_read, program_unread}
+use Rattle.digests.proofs.MessageLemmas.{known_on_err}
+use Rattle.digests.proofs.ProgramLemmas.{program_ends, program_known, program_read, program_unread}
 use Rattle.digests.proofs.command.command.Goals as goal
 
 -- the tool was run
@@ -29,20 +29,20 @@ returns-in-Ok-UnknownTool-clause-behavior g c =
     let read = rw c.in-Ok-UnknownTool.field-0-is at c.in-Ok-UnknownTool.ensures.line in
     let closed = rw c.status_after_write-answer.ensures at c.finish_run-in-Ok-UnknownTool.ensures.finish in
     let first = streams_of g.I.Input.state c.streams-in-Ok-UnknownTool.inside.stdin _ _ _ in
-    let told = c.put_message.ensures in
+    let wrote = c.put_message.ensures in
     rw (← c.streams-in-Ok-UnknownTool.view_is) (λ hold. program_read g.S.Source.state first _
     c.finish_run-in-Ok-UnknownTool.result _ unknown_tool read
-    (program_told g.S.Source.state c.finish_run-in-Ok-UnknownTool.result (Some unknown_tool) first _ _ _ _
-    c.put_message.result hold told
-    (told_on_err g.S.Source.state first _ _ c.put_message.result hold.1 told) closed))
+    (program_known g.S.Source.state c.finish_run-in-Ok-UnknownTool.result (Some unknown_tool) first _ _ _ _
+    c.put_message.result hold wrote
+    (known_on_err g.S.Source.state first _ _ c.put_message.result hold.1 wrote) closed))
 
 -- the words couldn't be read: another line says so
 pub returns-in-Err-clause-behavior : goal.returns-in-Err-clause-behavior
 returns-in-Err-clause-behavior g c =
     let closed = rw c.status_after_write-answer-in-Err.ensures at c.finish_run-in-Err.ensures.finish in
     let first = streams_of g.I.Input.state c.streams-in-Err.inside.stdin _ _ _ in
-    let told = c.put_message-in-Err.ensures in
+    let wrote = c.put_message-in-Err.ensures in
     rw (← c.streams-in-Err.view_is) (λ hold. program_unread g.S.Source.state first _ c.finish_run-in-Err.result _
     c.in-Err.ensures.not_read
-    (program_told g.S.Source.state c.finish_run-in-Err.result None first _ _ _ _ c.put_message-in-Err.result hold told
-    (told_on_err g.S.Source.state first _ _ c.put_message-in-Err.result hold.1 told) closed))
+    (program_known g.S.Source.state c.finish_run-in-Err.result None first _ _ _ _ c.put_message-in-Err.result hold wrote
+    (known_on_err g.S.Source.state first _ _ c.put_message-in-Err.result hold.1 wrote) closed))

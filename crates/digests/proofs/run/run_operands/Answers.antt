@@ -1,4 +1,4 @@
-use Rattle.std.proofs.Common.{◌≡◌, ◌∙◌, rules, ◌&&◌, true, refl}
+use Rattle.std.proofs.Common.{◌≡◌, ◌∙◌, rules, ◌&&◌, refl}
 use Rattle.sum_words.specs.Tools.{name_of}
 use Rattle.digests.specs.Meaning.{or_dash}
 use Rattle.digests.specs.refinement.Operands.{operand_behavior}

@@ -5,10 +5,6 @@ use Rattle.sum_words.specs.Request.{early_answer}
 use Rattle.sum_words.proofs.RequestLemmas.{no_early_answer}
 use Rattle.sum_words.proofs.parsing.request.read_options.Goals as goal
 
--- before the first item nothing was chosen
-pub loop-item-init : goal.loop-item-init
-loop-item-init g c = rw c.new-items.ensures (search rules)
-
 -- an option other than help and version is chosen, and decides no answer
 pub loop-item-preserved-in_default-flag : goal.loop-item-preserved-in_default-flag
 loop-item-preserved-in_default-flag g c =
