@@ -27,10 +27,8 @@ abbrev pub request_behavior : Tool → Result Request WordFaultValue → World �
 request_behavior t (Err fault) w = single_step [] (fault_lines t fault) [] false
 request_behavior t (Ok Help) w = single_step [] [] (help t) true
 request_behavior t (Ok Version) w = single_step [] [] (version t) true
-request_behavior t (Ok (Generate settings names)) w =
-    operands_behavior (generate_behavior settings (name_of t)) w (or_dash names)
-request_behavior t (Ok (Check settings names)) w =
-    operands_behavior (check_behavior settings (name_of t)) w (or_dash names)
+request_behavior t (Ok (Generate s names)) w = operands_behavior (generate_behavior s (name_of t)) w (or_dash names)
+request_behavior t (Ok (Check s names)) w = operands_behavior (check_behavior s (name_of t)) w (or_dash names)
 
 -- the behavior that a tool's words mean
 abbrev pub meaning : Tool → List ByteString → World → Behavior

@@ -42,8 +42,7 @@ CallPerforms {S} state line a b status = (answer : Result ℕ Stop) × (between 
     × Performs state (call_behavior line) status_of a between answer × FailuresMatch a between answer
     × ReportsStop line answer between b status
 
--- the program performs the call of its arguments, if these are known and both outputs flushed; or the words could not
--- be read, since memory is needed
+-- known arguments, flushed outputs: their call is performed, or, if it needs memory, that of words that were not read
 abbrev pub ProgramPerforms :
     {S : Type 0} → (S → SourceState) → Option (List ByteString) → StreamsState S → StreamsState S → ℕ → Type 0
 ProgramPerforms state known a b status = IsFlushed a → IfSome known (λ arguments.
