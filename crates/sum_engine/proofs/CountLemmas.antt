@@ -1,5 +1,5 @@
 -- The counts of a summary are numbers of members, and the code's running counters are they.
-use Rattle.std.proofs.Common.{◌≡◌, ℕ, ◌+◌, ◌==◌, ◌&&◌, ◌||◌, Bool, true, false, not, List, [], ◌∷◌, refl, ap, arith}
+use Rattle.std.proofs.Common.{◌≡◌, ℕ, ◌+◌, List, [], ◌∷◌, refl, ap, arith}
 use Rattle.sum_engine.specs.check.Verdicts.{Verdict, Ignored, Bad, Right, Wrong, Missing, Unread, LineVerdictValue}
 use Rattle.sum_engine.specs.check.Reports.{CountsValue, counts_of}
 use Rattle.sum_engine.specs.check.CheckerSteps.{no_counts, counts_with, counts_then}

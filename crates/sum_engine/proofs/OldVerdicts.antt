@@ -1,8 +1,8 @@
 -- `old_verdicts`: a manifest of the time of older versions is checked alike under both profiles.
-use Rattle.std.proofs.Common.{◌≡◌, ℕ, ◌+◌, ◌<◌, false, not, cond, List, [], ◌∷◌, length, map, refl, ap, sym, ◌∙◌, subst, codes, append_assoc, ◌++◌, bytes_eq, All, flat_map, Ok, Err}
+use Rattle.std.proofs.Common.{◌≡◌, ℕ, ◌+◌, ◌<◌, false, not, List, [], ◌∷◌, length, map, refl, ap, sym, ◌∙◌, subst, codes, append_assoc, ◌++◌, bytes_eq, All, flat_map, Ok, Err}
 use Rattle.std.specs.List.{concat}
 use Rattle.std.proofs.lemmas.List.Elements.{All-nil, All-cons, All-head, All-tail}
-use Rattle.sum_engine.specs.check.Reports.{LabelsValue, CountsValue, name_line, verdict_line, is_hidden, out_of, err_by, err_of, counts_of, end_text, good}
+use Rattle.sum_engine.specs.check.Reports.{Report, LabelsValue, CountsValue, name_line, verdict_line, out_by, out_of, bad_line, err_by, err_of, counts_of, end_text, good}
 use Rattle.sum_engine.specs.Behavior.{Ending, Whole, Broken, Fault, World, after, single_step}
 use Rattle.sum_sources.specs.Contents.{Content, clip}
 use Rattle.sum_sources.specs.ManifestLines.{raw_lines, last_line, past_line, bytes_of_lines}
@@ -21,6 +21,7 @@ use Rattle.sum_engine.proofs.OldNames.{all_left, all_right, same_escape, CleanPa
 use Rattle.sum_engine.proofs.SamePrefix.{judge_under}
 use Rattle.sum_engine.proofs.ReturnLemmas.{NotReturn, strips-kept}
 use Rattle.sum_engine.proofs.CheckOneLemmas.{opening}
+use Rattle.sum_engine.specs.declared.settings.Report.TheVariants as reports
 
 -- ---- the lines
 
@@ -105,6 +106,13 @@ said_same Wrong name free = name_line_same name (codes "FAILED") free
 said_same (Unread f) name free = name_line_same name (codes "FAILED open or read") free
 said_same v name free = refl
 
+-- and what is reported of it
+out_same : (report : Report) (v : Verdict) (name : List ℕ) → NoReturn name
+    → out_by older report v name ≡ out_by present report v name
+out_same reports.Quiet Right name free = refl
+out_same reports.Status v name free = refl
+out_same report v name free = said_same v name free
+
 -- what is the same for each verdict without one is the same for all
 all_same : (f g : LineVerdictValue → List ℕ) → ((j : LineVerdictValue) → CleanName j → f j ≡ g j)
     → (js : List LineVerdictValue) → All CleanName js
@@ -117,7 +125,7 @@ all_same f g same (j ∷ js) all =
 outs_same : (r : Rules) (labels : LabelsValue) (js : List LineVerdictValue) → All CleanName js
     → map (out_of (rules_under older r) labels) js ≡ map (out_of (rules_under present r) labels) js
 outs_same r labels js all = all_same (out_of (rules_under older r) labels) (out_of (rules_under present r) labels)
-    (λ j free. ap (cond (is_hidden labels.report j.verdict) []) (said_same j.verdict j.name free)) js all
+    (λ j free. out_same labels.report j.verdict j.name free) js all
 
 -- the line of a fault
 fault_same : (tool name : List ℕ) (f : Fault) → NoReturn name
@@ -127,7 +135,10 @@ fault_same tool name f free = rw (same_escape name free) refl
 -- what a line of the manifest adds to standard error
 err_same : (r : Rules) (labels : LabelsValue) (n : ℕ) (v : Verdict) (name : List ℕ) → NoReturn labels.list
     → NoReturn name → err_by (rules_under older r) labels n v name ≡ err_by (rules_under present r) labels n v name
-err_same r labels n Bad name own free = rw (same_escape labels.list own) refl
+err_same r labels n Bad name own free =
+    let same : bad_line (rules_under older r) labels n ≡ bad_line (rules_under present r) labels n =
+    rw (same_escape labels.list own) refl in
+    ap (λ (line : List ℕ). elim labels.report as (λ x. List ℕ) [ reports.Warn ↦ line | x ↦ [] ]) same
 err_same r labels n (Unread f) name own free = fault_same labels.tool name f free
 err_same r labels n v name own free = refl
 
@@ -140,7 +151,12 @@ errs_same r labels js own all = all_same (err_of (rules_under older r) labels) (
 -- the text at its end
 end_same : (r : Rules) (labels : LabelsValue) (e : Ending) (c : CountsValue) → NoReturn labels.list
     → end_text (rules_under older r) labels e c ≡ end_text (rules_under present r) labels e c
-end_same r labels Whole c own = rw (same_escape labels.list own) refl
+end_same r labels Whole c own = by labels.report
+  where
+    by : (report : Report) → let shown : LabelsValue = record labels { report = report } in
+        end_text (rules_under older r) shown Whole c ≡ end_text (rules_under present r) shown Whole c
+    by reports.Status = rw (same_escape labels.list own) refl
+    by report = rw (same_escape labels.list own) refl
 end_same r labels (Broken f) c own = fault_same labels.tool labels.list f own
 
 -- whether the manifest is good
@@ -189,7 +205,7 @@ steps_same r labels end c (j ∷ js) own all =
     let free = All-head CleanName j js all in
     rw (
       err_same r labels j.number j.verdict j.name own free,
-      said_same j.verdict j.name free,
+      out_same labels.report j.verdict j.name free,
       steps_same r labels end (past_line c) js own (All-tail CleanName j js all),
     ) refl
 

@@ -1,5 +1,5 @@
 -- Read to the end, known or not: over no file, over one, and over one call after another.
-use Rattle.std.proofs.Common.{◌≡◌, ◌⊎◌, ◌||◌, ℕ, zero, suc, ◌+◌, Bool, true, false, Option, None, Some, is_none, is_some, option_map, refl, ap, sym, ◌∙◌, inl, inr, arith, subst}
+use Rattle.std.proofs.Common.{◌≡◌, ◌⊎◌, ◌||◌, ℕ, zero, suc, ◌+◌, Bool, true, false, Option, None, Some, is_none, is_some, option_map, refl, ap, sym, ◌∙◌, inl, inr, arith}
 use Rattle.std.specs.Option.{option_or}
 use Rattle.std.proofs.Math.Bool.{or-true}
 use Rattle.sum_sources.specs.Contents.{InputState, SourceState, StdinValue, given_state, stdin_taken, stdin_phase, closed_state}

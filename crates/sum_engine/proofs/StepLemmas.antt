@@ -9,9 +9,9 @@ use Rattle.sum_sources.specs.LineReaders.{remaining_content, consumed}
 use Rattle.sum_lines.specs.sinks.Sinks.{SinkState}
 use Rattle.sum_lines.specs.Escape.{Profile, present}
 use Rattle.sum_lines.specs.grammar.LineParts.{◌>>=◌}
-use Rattle.sum_engine.specs.check.Reports.{Report, LabelsValue, err_by, out_by, end_text, good, counts_of}
+use Rattle.sum_engine.specs.check.Reports.{Report, LabelsValue, err_by, out_by, end_text, good}
 use Rattle.sum_engine.specs.check.Verdicts.{Ignored, lines_by, Rules, asks_of}
-use Rattle.sum_engine.specs.check.CheckerSteps.{CursorValue, state_at, check_state, Going, Ended, CheckState, counts_with, counts_then, step_then, LineHandled, StepIs, StepIsIfKnown, next_judged, remaining_verdicts, remaining_behavior}
+use Rattle.sum_engine.specs.check.CheckerSteps.{CursorValue, state_at, check_state, Going, Ended, CheckState, counts_with, step_then, LineHandled, StepIs, StepIsIfKnown, next_judged, remaining_verdicts, remaining_behavior}
 use Rattle.sum_engine.specs.Execution.{Memory, StreamsState, KnownState, IsFlushed, known_state}
 use Rattle.sum_engine.specs.check.NextVerdict.{LineVerdict, line_verdict_value, NextVerdictIfKnown, NoVerdictLeft}
 use Rattle.sum_engine.specs.refinement.Judging.{TakesLine}
@@ -136,10 +136,8 @@ last_by r labels a b vector step answer (Err e) is cut =
 
 -- of an ignored line nothing is reported
 pub out_by-ignored : (p : Profile) (report : Report) (name : List ℕ) → out_by p report Ignored name ≡ []
-out_by-ignored p reports.All name = refl
-out_by-ignored p reports.Quiet name = refl
-out_by-ignored p reports.Warn name = refl
 out_by-ignored p reports.Status name = refl
+out_by-ignored p report name = refl
 
 -- from the place p and the streams a to the place q and the streams b
 module _ {I S : Type 0} (input : I → InputState) (state : S → SourceState) (p q : CursorValue I) (a b : StreamsState S)

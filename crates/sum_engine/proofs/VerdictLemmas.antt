@@ -1,12 +1,12 @@
 -- `judge`: the verdict of an entry, by the outcome of hashing its name.
-use Rattle.std.proofs.Common.{rules, ◌≡◌, ℕ, ◌&&◌, Bool, true, false, cond, List, [], ◌∷◌, Option, Some, refl, bytes_eq}
+use Rattle.std.proofs.Common.{rules, ◌≡◌, ℕ, ◌&&◌, Bool, true, false, cond, List, [], ◌∷◌, Option, Some, Ok, Err, refl, bytes_eq}
 use Rattle.std.proofs.Math.Bool.{and-false, and-true}
 use Rattle.digest_kinds.specs.Kinds.{KindValue}
 use Rattle.sum_sources.specs.declared.fault.Fault.TheVariants.{NotFound}
 use Rattle.sum_sources.specs.Contents.{IfKnown, Reply}
 use Rattle.sum_lines.specs.grammar.Entries.{EntryValue}
 use Rattle.sum_engine.specs.refinement.HashName.{HashOutcome, HashesNameIfKnown, IsHashOutcome}
-use Rattle.sum_engine.specs.check.Verdicts.{Verdict, Right, Wrong, Missing, Unread, Rules, verdict_of, not_found, digest_verdict, asks_by}
+use Rattle.sum_engine.specs.check.Verdicts.{Verdict, Right, Wrong, Missing, Unread, Rules, verdict_of, not_found, asks_by}
 use Rattle.sum_engine.specs.Behavior.{World, is_dash, reply, digest_or_fault}
 use Rattle.sum_lines.specs.grammar.ParsedLines.{entry}
 use Rattle.sum_engine.specs.refinement.Judging.{IsJudged, verdict_of_outcome}
@@ -14,7 +14,10 @@ use Rattle.sum_engine.specs.declared.hash_name.HashOutcome.TheVariants as asked
 
 -- a reply against the line's digest
 abbrev verdict_by : Bool → KindValue → List ℕ → Reply → Verdict
-verdict_by ignore kind d r = cond (ignore && not_found r) Missing (digest_verdict d (digest_or_fault kind r))
+verdict_by ignore kind d r = cond (ignore && not_found r) Missing (elim (digest_or_fault kind r) [
+  | Ok found ↦ cond (bytes_eq found d) Right Wrong
+  | Err f ↦ Unread f
+])
 
 -- the verdict by a reply is the verdict by the outcome
 by_asked : (ignore : Bool) (kind : KindValue) (d : List ℕ) (r : Reply) (a : HashOutcome) → IsHashOutcome kind r a

@@ -1,4 +1,4 @@
-use Rattle.std.proofs.Common.{◌≡◌, true, false, None, Ok, Err, refl, ap, rules}
+use Rattle.std.proofs.Common.{◌≡◌, true, false, None, Ok, Err, ap, rules}
 use Rattle.std.specs.Option.{option_or}
 use Rattle.std.proofs.lemmas.Result.{err_from_is_err_and}
 use Rattle.sum_sources.specs.Contents.{StdinValue, stdin_phase}
