@@ -1,24 +1,16 @@
 -- `generate_one`: the behavior of hashing one name, by the outcome of `hash_name` and what was then written.
-use Rattle.std.proofs.Common.{◌≡◌, ℕ, ◌||◌, Bool, true, false, List, [], ◌∷◌, Some, Result, Ok, Err, refl, ap, sym, ◌∙◌}
+use Rattle.std.proofs.Common.{◌≡◌, ℕ, ◌||◌, Bool, List, [], ◌∷◌, Some, Result, Ok, Err, refl, ap, sym, ◌∙◌}
 use Rattle.std.proofs.Math.Bool.{or-false}
 use Rattle.digest_kinds.specs.Kinds.{KindValue}
-use Rattle.sum_engine.specs.Behavior.{Fault, is_dash, reply, digest_or_fault, Step, Behavior, single_step}
-use Rattle.sum_lines.specs.Lines.{line}
-use Rattle.sum_lines.specs.Escape.{present}
+use Rattle.sum_engine.specs.Behavior.{Fault, is_dash, reply, digest_or_fault, Step, single_step}
 use Rattle.sum_sources.specs.Contents.{Reply, SourceState}
 use Rattle.sum_engine.specs.refinement.HashName.{HashOutcome, digest_of_outcome, HashesNameIfKnown, IsHashOutcome, world_of}
-use Rattle.sum_engine.specs.Generation.{Settings, fault_line, generate_behavior}
+use Rattle.sum_engine.specs.Generation.{Settings, generate_behavior, generate_behavior_by}
 use Rattle.sum_engine.specs.Execution.{StreamsState}
 use Rattle.sum_engine.specs.refinement.FlushedWrites.{WritesBoth}
 use Rattle.sum_engine.proofs.ExecutionLemmas.{Runs, Writing}
 use Rattle.sum_engine.proofs.BehaviorLemmas.{answered, once}
 use Rattle.sum_engine.specs.declared.hash_name.HashOutcome.TheVariants as asked
-
--- the behavior of hashing a name with this digest, or this fault
-abbrev pub generate_behavior_by : Settings → List ℕ → List ℕ → Result (List ℕ) Fault → Behavior
-generate_behavior_by settings tool name (Ok d) =
-    single_step (name ∷ []) [] (line settings.style settings.kind name d) true
-generate_behavior_by settings tool name (Err f) = single_step (name ∷ []) (fault_line present tool name f) [] false
 
 -- the outcome is what the definitions say of the reply
 digest_or_fault-is : (kind : KindValue) (r : Reply) (a : HashOutcome) → IsHashOutcome kind r a

@@ -1,5 +1,5 @@
 -- The behavior of hashing one name.
-use Rattle.std.specs.Prelude.{ℕ, true, false, List, [], ◌∷◌, codes, Ok, Err}
+use Rattle.std.specs.Prelude.{ℕ, true, false, List, [], ◌∷◌, codes, Result, Ok, Err}
 use Rattle.std.specs.List.{concat}
 use Rattle.sum_engine.specs.Behavior.{Fault, World, reply, digest_or_fault, Behavior, single_step}
 use Rattle.sum_sources.specs.Contents.{fault_text}
@@ -15,9 +15,11 @@ tool_line p tool name text = concat (tool ∷ codes ": " ∷ escape_by p name �
 abbrev pub fault_line : Profile → List ℕ → List ℕ → Fault → List ℕ
 fault_line p tool name fault = tool_line p tool name (fault_text fault)
 
--- the behavior of hashing a name in a world: its line is written, or the line of a fault
+-- a name with this digest has its line written, and one with a fault the line of the fault
+abbrev pub generate_behavior_by : Settings → List ℕ → List ℕ → Result (List ℕ) Fault → Behavior
+generate_behavior_by s tool name (Ok d) = single_step (name ∷ []) [] (line s.style s.kind name d) true
+generate_behavior_by s tool name (Err f) = single_step (name ∷ []) (fault_line present tool name f) [] false
+
+-- the behavior of hashing a name in a world
 abbrev pub generate_behavior : Settings → List ℕ → World → List ℕ → Behavior
-generate_behavior settings tool w name = elim (digest_or_fault settings.kind (reply w name)) [
-  | Ok d ↦ single_step (name ∷ []) [] (line settings.style settings.kind name d) true
-  | Err f ↦ single_step (name ∷ []) (fault_line present tool name f) [] false
-]
+generate_behavior s tool w name = generate_behavior_by s tool name (digest_or_fault s.kind (reply w name))
