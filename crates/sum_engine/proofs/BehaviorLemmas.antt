@@ -1,5 +1,5 @@
 -- Runs, one after another, and what a run's steps come to.
-use Rattle.std.proofs.Common.{◌≡◌, ℕ, Bool, List, [], ◌∷◌, ◌++◌, Option, Result, Ok, Err, refl, ap, sym, ◌∙◌, inl, append_assoc, append-nil, flat_map, filter_map}
+use Rattle.std.proofs.Common.{rules, ◌≡◌, ℕ, Bool, List, [], ◌∷◌, ◌++◌, Option, Result, Ok, Err, refl, ap, sym, ◌∙◌, inl, append_assoc, append-nil, flat_map, filter_map}
 use Rattle.std.proofs.lemmas.Grind.{flat_map-append}
 use Rattle.std.proofs.lemmas.List.Elements.{filter_map-append}
 use Rattle.sum_sources.specs.Contents.{IfKnown, SourceState}
@@ -63,15 +63,7 @@ along_breaks {whole = whole} h k =
 -- a step that memory was wanted for
 pub along_waits : {A : Type 0} {a b c : KnownState} {whole left : Behavior} (x : A) → Along whole left a b
     → StepRefused left b c → PerformsSteps whole.steps x a c (Err Memory)
-along_waits {b = b} x h k = record {
-  done = h.done;
-  next = k.step;
-  later = k.rest.steps;
-  between = b;
-  are = h.steps ∙ ap (λ r. h.done ++ r.steps) k.is;
-  happened = h.did;
-  refused = k.refused;
-}
+along_waits x h k = search rules
 
 -- ---- a behavior after a step, and one behavior after another
 
@@ -179,8 +171,4 @@ kind_of_events h part one (s ∷ steps) = filter_map-append h (events_of s) (tra
 
 -- so what happened of a run extends each output by the run's text there, and asks its names
 pub events_extend : EventsExtend
-events_extend r a b did = (
-  rw (kind_of_events name_in (λ s. s.names) (λ s. names-by s.names s.err s.out) r.steps) at did.world,
-  rw (kind_of_events err_in (λ s. s.err) (λ s. err-by s.names s.err s.out) r.steps) at did.err,
-  rw (kind_of_events out_in (λ s. s.out) (λ s. out-by s.names s.err s.out) r.steps) at did.out,
-)
+events_extend r a b did = search (rules, kind_of_events, names-by, err-by, out-by)

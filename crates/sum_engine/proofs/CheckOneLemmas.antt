@@ -40,31 +40,16 @@ Comes r labels (Some c) (Some s) None = ⊥
 Comes r labels (Some c) (Some s) (Some b) =
     Along (content_behavior r labels c (all_verdicts r s.world c)) (remaining_behavior r labels b) s b.known_state
 
--- it begins so
-comes_initial : {I : Type 0} (r : Rules) (labels : LabelsValue) (p : CursorValue I) (c : Option Content)
-    (s : Option KnownState) → ((c : Content) (s : KnownState) → state_at p c s ≡ initial_state c s)
-    → Comes r labels c s (c >>= (λ c. s >>= (λ s. Some (state_at p c s))))
-comes_initial r labels p None s is = tt
-comes_initial r labels p (Some c) None is = tt
-comes_initial r labels p (Some c) (Some s) is =
-    let whole = content_behavior r labels c (all_verdicts r s.world c) in
-    subst (λ a. Along whole (remaining_behavior r labels a) s a.known_state) (sym (is c s))
-    (subst (λ b. Along whole b s s) (sym (remaining-initial r labels c s)) (along_none whole s))
-
 pub comes_none : {I : Type 0} (state : I → InputState) (r : Rules) (labels : LabelsValue) (p : CursorValue I)
     (input : I)
     (s : Option KnownState) → IsAtStart state p input
     → Comes r labels (option_map clip (state input).content) s (check_state state p s)
-comes_none state r labels p input s start = rw start.remaining
-    (comes_initial r labels p (option_map clip (state input).content) s
-    (λ c s. rw (start.reader, start.form, start.counts) refl))
+comes_none state r labels p input s start = search rules
 
 -- at the start the input was read as far as the answers say, if nothing of it was read
 pub phase-initial : {I : Type 0} (state : I → InputState) (p : CursorValue I) → IsAtStart state p p.reader.input
     → (state p.reader.input).phase ≡ Reading → IsReadSoFar state p.reader
-phase-initial state p start reading =
-    let none = ap (λ r. r.final_answer) start.reader in
-    subst (λ f. ReadSoFar f (state p.reader.input).phase) (sym none) reading
+phase-initial state p start reading = search rules
 
 -- a step that goes on comes one line further
 pub comes_more : (q r : Rules) (own labels : LabelsValue) (c : Option Content) (s : Option KnownState)
@@ -194,9 +179,7 @@ asked_only {a} name world taken refusals err out = search rules
 dash_worlds : (name : List ℕ) (s : Option KnownSource) (c : Option Content) → is_dash name ≡ true
     → IfKnown (world_by s c) (world_by s (Some empty_content))
     (λ w v. (v ≡ after w (name ∷ [])) × (c ≡ Some w.input))
-dash_worlds name None c dash = tt
-dash_worlds name (Some s) None dash = tt
-dash_worlds name (Some s) (Some c) dash = (dash_asked s.answer s.asked c name dash, refl)
+dash_worlds name s c dash = search rules
 
 -- streams from which standard input was taken
 abbrev taken_from : {S : Type 0} → StreamsState S → Option Phase → StreamsState S
@@ -210,8 +193,7 @@ dash_opened {S} state name a p dash = search rules
 -- the last state may be another, of which the same is known
 as_known : {S : Type 0} (state : S → SourceState) (k : Call) (a b last : StreamsState S) (x : Result Bool Stop)
     → known_state state last ≡ known_state state b → CheckGives state k a b x → CheckGives state k a last x
-as_known state k a b last x same h = subst (λ t. IfKnown (known_state state a) t (λ s t.
-    let all = check_behavior k.settings k.tool s.world k.name in PerformsSteps all.steps all.good s t x)) (sym same) h
+as_known state k a b last x same h = search rules
 
 -- so what the checker does with standard input is what the call does
 pub check_dash : {S : Type 0} (state : S → SourceState) (k : Call) (a b last : StreamsState S) (p : Option Phase)
@@ -231,27 +213,11 @@ OpensIn content name (Err (open_faults.Fault f)) w v =
     (v ≡ record w { asked = w.asked ++ name ∷ [] }) × (w.answer name ≡ Err f)
 OpensIn content name (Err open_faults.Memory) w v = v ≡ w
 
--- a reply that is a content
-given : (o : Option Content) (r : Reply) → option_map Ok o ≡ Some r → (c : Content) × (r ≡ Ok c) × (o ≡ Some c)
-given None r h = cc
-given (Some c) r h = (c, cc, refl)
-
-opens_in : {F : Type 0} (content : F → InputState) (name : List ℕ) (s t : KnownSource) (i : Content)
-    (x : Result F OpenFault) → OpenOf content s t name x
-    → OpensIn content name x (record { answer = s.answer; asked = s.asked; input = i })
-    (record { answer = t.answer; asked = t.asked; input = i })
-opens_in content name s t i (Ok file) h = search rules
-opens_in content name s t i (Err (open_faults.Fault f)) h = (rw h.0 refl, cc)
-opens_in content name s t i (Err open_faults.Memory) h = rw h refl
-
 -- if source and standard input are known
 opens : {F : Type 0} (content : F → InputState) (name : List ℕ) (s t : Option KnownSource) (input : Option Content)
     (x : Result F OpenFault) → IfKnown s t (λ s t. OpenOf content s t name x)
     → IfKnown (world_by s input) (world_by t input) (OpensIn content name x)
-opens content name None t input x h = tt
-opens content name (Some s) t None x h = tt
-opens content name (Some s) None (Some i) x h = absurd h
-opens content name (Some s) (Some t) (Some i) x h = opens_in content name s t i x h
+opens content name s t input x h = search rules
 
 -- the manifest is a file
 file_opened : {F S : Type 0} (content : F → InputState) (state : S → SourceState) (name : List ℕ) (a : StreamsState S)

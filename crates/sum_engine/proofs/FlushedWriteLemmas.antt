@@ -18,11 +18,7 @@ prefix_more a b x y h =
 -- after a text that was written, a prefix of the next
 pub prefix_then : (a b c : Option (List ℕ)) (x y : List ℕ) → Appends a b x → AppendsPrefix b c y
     → AppendsPrefix a c (x ++ y)
-prefix_then a b c x y h k = (
-  x ++ k.0,
-  (k.1.0, ap (λ l. x ++ l) k.1.1 ∙ sym (append_assoc x k.0 k.1.0)),
-  Appends-trans a b c x k.0 h k.2,
-)
+prefix_then a b c x y h k = search (rules, Appends-trans, append_assoc)
 
 -- ---- one output
 

@@ -29,15 +29,7 @@ now r = record r { profile = present }
 -- an item's file, read by the kind that its line spells, has the digest that its line spells
 verdict-right : (r : Rules) (w : World) (i : Item) → Listed r.algo w.answer i
     → verdict_of r w (spelled_for i) ≡ Right
-verdict-right r w i h =
-    let d : List ℕ = digest i.kind i.bytes in
-    let file : Content = record { bytes = i.bytes; ending = Whole } in
-    let read : digest_or_fault i.kind (Ok file) ≡ Ok d =
-    ap (λ (c : Content). elim c.ending as (λ x. Result (List ℕ) Fault) [
-      | Whole ↦ Ok (digest i.kind c.bytes)
-      | Broken f ↦ Err f
-    ]) (clip-short file (rw limit-value at h.fits)) in
-    simp (h.no_dash, h.content, and-false) (rw (read, (bytes_eq-Decides d d).1 refl) refl)
+verdict-right r w i h = search (rules, clip-short, limit-value, and-false, bytes_eq-Decides)
 
 -- the verdict of an item on line n
 abbrev right : ℕ → Item → LineVerdictValue

@@ -1,5 +1,5 @@
 -- `old_verdicts`: a manifest of the time of older versions is checked alike under both profiles.
-use Rattle.std.proofs.Common.{◌≡◌, ℕ, ◌+◌, ◌<◌, false, not, List, [], ◌∷◌, length, map, refl, ap, sym, ◌∙◌, subst, codes, append_assoc, ◌++◌, bytes_eq, All, flat_map, Ok, Err}
+use Rattle.std.proofs.Common.{rules, ◌≡◌, ℕ, ◌+◌, ◌<◌, false, not, List, [], ◌∷◌, length, map, refl, ap, sym, ◌∙◌, subst, codes, append_assoc, ◌++◌, bytes_eq, All, flat_map, Ok, Err}
 use Rattle.std.specs.List.{concat}
 use Rattle.std.proofs.lemmas.List.Elements.{All-nil, All-cons, All-head, All-tail}
 use Rattle.sum_engine.specs.check.Reports.{Report, LabelsValue, CountsValue, name_line, verdict_line, out_by, out_of, bad_line, err_by, err_of, counts_of, end_text, good}
@@ -27,9 +27,7 @@ use Rattle.sum_engine.specs.declared.settings.Report.TheVariants as reports
 
 -- the last line of a text without one has none
 last_clean : (e : Ending) (piece : List ℕ) → NoReturn piece → All NoReturn (last_line e piece)
-last_clean Whole [] free = All-nil NoReturn
-last_clean Whole (b ∷ bs) free = All-cons NoReturn (b ∷ bs) [] free (All-nil NoReturn)
-last_clean (Broken f) piece free = All-nil NoReturn
+last_clean e piece free = search rules
 
 -- nor has any other line
 ended_clean : (e : Ending) (ended : List (List ℕ)) (tail : List ℕ) → NoReturn (bytes_of_lines ended tail)
@@ -61,9 +59,7 @@ CleanName j = NoReturn j.name
 
 -- and what is judged names none
 judged_clean : (r : Rules) (w : World) (n : ℕ) (x : ParsedLine) → CleanParsedLine x → CleanName (judge r w n x)
-judged_clean r w n ignored h = All-nil NotReturn
-judged_clean r w n bad h = All-nil NotReturn
-judged_clean r w n (entry s) h = h
+judged_clean r w n x h = search rules
 
 -- a line that says the same under both profiles
 pub record Alike (algos : Algos) (f : Form) (line : List ℕ) : Type 0 where
@@ -95,9 +91,7 @@ verdicts_same r f w n (l ∷ ls) all =
 
 -- reports that name no carriage return are the same
 name_line_same : (name text : List ℕ) → NoReturn name → name_line older name text ≡ name_line present name text
-name_line_same name text free =
-    ap (λ e. concat (mark (not (bytes_eq e name)) ∷ e ∷ codes ": " ∷ text ∷ codes "\n" ∷ []))
-    (same_escape name free)
+name_line_same name text free = search (rules, same_escape)
 
 -- and so is what is said of each verdict
 said_same : (v : Verdict) (name : List ℕ) → NoReturn name → verdict_line older v name ≡ verdict_line present v name

@@ -30,33 +30,11 @@ use Rattle.sum_engine.specs.declared.settings.Report.TheVariants as reports
 abbrev both : {A B C : Type 0} → Option A → Option B → (A → B → C) → Option C
 both x y f = x >>= (λ a. y >>= (λ b. Some (f a b)))
 
--- what follows of such values from facts of their parts
-both-known : {A B C : Type 0} (x y : Option A) (s t : Option B) (f g : A → B → C) {P : A → A → Type 0}
-    {Q : B → B → Type 0} (R : C → C → Type 0) → IfKnown x y P → IfKnown s t Q
-    → ((c d : A) (s t : B) → P c d → Q s t → R (f c s) (g d t)) → IfKnown (both x s f) (both y t g) R
-both-known None y s t f g R h k to = tt
-both-known (Some c) y None t f g R h k to = tt
-both-known (Some c) None (Some s) t f g R h k to = absurd h
-both-known (Some c) (Some d) (Some s) None f g R h k to = absurd k
-both-known (Some c) (Some d) (Some s) (Some t) f g R h k to = to c d s t h k
-
 -- and from facts of such values, made of the same parts in another way
 both-remade : {A B C : Type 0} (x y : Option A) (w v : Option B) (f g h k : A → B → C) (P R : C → C → Type 0)
     → IfKnown (both x w f) (both y v g) P
     → ((c d : A) (w v : B) → P (f c w) (g d v) → R (h c w) (k d v)) → IfKnown (both x w h) (both y v k) R
-both-remade None y w v f g h k P R is to = tt
-both-remade (Some c) y None v f g h k P R is to = tt
-both-remade (Some c) None (Some w) v f g h k P R is to = absurd is
-both-remade (Some c) (Some d) (Some w) None f g h k P R is to = absurd is
-both-remade (Some c) (Some d) (Some w) (Some v) f g h k P R is to = to c d w v is
-
--- the second alone
-both-second : {A B C : Type 0} (y : Option A) (z : Option B) (g : A → B → C) (a : C) (s : B) (P : C → C → Type 0)
-    (R : B → B → Type 0) → IfKnown (Some a) (both y z g) P → ((d : A) (z : B) → P a (g d z) → R s z)
-    → IfKnown (Some s) z R
-both-second None z g a s P R h to = absurd h
-both-second (Some d) None g a s P R h to = absurd h
-both-second (Some d) (Some z) g a s P R h to = to d z h
+both-remade x y w v f g h k P R is to = search rules
 
 -- what follows of two places from facts of their contents and of the streams, if these are known
 pub check_state-made : {I : Type 0} (state : I → InputState) (p q : CursorValue I) (s t : Option KnownState)
@@ -64,9 +42,7 @@ pub check_state-made : {I : Type 0} (state : I → InputState) (p q : CursorValu
     → IfKnown (remaining_content state p.reader) (remaining_content state q.reader) P → IfKnown s t Q
     → ((c d : Content) (s t : KnownState) → P c d → Q s t → R (state_at p c s) (state_at q d t))
     → IfKnown (check_state state p s) (check_state state q t) R
-check_state-made state p q s t R h k f =
-    both-known (remaining_content state p.reader) (remaining_content state q.reader) s t (state_at p) (state_at q) R h k
-    f
+check_state-made state p q s t R h k f = search rules
 
 -- what follows of the streams from a fact of the whole state
 pub known_state-made : {I : Type 0} (state : I → InputState) (q : CursorValue I) (z : Option KnownState)
@@ -74,7 +50,7 @@ pub known_state-made : {I : Type 0} (state : I → InputState) (q : CursorValue 
     (s : KnownState) (P : CheckState → CheckState → Type 0) (R : KnownState → KnownState → Type 0)
     → IfKnown (Some a) (check_state state q z) P
     → ((d : Content) (z : KnownState) → P a (state_at q d z) → R s z) → IfKnown (Some s) z R
-known_state-made state q z a s P R h f = both-second (remaining_content state q.reader) z (state_at q) a s P R h f
+known_state-made state q z a s P R h f = search rules
 
 -- ---- a step, by what the reader returned
 

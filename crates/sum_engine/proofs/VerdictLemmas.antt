@@ -22,16 +22,12 @@ verdict_by ignore kind d r = cond (ignore && not_found r) Missing (elim (digest_
 -- the verdict by a reply is the verdict by the outcome
 by_asked : (ignore : Bool) (kind : KindValue) (d : List ℕ) (r : Reply) (a : HashOutcome) → IsHashOutcome kind r a
     → verdict_by ignore kind d r ≡ verdict_of_outcome ignore d a
-by_asked ignore kind d r (asked.Read x) h = rw (h.1, h.2, and-false) refl
-by_asked ignore kind d r (asked.Broken f) h = rw (h.1, h.2, and-false) refl
-by_asked ignore kind d r (asked.NotOpened NotFound) h = rw (h, and-true) refl
-by_asked ignore kind d r (asked.NotOpened f) h = rw (h, and-false) refl
+by_asked ignore kind d r a h = search rules
 
 -- a name that either verdict asks
 asks_either : (b : Bool) (x y : Verdict) (name : List ℕ) → asks_by x name ≡ name ∷ [] → asks_by y name ≡ name ∷ []
     → asks_by (cond b x y) name ≡ name ∷ []
-asks_either true x y name h k = h
-asks_either false x y name h k = k
+asks_either b x y name h k = search rules
 
 -- whatever the outcome, the name was asked
 asks_compared : (ignore : Bool) (d : List ℕ) (a : HashOutcome) (name : List ℕ)
