@@ -29,10 +29,6 @@ pub record Along (whole left : Behavior) (a b : KnownState) : Type 0 where
   pub good : left.good ≡ whole.good
   pub did : Happened a b (trace done)
 
--- it begins so
-pub along_none : (r : Behavior) (a : KnownState) → Along r r a a
-along_none r a = record { done = []; steps = refl; good = refl; did = did_nothing a }
-
 -- one step more happened
 pub along_more : {a b c : KnownState} {whole left next : Behavior} → Along whole left a b → StepDone left next b c
     → Along whole next a c

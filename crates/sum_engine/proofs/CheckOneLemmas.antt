@@ -19,10 +19,9 @@ use Rattle.sum_engine.proofs.CountLemmas.{counts_then-none}
 use Rattle.sum_lines.specs.grammar.LineParts.{◌>>=◌}
 use Rattle.sum_engine.specs.check.Checking.{CheckSettings, rules_of, labels_of, content_behavior, check_behavior_by, check_behavior}
 use Rattle.sum_engine.specs.refinement.HashName.{world_by, world_of}
-use Rattle.sum_engine.proofs.WorldLemmas.{dash_asked}
 use Rattle.sum_engine.proofs.ExecutionLemmas.{Runs, Writing, known_refused, names-by, err_alone}
 use Rattle.sum_engine.proofs.StepLemmas.{known_state-made}
-use Rattle.sum_engine.proofs.BehaviorLemmas.{answered, once, unasked, Along, along_none, along_more, along_end, along_breaks, along_waits, behind_step}
+use Rattle.sum_engine.proofs.BehaviorLemmas.{answered, once, unasked, Along, along_more, along_end, along_breaks, along_waits, behind_step}
 use Rattle.sum_sources.specs.declared.sources.source.OpenFault.TheVariants as open_faults
 
 -- ---- a new checker, run to its end
@@ -168,18 +167,6 @@ check_gives : {S : Type 0} (state : S → SourceState) (k : Call) (dash : Bool) 
     → Checks state (rules_if k dash) (labels_if k dash) (option_map clip c) asked b x → CheckGives state k a b x
 check_gives state k dash c a asked b x is h run =
     check_gives_by k dash c (known_state state a) (known_state state asked) (known_state state b) x is h run
-
--- a name that was asked, with nothing written
-asked_only : {a b : KnownState} (name : List ℕ) → b.world ≡ after a.world (name ∷ [])
-    → b.stdin_taken ≡ a.stdin_taken || is_dash name → b.refusals ≡ a.refusals → b.err ≡ a.err → b.out ≡ a.out
-    → Happened a b (events_of (opening name))
-asked_only {a} name world taken refusals err out = search rules
-
--- the worlds of a source before and after standard input was taken
-dash_worlds : (name : List ℕ) (s : Option KnownSource) (c : Option Content) → is_dash name ≡ true
-    → IfKnown (world_by s c) (world_by s (Some empty_content))
-    (λ w v. (v ≡ after w (name ∷ [])) × (c ≡ Some w.input))
-dash_worlds name s c dash = search rules
 
 -- streams from which standard input was taken
 abbrev taken_from : {S : Type 0} → StreamsState S → Option Phase → StreamsState S

@@ -11,7 +11,3 @@ counts_then-none n = search rules
 -- after some lines, no more
 pub counts_then-nil : (n : CountsValue) → counts_then n (counts_of []) ≡ n
 counts_then-nil n = search rules
-
-pub counts_then-cons : (c : CountsValue) (j : LineVerdictValue) (js : List LineVerdictValue)
-    → counts_then c (counts_of (j ∷ js)) ≡ counts_then (counts_with c j.verdict) (counts_of js)
-counts_then-cons c j js = search rules

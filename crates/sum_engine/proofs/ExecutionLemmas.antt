@@ -137,11 +137,6 @@ prefix_behind p es more done h = (
 
 -- ---- states that are known or not
 
--- what follows of values that are made of known ones
-IfKnown-made : {A B : Type 0} (x y : Option A) (f g : A → B) {P : A → A → Type 0} (R : B → B → Type 0)
-    → IfKnown x y P → ((a b : A) → P a b → R (f a) (g b)) → IfKnown (option_map f x) (option_map g y) R
-IfKnown-made x y f g R h k = search rules
-
 -- the known state of these streams, by their world
 abbrev pub known : {S : Type 0} → (S → SourceState) → StreamsState S → World → KnownState
 known state m w = record {
@@ -182,16 +177,6 @@ pub where_known : {S : Type 0} (state : S → SourceState) (a b : StreamsState S
     → IfKnown (known_state state a) (known_state state b) R
 where_known state a b R h f = search rules
 
--- and what holds of their worlds from what holds of the states
-known-of : {A B : Type 0} (x y : Option A) (f g : A → B) (R : B → B → Type 0)
-    → IfKnown (option_map f x) (option_map g y) R → IfKnown x y (λ a b. R (f a) (g b))
-known-of x y f g R h = search rules
-
-pub known_worlds : {S : Type 0} (state : S → SourceState) (a b : StreamsState S) (R : KnownState → KnownState → Type 0)
-    → IfKnown (known_state state a) (known_state state b) R
-    → IfKnown (world_of state a) (world_of state b) (λ w v. R (known state a w) (known state b v))
-known_worlds state a b R h = search rules
-
 -- a value that stayed
 pub same_known : {A : Type 0} (x : Option A) → IfKnown x x (λ a b. b ≡ a)
 same_known None = tt
@@ -203,15 +188,6 @@ pub known_refused : {S : Type 0} (state : S → SourceState) (a b : StreamsState
     → b.out ≡ a.out → (state b.source).refusals ≡ one_more (state a.source).refusals
     → IfKnown (known_state state a) (known_state state b) OnlyRefused
 known_refused state a b world taken err out refused = search rules
-
--- standard error wrote a text or a prefix of it, and nothing else was done
-pub err_came : {S : Type 0} (state : S → SourceState) (a : StreamsState S) (err : SinkState) (text : List ℕ)
-    (x : Writing)
-    → WritesOrPrefix a.err.written err.written text x
-    → IfKnown (known_state state a) (known_state state (record a { err = err }))
-    (λ s t. Came x s t (events_by [] text []))
-err_came state a err text x h = where_known state a (record a { err = err }) _ (same_known (world_of state a))
-    (λ w v same. came_by _ _ [] text [] x (asks_none same refl refl) (err_alone a.err err a.out text x h))
 
 -- a behavior from one state to another, whatever the outputs buffer
 abbrev pub Runs : {S A : Type 0} → (S → SourceState) → (World → Behavior) → (Bool → A) → StreamsState S → StreamsState S

@@ -32,11 +32,6 @@ told_flushed a b c text (Err e) h k = (
       (k.buffered, subst (λ l. AppendsPrefix a.written c.written (l ++ text)) none (Accepted-flush_failed text h k)),
 )
 
--- writing it failed
-pub told_broken : {E : Type 0} (a c : SinkState) (text : List ℕ) (e : E) → WriteFailed a c text
-    → WritesAndFlushes a c text (Err e)
-told_broken a c text e h = search rules
-
 -- ---- one text after another
 
 -- a text, and then another or a prefix of it

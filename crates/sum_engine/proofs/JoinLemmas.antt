@@ -63,12 +63,6 @@ drop_next (suc k) [] ys y h = cc
 drop_next (suc k) (x ∷ xs) ys y h =
     let next = drop_next k xs ys y h in (next.0, ap (λ l. x ∷ l) next.1)
 
--- a list of which something remains after k of it is longer
-drop_within : {X : Type 0} (k : ℕ) (xs ys : List X) (y : X) → drop k xs ≡ y ∷ ys → k < length xs
-drop_within k xs ys y h =
-    let size : length xs - k ≡ suc (length ys) = sym (length-drop k xs) ∙ ap length h in
-    omega (arith, size)
-
 -- ---- k steps of a new checker
 
 module _ (r : Rules) (labels : LabelsValue) (c : Content) (s : KnownState) where

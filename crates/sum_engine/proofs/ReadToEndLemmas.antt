@@ -28,11 +28,6 @@ ReadToEnd-trans h k = search (rules, raised-add)
 abbrev Whole : Bool → Option Phase → Type 0
 Whole taken phase = ((taken ≡ false) × (phase ≡ Some Reading)) ⊎ ((taken ≡ true) × (phase ≡ Some Ended))
 
--- standard input as it was
-pub IsStdinWhole-same : {S : Type 0} (a b : StreamsState S) → b.stdin_taken ≡ a.stdin_taken
-    → b.stdin_phase ≡ a.stdin_phase → IsStdinWhole a → IsStdinWhole b
-IsStdinWhole-same a b taken phase whole = search rules
-
 -- no file was opened, and standard input is as it was
 pub ReadToEnd-none : {S : Type 0} (state : S → SourceState) (a b : StreamsState S)
     → (state b.source).opened ≡ (state a.source).opened → (state b.source).ended ≡ (state a.source).ended
@@ -49,16 +44,6 @@ pub put_back-whole : {I : Type 0} (input : I → InputState) (old before : Stdin
     → let after : StdinValue I = record before { returned = option_or before.returned given } in
     Whole (stdin_taken old) (stdin_phase input old) → Whole (stdin_taken after) (stdin_phase input after)
 put_back-whole input old before given taken same ends whole = search rules
-
--- what was taken stays so once it is put back
-put_back-taken : {I : Type 0} (before : StdinValue I) (given : Option I) → stdin_taken before ≡ true
-    → stdin_taken (record before { returned = option_or before.returned given }) ≡ true
-put_back-taken {I} before given taken = by before.input before.returned taken
-  where
-    by : (bi br : Option I) → is_none bi || is_some br ≡ true → is_none bi || is_some (option_or br given) ≡ true
-    by bi (Some y) h = or-true (is_none bi)
-    by None None h = refl
-    by (Some x) None h = cc
 
 -- ---- files
 

@@ -9,7 +9,6 @@ use Rattle.sum_engine.specs.check.Verdicts.{lines_by, Rules, LineVerdictValue, a
 use Rattle.sum_lines.specs.grammar.ParsedLines.{parse_line}
 use Rattle.sum_engine.specs.check.Reports.{LabelsValue, CountsValue, counts_of, out_of, err_of, end_text, good}
 use Rattle.sum_engine.specs.check.Checking.{line_steps}
-use Rattle.sum_engine.proofs.CountLemmas.{counts_then-cons}
 use Rattle.sum_engine.specs.check.CheckerSteps.{counts_with, counts_then, step_then, CheckState, LineHandled, next_judged, remaining_verdicts, remaining_behavior}
 
 -- what a line says by the form of all lines is what it says by the form so far and its own
