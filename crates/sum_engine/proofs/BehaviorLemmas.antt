@@ -101,15 +101,7 @@ behavior_then-first a b x y r s Write h = (
   ),
   h.2,
 )
-behavior_then-first a b x y r s Memory h = record {
-  done = h.done;
-  next = h.next;
-  later = h.later ++ s;
-  between = h.between;
-  are = ap (λ l. l ++ s) h.are ∙ append_assoc h.done (h.next ∷ h.later) s;
-  happened = h.happened;
-  refused = h.refused;
-}
+behavior_then-first a b x y r s Memory h = search (rules, append_assoc)
 
 -- a behavior after its first step, which happened
 pub behind_step : {A : Type 0} {a b : KnownState} (c : KnownState) (x : A) (s : Step) (r : List Step)
@@ -162,8 +154,7 @@ kind_of_events : {X : Type 0} (h : Event → Option X) (part : Step → List X)
     → ((s : Step) → filter_map h (events_of s) ≡ part s) → (steps : List Step)
     → filter_map h (trace steps) ≡ flat_map part steps
 kind_of_events h part one [] = refl
-kind_of_events h part one (s ∷ steps) = filter_map-append h (events_of s) (trace steps)
-    ∙ ap (λ l. l ++ filter_map h (trace steps)) (one s) ∙ ap (λ l. part s ++ l) (kind_of_events h part one steps)
+kind_of_events h part one (s ∷ steps) = search (rules, filter_map-append, kind_of_events h part one steps)
 
 -- so what happened of a run extends each output by the run's text there, and asks its names
 pub events_extend : EventsExtend

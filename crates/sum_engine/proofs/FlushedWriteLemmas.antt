@@ -37,13 +37,7 @@ told_flushed a b c text (Err e) h k = (
 -- a text, and then another or a prefix of it
 pub tells_then : {E : Type 0} (a b c : SinkState) (x y : List ℕ) (r : Result (Unit {0}) E)
     → WritesAndFlushes {E = E} a b x (Ok tt) → WritesAndFlushes b c y r → WritesAndFlushes a c (x ++ y) r
-tells_then a b c x y (Ok u) h k = (
-  k.0 ∙ h.0,
-  λ none.
-      let first = h.1 none in
-      let then = k.1 first.0 in
-      (then.0, Appends-trans a.written b.written c.written x y first.1 then.1),
-)
+tells_then a b c x y (Ok u) h k = search (rules, Appends-trans)
 tells_then a b c x y (Err e) h k = (
   k.0 ∙ ap one_more h.0,
   λ none.

@@ -83,16 +83,14 @@ rights-err r labels n (i ∷ is) = rights-err r labels (n + 1) is
 pub out_text-line_steps : (r : Rules) (labels : LabelsValue) (end : List ℕ) (c : Content) (js : List LineVerdictValue)
     → flat_map (λ s. s.out) (line_steps r labels end c js) ≡ flat_map (out_of r labels) js
 out_text-line_steps r labels end c [] = refl
-out_text-line_steps r labels end c (j ∷ js) =
-    ap (λ l. out_of r labels j ++ l) (out_text-line_steps r labels end (past_line c) js)
+out_text-line_steps r labels end c (j ∷ js) = search (rules, out_text-line_steps r labels end (past_line c) js)
 
 -- on standard error these, and then the end
 pub err_text-line_steps : (r : Rules) (labels : LabelsValue) (end : List ℕ) (c : Content) (js : List LineVerdictValue)
     → flat_map (λ s. s.err) (line_steps r labels end c js) ≡ flat_map (err_of r labels) js ++ end
 err_text-line_steps r labels end c [] = append-nil end
 err_text-line_steps r labels end c (j ∷ js) =
-    ap (λ l. err_of r labels j ++ l) (err_text-line_steps r labels end (past_line c) js)
-    ∙ sym (append_assoc (err_of r labels j) (flat_map (err_of r labels) js) end)
+    search (rules, append_assoc, err_text-line_steps r labels end (past_line c) js)
 
 -- the counts of k right lines
 abbrev right_counts : ℕ → CountsValue

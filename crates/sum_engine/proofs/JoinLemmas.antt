@@ -1,5 +1,5 @@
 -- `steps_join`: the steps of a new checker, one after another, by induction on the list of their vectors.
-use Rattle.std.proofs.Common.{◌≡◌, ℕ, zero, suc, ◌+◌, ◌-◌, ◌≤◌, ◌<◌, Bool, true, List, [], ◌∷◌, ◌++◌, length, take, drop, refl, ap, sym, ◌∙◌, arith, length-drop, flat_map, slice_index_or}
+use Rattle.std.proofs.Common.{rules, ◌≡◌, ℕ, zero, suc, ◌+◌, ◌-◌, ◌≤◌, ◌<◌, Bool, true, List, [], ◌∷◌, ◌++◌, length, take, drop, refl, ap, sym, ◌∙◌, arith, length-drop, flat_map, slice_index_or}
 use Rattle.std.proofs.lemmas.List.{take-append-drop}
 use Rattle.sum_sources.specs.Contents.{Content}
 use Rattle.sum_sources.specs.ManifestLines.{past_line, past_lines}
@@ -28,11 +28,7 @@ reports : (r : Rules) (labels : LabelsValue) (end : List ℕ) (c : Content) (js 
 reports r labels end c js zero few = (refl, refl, refl)
 reports r labels end c [] (suc k) few = absurd (omega (arith, few))
 reports r labels end c (j ∷ js) (suc k) few =
-    let more = reports r labels end (past_line c) js k (omega (arith, few)) in (
-      ap (λ l. out_of r labels j ++ l) more.0,
-      ap (λ l. err_of r labels j ++ l) more.1,
-      ap (λ l. asks_of j ++ l) more.2,
-    )
+    search (rules, reports r labels end (past_line c) js k (omega (arith, few)))
 
 -- there are as many verdicts as lines
 length_verdicts : (r : Rules) (f : Form) (w : World) (n : ℕ) (ls : List (List ℕ))
@@ -60,8 +56,7 @@ drop_next : {X : Type 0} (k : ℕ) (xs ys : List X) (y : X) → drop k xs ≡ y 
 drop_next zero [] ys y h = cc
 drop_next zero (x ∷ xs) ys y h = (ap (drop 1) h, ap (take 1) h)
 drop_next (suc k) [] ys y h = cc
-drop_next (suc k) (x ∷ xs) ys y h =
-    let next = drop_next k xs ys y h in (next.0, ap (λ l. x ∷ l) next.1)
+drop_next (suc k) (x ∷ xs) ys y h = search (rules, drop_next k xs ys y h)
 
 -- ---- k steps of a new checker
 
@@ -181,8 +176,7 @@ vectors_fit : (r : Rules) (labels : LabelsValue) (a b : CheckState) (vectors : L
     → length (slice_index_or vectors i []) ≤ length (slice_index_or (lines_by r.profile a.rest) i [])
 vectors_fit r labels a b [] is i = omega arith
 vectors_fit r labels a b (v ∷ vectors) more zero = rw more.1.1.lines more.1.1.vector_len
-vectors_fit r labels a b (v ∷ vectors) more (suc i) =
-    rw more.1.1.lines (vectors_fit r labels more.0 b vectors more.2 i)
+vectors_fit r labels a b (v ∷ vectors) more (suc i) = search (rules, vectors_fit r labels more.0 b vectors more.2 i)
 
 -- the law
 pub steps_join : StepsJoin

@@ -34,9 +34,7 @@ byte_same b free = grind (arith, nat_tests)
 -- so a name without one has the same escape
 pub same_escape : (name : List ℕ) → NoReturn name → escape_by older name ≡ escape_by present name
 same_escape [] free = refl
-same_escape (b ∷ bs) free =
-    ap (λ l. l ++ escape_by older bs) (byte_same b (All-head NotReturn b bs free))
-    ∙ ap (λ l. escape_of present b ++ l) (same_escape bs (All-tail NotReturn b bs free))
+same_escape (b ∷ bs) free = search (rules, All-head, byte_same, same_escape bs (All-tail NotReturn b bs free))
 
 -- ---- names
 
@@ -91,10 +89,8 @@ entry_by E F algos f line s same h = search rules
 -- an older entry of a line without one has a name without one
 older_entry : (algos : Algos) (f : Form) (line : List ℕ) (s : EntryValue) → NoReturn line
     → IsEntry (escape_by older) algos f line s → NoReturn s.name
-older_entry algos f line s free (i, inl t) =
-    older_name t.escaped t.raw s.name (tag_clean (escape_by older) algos line s free t) t.spells
-older_entry algos f line s free (i, inr t) =
-    older_name t.escaped t.raw s.name (tail_clean (escape_by older) algos f line s free t) t.spells
+older_entry algos f line s free (i, inl t) = search (rules, older_name, tag_clean)
+older_entry algos f line s free (i, inr t) = search (rules, older_name, tail_clean)
 
 -- ---- what a line says
 

@@ -129,12 +129,7 @@ fault_same tool name f free = rw (same_escape name free) refl
 -- what a line of the manifest adds to standard error
 err_same : (r : Rules) (labels : LabelsValue) (n : ℕ) (v : Verdict) (name : List ℕ) → NoReturn labels.list
     → NoReturn name → err_by (rules_under older r) labels n v name ≡ err_by (rules_under present r) labels n v name
-err_same r labels n Bad name own free =
-    let same : bad_line (rules_under older r) labels n ≡ bad_line (rules_under present r) labels n =
-    rw (same_escape labels.list own) refl in
-    ap (λ (line : List ℕ). elim labels.report as (λ x. List ℕ) [ reports.Warn ↦ line | x ↦ [] ]) same
-err_same r labels n (Unread f) name own free = fault_same labels.tool name f free
-err_same r labels n v name own free = refl
+err_same r labels n v name own free = search (rules, same_escape, fault_same)
 
 -- all that is written there
 errs_same : (r : Rules) (labels : LabelsValue) (js : List LineVerdictValue) → NoReturn labels.list → All CleanName js
@@ -220,8 +215,7 @@ content_same r labels w c h =
 
 -- so is that of its name
 pub old_outcomes : OldOutcomes
-old_outcomes r labels name w (Err f) own h =
-    ap (λ (l : List ℕ). single_step (name ∷ []) l [] false) (fault_same labels.tool labels.list f own)
+old_outcomes r labels name w (Err f) own h = search (rules, fault_same)
 old_outcomes r labels name w (Ok c) own h =
     ap (step_then (opening name)) (content_same r labels w (clip c) (h c refl))
 

@@ -99,8 +99,7 @@ step_by : (r : Rules) (labels : LabelsValue) (a b : CheckState) (vector : List �
     → remaining_behavior r labels a ≡ step_then step (remaining_behavior r labels b) → LineHandled r a b vector
     → Came x a.known_state b.known_state (events_of step) → StepIs r labels vector a b (answered x Going)
 step_by r labels a b vector step (Ok u) is moves did = (record { step = step; is = is; happened = did }, moves)
-step_by r labels a b vector step (Err e) is moves cut =
-    record { step = step; rest = remaining_behavior r labels b; is = is; happened = cut }
+step_by r labels a b vector step (Err e) is moves cut = search rules
 
 -- the last step was done, or a prefix of its events
 last_by : (r : Rules) (labels : LabelsValue) (a b : CheckState) (vector : List ℕ) (step : Step) (answer : Bool)
