@@ -16,7 +16,7 @@ use Rattle.sum_engine.specs.refinement.FlushedWrites.{WritesOrPrefix, WritesBoth
 use Rattle.sum_lines.specs.grammar.LineParts.{◌>>=◌}
 use Rattle.sum_engine.specs.Execution.{StreamsState, KnownState, known_state, Stop, Happened, PrefixHappened, PerformsSteps}
 use Rattle.sum_engine.specs.refinement.HashName.{world_by, world_of}
-use Rattle.sum_engine.specs.check.NextVerdict.{OnlyRefused}
+use Rattle.sum_engine.specs.check.NextVerdict.{OnlyRefused, lent_streams}
 use Rattle.sum_engine.proofs.WorldLemmas.{after-append}
 
 -- ---- what of a step's events is of each kind
@@ -139,36 +139,16 @@ prefix_behind p es more done h = (
 
 -- the known state of these streams, by their world
 abbrev pub known : {S : Type 0} → (S → SourceState) → StreamsState S → World → KnownState
-known state m w = record {
-  world = w;
-  refusals = (state m.source).refusals;
-  stdin_taken = m.stdin_taken;
-  err = m.err;
-  out = m.out;
-}
+known state m w = let s = state m.source in
+    record { world = w; refusals = s.refusals; stdin_taken = m.stdin_taken; err = m.err; out = m.out }
 
 -- the state of the streams that a call has
 abbrev pub streams_of : {I S : Type 0} → (I → InputState) → StdinValue I → S → SinkState → SinkState → StreamsState S
-streams_of state stdin source err out = record {
-  source = source;
-  input = (stdin_state state stdin).content;
-  stdin_taken = taken stdin;
-  stdin_phase = phase state stdin;
-  err = err;
-  out = out;
-}
-
--- known_state by the world, if that is known
-by_world : (f : World → KnownState) (t : Option KnownSource) (c : Option Content)
-    → (t >>= (λ t. c >>= (λ c. Some (f (record { answer = t.answer; asked = t.asked; input = c })))))
-    ≡ option_map f (world_by t c)
-by_world f None c = refl
-by_world f (Some t) None = refl
-by_world f (Some t) (Some c) = refl
+streams_of state stdin source err out = record (lent_streams state stdin source) { err = err; out = out }
 
 pub known_state-by_world : {S : Type 0} (state : S → SourceState) (m : StreamsState S)
     → known_state state m ≡ option_map (known state m) (world_of state m)
-known_state-by_world state m = by_world (known state m) (state m.source).known m.input
+known_state-by_world state m = search rules
 
 -- what follows of two states from what holds of their worlds, if these are known
 pub where_known : {S : Type 0} (state : S → SourceState) (a b : StreamsState S) {P : World → World → Type 0}

@@ -49,22 +49,13 @@ put_back-whole input old before given taken same ends whole = search rules
 
 -- closing a file changes nothing else
 pub closed_state-known : (s : SourceState) (p : Phase) → (closed_state s p).known ≡ s.known
-closed_state-known s Reading = refl
-closed_state-known s Ended = refl
-closed_state-known s Failed = refl
-closed_state-known s Past = refl
+closed_state-known s p = search rules
 
 pub closed_state-refusals : (s : SourceState) (p : Phase) → (closed_state s p).refusals ≡ s.refusals
-closed_state-refusals s Reading = refl
-closed_state-refusals s Ended = refl
-closed_state-refusals s Failed = refl
-closed_state-refusals s Past = refl
+closed_state-refusals s p = search rules
 
 pub closed_state-opened : (s : SourceState) (p : Phase) → (closed_state s p).opened ≡ s.opened
-closed_state-opened s Reading = refl
-closed_state-opened s Ended = refl
-closed_state-opened s Failed = refl
-closed_state-opened s Past = refl
+closed_state-opened s p = search rules
 
 -- a file was opened, and closed at its end
 pub ReadToEnd-file : {S : Type 0} (state : S → SourceState) (a b : StreamsState S) (between : S) (p : Phase)

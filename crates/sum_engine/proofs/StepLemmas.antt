@@ -26,16 +26,6 @@ use Rattle.sum_engine.specs.declared.settings.Report.TheVariants as reports
 
 -- ---- the state of a check that may not be known
 
--- two values that may not be known, made to one
-abbrev both : {A B C : Type 0} → Option A → Option B → (A → B → C) → Option C
-both x y f = x >>= (λ a. y >>= (λ b. Some (f a b)))
-
--- and from facts of such values, made of the same parts in another way
-both-remade : {A B C : Type 0} (x y : Option A) (w v : Option B) (f g h k : A → B → C) (P R : C → C → Type 0)
-    → IfKnown (both x w f) (both y v g) P
-    → ((c d : A) (w v : B) → P (f c w) (g d v) → R (h c w) (k d v)) → IfKnown (both x w h) (both y v k) R
-both-remade x y w v f g h k P R is to = search rules
-
 -- what follows of two places from facts of their contents and of the streams, if these are known
 pub check_state-made : {I : Type 0} (state : I → InputState) (p q : CursorValue I) (s t : Option KnownState)
     {P : Content → Content → Type 0} {Q : KnownState → KnownState → Type 0} (R : CheckState → CheckState → Type 0)
@@ -117,17 +107,6 @@ out_by-ignored p report name = refl
 -- from the place p and the streams a to the place q and the streams b
 module _ {I S : Type 0} (input : I → InputState) (state : S → SourceState) (p q : CursorValue I) (a b : StreamsState S)
   where
-    -- the state of the check by the world
-    by_world : (p : CursorValue I) (m : StreamsState S) → check_state input p (known_state state m)
-        ≡ both (remaining_content input p.reader) (world_of state m) (λ c w. state_at p c (known state m w))
-    by_world p m = rw (known_state-by_world state m) (both-mapped (remaining_content input p.reader) (world_of state m))
-      where
-        both-mapped : (x : Option Content) (w : Option World)
-            → both x (option_map (known state m) w) (state_at p) ≡ both x w (λ c w. state_at p c (known state m w))
-        both-mapped None w = refl
-        both-mapped (Some c) None = refl
-        both-mapped (Some c) (Some w) = refl
-
     -- what follows from facts of the streams without their outputs
     from_asked : (P R : CheckState → CheckState → Type 0)
         → IfKnown (check_state input p (known_state state (asked a)))
@@ -136,9 +115,7 @@ module _ {I S : Type 0} (input : I → InputState) (state : S → SourceState) (
         → P (state_at p c (known state (asked a) w)) (state_at q d (known state (asked b) v))
         → R (state_at p c (known state a w)) (state_at q d (known state b v)))
         → IfKnown (check_state input p (known_state state a)) (check_state input q (known_state state b)) R
-    from_asked P R is to = rw (by_world p a, by_world q b) (both-remade (remaining_content input p.reader)
-        (remaining_content input q.reader) (world_of state a) (world_of state b) _ _ _ _ P R
-        (rw (by_world p (asked a), by_world q (asked b)) at is) to)
+    from_asked P R is to = search rules
 
     -- a line was found, and its report was written, or a prefix of it
     pub step_found : (labels : LabelsValue) (vector : List ℕ) (v : LineVerdict) (x : Writing)
@@ -152,21 +129,10 @@ module _ {I S : Type 0} (input : I → InputState) (state : S → SourceState) (
     step_found labels vector v x found writes = from_asked _ _ found (λ c d w v' f.
         let j = line_verdict_value vector v in
         let names = asks_by (asks_of j) f.0.happened in
-        let asks : Asks (known state a w) (known state b v') (asks_of j) =
-        record { world = names.world; taken = names.taken; refusals = names.refusals } in
+        let asks : Asks (known state a w) (known state b v') (asks_of j) = search rules in
         let first : CheckState = state_at p c (known state a w) in
         let next : CheckState = state_at q d (known state b v') in
-        let moves : LineHandled p.rules first next vector = record {
-          line = f.1.line;
-          lines = f.1.lines;
-          rest = f.1.rest;
-          consumed = f.1.consumed;
-          taken = f.1.taken;
-          number = f.1.number;
-          form = f.1.form;
-          counts = f.1.counts;
-          vector_len = f.1.vector_len;
-        } in
+        let moves : LineHandled p.rules first next vector = search rules in
         step_by p.rules labels first next vector (line_step p.rules labels (length c.bytes) j) x
         (found_first p.rules labels first next j f.0.first f.0.counts f.1.rest) moves
         (came_by _ _ (asks_of j) _ _ x asks writes))
@@ -184,13 +150,7 @@ module _ {I S : Type 0} (input : I → InputState) (state : S → SourceState) (
           step = s.0;
           rest = s.1;
           is = s.2;
-          refused = elim f.0 [
-            | inl e ↦ inl (rw (ap (λ t. t.world) e, ap (λ t. t.stdin_taken) e, ap (λ t. t.refusals) e, err, out) refl)
-            | inr e ↦ inr (
-              rw (ap (λ t. t.world) e, ap (λ t. t.stdin_taken) e, ap (λ t. t.refusals) e, err, out) refl,
-              subst (λ k. 0 < k) (sym s.3) f.1,
-            )
-          ];
+          refused = search rules;
         })
 
     -- the end was found, and its text was written, or a prefix of it
