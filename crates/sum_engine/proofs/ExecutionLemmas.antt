@@ -29,13 +29,13 @@ events_by names err out = map open_name names ++ (map write_err err ++ map write
 kind-all : {A : Type 0} (f : A → Event) (h : Event → Option A) → ((x : A) → h (f x) ≡ Some x) → (xs : List A)
     → filter_map h (map f xs) ≡ xs
 kind-all f h same [] = refl
-kind-all f h same (x ∷ xs) = rw (same x) (ap (λ l. x ∷ l) (kind-all f h same xs))
+kind-all f h same (x ∷ xs) = search (rules, kind-all f h same xs)
 
 -- events of another kind
 kind-none : {A B : Type 0} (f : A → Event) (h : Event → Option B) → ((x : A) → h (f x) ≡ None) → (xs : List A)
     → filter_map h (map f xs) ≡ []
 kind-none f h none [] = refl
-kind-none f h none (x ∷ xs) = rw (none x) (kind-none f h none xs)
+kind-none f h none (x ∷ xs) = search (rules, kind-none f h none xs)
 
 -- the names
 pub names-by : (names : List (List ℕ)) (err out : List ℕ) → filter_map name_in (events_by names err out) ≡ names
@@ -146,10 +146,6 @@ known state m w = let s = state m.source in
 abbrev pub streams_of : {I S : Type 0} → (I → InputState) → StdinValue I → S → SinkState → SinkState → StreamsState S
 streams_of state stdin source err out = record (lent_streams state stdin source) { err = err; out = out }
 
-pub known_state-by_world : {S : Type 0} (state : S → SourceState) (m : StreamsState S)
-    → known_state state m ≡ option_map (known state m) (world_of state m)
-known_state-by_world state m = search rules
-
 -- what follows of two states from what holds of their worlds, if these are known
 pub where_known : {S : Type 0} (state : S → SourceState) (a b : StreamsState S) {P : World → World → Type 0}
     (R : KnownState → KnownState → Type 0) → IfKnown (world_of state a) (world_of state b) P
@@ -159,8 +155,7 @@ where_known state a b R h f = search rules
 
 -- a value that stayed
 pub same_known : {A : Type 0} (x : Option A) → IfKnown x x (λ a b. b ≡ a)
-same_known None = tt
-same_known (Some a) = refl
+same_known x = search rules
 
 -- the source was refused memory, and nothing else was done
 pub known_refused : {S : Type 0} (state : S → SourceState) (a b : StreamsState S)

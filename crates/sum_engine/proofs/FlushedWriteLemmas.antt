@@ -41,9 +41,8 @@ tells_then a b c x y (Ok u) h k = search (rules, Appends-trans)
 tells_then a b c x y (Err e) h k = (
   k.0 ∙ ap one_more h.0,
   λ none.
-      let first = h.1 none in
-      let then = k.1 first.0 in
-      (then.0, prefix_then a.written b.written c.written x y first.1 then.1),
+      let then = k.1 (h.1 none).0 in
+      (then.0, prefix_then a.written b.written c.written x y (h.1 none).1 then.1),
 )
 
 -- a prefix of a text, and none of the next

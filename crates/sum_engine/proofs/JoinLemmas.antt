@@ -83,17 +83,7 @@ module _ (r : Rules) (labels : LabelsValue) (c : Content) (s : KnownState) where
 
   -- no step yet
   after_none : After (initial_state c s) 0
-  after_none =
-      let all = remaining-initial r labels c s in
-      record {
-        rest = refl;
-        lines = refl;
-        consumed = omega arith;
-        taken = omega arith;
-        done = did_nothing s;
-        remaining = ap (λ (q : Behavior). q.steps) all;
-        good = ap (λ (q : Behavior). q.good) all;
-      }
+  after_none = search (rules, remaining-initial, did_nothing)
 
   -- one more
   after_more : {b d : CheckState} {v : List ℕ} {k : ℕ} → After b k
@@ -108,8 +98,7 @@ module _ (r : Rules) (labels : LabelsValue) (c : Content) (s : KnownState) where
       record {
         rest = rest;
         lines = sym line.0;
-        consumed = ap (λ (x : Content). d.consumed + length x.bytes) (sym rest) ∙ moves.consumed
-            ∙ ap (λ (x : Content). b.consumed + length x.bytes) h.rest ∙ h.consumed;
+        consumed = search (rules, rest);
         taken = moves.taken;
         done = rw remaining.1 (steps_more (take k whole.steps) step.step h.done step.happened);
         remaining = sym remaining.0;
@@ -126,34 +115,21 @@ module _ (r : Rules) (labels : LabelsValue) (c : Content) (s : KnownState) where
 
   -- the whole behavior is what was done and what remains
   along : {b : CheckState} {k : ℕ} → After b k → Along whole (remaining_behavior r labels b) s b.known_state
-  along {b} {k} h = record {
-    done = take k whole.steps;
-    steps = sym (take-append-drop k whole.steps) ∙ ap (λ l. take k whole.steps ++ l) (sym h.remaining);
-    good = h.good;
-    did = h.done;
-  }
+  along h = search (rules, take-append-drop)
 
   -- a step is left after k steps only if k is at most the number of lines
   few : {b : CheckState} {k : ℕ} → After b k → k ≤ length js
   few {b} {k} h =
-      let first = drop_first k h.remaining (remaining_some b) in
-      omega (arith, first, length_steps r labels end c js)
-    where
-      remaining_some : (b : CheckState) → 0 < length (remaining_behavior r labels b).steps
-      remaining_some b =
-          let ks = remaining_verdicts r b in
-          let text = end_text r labels b.rest.ending (counts_then b.counts (counts_of ks)) in
-          omega (arith, length_steps r labels text b.rest ks)
-
-      drop_first : {xs : List Step} (k : ℕ) → xs ≡ drop k whole.steps → 0 < length xs → k < length whole.steps
-      drop_first k is some = omega (arith, some, ap length is ∙ length-drop k whole.steps)
+      let ks = remaining_verdicts r b in
+      let text = end_text r labels b.rest.ending (counts_then b.counts (counts_of ks)) in
+      let left = ap length h.remaining ∙ length-drop k whole.steps in
+      omega (arith, left, length_steps r labels text b.rest ks, length_steps r labels end c js)
 
   -- the step that ends
   ends : {b : CheckState} {k : ℕ} → After b k → (answer : Bool) (z : KnownState)
       → LastStepDone (remaining_behavior r labels b) answer b.known_state z
       → EndsManifest r labels c js k b.known_state z answer
   ends {b} {k} h answer z e =
-      let size = length_verdicts r (form r.algo (lines_by r.profile c)) s.world 0 (lines_by r.profile c) in
       let last = sym h.remaining ∙ ap (λ (q : Behavior). q.steps) e.is in
       let one : length whole.steps - k ≡ 1 = sym (length-drop k whole.steps) ∙ ap length last in
       let number : k ≡ length js = omega (arith, one, length_steps r labels end c js) in
@@ -163,7 +139,7 @@ module _ (r : Rules) (labels : LabelsValue) (c : Content) (s : KnownState) where
       let is : e.step ≡ record { names = []; err = end; out = []; remaining = step.0 } = cc in
       let did = rw is at e.happened in
       record {
-        lines = number ∙ size;
+        lines = number ∙ length_verdicts r (form r.algo (lines_by r.profile c)) s.world 0 (lines_by r.profile c);
         good = (along_end (along h) e).0;
         err = rw (err-by [] end []) at did.err;
         out = rw (out-by [] end []) at did.out;

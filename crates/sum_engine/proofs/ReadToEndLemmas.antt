@@ -47,13 +47,7 @@ put_back-whole input old before given taken same ends whole = search rules
 
 -- ---- files
 
--- closing a file changes nothing else
-pub closed_state-known : (s : SourceState) (p : Phase) → (closed_state s p).known ≡ s.known
-closed_state-known s p = search rules
-
-pub closed_state-refusals : (s : SourceState) (p : Phase) → (closed_state s p).refusals ≡ s.refusals
-closed_state-refusals s p = search rules
-
+-- closing a file changes no number of opened ones
 pub closed_state-opened : (s : SourceState) (p : Phase) → (closed_state s p).opened ≡ s.opened
 closed_state-opened s p = search rules
 

@@ -17,7 +17,7 @@ use Rattle.sum_engine.specs.check.NextVerdict.{LineVerdict, line_verdict_value, 
 use Rattle.sum_engine.specs.refinement.Judging.{TakesLine}
 use Rattle.sum_engine.specs.refinement.FlushedWrites.{WritesAndFlushes, WritesBoth}
 use Rattle.sum_engine.specs.refinement.HashName.{world_of}
-use Rattle.sum_engine.proofs.ExecutionLemmas.{Asks, Writing, Came, known, known_state-by_world, asks_by, asks_none, came_by, err_alone}
+use Rattle.sum_engine.proofs.ExecutionLemmas.{Asks, Writing, Came, known, asks_by, asks_none, came_by, err_alone}
 use Rattle.sum_engine.proofs.BehaviorLemmas.{answered}
 use Rattle.sum_engine.proofs.CountLemmas.{counts_then-nil}
 use Rattle.sum_engine.proofs.RestLemmas.{line_step, behavior_by, first_step, found_first}
@@ -95,14 +95,13 @@ step_by r labels a b vector step (Err e) is moves cut = search rules
 last_by : (r : Rules) (labels : LabelsValue) (a b : CheckState) (vector : List ℕ) (step : Step) (answer : Bool)
     (x : Writing) → remaining_behavior r labels a ≡ record { steps = step ∷ []; good = answer }
     → Came x a.known_state b.known_state (events_of step) → StepIs r labels vector a b (answered x (Ended answer))
-last_by r labels a b vector step answer (Ok u) is did = record { step = step; is = is; happened = did }
+last_by r labels a b vector step answer (Ok u) is did = search rules
 last_by r labels a b vector step answer (Err e) is cut =
     record { step = step; rest = record { steps = []; good = answer }; is = is; happened = cut }
 
 -- of an ignored line nothing is reported
 pub out_by-ignored : (p : Profile) (report : Report) (name : List ℕ) → out_by p report Ignored name ≡ []
-out_by-ignored p reports.Status name = refl
-out_by-ignored p report name = refl
+out_by-ignored p report name = search rules
 
 -- from the place p and the streams a to the place q and the streams b
 module _ {I S : Type 0} (input : I → InputState) (state : S → SourceState) (p q : CursorValue I) (a b : StreamsState S)
@@ -146,12 +145,7 @@ module _ {I S : Type 0} (input : I → InputState) (state : S → SourceState) (
     step_refused labels vector found err out = from_asked _ _ found (λ c d w v f.
         let s = first_step p.rules labels c.ending p.counts c
         (remaining_verdicts p.rules (state_at p c (known state a w))) in
-        record {
-          step = s.0;
-          rest = s.1;
-          is = s.2;
-          refused = search rules;
-        })
+        search rules)
 
     -- the end was found, and its text was written, or a prefix of it
     pub step_end : (labels : LabelsValue) (vector : List ℕ) (e : Ending) (answer : Bool) (x : Writing)
