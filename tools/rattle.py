@@ -275,7 +275,8 @@ class Definition:
 
     def constructors(self):
         """The constructors of a type."""
-        return re.findall(r"^  (?:pub )?(\S+) :", self.text, re.MULTILINE) if self.kind == "data" else []
+        rows = re.findall(r"^  (?:pub )?(\S[^:\n]*) :", self.text, re.MULTILINE) if self.kind == "data" else []
+        return [name for names in rows for name in names.split()]
 
 
 class Module:

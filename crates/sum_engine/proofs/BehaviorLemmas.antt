@@ -29,10 +29,6 @@ pub record Along (whole left : Behavior) (a b : KnownState) : Type 0 where
   pub good : left.good ≡ whole.good
   pub did : Happened a b (trace done)
 
--- it begins so
-pub along_none : (r : Behavior) (a : KnownState) → Along r r a a
-along_none r a = record { done = []; steps = refl; good = refl; did = did_nothing a }
-
 -- one step more happened
 pub along_more : {a b c : KnownState} {whole left next : Behavior} → Along whole left a b → StepDone left next b c
     → Along whole next a c
@@ -63,15 +59,7 @@ along_breaks {whole = whole} h k =
 -- a step that memory was wanted for
 pub along_waits : {A : Type 0} {a b c : KnownState} {whole left : Behavior} (x : A) → Along whole left a b
     → StepRefused left b c → PerformsSteps whole.steps x a c (Err Memory)
-along_waits {b = b} x h k = record {
-  done = h.done;
-  next = k.step;
-  later = k.rest.steps;
-  between = b;
-  are = h.steps ∙ ap (λ r. h.done ++ r.steps) k.is;
-  happened = h.did;
-  refused = k.refused;
-}
+along_waits x h k = search rules
 
 -- ---- a behavior after a step, and one behavior after another
 
@@ -113,15 +101,7 @@ behavior_then-first a b x y r s Write h = (
   ),
   h.2,
 )
-behavior_then-first a b x y r s Memory h = record {
-  done = h.done;
-  next = h.next;
-  later = h.later ++ s;
-  between = h.between;
-  are = ap (λ l. l ++ s) h.are ∙ append_assoc h.done (h.next ∷ h.later) s;
-  happened = h.happened;
-  refused = h.refused;
-}
+behavior_then-first a b x y r s Memory h = search (rules, append_assoc)
 
 -- a behavior after its first step, which happened
 pub behind_step : {A : Type 0} {a b : KnownState} (c : KnownState) (x : A) (s : Step) (r : List Step)
@@ -174,13 +154,8 @@ kind_of_events : {X : Type 0} (h : Event → Option X) (part : Step → List X)
     → ((s : Step) → filter_map h (events_of s) ≡ part s) → (steps : List Step)
     → filter_map h (trace steps) ≡ flat_map part steps
 kind_of_events h part one [] = refl
-kind_of_events h part one (s ∷ steps) = filter_map-append h (events_of s) (trace steps)
-    ∙ ap (λ l. l ++ filter_map h (trace steps)) (one s) ∙ ap (λ l. part s ++ l) (kind_of_events h part one steps)
+kind_of_events h part one (s ∷ steps) = search (rules, filter_map-append, kind_of_events h part one steps)
 
 -- so what happened of a run extends each output by the run's text there, and asks its names
 pub events_extend : EventsExtend
-events_extend r a b did = (
-  rw (kind_of_events name_in (λ s. s.names) (λ s. names-by s.names s.err s.out) r.steps) at did.world,
-  rw (kind_of_events err_in (λ s. s.err) (λ s. err-by s.names s.err s.out) r.steps) at did.err,
-  rw (kind_of_events out_in (λ s. s.out) (λ s. out-by s.names s.err s.out) r.steps) at did.out,
-)
+events_extend r a b did = search (rules, kind_of_events, names-by, err-by, out-by)

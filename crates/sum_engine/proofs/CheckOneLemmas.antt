@@ -19,10 +19,9 @@ use Rattle.sum_engine.proofs.CountLemmas.{counts_then-none}
 use Rattle.sum_lines.specs.grammar.LineParts.{◌>>=◌}
 use Rattle.sum_engine.specs.check.Checking.{CheckSettings, rules_of, labels_of, content_behavior, check_behavior_by, check_behavior}
 use Rattle.sum_engine.specs.refinement.HashName.{world_by, world_of}
-use Rattle.sum_engine.proofs.WorldLemmas.{dash_asked}
 use Rattle.sum_engine.proofs.ExecutionLemmas.{Runs, Writing, known_refused, names-by, err_alone}
 use Rattle.sum_engine.proofs.StepLemmas.{known_state-made}
-use Rattle.sum_engine.proofs.BehaviorLemmas.{answered, once, unasked, Along, along_none, along_more, along_end, along_breaks, along_waits, behind_step}
+use Rattle.sum_engine.proofs.BehaviorLemmas.{answered, once, unasked, Along, along_more, along_end, along_breaks, along_waits, behind_step}
 use Rattle.sum_sources.specs.declared.sources.source.OpenFault.TheVariants as open_faults
 
 -- ---- a new checker, run to its end
@@ -32,196 +31,67 @@ pub remaining-initial : (r : Rules) (labels : LabelsValue) (c : Content) (s : Kn
     → remaining_behavior r labels (initial_state c s) ≡ content_behavior r labels c (all_verdicts r s.world c)
 remaining-initial r labels c s = rw counts_then-none refl
 
--- it came so far, if its manifest and the streams are known
-abbrev pub Comes : Rules → LabelsValue → Option Content → Option KnownState → Option CheckState → Type 0
-Comes r labels None s b = Unit {0}
-Comes r labels (Some c) None b = Unit {0}
-Comes r labels (Some c) (Some s) None = ⊥
-Comes r labels (Some c) (Some s) (Some b) =
-    Along (content_behavior r labels c (all_verdicts r s.world c)) (remaining_behavior r labels b) s b.known_state
-
--- it begins so
-comes_initial : {I : Type 0} (r : Rules) (labels : LabelsValue) (p : CursorValue I) (c : Option Content)
-    (s : Option KnownState) → ((c : Content) (s : KnownState) → state_at p c s ≡ initial_state c s)
-    → Comes r labels c s (c >>= (λ c. s >>= (λ s. Some (state_at p c s))))
-comes_initial r labels p None s is = tt
-comes_initial r labels p (Some c) None is = tt
-comes_initial r labels p (Some c) (Some s) is =
-    let whole = content_behavior r labels c (all_verdicts r s.world c) in
-    subst (λ a. Along whole (remaining_behavior r labels a) s a.known_state) (sym (is c s))
-    (subst (λ b. Along whole b s s) (sym (remaining-initial r labels c s)) (along_none whole s))
-
-pub comes_none : {I : Type 0} (state : I → InputState) (r : Rules) (labels : LabelsValue) (p : CursorValue I)
-    (input : I)
-    (s : Option KnownState) → IsAtStart state p input
-    → Comes r labels (option_map clip (state input).content) s (check_state state p s)
-comes_none state r labels p input s start = rw start.remaining
-    (comes_initial r labels p (option_map clip (state input).content) s
-    (λ c s. rw (start.reader, start.form, start.counts) refl))
-
 -- at the start the input was read as far as the answers say, if nothing of it was read
 pub phase-initial : {I : Type 0} (state : I → InputState) (p : CursorValue I) → IsAtStart state p p.reader.input
     → (state p.reader.input).phase ≡ Reading → IsReadSoFar state p.reader
-phase-initial state p start reading =
-    let none = ap (λ r. r.final_answer) start.reader in
-    subst (λ f. ReadSoFar f (state p.reader.input).phase) (sym none) reading
-
--- a step that goes on comes one line further
-pub comes_more : (q r : Rules) (own labels : LabelsValue) (c : Option Content) (s : Option KnownState)
-    (b d : Option CheckState) (vector : List ℕ) → q ≡ r → own ≡ labels → Comes r labels c s b
-    → StepIsIfKnown q own vector b d (Ok Going) → Comes r labels c s d
-comes_more q r own labels None s b d vector rules same p h = tt
-comes_more q r own labels (Some c) None b d vector rules same p h = tt
-comes_more q r own labels (Some c) (Some s) None d vector rules same p h = absurd p
-comes_more q r own labels (Some c) (Some s) (Some b) None vector rules same p h = absurd h
-comes_more q r own labels (Some c) (Some s) (Some b) (Some d) vector rules same p h =
-    along_more p (rw (rules, same) at h.0)
+phase-initial state p start reading = search rules
 
 -- what a step returns that ends a manifest's check so
 abbrev pub ends : Result Bool Stop → Result Progress Stop
 ends (Ok good) = Ok (Ended good)
 ends (Err stop) = Err stop
 
--- the behavior of a manifest
-abbrev pub manifest_behavior : Rules → LabelsValue → Content → World → Behavior
-manifest_behavior r labels c w = content_behavior r labels c (all_verdicts r w c)
+module _ (r : Rules) (labels : LabelsValue) where
+  -- the behavior of a manifest
+  abbrev pub manifest_behavior : Content → World → Behavior
+  manifest_behavior c w = content_behavior r labels c (all_verdicts r w c)
 
--- that of a manifest that may not be known, from one state to another
-abbrev pub Checks : {S : Type 0} → (S → SourceState) → Rules → LabelsValue → Option Content → StreamsState S
-    → StreamsState S → Result Bool Stop → Type 0
-Checks state r labels c a b x = IfSome c (λ c. Runs state (manifest_behavior r labels c) (λ g. g) a b x)
+  -- that of a manifest that may not be known, from one state to another
+  abbrev pub Checks : {S : Type 0} → (S → SourceState) → Option Content → StreamsState S → StreamsState S
+      → Result Bool Stop → Type 0
+  Checks state c a b x = IfSome c (λ c. Runs state (manifest_behavior c) (λ g. g) a b x)
 
--- the step that ends completes the manifest's behavior; one that stops leaves a prefix of it after a write fault, and
--- whole steps if memory ran out
-comes_last_by : {I : Type 0} (state : I → InputState) (q r : Rules) (own labels : LabelsValue) (c : Option Content)
-    (s z : Option KnownState) (a : Option CheckState) (p : CursorValue I) (vector : List ℕ) (x : Result Bool Stop)
-    → q ≡ r → own ≡ labels → Comes r labels c s a → StepIsIfKnown q own vector a (check_state state p z) (ends x)
-    → IfSome c (λ c. IfKnown s z (λ s t. let all = manifest_behavior r labels c s.world in
-    PerformsSteps all.steps all.good s t x))
-comes_last_by state q r own labels None s z a p vector x rules same k h = tt
-comes_last_by state q r own labels (Some c) None z a p vector x rules same k h = tt
-comes_last_by state q r own labels (Some c) (Some s) z None p vector x rules same k h = absurd k
-comes_last_by state q r own labels (Some c) (Some s) z (Some a) p vector (Ok good) rules same k h =
-    known_state-made state p z a s _ _ h (λ d z ended. along_end k (rw (rules, same) at ended))
-comes_last_by state q r own labels (Some c) (Some s) z (Some a) p vector (Err Write) rules same k h =
-    known_state-made state p z a s _ _ h (λ d z cut. along_breaks k (rw (rules, same) at cut))
-comes_last_by state q r own labels (Some c) (Some s) z (Some a) p vector (Err Memory) rules same k h =
-    known_state-made state p z a s _ _ h (λ d z waits.
-    along_waits (manifest_behavior r labels c s.world).good k (rw (rules, same) at waits))
+  -- it came so far, if the manifest and the streams are known
+  abbrev pub Comes : Option Content → Option KnownState → Option CheckState → Type 0
+  Comes None s b = Unit {0}
+  Comes (Some c) None b = Unit {0}
+  Comes (Some c) (Some s) None = ⊥
+  Comes (Some c) (Some s) (Some b) =
+      Along (manifest_behavior c s.world) (remaining_behavior r labels b) s b.known_state
 
-pub comes_last : {I S : Type 0} (input : I → InputState) (state : S → SourceState) (q r : Rules)
-    (own labels : LabelsValue) (c : Option Content) (first last : StreamsState S) (a : Option CheckState)
-    (p : CursorValue I) (vector : List ℕ) (x : Result Bool Stop) → q ≡ r → own ≡ labels
-    → Comes r labels c (known_state state first) a
-    → StepIsIfKnown q own vector a (check_state input p (known_state state last)) (ends x)
-    → Checks state r labels c first last x
-comes_last input state q r own labels c first last a p vector x rules same k h =
-    comes_last_by input q r own labels c (known_state state first) (known_state state last) a p vector x rules same k h
+  pub comes_none : {I : Type 0} (state : I → InputState) (p : CursorValue I) (input : I) (s : Option KnownState)
+      → IsAtStart state p input → Comes (option_map clip (state input).content) s (check_state state p s)
+  comes_none state p input s start = search rules
+
+  -- a step by the same rules and labels that goes on comes one line further
+  pub comes_more : (q : Rules) (own : LabelsValue) (c : Option Content) (s : Option KnownState)
+      (b d : Option CheckState) (vector : List ℕ) → q ≡ r → own ≡ labels → Comes c s b
+      → StepIsIfKnown q own vector b d (Ok Going) → Comes c s d
+  comes_more q own c s b d vector is same p h = search (rules, along_more)
+
+  -- the step that ends completes the manifest's behavior; one that stops leaves a prefix of it after a write fault, and
+  -- whole steps if memory ran out
+  pub comes_last : {I : Type 0} (state : I → InputState) (q : Rules) (own : LabelsValue) (c : Option Content)
+      (s z : Option KnownState) (a : Option CheckState) (p : CursorValue I) (vector : List ℕ) (x : Result Bool Stop)
+      → q ≡ r → own ≡ labels → Comes c s a → StepIsIfKnown q own vector a (check_state state p z) (ends x)
+      → IfSome c (λ c. IfKnown s z (λ s t. let all = manifest_behavior c s.world in
+      PerformsSteps all.steps all.good s t x))
+  comes_last state q own None s z a p vector x is same k h = tt
+  comes_last state q own (Some c) None z a p vector x is same k h = tt
+  comes_last state q own (Some c) (Some s) z None p vector x is same k h = absurd k
+  comes_last state q own (Some c) (Some s) z (Some a) p vector (Ok good) is same k h =
+      known_state-made state p z a s _ _ h (λ d z ended. along_end k (rw (is, same) at ended))
+  comes_last state q own (Some c) (Some s) z (Some a) p vector (Err Write) is same k h =
+      known_state-made state p z a s _ _ h (λ d z cut. along_breaks k (rw (is, same) at cut))
+  comes_last state q own (Some c) (Some s) z (Some a) p vector (Err Memory) is same k h =
+      known_state-made state p z a s _ _ h (λ d z waits.
+      along_waits (manifest_behavior c s.world).good k (rw (is, same) at waits))
 
 -- ---- a manifest that was opened
-
--- a call that checks one manifest
-pub record Call : Type 0 where
-  pub settings : CheckSettings
-  pub tool : List ℕ
-  pub name : List ℕ
-
--- its rules and labels, by whether the manifest is standard input
-abbrev pub rules_if : Call → Bool → Rules
-rules_if k dash = record {
-  profile = present;
-  algo = k.settings.algo;
-  ignore_missing = k.settings.ignore_missing;
-  strict = k.settings.strict;
-  from_stdin = dash;
-}
-
-abbrev pub labels_if : Call → Bool → LabelsValue
-labels_if k dash = record {
-  tool = k.tool;
-  list = cond dash (codes "standard input") k.name;
-  report = k.settings.report;
-}
 
 -- a manifest is opened, by that name
 abbrev pub opening : List ℕ → Step
 opening name = record { names = name ∷ []; err = []; out = []; remaining = 0 }
-
--- the name was asked, which has that content, and nothing else was done
-abbrev pub IsOpened : List ℕ → Option Content → KnownState → KnownState → Type 0
-IsOpened name c a b =
-    (d : Content) × (c ≡ Some d) × (reply a.world name ≡ Ok d) × Happened a b (events_of (opening name))
-
--- what a call gives
-abbrev pub CheckGives : {S : Type 0} → (S → SourceState) → Call → StreamsState S → StreamsState S → Result Bool Stop
-    → Type 0
-CheckGives state k a b x = Runs state (λ w. check_behavior k.settings k.tool w k.name) (λ g. g) a b x
-
--- the next, by run states
-check_gives_by : (k : Call) (dash : Bool) (c : Option Content) (a asked b : Option KnownState) (x : Result Bool Stop)
-    → is_dash k.name ≡ dash → IfKnown a asked (IsOpened k.name c)
-    → IfSome (option_map clip c) (λ c. IfKnown asked b (λ s t.
-    let run = manifest_behavior (rules_if k dash) (labels_if k dash) c s.world in PerformsSteps run.steps run.good s t
-    x))
-    → IfKnown a b (λ s t.
-    let run = check_behavior k.settings k.tool s.world k.name in PerformsSteps run.steps run.good s t x)
-check_gives_by k dash c None asked b x is h run = tt
-check_gives_by k dash c (Some a) None b x is h run = absurd h
-check_gives_by k dash c (Some a) (Some asked) None x is h run = absurd (rw h.1 at run)
-check_gives_by k dash c (Some a) (Some asked) (Some b) x is h run =
-    let of : World → Behavior = manifest_behavior (rules_of k.settings k.name) (labels_of k.settings k.tool k.name)
-    (clip h.0) in
-    let later : World = after a.world (k.name ∷ []) in
-    let world : asked.world ≡ later = rw (names-by (k.name ∷ []) [] []) at h.3.world in
-    let rest = subst (λ w. PerformsSteps (of w).steps (of w).good asked b x) world (rw (← is, h.1) at run) in
-    rw h.2 (behind_step b (of later).good (opening k.name) (of later).steps x h.3 rest)
-
--- after that, what the checker does is what the call does, if source, standard input and manifest are known
-check_gives : {S : Type 0} (state : S → SourceState) (k : Call) (dash : Bool) (c : Option Content)
-    (a asked b : StreamsState S) (x : Result Bool Stop) → is_dash k.name ≡ dash
-    → IfKnown (known_state state a) (known_state state asked) (IsOpened k.name c)
-    → Checks state (rules_if k dash) (labels_if k dash) (option_map clip c) asked b x → CheckGives state k a b x
-check_gives state k dash c a asked b x is h run =
-    check_gives_by k dash c (known_state state a) (known_state state asked) (known_state state b) x is h run
-
--- a name that was asked, with nothing written
-asked_only : {a b : KnownState} (name : List ℕ) → b.world ≡ after a.world (name ∷ [])
-    → b.stdin_taken ≡ a.stdin_taken || is_dash name → b.refusals ≡ a.refusals → b.err ≡ a.err → b.out ≡ a.out
-    → Happened a b (events_of (opening name))
-asked_only {a} name world taken refusals err out = search rules
-
--- the worlds of a source before and after standard input was taken
-dash_worlds : (name : List ℕ) (s : Option KnownSource) (c : Option Content) → is_dash name ≡ true
-    → IfKnown (world_by s c) (world_by s (Some empty_content))
-    (λ w v. (v ≡ after w (name ∷ [])) × (c ≡ Some w.input))
-dash_worlds name None c dash = tt
-dash_worlds name (Some s) None dash = tt
-dash_worlds name (Some s) (Some c) dash = (dash_asked s.answer s.asked c name dash, refl)
-
--- streams from which standard input was taken
-abbrev taken_from : {S : Type 0} → StreamsState S → Option Phase → StreamsState S
-taken_from a p = record a { input = Some empty_content; stdin_taken = true; stdin_phase = p }
-
--- the manifest is standard input, which is taken then
-dash_opened : {S : Type 0} (state : S → SourceState) (name : List ℕ) (a : StreamsState S) (p : Option Phase)
-    → is_dash name ≡ true → IfKnown (known_state state a) (known_state state (taken_from a p)) (IsOpened name a.input)
-dash_opened {S} state name a p dash = search rules
-
--- the last state may be another, of which the same is known
-as_known : {S : Type 0} (state : S → SourceState) (k : Call) (a b last : StreamsState S) (x : Result Bool Stop)
-    → known_state state last ≡ known_state state b → CheckGives state k a b x → CheckGives state k a last x
-as_known state k a b last x same h = subst (λ t. IfKnown (known_state state a) t (λ s t.
-    let all = check_behavior k.settings k.tool s.world k.name in PerformsSteps all.steps all.good s t x)) (sym same) h
-
--- so what the checker does with standard input is what the call does
-pub check_dash : {S : Type 0} (state : S → SourceState) (k : Call) (a b last : StreamsState S) (p : Option Phase)
-    (x : Result Bool Stop) (r : Rules) → r ≡ rules_if k true → is_dash k.name ≡ true
-    → known_state state last ≡ known_state state b
-    → Checks state r (labels_if k true) (option_map clip a.input) (taken_from a p) b x → CheckGives state k a last x
-check_dash {S} state k a b last p x r rules dash same run =
-    as_known state k a b last x same (check_gives state k true a.input a (taken_from a p) b x dash
-    (dash_opened state k.name a p dash)
-    (subst (λ r. Checks state r (labels_if k true) (option_map clip a.input) (taken_from a p) b x) rules run))
 
 -- opening a name, as the world sees it
 abbrev OpensIn : {F : Type 0} → (F → InputState) → List ℕ → Result F OpenFault → World → World → Type 0
@@ -231,90 +101,107 @@ OpensIn content name (Err (open_faults.Fault f)) w v =
     (v ≡ record w { asked = w.asked ++ name ∷ [] }) × (w.answer name ≡ Err f)
 OpensIn content name (Err open_faults.Memory) w v = v ≡ w
 
--- a reply that is a content
-given : (o : Option Content) (r : Reply) → option_map Ok o ≡ Some r → (c : Content) × (r ≡ Ok c) × (o ≡ Some c)
-given None r h = cc
-given (Some c) r h = (c, cc, refl)
+-- streams from which standard input was taken
+abbrev taken_from : {S : Type 0} → StreamsState S → Option Phase → StreamsState S
+taken_from a p = record a { input = Some empty_content; stdin_taken = true; stdin_phase = p }
 
-opens_in : {F : Type 0} (content : F → InputState) (name : List ℕ) (s t : KnownSource) (i : Content)
-    (x : Result F OpenFault) → OpenOf content s t name x
-    → OpensIn content name x (record { answer = s.answer; asked = s.asked; input = i })
-    (record { answer = t.answer; asked = t.asked; input = i })
-opens_in content name s t i (Ok file) h = search rules
-opens_in content name s t i (Err (open_faults.Fault f)) h = (rw h.0 refl, cc)
-opens_in content name s t i (Err open_faults.Memory) h = rw h refl
+-- the manifest of that name is checked, from the streams a
+module _ {S : Type 0} (state : S → SourceState) (settings : CheckSettings) (tool name : List ℕ) (a : StreamsState S)
+  where
+    -- what a call does
+    abbrev Performed : StreamsState S → Result Bool Stop → Type 0
+    Performed b x = Runs state (λ w. check_behavior settings tool w name) (λ g. g) a b x
 
--- if source and standard input are known
-opens : {F : Type 0} (content : F → InputState) (name : List ℕ) (s t : Option KnownSource) (input : Option Content)
-    (x : Result F OpenFault) → IfKnown s t (λ s t. OpenOf content s t name x)
-    → IfKnown (world_by s input) (world_by t input) (OpensIn content name x)
-opens content name None t input x h = tt
-opens content name (Some s) t None x h = tt
-opens content name (Some s) None (Some i) x h = absurd h
-opens content name (Some s) (Some t) (Some i) x h = opens_in content name s t i x h
+    -- the rules and labels, by whether the manifest is standard input
+    abbrev rules_if : Bool → Rules
+    rules_if dash = record (rules_of settings name) { from_stdin = dash }
 
--- the manifest is a file
-file_opened : {F S : Type 0} (content : F → InputState) (state : S → SourceState) (name : List ℕ) (a : StreamsState S)
-    (source : S) (file : F) → is_dash name ≡ false
-    → IfKnown (state a.source).known (state source).known (λ s t. OpenOf content s t name (Ok file))
-    → (state source).refusals ≡ (state a.source).refusals
-    → IfKnown (known_state state a) (known_state state (record a { source = source }))
-    (IsOpened name (content file).content)
-file_opened content state name a source file dash h refusals = search rules
+    abbrev labels_if : Bool → LabelsValue
+    labels_if dash = record (labels_of settings tool name) { list = cond dash (codes "standard input") name }
 
--- so what the checker does with it is what the call does
-pub check_file : {F S : Type 0} (content : F → InputState) (state : S → SourceState) (k : Call)
-    (a b last : StreamsState S) (source : S) (file : F) (x : Result Bool Stop) (r : Rules) → r ≡ rules_if k false →
-    is_dash k.name ≡ false
-    → IfKnown (state a.source).known (state source).known (λ s t. OpenOf content s t k.name (Ok file))
-    → (state source).refusals ≡ (state a.source).refusals
-    → Checks state r (labels_if k false) (option_map clip (content file).content)
-    (record a { source = source }) b x → known_state state last ≡ known_state state b → CheckGives state k a last x
-check_file {S = S} content state k a b last source file x r rules dash h refusals run same =
-    let asked : StreamsState S = record a { source = source } in
-    as_known state k a b last x same (check_gives state k false (content file).content a asked b x dash
-    (file_opened content state k.name a source file dash h refusals)
-    (subst (λ r. Checks state r (labels_if k false) (option_map clip (content file).content) asked b x) rules run))
+    -- the name was asked, which has that content, and nothing else was done
+    abbrev IsOpened : Option Content → KnownState → KnownState → Type 0
+    IsOpened c s t =
+        (d : Content) × (c ≡ Some d) × (reply s.world name ≡ Ok d) × Happened s t (events_of (opening name))
 
--- the manifest could not be opened, and the line of its fault was written, or a prefix of it
-pub refused : {F S : Type 0} (content : F → InputState) (state : S → SourceState) (k : Call) (a : StreamsState S)
-    (source : S) (f : Fault) (err : SinkState) (x : Writing) → is_dash k.name ≡ false
-    → IfKnown (state a.source).known (state source).known (λ s t. OpenOf content s t k.name (Err (open_faults.Fault f)))
-    → (state source).refusals ≡ (state a.source).refusals
-    → WritesOrPrefix a.err.written err.written (fault_line present k.tool k.name f) x
-    → CheckGives state k a (record a { source = source; err = err }) (answered x false)
-refused {S = S} content state k a source f err x dash h refusals hands =
-    let next : StreamsState S = record a { source = source; err = err } in
-    once state (λ w. check_behavior k.settings k.tool w k.name) (k.name ∷ []) (fault_line present k.tool k.name f) []
-    false
-    (λ g. g) a next x
-    (opens content k.name (state a.source).known (state source).known a.input (Err (open_faults.Fault f)) h)
-    (λ w v is. (
-      rw (dash, is.1) refl,
-      record {
-        world = is.0 ∙ rw dash refl;
-        taken = rw dash (sym (or-false a.stdin_taken));
-        refusals = refusals;
-      },
-    )) (err_alone a.err err a.out _ x hands)
+    -- after that, what the checker does is what the call does, if source, standard input and manifest are known; of the
+    -- last state the same is known as of the checker's
+    opened : (dash : Bool) (c : Option Content) (asked b last : StreamsState S) (x : Result Bool Stop)
+        → is_dash name ≡ dash → known_state state last ≡ known_state state b
+        → IfKnown (known_state state a) (known_state state asked) (IsOpened c)
+        → Checks (rules_if dash) (labels_if dash) state (option_map clip c) asked b x → Performed last x
+    opened dash c asked b last x is same h run =
+        rw same (by (known_state state a) (known_state state asked) (known_state state b) h run)
+      where
+        by : (s t z : Option KnownState) → IfKnown s t (IsOpened c)
+            → IfSome (option_map clip c) (λ c. IfKnown t z (λ t z.
+            let all = manifest_behavior (rules_if dash) (labels_if dash) c t.world in
+            PerformsSteps all.steps all.good t z x))
+            → IfKnown s z (λ s z. let all = check_behavior settings tool s.world name in
+            PerformsSteps all.steps all.good s z x)
+        by None t z h run = tt
+        by (Some s) None z h run = absurd h
+        by (Some s) (Some t) None h run = absurd (rw h.1 at run)
+        by (Some s) (Some t) (Some z) h run =
+            let of : World → Behavior = manifest_behavior (rules_of settings name) (labels_of settings tool name)
+            (clip h.0) in
+            let later : World = after s.world (name ∷ []) in
+            let world : t.world ≡ later = rw (names-by (name ∷ []) [] []) at h.3.world in
+            let rest = subst (λ w. PerformsSteps (of w).steps (of w).good t z x) world (rw (← is, h.1) at run) in
+            rw h.2 (behind_step z (of later).good (opening name) (of later).steps x h.3 rest)
 
--- checking begins with a step
-begins : (r : Rules) (labels : LabelsValue) (name : List ℕ) (w : World) (reply : Reply)
-    → (next : Step) × (rest : List Step) × ((check_behavior_by r labels name w reply).steps ≡ next ∷ rest)
-begins r labels name w (Err f) = (_, [], refl)
-begins r labels name w (Ok c) = (opening name, _, refl)
+    -- the manifest is standard input, which is taken
+    pub check_dash : (b last : StreamsState S) (p : Option Phase) (x : Result Bool Stop) → is_dash name ≡ true
+        → known_state state last ≡ known_state state b
+        → Checks (rules_if true) (labels_if true) state (option_map clip a.input) (taken_from a p) b x
+        → Performed last x
+    check_dash b last p x dash same run =
+        opened true a.input (taken_from a p) b last x dash same (search rules) run
 
--- the source had no memory to open it
-pub no_room : {F S : Type 0} (content : F → InputState) (state : S → SourceState) (k : Call) (a : StreamsState S)
-    (source : S)
-    → IfKnown (state a.source).known (state source).known (λ s t. OpenOf content s t k.name (Err open_faults.Memory))
-    → (state source).refusals ≡ one_more (state a.source).refusals
-    → CheckGives state k a (record a { source = source }) (Err Memory)
-no_room {S = S} content state k a source h refused =
-    let next : StreamsState S = record a { source = source } in
-    unasked state (λ w. check_behavior k.settings k.tool w k.name) (λ g. g) a next
-    (λ w. begins (rules_of k.settings k.name) (labels_of k.settings k.tool k.name) k.name (after w (k.name ∷ []))
-    (reply w k.name))
-    (known_refused state a next (IfKnown-map (world_of state a) (world_of state next) (λ w v is. is)
-    (opens content k.name (state a.source).known (state source).known a.input (Err open_faults.Memory) h))
-    refl refl refl refused)
+    module _ {F : Type 0} (content : F → InputState) (source : S) where
+      -- the source was asked to open the manifest, if it is known
+      abbrev IsAsked : Result F OpenFault → Type 0
+      IsAsked x = IfKnown (state a.source).known (state source).known (λ s t. OpenOf content s t name x)
+
+      -- so the world is, if that is known
+      opens : (x : Result F OpenFault) → IsAsked x
+          → IfKnown (world_of state a) (world_of state (record a { source = source })) (OpensIn content name x)
+      opens x h = search rules
+
+      -- it is a file
+      pub check_file : (b last : StreamsState S) (file : F) (x : Result Bool Stop) → is_dash name ≡ false
+          → IsAsked (Ok file) → (state source).refusals ≡ (state a.source).refusals
+          → known_state state last ≡ known_state state b
+          → Checks (rules_if false) (labels_if false) state (option_map clip (content file).content)
+          (record a { source = source }) b x → Performed last x
+      check_file b last file x dash h refusals same run =
+          opened false (content file).content (record a { source = source }) b last x dash same (search rules) run
+
+      -- it could not be opened, and the line of its fault was written, or a prefix of it
+      pub refused : (f : Fault) (err : SinkState) (x : Writing) → is_dash name ≡ false
+          → IsAsked (Err (open_faults.Fault f)) → (state source).refusals ≡ (state a.source).refusals
+          → WritesOrPrefix a.err.written err.written (fault_line present tool name f) x
+          → Performed (record a { source = source; err = err }) (answered x false)
+      refused f err x dash h refusals writes =
+          once state (λ w. check_behavior settings tool w name) (name ∷ []) (fault_line present tool name f) [] false
+          (λ g. g) a (record a { source = source; err = err }) x (opens (Err (open_faults.Fault f)) h) (λ w v is. (
+            rw (dash, is.1) refl,
+            record {
+              world = is.0 ∙ rw dash refl;
+              taken = rw dash (sym (or-false a.stdin_taken));
+              refusals = refusals;
+            },
+          )) (err_alone a.err err a.out _ x writes)
+
+      -- there was no memory to open it
+      pub no_room : IsAsked (Err open_faults.Memory) → (state source).refusals ≡ one_more (state a.source).refusals
+          → Performed (record a { source = source }) (Err Memory)
+      no_room h refused = unasked state (λ w. check_behavior settings tool w name) (λ g. g) a
+          (record a { source = source }) (λ w. begins (after w (name ∷ [])) (reply w name))
+          (known_refused state a (record a { source = source }) (opens (Err open_faults.Memory) h) refl refl refl refused)
+        where
+          -- checking begins with a step
+          begins : (w : World) (reply : Reply) → (next : Step) × (rest : List Step) × ((check_behavior_by
+              (rules_of settings name) (labels_of settings tool name) name w reply).steps ≡ next ∷ rest)
+          begins w (Err f) = (_, [], refl)
+          begins w (Ok c) = (opening name, _, refl)

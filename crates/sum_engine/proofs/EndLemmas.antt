@@ -13,15 +13,12 @@ use Rattle.sum_engine.specs.check.CheckerLaws.{ended_by}
 -- without bytes there is no line under any profile
 no_lines : (drops : Bool) (e : Ending)
     → (if drops then lines (record { bytes = []; ending = e }) else raw_lines (record { bytes = []; ending = e })) ≡ []
-no_lines true e = lines-nil e
-no_lines false e = pieces-nil e
+no_lines drops e = search (rules, lines-nil, pieces-nil)
 
 -- nor a verdict
 none_left : (r : Rules) (e : Ending) (b : CheckState) → b.rest ≡ record { bytes = []; ending = e }
     → remaining_verdicts r b ≡ []
-none_left r e b rest =
-    let ls : lines_by r.profile b.rest ≡ [] = rw rest (no_lines r.profile.drops_return e) in
-    ap (λ l. verdicts r (form_then b.form (form r.algo l)) b.known_state.world b.number l) ls
+none_left r e b rest = search (rules, no_lines)
 
 pub end_stays : (r : Rules) (e : Ending) (vector : List ℕ) (a b c : CheckState)
     (x : Result (Option LineVerdict) LineStop)

@@ -16,7 +16,7 @@ use Rattle.sum_engine.specs.refinement.FlushedWrites.{WritesOrPrefix, WritesBoth
 use Rattle.sum_lines.specs.grammar.LineParts.{◌>>=◌}
 use Rattle.sum_engine.specs.Execution.{StreamsState, KnownState, known_state, Stop, Happened, PrefixHappened, PerformsSteps}
 use Rattle.sum_engine.specs.refinement.HashName.{world_by, world_of}
-use Rattle.sum_engine.specs.check.NextVerdict.{OnlyRefused}
+use Rattle.sum_engine.specs.check.NextVerdict.{OnlyRefused, lent_streams}
 use Rattle.sum_engine.proofs.WorldLemmas.{after-append}
 
 -- ---- what of a step's events is of each kind
@@ -29,42 +29,25 @@ events_by names err out = map open_name names ++ (map write_err err ++ map write
 kind-all : {A : Type 0} (f : A → Event) (h : Event → Option A) → ((x : A) → h (f x) ≡ Some x) → (xs : List A)
     → filter_map h (map f xs) ≡ xs
 kind-all f h same [] = refl
-kind-all f h same (x ∷ xs) = rw (same x) (ap (λ l. x ∷ l) (kind-all f h same xs))
+kind-all f h same (x ∷ xs) = search (rules, kind-all f h same xs)
 
 -- events of another kind
 kind-none : {A B : Type 0} (f : A → Event) (h : Event → Option B) → ((x : A) → h (f x) ≡ None) → (xs : List A)
     → filter_map h (map f xs) ≡ []
 kind-none f h none [] = refl
-kind-none f h none (x ∷ xs) = rw (none x) (kind-none f h none xs)
+kind-none f h none (x ∷ xs) = search (rules, kind-none f h none xs)
 
 -- the names
 pub names-by : (names : List (List ℕ)) (err out : List ℕ) → filter_map name_in (events_by names err out) ≡ names
-names-by names err out = simp (
-  filter_map-append,
-  kind-all open_name name_in (λ x. refl),
-  kind-none write_err name_in (λ x. refl),
-  kind-none write_out name_in (λ x. refl),
-  append-nil,
-)
+names-by names err out = search (rules, filter_map-append, kind-all, kind-none)
 
 -- the text on standard error
 pub err-by : (names : List (List ℕ)) (err out : List ℕ) → filter_map err_in (events_by names err out) ≡ err
-err-by names err out = simp (
-  filter_map-append,
-  kind-none open_name err_in (λ x. refl),
-  kind-all write_err err_in (λ x. refl),
-  kind-none write_out err_in (λ x. refl),
-  append-nil,
-)
+err-by names err out = search (rules, filter_map-append, kind-all, kind-none)
 
 -- that on standard output
 pub out-by : (names : List (List ℕ)) (err out : List ℕ) → filter_map out_in (events_by names err out) ≡ out
-out-by names err out = simp (
-  filter_map-append,
-  kind-none open_name out_in (λ x. refl),
-  kind-none write_err out_in (λ x. refl),
-  kind-all write_out out_in (λ x. refl),
-)
+out-by names err out = search (rules, filter_map-append, kind-all, kind-none)
 
 -- ---- what happened
 
@@ -81,23 +64,13 @@ asks_none {a} world taken refusals = search rules
 
 -- so it is if they were opened, and nothing was written
 pub asks_by : {a b : KnownState} (names : List (List ℕ)) → Happened a b (map open_name names) → Asks a b names
-asks_by names h = record {
-  world = rw (kind-all open_name name_in (λ x. refl) names) at h.world;
-  taken = rw (kind-all open_name name_in (λ x. refl) names) at h.stdin_taken;
-  refusals = h.refusals;
-}
+asks_by names h = search (rules, kind-all)
 
 -- these names were asked and these texts written
 pub did_by : {a b : KnownState} (names : List (List ℕ)) (err out : List ℕ) → Asks a b names
     → Appends a.err.written b.err.written err → Appends a.out.written b.out.written out
     → Happened a b (events_by names err out)
-did_by names err out h p q = record {
-  world = rw (names-by names err out) h.world;
-  stdin_taken = rw (names-by names err out) h.taken;
-  err = rw (err-by names err out) p;
-  out = rw (out-by names err out) q;
-  refusals = h.refusals;
-}
+did_by names err out h p q = search (rules, names-by, err-by, out-by)
 
 -- nothing
 pub did_nothing : (a : KnownState) → Happened a a []
@@ -105,16 +78,7 @@ did_nothing a = search rules
 
 -- one thing after another
 pub did_both : {a b c : KnownState} (p q : List Event) → Happened a b p → Happened b c q → Happened a c (p ++ q)
-did_both {a} {b} {c} p q h k = record {
-  world = rw (k.world, h.world, filter_map-append name_in p q)
-      (after-append a.world (filter_map name_in p) (filter_map name_in q));
-  stdin_taken = rw (k.stdin_taken, h.stdin_taken, filter_map-append name_in p q) (simp (list_any-append, or_assoc));
-  err = rw (filter_map-append err_in p q)
-      (Appends-trans a.err.written b.err.written c.err.written _ _ h.err k.err);
-  out = rw (filter_map-append out_in p q)
-      (Appends-trans a.out.written b.out.written c.out.written _ _ h.out k.out);
-  refusals = k.refusals ∙ h.refusals;
-}
+did_both p q h k = search (rules, after-append, filter_map-append, list_any-append, or_assoc, Appends-trans)
 
 -- ---- a prefix of it
 
@@ -160,8 +124,7 @@ came_by a b names err out (Err e) asked (inr h) = prefix_out names err out asked
 -- standard error alone was written to
 pub err_alone : (a b out : SinkState) (text : List ℕ) (x : Writing) → WritesOrPrefix a.written b.written text x
     → WritesBoth a b out out text [] x
-err_alone a b out text (Ok u) h = (h, Appends-nil out.written)
-err_alone a b out text (Err e) h = inl (h, refl)
+err_alone a b out text x h = search rules
 
 -- a prefix of what comes next, after what happened
 pub prefix_behind : {a b c : KnownState} (p es more : List Event) → Happened a b p → PrefixHappened b c es
@@ -174,45 +137,14 @@ prefix_behind p es more done h = (
 
 -- ---- states that are known or not
 
--- what follows of values that are made of known ones
-IfKnown-made : {A B : Type 0} (x y : Option A) (f g : A → B) {P : A → A → Type 0} (R : B → B → Type 0)
-    → IfKnown x y P → ((a b : A) → P a b → R (f a) (g b)) → IfKnown (option_map f x) (option_map g y) R
-IfKnown-made None y f g R h k = tt
-IfKnown-made (Some a) None f g R h k = h
-IfKnown-made (Some a) (Some b) f g R h k = k a b h
-
 -- the known state of these streams, by their world
 abbrev pub known : {S : Type 0} → (S → SourceState) → StreamsState S → World → KnownState
-known state m w = record {
-  world = w;
-  refusals = (state m.source).refusals;
-  stdin_taken = m.stdin_taken;
-  err = m.err;
-  out = m.out;
-}
+known state m w = let s = state m.source in
+    record { world = w; refusals = s.refusals; stdin_taken = m.stdin_taken; err = m.err; out = m.out }
 
 -- the state of the streams that a call has
 abbrev pub streams_of : {I S : Type 0} → (I → InputState) → StdinValue I → S → SinkState → SinkState → StreamsState S
-streams_of state stdin source err out = record {
-  source = source;
-  input = (stdin_state state stdin).content;
-  stdin_taken = taken stdin;
-  stdin_phase = phase state stdin;
-  err = err;
-  out = out;
-}
-
--- known_state by the world, if that is known
-by_world : (f : World → KnownState) (t : Option KnownSource) (c : Option Content)
-    → (t >>= (λ t. c >>= (λ c. Some (f (record { answer = t.answer; asked = t.asked; input = c })))))
-    ≡ option_map f (world_by t c)
-by_world f None c = refl
-by_world f (Some t) None = refl
-by_world f (Some t) (Some c) = refl
-
-pub known_state-by_world : {S : Type 0} (state : S → SourceState) (m : StreamsState S)
-    → known_state state m ≡ option_map (known state m) (world_of state m)
-known_state-by_world state m = by_world (known state m) (state m.source).known m.input
+streams_of state stdin source err out = record (lent_streams state stdin source) { err = err; out = out }
 
 -- what follows of two states from what holds of their worlds, if these are known
 pub where_known : {S : Type 0} (state : S → SourceState) (a b : StreamsState S) {P : World → World → Type 0}
@@ -221,22 +153,9 @@ pub where_known : {S : Type 0} (state : S → SourceState) (a b : StreamsState S
     → IfKnown (known_state state a) (known_state state b) R
 where_known state a b R h f = search rules
 
--- and what holds of their worlds from what holds of the states
-known-of : {A B : Type 0} (x y : Option A) (f g : A → B) (R : B → B → Type 0)
-    → IfKnown (option_map f x) (option_map g y) R → IfKnown x y (λ a b. R (f a) (g b))
-known-of None y f g R h = tt
-known-of (Some a) None f g R h = h
-known-of (Some a) (Some b) f g R h = h
-
-pub known_worlds : {S : Type 0} (state : S → SourceState) (a b : StreamsState S) (R : KnownState → KnownState → Type 0)
-    → IfKnown (known_state state a) (known_state state b) R
-    → IfKnown (world_of state a) (world_of state b) (λ w v. R (known state a w) (known state b v))
-known_worlds state a b R h = search rules
-
 -- a value that stayed
 pub same_known : {A : Type 0} (x : Option A) → IfKnown x x (λ a b. b ≡ a)
-same_known None = tt
-same_known (Some a) = refl
+same_known x = search rules
 
 -- the source was refused memory, and nothing else was done
 pub known_refused : {S : Type 0} (state : S → SourceState) (a b : StreamsState S)
@@ -244,15 +163,6 @@ pub known_refused : {S : Type 0} (state : S → SourceState) (a b : StreamsState
     → b.out ≡ a.out → (state b.source).refusals ≡ one_more (state a.source).refusals
     → IfKnown (known_state state a) (known_state state b) OnlyRefused
 known_refused state a b world taken err out refused = search rules
-
--- standard error wrote a text or a prefix of it, and nothing else was done
-pub err_came : {S : Type 0} (state : S → SourceState) (a : StreamsState S) (err : SinkState) (text : List ℕ)
-    (x : Writing)
-    → WritesOrPrefix a.err.written err.written text x
-    → IfKnown (known_state state a) (known_state state (record a { err = err }))
-    (λ s t. Came x s t (events_by [] text []))
-err_came state a err text x h = where_known state a (record a { err = err }) _ (same_known (world_of state a))
-    (λ w v same. came_by _ _ [] text [] x (asks_none same refl refl) (err_alone a.err err a.out text x h))
 
 -- a behavior from one state to another, whatever the outputs buffer
 abbrev pub Runs : {S A : Type 0} → (S → SourceState) → (World → Behavior) → (Bool → A) → StreamsState S → StreamsState S

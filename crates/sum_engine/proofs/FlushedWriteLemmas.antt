@@ -18,11 +18,7 @@ prefix_more a b x y h =
 -- after a text that was written, a prefix of the next
 pub prefix_then : (a b c : Option (List ℕ)) (x y : List ℕ) → Appends a b x → AppendsPrefix b c y
     → AppendsPrefix a c (x ++ y)
-prefix_then a b c x y h k = (
-  x ++ k.0,
-  (k.1.0, ap (λ l. x ++ l) k.1.1 ∙ sym (append_assoc x k.0 k.1.0)),
-  Appends-trans a b c x k.0 h k.2,
-)
+prefix_then a b c x y h k = search (rules, Appends-trans, append_assoc)
 
 -- ---- one output
 
@@ -36,29 +32,17 @@ told_flushed a b c text (Err e) h k = (
       (k.buffered, subst (λ l. AppendsPrefix a.written c.written (l ++ text)) none (Accepted-flush_failed text h k)),
 )
 
--- writing it failed
-pub told_broken : {E : Type 0} (a c : SinkState) (text : List ℕ) (e : E) → WriteFailed a c text
-    → WritesAndFlushes a c text (Err e)
-told_broken a c text e h = search rules
-
 -- ---- one text after another
 
 -- a text, and then another or a prefix of it
 pub tells_then : {E : Type 0} (a b c : SinkState) (x y : List ℕ) (r : Result (Unit {0}) E)
     → WritesAndFlushes {E = E} a b x (Ok tt) → WritesAndFlushes b c y r → WritesAndFlushes a c (x ++ y) r
-tells_then a b c x y (Ok u) h k = (
-  k.0 ∙ h.0,
-  λ none.
-      let first = h.1 none in
-      let then = k.1 first.0 in
-      (then.0, Appends-trans a.written b.written c.written x y first.1 then.1),
-)
+tells_then a b c x y (Ok u) h k = search (rules, Appends-trans)
 tells_then a b c x y (Err e) h k = (
   k.0 ∙ ap one_more h.0,
   λ none.
-      let first = h.1 none in
-      let then = k.1 first.0 in
-      (then.0, prefix_then a.written b.written c.written x y first.1 then.1),
+      let then = k.1 (h.1 none).0 in
+      (then.0, prefix_then a.written b.written c.written x y (h.1 none).1 then.1),
 )
 
 -- a prefix of a text, and none of the next

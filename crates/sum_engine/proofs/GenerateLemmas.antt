@@ -1,5 +1,5 @@
 -- `generate_one`: the behavior of hashing one name, by the outcome of `hash_name` and what was then written.
-use Rattle.std.proofs.Common.{◌≡◌, ℕ, ◌||◌, Bool, List, [], ◌∷◌, Some, Result, Ok, Err, refl, ap, sym, ◌∙◌}
+use Rattle.std.proofs.Common.{rules, ◌≡◌, ℕ, ◌||◌, Bool, List, [], ◌∷◌, Some, Result, Ok, Err, refl, ap, sym, ◌∙◌}
 use Rattle.std.proofs.Math.Bool.{or-false}
 use Rattle.digest_kinds.specs.Kinds.{KindValue}
 use Rattle.sum_engine.specs.Behavior.{Fault, is_dash, reply, digest_or_fault, Step, single_step}
@@ -15,9 +15,7 @@ use Rattle.sum_engine.specs.declared.hash_name.HashOutcome.TheVariants as asked
 -- the outcome is what the definitions say of the reply
 digest_or_fault-is : (kind : KindValue) (r : Reply) (a : HashOutcome) → IsHashOutcome kind r a
     → digest_or_fault kind r ≡ digest_of_outcome a
-digest_or_fault-is kind r (asked.Read d) h = ap (digest_or_fault kind) h.1 ∙ h.2
-digest_or_fault-is kind r (asked.NotOpened f) h = ap (digest_or_fault kind) h
-digest_or_fault-is kind r (asked.Broken f) h = ap (digest_or_fault kind) h.1 ∙ h.2
+digest_or_fault-is kind r a h = search rules
 
 -- the name was asked, with this digest or fault, and the line of that was written, or a prefix of it
 pub generate-performed : {S : Type 0} (state : S → SourceState) (settings : Settings) (tool name err out : List ℕ)

@@ -1,16 +1,16 @@
 -- A manifest of lines that were written for whole files is good: by induction on its lines.
-use Rattle.std.proofs.Common.{rules, ◌≡◌, ℕ, suc, ◌+◌, ◌<◌, true, List, [], ◌∷◌, ◌++◌, length, map, refl, ap, ◌∙◌, append_assoc, arith, inl, append-nil, sym, flat_map, All, Ok}
+use Rattle.std.proofs.Common.{rules, ◌≡◌, ℕ, suc, ◌+◌, ◌<◌, true, List, [], ◌∷◌, ◌++◌, length, map, refl, ap, ◌∙◌, append_assoc, arith, inl, append-nil, sym, flat_map, All, Result, Ok, Err}
 use Rattle.std.proofs.lemmas.Bool.{ne_eqb}
 use Rattle.std.proofs.Math.Bool.{and-false, or-true}
 use Rattle.std.proofs.lemmas.List.Elements.{All-head, All-tail}
 use Rattle.std.proofs.lemmas.Slice.Eq.{bytes_eq-Decides}
 use Rattle.digest_kinds.specs.Kinds.{digest}
-use Rattle.sum_engine.specs.check.Reports.{Report, LabelsValue, CountsValue, out_by, out_of, err_of, counts_of, unless_status, end_text, good}
-use Rattle.sum_engine.specs.check.Verdicts.{Algos, Form, Right, Rules, LineVerdictValue, digest_verdict, verdict_of, judge, verdicts, all_verdicts}
+use Rattle.sum_engine.specs.check.Reports.{Report, LabelsValue, CountsValue, out_by, out_of, err_of, counts_of, end_text, good}
+use Rattle.sum_engine.specs.check.Verdicts.{Algos, Form, Right, Rules, LineVerdictValue, verdict_of, judge, verdicts, all_verdicts}
 use Rattle.sum_lines.specs.Escape.{present, escape}
 use Rattle.sum_lines.specs.grammar.Entries.{IsEntry, form}
-use Rattle.sum_engine.specs.Behavior.{Whole, World, reply, after, digest_or_fault, Behavior, out_text, err_text}
-use Rattle.sum_sources.specs.Contents.{Content, limit, Reply}
+use Rattle.sum_engine.specs.Behavior.{Fault, Whole, Broken, World, reply, after, digest_or_fault, Behavior, out_text, err_text}
+use Rattle.sum_sources.specs.Contents.{Content, limit}
 use Rattle.sum_sources.proofs.ContentLemmas.{limit-value, clip-short}
 use Rattle.sum_engine.specs.check.CheckerSteps.{step_then}
 use Rattle.sum_lines.specs.grammar.ParsedLines.{parse_line}
@@ -19,7 +19,6 @@ use Rattle.sum_engine.specs.check.Checking.{CheckSettings, line_steps, rules_of,
 use Rattle.sum_lines.proofs.ParsedLineLemmas.{parse_is_grammar}
 use Rattle.sum_engine.proofs.ListedEntryLemmas.{Item, written_text, Listed, prefix, spelled_for, ReadableSoFar, back, whole, lines-are}
 use Rattle.sum_engine.proofs.CheckOneLemmas.{opening}
-use Rattle.sum_engine.specs.declared.settings.Report.TheVariants as reports
 
 -- ---- each verdict is Right
 
@@ -27,20 +26,10 @@ use Rattle.sum_engine.specs.declared.settings.Report.TheVariants as reports
 abbrev now : Rules → Rules
 now r = record r { profile = present }
 
--- the digest of the item's file, read by the kind that its line spells, is right against itself
-digest_verdict-right : (algos : Algos) (answer : List ℕ → Reply) (i : Item) → Listed algos answer i
-    → let file : Reply = Ok (record { bytes = i.bytes; ending = Whole }) in
-    digest_verdict (digest i.kind i.bytes) (digest_or_fault i.kind file) ≡ Right
-digest_verdict-right algos answer i h =
-    let d : List ℕ = digest i.kind i.bytes in
-    let short = clip-short (record { bytes = i.bytes; ending = Whole }) (rw limit-value at h.fits) in
-    rw (short, (bytes_eq-Decides d d).1 refl) refl
-
--- so the verdict is Right
+-- an item's file, read by the kind that its line spells, has the digest that its line spells
 verdict-right : (r : Rules) (w : World) (i : Item) → Listed r.algo w.answer i
     → verdict_of r w (spelled_for i) ≡ Right
-verdict-right r w i h =
-    simp (h.no_dash, h.content, and-false) (digest_verdict-right r.algo w.answer i h)
+verdict-right r w i h = search (rules, clip-short, limit-value, and-false, bytes_eq-Decides)
 
 -- the verdict of an item on line n
 abbrev right : ℕ → Item → LineVerdictValue
@@ -94,16 +83,14 @@ rights-err r labels n (i ∷ is) = rights-err r labels (n + 1) is
 pub out_text-line_steps : (r : Rules) (labels : LabelsValue) (end : List ℕ) (c : Content) (js : List LineVerdictValue)
     → flat_map (λ s. s.out) (line_steps r labels end c js) ≡ flat_map (out_of r labels) js
 out_text-line_steps r labels end c [] = refl
-out_text-line_steps r labels end c (j ∷ js) =
-    ap (λ l. out_of r labels j ++ l) (out_text-line_steps r labels end (past_line c) js)
+out_text-line_steps r labels end c (j ∷ js) = search (rules, out_text-line_steps r labels end (past_line c) js)
 
 -- on standard error these, and then the end
 pub err_text-line_steps : (r : Rules) (labels : LabelsValue) (end : List ℕ) (c : Content) (js : List LineVerdictValue)
     → flat_map (λ s. s.err) (line_steps r labels end c js) ≡ flat_map (err_of r labels) js ++ end
 err_text-line_steps r labels end c [] = append-nil end
 err_text-line_steps r labels end c (j ∷ js) =
-    ap (λ l. err_of r labels j ++ l) (err_text-line_steps r labels end (past_line c) js)
-    ∙ sym (append_assoc (err_of r labels j) (flat_map (err_of r labels) js) end)
+    search (rules, append_assoc, err_text-line_steps r labels end (past_line c) js)
 
 -- the counts of k right lines
 abbrev right_counts : ℕ → CountsValue
@@ -113,13 +100,6 @@ right_counts k = record { right = k; wrong = 0; missing = 0; unread = 0; bad = 0
 counts-are : (n : ℕ) (is : List Item) → counts_of (rights n is) ≡ right_counts (length is)
 counts-are n [] = refl
 counts-are n (i ∷ is) = ap (λ (c : CountsValue). record c { right = suc c.right }) (counts-are (n + 1) is)
-
--- a summary that is empty stays so
-silent : (report : Report) → unless_status report [] ≡ []
-silent reports.All = refl
-silent reports.Quiet = refl
-silent reports.Warn = refl
-silent reports.Status = refl
 
 -- the whole summary is empty
 no-summary : (r : Rules) (labels : LabelsValue) (k : ℕ) → end_text r labels Whole (right_counts (suc k)) ≡ []
@@ -150,9 +130,13 @@ check_behavior-is : (check : CheckSettings) (tool manifest : List ℕ) (w : Worl
     (content_behavior (rules_of check manifest) (labels_of check tool manifest) (whole is) (rights 0 is))
 check_behavior-is check tool manifest w is all fits given =
     let r : Rules = rules_of check manifest in
+    let labels : LabelsValue = labels_of check tool manifest in
     let next : World = after w (manifest ∷ []) in
-    ap (check_behavior_by r (labels_of check tool manifest) manifest next) given
-    ∙ rw (clip-short (whole is) (rw limit-value at fits), all-right r next is all) refl
+    let of : Content → List LineVerdictValue → Behavior =
+    λ c js. step_then (opening manifest) (content_behavior r labels c js) in
+    ap (check_behavior_by r labels manifest next) given
+    ∙ ap (λ c. of c (all_verdicts r next c)) (clip-short (whole is) (rw limit-value at fits))
+    ∙ ap (of (whole is)) (all-right r next is all)
 
 -- a manifest with at least one line is good, and each of its names is reported as right
 pub manifest_good : (check : CheckSettings) (tool manifest : List ℕ) (w : World) (is : List Item)

@@ -1,18 +1,17 @@
 -- `steps_join`: the steps of a new checker, one after another, by induction on the list of their vectors.
-use Rattle.std.proofs.Common.{rules, ◌≡◌, ℕ, zero, suc, ◌+◌, ◌-◌, ◌≤◌, ◌<◌, Bool, true, List, [], ◌∷◌, ◌++◌, length, take, drop, refl, ap, sym, ◌∙◌, arith, length-drop, flat_map, slice_index_or, subst, append-nil}
-use Rattle.std.specs.Io.KnownBytes.{Appends}
+use Rattle.std.proofs.Common.{rules, ◌≡◌, ℕ, zero, suc, ◌+◌, ◌-◌, ◌≤◌, ◌<◌, Bool, true, List, [], ◌∷◌, ◌++◌, length, take, drop, refl, ap, sym, ◌∙◌, arith, length-drop, flat_map, slice_index_or}
 use Rattle.std.proofs.lemmas.List.{take-append-drop}
 use Rattle.sum_sources.specs.Contents.{Content}
 use Rattle.sum_sources.specs.ManifestLines.{past_line, past_lines}
 use Rattle.sum_engine.specs.check.Verdicts.{Form, lines_by, Rules, LineVerdictValue, asks_of, verdicts, all_verdicts, judge}
 use Rattle.sum_lines.specs.grammar.Entries.{form}
 use Rattle.sum_lines.specs.grammar.ParsedLines.{parse_line}
-use Rattle.sum_engine.specs.Behavior.{World, after, Behavior, Step, events_of, trace, out_text, err_text, asks}
-use Rattle.sum_engine.specs.check.Reports.{LabelsValue, out_of, err_of, counts_of, end_text, good}
+use Rattle.sum_engine.specs.Behavior.{World, after, Behavior, Step, trace, out_text, err_text, asks}
+use Rattle.sum_engine.specs.check.Reports.{LabelsValue, out_of, err_of, counts_of, end_text}
 use Rattle.sum_engine.specs.check.Checking.{line_steps, content_behavior}
 use Rattle.sum_engine.specs.Execution.{KnownState, Happened}
 use Rattle.sum_engine.specs.check.CheckerSteps.{CheckState, LineHandled, StepDone, LastStepDone, counts_then, remaining_verdicts, remaining_behavior, initial_state}
-use Rattle.sum_engine.specs.check.CheckerLaws.{StepsGoing, StepsJoin, AfterSteps, EndsManifest}
+use Rattle.sum_engine.specs.check.CheckerLaws.{StepsGoing, StepsJoin, EndsManifest}
 use Rattle.sum_engine.proofs.RestLemmas.{past_next}
 use Rattle.sum_engine.proofs.ExecutionLemmas.{did_nothing, err-by, out-by, names-by}
 use Rattle.sum_engine.proofs.WorldLemmas.{after-none}
@@ -29,11 +28,7 @@ reports : (r : Rules) (labels : LabelsValue) (end : List ℕ) (c : Content) (js 
 reports r labels end c js zero few = (refl, refl, refl)
 reports r labels end c [] (suc k) few = absurd (omega (arith, few))
 reports r labels end c (j ∷ js) (suc k) few =
-    let more = reports r labels end (past_line c) js k (omega (arith, few)) in (
-      ap (λ l. out_of r labels j ++ l) more.0,
-      ap (λ l. err_of r labels j ++ l) more.1,
-      ap (λ l. asks_of j ++ l) more.2,
-    )
+    search (rules, reports r labels end (past_line c) js k (omega (arith, few)))
 
 -- there are as many verdicts as lines
 length_verdicts : (r : Rules) (f : Form) (w : World) (n : ℕ) (ls : List (List ℕ))
@@ -61,14 +56,7 @@ drop_next : {X : Type 0} (k : ℕ) (xs ys : List X) (y : X) → drop k xs ≡ y 
 drop_next zero [] ys y h = cc
 drop_next zero (x ∷ xs) ys y h = (ap (drop 1) h, ap (take 1) h)
 drop_next (suc k) [] ys y h = cc
-drop_next (suc k) (x ∷ xs) ys y h =
-    let next = drop_next k xs ys y h in (next.0, ap (λ l. x ∷ l) next.1)
-
--- a list of which something remains after k of it is longer
-drop_within : {X : Type 0} (k : ℕ) (xs ys : List X) (y : X) → drop k xs ≡ y ∷ ys → k < length xs
-drop_within k xs ys y h =
-    let size : length xs - k ≡ suc (length ys) = sym (length-drop k xs) ∙ ap length h in
-    omega (arith, size)
+drop_next (suc k) (x ∷ xs) ys y h = search (rules, drop_next k xs ys y h)
 
 -- ---- k steps of a new checker
 
@@ -95,17 +83,7 @@ module _ (r : Rules) (labels : LabelsValue) (c : Content) (s : KnownState) where
 
   -- no step yet
   after_none : After (initial_state c s) 0
-  after_none =
-      let all = remaining-initial r labels c s in
-      record {
-        rest = refl;
-        lines = refl;
-        consumed = omega arith;
-        taken = omega arith;
-        done = did_nothing s;
-        remaining = ap (λ (q : Behavior). q.steps) all;
-        good = ap (λ (q : Behavior). q.good) all;
-      }
+  after_none = search (rules, remaining-initial, did_nothing)
 
   -- one more
   after_more : {b d : CheckState} {v : List ℕ} {k : ℕ} → After b k
@@ -120,8 +98,7 @@ module _ (r : Rules) (labels : LabelsValue) (c : Content) (s : KnownState) where
       record {
         rest = rest;
         lines = sym line.0;
-        consumed = ap (λ (x : Content). d.consumed + length x.bytes) (sym rest) ∙ moves.consumed
-            ∙ ap (λ (x : Content). b.consumed + length x.bytes) h.rest ∙ h.consumed;
+        consumed = search (rules, rest);
         taken = moves.taken;
         done = rw remaining.1 (steps_more (take k whole.steps) step.step h.done step.happened);
         remaining = sym remaining.0;
@@ -138,34 +115,21 @@ module _ (r : Rules) (labels : LabelsValue) (c : Content) (s : KnownState) where
 
   -- the whole behavior is what was done and what remains
   along : {b : CheckState} {k : ℕ} → After b k → Along whole (remaining_behavior r labels b) s b.known_state
-  along {b} {k} h = record {
-    done = take k whole.steps;
-    steps = sym (take-append-drop k whole.steps) ∙ ap (λ l. take k whole.steps ++ l) (sym h.remaining);
-    good = h.good;
-    did = h.done;
-  }
+  along h = search (rules, take-append-drop)
 
   -- a step is left after k steps only if k is at most the number of lines
   few : {b : CheckState} {k : ℕ} → After b k → k ≤ length js
   few {b} {k} h =
-      let first = drop_first k h.remaining (remaining_some b) in
-      omega (arith, first, length_steps r labels end c js)
-    where
-      remaining_some : (b : CheckState) → 0 < length (remaining_behavior r labels b).steps
-      remaining_some b =
-          let ks = remaining_verdicts r b in
-          let text = end_text r labels b.rest.ending (counts_then b.counts (counts_of ks)) in
-          omega (arith, length_steps r labels text b.rest ks)
-
-      drop_first : {xs : List Step} (k : ℕ) → xs ≡ drop k whole.steps → 0 < length xs → k < length whole.steps
-      drop_first k is some = omega (arith, some, ap length is ∙ length-drop k whole.steps)
+      let ks = remaining_verdicts r b in
+      let text = end_text r labels b.rest.ending (counts_then b.counts (counts_of ks)) in
+      let left = ap length h.remaining ∙ length-drop k whole.steps in
+      omega (arith, left, length_steps r labels text b.rest ks, length_steps r labels end c js)
 
   -- the step that ends
   ends : {b : CheckState} {k : ℕ} → After b k → (answer : Bool) (z : KnownState)
       → LastStepDone (remaining_behavior r labels b) answer b.known_state z
       → EndsManifest r labels c js k b.known_state z answer
   ends {b} {k} h answer z e =
-      let size = length_verdicts r (form r.algo (lines_by r.profile c)) s.world 0 (lines_by r.profile c) in
       let last = sym h.remaining ∙ ap (λ (q : Behavior). q.steps) e.is in
       let one : length whole.steps - k ≡ 1 = sym (length-drop k whole.steps) ∙ ap length last in
       let number : k ≡ length js = omega (arith, one, length_steps r labels end c js) in
@@ -175,7 +139,7 @@ module _ (r : Rules) (labels : LabelsValue) (c : Content) (s : KnownState) where
       let is : e.step ≡ record { names = []; err = end; out = []; remaining = step.0 } = cc in
       let did = rw is at e.happened in
       record {
-        lines = number ∙ size;
+        lines = number ∙ length_verdicts r (form r.algo (lines_by r.profile c)) s.world 0 (lines_by r.profile c);
         good = (along_end (along h) e).0;
         err = rw (err-by [] end []) at did.err;
         out = rw (out-by [] end []) at did.out;
@@ -188,8 +152,7 @@ vectors_fit : (r : Rules) (labels : LabelsValue) (a b : CheckState) (vectors : L
     → length (slice_index_or vectors i []) ≤ length (slice_index_or (lines_by r.profile a.rest) i [])
 vectors_fit r labels a b [] is i = omega arith
 vectors_fit r labels a b (v ∷ vectors) more zero = rw more.1.1.lines more.1.1.vector_len
-vectors_fit r labels a b (v ∷ vectors) more (suc i) =
-    rw more.1.1.lines (vectors_fit r labels more.0 b vectors more.2 i)
+vectors_fit r labels a b (v ∷ vectors) more (suc i) = search (rules, vectors_fit r labels more.0 b vectors more.2 i)
 
 -- the law
 pub steps_join : StepsJoin

@@ -1,5 +1,5 @@
 -- A manifest of lines that were written for whole files: each line is read back.
-use Rattle.std.proofs.Common.{◌≡◌, ◌≢◌, ◌==◌, ℕ, ◌<◌, false, List, [], ◌∷◌, ◌++◌, length, map, refl, ap, sym, ◌∙◌, subst, ◌⊎◌, inl, IsTrue, flat_map, All, Ok}
+use Rattle.std.proofs.Common.{rules, ◌≡◌, ◌≢◌, ◌==◌, ℕ, ◌<◌, false, List, [], ◌∷◌, ◌++◌, length, map, refl, ap, sym, ◌∙◌, subst, ◌⊎◌, inl, IsTrue, flat_map, All, Ok}
 use Rattle.std.specs.Str.Lines.{strip_carriage_return}
 use Rattle.std.proofs.lemmas.Bool.{ne_eqb}
 use Rattle.std.proofs.lemmas.List.{append-nil, append_cancel_right}
@@ -55,13 +55,7 @@ spelled_for i = record { kind = i.kind; digest = digest i.kind i.bytes; name = i
 -- it can be written so that it is read back
 writable : (algos : Algos) (answer : List ℕ → Reply) (i : Item) → Listed algos answer i
     → Writable i.kind i.name (digest i.kind i.bytes)
-writable algos answer i h = record {
-  some = h.some;
-  no_nul = h.no_nul;
-  bytes = IsBytes-digest i.kind i.bytes;
-  size = length-digest i.kind i.bytes h.has;
-  has = h.has;
-}
+writable algos answer i h = search (rules, IsBytes-digest, length-digest)
 
 -- ---- each line is read back
 

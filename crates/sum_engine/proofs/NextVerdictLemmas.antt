@@ -96,35 +96,7 @@ pub cursor-advanced : {I : Type 0} (state : I → InputState) (p q : CursorValue
     (λ c d. reader.taken + length d.bytes ≡ p.reader.taken + length c.bytes)
     → Bounded reader → (x ≡ Ok Going → n ≡ Ok Line) → (x ≡ Ok (Ended true) → n ≡ Ok NoMore)
     → AdvancesCursor state p q x
-cursor-advanced {I} state p q reader n x is rules lines sum bounds going ended =
-    let then : CursorValue I = record q { reader = reader } in
-    let made : AdvancesCursor state p then x = record {
-      rules = rules;
-      taken = sum;
-      number = λ e. lines.lines ∙ ap (lines_after p.reader.lines) (going e);
-      phase = lines.phase;
-      end = λ e. subst (λ n. FinalAnswerAfter n reader.final_answer) (ended e) lines.final_answer;
-      ahead = lines.ahead;
-      bounds = bounds;
-    } in
-    subst (λ r. AdvancesCursor state p (record q { reader = r }) x) (sym is) made
-
--- a verdict leaves the number of unread files or counts one more
-unread-grows : (c : CountsValue) (v : Verdict) → c.unread ≤ (counts_with c v).unread
-unread-grows c Ignored = omega arith
-unread-grows c Bad = omega arith
-unread-grows c Right = omega arith
-unread-grows c Wrong = omega arith
-unread-grows c Missing = omega arith
-unread-grows c (Unread f) = omega arith
-
-unread-same : (c : CountsValue) (v : Verdict) → (counts_with c v).unread ≡ c.unread → is_unread v ≡ false
-unread-same c Ignored h = refl
-unread-same c Bad h = refl
-unread-same c Right h = refl
-unread-same c Wrong h = refl
-unread-same c Missing h = refl
-unread-same c (Unread f) h = absurd (omega (arith, h))
+cursor-advanced state p q reader n x is rules lines sum bounds going ended = grind (arith)
 
 -- how far the file was read whose line has this verdict
 pub files-found : {I S : Type 0} (state : S → SourceState) (p q : CursorValue I) (a b : StreamsState S)
@@ -133,9 +105,4 @@ pub files-found : {I S : Type 0} (state : S → SourceState) (p q : CursorValue 
     → (is_unread v.verdict ≡ false → ReadToEnd state a b)
     → (p.rules.from_stdin ≡ true → (b.stdin_taken ≡ a.stdin_taken) × (b.stdin_phase ≡ a.stdin_phase))
     → (x ≡ Ok (Ended true) → ⊥) → ReadsListedFile state p q a b x
-files-found state p q a b v x counted read stdin going = record {
-  unread = subst (λ c. p.counts.unread ≤ c.unread) (sym counted) (unread-grows p.counts v.verdict);
-  read_to_end = λ same. read (unread-same p.counts v.verdict (ap (λ c. c.unread) (sym counted) ∙ same));
-  stdin = stdin;
-  good = λ e. absurd (going e);
-}
+files-found state p q a b v x counted read stdin going = search rules

@@ -1,5 +1,5 @@
 -- A line without a carriage return, neither as a byte nor in its name, says the same under both profiles.
-use Rattle.std.proofs.Common.{◌≡◌, ◌≢◌, ℕ, ◌<◌, ◌==◌, ◌||◌, Bool, true, false, cond, List, [], ◌∷◌, ◌++◌, length, refl, ap, sym, ◌∙◌, inl, inr, arith, subst, codes, append_assoc, All}
+use Rattle.std.proofs.Common.{rules, ◌≡◌, ◌≢◌, ℕ, ◌<◌, Bool, true, false, cond, List, [], ◌∷◌, ◌++◌, length, refl, ap, sym, ◌∙◌, inl, inr, arith, subst, codes, All}
 use Rattle.std.proofs.lemmas.Bool.Decides.{nat_tests}
 use Rattle.std.proofs.lemmas.List.{take_at, drop_at}
 use Rattle.std.proofs.lemmas.List.Elements.{All-nil, All-cons, All-head, All-tail, All-take, All-drop}
@@ -34,9 +34,7 @@ byte_same b free = grind (arith, nat_tests)
 -- so a name without one has the same escape
 pub same_escape : (name : List ℕ) → NoReturn name → escape_by older name ≡ escape_by present name
 same_escape [] free = refl
-same_escape (b ∷ bs) free =
-    ap (λ l. l ++ escape_by older bs) (byte_same b (All-head NotReturn b bs free))
-    ∙ ap (λ l. escape_of present b ++ l) (same_escape bs (All-tail NotReturn b bs free))
+same_escape (b ∷ bs) free = search (rules, All-head, byte_same, same_escape bs (All-tail NotReturn b bs free))
 
 -- ---- names
 
@@ -83,36 +81,16 @@ tail_clean E algos f line s free t =
 
 -- ---- the entry
 
--- a name that both escapes change alike is spelled alike by both
-respelled : {E F : List ℕ → List ℕ} (e : Bool) (raw name : List ℕ) → E name ≡ F name → entries.Spells E e raw name
-    → entries.Spells F e raw name
-respelled e raw name same s = record { no_nul = s.no_nul; is = s.is ∙ ap (λ l. cond e l name) same }
-
 -- an entry by one escape is one by the other, if both change its name alike
 entry_by : (E F : List ℕ → List ℕ) (algos : Algos) (f : Form) (line : List ℕ) (s : EntryValue) → E s.name ≡ F s.name
     → IsEntry E algos f line s → IsEntry F algos f line s
-entry_by E F algos f line s same (i, inl t) =
-    let spells = respelled {E = E} {F = F} t.escaped t.raw s.name same t.spells in
-    (i, inl (record { escaped = t.escaped; raw = t.raw; tagged = t.tagged; spells = spells }))
-entry_by E F algos f line s same (i, inr t) =
-    let spells = respelled {E = E} {F = F} t.escaped t.raw s.name same t.spells in
-    let tail : ByTail F algos f line s = record {
-      escaped = t.escaped;
-      tail = t.tail;
-      raw = t.raw;
-      plain = t.plain;
-      is_raw = t.is_raw;
-      spells = spells;
-    } in
-    (i, inr tail)
+entry_by E F algos f line s same h = search rules
 
 -- an older entry of a line without one has a name without one
 older_entry : (algos : Algos) (f : Form) (line : List ℕ) (s : EntryValue) → NoReturn line
     → IsEntry (escape_by older) algos f line s → NoReturn s.name
-older_entry algos f line s free (i, inl t) =
-    older_name t.escaped t.raw s.name (tag_clean (escape_by older) algos line s free t) t.spells
-older_entry algos f line s free (i, inr t) =
-    older_name t.escaped t.raw s.name (tail_clean (escape_by older) algos f line s free t) t.spells
+older_entry algos f line s free (i, inl t) = search (rules, older_name, tag_clean)
+older_entry algos f line s free (i, inr t) = search (rules, older_name, tail_clean)
 
 -- ---- what a line says
 
@@ -125,8 +103,7 @@ CleanParsedLine (entry s) = NoReturn s.name
 -- a line that isn't empty is ignored under both profiles or under neither
 ignored_same : (line : List ℕ) (q : Bool) → 0 < length line → is_ignored_by present line ≡ q → is_ignored_by older line
     ≡ q
-ignored_same [] q some h = absurd (omega (arith, some))
-ignored_same (b ∷ bs) q some h = h
+ignored_same line q some h = search rules
 
 -- a line without one, in which no name has one, says the same under both profiles
 pub parse_line_same : (algos : Algos) (f : Form) (line : List ℕ) → NoReturn line → NamesNoReturn algos f line

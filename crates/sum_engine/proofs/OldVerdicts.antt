@@ -1,8 +1,8 @@
 -- `old_verdicts`: a manifest of the time of older versions is checked alike under both profiles.
-use Rattle.std.proofs.Common.{◌≡◌, ℕ, ◌+◌, ◌<◌, false, not, cond, List, [], ◌∷◌, length, map, refl, ap, sym, ◌∙◌, subst, codes, append_assoc, ◌++◌, bytes_eq, All, flat_map, Ok, Err}
+use Rattle.std.proofs.Common.{rules, ◌≡◌, ℕ, ◌+◌, ◌<◌, false, not, List, [], ◌∷◌, length, map, refl, ap, sym, ◌∙◌, subst, codes, append_assoc, ◌++◌, bytes_eq, All, flat_map, Ok, Err}
 use Rattle.std.specs.List.{concat}
 use Rattle.std.proofs.lemmas.List.Elements.{All-nil, All-cons, All-head, All-tail}
-use Rattle.sum_engine.specs.check.Reports.{LabelsValue, CountsValue, name_line, verdict_line, is_hidden, out_of, err_by, err_of, counts_of, end_text, good}
+use Rattle.sum_engine.specs.check.Reports.{Report, LabelsValue, CountsValue, name_line, verdict_line, out_by, out_of, bad_line, err_by, err_of, counts_of, end_text, good}
 use Rattle.sum_engine.specs.Behavior.{Ending, Whole, Broken, Fault, World, after, single_step}
 use Rattle.sum_sources.specs.Contents.{Content, clip}
 use Rattle.sum_sources.specs.ManifestLines.{raw_lines, last_line, past_line, bytes_of_lines}
@@ -21,14 +21,13 @@ use Rattle.sum_engine.proofs.OldNames.{all_left, all_right, same_escape, CleanPa
 use Rattle.sum_engine.proofs.SamePrefix.{judge_under}
 use Rattle.sum_engine.proofs.ReturnLemmas.{NotReturn, strips-kept}
 use Rattle.sum_engine.proofs.CheckOneLemmas.{opening}
+use Rattle.sum_engine.specs.declared.settings.Report.TheVariants as reports
 
 -- ---- the lines
 
 -- the last line of a text without one has none
 last_clean : (e : Ending) (piece : List ℕ) → NoReturn piece → All NoReturn (last_line e piece)
-last_clean Whole [] free = All-nil NoReturn
-last_clean Whole (b ∷ bs) free = All-cons NoReturn (b ∷ bs) [] free (All-nil NoReturn)
-last_clean (Broken f) piece free = All-nil NoReturn
+last_clean e piece free = search rules
 
 -- nor has any other line
 ended_clean : (e : Ending) (ended : List (List ℕ)) (tail : List ℕ) → NoReturn (bytes_of_lines ended tail)
@@ -60,9 +59,7 @@ CleanName j = NoReturn j.name
 
 -- and what is judged names none
 judged_clean : (r : Rules) (w : World) (n : ℕ) (x : ParsedLine) → CleanParsedLine x → CleanName (judge r w n x)
-judged_clean r w n ignored h = All-nil NotReturn
-judged_clean r w n bad h = All-nil NotReturn
-judged_clean r w n (entry s) h = h
+judged_clean r w n x h = search rules
 
 -- a line that says the same under both profiles
 pub record Alike (algos : Algos) (f : Form) (line : List ℕ) : Type 0 where
@@ -94,9 +91,7 @@ verdicts_same r f w n (l ∷ ls) all =
 
 -- reports that name no carriage return are the same
 name_line_same : (name text : List ℕ) → NoReturn name → name_line older name text ≡ name_line present name text
-name_line_same name text free =
-    ap (λ e. concat (mark (not (bytes_eq e name)) ∷ e ∷ codes ": " ∷ text ∷ codes "\n" ∷ []))
-    (same_escape name free)
+name_line_same name text free = search (rules, same_escape)
 
 -- and so is what is said of each verdict
 said_same : (v : Verdict) (name : List ℕ) → NoReturn name → verdict_line older v name ≡ verdict_line present v name
@@ -104,6 +99,13 @@ said_same Right name free = name_line_same name (codes "OK") free
 said_same Wrong name free = name_line_same name (codes "FAILED") free
 said_same (Unread f) name free = name_line_same name (codes "FAILED open or read") free
 said_same v name free = refl
+
+-- and what is reported of it
+out_same : (report : Report) (v : Verdict) (name : List ℕ) → NoReturn name
+    → out_by older report v name ≡ out_by present report v name
+out_same reports.Quiet Right name free = refl
+out_same reports.Status v name free = refl
+out_same report v name free = said_same v name free
 
 -- what is the same for each verdict without one is the same for all
 all_same : (f g : LineVerdictValue → List ℕ) → ((j : LineVerdictValue) → CleanName j → f j ≡ g j)
@@ -117,7 +119,7 @@ all_same f g same (j ∷ js) all =
 outs_same : (r : Rules) (labels : LabelsValue) (js : List LineVerdictValue) → All CleanName js
     → map (out_of (rules_under older r) labels) js ≡ map (out_of (rules_under present r) labels) js
 outs_same r labels js all = all_same (out_of (rules_under older r) labels) (out_of (rules_under present r) labels)
-    (λ j free. ap (cond (is_hidden labels.report j.verdict) []) (said_same j.verdict j.name free)) js all
+    (λ j free. out_same labels.report j.verdict j.name free) js all
 
 -- the line of a fault
 fault_same : (tool name : List ℕ) (f : Fault) → NoReturn name
@@ -127,9 +129,7 @@ fault_same tool name f free = rw (same_escape name free) refl
 -- what a line of the manifest adds to standard error
 err_same : (r : Rules) (labels : LabelsValue) (n : ℕ) (v : Verdict) (name : List ℕ) → NoReturn labels.list
     → NoReturn name → err_by (rules_under older r) labels n v name ≡ err_by (rules_under present r) labels n v name
-err_same r labels n Bad name own free = rw (same_escape labels.list own) refl
-err_same r labels n (Unread f) name own free = fault_same labels.tool name f free
-err_same r labels n v name own free = refl
+err_same r labels n v name own free = search (rules, same_escape, fault_same)
 
 -- all that is written there
 errs_same : (r : Rules) (labels : LabelsValue) (js : List LineVerdictValue) → NoReturn labels.list → All CleanName js
@@ -140,7 +140,12 @@ errs_same r labels js own all = all_same (err_of (rules_under older r) labels) (
 -- the text at its end
 end_same : (r : Rules) (labels : LabelsValue) (e : Ending) (c : CountsValue) → NoReturn labels.list
     → end_text (rules_under older r) labels e c ≡ end_text (rules_under present r) labels e c
-end_same r labels Whole c own = rw (same_escape labels.list own) refl
+end_same r labels Whole c own = by labels.report
+  where
+    by : (report : Report) → let shown : LabelsValue = record labels { report = report } in
+        end_text (rules_under older r) shown Whole c ≡ end_text (rules_under present r) shown Whole c
+    by reports.Status = rw (same_escape labels.list own) refl
+    by report = rw (same_escape labels.list own) refl
 end_same r labels (Broken f) c own = fault_same labels.tool labels.list f own
 
 -- whether the manifest is good
@@ -189,7 +194,7 @@ steps_same r labels end c (j ∷ js) own all =
     let free = All-head CleanName j js all in
     rw (
       err_same r labels j.number j.verdict j.name own free,
-      said_same j.verdict j.name free,
+      out_same labels.report j.verdict j.name free,
       steps_same r labels end (past_line c) js own (All-tail CleanName j js all),
     ) refl
 
@@ -210,8 +215,7 @@ content_same r labels w c h =
 
 -- so is that of its name
 pub old_outcomes : OldOutcomes
-old_outcomes r labels name w (Err f) own h =
-    ap (λ (l : List ℕ). single_step (name ∷ []) l [] false) (fault_same labels.tool labels.list f own)
+old_outcomes r labels name w (Err f) own h = search (rules, fault_same)
 old_outcomes r labels name w (Ok c) own h =
     ap (step_then (opening name)) (content_same r labels w (clip c) (h c refl))
 

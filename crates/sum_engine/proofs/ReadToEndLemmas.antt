@@ -1,5 +1,5 @@
 -- Read to the end, known or not: over no file, over one, and over one call after another.
-use Rattle.std.proofs.Common.{◌≡◌, ◌⊎◌, ◌||◌, ℕ, zero, suc, ◌+◌, Bool, true, false, Option, None, Some, is_none, is_some, option_map, refl, ap, sym, ◌∙◌, inl, inr, arith, subst}
+use Rattle.std.proofs.Common.{rules, ◌≡◌, ◌⊎◌, ◌||◌, ℕ, zero, suc, ◌+◌, Bool, true, false, Option, None, Some, is_none, is_some, option_map, refl, ap, sym, ◌∙◌, inl, inr, arith}
 use Rattle.std.specs.Option.{option_or}
 use Rattle.std.proofs.Math.Bool.{or-true}
 use Rattle.sum_sources.specs.Contents.{InputState, SourceState, StdinValue, given_state, stdin_taken, stdin_phase, closed_state}
@@ -22,55 +22,19 @@ raised-add (suc m) n count =
 -- all files, over one call and then another
 pub ReadToEnd-trans : {S : Type 0} {state : S → SourceState} {a b c : StreamsState S} → ReadToEnd state a b
     → ReadToEnd state b c → ReadToEnd state a c
-ReadToEnd-trans {state = state} {a} h k = record {
-  number = k.number + h.number;
-  opened = k.opened ∙ ap (raised k.number) h.opened ∙ raised-add k.number h.number (state a.source).opened;
-  ended = k.ended ∙ ap (raised k.number) h.ended ∙ raised-add k.number h.number (state a.source).ended;
-  stdin = λ whole. k.stdin (h.stdin whole);
-}
+ReadToEnd-trans h k = search (rules, raised-add)
 
 -- standard input is whole, by whether it was taken and by its phase
 abbrev Whole : Bool → Option Phase → Type 0
 Whole taken phase = ((taken ≡ false) × (phase ≡ Some Reading)) ⊎ ((taken ≡ true) × (phase ≡ Some Ended))
 
--- standard input as it was
-pub IsStdinWhole-same : {S : Type 0} (a b : StreamsState S) → b.stdin_taken ≡ a.stdin_taken
-    → b.stdin_phase ≡ a.stdin_phase → IsStdinWhole a → IsStdinWhole b
-IsStdinWhole-same a b taken phase (inl h) = inl (taken ∙ h.0, phase ∙ h.1)
-IsStdinWhole-same a b taken phase (inr h) = inr (taken ∙ h.0, phase ∙ h.1)
-
 -- no file was opened, and standard input is as it was
 pub ReadToEnd-none : {S : Type 0} (state : S → SourceState) (a b : StreamsState S)
     → (state b.source).opened ≡ (state a.source).opened → (state b.source).ended ≡ (state a.source).ended
     → b.stdin_taken ≡ a.stdin_taken → b.stdin_phase ≡ a.stdin_phase → ReadToEnd state a b
-ReadToEnd-none state a b opened ended taken phase =
-    record { number = 0; opened = opened; ended = ended; stdin = IsStdinWhole-same a b taken phase }
+ReadToEnd-none state a b opened ended taken phase = search rules
 
 -- ---- standard input is taken and put back
-
--- by the parts: what standard input was (oi, or), what it is before it is put back (bi, br), and what is put back (g)
-put_back_by : {I : Type 0} (state : I → InputState) (oi or bi br g : Option I)
-    → let phase : Option I → Option Phase = option_map (λ i. (state i).phase) in
-    is_none bi || is_some br ≡ true → phase (option_or br bi) ≡ phase (option_or or None)
-    → ((given_state state oi).phase ≡ Reading → (given_state state g).phase ≡ Ended)
-    → Whole (is_none oi || is_some or) (phase (option_or or oi))
-    → Whole (is_none bi || is_some (option_or br g)) (phase (option_or (option_or br g) bi))
-put_back_by state (Some i) None bi (Some y) g taken same ends w = cc
-put_back_by state (Some i) None (Some x) None g taken same ends w = cc
-put_back_by state (Some i) None None None None taken same ends (inl w) =
-    let reading : (state i).phase ≡ Reading = cc in
-    let wrong = ends reading in cc
-put_back_by state (Some i) None None None (Some j) taken same ends (inl w) =
-    let reading : (state i).phase ≡ Reading = cc in
-    inr (refl, ap Some (ends reading))
-put_back_by state (Some i) None None None g taken same ends (inr w) = let wrong = w.0 in cc
-put_back_by state None None bi br g taken same ends (inl w) = let wrong = w.0 in cc
-put_back_by state None None bi br g taken same ends (inr w) = let wrong = w.1 in cc
-put_back_by state oi (Some r) bi (Some y) g taken same ends (inl w) =
-    let wrong : true ≡ false = sym (or-true (is_none oi)) ∙ w.0 in cc
-put_back_by state oi (Some r) bi (Some y) g taken same ends (inr w) = inr (or-true (is_none bi), same ∙ w.1)
-put_back_by state oi (Some r) (Some x) None g taken same ends w = cc
-put_back_by state oi (Some r) None None g taken same ends w = cc
 
 -- standard input was whole; then it is so once what was taken of it is put back, read to its end if nothing of it had
 -- been read
@@ -79,51 +43,20 @@ pub put_back-whole : {I : Type 0} (input : I → InputState) (old before : Stdin
     → ((given_state input old.input).phase ≡ Reading → (given_state input given).phase ≡ Ended)
     → let after : StdinValue I = record before { returned = option_or before.returned given } in
     Whole (stdin_taken old) (stdin_phase input old) → Whole (stdin_taken after) (stdin_phase input after)
-put_back-whole input old before given taken same ends whole =
-    put_back_by input old.input old.returned before.input before.returned given taken same ends whole
-
--- what was taken stays so once it is put back
-put_back-taken : {I : Type 0} (before : StdinValue I) (given : Option I) → stdin_taken before ≡ true
-    → stdin_taken (record before { returned = option_or before.returned given }) ≡ true
-put_back-taken {I} before given taken = by before.input before.returned taken
-  where
-    by : (bi br : Option I) → is_none bi || is_some br ≡ true → is_none bi || is_some (option_or br given) ≡ true
-    by bi (Some y) h = or-true (is_none bi)
-    by None None h = refl
-    by (Some x) None h = cc
+put_back-whole input old before given taken same ends whole = search rules
 
 -- ---- files
 
--- closing a file changes nothing else
-pub closed_state-known : (s : SourceState) (p : Phase) → (closed_state s p).known ≡ s.known
-closed_state-known s Reading = refl
-closed_state-known s Ended = refl
-closed_state-known s Failed = refl
-closed_state-known s Past = refl
-
-pub closed_state-refusals : (s : SourceState) (p : Phase) → (closed_state s p).refusals ≡ s.refusals
-closed_state-refusals s Reading = refl
-closed_state-refusals s Ended = refl
-closed_state-refusals s Failed = refl
-closed_state-refusals s Past = refl
-
+-- closing a file changes no number of opened ones
 pub closed_state-opened : (s : SourceState) (p : Phase) → (closed_state s p).opened ≡ s.opened
-closed_state-opened s Reading = refl
-closed_state-opened s Ended = refl
-closed_state-opened s Failed = refl
-closed_state-opened s Past = refl
+closed_state-opened s p = search rules
 
 -- a file was opened, and closed at its end
 pub ReadToEnd-file : {S : Type 0} (state : S → SourceState) (a b : StreamsState S) (between : S) (p : Phase)
     → (state between).opened ≡ one_more (state a.source).opened → (state between).ended ≡ (state a.source).ended
     → state b.source ≡ closed_state (state between) p → p ≡ Ended
     → b.stdin_taken ≡ a.stdin_taken → b.stdin_phase ≡ a.stdin_phase → ReadToEnd state a b
-ReadToEnd-file state a b between p opened ended closed at_end taken phase = record {
-  number = 1;
-  opened = ap (λ s. s.opened) closed ∙ closed_state-opened (state between) p ∙ opened;
-  ended = ap (λ s. s.ended) (closed ∙ ap (closed_state (state between)) at_end) ∙ ap one_more ended;
-  stdin = IsStdinWhole-same a b taken phase;
-}
+ReadToEnd-file state a b between p opened ended closed at_end taken phase = search rules
 
 -- a file was opened; others were read to the end; and it was closed at its end
 pub ReadToEnd-around : {S : Type 0} (state : S → SourceState) (a m n b : StreamsState S) (p : Phase)
@@ -147,14 +80,11 @@ ReadToEnd-around state a m n b p opened ended first h closed at_end last =
 pub ReadToEnd-lent : {I S : Type 0} (input : I → InputState) (state : S → SourceState) (s t : StdinValue I) (x y : S)
     (err out err' out' : SinkState) → ReadToEnd state (lent_streams input s x) (lent_streams input t y)
     → ReadToEnd state (streams_of input s x err out) (streams_of input t y err' out')
-ReadToEnd-lent input state s t x y err out err' out' h =
-    record { number = h.number; opened = h.opened; ended = h.ended; stdin = h.stdin }
+ReadToEnd-lent input state s t x y err out err' out' h = search rules
 
 -- unless reading failed, what follows holds
 pub UnlessBroken-map : (o : HashOutcome) {P Q : Type 0} → (P → Q) → UnlessBroken (Some o) P → UnlessBroken (Some o) Q
-UnlessBroken-map (outcomes.Read d) f h = f h
-UnlessBroken-map (outcomes.NotOpened e) f h = f h
-UnlessBroken-map (outcomes.Broken e) f h = h
+UnlessBroken-map o f h = search rules
 
 -- ---- the state that is known
 
@@ -163,15 +93,10 @@ pub known_state-put_back : {I S : Type 0} (input : I → InputState) (state : S 
     (given : Option I) (source : S) (err out : SinkState) → stdin_taken before ≡ true
     → known_state state (streams_of input (record before { returned = option_or before.returned given }) source err out)
     ≡ known_state state (streams_of input before source err out)
-known_state-put_back {I} {S} input state before given source err out taken =
-    let by : Bool → StreamsState S = λ taken. record (streams_of input before source err out) { stdin_taken = taken } in
-    ap (λ t. known_state state (by t)) (put_back-taken before given taken ∙ sym taken)
+known_state-put_back input state before given source err out taken = search rules
 
 -- nor if a file is closed
 pub known_state-closed : {S : Type 0} (state : S → SourceState) (a : StreamsState S) (source : S) (p : Phase)
     → state source ≡ closed_state (state a.source) p → known_state state (record a { source = source })
     ≡ known_state state a
-known_state-closed state a source p closed = rw (
-  ap (λ s. s.known) closed ∙ closed_state-known (state a.source) p,
-  ap (λ s. s.refusals) closed ∙ closed_state-refusals (state a.source) p,
-) refl
+known_state-closed state a source p closed = search rules

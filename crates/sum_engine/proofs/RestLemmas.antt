@@ -1,5 +1,5 @@
 -- The verdicts and the behavior that remain, after one line and the next.
-use Rattle.std.proofs.Common.{◌≡◌, ℕ, zero, suc, ◌+◌, List, [], ◌∷◌, length, refl, ap, sym, ◌∙◌}
+use Rattle.std.proofs.Common.{rules, ◌≡◌, ℕ, zero, suc, ◌+◌, List, [], ◌∷◌, length, refl, ap, sym, ◌∙◌}
 use Rattle.sum_sources.specs.Contents.{Content}
 use Rattle.sum_sources.specs.ManifestLines.{past_line, past_lines}
 use Rattle.sum_lines.specs.grammar.Entries.{form, form_then, line_form}
@@ -9,17 +9,13 @@ use Rattle.sum_engine.specs.check.Verdicts.{lines_by, Rules, LineVerdictValue, a
 use Rattle.sum_lines.specs.grammar.ParsedLines.{parse_line}
 use Rattle.sum_engine.specs.check.Reports.{LabelsValue, CountsValue, counts_of, out_of, err_of, end_text, good}
 use Rattle.sum_engine.specs.check.Checking.{line_steps}
-use Rattle.sum_engine.proofs.CountLemmas.{counts_then-cons}
 use Rattle.sum_engine.specs.check.CheckerSteps.{counts_with, counts_then, step_then, CheckState, LineHandled, next_judged, remaining_verdicts, remaining_behavior}
 
 -- what a line says by the form of all lines is what it says by the form so far and its own
 parse_line_now : (r : Rules) (a : CheckState) (l : List ℕ) (ls : List (List ℕ)) →
     parse_line r.profile r.algo (form_then a.form (form r.algo (l ∷ ls))) l
     ≡ parse_line r.profile r.algo (form_then a.form (line_form r.algo l)) l
-parse_line_now r a l ls =
-    let algo = r.algo in
-    ap (λ g. parse_line r.profile algo g l) (form_next algo a.form l ls)
-    ∙ parse_stays r.profile algo a.form (form algo ls) l
+parse_line_now r a l ls = search (rules, form_next, parse_stays)
 
 -- the first of those that remain
 pub rest_head : (r : Rules) (a : CheckState) (l : List ℕ) (ls : List (List ℕ)) → lines_by r.profile a.rest ≡ l ∷ ls
@@ -31,8 +27,7 @@ rest_head r a l ls h = rw (h, parse_line_now r a l ls) refl
 pub rest_on : (r : Rules) (a b : CheckState) (v : List ℕ) (h : LineHandled r a b v)
     → b.known_state.world ≡ after a.known_state.world (asks_of (next_judged r a h.line))
     → remaining_verdicts r a ≡ next_judged r a h.line ∷ remaining_verdicts r b
-rest_on r a b v h world =
-    rest_head r a h.line (lines_by r.profile b.rest) h.lines ∙ rw (h.form, world, h.number, form_next) refl
+rest_on r a b v h world = search (rules, rest_head, form_next)
 
 -- ---- the behavior that remains
 
@@ -52,10 +47,7 @@ behavior_by-cons : (r : Rules) (labels : LabelsValue) (e : Ending) (k : CountsVa
     (j : LineVerdictValue) (js : List LineVerdictValue)
     → behavior_by r labels e k c (j ∷ js) ≡ step_then (line_step r labels (length c.bytes) j)
     (behavior_by r labels e (counts_with k j.verdict) (past_line c) js)
-behavior_by-cons r labels e k c j js =
-    let by : CountsValue → Behavior = λ counts.
-    record { steps = line_steps r labels (end_text r labels e counts) c (j ∷ js); good = good r e counts } in
-    ap by (counts_then-cons k j js)
+behavior_by-cons r labels e k c j js = search rules
 
 -- or with that of the end; before it all of the content remains
 pub first_step : (r : Rules) (labels : LabelsValue) (e : Ending) (k : CountsValue) (c : Content)
@@ -80,13 +72,7 @@ pub found_first : (r : Rules) (labels : LabelsValue) (a b : CheckState) (j : Lin
     → b.counts ≡ counts_with a.counts j.verdict → b.rest ≡ past_line a.rest
     → remaining_behavior r labels a
     ≡ step_then (line_step r labels (length a.rest.bytes) j) (remaining_behavior r labels b)
-found_first r labels a b j first counted rest =
-    let js = remaining_verdicts r b in
-    let by : CountsValue → Content → Behavior = λ k c. behavior_by r labels c.ending k c js in
-    ap (behavior_by r labels a.rest.ending a.counts a.rest) first
-    ∙ behavior_by-cons r labels a.rest.ending a.counts a.rest j js
-    ∙ ap (λ k. step_then (line_step r labels (length a.rest.bytes) j) (by k (past_line a.rest))) (sym counted)
-    ∙ ap (λ c. step_then (line_step r labels (length a.rest.bytes) j) (by b.counts c)) (sym rest)
+found_first r labels a b j first counted rest = search rules
 
 -- contents past so many lines
 pub past_next : (k : ℕ) (c : Content) → past_line (past_lines k c) ≡ past_lines (suc k) c

@@ -16,6 +16,4 @@ strip-kept (b ∷ bs) free = search rules
 -- nor from several
 pub strips-kept : (ls : List (List ℕ)) → All NoReturn ls → map strip_carriage_return ls ≡ ls
 strips-kept [] all = refl
-strips-kept (l ∷ ls) all =
-    ap (λ x. x ∷ map strip_carriage_return ls) (strip-kept l (All-head NoReturn l ls all))
-    ∙ ap (λ xs. l ∷ xs) (strips-kept ls (All-tail NoReturn l ls all))
+strips-kept (l ∷ ls) all = search (rules, All-head, strip-kept, strips-kept ls (All-tail NoReturn l ls all))

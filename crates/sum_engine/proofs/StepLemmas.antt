@@ -9,15 +9,15 @@ use Rattle.sum_sources.specs.LineReaders.{remaining_content, consumed}
 use Rattle.sum_lines.specs.sinks.Sinks.{SinkState}
 use Rattle.sum_lines.specs.Escape.{Profile, present}
 use Rattle.sum_lines.specs.grammar.LineParts.{◌>>=◌}
-use Rattle.sum_engine.specs.check.Reports.{Report, LabelsValue, err_by, out_by, end_text, good, counts_of}
+use Rattle.sum_engine.specs.check.Reports.{Report, LabelsValue, err_by, out_by, end_text, good}
 use Rattle.sum_engine.specs.check.Verdicts.{Ignored, lines_by, Rules, asks_of}
-use Rattle.sum_engine.specs.check.CheckerSteps.{CursorValue, state_at, check_state, Going, Ended, CheckState, counts_with, counts_then, step_then, LineHandled, StepIs, StepIsIfKnown, next_judged, remaining_verdicts, remaining_behavior}
+use Rattle.sum_engine.specs.check.CheckerSteps.{CursorValue, state_at, check_state, Going, Ended, CheckState, counts_with, step_then, LineHandled, StepIs, StepIsIfKnown, next_judged, remaining_verdicts, remaining_behavior}
 use Rattle.sum_engine.specs.Execution.{Memory, StreamsState, KnownState, IsFlushed, known_state}
 use Rattle.sum_engine.specs.check.NextVerdict.{LineVerdict, line_verdict_value, NextVerdictIfKnown, NoVerdictLeft}
 use Rattle.sum_engine.specs.refinement.Judging.{TakesLine}
 use Rattle.sum_engine.specs.refinement.FlushedWrites.{WritesAndFlushes, WritesBoth}
 use Rattle.sum_engine.specs.refinement.HashName.{world_of}
-use Rattle.sum_engine.proofs.ExecutionLemmas.{Asks, Writing, Came, known, known_state-by_world, asks_by, asks_none, came_by, err_alone}
+use Rattle.sum_engine.proofs.ExecutionLemmas.{Asks, Writing, Came, known, asks_by, asks_none, came_by, err_alone}
 use Rattle.sum_engine.proofs.BehaviorLemmas.{answered}
 use Rattle.sum_engine.proofs.CountLemmas.{counts_then-nil}
 use Rattle.sum_engine.proofs.RestLemmas.{line_step, behavior_by, first_step, found_first}
@@ -26,47 +26,13 @@ use Rattle.sum_engine.specs.declared.settings.Report.TheVariants as reports
 
 -- ---- the state of a check that may not be known
 
--- two values that may not be known, made to one
-abbrev both : {A B C : Type 0} → Option A → Option B → (A → B → C) → Option C
-both x y f = x >>= (λ a. y >>= (λ b. Some (f a b)))
-
--- what follows of such values from facts of their parts
-both-known : {A B C : Type 0} (x y : Option A) (s t : Option B) (f g : A → B → C) {P : A → A → Type 0}
-    {Q : B → B → Type 0} (R : C → C → Type 0) → IfKnown x y P → IfKnown s t Q
-    → ((c d : A) (s t : B) → P c d → Q s t → R (f c s) (g d t)) → IfKnown (both x s f) (both y t g) R
-both-known None y s t f g R h k to = tt
-both-known (Some c) y None t f g R h k to = tt
-both-known (Some c) None (Some s) t f g R h k to = absurd h
-both-known (Some c) (Some d) (Some s) None f g R h k to = absurd k
-both-known (Some c) (Some d) (Some s) (Some t) f g R h k to = to c d s t h k
-
--- and from facts of such values, made of the same parts in another way
-both-remade : {A B C : Type 0} (x y : Option A) (w v : Option B) (f g h k : A → B → C) (P R : C → C → Type 0)
-    → IfKnown (both x w f) (both y v g) P
-    → ((c d : A) (w v : B) → P (f c w) (g d v) → R (h c w) (k d v)) → IfKnown (both x w h) (both y v k) R
-both-remade None y w v f g h k P R is to = tt
-both-remade (Some c) y None v f g h k P R is to = tt
-both-remade (Some c) None (Some w) v f g h k P R is to = absurd is
-both-remade (Some c) (Some d) (Some w) None f g h k P R is to = absurd is
-both-remade (Some c) (Some d) (Some w) (Some v) f g h k P R is to = to c d w v is
-
--- the second alone
-both-second : {A B C : Type 0} (y : Option A) (z : Option B) (g : A → B → C) (a : C) (s : B) (P : C → C → Type 0)
-    (R : B → B → Type 0) → IfKnown (Some a) (both y z g) P → ((d : A) (z : B) → P a (g d z) → R s z)
-    → IfKnown (Some s) z R
-both-second None z g a s P R h to = absurd h
-both-second (Some d) None g a s P R h to = absurd h
-both-second (Some d) (Some z) g a s P R h to = to d z h
-
 -- what follows of two places from facts of their contents and of the streams, if these are known
 pub check_state-made : {I : Type 0} (state : I → InputState) (p q : CursorValue I) (s t : Option KnownState)
     {P : Content → Content → Type 0} {Q : KnownState → KnownState → Type 0} (R : CheckState → CheckState → Type 0)
     → IfKnown (remaining_content state p.reader) (remaining_content state q.reader) P → IfKnown s t Q
     → ((c d : Content) (s t : KnownState) → P c d → Q s t → R (state_at p c s) (state_at q d t))
     → IfKnown (check_state state p s) (check_state state q t) R
-check_state-made state p q s t R h k f =
-    both-known (remaining_content state p.reader) (remaining_content state q.reader) s t (state_at p) (state_at q) R h k
-    f
+check_state-made state p q s t R h k f = search rules
 
 -- what follows of the streams from a fact of the whole state
 pub known_state-made : {I : Type 0} (state : I → InputState) (q : CursorValue I) (z : Option KnownState)
@@ -74,7 +40,7 @@ pub known_state-made : {I : Type 0} (state : I → InputState) (q : CursorValue 
     (s : KnownState) (P : CheckState → CheckState → Type 0) (R : KnownState → KnownState → Type 0)
     → IfKnown (Some a) (check_state state q z) P
     → ((d : Content) (z : KnownState) → P a (state_at q d z) → R s z) → IfKnown (Some s) z R
-known_state-made state q z a s P R h f = both-second (remaining_content state q.reader) z (state_at q) a s P R h f
+known_state-made state q z a s P R h f = search rules
 
 -- ---- a step, by what the reader returned
 
@@ -123,38 +89,23 @@ step_by : (r : Rules) (labels : LabelsValue) (a b : CheckState) (vector : List �
     → remaining_behavior r labels a ≡ step_then step (remaining_behavior r labels b) → LineHandled r a b vector
     → Came x a.known_state b.known_state (events_of step) → StepIs r labels vector a b (answered x Going)
 step_by r labels a b vector step (Ok u) is moves did = (record { step = step; is = is; happened = did }, moves)
-step_by r labels a b vector step (Err e) is moves cut =
-    record { step = step; rest = remaining_behavior r labels b; is = is; happened = cut }
+step_by r labels a b vector step (Err e) is moves cut = search rules
 
 -- the last step was done, or a prefix of its events
 last_by : (r : Rules) (labels : LabelsValue) (a b : CheckState) (vector : List ℕ) (step : Step) (answer : Bool)
     (x : Writing) → remaining_behavior r labels a ≡ record { steps = step ∷ []; good = answer }
     → Came x a.known_state b.known_state (events_of step) → StepIs r labels vector a b (answered x (Ended answer))
-last_by r labels a b vector step answer (Ok u) is did = record { step = step; is = is; happened = did }
+last_by r labels a b vector step answer (Ok u) is did = search rules
 last_by r labels a b vector step answer (Err e) is cut =
     record { step = step; rest = record { steps = []; good = answer }; is = is; happened = cut }
 
 -- of an ignored line nothing is reported
 pub out_by-ignored : (p : Profile) (report : Report) (name : List ℕ) → out_by p report Ignored name ≡ []
-out_by-ignored p reports.All name = refl
-out_by-ignored p reports.Quiet name = refl
-out_by-ignored p reports.Warn name = refl
-out_by-ignored p reports.Status name = refl
+out_by-ignored p report name = search rules
 
 -- from the place p and the streams a to the place q and the streams b
 module _ {I S : Type 0} (input : I → InputState) (state : S → SourceState) (p q : CursorValue I) (a b : StreamsState S)
   where
-    -- the state of the check by the world
-    by_world : (p : CursorValue I) (m : StreamsState S) → check_state input p (known_state state m)
-        ≡ both (remaining_content input p.reader) (world_of state m) (λ c w. state_at p c (known state m w))
-    by_world p m = rw (known_state-by_world state m) (both-mapped (remaining_content input p.reader) (world_of state m))
-      where
-        both-mapped : (x : Option Content) (w : Option World)
-            → both x (option_map (known state m) w) (state_at p) ≡ both x w (λ c w. state_at p c (known state m w))
-        both-mapped None w = refl
-        both-mapped (Some c) None = refl
-        both-mapped (Some c) (Some w) = refl
-
     -- what follows from facts of the streams without their outputs
     from_asked : (P R : CheckState → CheckState → Type 0)
         → IfKnown (check_state input p (known_state state (asked a)))
@@ -163,9 +114,7 @@ module _ {I S : Type 0} (input : I → InputState) (state : S → SourceState) (
         → P (state_at p c (known state (asked a) w)) (state_at q d (known state (asked b) v))
         → R (state_at p c (known state a w)) (state_at q d (known state b v)))
         → IfKnown (check_state input p (known_state state a)) (check_state input q (known_state state b)) R
-    from_asked P R is to = rw (by_world p a, by_world q b) (both-remade (remaining_content input p.reader)
-        (remaining_content input q.reader) (world_of state a) (world_of state b) _ _ _ _ P R
-        (rw (by_world p (asked a), by_world q (asked b)) at is) to)
+    from_asked P R is to = search rules
 
     -- a line was found, and its report was written, or a prefix of it
     pub step_found : (labels : LabelsValue) (vector : List ℕ) (v : LineVerdict) (x : Writing)
@@ -179,21 +128,10 @@ module _ {I S : Type 0} (input : I → InputState) (state : S → SourceState) (
     step_found labels vector v x found writes = from_asked _ _ found (λ c d w v' f.
         let j = line_verdict_value vector v in
         let names = asks_by (asks_of j) f.0.happened in
-        let asks : Asks (known state a w) (known state b v') (asks_of j) =
-        record { world = names.world; taken = names.taken; refusals = names.refusals } in
+        let asks : Asks (known state a w) (known state b v') (asks_of j) = search rules in
         let first : CheckState = state_at p c (known state a w) in
         let next : CheckState = state_at q d (known state b v') in
-        let moves : LineHandled p.rules first next vector = record {
-          line = f.1.line;
-          lines = f.1.lines;
-          rest = f.1.rest;
-          consumed = f.1.consumed;
-          taken = f.1.taken;
-          number = f.1.number;
-          form = f.1.form;
-          counts = f.1.counts;
-          vector_len = f.1.vector_len;
-        } in
+        let moves : LineHandled p.rules first next vector = search rules in
         step_by p.rules labels first next vector (line_step p.rules labels (length c.bytes) j) x
         (found_first p.rules labels first next j f.0.first f.0.counts f.1.rest) moves
         (came_by _ _ (asks_of j) _ _ x asks writes))
@@ -207,18 +145,7 @@ module _ {I S : Type 0} (input : I → InputState) (state : S → SourceState) (
     step_refused labels vector found err out = from_asked _ _ found (λ c d w v f.
         let s = first_step p.rules labels c.ending p.counts c
         (remaining_verdicts p.rules (state_at p c (known state a w))) in
-        record {
-          step = s.0;
-          rest = s.1;
-          is = s.2;
-          refused = elim f.0 [
-            | inl e ↦ inl (rw (ap (λ t. t.world) e, ap (λ t. t.stdin_taken) e, ap (λ t. t.refusals) e, err, out) refl)
-            | inr e ↦ inr (
-              rw (ap (λ t. t.world) e, ap (λ t. t.stdin_taken) e, ap (λ t. t.refusals) e, err, out) refl,
-              subst (λ k. 0 < k) (sym s.3) f.1,
-            )
-          ];
-        })
+        search rules)
 
     -- the end was found, and its text was written, or a prefix of it
     pub step_end : (labels : LabelsValue) (vector : List ℕ) (e : Ending) (answer : Bool) (x : Writing)

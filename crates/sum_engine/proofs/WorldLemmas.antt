@@ -20,9 +20,3 @@ after-none w = rw append-nil refl
 -- asking some names after others
 pub after-append : (w : World) (a b : List (List ℕ)) → after (after w a) b ≡ after w (a ++ b)
 after-append w a b = simp (append_assoc, filter-append, list_any-append, given_then)
-
--- one name was asked: standard input
-pub dash_asked : (f : List ℕ → Reply) (asked : List (List ℕ)) (c : Content) (name : List ℕ) → is_dash name ≡ true
-    → record { answer = f; asked = asked; input = empty_content }
-    ≡ after (record { answer = f; asked = asked; input = c }) (name ∷ [])
-dash_asked f asked c name d = rw (d, append-nil) refl

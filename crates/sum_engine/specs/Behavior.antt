@@ -28,29 +28,22 @@ after w names =
     let input = if list_any is_dash names then empty_content else w.input in
     record w { asked = w.asked ++ filter (λ n. not (is_dash n)) names; input = input }
 
--- the digest of a content with that ending, or the fault that broke it
-abbrev pub digest_unless_broken : Ending → List ℕ → Result (List ℕ) Fault
-digest_unless_broken Whole d = Ok d
-digest_unless_broken (Broken f) d = Err f
-
 -- what reading a reply gives: the digest of all its bytes, or the fault of opening or reading it
 abbrev pub digest_or_fault : KindValue → Reply → Result (List ℕ) Fault
 digest_or_fault kind (Err f) = Err f
-digest_or_fault kind (Ok c) = digest_unless_broken (clip c).ending (digest kind (clip c).bytes)
+digest_or_fault kind (Ok c) = elim (clip c).ending [ Whole ↦ Ok (digest kind (clip c).bytes) | Broken f ↦ Err f ]
 
 -- a name is opened (`-` is standard input); or a byte is written to standard error, or to standard output
 pub data Event : Type 0 where
   open_name : List ℕ → Event
-  write_err : ℕ → Event
-  write_out : ℕ → Event
+  write_err write_out : ℕ → Event
 
--- The unit between two points at which memory may run out: at most one name is opened, then a text goes to standard
--- error, then one to standard output. `remaining` is how many bytes of a manifest are still to come before it.
+-- a name is opened, or none; standard error gets a text, then standard output does; memory runs out only before a step
 pub record Step : Type 0 where
   pub names : List (List ℕ)
   pub err : List ℕ
   pub out : List ℕ
-  pub remaining : ℕ
+  pub remaining : ℕ  -- bytes of a manifest that are still to come before it
 
 -- a list of steps, and whether all is good
 pub record Behavior : Type 0 where
@@ -67,16 +60,13 @@ trace steps = flat_map events_of steps
 
 -- an event as an opened name, as a byte of standard error, or as one of standard output
 abbrev pub name_in : Event → Option (List ℕ)
-name_in (open_name name) = Some name
-name_in event = None
+name_in = elim [ open_name name ↦ Some name | event ↦ None ]
 
 abbrev pub err_in : Event → Option ℕ
-err_in (write_err b) = Some b
-err_in event = None
+err_in = elim [ write_err b ↦ Some b | event ↦ None ]
 
 abbrev pub out_in : Event → Option ℕ
-out_in (write_out b) = Some b
-out_in event = None
+out_in = elim [ write_out b ↦ Some b | event ↦ None ]
 
 -- one behavior after another
 abbrev pub behavior_then : Behavior → Behavior → Behavior

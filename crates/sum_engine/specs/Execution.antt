@@ -12,13 +12,12 @@ pub use Rattle.sum_engine.specs.declared.stop.Stop.{Stop}
 pub use Rattle.sum_engine.specs.declared.stop.Stop.TheVariants.{Memory, Write}
 use Rattle.sum_engine.specs.Behavior.{World, is_dash, after, Event, Step, Behavior, trace, name_in, err_in, out_in}
 
--- the source itself; what standard input has left, if known, whether it was taken, and how far it was read, until it is
--- taken and again once it is put back; both outputs
+-- the source itself; what standard input has left, if known, and whether it was taken; both outputs
 pub record StreamsState (S : Type 0) : Type 0 where
   pub source : S
   pub input : Option Content
   pub stdin_taken : Bool
-  pub stdin_phase : Option Phase
+  pub stdin_phase : Option Phase  -- how far standard input was read, until it is taken and again once it is put back
   pub err : SinkState
   pub out : SinkState
 
@@ -88,12 +87,11 @@ pub record KnownState : Type 0 where
 
 -- that of these streams, if the source and standard input are known
 abbrev pub known_state : {S : Type 0} → (S → SourceState) → StreamsState S → Option KnownState
-known_state state m = do
-  source ← (state m.source).known
+known_state state m = let s = state m.source in do
+  source ← s.known
   input ← m.input
   let world : World = record { answer = source.answer; asked = source.asked; input = input }
-  let refusals = (state m.source).refusals
-  Some (record { world = world; refusals = refusals; stdin_taken = m.stdin_taken; err = m.err; out = m.out })
+  Some (record { world = world; refusals = s.refusals; stdin_taken = m.stdin_taken; err = m.err; out = m.out })
 
 -- these events happened: the names were asked, and the bytes written; the source was refused no memory
 pub record Happened (a b : KnownState) (es : List Event) : Type 0 where
@@ -128,8 +126,7 @@ PerformsSteps steps x a b (Ok answer) = (answer ≡ x) × Happened a b (trace st
 PerformsSteps steps x a b (Err Write) = PrefixHappened a b (trace steps)
 PerformsSteps steps x a b (Err Memory) = OutOfMemory steps a b
 
--- the same of a behavior in whatever world it begins, if that is known and both outputs are flushed at the call; the
--- answer depends on whether all is good
+-- the same of the behavior in the world at the call, if that is known and both outputs flushed; its `good` is answered
 abbrev pub Performs : {S A : Type 0} → (S → SourceState) → (World → Behavior) → (Bool → A) → StreamsState S
     → StreamsState S → Result A Stop → Type 0
 Performs state behavior answer a b r = IsFlushed a → IfKnown (known_state state a) (known_state state b)

@@ -17,11 +17,9 @@ fault_line p tool name fault = tool_line p tool name (fault_text fault)
 
 -- a name with this digest has its line written, and one with a fault the line of the fault
 abbrev pub generate_behavior_by : Settings → List ℕ → List ℕ → Result (List ℕ) Fault → Behavior
-generate_behavior_by settings tool name (Ok d) =
-    single_step (name ∷ []) [] (line settings.style settings.kind name d) true
-generate_behavior_by settings tool name (Err f) = single_step (name ∷ []) (fault_line present tool name f) [] false
+generate_behavior_by s tool name (Ok d) = single_step (name ∷ []) [] (line s.style s.kind name d) true
+generate_behavior_by s tool name (Err f) = single_step (name ∷ []) (fault_line present tool name f) [] false
 
 -- the behavior of hashing a name in a world
 abbrev pub generate_behavior : Settings → List ℕ → World → List ℕ → Behavior
-generate_behavior settings tool w name =
-    generate_behavior_by settings tool name (digest_or_fault settings.kind (reply w name))
+generate_behavior s tool w name = generate_behavior_by s tool name (digest_or_fault s.kind (reply w name))

@@ -11,19 +11,13 @@ use Rattle.sum_engine.specs.check.Reports.{LabelsValue, out_of, err_of, counts_o
 
 -- the rules of these settings
 abbrev pub rules_of : CheckSettings → List ℕ → Rules
-rules_of settings name = record {
-  profile = present;
-  algo = settings.algo;
-  ignore_missing = settings.ignore_missing;
-  strict = settings.strict;
-  from_stdin = is_dash name;
-}
+rules_of s name = let dash = is_dash name in
+    record { profile = present; algo = s.algo; ignore_missing = s.ignore_missing; strict = s.strict; from_stdin = dash }
 
 -- what the tool's reports of a manifest of that name show
 abbrev pub labels_of : CheckSettings → List ℕ → List ℕ → LabelsValue
 labels_of settings tool name =
-    let list = if is_dash name then codes "standard input" else name in
-    record { tool = tool; list = list; report = settings.report }
+    record { tool = tool; list = if is_dash name then codes "standard input" else name; report = settings.report }
 
 -- a step for each line of the content, by these verdicts, and one for the end, which has that text
 abbrev pub line_steps : Rules → LabelsValue → List ℕ → Content → List LineVerdictValue → List Step
@@ -34,10 +28,8 @@ line_steps r labels end c (j ∷ js) =
 
 -- a manifest that was opened, whose lines have these verdicts
 abbrev pub content_behavior : Rules → LabelsValue → Content → List LineVerdictValue → Behavior
-content_behavior r labels c js = record {
-  steps = line_steps r labels (end_text r labels c.ending (counts_of js)) c js;
-  good = good r c.ending (counts_of js);
-}
+content_behavior r labels c js = let counts = counts_of js in
+    record { steps = line_steps r labels (end_text r labels c.ending counts) c js; good = good r c.ending counts }
 
 -- a manifest of that name, opened with this reply, in the world after that
 abbrev pub check_behavior_by : Rules → LabelsValue → List ℕ → World → Reply → Behavior

@@ -1,5 +1,5 @@
 -- The law of old verdicts: a manifest of the time of older versions is checked alike under both profiles.
-use Rattle.std.specs.Prelude.{ℕ, ◌≡◌, ◌≢◌, ◌<◌, true, false, List, [], ◌∷◌, length, map, codes, All, Ok}
+use Rattle.std.specs.Prelude.{ℕ, ◌≡◌, ◌≢◌, ◌<◌, false, List, [], ◌∷◌, length, map, codes, All, Ok}
 use Rattle.sum_engine.specs.check.Reports.{LabelsValue, out_of, err_of, counts_of, end_text, good}
 use Rattle.sum_engine.specs.Behavior.{Whole, World}
 use Rattle.sum_sources.specs.Contents.{Content, clip, Reply}

@@ -1,4 +1,5 @@
 -- What checking writes: the reports of the lines, and the end of a manifest.
+use denote.Enum.Bare.{sameb}
 use Rattle.std.specs.Prelude.{ℕ, ◌+◌, ◌==◌, ◌&&◌, ◌||◌, Bool, true, false, not, List, [], ◌∷◌, ◌++◌, decimal, codes, filter, length, if◌then◌else◌}
 use Rattle.std.specs.List.{concat}
 use Rattle.sum_lines.specs.grammar.Shapes.{One, Any, mark}
@@ -6,8 +7,9 @@ use Rattle.digest_kinds.specs.Kinds.{tag}
 use Rattle.sum_engine.specs.Behavior.{Ending, Whole, Broken}
 pub use Rattle.sum_engine.specs.declared.settings.Report.{Report}
 use Rattle.sum_engine.specs.declared.settings.Report.TheVariants.{Quiet, Warn, Status}
-use Rattle.sum_engine.specs.check.Verdicts.{Algos, Verdict, Ignored, Bad, Right, Wrong, Missing, Unread, Rules, LineVerdictValue}
-use Rattle.sum_lines.specs.Escape.{Profile, present, escape_by, escape_differs}
+use Rattle.sum_engine.specs.contracts.check.judge.Verdict.{the_type}
+use Rattle.sum_engine.specs.check.Verdicts.{Algos, Verdict, Bad, Right, Wrong, Missing, Unread, Rules, LineVerdictValue}
+use Rattle.sum_lines.specs.Escape.{Profile, escape_by, escape_differs}
 use Rattle.sum_engine.specs.Generation.{tool_line, fault_line}
 
 -- what the reports of a manifest show: the tool's name, the manifest's, and which lines
@@ -27,15 +29,11 @@ verdict_line p Wrong name = name_line p name (codes "FAILED")
 verdict_line p (Unread f) name = name_line p name (codes "FAILED open or read")
 verdict_line p v name = []
 
--- what a report setting leaves out of standard output
-abbrev pub is_hidden : Report → Verdict → Bool
-is_hidden Quiet Right = true
-is_hidden Status v = true
-is_hidden report v = false
-
 -- a line's report on standard output
 abbrev pub out_by : Profile → Report → Verdict → List ℕ → List ℕ
-out_by p report v name = if is_hidden report v then [] else verdict_line p v name
+out_by p Quiet Right name = []
+out_by p Status v name = []
+out_by p report v name = verdict_line p v name
 
 abbrev pub out_of : Rules → LabelsValue → LineVerdictValue → List ℕ
 out_of r labels j = out_by r.profile labels.report j.verdict j.name
@@ -50,40 +48,19 @@ abbrev pub bad_line : Rules → LabelsValue → ℕ → List ℕ
 bad_line r labels n = concat (labels.tool ∷ codes ": " ∷ escape_by r.profile labels.list ∷ codes ": " ∷ decimal n
     ∷ codes ": improperly formatted " ∷ tag_word r.algo ∷ codes " checksum line\n" ∷ [])
 
--- the text, if the setting reports each improperly formatted line
-abbrev pub if_warned : Report → List ℕ → List ℕ
-if_warned Warn text = text
-if_warned report text = []
-
--- a line's report on standard error
+-- a line's report on standard error: one that is improperly formatted is named under `Warn` alone
 abbrev pub err_by : Rules → LabelsValue → ℕ → Verdict → List ℕ → List ℕ
-err_by r labels n Bad name = if_warned labels.report (bad_line r labels n)
+err_by r labels n Bad name = elim labels.report [ Warn ↦ bad_line r labels n | report ↦ [] ]
 err_by r labels n (Unread f) name = fault_line r.profile labels.tool name f
 err_by r labels n v name = []
 
 abbrev pub err_of : Rules → LabelsValue → LineVerdictValue → List ℕ
 err_of r labels j = err_by r labels j.number j.verdict j.name
 
--- which kind of verdict it is
-abbrev pub is_right : Verdict → Bool
-is_right Right = true
-is_right v = false
-
-abbrev pub is_wrong : Verdict → Bool
-is_wrong Wrong = true
-is_wrong v = false
-
-abbrev pub is_missing : Verdict → Bool
-is_missing Missing = true
-is_missing v = false
-
+-- whether it is `Unread`, by whatever fault
 abbrev pub is_unread : Verdict → Bool
 is_unread (Unread f) = true
 is_unread v = false
-
-abbrev pub is_bad : Verdict → Bool
-is_bad Bad = true
-is_bad v = false
 
 -- how many lines have a verdict of each kind but `Ignored`
 pub record CountsValue : Type 0 where
@@ -93,18 +70,13 @@ pub record CountsValue : Type 0 where
   pub unread : ℕ
   pub bad : ℕ
 
--- how many of the lines have such a verdict
+-- how many of the lines have such a verdict (`sameb` compares variants)
 abbrev pub number_of : (Verdict → Bool) → List LineVerdictValue → ℕ
 number_of is js = length (filter (λ j. is j.verdict) js)
 
 abbrev pub counts_of : List LineVerdictValue → CountsValue
-counts_of js = record {
-  right = number_of is_right js;
-  wrong = number_of is_wrong js;
-  missing = number_of is_missing js;
-  unread = number_of is_unread js;
-  bad = number_of is_bad js;
-}
+counts_of js = let n : Verdict → ℕ = λ v. number_of (sameb the_type v) js in
+    record { right = n Right; wrong = n Wrong; missing = n Missing; unread = number_of is_unread js; bad = n Bad }
 
 -- how many lines are entries
 abbrev pub entries : CountsValue → ℕ
@@ -122,23 +94,17 @@ unverified_line r labels c = if r.ignore_missing && (c.right == 0)
 
 -- the warnings at a manifest's end
 abbrev pub warnings : Rules → LabelsValue → CountsValue → List ℕ
-warnings r labels c =
-    let tool = labels.tool in
+warnings r labels c = let tool = labels.tool in
     warning tool c.bad (codes " line is improperly formatted") (codes " lines are improperly formatted")
     ++ (warning tool c.unread (codes " listed file could not be read") (codes " listed files could not be read")
     ++ (warning tool c.wrong (codes " computed checksum did NOT match") (codes " computed checksums did NOT match")
     ++ unverified_line r labels c))
 
--- the text, unless the setting reports nothing
-abbrev pub unless_status : Report → List ℕ → List ℕ
-unless_status Status text = []
-unless_status report text = text
-
 -- the end of a manifest on standard error: its summary, or the line of the fault that broke it
 abbrev pub end_text : Rules → LabelsValue → Ending → CountsValue → List ℕ
 end_text r labels Whole c = if entries c == 0
     then tool_line r.profile labels.tool labels.list (codes "no properly formatted checksum lines found")
-    else unless_status labels.report (warnings r labels c)
+    else elim labels.report [ Status ↦ [] | report ↦ warnings r labels c ]
 end_text r labels (Broken f) c = fault_line r.profile labels.tool labels.list f
 
 -- good: it was read whole, a line is Right, none is Wrong or Unread, and under the strict setting none is Bad

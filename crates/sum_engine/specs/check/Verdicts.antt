@@ -1,7 +1,7 @@
 -- The verdicts of a manifest's lines.
-use Rattle.std.specs.Prelude.{ℕ, ◌+◌, ◌&&◌, Bool, true, false, List, [], ◌∷◌, Result, Ok, Err, if◌then◌else◌, bytes_eq}
+use Rattle.std.specs.Prelude.{ℕ, ◌+◌, ◌&&◌, Bool, true, false, List, [], ◌∷◌, Ok, Err, if◌then◌else◌, bytes_eq}
 pub use Rattle.digest_kinds.specs.declared.algo.Algos.{Algos}
-use Rattle.sum_engine.specs.Behavior.{Fault, World, is_dash, reply, after, digest_or_fault}
+use Rattle.sum_engine.specs.Behavior.{World, is_dash, reply, after, digest_or_fault}
 use Rattle.sum_sources.specs.declared.fault.Fault.TheVariants.{NotFound}
 use Rattle.sum_sources.specs.Contents.{Content, Reply}
 use Rattle.sum_sources.specs.ManifestLines.{lines, raw_lines}
@@ -12,8 +12,7 @@ pub use Rattle.sum_engine.specs.declared.check.judge.Verdict.TheVariants.{Ignore
 use Rattle.sum_lines.specs.Escape.{Profile}
 use Rattle.sum_lines.specs.grammar.ParsedLines.{ParsedLine, ignored, bad, entry, parse_line}
 
--- by what a manifest's lines are judged: the profile, the algorithms that they may name, the two options that change a
--- verdict or whether the manifest is good, and whether it came from standard input
+-- by what lines are judged: the profile, the algorithms that they may name, two options, whether it is standard input
 pub record Rules : Type 0 where
   pub profile : Profile
   pub algo : Algos
@@ -32,16 +31,12 @@ abbrev pub not_found : Reply → Bool
 not_found (Err NotFound) = true
 not_found r = false
 
--- what was read, against the digest of the line
-abbrev pub digest_verdict : List ℕ → Result (List ℕ) Fault → Verdict
-digest_verdict d (Ok found) = if bytes_eq found d then Right else Wrong
-digest_verdict d (Err f) = Unread f
-
 -- the verdict of an entry
 abbrev pub verdict_of : Rules → World → EntryValue → Verdict
-verdict_of r w s = if r.from_stdin && is_dash s.name then Bad
-    else if r.ignore_missing && not_found (reply w s.name) then Missing
-    else digest_verdict s.digest (digest_or_fault s.kind (reply w s.name))
+verdict_of r w s = let c = reply w s.name in
+    if r.from_stdin && is_dash s.name then Bad
+    else if r.ignore_missing && not_found c then Missing
+    else elim (digest_or_fault s.kind c) [ Ok d ↦ if bytes_eq d s.digest then Right else Wrong | Err f ↦ Unread f ]
 
 -- the verdict of line n, which says this
 abbrev pub judge : Rules → World → ℕ → ParsedLine → LineVerdictValue

@@ -1,5 +1,6 @@
 use Rattle.std.proofs.Common.{◌≡◌, true, Ok, Err, refl, ap, sym, ◌∙◌, arith, rules}
 use Rattle.sum_engine.specs.check.CheckerSteps.{Ended}
+use Rattle.sum_engine.specs.Execution.{known_state}
 use Rattle.sum_engine.proofs.CheckOneLemmas.{comes_none, comes_more, comes_last, phase-initial}
 use Rattle.sum_engine.proofs.ReadToEndLemmas.{ReadToEnd-none, ReadToEnd-trans}
 use Rattle.sum_engine.proofs.check.check_one.check_lines.Goals as goal
@@ -9,7 +10,7 @@ lines-init g c =
     let first = c.args.checker.now in
     let start = c.requires.start in
     record {
-      comes = λ flushed. comes_none g.I.Input.state first.cursor.rules first.labels first.cursor
+      comes = λ flushed. comes_none first.cursor.rules first.labels g.I.Input.state first.cursor
           first.cursor.reader.input _ start;
       rules = refl;
       labels = refl;
@@ -27,9 +28,9 @@ returns-in-Err-clause-behavior g c =
     let first = c.args.checker.now in
     λ flushed.
     let step = c.in-Err.ensures.step so_far.going (so_far.so_far.flushed flushed) in
-    comes_last g.I.Input.state g.S.Source.state _ first.cursor.rules _ first.labels _ c.args.streams.now
-    c.step.new.streams _ c.step.new.self.cursor c.step.new.line.items (Err c.in-Err.stop)
-    so_far.rules so_far.labels (so_far.comes flushed) step
+    comes_last first.cursor.rules first.labels g.I.Input.state _ _ _ (known_state g.S.Source.state c.args.streams.now)
+    (known_state g.S.Source.state c.step.new.streams) _ c.step.new.self.cursor c.step.new.line.items
+    (Err c.in-Err.stop) so_far.rules so_far.labels (so_far.comes flushed) step
 
 -- the end was handled
 pub returns-in-Ok-Ended-clause-behavior : goal.returns-in-Ok-Ended-clause-behavior
@@ -39,9 +40,9 @@ returns-in-Ok-Ended-clause-behavior g c =
     λ flushed.
     let step = rw c.in-Ok-Ended.field-0-is at (c.in-Ok-Ended.ensures.step so_far.going (so_far.so_far.flushed flushed))
     in
-    comes_last g.I.Input.state g.S.Source.state _ first.cursor.rules _ first.labels _
-    c.args.streams.now c.step.new.streams _ c.step.new.self.cursor c.step.new.line.items (Ok c.in-Ok-Ended.good)
-    so_far.rules so_far.labels (so_far.comes flushed) step
+    comes_last first.cursor.rules first.labels g.I.Input.state _ _ _ (known_state g.S.Source.state c.args.streams.now)
+    (known_state g.S.Source.state c.step.new.streams) _ c.step.new.self.cursor c.step.new.line.items
+    (Ok c.in-Ok-Ended.good) so_far.rules so_far.labels (so_far.comes flushed) step
 
 -- a good manifest has no file that could not be read
 pub returns-in-Ok-Ended-clause-read_to_end : goal.returns-in-Ok-Ended-clause-read_to_end
@@ -70,8 +71,8 @@ lines-preserved g c =
       comes = λ flushed.
           let step = rw c.in-Ok-Going.field-0-is
           at (c.in-Ok-Going.ensures.step so_far.going (so_far.so_far.flushed flushed)) in
-          comes_more _ first.cursor.rules _ first.labels _ _ _ _ c.step.new.line.items so_far.rules
-          so_far.labels (so_far.comes flushed) step;
+          comes_more first.cursor.rules first.labels _ _ _ _ _ _ c.step.new.line.items so_far.rules so_far.labels
+          (so_far.comes flushed) step;
       rules = advances.cursor.rules ∙ so_far.rules;
       labels = advances.labels ∙ so_far.labels;
       going = advances.final_answer ∙ search rules;

@@ -1,26 +1,23 @@
-use Rattle.std.proofs.Common.{◌≡◌, ◌==◌, List, ℕ, refl, ◌∙◌}
+use Rattle.std.proofs.Common.{◌≡◌, ◌==◌, List, [], ℕ, refl, ◌∙◌}
 use Rattle.sum_sources.specs.declared.fault.Ending.TheVariants.{Whole}
-use Rattle.sum_engine.specs.check.Reports.{LabelsValue, CountsValue, Report, entries, unless_status, warnings, end_text}
+use Rattle.sum_engine.specs.check.Reports.{LabelsValue, CountsValue, Report, entries, warnings, end_text}
 use Rattle.std.proofs.lemmas.Bool.{cond-false, ne_eqb}
 use Rattle.sum_engine.specs.declared.settings.Report.TheVariants.{Status}
 use Rattle.sum_engine.specs.check.Verdicts.{Rules}
 use Rattle.sum_engine.specs.refinement.Counters.{counts_value}
 use Rattle.sum_engine.specs.refinement.Cursors.{rules_in, labels_in}
-use Rattle.sum_engine.specs.declared.settings.Report.TheVariants as reports
 use Rattle.sum_engine.proofs.check.summary.put_summary.Goals as goal
-
--- warnings that aren't left out
-unless_status-shown : (report : Report) (text : List ℕ) → (report ≡ Status → ⊥) → unless_status report text ≡ text
-unless_status-shown reports.All text h = refl
-unless_status-shown reports.Quiet text h = refl
-unless_status-shown reports.Warn text h = refl
-unless_status-shown Status text h = absurd (h refl)
 
 -- if there are entries, and the setting isn't `--status`, the summary is the warnings
 end_text-shown : (r : Rules) (labels : LabelsValue) (c : CountsValue) → (entries c ≡ 0 → ⊥)
     → (labels.report ≡ Status → ⊥) → end_text r labels Whole c ≡ warnings r labels c
 end_text-shown r labels c some shown = cond-false (entries c == 0) _ _ (ne_eqb (entries c) 0 some)
-    ∙ unless_status-shown labels.report (warnings r labels c) shown
+    ∙ by labels.report shown
+  where
+    by : (report : Report) → (report ≡ Status → ⊥)
+        → elim report as (λ x. List ℕ) [ Status ↦ [] | x ↦ warnings r labels c ] ≡ warnings r labels c
+    by Status h = absurd (h refl)
+    by report h = refl
 
 -- there are entries, and warnings are shown
 pub returns-in_default : goal.returns-in_default

@@ -1,9 +1,8 @@
-use Rattle.std.proofs.Common.{false, Ok, Err, ap, refl, rules}
+use Rattle.std.proofs.Common.{false, Ok, Err, ap, refl}
 use Rattle.std.proofs.KnownBytes.{Appends-nil}
 use Rattle.std.proofs.lemmas.Result.{err_from_is_err_and}
 use Rattle.sum_sources.specs.declared.fault.Ending.TheVariants.{Whole, Broken}
 use Rattle.sum_lines.specs.Escape.{present}
-use Rattle.sum_engine.specs.check.Verdicts.{Rules}
 use Rattle.sum_engine.specs.refinement.Cursors.{cursor_value, labels_in}
 use Rattle.sum_sources.specs.Contents.{stdin_taken as taken, stdin_phase as phase}
 use Rattle.sum_engine.specs.check.CheckerSteps.{Going}
