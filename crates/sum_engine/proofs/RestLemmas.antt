@@ -32,7 +32,8 @@ pub rest_on : (r : Rules) (a b : CheckState) (v : List ℕ) (h : LineHandled r a
     → b.known_state.world ≡ after a.known_state.world (asks_of (next_judged r a h.line))
     → remaining_verdicts r a ≡ next_judged r a h.line ∷ remaining_verdicts r b
 rest_on r a b v h world =
-    rest_head r a h.line (lines_by r.profile b.rest) h.lines ∙ rw (h.form, world, h.number, form_next) refl
+    let later = lines_by r.profile b.rest in
+    rest_head r a h.line later h.lines ∙ rw (h.form, world, h.number, form_next r.algo a.form h.line later) refl
 
 -- ---- the behavior that remains
 

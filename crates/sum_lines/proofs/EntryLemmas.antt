@@ -1,10 +1,10 @@
 -- The parts of entries, and the one form of a list of lines.
-use Rattle.std.proofs.Common.{ℕ, ◌≡◌, Bool, true, false, cond, List, [], ◌∷◌, ◌++◌, Option, None, Some, refl, ap, sym, ◌∙◌, ◌⊎◌, inl, inr, arith}
+use Rattle.std.proofs.Common.{ℕ, ◌≡◌, Bool, true, false, cond, List, [], ◌∷◌, ◌++◌, Option, None, Some, refl, sym, ◌∙◌, ◌⊎◌, inl, inr, arith}
 use Rattle.std.specs.List.{AllPass}
 use Rattle.std.proofs.lemmas.List.Elements.{All-head}
 use Rattle.digest_kinds.specs.Kinds.{KindValue, tag}
 use Rattle.sum_lines.specs.grammar.Shapes.{Algos, is_blank, mark, Plain, Tagged}
-use Rattle.sum_lines.specs.grammar.Entries.{Form, Undecided, Standard, Reversed, is_ignored, begins_standard, form_of_tail, DecidesForm, IsForm, EntryValue, ByTag, ByTail, form_then, line_form, form}
+use Rattle.sum_lines.specs.grammar.Entries.{Form, Undecided, Standard, Reversed, is_ignored, begins_standard, DecidesForm, IsForm, EntryValue, ByTag, ByTail, form_then, line_form, form}
 use Rattle.sum_lines.specs.grammar.LineParts.{LinePartsValue, plain_parts}
 use Rattle.sum_lines.specs.grammar.LineLaws.{OneForm}
 use Rattle.sum_lines.proofs.PrefixLemmas.{none_of}
@@ -37,8 +37,7 @@ decided_parts d = record { escaped = d.escaped; kind = d.kind; digest = d.digest
 pub decides-form : {algos : Algos} {line : List ℕ} {f : Form} → DecidesForm algos line f
     → (line_form algos line ≡ f) × ((g : Form) → form_then f g ≡ f)
 decides-form {algos} {line} d =
-    let here : line_form algos line ≡ form_of_tail d.tail = rw (plain_is_read (decided_parts d) d.plain) refl in
-    (here ∙ sym d.is, λ g. rw d.is (keeps (begins_standard d.tail) g))
+    (rw (plain_is_read (decided_parts d) d.plain) (sym d.is), λ g. rw d.is (keeps (begins_standard d.tail) g))
 
 -- a line of either shape isn't ignored
 not_ignored : (e : Bool) (xs rest : List ℕ) → Begins xs → is_ignored (mark e ++ (xs ++ rest)) ≡ false
@@ -89,10 +88,15 @@ pub ignored_mute : (algos : Algos) (line : List ℕ) → is_ignored line ≡ tru
 ignored_mute algos line ignored = rw (← none_of (plain_parts algos line) (λ p h.
     let wrong = sym ignored ∙ plain-speaks (read_is_plain h) in cc)) refl
 
+-- the form of a list is its first line's, and after it that of the others
+form-cons : (algos : Algos) (line : List ℕ) (later : List (List ℕ))
+    → form algos (line ∷ later) ≡ form_then (line_form algos line) (form algos later)
+form-cons algos line later = grind arith
+
 -- the computed form is one that the list has, and it has no other
 is-form : (algos : Algos) (lines : List (List ℕ)) → IsForm algos lines (form algos lines)
 is-form algos [] = refl
-is-form algos (line ∷ later) = elim (decides-or algos line) [
+is-form algos (line ∷ later) = rw (form-cons algos line later) elim (decides-or algos line) [
   | inl d ↦ let own = decides-form d in rw (own.1 (form algos later)) (inl d)
   | inr none ↦ rw none.0 (inr (none.1, is-form algos later))
 ]
@@ -101,10 +105,10 @@ is-form algos (line ∷ later) = elim (decides-or algos line) [
 form-is : (algos : Algos) (lines : List (List ℕ)) (f : Form) → IsForm algos lines f → f ≡ form algos lines
 form-is algos [] f h = h
 form-is algos (line ∷ later) f (inl d) =
-    let own = decides-form d in rw own.0 (sym (own.1 (form algos later)))
+    let own = decides-form d in rw (form-cons algos line later, own.0) (sym (own.1 (form algos later)))
 form-is algos (line ∷ later) f (inr none) = elim (decides-or algos line) [
   | inl d ↦ absurd (none.0 (line_form algos line) d)
-  | inr mute ↦ rw mute.0 (form-is algos later f none.1)
+  | inr mute ↦ rw (form-cons algos line later, mute.0) (form-is algos later f none.1)
 ]
 
 -- a list of lines has the computed form, and no other
@@ -126,13 +130,13 @@ form-append : (algos : Algos) (before after : List (List ℕ))
     → form algos (before ++ after) ≡ form_then (form algos before) (form algos after)
 form-append algos [] after = refl
 form-append algos (line ∷ before) after =
-    ap (form_then (line_form algos line)) (form-append algos before after)
-    ∙ form_on (line_form algos line) (form algos before) (form algos after)
+    rw (form-cons algos line (before ++ after), form-append algos before after, form-cons algos line before)
+    (form_on (line_form algos line) (form algos before) (form algos after))
 
 -- the form so far, and that of more lines
 pub form_next : (algos : Algos) (f : Form) (line : List ℕ) (later : List (List ℕ))
     → form_then f (form algos (line ∷ later)) ≡ form_then (form_then f (line_form algos line)) (form algos later)
-form_next algos f line later = form_on f (line_form algos line) (form algos later)
+form_next algos f line later = rw (form-cons algos line later) (form_on f (line_form algos line) (form algos later))
 
 -- the form of all lines, at a line
 pub form_at : (algos : Algos) (before later : List (List ℕ)) (line : List ℕ) → form algos (before ++ (line ∷ later))
