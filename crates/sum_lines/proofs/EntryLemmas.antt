@@ -1,14 +1,14 @@
 -- The parts of entries, and the one form of a list of lines.
+use Rattle.std.proofs.lemmas.Grind.{common_steps}
 use Rattle.std.proofs.Common.{ℕ, ◌≡◌, Bool, true, false, cond, List, [], ◌∷◌, ◌++◌, Option, None, Some, refl, sym, ◌∙◌, ◌⊎◌, inl, inr, arith}
 use Rattle.std.specs.List.{AllPass}
-use Rattle.std.proofs.lemmas.List.Elements.{All-head}
-use Rattle.digest_kinds.specs.Kinds.{KindValue, tag}
+use Rattle.digest_kinds.specs.Kinds.{KindValue}
 use Rattle.sum_lines.specs.grammar.Shapes.{Algos, is_blank, mark, Plain, Tagged}
 use Rattle.sum_lines.specs.grammar.Entries.{Form, Undecided, Standard, Reversed, is_ignored, begins_standard, DecidesForm, IsForm, EntryValue, ByTag, ByTail, form_then, line_form, form}
 use Rattle.sum_lines.specs.grammar.LineParts.{LinePartsValue, plain_parts}
 use Rattle.sum_lines.specs.grammar.LineLaws.{OneForm}
 use Rattle.sum_lines.proofs.PrefixLemmas.{none_of}
-use Rattle.sum_lines.proofs.TaggedLemmas.{Begins, tag-begins, passes-other}
+use Rattle.sum_lines.proofs.TaggedLemmas.{Begins}
 use Rattle.sum_lines.proofs.PlainLemmas.{plain-digits, plain_is_read, read_is_plain}
 
 -- ---- the parts of an entry
@@ -39,17 +39,10 @@ pub decides-form : {algos : Algos} {line : List ℕ} {f : Form} → DecidesForm 
 decides-form {algos} {line} d =
     (rw (plain_is_read (decided_parts d) d.plain) (sym d.is), λ g. rw d.is (keeps (begins_standard d.tail) g))
 
--- a line of either shape isn't ignored
-not_ignored : (e : Bool) (xs rest : List ℕ) → Begins xs → is_ignored (mark e ++ (xs ++ rest)) ≡ false
-not_ignored true xs rest b = refl
-not_ignored false xs rest b = rw b.are b.no_hash
-
 -- also after blanks
 speaks : (blanks : List ℕ) (e : Bool) (xs rest : List ℕ) → AllPass is_blank blanks → Begins xs
     → is_ignored (blanks ++ (mark e ++ (xs ++ rest))) ≡ false
-speaks [] e xs rest all b = not_ignored e xs rest b
-speaks (x ∷ blanks) e xs rest all b =
-    passes-other is_blank 35 x (All-head (λ y. is_blank y ≡ true) x blanks all) refl
+speaks blanks e xs rest all b = grind (arith, common_steps)
 
 -- so a plain line speaks
 pub plain-speaks : {algos : Algos} {line : List ℕ} {e : Bool} {kind : KindValue} {d tail : List ℕ}
@@ -61,8 +54,7 @@ plain-speaks {e = e} {tail = tail} p =
 -- and a tagged one
 pub tagged-speaks : {algos : Algos} {line : List ℕ} {e : Bool} {kind : KindValue} {d raw : List ℕ}
     → Tagged algos line e kind d raw → is_ignored line ≡ false
-tagged-speaks {e = e} {kind = kind} t =
-    rw t.whole (speaks t.blanks e (tag kind.algo) _ t.are_blanks (tag-begins kind.algo))
+tagged-speaks t = grind (arith, speaks)
 
 -- a line that is found to be plain decides its own form; any other decides nothing
 decides-or : (algos : Algos) (line : List ℕ) → DecidesForm algos line (line_form algos line)
@@ -117,10 +109,6 @@ one_form algos lines f = (form-is algos lines f, λ e. rw e (is-form algos lines
 
 -- ---- lines after lines
 
--- no later line changes the form
-pub form_then-last : (f : Form) → form_then f Undecided ≡ f
-form_then-last f = grind arith
-
 -- the form so far, then a line's, then that of the rest
 pub form_on : (f x g : Form) → form_then f (form_then x g) ≡ form_then (form_then f x) g
 form_on f x g = grind arith
@@ -141,5 +129,4 @@ form_next algos f line later = rw (form-cons algos line later) (form_on f (line_
 -- the form of all lines, at a line
 pub form_at : (algos : Algos) (before later : List (List ℕ)) (line : List ℕ) → form algos (before ++ (line ∷ later))
     ≡ form_then (form_then (form algos before) (line_form algos line)) (form algos later)
-form_at algos before later line =
-    form-append algos before (line ∷ later) ∙ form_next algos (form algos before) line later
+form_at algos before later line = grind (arith, form-append)
