@@ -60,8 +60,7 @@ mix v a b c d x y =
 
 -- round r (3.2): G on the four columns and then on the four diagonals of v, with the words of m in the order of SIGMA
 unfoldable pub round : List ℕ → List ℕ → ℕ → List ℕ
-round m v r =
-    let s = slice_index_or sigma (r % 10) [] in
+round m v r = let s = slice_index_or sigma (r % 10) [] in
     let v = mix v 0 4 8 12 (m ! (s ! 0)) (m ! (s ! 1)) in
     let v = mix v 1 5 9 13 (m ! (s ! 2)) (m ! (s ! 3)) in
     let v = mix v 2 6 10 14 (m ! (s ! 4)) (m ! (s ! 5)) in
@@ -73,15 +72,13 @@ round m v r =
 
 -- v before the first round: h and IV, with the counter t and, at the last block, a flag
 unfoldable pub start : List ℕ → ℕ → Bool → List ℕ
-start h t last =
-    let v = h ++ iv in
+start h t last = let v = h ++ iv in
     let v = slice_set v 12 (v ! 12 ⊻ (t % 2 ^ 64)) in
     let v = slice_set v 13 (v ! 13 ⊻ (t / 2 ^ 64)) in
     if last then slice_set v 14 (bit_not w64 (v ! 14)) else v
 
 -- the compression function F (3.2); m has the sixteen words of the block, each of eight bytes, the lowest first
 unfoldable pub compress : List ℕ → List ℕ → ℕ → Bool → List ℕ
-compress h block t last =
-    let m = map (little_number 8) (first_chunks 8 16 block) in
+compress h block t last = let m = map (little_number 8) (first_chunks 8 16 block) in
     let v = fold (round m) (start h t last) (range_with_len 0 12) in
     map (λ i. h ! i ⊻ v ! i ⊻ v ! (i + 8)) (range_with_len 0 8)

@@ -7,15 +7,12 @@ use Rattle.blake2b_core.specs.Compression.{◌!◌, ◌⊻◌, iv, compress}
 
 -- the blocks of the message m, 128 bytes each, the last one filled up with zeros; the empty message has one block
 unfoldable pub blocks : List ℕ → List (List ℕ)
-blocks m =
-    let count = max 1 ((length m + 127) / 128) in
+blocks m = let count = max 1 ((length m + 127) / 128) in
     first_chunks 128 count (m ++ replicate (128 * count - length m) 0)
 
--- the digest of n bytes, at most 64: a block is compressed with the number of bytes up to its end, the last block with
--- that of the message
+-- the digest of n bytes, at most 64: a block is compressed with the number of the message's bytes up to the block's end
 unfoldable pub blake2b : ℕ → List ℕ → List ℕ
-blake2b n m =
-    let d = blocks m in
+blake2b n m = let d = blocks m in
     let last = length d - 1 in
     let h = slice_set iv 0 (iv ! 0 ⊻ (0x01010000 ⊻ n)) in
     let h = fold (λ h i. compress h (slice_index_or d i []) (128 * (i + 1)) false) h (range_with_len 0 last) in

@@ -17,15 +17,15 @@ pub use Rattle.digest_kinds.specs.declared.algo.Algos.{Algos}
 abbrev pub all_algos : List Algo
 all_algos = Md5 ∷ Sha1 ∷ Sha224 ∷ Sha256 ∷ Sha384 ∷ Sha512 ∷ Blake2b ∷ []
 
--- of an algorithm the number of bytes of its full digest, and the tag by which a line names it
-abbrev pub about : Algo → ℕ × List ℕ
-about Md5 = (16, codes "MD5")
-about Sha1 = (20, codes "SHA1")
-about Sha224 = (28, codes "SHA224")
-about Sha256 = (32, codes "SHA256")
-about Sha384 = (48, codes "SHA384")
-about Sha512 = (64, codes "SHA512")
-about Blake2b = (64, codes "BLAKE2b")
+-- of an algorithm the full digest's length in bytes, the tag in lines, and the digest, whose length BLAKE2b alone reads
+abbrev pub about : Algo → ℕ × List ℕ × (ℕ → List ℕ → List ℕ)
+about Md5 = (16, codes "MD5", λ n m. md5 m)
+about Sha1 = (20, codes "SHA1", λ n m. sha1 m)
+about Sha224 = (28, codes "SHA224", λ n m. sha224 m)
+about Sha256 = (32, codes "SHA256", λ n m. sha256 m)
+about Sha384 = (48, codes "SHA384", λ n m. sha384 m)
+about Sha512 = (64, codes "SHA512", λ n m. sha512 m)
+about Blake2b = (64, codes "BLAKE2b", λ n m. blake2b n m)
 
 -- the number of bytes of the full digest
 abbrev pub full_len : Algo → ℕ
@@ -53,25 +53,15 @@ full_kind a = record { algo = a; len = full_len a }
 abbrev pub blake2b_kind : ℕ → KindValue
 blake2b_kind n = record { algo = Blake2b; len = n }
 
--- the digest of a message by an algorithm and a number of bytes, which BLAKE2b alone reads
-abbrev pub digest_by : Algo → ℕ → List ℕ → List ℕ
-digest_by Md5 n m = md5 m
-digest_by Sha1 n m = sha1 m
-digest_by Sha224 n m = sha224 m
-digest_by Sha256 n m = sha256 m
-digest_by Sha384 n m = sha384 m
-digest_by Sha512 n m = sha512 m
-digest_by Blake2b n m = blake2b n m
-
 -- the digest of a message by a kind
 abbrev pub digest : KindValue → List ℕ → List ℕ
-digest k m = digest_by k.algo k.len m
+digest k m = (about k.algo).2 k.len m
 
 -- the kind of so many bits, 0 for the full 512; more than 512 are TooLong, any others that aren't whole bytes NotBytes
 abbrev pub blake2b_of_bits : ℕ → Result KindValue LengthFault
 blake2b_of_bits bits = if nat_lt 512 bits then Err TooLong
     else if bits == 0 then Ok (full_kind Blake2b)
-    else if bits % 8 == 0 then Ok (record { algo = Blake2b; len = bits / 8 })
+    else if bits % 8 == 0 then Ok (blake2b_kind (bits / 8))
     else Err NotBytes
 
 -- the algorithm's tag is a prefix of the bytes

@@ -1,8 +1,8 @@
 -- What a line begins with, and the parts that it is then read as. The code looks for the first blank of a plain line's
 -- text among as many bytes as the longest digest has digits.
-use Rattle.std.proofs.Common.{ℕ, ◌≡◌, ◌*◌, ◌<◌, ◌≤◌, Bool, ◌==◌, List, ◌∷◌, length, take, get_or, min, None, Some, sym, arith, ◌+◌, ◌/◌, true, cond, ◌++◌, drop, Option, Ok, IfNone, IfSome, refl, ap, ◌∙◌, length-drop}
+use Rattle.std.proofs.Common.{ℕ, ◌≡◌, ◌*◌, ◌<◌, ◌≤◌, Bool, ◌==◌, List, ◌∷◌, length, take, get_or, min, None, Some, sym, arith, ◌+◌, ◌/◌, true, cond, ◌++◌, drop, Option, Ok, IfNone, IfSome, refl, ap, ◌∙◌, length-drop, rules}
 use Rattle.std.specs.List.{position_or_len, starts_with}
-use Rattle.std.proofs.lemmas.Bool.{lt-ltb, false_from_ne_true}
+use Rattle.std.proofs.lemmas.Bool.{lt-ltb}
 use Rattle.std.proofs.lemmas.List.{get_or-take, length-take}
 use Rattle.std.proofs.lemmas.List.Sums.{passes_at_first, position_or_len_is}
 use Rattle.memchr.specs.Find.{IsFirstByte, is_byte2}
@@ -22,16 +22,11 @@ use Rattle.digest_kinds.specs.declared.algo.Algo.TheVariants.{Blake2b}
 use Rattle.sum_lines.specs.refinement.Beginnings.{Cut, EndsAt, EndsDigits, LeadsTo}
 use Rattle.sum_lines.proofs.PrefixLemmas.{none_of}
 use Rattle.sum_lines.proofs.TaggedLemmas.{hex-no_blank, tag_in-some}
-use Rattle.sum_lines.proofs.BitsLemmas.{has_len-range}
 use Rattle.sum_lines.specs.declared.reading.beginnings.Beginning.TheVariants as beginnings
 
 -- a cut has two digits for each byte of its digest, and so few that the search meets its blank
 cut-size : {a : Algo} {s d : List ℕ} → Cut a s d → (position_or_len is_blank s ≡ 2 * length d) × (length d ≤ 64)
-cut-size {a} {s} {d} cut =
-    let within = cut-within cut in
-    let size = decoded-size (take (position_or_len is_blank s) s) d cut.spelled in
-    let len = length-take (position_or_len is_blank s) s in
-    (omega (arith, within, size, len), (has_len-range a (length d) cut.has).1)
+cut-size cut = search (rules, cut-within, decoded-size)
 
 -- a line's backslash, if it has one, and what follows
 abbrev pub text : List ℕ → Bool × List ℕ
@@ -69,16 +64,9 @@ tag-within {a} s is h = let found = tag_in-some {algos = One a} {s = s} h in rw 
 
 -- ---- the blank after the digits
 
--- an algorithm other than BLAKE2b has digests of one length
-has_len-fixed : (a : Algo) (n : ℕ) → (a ≡ Blake2b → ⊥) → has_len a n ≡ true → n ≡ full_len a
-has_len-fixed a n other h = grind arith
-
 -- so its digits are as many
 pub fixed-len : (a : Algo) (s : List ℕ) (n : ℕ) → (a ≡ Blake2b → ⊥) → n ≡ 2 * full_len a → EndsAt a s n
-fixed-len a s n other is d cut =
-    let len = has_len-fixed a (length d) other cut.has in
-    let size = (cut-size cut).0 in
-    omega (arith, is, len, size)
+fixed-len a s n other is = grind (arith, cut-size)
 
 -- if no blank is found among the first bytes, the line isn't plain
 pub search-none : (a : Algo) (s : List ℕ) {n : ℕ} (r : Option ℕ) → n ≡ min (length s) 129
@@ -95,22 +83,12 @@ search-none a s (Some i) is first = tt
 -- the one that is found is the first
 pub search-some : (a : Algo) (s : List ℕ) {n : ℕ} (r : Option ℕ) → n ≡ min (length s) 129
     → IsFirstByte (is_byte2 32 9) (take n s) r → IfSome r (EndsAt a s)
-search-some a s None is none = tt
-search-some a s {n} (Some i) is first =
-    let less : i < n = omega (arith, length-take n s, first.0.high) in
-    λ d cut. sym (position_or_len_is is_blank s i 0 (omega (arith, is, less))
-    (λ k low. false_from_ne_true _ (λ here.
-    first.0.before k (omega arith) low (rw (get_or-take n s k 0 (omega (arith, low, less))) here)))
-    (λ _. rw (get_or-take n s i 0 less) at first.1))
+search-some a s r is none = search (rules, position_or_len_is, get_or-take)
 
 -- a blank ends the digits of a plain line, and something follows it
 pub end-none : (a : Algo) (s : List ℕ) (at : ℕ) → EndsAt a s at
     → (at + 1 < length s → is_blank (get_or s at 0) ≡ true → ⊥) → (d : List ℕ) → ¬ Cut a s d
-end-none a s at place other d cut =
-    let is = place d cut in
-    let some = cut.some in
-    let rest = length-drop (position_or_len is_blank s + 1) s in
-    other (omega (arith, is, some, rest)) (rw is (passes_at_first is_blank s 0 (cut-within cut)))
+end-none a s at place other d = grind (arith, length-drop, passes_at_first)
 
 -- no blank precedes the blank after digits
 first-blank : (s d : List ℕ) (at : ℕ) → at < length s → is_blank (get_or s at 0) ≡ true → decode_of (take at s) ≡ Ok d
@@ -130,16 +108,12 @@ first-blank s d at within blank spelled =
 pub kind-none : {a : Algo} {s : List ℕ} {at : ℕ} → EndsDigits a s at
     → ◌≡◌ {A = Option KindValue} None (cond (has_len a (at / 2)) (Some (record { algo = a; len = at / 2 })) None)
     → (d : List ℕ) → ¬ Cut a s d
-kind-none {at = at} ends none d cut =
-    let half : at / 2 ≡ length d = omega (arith, ends.place d cut, (cut-size cut).0) in
-    let bad = rw (half, cut.has) at none in cc
+kind-none ends none d = grind (arith, cut-size)
 
 -- or they are none
 pub digits-none : {a : Algo} {s : List ℕ} {at : ℕ} → EndsDigits a s at → (IsDigits (take at s) → ⊥)
     → (d : List ℕ) → ¬ Cut a s d
-digits-none {a} ends none d cut =
-    let range = has_len-range a (length d) cut.has in
-    none (rw (ends.place d cut) (decoded-digits _ d cut.spelled range.0 range.1))
+digits-none ends none d = grind (arith, decoded-digits)
 
 -- what is found so is read as the line's parts
 pub plain-read : (a : Algo) (line : List ℕ) {d : List ℕ} {at : ℕ} (k : KindValue) → let s = (text line).1 in

@@ -1,14 +1,14 @@
 -- The parts of entries, and the one form of a list of lines.
-use Rattle.std.proofs.Common.{ℕ, ◌≡◌, Bool, true, false, cond, List, [], ◌∷◌, ◌++◌, Option, None, Some, refl, ap, sym, ◌∙◌, ◌⊎◌, inl, inr, arith}
+use Rattle.std.proofs.lemmas.Grind.{common_steps}
+use Rattle.std.proofs.Common.{ℕ, ◌≡◌, Bool, true, false, cond, List, [], ◌∷◌, ◌++◌, Option, None, Some, refl, sym, ◌∙◌, ◌⊎◌, inl, inr, arith}
 use Rattle.std.specs.List.{AllPass}
-use Rattle.std.proofs.lemmas.List.Elements.{All-head}
-use Rattle.digest_kinds.specs.Kinds.{KindValue, tag}
+use Rattle.digest_kinds.specs.Kinds.{KindValue}
 use Rattle.sum_lines.specs.grammar.Shapes.{Algos, is_blank, mark, Plain, Tagged}
-use Rattle.sum_lines.specs.grammar.Entries.{Form, Undecided, Standard, Reversed, is_ignored, begins_standard, form_of_tail, DecidesForm, IsForm, EntryValue, ByTag, ByTail, form_then, line_form, form}
+use Rattle.sum_lines.specs.grammar.Entries.{Form, Undecided, Standard, Reversed, is_ignored, begins_standard, DecidesForm, IsForm, EntryValue, ByTag, ByTail, form_then, line_form, form}
 use Rattle.sum_lines.specs.grammar.LineParts.{LinePartsValue, plain_parts}
 use Rattle.sum_lines.specs.grammar.LineLaws.{OneForm}
 use Rattle.sum_lines.proofs.PrefixLemmas.{none_of}
-use Rattle.sum_lines.proofs.TaggedLemmas.{Begins, tag-begins, passes-other}
+use Rattle.sum_lines.proofs.TaggedLemmas.{Begins}
 use Rattle.sum_lines.proofs.PlainLemmas.{plain-digits, plain_is_read, read_is_plain}
 
 -- ---- the parts of an entry
@@ -37,20 +37,12 @@ decided_parts d = record { escaped = d.escaped; kind = d.kind; digest = d.digest
 pub decides-form : {algos : Algos} {line : List ℕ} {f : Form} → DecidesForm algos line f
     → (line_form algos line ≡ f) × ((g : Form) → form_then f g ≡ f)
 decides-form {algos} {line} d =
-    let here : line_form algos line ≡ form_of_tail d.tail = rw (plain_is_read (decided_parts d) d.plain) refl in
-    (here ∙ sym d.is, λ g. rw d.is (keeps (begins_standard d.tail) g))
-
--- a line of either shape isn't ignored
-not_ignored : (e : Bool) (xs rest : List ℕ) → Begins xs → is_ignored (mark e ++ (xs ++ rest)) ≡ false
-not_ignored true xs rest b = refl
-not_ignored false xs rest b = rw b.are b.no_hash
+    (rw (plain_is_read (decided_parts d) d.plain) (sym d.is), λ g. rw d.is (keeps (begins_standard d.tail) g))
 
 -- also after blanks
 speaks : (blanks : List ℕ) (e : Bool) (xs rest : List ℕ) → AllPass is_blank blanks → Begins xs
     → is_ignored (blanks ++ (mark e ++ (xs ++ rest))) ≡ false
-speaks [] e xs rest all b = not_ignored e xs rest b
-speaks (x ∷ blanks) e xs rest all b =
-    passes-other is_blank 35 x (All-head (λ y. is_blank y ≡ true) x blanks all) refl
+speaks blanks e xs rest all b = grind (arith, common_steps)
 
 -- so a plain line speaks
 pub plain-speaks : {algos : Algos} {line : List ℕ} {e : Bool} {kind : KindValue} {d tail : List ℕ}
@@ -62,8 +54,7 @@ plain-speaks {e = e} {tail = tail} p =
 -- and a tagged one
 pub tagged-speaks : {algos : Algos} {line : List ℕ} {e : Bool} {kind : KindValue} {d raw : List ℕ}
     → Tagged algos line e kind d raw → is_ignored line ≡ false
-tagged-speaks {e = e} {kind = kind} t =
-    rw t.whole (speaks t.blanks e (tag kind.algo) _ t.are_blanks (tag-begins kind.algo))
+tagged-speaks t = grind (arith, speaks)
 
 -- a line that is found to be plain decides its own form; any other decides nothing
 decides-or : (algos : Algos) (line : List ℕ) → DecidesForm algos line (line_form algos line)
@@ -89,10 +80,15 @@ pub ignored_mute : (algos : Algos) (line : List ℕ) → is_ignored line ≡ tru
 ignored_mute algos line ignored = rw (← none_of (plain_parts algos line) (λ p h.
     let wrong = sym ignored ∙ plain-speaks (read_is_plain h) in cc)) refl
 
+-- the form of a list is its first line's, and after it that of the others
+form-cons : (algos : Algos) (line : List ℕ) (later : List (List ℕ))
+    → form algos (line ∷ later) ≡ form_then (line_form algos line) (form algos later)
+form-cons algos line later = grind arith
+
 -- the computed form is one that the list has, and it has no other
 is-form : (algos : Algos) (lines : List (List ℕ)) → IsForm algos lines (form algos lines)
 is-form algos [] = refl
-is-form algos (line ∷ later) = elim (decides-or algos line) [
+is-form algos (line ∷ later) = rw (form-cons algos line later) elim (decides-or algos line) [
   | inl d ↦ let own = decides-form d in rw (own.1 (form algos later)) (inl d)
   | inr none ↦ rw none.0 (inr (none.1, is-form algos later))
 ]
@@ -101,10 +97,10 @@ is-form algos (line ∷ later) = elim (decides-or algos line) [
 form-is : (algos : Algos) (lines : List (List ℕ)) (f : Form) → IsForm algos lines f → f ≡ form algos lines
 form-is algos [] f h = h
 form-is algos (line ∷ later) f (inl d) =
-    let own = decides-form d in rw own.0 (sym (own.1 (form algos later)))
+    let own = decides-form d in rw (form-cons algos line later, own.0) (sym (own.1 (form algos later)))
 form-is algos (line ∷ later) f (inr none) = elim (decides-or algos line) [
   | inl d ↦ absurd (none.0 (line_form algos line) d)
-  | inr mute ↦ rw mute.0 (form-is algos later f none.1)
+  | inr mute ↦ rw (form-cons algos line later, mute.0) (form-is algos later f none.1)
 ]
 
 -- a list of lines has the computed form, and no other
@@ -112,10 +108,6 @@ pub one_form : OneForm
 one_form algos lines f = (form-is algos lines f, λ e. rw e (is-form algos lines))
 
 -- ---- lines after lines
-
--- no later line changes the form
-pub form_then-last : (f : Form) → form_then f Undecided ≡ f
-form_then-last f = grind arith
 
 -- the form so far, then a line's, then that of the rest
 pub form_on : (f x g : Form) → form_then f (form_then x g) ≡ form_then (form_then f x) g
@@ -126,16 +118,15 @@ form-append : (algos : Algos) (before after : List (List ℕ))
     → form algos (before ++ after) ≡ form_then (form algos before) (form algos after)
 form-append algos [] after = refl
 form-append algos (line ∷ before) after =
-    ap (form_then (line_form algos line)) (form-append algos before after)
-    ∙ form_on (line_form algos line) (form algos before) (form algos after)
+    rw (form-cons algos line (before ++ after), form-append algos before after, form-cons algos line before)
+    (form_on (line_form algos line) (form algos before) (form algos after))
 
 -- the form so far, and that of more lines
 pub form_next : (algos : Algos) (f : Form) (line : List ℕ) (later : List (List ℕ))
     → form_then f (form algos (line ∷ later)) ≡ form_then (form_then f (line_form algos line)) (form algos later)
-form_next algos f line later = form_on f (line_form algos line) (form algos later)
+form_next algos f line later = rw (form-cons algos line later) (form_on f (line_form algos line) (form algos later))
 
 -- the form of all lines, at a line
 pub form_at : (algos : Algos) (before later : List (List ℕ)) (line : List ℕ) → form algos (before ++ (line ∷ later))
     ≡ form_then (form_then (form algos before) (line_form algos line)) (form algos later)
-form_at algos before later line =
-    form-append algos before (line ∷ later) ∙ form_next algos (form algos before) line later
+form_at algos before later line = grind (arith, form-append)

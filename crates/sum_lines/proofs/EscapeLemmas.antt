@@ -46,8 +46,7 @@ escape-none xs none =
 pub escape_cut : (xs : List ℕ) (r : Option ℕ) → IsFirstByte (is_byte3 92 10 13) xs r
     → MatchOption r (escape xs ≡ xs)
     (λ k. escape xs ≡ take k xs ++ (escape_of present (get_or xs k 0) ++ escape (drop (k + 1) xs)))
-escape_cut xs None none = escape-none xs none
-escape_cut xs (Some k) first = escape-split xs k first.0.high first.0.before
+escape_cut xs r none = grind (arith, escape-none, escape-split)
 
 -- the same, of the two parts of a slice that was split there
 pub escape-parts : {prefix back : List ℕ} (xs : List ℕ) (k : ℕ) → prefix ≡ take k xs → back ≡ drop k xs

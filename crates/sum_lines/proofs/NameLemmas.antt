@@ -1,10 +1,8 @@
 -- The name that is left in place of a raw name, and the raw name in a tail.
-use Rattle.std.proofs.Common.{ℕ, ◌≡◌, ◌+◌, ◌-◌, ◌<◌, ◌≤◌, ◌↔◌, Bool, true, false, not, cond, List, ◌++◌, length, take, drop, get_or, slice_range, Option, None, Some, refl, ap, sym, ◌∙◌, arith, nat_lt}
+use Rattle.std.proofs.Common.{ℕ, ◌≡◌, ◌+◌, ◌-◌, ◌≤◌, ◌↔◌, Bool, true, false, not, cond, List, ◌++◌, take, drop, slice_range, Option, None, Some, refl, ap, sym, ◌∙◌, arith, nat_lt, rules}
 use Rattle.std.specs.List.{list_all}
 use Rattle.std.specs.Option.{is_some}
-use Rattle.std.proofs.lemmas.Bool.{eqb-true}
-use Rattle.std.proofs.lemmas.List.{drop-drop, drop-take, length-take}
-use Rattle.std.proofs.lemmas.List.Elements.{All-from_get_or}
+use Rattle.std.proofs.lemmas.List.{drop-drop, drop-take}
 use Rattle.std.proofs.lemmas.List.Folds.{list_all_at}
 use Rattle.memchr.specs.Find.{IsFirstByte, is_byte}
 use Rattle.sum_lines.specs.grammar.Entries.{Standard, begins_standard}
@@ -12,8 +10,7 @@ use Rattle.sum_lines.specs.declared.reading.line_parts.LineParts.{LineParts}
 use Rattle.sum_lines.specs.Escape.{present, escape}
 use Rattle.sum_lines.specs.grammar.ParsedLines.{unescape, with_raw}
 use Rattle.sum_lines.specs.refinement.LinePartRanges.{line_parts}
-use Rattle.sum_lines.proofs.PrefixLemmas.{none_of}
-use Rattle.sum_lines.proofs.UnescapeLemmas.{all-of, unescape-escape, escape-unescape}
+use Rattle.sum_lines.proofs.UnescapeLemmas.{all-of, unescape-escape}
 use Rattle.std.proofs.lemmas.Grind.{common_steps}
 
 -- a range of a vector that was cut at the range's end
@@ -28,20 +25,11 @@ pub unescaped : (from : ℕ) (old new : List ℕ) (r : Bool)
 unescaped from old new true h before =
     let whole : new ≡ take from old ++ drop from new = grind (arith, common_steps) in
     sym (ap (unescape present) ((h (drop from new)).1 (refl, whole)) ∙ unescape-escape present (drop from new))
-unescaped from old new false h before = none_of (unescape present (drop from old)) (λ n is.
-    let bad = ((h n).0 (escape-unescape present (drop from old) n is)).0 in cc)
-
--- a byte that isn't NUL is above zero
-above_zero : (x : ℕ) → (is_byte 0 x ≡ true → ⊥) → 0 < x
-above_zero x h = grind arith
+unescaped from old new false h before = search rules
 
 -- a search for NUL shows whether all bytes are above zero
 pub no_nul : (xs : List ℕ) (r : Option ℕ) → IsFirstByte (is_byte 0) xs r → not (is_some r) ≡ list_all (nat_lt 0) xs
-no_nul xs None h =
-    sym (all-of xs (All-from_get_or (λ x. 0 < x) xs 0 (λ k lt. above_zero (get_or xs k 0) (h k (omega arith) lt))))
-no_nul xs (Some k) h =
-    let nul : get_or xs k 0 ≡ 0 = eqb-true (get_or xs k 0) 0 h.1 in
-    sym (list_all_at (nat_lt 0) xs k 0 h.0.high (rw nul refl))
+no_nul xs r h = search (rules, all-of, list_all_at)
 
 -- ---- the raw name of a Standard list's tail
 
@@ -51,14 +39,7 @@ range-more xs i j lt =
     let sum : j - i ≡ 1 + (j - (i + 1)) = omega arith in
     rw (sum, drop-take 1 (j - (i + 1)) (drop i xs), drop-drop 1 i xs) refl
 
--- a tail that begins with a space or a star and goes on has two bytes at least
-standard-two : (tail : List ℕ) → begins_standard tail ≡ true → 2 ≤ length tail
-standard-two tail h = grind arith
-
 -- so its raw name begins one place further on
 pub raw_standard : (line : List ℕ) (p : LineParts) → begins_standard (line_parts line p).text ≡ true
     → with_raw Standard (line_parts line p) ≡ Some (line_parts line (record p { start = p.start + 1 }))
-raw_standard line p h =
-    let two = standard-two (line_parts line p).text h in
-    let size = length-take (p.stop - p.start) (drop p.start line) in
-    rw (h, range-more line p.start p.stop (omega arith)) refl
+raw_standard line p h = grind (arith, range-more)

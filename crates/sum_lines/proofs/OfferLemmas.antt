@@ -1,5 +1,6 @@
 -- What was offered of a text, piece by piece, while it was written.
-use Rattle.std.proofs.Common.{ℕ, ◌≡◌, ◌<◌, ◌≤◌, List, [], ◌∷◌, ◌++◌, length, take, drop, Option, refl, sym, ◌∙◌, append_assoc, take-append-drop, length-append, length-take, arith}
+use Rattle.std.proofs.lemmas.Grind.{common_steps}
+use Rattle.std.proofs.Common.{ℕ, ◌≡◌, ◌<◌, ◌≤◌, List, [], ◌∷◌, ◌++◌, length, take, drop, Option, refl, sym, append_assoc, take-append-drop, length-append, length-take, arith}
 use Rattle.sum_lines.specs.sinks.Sinks.{Offers, IsRest, AreRests, InOnePiece, OffersWhole}
 
 -- the pieces were offered one after another, each as what was left of the one before, and this rest is left of the last
@@ -17,15 +18,13 @@ Leaves-more text (piece ∷ more) rest left h r = (h.0, (h.1.0, h.1.1, Leaves-mo
 AreRests-from_leaves : (text left : List ℕ) (more : List (List ℕ)) (rest : List ℕ)
     → IsRest text left → Leaves left more rest → AreRests text more
 AreRests-from_leaves text left [] rest r h = tt
-AreRests-from_leaves text left (piece ∷ more) rest r h =
-    (rw h.0 at r, AreRests-from_leaves piece h.1.0 more rest h.1.1 h.1.2)
+AreRests-from_leaves text left (piece ∷ more) rest r h = grind (arith, AreRests-from_leaves piece h.1.0 more rest h.1.1)
 
 -- and so is one more
 AreRests-last : (text left : List ℕ) (more : List (List ℕ)) (rest : List ℕ)
     → IsRest text left → Leaves left more rest → AreRests text (more ++ rest ∷ [])
 AreRests-last text left [] rest r h = (rw h at r, tt)
-AreRests-last text left (piece ∷ more) rest r h =
-    (rw h.0 at r, AreRests-last piece h.1.0 more rest h.1.1 h.1.2)
+AreRests-last text left (piece ∷ more) rest r h = grind (arith, AreRests-last piece h.1.0 more rest h.1.1)
 
 -- a text of which there is a shorter back isn't empty
 IsRest-some : (text rest : List ℕ) → IsRest text rest → 0 < length text
@@ -34,18 +33,13 @@ IsRest-some text rest r = rw r.2 (omega (arith, r.1, length-append r.0 rest))
 -- nothing is left: the text was offered in one piece
 pub Leaves-none : (text : List ℕ) (pieces : List (List ℕ)) (rest : List ℕ)
     → Leaves text pieces rest → rest ≡ [] → InOnePiece text pieces
-Leaves-none text [] rest h none = h ∙ none
-Leaves-none text (piece ∷ more) rest h none =
-    let left = rw (← h.0) at h.1.1 in
-    (IsRest-some text h.1.0 left, sym h.0, AreRests-from_leaves text h.1.0 more rest left h.1.2)
+Leaves-none text pieces rest h none = grind (arith, common_steps, IsRest-some, AreRests-from_leaves)
 
 -- one more piece was offered, which is the last
 pub Leaves-last : (text : List ℕ) (pieces : List (List ℕ)) (rest : List ℕ)
     → Leaves text pieces rest → 0 < length rest → InOnePiece text (pieces ++ rest ∷ [])
 Leaves-last text [] rest h some = (rw h some, sym h, tt)
-Leaves-last text (piece ∷ more) rest h some =
-    let left = rw (← h.0) at h.1.1 in
-    (IsRest-some text h.1.0 left, sym h.0, AreRests-last text h.1.0 more rest left h.1.2)
+Leaves-last text (piece ∷ more) rest h some = grind (arith, common_steps, AreRests-last)
 
 -- offers after offers
 pub Offers-trans : (a b c : Option (List (List ℕ))) (xs ys : List (List ℕ)) → Offers a b xs → Offers b c ys
@@ -71,11 +65,7 @@ Offered-more {a} {b} {c} {text} {rest} n h offer some within = record {
 -- the rest was offered, and that was the last offer
 pub Offered-last : {a b : Option (List (List ℕ))} {text rest : List ℕ} (c : Option (List (List ℕ)))
     → Offered a b text rest → Offers b c (rest ∷ []) → 0 < length rest → OffersWhole a c text
-Offered-last {a} {b} {text} {rest} c h offer some = (
-  h.pieces ++ rest ∷ [],
-  Offers-trans a b c h.pieces (rest ∷ []) h.offers offer,
-  Leaves-last text h.pieces rest h.leaves some,
-)
+Offered-last c h offer some = grind (arith, Offers-trans, Leaves-last)
 
 -- nothing is left to offer
 pub Offered-none : {a b : Option (List (List ℕ))} {text rest : List ℕ}

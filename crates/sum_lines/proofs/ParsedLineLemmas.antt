@@ -1,10 +1,10 @@
 -- How a line parses, as it is computed, is what the line grammar says of it.
-use Rattle.std.proofs.Common.{◌≡◌, ℕ, Bool, true, false, List, [], ◌∷◌, drop, Option, None, Some, refl, ap, sym, ◌∙◌, inl, inr, cond, arith}
+use Rattle.std.proofs.Common.{◌≡◌, ℕ, Bool, true, false, List, Option, None, Some, refl, ap, sym, ◌∙◌, inl, inr, cond, arith}
 use Rattle.std.specs.Option.{option_or, option_map_or}
-use Rattle.std.proofs.lemmas.Option.{cond_some, same_Some}
+use Rattle.std.proofs.lemmas.Option.{same_Some}
 use Rattle.digest_kinds.specs.Kinds.{KindValue}
 use Rattle.sum_lines.specs.grammar.Shapes.{Algos, Plain}
-use Rattle.sum_lines.specs.grammar.Entries.{Form, Undecided, Standard, Reversed, EntryValue, IsEntry, RawOf, begins_standard, is_ignored_by}
+use Rattle.sum_lines.specs.grammar.Entries.{Form, Undecided, Standard, Reversed, EntryValue, IsEntry, RawOf, is_ignored_by}
 use Rattle.sum_lines.specs.Escape.{Profile, present, escape_by}
 use Rattle.sum_lines.specs.grammar.LineParts.{◌>>=◌, LinePartsValue, tagged_parts, plain_parts}
 use Rattle.sum_lines.specs.grammar.ParsedLines.{with_raw, entry_of_parts, entry_of, ParsedLine, ignored, bad, entry, parse_line}
@@ -27,23 +27,14 @@ with_text t raw = record { escaped = t.escaped; kind = t.kind; digest = t.digest
 
 -- the raw name of a tail is found
 raw-is : (f : Form) (t : LinePartsValue) (raw : List ℕ) → RawOf f t.text raw → with_raw f t ≡ Some (with_text t raw)
-raw-is Undecided t raw h = absurd h
-raw-is Reversed t raw h = ap (λ l. Some (with_text t l)) (sym h)
-raw-is Standard t raw h = rw h.0 (ap (λ l. Some (with_text t (drop 1 l))) h.2)
-
--- in a Standard list it is all but the tail's first byte
-standard-raw : (tail : List ℕ) → begins_standard tail ≡ true → RawOf Standard tail (drop 1 tail)
-standard-raw [] h = cc
-standard-raw (x ∷ xs) h = (h, x, refl)
+raw-is f t raw h = grind arith
 
 -- what is found in place of a tail is its raw name
 is-raw : (f : Form) (t q : LinePartsValue) → with_raw f t ≡ Some q
     → (raw : List ℕ) × RawOf f t.text raw × (with_text t raw ≡ q)
 is-raw Undecided t q h = cc
 is-raw Reversed t q h = (t.text, refl, cc)
-is-raw Standard t q h =
-    let e = cond_some (begins_standard t.text) (with_text t (drop 1 t.text)) q h in
-    (drop 1 t.text, standard-raw t.text e.0, e.1)
+is-raw Standard t q h = grind arith
 
 module _ (p : Profile) (algos : Algos) (f : Form) (line : List ℕ) where
   -- ---- the entry that a line has is computed

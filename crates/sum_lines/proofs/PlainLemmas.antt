@@ -1,22 +1,19 @@
 -- A line that joins from the parts of a plain line is read as these parts, and no other line is read. No line is both
 -- plain and tagged.
-use Rattle.std.proofs.Common.{ℕ, ◌≡◌, ◌+◌, ◌*◌, ◌<◌, ◌≤◌, not, Bool, true, ◌&&◌, List, [], ◌∷◌, ◌++◌, length, get_or, None, Some, Ok, refl, ap, sym, ◌∙◌, arith, length-drop, nat_lt, take_while}
+use Rattle.std.proofs.Common.{ℕ, ◌≡◌, ◌*◌, ◌<◌, ◌≤◌, not, Bool, true, List, [], ◌∷◌, ◌++◌, length, get_or, None, Some, Ok, refl, ap, sym, ◌∙◌, arith, length-drop, take_while, rules}
 use Rattle.std.specs.List.{AllPass, before_first, after_first, position_or_len}
-use Rattle.std.specs.Result.{result_ok}
-use Rattle.std.proofs.lemmas.Bool.{and_parts, ltb-true, lt-ltb}
+use Rattle.std.proofs.lemmas.Bool.{lt-ltb}
 use Rattle.std.proofs.lemmas.List.{take_at}
 use Rattle.std.proofs.lemmas.List.Elements.{All-head, All-tail, All-weaker}
 use Rattle.std.proofs.lemmas.List.Sums.{split_at_first, passes_at_first}
-use Rattle.std.proofs.lemmas.Option.{cond_some}
 use Rattle.hex.specs.Hex.{decode_of, is_hex_digit}
 use Rattle.hex.proofs.HexLemmas.{decode_of-ok}
-use Rattle.digest_kinds.specs.Kinds.{KindValue, has_len, tag}
+use Rattle.digest_kinds.specs.Kinds.{KindValue, tag}
 use Rattle.sum_lines.specs.grammar.Shapes.{Algo, Algos, One, Any, is_blank, Plain, Tagged}
 use Rattle.sum_lines.specs.grammar.LineParts.{LinePartsValue, after_while, mark_and_rest, plain_parts}
 use Rattle.sum_lines.specs.refinement.Beginnings.{Cut}
-use Rattle.sum_lines.proofs.PrefixLemmas.{bind_some, none_of, ok_some, prefix_passes, prefix-and-rest, prefix_len-stop, rest-seam, mark_and_rest-is}
+use Rattle.sum_lines.proofs.PrefixLemmas.{prefix_passes, prefix-and-rest, prefix_len-stop, rest-seam, mark_and_rest-is}
 use Rattle.sum_lines.proofs.TaggedLemmas.{Begins, begins-by, passes-other, after_tag, hex-no_blank, tagged-prefix, mark_and_rest-prefix}
-use Rattle.sum_lines.proofs.BitsLemmas.{has_len-range}
 
 -- the parts are those of a plain line
 abbrev pub IsPlain : Algos → List ℕ → LinePartsValue → Type 0
@@ -30,26 +27,16 @@ plain_parts-some : {a : Algo} (line : List ℕ) {p : LinePartsValue} → plain_p
     (d : List ℕ) × Cut a t.1 d
     × (record { escaped = t.0; kind = record { algo = a; len = length d }; digest = d; text = tail } ≡ p)
 unfolding plain_parts
-plain_parts-some {a} line {p} h =
-    let s : List ℕ = (mark_and_rest (after_while is_blank line)).1 in
-    let d = bind_some (result_ok (decode_of (before_first is_blank s))) _ h in
-    let is = cond_some (has_len a (length d.0) && nat_lt 0 (length (after_first is_blank s))) _ p d.2 in
-    let both = and_parts (has_len a (length d.0)) (nat_lt 0 (length (after_first is_blank s))) is.0 in
-    let some = ltb-true 0 (length (after_first is_blank s)) both.1 in
-    (d.0, record { spelled = ok_some _ d.0 d.1; has = both.0; some = some }, is.1)
+plain_parts-some line h = grind arith
 
 -- without a cut no line is plain
 pub uncut : {a : Algo} (line : List ℕ) → ((d : List ℕ) → ¬ Cut a (mark_and_rest (after_while is_blank line)).1 d)
     → None ≡ plain_parts (One a) line
-uncut {a} line none =
-    none_of (plain_parts (One a) line) (λ p h. let cut = plain_parts-some line h in none cut.0 cut.1)
+uncut line none = grind (arith, plain_parts-some)
 
 -- such a text has a blank
 pub cut-within : {a : Algo} {s d : List ℕ} → Cut a s d → position_or_len is_blank s < length s
-cut-within {s = s} cut =
-    let some = cut.some in
-    let rest = length-drop (position_or_len is_blank s + 1) s in
-    omega (arith, some, rest)
+cut-within cut = grind (arith, length-drop)
 
 -- a line that is read as plain is plain
 pub read_is_plain : {algos : Algos} {line : List ℕ} {p : LinePartsValue} → plain_parts algos line ≡ Some p
@@ -105,26 +92,17 @@ digits-of (x ∷ xs) d h lt =
 -- the first blank follows bytes that are none
 first-at : (xs : List ℕ) (b : ℕ) (ys : List ℕ) → AllPass (λ x. not (is_blank x)) xs → is_blank b ≡ true
     → (before_first is_blank (xs ++ (b ∷ ys)) ≡ xs) × (after_first is_blank (xs ++ (b ∷ ys)) ≡ ys)
-first-at xs b ys all blank =
-    let at : position_or_len is_blank (xs ++ (b ∷ ys)) ≡ length xs =
-    prefix_len-stop (λ x. not (is_blank x)) xs b ys all (ap not blank) in
-    (rw at (take_at xs (b ∷ ys) (length xs) refl), rw at (rest-seam xs b ys))
+first-at xs b ys all blank = grind (arith, prefix_len-stop, take_at, rest-seam)
 
 module _ {algos : Algos} {line : List ℕ} {e : Bool} {kind : KindValue} {d tail : List ℕ}
     (t : Plain algos line e kind d tail) where
   -- the digits of a plain line are those of a digest
   pub plain-digits : Digits t.digits
-  plain-digits =
-      let some = (has_len-range kind.algo kind.len t.has).0 in
-      let size = t.size in
-      digits-of t.digits d t.spelled (omega arith)
+  plain-digits = search (rules, digits-of)
 
   -- its blanks and its backslash are passed over
   pub plain-prefix : mark_and_rest (after_while is_blank line) ≡ (e, t.digits ++ (t.blank ∷ tail))
-  plain-prefix =
-      let digits = plain-digits in
-      ap (λ l. mark_and_rest (after_while is_blank l)) t.whole
-      ∙ mark_and_rest-prefix t.blanks e t.digits (t.blank ∷ tail) t.are_blanks digits.begins
+  plain-prefix = grind (arith, plain-digits, mark_and_rest-prefix)
 
 -- so the line is read as its parts
 pub plain_is_read : {algos : Algos} {line : List ℕ} (p : LinePartsValue) → IsPlain algos line p

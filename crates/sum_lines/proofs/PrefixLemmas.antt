@@ -1,5 +1,5 @@
 -- The longest prefix that passes, and what follows a text or a byte.
-use Rattle.std.proofs.Common.{ℕ, zero, suc, ◌≡◌, ◌≢◌, ◌+◌, ◌<◌, ◌≤◌, Bool, true, false, ◌==◌, List, [], ◌∷◌, ◌++◌, length, take, drop, get_or, Option, None, Some, Result, Ok, Err, refl, ap, sym, ◌∙◌, arith, inl, inr, length-append, All, take_while, option_map}
+use Rattle.std.proofs.Common.{ℕ, zero, suc, ◌≡◌, ◌≢◌, ◌+◌, ◌<◌, ◌≤◌, Bool, true, false, ◌==◌, List, [], ◌∷◌, ◌++◌, length, take, drop, get_or, Option, None, Some, Result, Ok, refl, sym, arith, inl, inr, length-append, All, take_while, option_map}
 use Rattle.std.specs.List.{AllPass, prefix_len, starts_with}
 use Rattle.std.specs.Option.{option_or}
 use Rattle.std.specs.Result.{result_ok}
@@ -10,7 +10,7 @@ use Rattle.std.proofs.lemmas.Bool.Decides.{Decides-eqb}
 use Rattle.std.proofs.lemmas.List.{take-append-drop, take_at, drop_at, get_or-append_right}
 use Rattle.std.proofs.lemmas.List.Sums.{take_while-cons}
 use Rattle.std.proofs.lemmas.List.Elements.{All-cons, All-get_or, All-head, All-tail, All-nil}
-use Rattle.std.proofs.lemmas.Option.{cond_some, same_Some}
+use Rattle.std.proofs.lemmas.Option.{same_Some}
 use Rattle.std.proofs.lemmas.Slice.Eq.{starts_is}
 use Rattle.sum_lines.specs.grammar.LineParts.{◌>>=◌, after_while, strip_prefix, mark_and_rest}
 use Rattle.sum_lines.specs.grammar.Shapes.{mark, optional}
@@ -19,30 +19,20 @@ use Rattle.std.proofs.lemmas.Grind.{common_steps}
 -- a step that gives something had something to go on with
 pub bind_some : {A B : Type 0} {y : B} (o : Option A) (f : A → Option B) → (o >>= f) ≡ Some y
     → (x : A) × (o ≡ Some x) × (f x ≡ Some y)
-bind_some None f h = cc
-bind_some (Some x) f h = (x, refl, h)
-
--- if no next step gives anything, nothing is given
-pub bind_none : {A B : Type 0} (o : Option A) (f : A → Option B) → ((x : A) → o ≡ Some x → f x ≡ None)
-    → None ≡ (o >>= f)
-bind_none None f h = refl
-bind_none (Some x) f h = sym (h x refl)
+bind_some o f h = grind arith
 
 -- a mapped option has what its own element gives
 pub map_some : {A B : Type 0} {y : B} (f : A → B) (o : Option A) → option_map f o ≡ Some y
     → (x : A) × (o ≡ Some x) × (f x ≡ y)
-map_some f None h = cc
-map_some f (Some x) h = (x, refl, same_Some _ _ h)
+map_some f o h = grind arith
 
 -- a result that gives something is good
 pub ok_some : {X E : Type 0} (r : Result X E) (x : X) → result_ok r ≡ Some x → r ≡ Ok x
-ok_some (Ok y) x h = cc
-ok_some (Err e) x h = cc
+ok_some r x h = grind arith
 
 -- what cannot give anything gives nothing
 pub none_of : {A : Type 0} (o : Option A) → ((x : A) → o ≡ Some x → ⊥) → None ≡ o
-none_of None h = refl
-none_of (Some x) h = absurd (h x refl)
+none_of o h = grind arith
 
 -- ---- the longest prefix that passes
 
@@ -64,9 +54,7 @@ pub prefix_len-stop : (p : ℕ → Bool) (xs : List ℕ) (y : ℕ) (ys : List �
     → prefix_len p (xs ++ (y ∷ ys)) ≡ length xs
 prefix_len-stop p [] y ys all stop = rw stop refl
 prefix_len-stop p (x ∷ xs) y ys all stop =
-    let head : p x ≡ true = All-head (λ x. p x ≡ true) x xs all in
-    let more = prefix_len-stop p xs y ys (All-tail (λ x. p x ≡ true) x xs all) stop in
-    rw head (omega arith)
+    grind (arith, prefix_len-stop p xs y ys (All-tail (λ x. p x ≡ true) x xs all), All-head)
 
 -- or else at the end
 pub prefix_len-all : (p : ℕ → Bool) (xs : List ℕ) → AllPass p xs → prefix_len p xs ≡ length xs
@@ -79,8 +67,7 @@ prefix_len-all p (x ∷ xs) all =
 -- so that byte parts the prefix from the rest
 pub parts-at : (p : ℕ → Bool) (xs : List ℕ) (y : ℕ) (ys : List ℕ) → AllPass p xs → p y ≡ false
     → (take_while p (xs ++ (y ∷ ys)) ≡ xs) × (after_while p (xs ++ (y ∷ ys)) ≡ y ∷ ys)
-parts-at p xs y ys all stop =
-    let len = sym (prefix_len-stop p xs y ys all stop) in (take_at xs (y ∷ ys) _ len, drop_at xs (y ∷ ys) _ len)
+parts-at p xs y ys all stop = grind (arith, prefix_len-stop, take_at, drop_at)
 
 -- ---- a byte or a text at the start
 
@@ -90,9 +77,7 @@ mark_and_rest-is xs = grind arith
 
 -- what was passed over began the bytes
 pub strip_prefix-some : (xs ys zs : List ℕ) → strip_prefix xs ys ≡ Some zs → ys ≡ xs ++ zs
-strip_prefix-some xs ys zs h =
-    let e = cond_some (starts_with ◌==◌ ys xs) (drop (length xs) ys) zs h in
-    (starts_is Decides-eqb ys xs (starts_with ◌==◌ ys xs) refl).0 e.0 ∙ ap (λ l. xs ++ l) e.1
+strip_prefix-some xs ys zs h = grind (arith, starts_is)
 
 -- a text that begins the bytes is found there
 pub starts-append : (xs ys : List ℕ) → starts_with ◌==◌ (xs ++ ys) xs ≡ true
@@ -105,18 +90,12 @@ strip_prefix-append xs ys = rw (starts-append xs ys, drop_at xs ys (length xs) r
 -- the parenthesis is found, with a space before it or without
 pub opened-some : (s inner : List ℕ) → option_or (strip_prefix (32 ∷ 40 ∷ []) s) (strip_prefix (40 ∷ []) s) ≡ Some inner
     → (gap : Bool) × (s ≡ optional gap (32 ∷ []) ++ (40 ∷ inner))
-opened-some s inner h = go (strip_prefix (32 ∷ 40 ∷ []) s) refl h
-  where
-    go : (o : Option (List ℕ)) → strip_prefix (32 ∷ 40 ∷ []) s ≡ o → option_or o (strip_prefix (40 ∷ []) s) ≡ Some inner
-        → (gap : Bool) × (s ≡ optional gap (32 ∷ []) ++ (40 ∷ inner))
-    go (Some t) e k = (true, strip_prefix-some (32 ∷ 40 ∷ []) s inner (e ∙ k))
-    go None e k = (false, strip_prefix-some (40 ∷ []) s inner k)
+opened-some s inner h = grind arith
 
 -- and a parenthesis that is so placed is found
 pub opened-at : (gap : Bool) (inner : List ℕ) → let s = optional gap (32 ∷ []) ++ (40 ∷ inner) in
     option_or (strip_prefix (32 ∷ 40 ∷ []) s) (strip_prefix (40 ∷ []) s) ≡ Some inner
-opened-at true inner = refl
-opened-at false inner = refl
+opened-at gap inner = grind arith
 
 -- ---- the last such byte
 

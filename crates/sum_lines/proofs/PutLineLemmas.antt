@@ -1,20 +1,19 @@
 -- A line that is written is read back.
-use Rattle.std.proofs.Common.{ℕ, ◌≡◌, Bool, true, List, [], ◌∷◌, ◌++◌, refl, ap, sym, ◌⊎◌, inl, inr, append_assoc, All}
+use Rattle.std.proofs.Common.{ℕ, ◌≡◌, Bool, true, List, [], ◌∷◌, ◌++◌, refl, ◌⊎◌, inr, append_assoc, All, arith}
 use Rattle.std.proofs.lemmas.List.{append-nil}
 use Rattle.hex.specs.Hex.{encode_lower}
-use Rattle.digest_kinds.specs.Kinds.{KindValue, tag}
-use Rattle.sum_lines.specs.grammar.Shapes.{Algo, Algos, One, Any, mark, Width, Allows, Tagged}
+use Rattle.digest_kinds.specs.Kinds.{KindValue}
+use Rattle.sum_lines.specs.grammar.Shapes.{Algos, One, mark, Width, Allows, Tagged}
 use Rattle.sum_lines.specs.grammar.Entries.{Form, Undecided, Standard, EntryValue, IsEntry, line_form, form}
 use Rattle.sum_lines.specs.declared.writing.put_line.Mode.{Mode}
 use Rattle.sum_lines.specs.Escape.{present, escape, escape_differs}
 use Rattle.sum_lines.specs.grammar.LineParts.{plain_parts}
-use Rattle.sum_lines.specs.grammar.LineLaws.{ReadBy, Writable, SpellsBack, ReadBack}
+use Rattle.sum_lines.specs.grammar.LineLaws.{Writable, SpellsBack, ReadBack}
 use Rattle.sum_lines.proofs.PlainLemmas.{apart, read_is_plain}
 use Rattle.sum_lines.proofs.PrefixLemmas.{none_of}
 use Rattle.sum_lines.proofs.EntryLemmas.{form_at}
 use Rattle.sum_lines.proofs.ParsedLineLemmas.{one_entry}
-use Rattle.sum_lines.proofs.PutLineShapes.{Inline, inline, line_width, width-is, plain_line, tagged_line, written_for, is_space_or_star, plain-form, plain-entry, tagged-written, tagged-entry, Inline-plain, Inline-tagged}
-use Rattle.sum_lines.specs.declared.writing.put_line.Mode.TheVariants as modes
+use Rattle.sum_lines.proofs.PutLineShapes.{Inline, inline, width-is, plain_line, tagged_line, written_for, is_space_or_star, plain-form, plain-entry, tagged-written, tagged-entry, Inline-plain, Inline-tagged}
 use Rattle.sum_lines.specs.Lines as lines
 
 -- a line that ends with a newline, without it
@@ -31,15 +30,12 @@ Readable f = (f ≡ Undecided) ⊎ (f ≡ Standard)
 -- a line that makes a list Standard does so after any readable lines
 form-after : (algos : Algos) (before later : List (List ℕ)) (line : List ℕ) → line_form algos line ≡ Standard
     → Readable (form algos before) → form algos (before ++ (line ∷ later)) ≡ Standard
-form-after algos before later line h (inl undecided) = rw (form_at algos before later line, undecided, h) refl
-form-after algos before later line h (inr standard) = rw (form_at algos before later line, standard) refl
+form-after algos before later line own readable = grind (arith, form_at)
 
 -- a line that decides nothing leaves the form as it is
 form-kept : (algos : Algos) (before : List (List ℕ)) (line : List ℕ) → line_form algos line ≡ Undecided
     → Readable (form algos before) → Readable (form algos (before ++ (line ∷ [])))
-form-kept algos before line h (inl undecided) =
-    inl (rw (form_at algos before [] line, undecided, h) refl)
-form-kept algos before line h (inr standard) = inr (rw (form_at algos before [] line, standard) refl)
+form-kept algos before line own readable = grind (arith, form_at)
 
 -- a tagged line is no plain one, and decides nothing
 tagged-mute : {algos : Algos} {line : List ℕ} {e : Bool} {kind : KindValue} {d raw : List ℕ}
@@ -86,26 +82,6 @@ module _ {kind : KindValue} {name digest : List ℕ} (before later : List (List 
       back (Inline-tagged w width is_width) (tagged-entry w algos width _ allowed is_width)
       (form-kept algos before line mute readable)
 
--- a line without a tag is read by the tool of its algorithm
-plain-reads : (algos : Algos) (mode : Mode) (algo : Algo) → (mode ≡ modes.Tag → ⊥) → ReadBy algos mode algo
-    → algos ≡ One algo
-plain-reads (One a) mode algo other by = ap One by
-plain-reads Any mode algo other by = absurd (other by)
-
--- a line with a tag also by the one that takes any algorithm
-tag-reads : (algos : Algos) (algo : Algo) → ReadBy algos modes.Tag algo → Allows algos algo
-tag-reads (One a) algo by = sym by
-tag-reads Any algo by = tt
-
 -- each of the three layouts is read back
 pub read_back : ReadBack
-read_back algos modes.Text kind name digest before later by w readable =
-    let one = plain-reads algos modes.Text kind.algo (λ e. cc) by in
-    rw (one, append-nil (escape name)) (plain-back before later w 32 refl refl (rw one at readable))
-read_back algos modes.Binary kind name digest before later by w readable =
-    let one = plain-reads algos modes.Binary kind.algo (λ e. cc) by in
-    rw (one, append-nil (escape name)) (plain-back before later w 42 refl refl (rw one at readable))
-read_back algos modes.Tag kind name digest before later by w readable =
-    let is_width = width-is kind.algo kind.len w.has in
-    rw (append-nil (encode_lower digest), append_assoc (tag kind.algo) (line_width kind))
-    (tagged-back before later w algos (line_width kind) (tag-reads algos kind.algo by) is_width readable)
+read_back = grind (arith, append-nil, plain-back, width-is, append_assoc, tagged-back)

@@ -1,19 +1,17 @@
 -- The lines that are written, as they are put together: each has its shape, spells the name and the digest that it was
 -- written for, and has no newline and no carriage return before its end.
+use Rattle.std.proofs.lemmas.Grind.{common_steps}
 use Rattle.std.proofs.Common.{ℕ, ◌≡◌, ◌≢◌, ◌*◌, ◌<◌, not, Bool, true, false, ◌==◌, ◌||◌, List, [], ◌∷◌, ◌++◌, length, refl, arith, inl, inr, cond, All, decimal}
 use Rattle.std.specs.List.{AllPass, list_all}
 use Rattle.std.proofs.lemmas.List.Folds.{list_all-append}
-use Rattle.std.proofs.lemmas.List.Sums.{AllPass-from_list_all, list_all-from_AllPass}
-use Rattle.std.proofs.lemmas.Bool.{eqb-true}
-use Rattle.std.proofs.lemmas.Bool.Decides.{eqb_tells}
-use Rattle.std.proofs.lemmas.List.Elements.{All-weaker, All-cons, All-nil}
+use Rattle.std.proofs.lemmas.List.Sums.{list_all-from_AllPass}
+use Rattle.std.proofs.lemmas.List.Elements.{All-cons, All-nil}
 use Rattle.digest_kinds.specs.Kinds.{KindValue, tag, full_len, has_len}
 use Rattle.sum_lines.specs.grammar.Shapes.{Algo, mark, Width, is_blank, Allows, Plain, Tagged, Algos, One}
-use Rattle.digest_kinds.specs.declared.algo.Algo.TheVariants.{Md5, Blake2b}
+use Rattle.digest_kinds.specs.declared.algo.Algo.TheVariants.{Blake2b}
 use Rattle.sum_lines.specs.Escape.{present, escape, escape_of, escape_differs}
 use Rattle.std.specs.Char.{is_ascii_digit}
 use Rattle.sum_lines.proofs.BitsLemmas.{decimal-digits, has_len-range}
-use Rattle.sum_lines.proofs.TaggedLemmas.{passes-other}
 use Rattle.std.proofs.lemmas.Slice.Eq.{bytes_eq-Decides}
 use Rattle.hex.specs.Hex.{encode_lower, is_hex_digit}
 use Rattle.hex.proofs.HexLemmas.{decode_of-encode_lower}
@@ -21,7 +19,7 @@ use Rattle.sum_lines.specs.grammar.Entries.{Form, Standard, begins_standard, lin
 use Rattle.sum_lines.specs.grammar.LineParts.{LinePartsValue}
 use Rattle.sum_lines.specs.grammar.LineLaws.{Writable}
 use Rattle.sum_lines.proofs.PlainLemmas.{Digits, digits-of, plain_is_read}
-use Rattle.sum_lines.proofs.EntryLemmas.{plain-speaks, tagged-speaks}
+use Rattle.sum_lines.proofs.EntryLemmas.{plain-speaks}
 use Rattle.sum_lines.proofs.EscapeLemmas.{length-escape}
 
 -- a byte that may be within a line
@@ -34,26 +32,12 @@ inline b = not (b == 10 || b == 13)
 
 -- bytes that pass it may
 pub Inline-by_test : (xs : List ℕ) → list_all inline xs ≡ true → All Inline xs
-Inline-by_test xs h = All-weaker (λ b. inline b ≡ true) Inline
-    (λ b test. (λ e. let bad = rw e at test in cc, λ e. let bad = rw e at test in cc)) xs
-    (AllPass-from_list_all inline xs h)
+Inline-by_test xs h = grind (arith, common_steps)
 
 -- so do bytes of a kind that a newline and a carriage return aren't
 pub inline-all : (test : ℕ → Bool) (xs : List ℕ) → test 10 ≡ false → test 13 ≡ false → AllPass test xs
     → list_all inline xs ≡ true
-inline-all test xs ten thirteen all = list_all-from_AllPass inline xs
-    (All-weaker (λ x. test x ≡ true) (λ x. inline x ≡ true)
-    (λ x pass. rw (passes-other test 10 x pass ten, passes-other test 13 x pass thirteen) refl) xs all)
-
--- each tag
-pub inline-tag : (a : Algo) → list_all inline (tag a) ≡ true
-inline-tag Md5 = refl
-inline-tag a = refl
-
--- the backslash before the line
-pub inline-mark : (b : Bool) → list_all inline (mark b) ≡ true
-inline-mark true = refl
-inline-mark false = refl
+inline-all test xs ten thirteen all = grind (arith, list_all-from_AllPass)
 
 -- what may come between the tag and the name
 pub inline-width : (kind : KindValue) (w : List ℕ) → Width kind w → list_all inline w ≡ true
@@ -81,11 +65,7 @@ line_width kind = cond (kind.len == full_len kind.algo) [] (45 ∷ decimal (8 * 
 -- that is a width of every kind
 pub width-is : (a : Algo) (n : ℕ) → has_len a n ≡ true
     → Width (record { algo = a; len = n }) (line_width (record { algo = a; len = n }))
-width-is Blake2b n has = elim (eqb_tells n 64) [
-  | inl same ↦ rw same.0 (inl (refl, same.1))
-  | inr other ↦ rw other.0 (inr (refl, refl, has))
-]
-width-is a n has = rw has (inl (refl, eqb-true n (full_len a) has))
+width-is a n has = grind arith
 
 -- ---- the lines without their newline
 
@@ -195,11 +175,7 @@ module _ {kind : KindValue} {name digest : List ℕ} (w : Writable kind name dig
   -- whatever the form, it spells what it was written for
   pub tagged-entry : (algos : Algos) (width : List ℕ) (f : Form) → Allows algos kind.algo → Width kind width
       → IsEntry escape algos f (tagged_line kind width name digest) (written_for kind name digest)
-  tagged-entry algos width f allowed is_width =
-      let tagged = tagged-written algos width allowed is_width in (
-        tagged-speaks tagged,
-        inl (record { escaped = _; raw = escape name; tagged = tagged; spells = name-spelled }),
-      )
+  tagged-entry algos width f allowed is_width = grind (arith, tagged-written, name-spelled)
 
   -- neither line has a newline or a carriage return
   inline-digits : list_all inline (encode_lower digest) ≡ true
@@ -207,21 +183,9 @@ module _ {kind : KindValue} {name digest : List ℕ} (w : Writable kind name dig
 
   -- a plain line has no end of a line
   pub Inline-plain : (x : ℕ) → inline x ≡ true → All Inline (plain_line x name digest)
-  Inline-plain x h = Inline-by_test _ (simp (
-    list_all-append inline,
-    inline-mark (escape_differs present name),
-    inline-digits,
-    inline-escape name,
-    h,
-  ) refl)
+  Inline-plain x h = grind (arith, Inline-by_test, list_all-append, inline-digits, inline-escape)
 
   -- nor does a tagged one
   pub Inline-tagged : (width : List ℕ) → Width kind width → All Inline (tagged_line kind width name digest)
-  Inline-tagged width is_width = Inline-by_test _ (simp (
-    list_all-append inline,
-    inline-mark (escape_differs present name),
-    inline-tag kind.algo,
-    inline-width kind width is_width,
-    inline-escape name,
-    inline-digits,
-  ) refl)
+  Inline-tagged width is_width =
+      grind (arith, Inline-by_test, list_all-append, inline-width, inline-escape, inline-digits)

@@ -1,9 +1,7 @@
 -- What the functions that scan a line return, step by step.
-use Rattle.std.proofs.Common.{ℕ, ◌≡◌, ◌≢◌, ◌+◌, ◌-◌, ◌*◌, ◌<◌, ◌≤◌, eq-eqb, List, [], ◌∷◌, ◌++◌, length, take, drop, get_or, slice_range, Option, None, Some, MatchOption, Ok, Bor, refl, sym, arith, append_assoc, take_while, option_copied}
+use Rattle.std.proofs.Common.{ℕ, ◌≡◌, ◌≢◌, ◌+◌, ◌-◌, ◌*◌, ◌<◌, ◌≤◌, List, [], ◌∷◌, ◌++◌, length, take, drop, slice_range, Option, None, Some, MatchOption, Ok, Bor, refl, sym, arith, append_assoc, take_while, option_copied}
 use Rattle.std.specs.Option.{option_or}
 use Rattle.std.specs.Path.{rsplit_once}
-use Rattle.std.specs.Result.{result_ok}
-use Rattle.std.proofs.lemmas.Bool.{eqb-true, lt-ltb, ne_eqb, false_from_ne_true}
 use Rattle.memchr.specs.Find.{Nowhere, Passes, IsLastByte, is_byte}
 use Rattle.hex.specs.Hex.{decode_of}
 use Rattle.hex.proofs.HexLemmas.{decode_of-ok}
@@ -12,7 +10,7 @@ use Rattle.sum_lines.specs.grammar.Shapes.{Algo, One, is_blank, mark, optional}
 use Rattle.std.proofs.lemmas.List.{take-append-drop}
 use Rattle.sum_lines.specs.grammar.LineParts.{after_while, strip_prefix, mark_and_rest, tag_in, width_at, tagged_parts}
 use Rattle.sum_lines.specs.refinement.LinePartRanges.{EndsIn}
-use Rattle.sum_lines.proofs.PrefixLemmas.{bind_none, none_of, ok_some, strip_prefix-some, strip_prefix-append, prefix-and-rest, opened-some, rfind-at, rfind-none, mark_and_rest-is, rsplit-some}
+use Rattle.sum_lines.proofs.PrefixLemmas.{none_of, strip_prefix-some, strip_prefix-append, prefix-and-rest, opened-some, rfind-at, rfind-none, mark_and_rest-is, rsplit-some}
 use Rattle.sum_lines.proofs.TaggedLemmas.{width_at-some}
 use Rattle.std.proofs.lemmas.Grind.{common_steps}
 
@@ -29,16 +27,13 @@ after_is xs ys (Some x) is = rw is (sym (strip_prefix-append xs x.now))
 -- a search from the end that finds none
 pub last_none : (c : ℕ) (s : List ℕ) → Nowhere (Passes (is_byte c) s) 0 (length s) → rsplit_once c s ≡ None
 unfolding rsplit_once
-last_none c s none =
-    rw (rfind-none c s (length s) (λ i less. false_from_ne_true _ (none i (omega arith) less))) refl
+last_none c s none = grind (arith, rfind-none)
 
 -- one that finds the byte at that place
 pub last_some : (c k : ℕ) (s : List ℕ) → IsLastByte (is_byte c) s (Some k)
     → rsplit_once c s ≡ Some (take k s, drop (k + 1) s)
 unfolding rsplit_once
-last_some c k s last =
-    rw (rfind-at c s k (length s) last.0.high (eqb-true (get_or s k 0) c last.1)
-    (λ i more less. false_from_ne_true _ (last.0.after i (omega (arith, more)) less))) refl
+last_some c k s last = grind (arith, rfind-at)
 
 -- ---- digits that spell no digest of that length
 
@@ -48,9 +43,7 @@ decoded-size s d h = (decode_of-ok s d h).2
 
 -- so such text is what a digest may be read of
 pub decoded-digits : (s d : List ℕ) → decode_of s ≡ Ok d → 1 ≤ length d → length d ≤ 64 → IsDigits s
-decoded-digits s d h some few =
-    let size = decoded-size s d h in
-    record { some = omega arith; few = omega arith; even = omega arith; digits = (decode_of-ok s d h).1 }
+decoded-digits s d h some few = grind (arith, decode_of-ok)
 
 -- other digits spell no digest of that length
 pub digest_other : (s d : List ℕ) (n : ℕ) → (length s ≡ 2 * n → ⊥) → decode_of s ≡ Ok d → length d ≢ n
@@ -58,8 +51,7 @@ digest_other s d n other spelled same = let size = decoded-size s d spelled in o
 
 -- nor do such as the code reads none of
 pub digest_none : (s d : List ℕ) (n : ℕ) → 1 ≤ n → n ≤ 64 → (IsDigits s → ⊥) → decode_of s ≡ Ok d → length d ≢ n
-digest_none s d n some few none spelled same =
-    none (decoded-digits s d spelled (omega (arith, some, same)) (omega (arith, few, same)))
+digest_none s d n some few none spelled = grind (arith, decoded-digits)
 
 -- ---- the places of the parts in the line
 
@@ -110,16 +102,7 @@ pub tagged-read : {w : KindValue × List ℕ} {inner digits d : List ℕ} {name 
     → decode_of (after_while is_blank digits) ≡ Ok d → length d ≡ w.0.len → 0 < length name.0
     → Some (record { escaped = text.0; kind = w.0; digest = d; text = name.0 }) ≡ tagged_parts (One a) line
 unfolding tagged_parts
-tagged-read {w = w} {d = d} {name = name} a line found width opened split sign spelled size some = rw (
-  found,
-  ← width,
-  ← opened,
-  ← split,
-  ← sign,
-  spelled,
-  eq-eqb (length d) w.0.len size,
-  lt-ltb 0 (length name.0) some,
-) refl
+tagged-read a line found width opened split sign spelled size some = grind arith
 
 -- digits that spell no digest of the kind's length give no parts
 pub tagged-none : {w : KindValue × List ℕ} {inner digits : List ℕ} {name : List ℕ × List ℕ}
@@ -130,7 +113,4 @@ pub tagged-none : {w : KindValue × List ℕ} {inner digits : List ℕ} {name : 
     → ((d : List ℕ) → decode_of (after_while is_blank digits) ≡ Ok d → length d ≢ w.0.len)
     → None ≡ tagged_parts (One a) line
 unfolding tagged_parts
-tagged-none {w = w} {digits = digits} a line found width opened split sign none =
-    rw (found, ← width, ← opened, ← split, ← sign)
-    (bind_none (result_ok (decode_of (after_while is_blank digits))) _
-    (λ d h. rw (ne_eqb (length d) w.0.len (none d (ok_some _ d h))) refl))
+tagged-none a line found width opened split sign none = grind arith

@@ -1,47 +1,29 @@
 -- A text that is written piece by piece: what is written of it when a piece was accepted, and when a write failed.
 -- `a`, `b`, `c` are the sink before, between and after.
-use Rattle.std.proofs.Common.{ℕ, ◌≡◌, ◌<◌, ◌-◌, List, [], ◌++◌, length, take, drop, Option, None, Some, Result, Ok, Err, refl, ap, sym, ◌∙◌, append_assoc, append-nil, take-append-drop, length-append, arith}
+use Rattle.std.proofs.Common.{ℕ, ◌≡◌, ◌<◌, ◌-◌, List, [], ◌++◌, length, take, drop, Option, None, Some, Result, Ok, Err, refl, ap, sym, ◌∙◌, append_assoc, append-nil, take-append-drop, length-append, arith, rules}
 use Rattle.std.proofs.lemmas.List.{take_rest, append_cancel_left}
 use Rattle.std.specs.Io.KnownBytes.{Appends, append_known}
-use Rattle.std.proofs.KnownBytes.{Appends-nil, Appends-trans}
+use Rattle.std.proofs.KnownBytes.{Appends-trans}
 use Rattle.sum_lines.specs.sinks.Sinks.{AppendsProperPrefix, SinkState, Accepted, WriteFailed, FlushFailed, WritesAll, Flushes}
 use Rattle.digest_kinds.specs.Limits.{one_more}
 use Rattle.sum_lines.specs.refinement.SinkStates.{Grows, AppendsPrefix}
 
 -- ---- two calls, one after the other
 
--- known bytes that grow twice
-pub Grows-trans : (a b c : Option (List ℕ)) → Grows a b → Grows b c → Grows a c
-Grows-trans a b c p q = (p.0 ++ q.0, Appends-trans a b c p.0 q.0 p.1 q.1)
-
 -- nothing is accepted if nothing is done
 pub Accepted-nil : {a : SinkState} → Accepted a a []
-Accepted-nil {a} = record {
-  accepted = Appends-nil (append_known a.written a.buffered);
-  written = ([], Appends-nil a.written);
-  failures = refl;
-}
+Accepted-nil = search rules
 
 -- one text was accepted, and then another
 pub Accepted-trans : {a b c : SinkState} (xs ys : List ℕ) → Accepted a b xs → Accepted b c ys → Accepted a c (xs ++ ys)
-Accepted-trans {a} {b} {c} xs ys first second = record {
-  accepted = Appends-trans (append_known a.written a.buffered) (append_known b.written b.buffered)
-      (append_known c.written c.buffered) xs ys first.accepted second.accepted;
-  written = Grows-trans a.written b.written c.written first.written second.written;
-  failures = second.failures ∙ first.failures;
-}
+Accepted-trans xs ys first second = grind (arith, Appends-trans)
 
 -- a text was accepted, and then a prefix of the buffered bytes was written
 written_prefix : (a b c : Option (List ℕ)) (buffered_before buffered_after text : List ℕ) → Grows a b
     → Appends (append_known a buffered_before) (append_known b buffered_after) text → AppendsPrefix b c buffered_after
     → AppendsPrefix a c (buffered_before ++ text)
-written_prefix None b c buffered_before buffered_after text grows accepted written =
-    ([], (buffered_before ++ text, refl), tt)
-written_prefix (Some x) b c buffered_before buffered_after text grows accepted written =
-    let grown = grows.1 in
-    let cut = written.1.1 in
-    let end = written.2 in
-    (grows.0 ++ written.0, (written.1.0, grind (arith, append_assoc, append_cancel_left)), grind (arith, append_assoc))
+written_prefix a b c buffered_before buffered_after text grows accepted written =
+    grind (arith, append_assoc, append_cancel_left)
 
 -- a text was accepted, and then a proper prefix of the buffered bytes and one more piece was written
 written_proper_prefix : (a b c : Option (List ℕ)) (buffered_before buffered_after text piece later : List ℕ) → Grows a b
@@ -68,16 +50,10 @@ pub Accepted-flush_failed : {a b c : SinkState} (text : List ℕ) → Accepted a
 Accepted-flush_failed {a} {b} {c} text wrote dropped =
     written_prefix a.written b.written c.written a.buffered b.buffered text wrote.written wrote.accepted dropped.written
 
--- a text was accepted, and then all that was buffered was written
-pub Accepted-flushed : {a b : SinkState} (c : Option (List ℕ)) (text : List ℕ) → Accepted a b text
-    → Appends b.written c b.buffered → Appends a.written c (a.buffered ++ text)
-Accepted-flushed c text wrote written = let taken = wrote.accepted in grind (arith, append_assoc)
-
 -- nothing was written, and then a flush came
 pub Flushes-with_buffered : {E : Type 0} {a : SinkState} (b c : SinkState) (r : Result (Unit {0}) E) → Accepted a b []
     → Flushes b c r → Flushes a c r
-Flushes-with_buffered {a = a} b c (Ok u) wrote flushed =
-    (rw append-nil at (Accepted-flushed c.written [] wrote flushed.0), flushed.1, flushed.2 ∙ wrote.failures)
+Flushes-with_buffered {a = a} b c (Ok u) wrote flushed = search rules
 Flushes-with_buffered b c (Err e) wrote dropped = record {
   written = rw append-nil at (Accepted-flush_failed [] wrote dropped);
   buffered = dropped.buffered;
@@ -103,11 +79,7 @@ FlushFailed-write_failed {text = text} dropped some =
 pub Accepted-known : (old new piece : List ℕ) (failures : ℕ) → new ≡ old ++ piece
     → Accepted (record { written = Some old; buffered = []; failures = failures })
     (record { written = Some new; buffered = []; failures = failures }) piece
-Accepted-known old new piece failures is = record {
-  accepted = grind (arith, append-nil);
-  written = (piece, is);
-  failures = refl;
-}
+Accepted-known old new piece failures is = search rules
 
 -- ---- a text, piece after piece
 

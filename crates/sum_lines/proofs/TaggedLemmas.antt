@@ -1,8 +1,9 @@
 -- What is read of a tagged line joins to the line, and a line that joins from the parts of a tagged line is read as
 -- these parts.
-use Rattle.std.proofs.Common.{ℕ, ◌≡◌, Bool, true, ◌==◌, ◌&&◌, List, [], ◌∷◌, ◌++◌, length, drop, Some, refl, ap, inl, inr, ◌≢◌, ◌*◌, false, eq-eqb, ◌∙◌, arith, nat_lt, take_while, All, option_map, decimal}
+use Rattle.std.proofs.lemmas.Grind.{common_steps}
+use Rattle.std.proofs.Common.{ℕ, ◌≡◌, Bool, true, ◌==◌, ◌&&◌, List, [], ◌∷◌, ◌++◌, length, drop, Some, refl, ap, inl, inr, ◌≢◌, false, eq-eqb, arith, nat_lt, take_while, All, option_map, rules}
 use Rattle.std.specs.Char.{is_ascii_digit}
-use Rattle.std.specs.List.{starts_with, AllPass, prefix_len}
+use Rattle.std.specs.List.{starts_with, AllPass}
 use Rattle.std.specs.Option.{option_or}
 use Rattle.std.specs.Path.{rsplit_once}
 use Rattle.std.specs.Result.{result_ok}
@@ -10,16 +11,16 @@ use Rattle.std.proofs.lemmas.Bool.{eqb-true, ltb-true, and_from, and_parts, le-l
 use Rattle.std.proofs.lemmas.Bool.Decides.{Decides-eqb, eqb_tells}
 use Rattle.std.proofs.lemmas.List.Prefix.{front_rest}
 use Rattle.std.proofs.lemmas.Slice.Eq.{starts_is}
-use Rattle.std.proofs.lemmas.Option.{cond_some, same_Some}
+use Rattle.std.proofs.lemmas.Option.{cond_some}
 use Rattle.hex.specs.Hex.{decode_of, is_hex_digit}
 use Rattle.digest_kinds.specs.Kinds.{KindValue, all_algos, full_kind, has_len, tag}
-use Rattle.digest_kinds.proofs.TagLemmas.{IfSome-find-begins, find-begins}
+use Rattle.digest_kinds.proofs.TagLemmas.{IfSome-find-begins}
 use Rattle.sum_lines.specs.grammar.Shapes.{Algo, Algos, One, Any, is_blank, Width, Allows, Tagged, mark, optional}
-use Rattle.digest_kinds.specs.declared.algo.Algo.TheVariants.{Blake2b, Md5}
+use Rattle.digest_kinds.specs.declared.algo.Algo.TheVariants.{Blake2b}
 use Rattle.sum_lines.specs.grammar.LineParts.{LinePartsValue, after_while, strip_prefix, mark_and_rest, tag_in, kind_at, width_at, tagged_parts}
-use Rattle.sum_lines.proofs.PrefixLemmas.{bind_some, map_some, ok_some, prefix_passes, prefix-and-rest, mark_and_rest-is, strip_prefix-some, opened-some, rsplit-some, parts-at, prefix_len-all, starts-append, opened-at, rsplit-at}
-use Rattle.sum_lines.proofs.BitsLemmas.{kind_at-some, kind_at-bits, decimal-digits, has_len-range}
-use Rattle.std.proofs.lemmas.List.{append-nil, drop_all, drop_at}
+use Rattle.sum_lines.proofs.PrefixLemmas.{bind_some, map_some, ok_some, prefix_passes, prefix-and-rest, mark_and_rest-is, strip_prefix-some, opened-some, rsplit-some, parts-at, prefix_len-all, opened-at, rsplit-at}
+use Rattle.sum_lines.proofs.BitsLemmas.{kind_at-some, kind_at-bits, decimal-digits}
+use Rattle.std.proofs.lemmas.List.{drop_at}
 use Rattle.std.proofs.lemmas.List.Elements.{All-cons, All-head, All-append, All-weaker}
 use Rattle.hex.proofs.HexLemmas.{decode_of-ok}
 
@@ -50,8 +51,7 @@ pub record Wide (a : Algo) (s : List ℕ) (w : KindValue × List ℕ) : Type 0 w
 
 -- nothing, for the full length
 wide-none : (a : Algo) (s : List ℕ) (w : KindValue × List ℕ) → Some (full_kind a, s) ≡ Some w → Wide a s w
-wide-none a s w h =
-    rw (← same_Some _ _ h) (record { is_algo = refl; width = []; is_width = inl (refl, refl); whole = refl })
+wide-none a s w h = grind arith
 
 -- the bits of BLAKE2b
 wide-bits : (s : List ℕ) (w : KindValue × List ℕ)
@@ -144,14 +144,7 @@ pub record Begins (xs : List ℕ) : Type 0 where
 
 -- such bytes, by their first
 pub begins-by : (x : ℕ) (xs : List ℕ) → is_blank x ≡ false → (x == 92) ≡ false → (x == 35) ≡ false → Begins (x ∷ xs)
-begins-by x xs no_blank no_mark no_hash =
-    record { first = x; more = xs; are = refl; no_blank = no_blank; no_mark = no_mark; no_hash = no_hash }
-
--- each tag does
-pub tag-begins : (a : Algo) → Begins (tag a)
-tag-begins Md5 = begins-by 77 _ refl refl refl
-tag-begins Blake2b = begins-by 66 _ refl refl refl
-tag-begins sha = begins-by 83 _ refl refl refl
+begins-by x xs no_blank no_mark no_hash = grind arith
 
 -- after a line's blanks the backslash is read, if there is one
 pub mark_and_rest-prefix : (blanks : List ℕ) (e : Bool) (xs rest : List ℕ) → AllPass is_blank blanks → Begins xs
@@ -184,35 +177,23 @@ digits-end : (ds : List ℕ) (g : Bool) (s : List ℕ) → AllPass is_ascii_digi
 digits-end ds true s all = parts-at is_ascii_digit ds 32 (40 ∷ s) all refl
 digits-end ds false s all = parts-at is_ascii_digit ds 40 s all refl
 
--- without a width the digest is full
-width_at-none : (a : Algo) (g : Bool) (s : List ℕ) → width_at a (opening g s) ≡ Some (full_kind a, opening g s)
-width_at-none Blake2b true s = refl
-width_at-none a g s = refl
-
 -- a kind's width is read as that kind
 pub width_at-of : (kind : KindValue) (w : List ℕ) (g : Bool) (s : List ℕ) → Width kind w
     → width_at kind.algo (w ++ opening g s) ≡ Some (kind, opening g s)
-width_at-of kind w g s (inl none) = rw (none.0, width_at-none kind.algo g s, ← none.1) refl
-width_at-of kind w g s (inr bits) =
-    let range = has_len-range Blake2b kind.len bits.2 in
-    let ends = digits-end (decimal (8 * kind.len)) g s (decimal-digits kind.len range.1) in
-    rw (bits.0, bits.1, ends.0, ends.1, kind_at-bits kind.len range.0 range.1) refl
+width_at-of kind w g s h = search (rules, digits-end, decimal-digits, kind_at-bits)
 
 -- ---- the tag
 
 -- the tag there is found
 pub tag_in-tag : (algos : Algos) (a : Algo) (s : List ℕ) → Allows algos a → tag_in algos (tag a ++ s) ≡ Some a
-tag_in-tag (One b) a s allowed = rw (← allowed, starts-append (tag a) s) refl
-tag_in-tag Any a s allowed = find-begins a s
+tag_in-tag algos a s allowed = grind arith
 
 -- ---- blanks, digits and the parenthesis
 
 -- after the blanks the digits are left, to the line's end
 pub rest-hex : (blanks ds : List ℕ) → AllPass is_blank blanks → AllPass is_hex_digit ds
     → after_while is_blank (blanks ++ ds) ≡ ds
-rest-hex blanks [] are all =
-    let whole = prefix_len-all is_blank blanks are in
-    rw (append-nil blanks) (drop_all (prefix_len is_blank blanks) blanks (omega arith))
+rest-hex blanks [] are all = grind (arith, common_steps, prefix_len-all)
 rest-hex blanks (d ∷ ds) are all =
     (parts-at is_blank blanks d ds are (hex-no_blank d (All-head (λ x. is_hex_digit x ≡ true) d ds all))).1
 
@@ -249,9 +230,7 @@ after_tag t = t.width ++ opening t.gap (inner_of t)
 pub tagged-prefix : {algos : Algos} {line : List ℕ} {e : Bool} {kind : KindValue} {d raw : List ℕ}
     → (t : Tagged algos line e kind d raw)
     → mark_and_rest (after_while is_blank line) ≡ (e, tag kind.algo ++ after_tag t)
-tagged-prefix {e = e} {kind = kind} t =
-    ap (λ l. mark_and_rest (after_while is_blank l)) t.whole
-    ∙ mark_and_rest-prefix t.blanks e (tag kind.algo) (after_tag t) t.are_blanks (tag-begins kind.algo)
+tagged-prefix t = grind (arith, mark_and_rest-prefix)
 
 module _ {algos : Algos} {line : List ℕ} (p : LinePartsValue) (t : IsTagged algos line p) where
   -- after the closing parenthesis come `=` and the digits

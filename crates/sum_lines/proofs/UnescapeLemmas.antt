@@ -1,12 +1,9 @@
 -- What is escaped can be read back: the name whose escape some bytes are, as it is computed, and as the code finds it.
-use Rattle.std.proofs.Common.{◌≡◌, ℕ, ◌<◌, ◌==◌, Bool, true, false, cond, List, [], ◌∷◌, ◌++◌, Some, refl, ap, sym, ◌∙◌, ◌≢◌, ◌+◌, ◌-◌, ◌≤◌, length, take, drop, set, append_assoc, arith, length-set, length-drop, All, nat_lt, bytes_eq}
+use Rattle.std.proofs.Common.{◌≡◌, ℕ, ◌<◌, ◌==◌, Bool, true, false, cond, List, [], ◌∷◌, ◌++◌, Some, refl, ap, sym, ◌∙◌, ◌≢◌, ◌+◌, ◌-◌, ◌≤◌, length, take, drop, set, append_assoc, arith, length-drop, All, nat_lt, rules}
 use Rattle.std.specs.List.{list_all}
-use Rattle.std.proofs.lemmas.Bool.{lt-ltb, ltb-true}
-use Rattle.std.proofs.lemmas.List.{append-nil, append_cancel_left, length-take-le, drop-drop, take-take, take-append-le, take_more_set, drop-set-lt}
+use Rattle.std.proofs.lemmas.List.{append-nil, append_cancel_left, length-take-le, take-take, take-append-le}
 use Rattle.std.proofs.lemmas.Option.{cond_some}
-use Rattle.std.proofs.lemmas.List.Elements.{All-weaker}
-use Rattle.std.proofs.lemmas.List.Sums.{AllPass-from_list_all, list_all-from_AllPass}
-use Rattle.std.proofs.lemmas.Slice.Eq.{bytes_eq-Decides}
+use Rattle.std.proofs.lemmas.List.Sums.{list_all-from_AllPass}
 use Rattle.sum_lines.specs.Escape.{Profile, present, escape_of, escape_by, escape, IsEscaped}
 use Rattle.sum_lines.specs.grammar.Entries.{Spells, EntryValue}
 use Rattle.sum_lines.specs.grammar.ParsedLines.{unescaped_bytes, unescape, entry_of_parts}
@@ -32,41 +29,29 @@ unescaped_bytes-escape p n =
 
 -- so a name is read back from its escape
 pub unescape-escape : (p : Profile) (n : List ℕ) → unescape p (escape_by p n) ≡ Some n
-unescape-escape p n =
-    let same = (bytes_eq-Decides (escape_by p n) (escape_by p n)).1 refl in
-    rw (unescaped_bytes-escape p n, same) refl
-
--- and what is read as a name is its escape
-pub escape-unescape : (p : Profile) (raw n : List ℕ) → unescape p raw ≡ Some n → raw ≡ escape_by p n
-escape-unescape p raw n h =
-    let e = cond_some (bytes_eq (escape_by p (unescaped_bytes raw)) raw) (unescaped_bytes raw) n h in
-    sym ((bytes_eq-Decides (escape_by p (unescaped_bytes raw)) raw).0 e.0) ∙ ap (escape_by p) e.1
+unescape-escape p n = search (rules, unescaped_bytes-escape)
 
 -- ---- no NUL
 
 -- a name without NUL passes the test for it
 pub all-of : (xs : List ℕ) → All (λ b. 0 < b) xs → list_all (nat_lt 0) xs ≡ true
-all-of xs h =
-    list_all-from_AllPass (nat_lt 0) xs (All-weaker (λ b. 0 < b) (λ b. nat_lt 0 b ≡ true) (lt-ltb 0) xs h)
+all-of xs h = grind (arith, list_all-from_AllPass)
 
 -- and what passes it has none
 of-all : (xs : List ℕ) → list_all (nat_lt 0) xs ≡ true → All (λ b. 0 < b) xs
-of-all xs h =
-    All-weaker (λ b. nat_lt 0 b ≡ true) (λ b. 0 < b) (ltb-true 0) xs (AllPass-from_list_all (nat_lt 0) xs h)
+of-all xs h = grind (arith, common_steps)
 
 -- ---- the entry of a line's parts
 
 -- a raw name is read as the name that it spells, and only as that
 unescape-if : (p : Profile) (e : Bool) (raw n : List ℕ) → raw ≡ cond e (escape_by p n) n
     → cond e (unescape p raw) (Some raw) ≡ Some n
-unescape-if p true raw n h = ap (unescape p) h ∙ unescape-escape p n
-unescape-if p false raw n h = ap Some h
+unescape-if p e raw n h = grind (arith, unescape-escape)
 
 -- and what is found is such a name
 escape-if : (p : Profile) (e : Bool) (raw n : List ℕ) → cond e (unescape p raw) (Some raw) ≡ Some n
     → raw ≡ cond e (escape_by p n) n
-escape-if p true raw n h = escape-unescape p raw n h
-escape-if p false raw n h = cc
+escape-if p e raw n h = search rules
 
 -- the entry of such parts
 abbrev pub entry_of_text : LinePartsValue → List ℕ → EntryValue
@@ -110,16 +95,7 @@ pub Half-more : {start bytes : List ℕ} {read write : ℕ} (b width : ℕ) → 
     → drop read bytes ≡ escape_of present b ++ drop width (drop read bytes) → 0 < width
     → width ≤ length (drop read bytes)
     → Half start (set bytes write b) (read + width) (write + 1)
-Half-more {bytes = bytes} {read = read} {write = write} b width h here some fits =
-    let low = h.behind in
-    let high = h.within in
-    let before = h.whole in
-    record {
-      behind = omega (arith, low);
-      within = omega (arith, fits, high, length-drop read bytes, length-set bytes write b);
-      size = length-set bytes write b ∙ h.size;
-      whole = grind (arith, common_steps, take_more_set, drop-set-lt, flat_map-append, drop-drop);
-    }
+Half-more b width h here some fits = grind (arith, common_steps)
 
 -- what was read is within the bytes
 pub Half-fits : {start bytes : List ℕ} {read write : ℕ} (width : ℕ) → Half start bytes read write
@@ -141,10 +117,7 @@ pub in_place : (line new : List ℕ) (from : ℕ) (name : List ℕ) → drop fro
     → new ≡ take from line ++ name
     → (n : List ℕ) → (drop from line ≡ escape n → (true ≡ true) × (new ≡ take from line ++ n))
     × ((true ≡ true) × (new ≡ take from line ++ n) → drop from line ≡ escape n)
-in_place line new from name e is n = (
-  λ h. (refl, is ∙ ap (λ l. take from line ++ l) (escape-apart name n (sym e ∙ h))),
-  λ h. e ∙ ap escape (append_cancel_left (take from line) name n (sym is ∙ h.1)),
-)
+in_place line new from name e is n = grind (arith, escape-apart, append_cancel_left)
 
 -- a list cut within the second of its parts
 cut : (front : List ℕ) (len n : ℕ) (part post more : List ℕ) → length front + n ≤ len → n ≤ length part
@@ -155,11 +128,7 @@ cut front len n part post more fits le = grind (arith, take-take, take-append-le
 pub cut_after : {line d : List ℕ} (len from n : ℕ) (part post more : List ℕ) → d ≡ line → from + n ≤ len
     → from ≤ length line → n ≤ length part
     → take (from + n) (take len (take from d ++ (part ++ post) ++ more)) ≡ take from line ++ take n part
-cut_after {d = d} len from n part post more e fits low le =
-    let f : List ℕ = take from d in
-    let size : length f ≡ from = length-take-le from d (rw e low) in
-    ap (λ k. take (k + n) (take len (f ++ (part ++ post) ++ more))) (sym size)
-    ∙ cut f len n part post more (omega (arith, size, fits)) le ∙ ap (λ l. take from l ++ take n part) e
+cut_after len from n part post more e fits low le = grind (arith, common_steps, length-take-le, cut)
 
 -- the rest of a list from a place on
 pub whole_after : (line d : List ℕ) (from : ℕ) → d ≡ line → take (length d - from) (drop from d) ≡ drop from line

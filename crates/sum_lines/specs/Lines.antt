@@ -21,7 +21,6 @@ layout Tag kind name digits = concat (line_tag kind ∷ codes " (" ∷ name ∷ 
 
 -- the whole line: it ends with a newline and its name is escaped, or it ends with NUL and the name is as it is
 abbrev pub line : Style → KindValue → List ℕ → List ℕ → List ℕ
-line style kind name digest =
-    let digits = encode_lower digest in
+line style kind name digest = let digits = encode_lower digest in
     if style.zero then layout style.mode kind name digits ++ codes "\0"
     else mark (escape_differs present name) ++ layout style.mode kind (escape name) digits ++ codes "\n"

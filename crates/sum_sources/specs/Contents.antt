@@ -1,6 +1,6 @@
 -- Contents of inputs, and what counts of them; states of inputs and of sources, and what a read and an opening change.
 use Rattle.std.specs.Prelude.{ℕ, ◌≡◌, ◌<◌, ◌-◌, ◌^◌, List, [], ◌++◌, take, length, Option, None, Some, Result, Ok, Err, ⊤, nat_lt, if◌then◌else◌, codes, ◌∷◌, ◌||◌, Bool, is_none, is_some, option_map}
-use Rattle.std.specs.Option.{option_or}
+use Rattle.std.specs.Option.{option_or, option_map_or}
 use Rattle.digest_kinds.specs.Kinds.{digest, KindValue}
 use Rattle.digest_kinds.specs.Limits.{one_more}
 use Rattle.sum_sources.specs.Phases.{Phase, Ended, Past}
@@ -37,8 +37,7 @@ IfKnown None new P = ⊤
 IfKnown (Some a) None P = ⊥
 IfKnown (Some a) (Some b) P = P a b
 
--- a read takes the first bytes; it finds the end only if no byte remains and the ending is whole, and fails only if no
--- byte remains and the ending is that fault
+-- a read takes the first bytes; the end, if the ending is whole, and its fault, if not, come only if no byte remains
 abbrev pub ReadsFrom : Content → Content → Result ℕ Fault → List ℕ → Type 0
 ReadsFrom c d (Ok n) buf = (c.bytes ≡ take n buf ++ d.bytes) × (d.ending ≡ c.ending)
     × (n ≡ 0 → 0 < length buf → (c.bytes ≡ []) × (c.ending ≡ Whole))
@@ -59,19 +58,18 @@ fault_text Other = codes "Input/output error"
 abbrev pub empty_content : Content
 empty_content = record { bytes = []; ending = Whole }
 
--- the state of an input that may not be there: without it nothing remains, and it counts as past its end
-abbrev pub given_state : {I : Type 0} → (I → InputState) → Option I → InputState
-given_state state None = record { content = Some empty_content; phase = Past }
-given_state state (Some i) = state i
-
 -- standard input
 pub record StdinValue (I : Type 0) : Type 0 where
   pub input : Option I  -- its input, until that is taken
   pub returned : Option I  -- the input that was put back, if one was
 
--- the state of standard input as a source of bytes: its input until that is taken; then nothing remains
+-- the state of standard input: that of its input until that is taken; then nothing remains, and it is past its end
 abbrev pub stdin_state : {I : Type 0} → (I → InputState) → StdinValue I → InputState
-stdin_state state stdin = given_state state stdin.input
+stdin_state state stdin = option_map_or state stdin.input (record { content = Some empty_content; phase = Past })
+
+-- the state of what was taken of it, an input or none: as if it were still there
+abbrev pub given_state : {I : Type 0} → (I → InputState) → Option I → InputState
+given_state state given = stdin_state state (record { input = given; returned = None })
 
 -- whether standard input was taken
 abbrev pub stdin_taken : {I : Type 0} → StdinValue I → Bool
@@ -100,8 +98,7 @@ pub record KnownSource : Type 0 where
   pub answer : List ℕ → Reply
   pub asked : List (List ℕ)
 
--- the state of a source: its replies and the names asked, if they are known; and its counts, each of which stays at
--- 2^64 - 1 once it is there
+-- the state of a source: its replies and the names asked, if known; and its counts, each of which stays at 2^64 - 1
 pub record SourceState : Type 0 where
   pub known : Option KnownSource
   pub refusals : ℕ  -- how often an opening was refused memory

@@ -22,10 +22,6 @@ abbrev pub begins_standard : List ℕ → Bool
 begins_standard (b ∷ c ∷ bs) = b == 32 || b == 42
 begins_standard tail = false
 
--- the form that a plain line's tail decides
-abbrev pub form_of_tail : List ℕ → Form
-form_of_tail tail = if begins_standard tail then Standard else Reversed
-
 -- A line decides the form of a list if it isn't ignored and is plain: by its tail.
 pub record DecidesForm (algos : Algos) (line : List ℕ) (form : Form) : Type 0 where
   pub escaped : Bool
@@ -34,7 +30,7 @@ pub record DecidesForm (algos : Algos) (line : List ℕ) (form : Form) : Type 0 
   pub tail : List ℕ
   pub speaks : is_ignored line ≡ false
   pub plain : Plain algos line escaped kind digest tail
-  pub is : form ≡ form_of_tail tail
+  pub is : form ≡ (if begins_standard tail then Standard else Reversed)
 
 -- The form of a list of lines: the first line that decides one decides it; without such a line it is Undecided.
 abbrev pub IsForm : Algos → List (List ℕ) → Form → Type 0
@@ -83,16 +79,17 @@ abbrev pub IsEntry : (List ℕ → List ℕ) → Algos → Form → List ℕ →
 IsEntry escape algos form line s = (is_ignored line ≡ false)
     × (ByTag escape algos line s ⊎ ByTail escape algos form line s)
 
--- The form of one line, computed. It need not be believed: by the law `one_form` the form below is the list's.
+-- The form of a list of lines, computed: its first plain line's. By the law `one_form` it need not be believed.
+abbrev pub form : Algos → List (List ℕ) → Form
+form algos [] = Undecided
+form algos (line ∷ later) = option_map_or (λ p. if begins_standard p.text then Standard else Reversed)
+    (plain_parts algos line) (form algos later)
+
+-- the form of one line
 abbrev pub line_form : Algos → List ℕ → Form
-line_form algos line = option_map_or (λ p. form_of_tail p.text) (plain_parts algos line) Undecided
+line_form algos line = form algos (line ∷ [])
 
 -- a form, and after it that of later lines: what is decided stays
 abbrev pub form_then : Form → Form → Form
 form_then Undecided later = later
 form_then decided later = decided
-
--- the form of a list of lines, one after another
-abbrev pub form : Algos → List (List ℕ) → Form
-form algos [] = Undecided
-form algos (line ∷ later) = form_then (line_form algos line) (form algos later)

@@ -40,14 +40,12 @@ entry_of p algos f line =
 
 -- what a line says: it is ignored, bad, or an entry
 pub data ParsedLine : Type 0 where
-  ignored : ParsedLine
-  bad : ParsedLine
+  ignored bad : ParsedLine
   entry : EntryValue → ParsedLine
 
 -- how a line parses in a list of that form
 abbrev pub parse_line : Profile → Algos → Form → List ℕ → ParsedLine
-parse_line p algos f line =
-    if is_ignored_by p line then ignored else option_map_or entry (entry_of p algos f line) bad
+parse_line p algos f line = if is_ignored_by p line then ignored else option_map_or entry (entry_of p algos f line) bad
 
 -- what a reading says, whose name is a range of the line's vector
 abbrev pub parsed_line_by : List ℕ → Reading → ParsedLine

@@ -3,7 +3,7 @@
 ghost use Rattle.std.specs.Prelude.{◌≡◌, ◌≤◌, None, Some, drop, if◌then◌else◌, length, nat_lt, not, take, vec_len};
 ghost use Rattle.std.specs.List.{list_all};
 ghost use Rattle.std.specs.Option.{option_and_then, option_map_or};
-ghost use Rattle.sum_lines.specs.grammar.Entries.{begins_standard, form_of_tail, form_then, is_ignored, line_form};
+ghost use Rattle.sum_lines.specs.grammar.Entries.{begins_standard, form_then, is_ignored, line_form};
 ghost use Rattle.sum_lines.specs.grammar.LineLaws.{ParseMatches};
 ghost use Rattle.sum_lines.specs.grammar.ParsedLines.{bad, entry, entry_of, entry_of_parts, parse_line, unescape};
 ghost use Rattle.sum_lines.specs.grammar.ParsedLines.{with_raw, Within, parsed_line_by};
@@ -130,7 +130,8 @@ fn read_tail<A: Allocator>(form: Form, line: &mut Vec<u8, A>, found: LineParts) 
     requires size { length found.digest ≡ found.kind.len }
     requires ordered { found.start ≤ found.stop }
     requires within { found.stop ≤ length line.old.items }
-    ensures form { result.1 ≡ form_then form (form_of_tail (line_parts line.old.items found).text) }
+    ensures form { result.1 ≡ form_then form
+        (if begins_standard (line_parts line.old.items found).text then Form.Standard else Form.Reversed) }
     ensures parsed { parsed_line_by line.new.items result.0 ≡ option_map_or entry
         (option_and_then (entry_of_parts present) (with_raw result.1 (line_parts line.old.items found))) bad }
     ensures within { Within line.new.items result.0 }
