@@ -135,15 +135,12 @@ items_from t (a_value spelling) (w ∷ ws) = length_value w ∷ items_from t a_w
 
 -- the option of an item, if it is one
 abbrev pub option_in : ItemValue → Option Flag
-option_in (option flag) = Some flag
-option_in item = None
+option_in = elim [ option flag ↦ Some flag | item ↦ None ]
 
 -- the value of an item, if it is one
 abbrev pub value_in : ItemValue → Option ByteString
-value_in (length_value value) = Some value
-value_in item = None
+value_in = elim [ length_value value ↦ Some value | item ↦ None ]
 
 -- the operand of an item, if it is one
 abbrev pub operand_in : ItemValue → Option ByteString
-operand_in (operand word) = Some word
-operand_in item = None
+operand_in = elim [ operand word ↦ Some word | item ↦ None ]
