@@ -34,11 +34,7 @@ whole_block m i fits =
 -- the blocks of a message from one of them on
 pub are_blocks : (m : List ℕ) (k count : ℕ) → 128 * (k + count) ≤ length m
     → AreBlocksFrom m k (first_chunks 128 count (drop (128 * k) m))
-are_blocks m k count fits i below =
-    let place : i < count = omega (arith, length-first_chunks 128 count (drop (128 * k) m)) in
-    let at : 128 * k + 128 * i ≡ 128 * (k + i) = omega arith in
-    get_or-first_chunks 128 count (drop (128 * k) m) i [] place
-    ∙ rw (drop-drop (128 * i) (128 * k) m, at) (sym (whole_block m (k + i) (omega arith)))
+are_blocks m k count fits = grind (arith, length-first_chunks, get_or-first_chunks, drop-drop, whole_block)
 
 -- whole chunks don't change when what follows them is cut off
 pub first_chunks-take : (n k : ℕ) (xs : List ℕ) (j : ℕ) → n * k ≤ j → first_chunks n k (take j xs) ≡ first_chunks n k xs
@@ -60,8 +56,7 @@ pub record IsLast (m : List ℕ) (k : ℕ) : Type 0 where
 
 -- the last block is the one before the count
 block_count-last : (m : List ℕ) (k : ℕ) → IsLast m k → block_count (length m) ≡ k + 1
-block_count-last m zero l = let e = l.ends in omega arith
-block_count-last m (suc k) l = let s = l.some (omega arith) in let e = l.ends in omega arith
+block_count-last m k l = grind arith
 
 -- the blocks of a message, counted
 length-blocks : (m : List ℕ) → length (blocks m) ≡ block_count (length m)
@@ -118,13 +113,7 @@ pub hash_after-full : {h : List ℕ} {len t : ℕ} (n : ℕ) (buffer m : List �
     → length buffer ≡ 128 → len ≡ 128 → t ≡ length m → 128 * k + len ≡ length m
     → h ≡ hash_after n (blocks m) k → take len buffer ≡ drop (128 * k) m
     → compress h buffer t false ≡ hash_after n (blocks m) (k + 1)
-hash_after-full {len = len} {t = t} n buffer m k size full counted here hash rest =
-    let block : slice_index_or (blocks m) k [] ≡ buffer =
-    whole_block m k (omega arith)
-    ∙ take_all 128 (drop (128 * k) m) (omega (arith, length-drop (128 * k) m))
-    ∙ sym rest ∙ take_all len buffer (omega arith) in
-    let total : t ≡ 128 * (k + 1) = omega arith in
-    rw (hash_after-more n (blocks m) k, block, hash, total) refl
+hash_after-full n buffer m k size full counted here hash rest = grind (arith, whole_block, take_all, hash_after-more)
 
 -- a range with one more number
 range-more : (a n j : ℕ) → a + n ≡ j → range_with_len a (suc n) ≡ range_with_len a n ++ j ∷ []
@@ -147,10 +136,7 @@ blake2b-last : (n : ℕ) (m : List ℕ) (k : ℕ) → IsLast m k
     → blake2b n m
     ≡ take n (flat_map (little_bytes 8) (compress (hash_after n (blocks m) k) (filled_from m k) (length m) true))
 unfolding blake2b
-blake2b-last n m k l =
-    let count : length (blocks m) ≡ block_count (length m) = length-blocks m in
-    let number : length (blocks m) - 1 ≡ k = omega (arith, block_count-last m k l) in
-    rw (number, hash_after-is n (blocks m) k, last_block m k l) refl
+blake2b-last n m k l = grind (arith, length-blocks, hash_after-is, last_block)
 
 -- the digest, from the hash before the last block and that block's bytes
 pub blake2b-from : {m h last bytes : List ℕ} {k t : ℕ} (n : ℕ) → IsLast m k → h ≡ hash_after n (blocks m) k

@@ -1,5 +1,5 @@
 -- Lemmas on rows of four words, whose columns are mixed at once.
-use Rattle.std.proofs.Common.{◌≡◌, ℕ, zero, suc, ◌-◌, ◌*◌, ◌/◌, ◌%◌, ◌^◌, ◌<◌, List, [], ◌∷◌, length, bit_or, bit_xor, refl, ap, arith}
+use Rattle.std.proofs.Common.{◌≡◌, ℕ, ◌-◌, ◌*◌, ◌/◌, ◌%◌, ◌^◌, ◌<◌, List, [], ◌∷◌, length, bit_or, bit_xor, refl, ap, arith}
 use Rattle.std.specs.Int.{rotate_right}
 use Rattle.std.specs.Simd.Lanes.{zip2}
 use Rattle.blake2b_core.specs.Compression.{◌!◌, ◌⊻◌, ◌⋙◌, mix}
@@ -7,11 +7,7 @@ use Rattle.blake2b_core.specs.refinement.Columns.{columns, diagonals, row, rotat
 
 -- what holds of each of the four lanes
 below_four : (P : ℕ → Type 0) → P 0 → P 1 → P 2 → P 3 → (j : ℕ) → j < 4 → P j
-below_four P p0 p1 p2 p3 zero h = p0
-below_four P p0 p1 p2 p3 (suc zero) h = p1
-below_four P p0 p1 p2 p3 (suc (suc zero)) h = p2
-below_four P p0 p1 p2 p3 (suc (suc (suc zero))) h = p3
-below_four P p0 p1 p2 p3 (suc (suc (suc (suc n)))) h = absurd (omega arith)
+below_four P p0 p1 p2 p3 j h = grind arith
 
 -- what holds of each list of four elements
 four_lanes : (P : List ℕ → Type 0) → ((a b c d : ℕ) → P (a ∷ b ∷ c ∷ d ∷ [])) → (xs : List ℕ) → length xs ≡ 4 → P xs
@@ -52,12 +48,7 @@ at xs ys e i = ap (λ l. l ! i) e
 -- four columns, lane by lane
 pub columns-rows : (r v : List (List ℕ)) (x y : List ℕ) → Mixes r v x y → words r ≡ columns (words v) x y
 unfolding mix columns
-columns-rows r v x y mixes =
-    let c0 = at (column r 0) _ (mixes 0 (omega arith)) in
-    let c1 = at (column r 1) _ (mixes 1 (omega arith)) in
-    let c2 = at (column r 2) _ (mixes 2 (omega arith)) in
-    let c3 = at (column r 3) _ (mixes 3 (omega arith)) in
-    rw (c0 0, c0 1, c0 2, c0 3, c1 0, c1 1, c1 2, c1 3, c2 0, c2 1, c2 2, c2 3, c3 0, c3 1, c3 2, c3 3) refl
+columns-rows r v x y mixes = grind arith
 
 -- four diagonals, as the columns of rows of which all but the second are rotated against it (a, c and d), and rotated
 -- back (a', c' and d')
@@ -68,8 +59,4 @@ pub diagonals-rows : {a c d x' y' a' c' d' : List ℕ} (v r : List (List ℕ)) (
     → a' ≡ rotated_row (row r 0) 1 → c' ≡ rotated_row (row r 2) 3 → d' ≡ rotated_row (row r 3) 2
     → words (a' ∷ row r 1 ∷ c' ∷ d' ∷ []) ≡ diagonals (words v) x y
 unfolding mix columns diagonals
-diagonals-rows v r x y a_is c_is d_is x_is y_is mixed a_back c_back d_back =
-    let w = at (words r) _ mixed in
-    rw (a_back, c_back, d_back)
-    (rw (w 0, w 1, w 2, w 3, w 4, w 5, w 6, w 7, w 8, w 9, w 10, w 11, w 12, w 13, w 14, w 15)
-    (rw (a_is, c_is, d_is, x_is, y_is) refl))
+diagonals-rows v r x y a_is c_is d_is x_is y_is mixed a_back c_back d_back = grind arith

@@ -1,6 +1,6 @@
 -- Lemmas on the compression function's definitions.
-use Rattle.std.proofs.Common.{◌≡◌, ℕ, zero, suc, ◌+◌, ◌*◌, ◌/◌, ◌%◌, ◌^◌, ◌<◌, ◌≤◌, Bool, true, false, List, [], ◌∷◌, ◌++◌, length, take, drop, map, get_or, slice_index_or, if◌then◌else◌, refl, sym, ap, ◌∙◌, arith}
-use Rattle.std.proofs.lemmas.List.{take-append-drop, length-take-le, length-drop, drop-drop, length-map, get_or-map, ext_get_or}
+use Rattle.std.proofs.Common.{◌≡◌, ℕ, zero, suc, ◌*◌, ◌/◌, ◌%◌, ◌^◌, ◌<◌, ◌≤◌, Bool, true, false, List, [], ◌∷◌, ◌++◌, length, take, drop, map, get_or, slice_index_or, if◌then◌else◌, refl, sym, ap, ◌∙◌, arith}
+use Rattle.std.proofs.lemmas.List.{length-drop, drop-drop, length-map, get_or-map, ext_get_or}
 use Rattle.std.proofs.lemmas.Simd.{pick_l_left}
 use Rattle.std.specs.Int.{w64, bit_not}
 use Rattle.std.specs.List.{range_with_len}
@@ -8,7 +8,6 @@ use Rattle.std.specs.Simd.{first_chunks}
 use Rattle.std.specs.Simd.Lanes.{all_below, pick_l}
 use lib.Dec.{T}
 use Rattle.byteorder.specs.Endian.{little_number}
-use Rattle.byteorder.specs.Numbers.{little_from-append}
 use Rattle.blake2b_core.specs.Compression.{◌!◌, ◌⊻◌, sigma, iv, start}
 use Rattle.blake2b_core.specs.refinement.Columns.{block_words, scheduled}
 
@@ -42,14 +41,11 @@ pub get_or-first_chunks : {X : Type 0} (n k : ℕ) (xs : List X) (i : ℕ) (d : 
 get_or-first_chunks n zero xs i d h = absurd (omega arith)
 get_or-first_chunks n (suc k) xs zero d h = let none : n * 0 ≡ 0 = omega arith in rw none refl
 get_or-first_chunks n (suc k) xs (suc i) d h =
-    let place : n * suc i ≡ n + n * i = omega arith in
-    rw (place, ← drop-drop (n * i) n xs) (get_or-first_chunks n k (drop n xs) i d (omega arith))
+    grind (arith, get_or-first_chunks n k (drop n xs) i d (omega arith), drop-drop)
 
 -- a number of eight bytes is the number in the first eight
 little_number-take : (xs : List ℕ) → 8 ≤ length xs → little_number 8 (take 8 xs) ≡ little_number 8 xs
-little_number-take xs long =
-    let front : 8 ≤ length (take 8 xs) = omega (arith, length-take-le 8 xs long) in
-    sym (little_from-append 8 (take 8 xs) (drop 8 xs) front) ∙ ap (little_number 8) (take-append-drop 8 xs)
+little_number-take xs long = grind arith
 
 -- sixteen words that read as the bytes of a block are its words
 pub block_words-is : (m block : List ℕ) → length m ≡ 16 → length block ≡ 128

@@ -1,5 +1,5 @@
 -- Digits that spell a digest, and decoding them.
-use Rattle.std.proofs.Common.{◌≡◌, ℕ, ◌/◌, ◌≤◌, ◌↔◌, List, length, Result, Ok, Err, IsOk, MatchResult, arith, refl, Bool, true, ltb, [], ◌∷◌, ◌<◌, ◌&&◌, IsAscii, IsUtf8}
+use Rattle.std.proofs.Common.{◌≡◌, ℕ, ◌/◌, ◌≤◌, ◌↔◌, List, length, Result, Ok, Err, IsOk, MatchResult, arith, refl, Bool, true, ltb, [], ◌∷◌, ◌<◌, ◌&&◌, IsAscii, IsUtf8, rules}
 use Rattle.std.proofs.lemmas.Bool.Decides.{Decides-by_and, Decides-ltb}
 use Rattle.std.proofs.lemmas.Str.{IsUtf8-from_ascii}
 use Rattle.std.proofs.lemmas.Str.Ascii.{IsAscii-from_all}
@@ -13,14 +13,7 @@ pub IsOk-decoded : {n : ℕ} (text : List ℕ) (r : Result Unit FromHexError) (o
     → n ≡ length text / 2 → 1 ≤ n → n ≤ 64
     → MatchResult (decode_sized text n) (λ bytes. (r ≡ Ok tt) × (out ≡ bytes)) (λ e. r ≡ Err e)
     → IsOk r ↔ IsDigits text
-IsOk-decoded {n = n} text r out half low high written =
-    let sized = IsOk-decode_sized text n in
-    let same = IsOk-written (decode_sized text n) r out written in (
-      λ ok.
-          let d = sized.0 (same.0 ok) in
-          record { some = omega (arith, d.0); few = omega (arith, d.0); even = omega (arith, d.0); digits = d.1 },
-      λ d. same.1 (sized.1 (omega (arith, d.even), d.digits)),
-    )
+IsOk-decoded text r out half low high written = grind (arith, IsOk-decode_sized, IsOk-written)
 
 -- whether all are ASCII, as a test that computes
 abbrev all_ascii : List ℕ → Bool
@@ -36,5 +29,4 @@ IsAscii-lower_digits =
 
 -- digits are a text
 pub IsUtf8-encode_lower : (bytes : List ℕ) → IsUtf8 (encode_lower bytes)
-IsUtf8-encode_lower bytes =
-    IsUtf8-from_ascii (encode_lower bytes) (IsAscii-encode_with lower_digits bytes IsAscii-lower_digits)
+IsUtf8-encode_lower bytes = search (rules, IsUtf8-from_ascii, IsAscii-encode_with, IsAscii-lower_digits)

@@ -1,9 +1,9 @@
 -- Searching the algorithms for one whose tag begins the bytes.
-use Rattle.std.proofs.Common.{◌≡◌, refl, sym, ℕ, Bool, true, false, cond, List, [], ◌∷◌, ◌++◌, ◌==◌, drop, length, Option, None, Some, IfSome, find}
+use Rattle.std.proofs.Common.{◌≡◌, refl, sym, ℕ, Bool, true, List, [], ◌∷◌, ◌++◌, ◌==◌, drop, length, Option, None, Some, IfSome, find, arith}
 use Rattle.std.specs.List.{starts_with}
 use Rattle.std.proofs.lemmas.Slice.Eq.{starts_is}
 use Rattle.std.proofs.lemmas.Bool.Decides.{Decides-eqb}
-use Rattle.digest_kinds.specs.Kinds.{all_algos, tag, BeginsWithTag, Algo, Md5}
+use Rattle.digest_kinds.specs.Kinds.{all_algos, tag, BeginsWithTag, Algo}
 
 -- whether the algorithm's tag is a prefix of the bytes
 abbrev pub begins : List ℕ → Algo → Bool
@@ -11,8 +11,7 @@ begins bytes a = starts_with ◌==◌ bytes (tag a)
 
 -- of bytes that begin with a tag, the search finds its algorithm: no earlier one has a tag that begins them
 pub find-begins : (a : Algo) (rest : List ℕ) → find (begins (tag a ++ rest)) all_algos ≡ Some a
-find-begins Md5 rest = refl
-find-begins a rest = refl
+find-begins a rest = grind arith
 
 -- a tag that passes the test begins the bytes
 BeginsWithTag-begins : (bytes : List ℕ) (a : Algo) → begins bytes a ≡ true → BeginsWithTag bytes a
@@ -23,12 +22,7 @@ BeginsWithTag-begins bytes a h =
 pub IfSome-find-begins : (bytes : List ℕ) (algos : List Algo)
     → IfSome (find (begins bytes) algos) (λ a. BeginsWithTag bytes a)
 IfSome-find-begins bytes [] = tt
-IfSome-find-begins bytes (a ∷ algos) =
-    elim (begins bytes a) as (λ b. begins bytes a ≡ b
-    → IfSome (cond b (Some a) (find (begins bytes) algos)) (λ x. BeginsWithTag bytes x)) [
-      | true ↦ λ here. BeginsWithTag-begins bytes a here
-      | false ↦ λ _. IfSome-find-begins bytes algos
-    ] refl
+IfSome-find-begins bytes (a ∷ algos) = grind (arith, IfSome-find-begins bytes algos, BeginsWithTag-begins)
 
 -- so an algorithm whose tag begins the bytes, if there is one, is the one that the search finds
 pub search-is : (bytes : List ℕ) (r : Option Algo) → IfSome r (λ a. BeginsWithTag bytes a)

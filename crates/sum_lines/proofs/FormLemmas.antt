@@ -22,15 +22,9 @@ pub parse_stays : (p : Profile) (algos : Algos) (f g : Form) (line : List ℕ)
 unfolding entry_of
 parse_stays p algos f g line = grind arith
 
--- how a line parses depends on it and the lines before it
-parsed_line_alone : (p : Profile) (algos : Algos) (before later : List (List ℕ)) (line : List ℕ)
-    → parse_line p algos (form algos (before ++ (line ∷ later))) line
-    ≡ parse_line p algos (form_then (form algos before) (line_form algos line)) line
-parsed_line_alone p algos before later line = grind (arith, form_at, parse_stays)
-
 -- so later lines may be others
 pub same_parse : SameParse
-same_parse = grind (arith, parsed_line_alone)
+same_parse = grind (arith, form_at, parse_stays)
 
 -- a plain line's form is that of the lines up to it
 form_alone : (algos : Algos) (before later : List (List ℕ)) (line : List ℕ) (b : Bool)

@@ -26,14 +26,10 @@ AreRests-last : (text left : List ℕ) (more : List (List ℕ)) (rest : List ℕ
 AreRests-last text left [] rest r h = (rw h at r, tt)
 AreRests-last text left (piece ∷ more) rest r h = grind (arith, AreRests-last piece h.1.0 more rest h.1.1)
 
--- a text of which there is a shorter back isn't empty
-IsRest-some : (text rest : List ℕ) → IsRest text rest → 0 < length text
-IsRest-some text rest r = rw r.2 (omega (arith, r.1, length-append r.0 rest))
-
 -- nothing is left: the text was offered in one piece
 pub Leaves-none : (text : List ℕ) (pieces : List (List ℕ)) (rest : List ℕ)
     → Leaves text pieces rest → rest ≡ [] → InOnePiece text pieces
-Leaves-none text pieces rest h none = grind (arith, common_steps, IsRest-some, AreRests-from_leaves)
+Leaves-none text pieces rest h none = grind (arith, common_steps, AreRests-from_leaves)
 
 -- one more piece was offered, which is the last
 pub Leaves-last : (text : List ℕ) (pieces : List (List ℕ)) (rest : List ℕ)

@@ -13,7 +13,7 @@ use Rattle.sum_lines.proofs.PlainLemmas.{apart, read_is_plain}
 use Rattle.sum_lines.proofs.PrefixLemmas.{none_of}
 use Rattle.sum_lines.proofs.EntryLemmas.{form_at}
 use Rattle.sum_lines.proofs.ParsedLineLemmas.{one_entry}
-use Rattle.sum_lines.proofs.PutLineShapes.{Inline, inline, width-is, plain_line, tagged_line, written_for, is_space_or_star, plain-form, plain-entry, tagged-written, tagged-entry, Inline-plain, Inline-tagged}
+use Rattle.sum_lines.proofs.PutLineShapes.{Inline, inline, plain_line, tagged_line, written_for, is_space_or_star, plain-form, plain-entry, tagged-written, tagged-entry, Inline-plain, Inline-tagged}
 use Rattle.sum_lines.specs.Lines as lines
 
 -- a line that ends with a newline, without it
@@ -84,4 +84,4 @@ module _ {kind : KindValue} {name digest : List ℕ} (before later : List (List 
 
 -- each of the three layouts is read back
 pub read_back : ReadBack
-read_back = grind (arith, append-nil, plain-back, width-is, append_assoc, tagged-back)
+read_back = grind (arith, append-nil, plain-back, append_assoc, tagged-back)

@@ -56,17 +56,6 @@ inline-escape [] = refl
 inline-escape (x ∷ xs) =
     rw (list_all-append inline (escape_of present x) (escape xs), escape_of-inline x) (inline-escape xs)
 
--- ---- the tag
-
--- what follows the kind's tag in a written line: the bits of a BLAKE2b digest that isn't full
-abbrev pub line_width : KindValue → List ℕ
-line_width kind = cond (kind.len == full_len kind.algo) [] (45 ∷ decimal (8 * kind.len))
-
--- that is a width of every kind
-pub width-is : (a : Algo) (n : ℕ) → has_len a n ≡ true
-    → Width (record { algo = a; len = n }) (line_width (record { algo = a; len = n }))
-width-is a n has = grind arith
-
 -- ---- the lines without their newline
 
 -- a plain line: x is the byte before the name, a space or a star

@@ -1,7 +1,7 @@
 -- Contents that are the same, what was read of one so far, and when it is its own clip.
-use Rattle.std.proofs.Common.{◌≡◌, ℕ, ◌^◌, ◌<◌, List, ◌++◌, length, refl, ap, sym, ◌∙◌, nat_lt}
+use Rattle.std.proofs.Common.{◌≡◌, ℕ, ◌^◌, ◌<◌, List, ◌++◌, length, refl, nat_lt, arith}
 use Rattle.std.proofs.lemmas.Bool.{cond-true, lt-ltb}
-use Rattle.sum_sources.specs.Contents.{Ending, Content, clip, limit}
+use Rattle.sum_sources.specs.Contents.{Content, clip, limit}
 use Rattle.sum_sources.specs.LineReaders.{with_prefix}
 
 -- these bytes were read between the two
@@ -10,9 +10,7 @@ Gave c d bytes = (c.bytes ≡ bytes ++ d.bytes) × (d.ending ≡ c.ending)
 
 -- so the first is the second with them as a prefix
 pub Gave-is : (c d : Content) (bytes : List ℕ) → Gave c d bytes → c ≡ with_prefix bytes d
-Gave-is c d bytes gave =
-    let make : List ℕ → Ending → Content = λ l e. record { bytes = l; ending = e } in
-    ap (λ l. make l c.ending) gave.0 ∙ ap (make (bytes ++ d.bytes)) (sym gave.1)
+Gave-is c d bytes gave = grind arith
 
 -- the limit as a number
 pub limit-value : limit ≡ 2 ^ 61

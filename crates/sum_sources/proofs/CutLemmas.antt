@@ -1,5 +1,5 @@
 -- Bytes cut at their newlines.
-use Rattle.std.proofs.Common.{◌≡◌, ℕ, List, [], ◌∷◌, ◌++◌, refl, ap, ◌∙◌, append_assoc, inl, inr, ◌==◌, false, All}
+use Rattle.std.proofs.Common.{◌≡◌, ℕ, List, [], ◌∷◌, ◌++◌, refl, ap, ◌∙◌, append_assoc, inl, inr, ◌==◌, false, All, arith}
 use Rattle.std.proofs.lemmas.Bool.Decides.{eqb_tells}
 use Rattle.std.proofs.lemmas.List.Elements.{All-nil, All-cons, All-head, All-tail}
 use Rattle.sum_sources.specs.declared.fault.Ending.{Ending}
@@ -17,8 +17,7 @@ IsPlain b = (b == 10) ≡ false
 
 -- a byte that is no newline goes to the first piece
 cut_plain : (b : ℕ) (bs : List ℕ) → IsPlain b → IsCut bs → IsCut (b ∷ bs)
-cut_plain b bs plain ([], tail, is, all, none) =
-    ([], b ∷ tail, ap (λ l. b ∷ l) is, all, All-cons IsPlain b tail plain none)
+cut_plain b bs plain ([], tail, is, all, none) = grind arith
 cut_plain b bs plain (p ∷ ps, tail, is, all, none) =
     let longer : NoNewline (b ∷ p) = All-cons IsPlain b p plain (All-head NoNewline p ps all) in
     let rest : All NoNewline ps = All-tail NoNewline p ps all in

@@ -1,5 +1,5 @@
 -- Reads of the bytes that count, up to the limit.
-use Rattle.std.proofs.Common.{◌≡◌, ℕ, ◌+◌, ◌-◌, ◌^◌, ◌<◌, ◌≤◌, List, [], ◌++◌, length, take, Ok, Err, ap, sym, ◌∙◌, Option, None, Some, refl, arith, nat_lt, inl, inr, length-append}
+use Rattle.std.proofs.Common.{◌≡◌, ℕ, ◌+◌, ◌-◌, ◌^◌, ◌<◌, ◌≤◌, List, [], ◌++◌, length, take, Ok, Err, ap, sym, Option, refl, arith, nat_lt, inl, inr, length-append}
 use Rattle.std.proofs.lemmas.Bool.{cond-true, cond-false, lt-ltb, le-ltb, cases_lt}
 use Rattle.std.proofs.lemmas.List.{length-take-le, take-append-le}
 use Rattle.std.proofs.Math.Seq.{take-append-add}
@@ -49,25 +49,15 @@ clipped-bytes c d part rest n t few some fits read =
 -- a fault
 pub clipped-fault : (c d : Content) (f : Fault) (t : ℕ) → t < 2 ^ 61 → ReadsFrom c d (Err f) []
     → ReadsFrom (clip_to (limit - t) c) (clip_to (limit - t) d) (Err f) []
-clipped-fault c d f t few read =
-    rw (read.2, clip_to-short (limit - t) c (rw (read.0, limit-value) (omega arith))) (read.0, read.1, refl)
+clipped-fault c d f t few read = grind (arith, limit-value)
 
 -- the byte that doesn't count
 pub clipped-long : (c d : Content) (part : List ℕ) (n t : ℕ) → n ≤ length part → n ≡ 1 → t + n ≡ 2 ^ 61
     → ReadsFrom c d (Ok n) part
     → ReadsFrom (clip_to (limit - t) c) (clip_to (limit - (t + n)) d) (Err Other) []
-clipped-long c d part n t few one full read =
-    let size : length c.bytes ≡ length (take n part) + length d.bytes =
-    ap length read.0 ∙ length-append (take n part) d.bytes in
-    let left : limit - t ≡ 1 = rw limit-value (omega arith) in
-    let none : limit - (t + n) ≡ 0 = rw limit-value (omega arith) in
-    let long : 1 ≤ length c.bytes = omega (arith, size, length-take-le n part few) in
-    rw (left, none, clip_to-long 1 c long, clip_to-long 0 d (omega arith)) (refl, refl, refl)
+clipped-long c d part n t few one full read = grind (arith, limit-value)
 
 -- nothing more is read then
 pub clipped-none : (x : Option Content) (t : ℕ) → t ≡ 2 ^ 61
     → IfKnown x x (λ c d. ReadsFrom (clip_to (limit - t) c) (clip_to (limit - t) d) (Err Other) [])
-clipped-none None t full = tt
-clipped-none (Some c) t full =
-    let none : limit - t ≡ 0 = rw limit-value (omega arith) in
-    rw (none, clip_to-long 0 c (omega arith)) (refl, refl, refl)
+clipped-none x t full = grind (arith, limit-value)

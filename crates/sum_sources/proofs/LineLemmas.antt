@@ -1,6 +1,7 @@
 -- Pieces and lines at the steps of the line reader.
-use Rattle.std.proofs.Common.{◌≡◌, ℕ, ◌+◌, ◌-◌, ◌<◌, suc, false, Bool, List, [], ◌∷◌, ◌++◌, length, map, Option, None, Some, Result, Ok, Err, OnOk, refl, ap, sym, ◌∙◌, append_assoc, arith, ◌==◌, option_map}
-use Rattle.std.specs.List.{slice_split, after_first, position_or_len}
+use Rattle.std.proofs.lemmas.Grind.{common_steps}
+use Rattle.std.proofs.Common.{◌≡◌, ℕ, ◌+◌, ◌<◌, false, List, [], ◌∷◌, ◌++◌, length, map, Option, Some, Result, Ok, Err, OnOk, refl, ap, append_assoc, arith, ◌==◌, option_map, rules}
+use Rattle.std.specs.List.{after_first}
 use Rattle.std.specs.Str.Lines.{strip_carriage_return}
 use Rattle.std.proofs.lemmas.List.{append-nil}
 use Rattle.std.proofs.lemmas.List.Splits.{slice_split_at, slice_split_none, length-slice_split}
@@ -9,7 +10,6 @@ use Rattle.sum_sources.specs.Contents.{Fault, Ending, Whole, Broken, Content, If
 use Rattle.sum_sources.specs.ManifestLines.{Next, Line, NoMore, LineStop, last_line, raw_lines, lines, NoNewline, NextLineIs}
 use Rattle.sum_sources.specs.LineReaders.{left_by}
 use Rattle.sum_sources.proofs.ContentLemmas.{Gave, Gave-is}
-use Rattle.sum_sources.proofs.KnownLemmas.{IfKnown-remade}
 use Rattle.sum_sources.specs.declared.line_reader.LineStop.TheVariants as stops
 
 -- a newline ends the first piece
@@ -17,11 +17,7 @@ pub pieces-newline : (e : Ending) (piece rest : List ℕ) → NoNewline piece
     → raw_lines (record { bytes = piece ++ (10 ∷ rest); ending = e })
     ≡ piece ∷ raw_lines (record { bytes = rest; ending = e })
 unfolding raw_lines
-pieces-newline e piece rest none =
-    let newline : ℕ → Bool = λ b. b == 10 in
-    let size : length (piece ∷ slice_split newline rest) - 1 ≡ suc (length (slice_split newline rest) - 1) =
-    omega (arith, length-slice_split newline rest) in
-    rw (slice_split_at newline piece 10 rest none refl, size) refl
+pieces-newline e piece rest none = grind (arith, length-slice_split, slice_split_at)
 
 -- bytes without a newline are the last piece
 pub pieces-last : (e : Ending) (piece : List ℕ) → NoNewline piece
@@ -34,16 +30,12 @@ after_piece : (piece rest : List ℕ) → NoNewline piece
     → after_first (λ b. b == 10) (piece ++ rest) ≡ after_first (λ b. b == 10) rest
 after_piece [] rest none = refl
 after_piece (b ∷ bs) rest none =
-    let plain : (b == 10) ≡ false = All-head (λ b. (b == 10) ≡ false) b bs none in
-    let place : ℕ = position_or_len (λ b. b == 10) (bs ++ rest) in
-    let size : (1 + place) + 1 ≡ suc (place + 1) = omega arith in
-    rw (plain, size) (after_piece bs rest (All-tail (λ b. (b == 10) ≡ false) b bs none))
+    grind (arith, after_piece bs rest (All-tail (λ b. (b == 10) ≡ false) b bs none), All-head)
 
 -- no bytes, no piece or line
 pub pieces-nil : (e : Ending) → raw_lines (record { bytes = []; ending = e }) ≡ []
 unfolding raw_lines
-pieces-nil Whole = refl
-pieces-nil (Broken f) = refl
+pieces-nil e = grind arith
 
 pub lines-nil : (e : Ending) → lines (record { bytes = []; ending = e }) ≡ []
 lines-nil e = ap (map strip_carriage_return) (pieces-nil e)
@@ -51,17 +43,12 @@ lines-nil e = ap (map strip_carriage_return) (pieces-nil e)
 -- a newline ends the first line
 pub NextLineIs-ended : (c d : Content) (piece : List ℕ) → NoNewline piece → Gave c d (piece ++ 10 ∷ [])
     → NextLineIs c d (Ok Line) (strip_carriage_return piece)
-NextLineIs-ended c d piece none gave =
-    rw (Gave-is c d _ gave, append_assoc piece (10 ∷ []) d.bytes, after_piece piece (10 ∷ d.bytes) none)
-    (ap (map strip_carriage_return) (pieces-newline d.ending piece d.bytes none), refl)
+NextLineIs-ended c d piece none gave = grind (arith, append_assoc, after_piece, pieces-newline)
 
 -- a last piece that isn't empty is the only line left
 pub NextLineIs-last : (c : Content) (piece : List ℕ) → NoNewline piece → 0 < length piece → Gave c empty_content piece
     → NextLineIs c empty_content (Ok Line) (strip_carriage_return piece)
-NextLineIs-last c [] none some gave = absurd (omega arith)
-NextLineIs-last c (b ∷ bs) none some gave =
-    rw (Gave-is c empty_content (b ∷ bs) gave, after_piece (b ∷ bs) [] none, append-nil, lines-nil Whole)
-    (ap (map strip_carriage_return) (pieces-last Whole (b ∷ bs) none), refl)
+NextLineIs-last c piece none some gave = search (rules, after_piece, pieces-last)
 
 -- if nothing remains, there is no line
 pub NextLineIs-none : (c : Content) (line : List ℕ) → Gave c empty_content []
@@ -83,31 +70,24 @@ Gives n m r line c d = NextLineIs c d r line × OnOk r (n + length d.bytes ≡ m
 pub gives_stop : {r : Result Next LineStop} {e : LineStop} (x z : Option Content) (f g : Content → Content)
     (piece line : List ℕ) (n m : ℕ) → r ≡ Err e → IfKnown x (option_map f z) (λ c d. NextLineIs c d r piece)
     → IfKnown x (option_map g z) (Gives n m r line)
-gives_stop {e = stops.Memory} x z f g piece line n m is h =
-    rw is (IfKnown-remade x z f g _ _ (λ c d h. (h, tt)) (rw is at h))
-gives_stop {e = stops.Fault q} x z f g piece line n m is h =
-    rw is (IfKnown-remade x z f g _ _ (λ c d h. (h, tt)) (rw is at h))
+gives_stop x z f g piece line n m is h = grind arith
 
 -- the end was returned before, and is returned again
 pub gives_ended : (z : Option Content) (line : List ℕ) (n : ℕ)
     → IfKnown (option_map (λ _. empty_content) z) (option_map (λ _. empty_content) z) (Gives n n (Ok NoMore) line)
-gives_ended None line n = tt
-gives_ended (Some c) line n = ((lines-nil Whole, refl), refl)
+gives_ended z line n = grind (arith, lines-nil)
 
 -- so is a stop
 pub gives_stopped : (e : LineStop) (z : Option Content) (f : Content → Content) (line : List ℕ)
     → (e ≡ stops.Memory → (c : Content) → 0 < length (f c).bytes)
     → IfKnown (option_map (λ c. left_by (Some (Err e)) (f c)) z) (option_map (λ c. left_by (Some (Err e)) (f c)) z)
     (Gives 0 0 (Err e) line)
-gives_stopped e None f line some = tt
-gives_stopped (stops.Fault x) (Some c) f line some = ((lines-nil (Broken x), refl), tt)
-gives_stopped stops.Memory (Some c) f line some = (some refl c, tt)
+gives_stopped e z f line some = grind (arith, lines-nil)
 
 -- what has a line has a byte
 some_bytes : (bytes line : List ℕ) (e : Ending) (ls : List (List ℕ))
     → lines (record { bytes = bytes; ending = e }) ≡ line ∷ ls → 0 < length bytes
-some_bytes [] line e ls is = let nil = sym (lines-nil e) ∙ is in cc
-some_bytes (b ∷ bs) line e ls is = omega arith
+some_bytes bytes line e ls is = grind (arith, common_steps, lines-nil)
 
 pub line-some : (c d : Content) (line : List ℕ) → NextLineIs c d (Ok Line) line → 0 < length c.bytes
 line-some c d line is = some_bytes c.bytes line c.ending (lines d) is.0
