@@ -112,8 +112,7 @@ all_same : (f g : LineVerdictValue → List ℕ) → ((j : LineVerdictValue) →
     → (js : List LineVerdictValue) → All CleanName js
     → map f js ≡ map g js
 all_same f g same [] all = refl
-all_same f g same (j ∷ js) all =
-    rw (same j (All-head CleanName j js all), all_same f g same js (All-tail CleanName j js all)) refl
+all_same f g same (j ∷ js) all = search (rules, All-head, all_same f g same js (All-tail CleanName j js all))
 
 -- and so is all that is reported
 outs_same : (r : Rules) (labels : LabelsValue) (js : List LineVerdictValue) → All CleanName js
@@ -151,8 +150,7 @@ end_same r labels (Broken f) c own = fault_same labels.tool labels.list f own
 -- whether the manifest is good
 good_same : (r : Rules) (e : Ending) (c : CountsValue) → good (rules_under older r) e c ≡ good (rules_under present r) e
     c
-good_same r Whole c = refl
-good_same r (Broken f) c = refl
+good_same r e c = search rules
 
 -- ---- the law
 
@@ -191,12 +189,8 @@ steps_same : (r : Rules) (labels : LabelsValue) (end : List ℕ) (c : Content) (
     → line_steps (rules_under older r) labels end c js ≡ line_steps (rules_under present r) labels end c js
 steps_same r labels end c [] own all = refl
 steps_same r labels end c (j ∷ js) own all =
-    let free = All-head CleanName j js all in
-    rw (
-      err_same r labels j.number j.verdict j.name own free,
-      out_same labels.report j.verdict j.name free,
-      steps_same r labels end (past_line c) js own (All-tail CleanName j js all),
-    ) refl
+    let later = steps_same r labels end (past_line c) js own (All-tail CleanName j js all) in
+    search (rules, All-head, err_same, out_same, later)
 
 -- the behavior of such a content is the same
 content_same : (r : Rules) (labels : LabelsValue) (w : World) (c : Content) → IsOldManifest r labels c

@@ -37,9 +37,7 @@ prefix_verdicts r w n f (l ∷ ls) later =
 -- the profile has no part in the judgement of what one line says
 pub judge_under : (r : Rules) (p : Profile) (w : World) (n : ℕ) (x : ParsedLine)
     → judge r w n x ≡ judge (record r { profile = p }) w n x
-judge_under r p w n ignored = refl
-judge_under r p w n bad = refl
-judge_under r p w n (entry s) = refl
+judge_under r p w n x = search rules
 
 -- an entry by one form is one by another, if the line says the same
 entry_same : (algos : Algos) (f g : Form) (line : List ℕ) (s : EntryValue)
