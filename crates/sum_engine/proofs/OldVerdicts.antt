@@ -89,23 +89,10 @@ verdicts_same r f w n (l ∷ ls) all =
 
 -- ---- what is written
 
--- reports that name no carriage return are the same
-name_line_same : (name text : List ℕ) → NoReturn name → name_line older name text ≡ name_line present name text
-name_line_same name text free = search (rules, same_escape)
-
--- and so is what is said of each verdict
-said_same : (v : Verdict) (name : List ℕ) → NoReturn name → verdict_line older v name ≡ verdict_line present v name
-said_same Right name free = name_line_same name (codes "OK") free
-said_same Wrong name free = name_line_same name (codes "FAILED") free
-said_same (Unread f) name free = name_line_same name (codes "FAILED open or read") free
-said_same v name free = refl
-
 -- and what is reported of it
 out_same : (report : Report) (v : Verdict) (name : List ℕ) → NoReturn name
     → out_by older report v name ≡ out_by present report v name
-out_same reports.Quiet Right name free = refl
-out_same reports.Status v name free = refl
-out_same report v name free = said_same v name free
+out_same report v name free = search (rules, same_escape)
 
 -- what is the same for each verdict without one is the same for all
 all_same : (f g : LineVerdictValue → List ℕ) → ((j : LineVerdictValue) → CleanName j → f j ≡ g j)
@@ -120,15 +107,10 @@ outs_same : (r : Rules) (labels : LabelsValue) (js : List LineVerdictValue) → 
 outs_same r labels js all = all_same (out_of (rules_under older r) labels) (out_of (rules_under present r) labels)
     (λ j free. out_same labels.report j.verdict j.name free) js all
 
--- the line of a fault
-fault_same : (tool name : List ℕ) (f : Fault) → NoReturn name
-    → fault_line older tool name f ≡ fault_line present tool name f
-fault_same tool name f free = rw (same_escape name free) refl
-
 -- what a line of the manifest adds to standard error
 err_same : (r : Rules) (labels : LabelsValue) (n : ℕ) (v : Verdict) (name : List ℕ) → NoReturn labels.list
     → NoReturn name → err_by (rules_under older r) labels n v name ≡ err_by (rules_under present r) labels n v name
-err_same r labels n v name own free = search (rules, same_escape, fault_same)
+err_same r labels n v name own free = search (rules, same_escape)
 
 -- all that is written there
 errs_same : (r : Rules) (labels : LabelsValue) (js : List LineVerdictValue) → NoReturn labels.list → All CleanName js
@@ -145,7 +127,7 @@ end_same r labels Whole c own = by labels.report
         end_text (rules_under older r) shown Whole c ≡ end_text (rules_under present r) shown Whole c
     by reports.Status = rw (same_escape labels.list own) refl
     by report = rw (same_escape labels.list own) refl
-end_same r labels (Broken f) c own = fault_same labels.tool labels.list f own
+end_same r labels (Broken f) c own = search (rules, same_escape)
 
 -- whether the manifest is good
 good_same : (r : Rules) (e : Ending) (c : CountsValue) → good (rules_under older r) e c ≡ good (rules_under present r) e
@@ -172,14 +154,7 @@ found_same r labels w c h =
 pub old_verdicts : OldVerdicts
 old_verdicts r labels w c h =
     let found = found_same r labels w c h in
-    let ks = all_verdicts (rules_under present r) w c in
-    record {
-      verdicts = found.0;
-      outs = rw found.0 (outs_same r labels ks found.1);
-      errs = rw found.0 (errs_same r labels ks h.own_name found.1);
-      end = rw found.0 (end_same r labels c.ending (counts_of ks) h.own_name);
-      good = rw found.0 (good_same r c.ending (counts_of ks));
-    }
+    search (rules, found.0, found.1, outs_same, errs_same, end_same, good_same)
 
 -- ---- the behavior of checking
 
@@ -198,18 +173,11 @@ content_same : (r : Rules) (labels : LabelsValue) (w : World) (c : Content) → 
     ≡ content_behavior (rules_under present r) labels c (all_verdicts (rules_under present r) w c)
 content_same r labels w c h =
     let found = found_same r labels w c h in
-    let ks = all_verdicts (rules_under present r) w c in
-    let end = end_text (rules_under present r) labels c.ending (counts_of ks) in
-    rw (
-      found.0,
-      end_same r labels c.ending (counts_of ks) h.own_name,
-      steps_same r labels end c ks h.own_name found.1,
-      good_same r c.ending (counts_of ks),
-    ) refl
+    search (rules, found.0, found.1, end_same, steps_same, good_same)
 
 -- so is that of its name
 pub old_outcomes : OldOutcomes
-old_outcomes r labels name w (Err f) own h = search (rules, fault_same)
+old_outcomes r labels name w (Err f) own h = search (rules, same_escape)
 old_outcomes r labels name w (Ok c) own h =
     ap (step_then (opening name)) (content_same r labels w (clip c) (h c refl))
 
