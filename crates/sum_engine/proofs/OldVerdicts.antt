@@ -18,7 +18,6 @@ use Rattle.sum_engine.specs.check.Checking.{line_steps, content_behavior}
 use Rattle.sum_engine.specs.check.OldVerdicts.{older, rules_under, NoReturn, NamesNoReturn, IsOldManifest, OldVerdicts, OldOutcomes, OlderDiffers}
 use Rattle.sum_lines.proofs.ParsedLineLemmas.{parse_is_grammar}
 use Rattle.sum_engine.proofs.OldNames.{all_left, all_right, same_escape, CleanParsedLine, parse_line_same}
-use Rattle.sum_engine.proofs.SamePrefix.{judge_under}
 use Rattle.sum_engine.proofs.ReturnLemmas.{NotReturn, strips-kept}
 use Rattle.sum_engine.proofs.CheckOneLemmas.{opening}
 use Rattle.sum_engine.specs.declared.settings.Report.TheVariants as reports
@@ -73,50 +72,33 @@ verdicts_same : (r : Rules) (f : Form) (w : World) (n : ℕ) (ls : List (List �
     × All CleanName (verdicts (rules_under present r) f w n ls)
 verdicts_same r f w n [] all = (refl, All-nil CleanName)
 verdicts_same r f w n (l ∷ ls) all =
-    let algos = r.algo in
-    let here = All-head (Alike algos f) l ls all in
-    let s = parse_line_same algos f l here.no_byte here.no_escape here.some in
-    let old = rules_under older r in
+    let here = All-head (Alike r.algo f) l ls all in
+    let s = parse_line_same r.algo f l here.no_byte here.no_escape here.some in
     let new = rules_under present r in
-    let j = judge new w (n + 1) (parse_line present algos f l) in
-    let one : judge old w (n + 1) (parse_line older algos f l) ≡ j =
-    ap (judge old w (n + 1)) s.0 ∙ judge_under old present w (n + 1) (parse_line present algos f l) in
-    let more = verdicts_same r f (after w (asks_of j)) (n + 1) ls (All-tail (Alike algos f) l ls all) in (
-      rw (one, more.0) refl,
-      All-cons CleanName j (verdicts new f (after w (asks_of j)) (n + 1) ls)
-          (judged_clean new w (n + 1) (parse_line present algos f l) s.1) more.1,
-    )
+    let j = judge new w (n + 1) (parse_line present r.algo f l) in
+    let one : judge (rules_under older r) w (n + 1) (parse_line older r.algo f l) ≡ j = search (rules, s.0) in
+    let more = verdicts_same r f (after w (asks_of j)) (n + 1) ls (All-tail (Alike r.algo f) l ls all) in
+    let clean = judged_clean new w (n + 1) (parse_line present r.algo f l) s.1 in
+    (rw (one, more.0) refl, All-cons CleanName j (verdicts new f (after w (asks_of j)) (n + 1) ls) clean more.1)
 
 -- ---- what is written
 
--- and what is reported of it
+-- what is reported of a verdict whose name holds no carriage return
 out_same : (report : Report) (v : Verdict) (name : List ℕ) → NoReturn name
     → out_by older report v name ≡ out_by present report v name
 out_same report v name free = search (rules, same_escape)
 
--- what is the same for each verdict without one is the same for all
+-- so it is for all of them
 all_same : (f g : LineVerdictValue → List ℕ) → ((j : LineVerdictValue) → CleanName j → f j ≡ g j)
     → (js : List LineVerdictValue) → All CleanName js
     → map f js ≡ map g js
 all_same f g same [] all = refl
 all_same f g same (j ∷ js) all = search (rules, All-head, all_same f g same js (All-tail CleanName j js all))
 
--- and so is all that is reported
-outs_same : (r : Rules) (labels : LabelsValue) (js : List LineVerdictValue) → All CleanName js
-    → map (out_of (rules_under older r) labels) js ≡ map (out_of (rules_under present r) labels) js
-outs_same r labels js all = all_same (out_of (rules_under older r) labels) (out_of (rules_under present r) labels)
-    (λ j free. out_same labels.report j.verdict j.name free) js all
-
 -- what a line of the manifest adds to standard error
 err_same : (r : Rules) (labels : LabelsValue) (n : ℕ) (v : Verdict) (name : List ℕ) → NoReturn labels.list
     → NoReturn name → err_by (rules_under older r) labels n v name ≡ err_by (rules_under present r) labels n v name
 err_same r labels n v name own free = search (rules, same_escape)
-
--- all that is written there
-errs_same : (r : Rules) (labels : LabelsValue) (js : List LineVerdictValue) → NoReturn labels.list → All CleanName js
-    → map (err_of (rules_under older r) labels) js ≡ map (err_of (rules_under present r) labels) js
-errs_same r labels js own all = all_same (err_of (rules_under older r) labels) (err_of (rules_under present r) labels)
-    (λ j free. err_same r labels j.number j.verdict j.name own free) js all
 
 -- the text at its end
 end_same : (r : Rules) (labels : LabelsValue) (e : Ending) (c : CountsValue) → NoReturn labels.list
@@ -128,11 +110,6 @@ end_same r labels Whole c own = by labels.report
     by reports.Status = rw (same_escape labels.list own) refl
     by report = rw (same_escape labels.list own) refl
 end_same r labels (Broken f) c own = search (rules, same_escape)
-
--- whether the manifest is good
-good_same : (r : Rules) (e : Ending) (c : CountsValue) → good (rules_under older r) e c ≡ good (rules_under present r) e
-    c
-good_same r e c = search rules
 
 -- ---- the law
 
@@ -154,7 +131,7 @@ found_same r labels w c h =
 pub old_verdicts : OldVerdicts
 old_verdicts r labels w c h =
     let found = found_same r labels w c h in
-    search (rules, found.0, found.1, outs_same, errs_same, end_same, good_same)
+    search (rules, found.0, found.1, all_same, out_same, err_same, end_same)
 
 -- ---- the behavior of checking
 
@@ -173,7 +150,7 @@ content_same : (r : Rules) (labels : LabelsValue) (w : World) (c : Content) → 
     ≡ content_behavior (rules_under present r) labels c (all_verdicts (rules_under present r) w c)
 content_same r labels w c h =
     let found = found_same r labels w c h in
-    search (rules, found.0, found.1, end_same, steps_same, good_same)
+    search (rules, found.0, found.1, end_same, steps_same)
 
 -- so is that of its name
 pub old_outcomes : OldOutcomes

@@ -47,10 +47,6 @@ put_back-whole input old before given taken same ends whole = search rules
 
 -- ---- files
 
--- closing a file changes no number of opened ones
-pub closed_state-opened : (s : SourceState) (p : Phase) → (closed_state s p).opened ≡ s.opened
-closed_state-opened s p = search rules
-
 -- a file was opened, and closed at its end
 pub ReadToEnd-file : {S : Type 0} (state : S → SourceState) (a b : StreamsState S) (between : S) (p : Phase)
     → (state between).opened ≡ one_more (state a.source).opened → (state between).ended ≡ (state a.source).ended

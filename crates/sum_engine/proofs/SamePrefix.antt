@@ -34,11 +34,6 @@ prefix_verdicts r w n f (l ∷ ls) later =
     (after w (asks_of (judge r w (n + 1) x))) (n + 1) (ls ++ later))) (parse_stays r.profile algo f rest l)
     ∙ ap (λ x. j ∷ x) (prefix_verdicts r (after w (asks_of j)) (n + 1) here ls later)
 
--- the profile has no part in the judgement of what one line says
-pub judge_under : (r : Rules) (p : Profile) (w : World) (n : ℕ) (x : ParsedLine)
-    → judge r w n x ≡ judge (record r { profile = p }) w n x
-judge_under r p w n x = search rules
-
 -- an entry by one form is one by another, if the line says the same
 entry_same : (algos : Algos) (f g : Form) (line : List ℕ) (s : EntryValue)
     → parse_line present algos f line ≡ parse_line present algos g line
