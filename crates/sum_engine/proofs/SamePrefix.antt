@@ -49,18 +49,9 @@ same_front r w before line later others =
     ≡ parse_line present r.algo (form r.algo (before ++ (line ∷ b))) line =
     λ a b. same_parse present r.algo before a b line in
     let prefix = before ++ line ∷ [] in
+    let all = prefix_verdicts r w 0 Undecided prefix later ∙ sym (prefix_verdicts r w 0 Undecided prefix others) in
     record {
-      entry = λ s. (
-        entry_same r.algo _ _ line s (same later others),
-        entry_same r.algo _ _ line s (same others later),
-      );
-      verdict =
-          rw (
-            length-append before (line ∷ []),
-            append_assoc before (line ∷ []) later,
-            append_assoc before (line ∷ [])
-                others,
-          )
-          at (prefix_verdicts r w 0 Undecided prefix later ∙ sym (prefix_verdicts r w 0 Undecided prefix others));
+      entry = λ s. (entry_same r.algo _ _ line s (same later others), entry_same r.algo _ _ line s (same others later));
+      verdict = search (rules, length-append, append_assoc, all);
       form = same_form r.algo before later others line;
     }
