@@ -32,10 +32,10 @@ pub record Along (whole left : Behavior) (a b : KnownState) : Type 0 where
 -- one step more happened
 pub along_more : {a b c : KnownState} {whole left next : Behavior} → Along whole left a b → StepDone left next b c
     → Along whole next a c
-along_more {next = next} h k = record {
+along_more h k = record {
   done = h.done ++ k.step ∷ [];
-  steps = h.steps ∙ ap (λ r. h.done ++ r.steps) k.is ∙ sym (append_assoc h.done (k.step ∷ []) next.steps);
-  good = sym (ap (λ r. r.good) k.is) ∙ h.good;
+  steps = search (rules, append_assoc);
+  good = search rules;
   did = steps_more h.done k.step h.did k.happened;
 }
 
@@ -51,9 +51,8 @@ along_end h k =
 pub along_breaks : {a b c : KnownState} {whole left : Behavior} → Along whole left a b → StepFailed left b c
     → PrefixHappened a c (trace whole.steps)
 along_breaks {whole = whole} h k =
-    let steps : whole.steps ≡ h.done ++ k.step ∷ k.rest.steps = h.steps ∙ ap (λ r. h.done ++ r.steps) k.is in
     let all : trace whole.steps ≡ trace h.done ++ (events_of k.step ++ trace k.rest.steps) =
-    ap trace steps ∙ flat_map-append events_of h.done (k.step ∷ k.rest.steps) in
+    search (rules, flat_map-append) in
     rw all (prefix_behind (trace h.done) (events_of k.step) (trace k.rest.steps) h.did k.happened)
 
 -- a step that memory was wanted for
@@ -72,35 +71,22 @@ behavior_then-did r s h k = rw (flat_map-append events_of r s) (did_both (trace 
 pub behavior_then-second : {A B : Type 0} {a b : KnownState} (c : KnownState) (x : A) (y : B) (r s : List Step)
     (stop : Stop)
     → Happened a b (trace r) → PerformsSteps s y b c (Err stop) → PerformsSteps (r ++ s) x a c (Err stop)
-behavior_then-second c x y r s Write h k = (
-  trace r ++ k.0,
-  (
-    k.1.0,
-    flat_map-append events_of r s ∙ ap (λ l. trace r ++ l) k.1.1 ∙ sym (append_assoc (trace r) k.0 k.1.0),
-  ),
-  did_both (trace r) k.0 h k.2,
-)
+behavior_then-second c x y r s Write h k =
+    (trace r ++ k.0, (k.1.0, search (rules, flat_map-append, append_assoc)), did_both (trace r) k.0 h k.2)
 behavior_then-second c x y r s Memory h k = record {
   done = r ++ k.done;
   next = k.next;
   later = k.later;
   between = k.between;
-  are = ap (λ l. r ++ l) k.are ∙ sym (append_assoc r k.done (k.next ∷ k.later));
-  happened = rw (flat_map-append events_of r k.done) (did_both (trace r) (trace k.done) h k.happened);
+  are = search (rules, append_assoc);
+  happened = search (rules, flat_map-append, did_both);
   refused = k.refused;
 }
 
 -- the first stopped
 pub behavior_then-first : {A B : Type 0} (a b : KnownState) (x : A) (y : B) (r s : List Step) (stop : Stop)
     → PerformsSteps r y a b (Err stop) → PerformsSteps (r ++ s) x a b (Err stop)
-behavior_then-first a b x y r s Write h = (
-  h.0,
-  (
-    h.1.0 ++ trace s,
-    flat_map-append events_of r s ∙ ap (λ l. l ++ trace s) h.1.1 ∙ append_assoc h.0 h.1.0 (trace s),
-  ),
-  h.2,
-)
+behavior_then-first a b x y r s Write h = (h.0, (h.1.0 ++ trace s, search (rules, flat_map-append, append_assoc)), h.2)
 behavior_then-first a b x y r s Memory h = search (rules, append_assoc)
 
 -- a behavior after its first step, which happened

@@ -26,6 +26,4 @@ pub end_stays : (r : Rules) (e : Ending) (vector : List ℕ) (a b c : CheckState
 end_stays r e vector a b c (Ok (Some v)) ended found =
     let size : 0 ≡ length (remaining_verdicts r b) = ap length (sym (none_left r e b ended.rest)) in
     absurd (omega (arith, size, ap length found.0.first))
-end_stays r e vector a b c (Ok None) ended found = search rules
-end_stays r e vector a b c (Err (Fault f)) ended found = search rules
-end_stays r e vector a b c (Err Memory) ended found = search rules
+end_stays r e vector a b c x ended found = search rules

@@ -86,24 +86,18 @@ did_both p q h k = search (rules, after-append, filter_map-append, list_any-appe
 pub prefix_err : {a b : KnownState} (names : List (List ℕ)) (err out : List ℕ) → Asks a b names
     → AppendsPrefix a.err.written b.err.written err → b.out.written ≡ a.out.written
     → PrefixHappened a b (events_by names err out)
-prefix_err {a} {b} names err out asked h same = (
-  events_by names h.0 [],
-  (
-    map write_err h.1.0 ++ map write_out out,
-    rw (h.1.1) (simp (map-append, append-nil, append_assoc)),
-  ),
-  did_by names h.0 [] asked h.2 (rw same (Appends-nil a.out.written)),
-)
+prefix_err {a} names err out asked h same =
+    let rest : List Event = map write_err h.1.0 ++ map write_out out in
+    let did = did_by names h.0 [] asked h.2 (rw same (Appends-nil a.out.written)) in
+    (events_by names h.0 [], (rest, search (rules, map-append, append_assoc)), did)
 
 -- all of it was, and a prefix of the text on standard output
 pub prefix_out : {a b : KnownState} (names : List (List ℕ)) (err out : List ℕ) → Asks a b names
     → Appends a.err.written b.err.written err → AppendsPrefix a.out.written b.out.written out
     → PrefixHappened a b (events_by names err out)
-prefix_out {a} {b} names err out asked all h = (
-  events_by names err h.0,
-  (map write_out h.1.0, rw (h.1.1) (simp (map-append, append_assoc))),
-  did_by names err h.0 asked all h.2,
-)
+prefix_out names err out asked all h =
+    let rest : List Event = map write_out h.1.0 in
+    (events_by names err h.0, (rest, search (rules, map-append, append_assoc)), did_by names err h.0 asked all h.2)
 
 -- whether a call that writes did all of it, or failed
 abbrev pub Writing : Type 0
@@ -129,11 +123,8 @@ err_alone a b out text x h = search rules
 -- a prefix of what comes next, after what happened
 pub prefix_behind : {a b c : KnownState} (p es more : List Event) → Happened a b p → PrefixHappened b c es
     → PrefixHappened a c (p ++ (es ++ more))
-prefix_behind p es more done h = (
-  p ++ h.0,
-  (h.1.0 ++ more, rw (h.1.1) (simp append_assoc)),
-  did_both p h.0 done h.2,
-)
+prefix_behind p es more done h =
+    (p ++ h.0, (h.1.0 ++ more, rw (h.1.1) (simp append_assoc)), did_both p h.0 done h.2)
 
 -- ---- states that are known or not
 

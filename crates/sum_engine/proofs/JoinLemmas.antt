@@ -134,17 +134,10 @@ module _ (r : Rules) (labels : LabelsValue) (c : Content) (s : KnownState) where
       let one : length whole.steps - k ≡ 1 = sym (length-drop k whole.steps) ∙ ap length last in
       let number : k ≡ length js = omega (arith, one, length_steps r labels end c js) in
       let step = last_step r labels end c js in
-      let same : e.step ∷ [] ≡ record { names = []; err = end; out = []; remaining = step.0 } ∷ [] =
-      sym last ∙ ap (λ n. drop n whole.steps) number ∙ step.1 in
-      let is : e.step ≡ record { names = []; err = end; out = []; remaining = step.0 } = cc in
+      let is : e.step ≡ record { names = []; err = end; out = []; remaining = step.0 } =
+      search (rules, last, number, step.1) in
       let did = rw is at e.happened in
-      record {
-        lines = number ∙ length_verdicts r (form r.algo (lines_by r.profile c)) s.world 0 (lines_by r.profile c);
-        good = (along_end (along h) e).0;
-        err = rw (err-by [] end []) at did.err;
-        out = rw (out-by [] end []) at did.out;
-        world = rw (names-by [] end []) at did.world ∙ sym (after-none b.known_state.world);
-      }
+      search (rules, number, length_verdicts, along_end, along, did, err-by, out-by, names-by, after-none)
 
 -- no vector is longer than its line
 vectors_fit : (r : Rules) (labels : LabelsValue) (a b : CheckState) (vectors : List (List ℕ))

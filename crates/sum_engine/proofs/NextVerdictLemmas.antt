@@ -50,30 +50,17 @@ next_verdict-line {I} input state p q reader a b line vector v reads takes few h
     let names = asks_of (line_verdict_value vector v) in
     let said = parsed_at (record p { reader = reader }) line in
     let found = where_known state a b (λ s t. (judge p.rules s.world reader.lines said ≡ line_verdict_value vector v)
-    × Happened s t (events_by names [] []) × (q.counts ≡ counts_with p.counts v.verdict)) h (λ w w' judged. (
-      judged.0,
-      did_by names [] [] (record { world = judged.1; taken = taken; refusals = refusals })
-          (rw err (Appends-nil a.err.written)) (rw out (Appends-nil a.out.written)),
-      judged.2,
-    )) in
+    × Happened s t (events_by names [] []) × (q.counts ≡ counts_with p.counts v.verdict)) h
+    (λ w w' judged. search (rules, did_by, Appends-nil)) in
     rw takes.reader (check_state-made input p then (known_state state a) (known_state state b) _ reads.next found
     (λ c d s t took found.
-    let found' = rw reads.number at found in
+    let f = rw reads.number at found in
     let first : CheckState = state_at p c s in
     let next : CheckState = state_at then d t in
-    let is : next_judged p.rules first line ≡ line_verdict_value vector v = found'.0 in
-    let counted = found'.2 ∙ ap (λ (j : LineVerdictValue). counts_with p.counts j.verdict) (sym is) in
+    let is : next_judged p.rules first line ≡ line_verdict_value vector v = f.0 in
+    let counted : q.counts ≡ counts_with p.counts (next_judged p.rules first line).verdict = search (rules, f.2, is) in
     let moves = line_handled input p q reader c d s t line vector reads took takes few counted in
-    let asked = rw (names-by names [] []) at found'.1.world in (
-      record {
-        first = rest_on p.rules first next vector moves
-            (asked ∙ ap (λ j. after first.known_state.world (asks_of j)) (sym is))
-            ∙ ap (λ j. j ∷ remaining_verdicts p.rules next) is;
-        happened = rw (append-nil (map open_name names)) at found'.1;
-        counts = found'.2;
-      },
-      moves,
-    )))
+    (search (rules, rest_on p.rules first next vector moves, names-by, is, f.1), moves)))
 
 -- memory to open a line's file was refused: nothing happened, and the line remained
 pub next_verdict-refused : {I S : Type 0} (input : I → InputState) (state : S → SourceState) (p q : CursorValue I)

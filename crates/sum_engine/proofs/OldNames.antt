@@ -113,9 +113,7 @@ parse_line_same algos f line free names some = go (parse_line present algos f li
   where
     go : (x : ParsedLine) → parse_line present algos f line ≡ x → (parse_line older algos f line ≡ x)
         × CleanParsedLine x
-    go ignored h =
-        let is = (parse_is_grammar present algos f line).when_ignored.0 h in
-        ((parse_is_grammar older algos f line).when_ignored.1 (ignored_same line true some is), tt)
+    go ignored h = search (rules, parse_is_grammar, ignored_same)
     go bad h =
         let is = (parse_is_grammar present algos f line).when_bad.0 h in (
           (parse_is_grammar older algos f line).when_bad.1 (
@@ -127,6 +125,5 @@ parse_line_same algos f line free names some = go (parse_line present algos f li
         )
     go (entry s) h =
         let is = ((parse_is_grammar present algos f line).when_entry s).0 h in
-        let clean = names s is.1 in
-        let e = entry_by escape (escape_by older) algos f line s (sym (same_escape s.name clean)) is.1 in
-        (((parse_is_grammar older algos f line).when_entry s).1 (ignored_same line false some is.0, e), clean)
+        let older_is = (parse_is_grammar older algos f line).when_entry s in
+        search (rules, is.0, is.1, names s is.1, older_is.1, ignored_same, entry_by, same_escape)

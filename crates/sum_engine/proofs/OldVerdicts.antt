@@ -18,7 +18,6 @@ use Rattle.sum_engine.specs.check.Checking.{line_steps, content_behavior}
 use Rattle.sum_engine.specs.check.OldVerdicts.{older, rules_under, NoReturn, NamesNoReturn, IsOldManifest, OldVerdicts, OldOutcomes, OlderDiffers}
 use Rattle.sum_lines.proofs.ParsedLineLemmas.{parse_is_grammar}
 use Rattle.sum_engine.proofs.OldNames.{all_left, all_right, same_escape, CleanParsedLine, parse_line_same}
-use Rattle.sum_engine.proofs.SamePrefix.{judge_under}
 use Rattle.sum_engine.proofs.ReturnLemmas.{NotReturn, strips-kept}
 use Rattle.sum_engine.proofs.CheckOneLemmas.{opening}
 use Rattle.sum_engine.specs.declared.settings.Report.TheVariants as reports
@@ -73,69 +72,33 @@ verdicts_same : (r : Rules) (f : Form) (w : World) (n : ℕ) (ls : List (List �
     × All CleanName (verdicts (rules_under present r) f w n ls)
 verdicts_same r f w n [] all = (refl, All-nil CleanName)
 verdicts_same r f w n (l ∷ ls) all =
-    let algos = r.algo in
-    let here = All-head (Alike algos f) l ls all in
-    let s = parse_line_same algos f l here.no_byte here.no_escape here.some in
-    let old = rules_under older r in
+    let here = All-head (Alike r.algo f) l ls all in
+    let s = parse_line_same r.algo f l here.no_byte here.no_escape here.some in
     let new = rules_under present r in
-    let j = judge new w (n + 1) (parse_line present algos f l) in
-    let one : judge old w (n + 1) (parse_line older algos f l) ≡ j =
-    ap (judge old w (n + 1)) s.0 ∙ judge_under old present w (n + 1) (parse_line present algos f l) in
-    let more = verdicts_same r f (after w (asks_of j)) (n + 1) ls (All-tail (Alike algos f) l ls all) in (
-      rw (one, more.0) refl,
-      All-cons CleanName j (verdicts new f (after w (asks_of j)) (n + 1) ls)
-          (judged_clean new w (n + 1) (parse_line present algos f l) s.1) more.1,
-    )
+    let j = judge new w (n + 1) (parse_line present r.algo f l) in
+    let one : judge (rules_under older r) w (n + 1) (parse_line older r.algo f l) ≡ j = search (rules, s.0) in
+    let more = verdicts_same r f (after w (asks_of j)) (n + 1) ls (All-tail (Alike r.algo f) l ls all) in
+    let clean = judged_clean new w (n + 1) (parse_line present r.algo f l) s.1 in
+    (rw (one, more.0) refl, All-cons CleanName j (verdicts new f (after w (asks_of j)) (n + 1) ls) clean more.1)
 
 -- ---- what is written
 
--- reports that name no carriage return are the same
-name_line_same : (name text : List ℕ) → NoReturn name → name_line older name text ≡ name_line present name text
-name_line_same name text free = search (rules, same_escape)
-
--- and so is what is said of each verdict
-said_same : (v : Verdict) (name : List ℕ) → NoReturn name → verdict_line older v name ≡ verdict_line present v name
-said_same Right name free = name_line_same name (codes "OK") free
-said_same Wrong name free = name_line_same name (codes "FAILED") free
-said_same (Unread f) name free = name_line_same name (codes "FAILED open or read") free
-said_same v name free = refl
-
--- and what is reported of it
+-- what is reported of a verdict whose name holds no carriage return
 out_same : (report : Report) (v : Verdict) (name : List ℕ) → NoReturn name
     → out_by older report v name ≡ out_by present report v name
-out_same reports.Quiet Right name free = refl
-out_same reports.Status v name free = refl
-out_same report v name free = said_same v name free
+out_same report v name free = search (rules, same_escape)
 
--- what is the same for each verdict without one is the same for all
+-- so it is for all of them
 all_same : (f g : LineVerdictValue → List ℕ) → ((j : LineVerdictValue) → CleanName j → f j ≡ g j)
     → (js : List LineVerdictValue) → All CleanName js
     → map f js ≡ map g js
 all_same f g same [] all = refl
-all_same f g same (j ∷ js) all =
-    rw (same j (All-head CleanName j js all), all_same f g same js (All-tail CleanName j js all)) refl
-
--- and so is all that is reported
-outs_same : (r : Rules) (labels : LabelsValue) (js : List LineVerdictValue) → All CleanName js
-    → map (out_of (rules_under older r) labels) js ≡ map (out_of (rules_under present r) labels) js
-outs_same r labels js all = all_same (out_of (rules_under older r) labels) (out_of (rules_under present r) labels)
-    (λ j free. out_same labels.report j.verdict j.name free) js all
-
--- the line of a fault
-fault_same : (tool name : List ℕ) (f : Fault) → NoReturn name
-    → fault_line older tool name f ≡ fault_line present tool name f
-fault_same tool name f free = rw (same_escape name free) refl
+all_same f g same (j ∷ js) all = search (rules, All-head, all_same f g same js (All-tail CleanName j js all))
 
 -- what a line of the manifest adds to standard error
 err_same : (r : Rules) (labels : LabelsValue) (n : ℕ) (v : Verdict) (name : List ℕ) → NoReturn labels.list
     → NoReturn name → err_by (rules_under older r) labels n v name ≡ err_by (rules_under present r) labels n v name
-err_same r labels n v name own free = search (rules, same_escape, fault_same)
-
--- all that is written there
-errs_same : (r : Rules) (labels : LabelsValue) (js : List LineVerdictValue) → NoReturn labels.list → All CleanName js
-    → map (err_of (rules_under older r) labels) js ≡ map (err_of (rules_under present r) labels) js
-errs_same r labels js own all = all_same (err_of (rules_under older r) labels) (err_of (rules_under present r) labels)
-    (λ j free. err_same r labels j.number j.verdict j.name own free) js all
+err_same r labels n v name own free = search (rules, same_escape)
 
 -- the text at its end
 end_same : (r : Rules) (labels : LabelsValue) (e : Ending) (c : CountsValue) → NoReturn labels.list
@@ -146,13 +109,7 @@ end_same r labels Whole c own = by labels.report
         end_text (rules_under older r) shown Whole c ≡ end_text (rules_under present r) shown Whole c
     by reports.Status = rw (same_escape labels.list own) refl
     by report = rw (same_escape labels.list own) refl
-end_same r labels (Broken f) c own = fault_same labels.tool labels.list f own
-
--- whether the manifest is good
-good_same : (r : Rules) (e : Ending) (c : CountsValue) → good (rules_under older r) e c ≡ good (rules_under present r) e
-    c
-good_same r Whole c = refl
-good_same r (Broken f) c = refl
+end_same r labels (Broken f) c own = search (rules, same_escape)
 
 -- ---- the law
 
@@ -174,14 +131,7 @@ found_same r labels w c h =
 pub old_verdicts : OldVerdicts
 old_verdicts r labels w c h =
     let found = found_same r labels w c h in
-    let ks = all_verdicts (rules_under present r) w c in
-    record {
-      verdicts = found.0;
-      outs = rw found.0 (outs_same r labels ks found.1);
-      errs = rw found.0 (errs_same r labels ks h.own_name found.1);
-      end = rw found.0 (end_same r labels c.ending (counts_of ks) h.own_name);
-      good = rw found.0 (good_same r c.ending (counts_of ks));
-    }
+    search (rules, found.0, found.1, all_same, out_same, err_same, end_same)
 
 -- ---- the behavior of checking
 
@@ -191,12 +141,8 @@ steps_same : (r : Rules) (labels : LabelsValue) (end : List ℕ) (c : Content) (
     → line_steps (rules_under older r) labels end c js ≡ line_steps (rules_under present r) labels end c js
 steps_same r labels end c [] own all = refl
 steps_same r labels end c (j ∷ js) own all =
-    let free = All-head CleanName j js all in
-    rw (
-      err_same r labels j.number j.verdict j.name own free,
-      out_same labels.report j.verdict j.name free,
-      steps_same r labels end (past_line c) js own (All-tail CleanName j js all),
-    ) refl
+    let later = steps_same r labels end (past_line c) js own (All-tail CleanName j js all) in
+    search (rules, All-head, err_same, out_same, later)
 
 -- the behavior of such a content is the same
 content_same : (r : Rules) (labels : LabelsValue) (w : World) (c : Content) → IsOldManifest r labels c
@@ -204,18 +150,11 @@ content_same : (r : Rules) (labels : LabelsValue) (w : World) (c : Content) → 
     ≡ content_behavior (rules_under present r) labels c (all_verdicts (rules_under present r) w c)
 content_same r labels w c h =
     let found = found_same r labels w c h in
-    let ks = all_verdicts (rules_under present r) w c in
-    let end = end_text (rules_under present r) labels c.ending (counts_of ks) in
-    rw (
-      found.0,
-      end_same r labels c.ending (counts_of ks) h.own_name,
-      steps_same r labels end c ks h.own_name found.1,
-      good_same r c.ending (counts_of ks),
-    ) refl
+    search (rules, found.0, found.1, end_same, steps_same)
 
 -- so is that of its name
 pub old_outcomes : OldOutcomes
-old_outcomes r labels name w (Err f) own h = search (rules, fault_same)
+old_outcomes r labels name w (Err f) own h = search (rules, same_escape)
 old_outcomes r labels name w (Ok c) own h =
     ap (step_then (opening name)) (content_same r labels w (clip c) (h c refl))
 

@@ -47,10 +47,6 @@ put_back-whole input old before given taken same ends whole = search rules
 
 -- ---- files
 
--- closing a file changes no number of opened ones
-pub closed_state-opened : (s : SourceState) (p : Phase) → (closed_state s p).opened ≡ s.opened
-closed_state-opened s p = search rules
-
 -- a file was opened, and closed at its end
 pub ReadToEnd-file : {S : Type 0} (state : S → SourceState) (a b : StreamsState S) (between : S) (p : Phase)
     → (state between).opened ≡ one_more (state a.source).opened → (state between).ended ≡ (state a.source).ended
@@ -65,14 +61,10 @@ pub ReadToEnd-around : {S : Type 0} (state : S → SourceState) (a m n b : Strea
     → p ≡ Ended → (IsStdinWhole n → IsStdinWhole b) → ReadToEnd state a b
 ReadToEnd-around state a m n b p opened ended first h closed at_end last =
     let next : h.number + 1 ≡ suc h.number = omega arith in
-    let one : raised 1 (state a.source).opened ≡ one_more (state a.source).opened = refl in
     record {
       number = suc h.number;
-      opened = ap (λ s. s.opened) closed ∙ closed_state-opened (state n.source) p ∙ h.opened
-          ∙ ap (raised h.number) (opened ∙ sym one) ∙ raised-add h.number 1 (state a.source).opened
-          ∙ ap (λ k. raised k (state a.source).opened) next;
-      ended = ap (λ s. s.ended) (closed ∙ ap (closed_state (state n.source)) at_end)
-          ∙ ap one_more (h.ended ∙ ap (raised h.number) ended);
+      opened = search (rules, raised-add h.number 1 (state a.source).opened, next);
+      ended = search rules;
       stdin = λ whole. last (h.stdin (first whole));
     }
 

@@ -53,18 +53,8 @@ behavior_by-cons r labels e k c j js = search rules
 pub first_step : (r : Rules) (labels : LabelsValue) (e : Ending) (k : CountsValue) (c : Content)
     (js : List LineVerdictValue) → (s : Step) × (rest : Behavior)
     × (behavior_by r labels e k c js ≡ step_then s rest) × (s.remaining ≡ length c.bytes)
-first_step r labels e k c [] = (
-  record { names = []; err = end_text r labels e (counts_then k (counts_of [])); out = []; remaining = length c.bytes },
-  record { steps = []; good = good r e (counts_then k (counts_of [])) },
-  refl,
-  refl,
-)
-first_step r labels e k c (j ∷ js) = (
-  line_step r labels (length c.bytes) j,
-  behavior_by r labels e (counts_with k j.verdict) (past_line c) js,
-  behavior_by-cons r labels e k c j js,
-  refl,
-)
+first_step r labels e k c [] = (_, record { steps = []; good = good r e (counts_then k (counts_of [])) }, refl, refl)
+first_step r labels e k c (j ∷ js) = (_, _, behavior_by-cons r labels e k c j js, refl)
 
 -- a line was found, which is the first of those that remained
 pub found_first : (r : Rules) (labels : LabelsValue) (a b : CheckState) (j : LineVerdictValue)

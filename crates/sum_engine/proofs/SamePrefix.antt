@@ -34,13 +34,6 @@ prefix_verdicts r w n f (l ∷ ls) later =
     (after w (asks_of (judge r w (n + 1) x))) (n + 1) (ls ++ later))) (parse_stays r.profile algo f rest l)
     ∙ ap (λ x. j ∷ x) (prefix_verdicts r (after w (asks_of j)) (n + 1) here ls later)
 
--- the profile has no part in the judgement of what one line says
-pub judge_under : (r : Rules) (p : Profile) (w : World) (n : ℕ) (x : ParsedLine)
-    → judge r w n x ≡ judge (record r { profile = p }) w n x
-judge_under r p w n ignored = refl
-judge_under r p w n bad = refl
-judge_under r p w n (entry s) = refl
-
 -- an entry by one form is one by another, if the line says the same
 entry_same : (algos : Algos) (f g : Form) (line : List ℕ) (s : EntryValue)
     → parse_line present algos f line ≡ parse_line present algos g line
@@ -56,18 +49,9 @@ same_front r w before line later others =
     ≡ parse_line present r.algo (form r.algo (before ++ (line ∷ b))) line =
     λ a b. same_parse present r.algo before a b line in
     let prefix = before ++ line ∷ [] in
+    let all = prefix_verdicts r w 0 Undecided prefix later ∙ sym (prefix_verdicts r w 0 Undecided prefix others) in
     record {
-      entry = λ s. (
-        entry_same r.algo _ _ line s (same later others),
-        entry_same r.algo _ _ line s (same others later),
-      );
-      verdict =
-          rw (
-            length-append before (line ∷ []),
-            append_assoc before (line ∷ []) later,
-            append_assoc before (line ∷ [])
-                others,
-          )
-          at (prefix_verdicts r w 0 Undecided prefix later ∙ sym (prefix_verdicts r w 0 Undecided prefix others));
+      entry = λ s. (entry_same r.algo _ _ line s (same later others), entry_same r.algo _ _ line s (same others later));
+      verdict = search (rules, length-append, append_assoc, all);
       form = same_form r.algo before later others line;
     }

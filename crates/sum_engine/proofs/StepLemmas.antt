@@ -127,13 +127,11 @@ module _ {I S : Type 0} (input : I → InputState) (state : S → SourceState) (
         (check_state input q (known_state state b)) (answered x Going)
     step_found labels vector v x found writes = from_asked _ _ found (λ c d w v' f.
         let j = line_verdict_value vector v in
-        let names = asks_by (asks_of j) f.0.happened in
-        let asks : Asks (known state a w) (known state b v') (asks_of j) = search rules in
         let first : CheckState = state_at p c (known state a w) in
         let next : CheckState = state_at q d (known state b v') in
-        let moves : LineHandled p.rules first next vector = search rules in
+        let asks : Asks first.known_state next.known_state (asks_of j) = search (rules, asks_by) in
         step_by p.rules labels first next vector (line_step p.rules labels (length c.bytes) j) x
-        (found_first p.rules labels first next j f.0.first f.0.counts f.1.rest) moves
+        (found_first p.rules labels first next j f.0.first f.0.counts f.1.rest) (search rules)
         (came_by _ _ (asks_of j) _ _ x asks writes))
 
     -- memory ran out, and both outputs stayed
@@ -155,14 +153,13 @@ module _ {I S : Type 0} (input : I → InputState) (state : S → SourceState) (
         → WritesAndFlushes a.err b.err (end_text q.rules labels e q.counts) x → IsFlushed a
         → StepIsIfKnown p.rules labels vector (check_state input p (known_state state a))
         (check_state input q (known_state state b)) (answered x (Ended answer))
-    step_end labels vector e answer x found rules sum out writes flushed = from_asked _ _ found (λ c d w v f.
+    step_end labels vector e answer x found same sum out writes flushed = from_asked _ _ found (λ c d w v f.
         let r = p.rules in
-        let said = rw (rules, f.counts) at (writes.1 flushed.1).1 in
+        let said = rw (same, f.counts) at (writes.1 flushed.1).1 in
         let step : Step =
         record { names = []; err = end_text r labels e p.counts; out = []; remaining = length c.bytes } in
-        let asks = asks_none (ap (λ t. t.world) f.same) (ap (λ t. t.stdin_taken) f.same)
-        (ap (λ t. t.refusals) f.same) in
+        let asks : Asks (known state a w) (known state b v) [] = search rules in
         last_by r labels (state_at p c (known state a w)) (state_at q d (known state b v)) vector step answer x
         (ap (behavior_by r labels c.ending p.counts c) f.none
-        ∙ rw (counts_then-nil p.counts, f.ending, sum, rules, f.counts) refl)
+        ∙ rw (counts_then-nil p.counts, f.ending, sum, same, f.counts) refl)
         (came_by _ _ [] _ [] x asks (rw out (err_alone a.err b.err a.out _ x said))))

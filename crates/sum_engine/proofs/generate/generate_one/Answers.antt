@@ -30,24 +30,18 @@ pub returns-in_err-put_line_flushed-in-Ok-clause-behavior :
 returns-in_err-put_line_flushed-in-Ok-clause-behavior g c =
     let stop = err_from_is_err_and c.from_residual.result c.from_residual.ensures.1 in
     let done = c.in-Some.ensures in
-    rw (stop.1, stop.2, ← c.streams.view_is) (λ flushed. generate-performed g.S.Source.state c.args.settings.now
-    c.args.tool.now c.args.name.now _ _ _ (streams_of g.I.Input.state c.streams.inside.stdin _ _ _)
-    (streams_of g.I.Input.state c.hash_name-outcome.new.stdin _ _ _) c.in-Some.outcome (Ok c.in-Ok.digest) (Err tt)
-    done.outcome
-    done.stdin_taken done.refusals c.in-Ok.ensures refl
-    (inr (Appends-nil _, (c.in_err-put_line_flushed-in-Ok.ensures.1 flushed.0).1)))
+    rw (stop.1, stop.2, ← c.streams.view_is) (λ flushed. generate-performed g.S.Source.state _ _ c.args.name.now _ _ _
+    (streams_of _ _ _ _ _) (streams_of _ _ _ _ _) _ (Ok _) (Err tt) done.outcome done.stdin_taken done.refusals
+    c.in-Ok.ensures refl (inr (Appends-nil _, (c.in_err-put_line_flushed-in-Ok.ensures.1 flushed.0).1)))
 
 -- its line was written
 pub returns-in_ok-put_line_flushed-in-Ok-clause-behavior :
     goal.returns-in_ok-put_line_flushed-in-Ok-clause-behavior
 returns-in_ok-put_line_flushed-in-Ok-clause-behavior g c =
     let done = c.in-Some.ensures in
-    rw (← c.streams.view_is) (λ flushed. generate-performed g.S.Source.state c.args.settings.now c.args.tool.now
-    c.args.name.now _ _ _ (streams_of g.I.Input.state c.streams.inside.stdin _ _ _)
-    (streams_of g.I.Input.state c.hash_name-outcome.new.stdin _ _ _) c.in-Some.outcome (Ok c.in-Ok.digest) (Ok tt)
-    done.outcome
-    done.stdin_taken done.refusals c.in-Ok.ensures refl
-    (Appends-nil _, (c.in_ok-put_line_flushed-in-Ok.ensures.1 flushed.0).1))
+    rw (← c.streams.view_is) (λ flushed. generate-performed g.S.Source.state _ _ c.args.name.now _ _ _
+    (streams_of _ _ _ _ _) (streams_of _ _ _ _ _) _ (Ok _) (Ok tt) done.outcome done.stdin_taken done.refusals
+    c.in-Ok.ensures refl (Appends-nil _, (c.in_ok-put_line_flushed-in-Ok.ensures.1 flushed.0).1))
 
 -- the name could not be opened or read, and writing the line of its fault failed
 pub returns-in_err-put_fault_line-in-Err-clause-behavior :
@@ -56,21 +50,15 @@ returns-in_err-put_fault_line-in-Err-clause-behavior g c =
     let back = c.from_residual-in_err-put_fault_line-in-Err in
     let stop = err_from_is_err_and back.result back.ensures.1 in
     let done = c.in-Some.ensures in
-    rw (stop.1, stop.2, ← c.streams.view_is) (λ flushed. generate-performed g.S.Source.state c.args.settings.now
-    c.args.tool.now c.args.name.now _ _ _ (streams_of g.I.Input.state c.streams.inside.stdin _ _ _)
-    (streams_of g.I.Input.state c.hash_name-outcome.new.stdin _ _ _) c.in-Some.outcome (Err c.in-Err.fault) (Err tt)
-    done.outcome
-    done.stdin_taken done.refusals c.in-Err.ensures refl
-    (inl ((c.in_err-put_fault_line-in-Err.ensures.1 flushed.1).1, refl)))
+    rw (stop.1, stop.2, ← c.streams.view_is) (λ flushed. generate-performed g.S.Source.state _ _ c.args.name.now _ _ _
+    (streams_of _ _ _ _ _) (streams_of _ _ _ _ _) _ (Err _) (Err tt) done.outcome done.stdin_taken done.refusals
+    c.in-Err.ensures refl (inl ((c.in_err-put_fault_line-in-Err.ensures.1 flushed.1).1, refl)))
 
 -- that line was written
 pub returns-in_ok-put_fault_line-in-Err-clause-behavior :
     goal.returns-in_ok-put_fault_line-in-Err-clause-behavior
 returns-in_ok-put_fault_line-in-Err-clause-behavior g c =
     let done = c.in-Some.ensures in
-    rw (← c.streams.view_is) (λ flushed. generate-performed g.S.Source.state c.args.settings.now c.args.tool.now
-    c.args.name.now _ _ _ (streams_of g.I.Input.state c.streams.inside.stdin _ _ _)
-    (streams_of g.I.Input.state c.hash_name-outcome.new.stdin _ _ _) c.in-Some.outcome (Err c.in-Err.fault) (Ok tt)
-    done.outcome
-    done.stdin_taken done.refusals c.in-Err.ensures refl
-    ((c.in_ok-put_fault_line-in-Err.ensures.1 flushed.1).1, Appends-nil _))
+    rw (← c.streams.view_is) (λ flushed. generate-performed g.S.Source.state _ _ c.args.name.now _ _ _
+    (streams_of _ _ _ _ _) (streams_of _ _ _ _ _) _ (Err _) (Ok tt) done.outcome done.stdin_taken done.refusals
+    c.in-Err.ensures refl ((c.in_ok-put_fault_line-in-Err.ensures.1 flushed.1).1, Appends-nil _))

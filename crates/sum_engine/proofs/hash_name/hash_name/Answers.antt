@@ -1,4 +1,4 @@
-use Rattle.std.proofs.Common.{refl, None}
+use Rattle.std.proofs.Common.{rules, refl, None}
 use Rattle.sum_engine.proofs.ReadToEndLemmas.{put_back-whole, ReadToEnd-file, UnlessBroken-map}
 use Rattle.sum_engine.proofs.hash_name.hash_name.Goals as goal
 
@@ -18,8 +18,4 @@ returns-then-is_dash-clause-read_to_end g c =
 
 -- a file was read, and closed
 pub returns-in-Ok-clause-read_to_end : goal.returns-in-Ok-clause-read_to_end
-returns-in-Ok-clause-read_to_end g c =
-    let opened = c.in-Ok.ensures.opened in
-    UnlessBroken-map c.read_digest-outcome-in-Ok.result (λ ends. ReadToEnd-file g.S.Source.state _ _
-    c.open_file.new.self _ opened.0 opened.1 c.close_file.ensures.closed (ends c.in-Ok.ensures.phase) refl refl)
-    c.read_digest-outcome-in-Ok.ensures.phase
+returns-in-Ok-clause-read_to_end g c = search (rules, ReadToEnd-file, UnlessBroken-map)

@@ -6,20 +6,7 @@ use Rattle.sum_engine.proofs.ReadToEndLemmas.{ReadToEnd-none, ReadToEnd-trans}
 use Rattle.sum_engine.proofs.check.check_one.check_lines.Goals as goal
 
 pub lines-init : goal.lines-init
-lines-init g c =
-    let first = c.args.checker.now in
-    let start = c.requires.start in
-    record {
-      comes = λ flushed. comes_none first.cursor.rules first.labels g.I.Input.state first.cursor
-          first.cursor.reader.input _ start;
-      rules = refl;
-      labels = refl;
-      going = c.requires.final_answer;
-      so_far = search rules;
-      phase = λ reading. phase-initial g.I.Input.state first.cursor start reading;
-      read_to_end = λ none. ReadToEnd-none g.S.Source.state c.args.streams.now c.args.streams.now refl refl refl refl;
-      stdin = λ from. (refl, refl);
-    }
+lines-init g c = search (rules, comes_none, phase-initial, ReadToEnd-none)
 
 -- a step stopped
 pub returns-in-Err-clause-behavior : goal.returns-in-Err-clause-behavior
@@ -53,14 +40,6 @@ returns-in-Ok-Ended-clause-read_to_end g c = λ good.
     let none = advances.files.good ended in
     let before : c.lines.checker.cursor.counts.unread ≡ 0 = omega (arith, advances.files.unread, none) in
     ReadToEnd-trans (so_far.read_to_end before) (advances.files.read_to_end (none ∙ sym before))
-
--- and was itself read to its end
-pub returns-in-Ok-Ended-clause-phase : goal.returns-in-Ok-Ended-clause-phase
-returns-in-Ok-Ended-clause-phase g c = λ good reading.
-    let so_far = c.lines.invariant in
-    let advances = c.in-Ok-Ended.ensures.advances so_far.going in
-    let ended : Ok c.in-Ok-Ended.field-0 ≡ Ok (Ended true) = rw c.in-Ok-Ended.field-0-is cc in
-    rw (advances.cursor.end ended) at (advances.cursor.phase (so_far.phase reading))
 
 pub lines-preserved : goal.lines-preserved
 lines-preserved g c =

@@ -20,8 +20,7 @@ returns-in-Err-Memory-clause-step g c =
     rw (← c.streams.view_is) (λ flushed. step_refused g.I.Input.state g.S.Source.state (cursor_value c.args.self.now)
     (cursor_value c.next_verdict.new.self) (streams_of g.J.Input.state c.streams.inside.stdin _ _ _)
     (streams_of g.J.Input.state c.next_verdict.new.stdin _ _ _) (labels_in c.args.labels.now)
-    c.next_verdict.new.line.items found refl
-    refl)
+    c.next_verdict.new.line.items found refl refl)
 
 -- the line of the manifest's fault was written
 pub returns-in_ok-put_fault_line-in-Err-Fault-clause-step :
@@ -29,11 +28,11 @@ pub returns-in_ok-put_fault_line-in-Err-Fault-clause-step :
 returns-in_ok-put_fault_line-in-Err-Fault-clause-step g c =
     let found = rw c.in-Err-Fault.field-0-is at c.in-Err-Fault.ensures.verdict in
     let written = rw c.in-Err-Fault.fault-is at c.in_ok-put_fault_line-in-Err-Fault.ensures in
-    rw (← c.streams.view_is) (step_end g.I.Input.state g.S.Source.state (cursor_value c.args.self.now)
-    (cursor_value c.next_verdict.new.self) (streams_of g.J.Input.state c.streams.inside.stdin _ _ _)
+    rw (← c.streams.view_is) (step_end g.I.Input.state g.S.Source.state _ _
+    (streams_of g.J.Input.state c.streams.inside.stdin _ _ _)
     (streams_of g.J.Input.state c.next_verdict.new.stdin _ _ _) (labels_in c.args.labels.now)
-    c.next_verdict.new.line.items
-    (Broken c.in-Err-Fault.fault) false (Ok tt) found c.in-Err-Fault.ensures.cursor.rules refl refl written)
+    c.next_verdict.new.line.items (Broken c.in-Err-Fault.fault) false (Ok tt) found c.in-Err-Fault.ensures.cursor.rules
+    refl refl written)
 
 -- it was cut off
 pub returns-in_err-put_fault_line-in-Err-Fault-clause-step :
@@ -42,21 +41,21 @@ returns-in_err-put_fault_line-in-Err-Fault-clause-step g c =
     let found = rw c.in-Err-Fault.field-0-is at c.in-Err-Fault.ensures.verdict in
     let cut = rw c.in-Err-Fault.fault-is at c.in_err-put_fault_line-in-Err-Fault.ensures in
     let stop = err_from_is_err_and c.from_residual.result c.from_residual.ensures.1 in
-    rw (stop.1, stop.2, ← c.streams.view_is) (step_end g.I.Input.state g.S.Source.state (cursor_value c.args.self.now)
-    (cursor_value c.next_verdict.new.self) (streams_of g.J.Input.state c.streams.inside.stdin _ _ _)
+    rw (stop.1, stop.2, ← c.streams.view_is) (step_end g.I.Input.state g.S.Source.state _ _
+    (streams_of g.J.Input.state c.streams.inside.stdin _ _ _)
     (streams_of g.J.Input.state c.next_verdict.new.stdin _ _ _) (labels_in c.args.labels.now)
-    c.next_verdict.new.line.items
-    (Broken c.in-Err-Fault.fault) false (Err tt) found c.in-Err-Fault.ensures.cursor.rules refl refl cut)
+    c.next_verdict.new.line.items (Broken c.in-Err-Fault.fault) false (Err tt) found c.in-Err-Fault.ensures.cursor.rules
+    refl refl cut)
 
 -- the summary was written
 pub returns-in_ok-put_summary-in-Ok-None-clause-step : goal.returns-in_ok-put_summary-in-Ok-None-clause-step
 returns-in_ok-put_summary-in-Ok-None-clause-step g c =
     let found = rw c.in-Ok-None.field-0-is at c.in-Ok-None.ensures.verdict in
-    rw (← c.streams.view_is) (step_end g.I.Input.state g.S.Source.state (cursor_value c.args.self.now)
-    (cursor_value c.next_verdict.new.self) (streams_of g.J.Input.state c.streams.inside.stdin _ _ _)
+    rw (← c.streams.view_is) (step_end g.I.Input.state g.S.Source.state _ _
+    (streams_of g.J.Input.state c.streams.inside.stdin _ _ _)
     (streams_of g.J.Input.state c.next_verdict.new.stdin _ _ _) (labels_in c.args.labels.now)
-    c.next_verdict.new.line.items Whole _
-    (Ok tt) found c.in-Ok-None.ensures.cursor.rules c.is_good.ensures refl c.in_ok-put_summary-in-Ok-None.ensures)
+    c.next_verdict.new.line.items Whole _ (Ok tt) found c.in-Ok-None.ensures.cursor.rules c.is_good.ensures refl
+    c.in_ok-put_summary-in-Ok-None.ensures)
 
 -- it was cut off
 pub returns-in_err-put_summary-in-Ok-None-clause-step : goal.returns-in_err-put_summary-in-Ok-None-clause-step
@@ -64,11 +63,11 @@ returns-in_err-put_summary-in-Ok-None-clause-step g c =
     let found = rw c.in-Ok-None.field-0-is at c.in-Ok-None.ensures.verdict in
     let back = c.from_residual-in_err-put_summary-in-Ok-None in
     let stop = err_from_is_err_and back.result back.ensures.1 in
-    rw (stop.1, stop.2, ← c.streams.view_is) (step_end g.I.Input.state g.S.Source.state (cursor_value c.args.self.now)
-    (cursor_value c.next_verdict.new.self) (streams_of g.J.Input.state c.streams.inside.stdin _ _ _)
+    rw (stop.1, stop.2, ← c.streams.view_is) (step_end g.I.Input.state g.S.Source.state _ _
+    (streams_of g.J.Input.state c.streams.inside.stdin _ _ _)
     (streams_of g.J.Input.state c.next_verdict.new.stdin _ _ _) (labels_in c.args.labels.now)
-    c.next_verdict.new.line.items Whole _
-    (Err tt) found c.in-Ok-None.ensures.cursor.rules refl refl c.in_err-put_summary-in-Ok-None.ensures)
+    c.next_verdict.new.line.items Whole _ (Err tt) found c.in-Ok-None.ensures.cursor.rules refl refl
+    c.in_err-put_summary-in-Ok-None.ensures)
 
 -- an ignored line was found, of which nothing is reported
 pub returns-in-Ignored-clause-step : goal.returns-in-Ignored-clause-step
@@ -76,10 +75,9 @@ returns-in-Ignored-clause-step g c =
     let found = rw c.in-Ok-Some.field-0-is at c.in-Ok-Some.ensures.verdict in
     rw (← c.streams.view_is) (λ flushed. step_found g.I.Input.state g.S.Source.state (cursor_value c.args.self.now)
     (cursor_value c.next_verdict.new.self) (streams_of g.J.Input.state c.streams.inside.stdin _ _ _)
-    (streams_of g.J.Input.state c.next_verdict.new.stdin _ _ _) (labels_in c.args.labels.now)
-    c.next_verdict.new.line.items
-    c.in-Ok-Some.found (Ok tt) found
-    (rw (c.in-Ignored.is, out_by-ignored present c.args.labels.now.report _) (Appends-nil _, Appends-nil _)))
+    (streams_of g.J.Input.state c.next_verdict.new.stdin _ _ _) (labels_in c.args.labels.now) _ c.in-Ok-Some.found
+    (Ok tt) found (rw (c.in-Ignored.is, out_by-ignored present c.args.labels.now.report _)
+    (Appends-nil _, Appends-nil _)))
 
 -- a line was found, and its report was written
 pub returns-in_ok-put_report-in-Ok-Some-clause-step : goal.returns-in_ok-put_report-in-Ok-Some-clause-step
@@ -89,9 +87,8 @@ returns-in_ok-put_report-in-Ok-Some-clause-step g c =
     at c.in_ok-put_report-in-Ok-Some.ensures.texts in
     rw (← c.streams.view_is) (λ flushed. step_found g.I.Input.state g.S.Source.state (cursor_value c.args.self.now)
     (cursor_value c.next_verdict.new.self) (streams_of g.J.Input.state c.streams.inside.stdin _ _ _)
-    (streams_of g.J.Input.state c.next_verdict.new.stdin _ _ _) (labels_in c.args.labels.now)
-    c.next_verdict.new.line.items
-    c.in-Ok-Some.found (Ok tt) found (texts flushed.1 flushed.0))
+    (streams_of g.J.Input.state c.next_verdict.new.stdin _ _ _) (labels_in c.args.labels.now) _ c.in-Ok-Some.found
+    (Ok tt) found (texts flushed.1 flushed.0))
 
 -- it was cut off
 pub returns-in_err-put_report-in-Ok-Some-clause-step : goal.returns-in_err-put_report-in-Ok-Some-clause-step
@@ -104,18 +101,16 @@ returns-in_err-put_report-in-Ok-Some-clause-step g c =
     rw (stop.1, stop.2, ← c.streams.view_is) (λ flushed. step_found g.I.Input.state g.S.Source.state
     (cursor_value c.args.self.now) (cursor_value c.next_verdict.new.self)
     (streams_of g.J.Input.state c.streams.inside.stdin _ _ _)
-    (streams_of g.J.Input.state c.next_verdict.new.stdin _ _ _) (labels_in c.args.labels.now)
-    c.next_verdict.new.line.items c.in-Ok-Some.found (Err tt) found (texts flushed.1 flushed.0))
+    (streams_of g.J.Input.state c.next_verdict.new.stdin _ _ _) (labels_in c.args.labels.now) _ c.in-Ok-Some.found
+    (Err tt) found (texts flushed.1 flushed.0))
 
 -- how far the line's file was read
 pub returns-in_ok-put_report-in-Ok-Some-clause-files : goal.returns-in_ok-put_report-in-Ok-Some-clause-files
 returns-in_ok-put_report-in-Ok-Some-clause-files g c =
     let found = rw c.in-Ok-Some.field-0-is at c.in-Ok-Some.ensures.read_to_end in
-    rw (← c.streams.view_is) (files-found g.S.Source.state (cursor_value c.args.self.now)
-    (cursor_value c.next_verdict.new.self) (streams_of g.J.Input.state c.streams.inside.stdin _ _ _)
-    (streams_of g.J.Input.state c.next_verdict.new.stdin _ _ _) c.in-Ok-Some.found (Ok Going)
+    rw (← c.streams.view_is) (files-found _ _ _ _ _ c.in-Ok-Some.found (Ok Going)
     (rw c.in-Ok-Some.field-0-is at c.in-Ok-Some.ensures.counts)
-    (λ read. ReadToEnd-lent g.J.Input.state g.S.Source.state _ _ _ _ _ _ _ _ (found read))
+    (λ read. ReadToEnd-lent _ _ _ _ _ _ _ _ _ _ (found read))
     (λ from. let same = c.in-Ok-Some.ensures.stdin_kept from in (ap taken same, ap (phase g.J.Input.state) same))
     (λ e. cc))
 
@@ -124,10 +119,8 @@ returns-in_err-put_report-in-Ok-Some-clause-files g c =
     let found = rw c.in-Ok-Some.field-0-is at c.in-Ok-Some.ensures.read_to_end in
     let back = c.from_residual-in_err-put_report-in-Ok-Some in
     let stop = err_from_is_err_and back.result back.ensures.1 in
-    rw (stop.1, stop.2, ← c.streams.view_is) (files-found g.S.Source.state (cursor_value c.args.self.now)
-    (cursor_value c.next_verdict.new.self) (streams_of g.J.Input.state c.streams.inside.stdin _ _ _)
-    (streams_of g.J.Input.state c.next_verdict.new.stdin _ _ _) c.in-Ok-Some.found (Err Write)
+    rw (stop.1, stop.2, ← c.streams.view_is) (files-found _ _ _ _ _ c.in-Ok-Some.found (Err Write)
     (rw c.in-Ok-Some.field-0-is at c.in-Ok-Some.ensures.counts)
-    (λ read. ReadToEnd-lent g.J.Input.state g.S.Source.state _ _ _ _ _ _ _ _ (found read))
+    (λ read. ReadToEnd-lent _ _ _ _ _ _ _ _ _ _ (found read))
     (λ from. let same = c.in-Ok-Some.ensures.stdin_kept from in (ap taken same, ap (phase g.J.Input.state) same))
     (λ e. cc))

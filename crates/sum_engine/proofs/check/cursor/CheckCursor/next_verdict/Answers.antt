@@ -1,4 +1,4 @@
-use Rattle.std.proofs.Common.{Ok, Err, refl, ap}
+use Rattle.std.proofs.Common.{rules, Ok, Err, refl, ap}
 use Rattle.sum_sources.specs.Contents.{stdin_taken}
 use Rattle.sum_sources.specs.declared.line_reader.Next.TheVariants.{Line}
 use Rattle.sum_engine.specs.check.CheckerSteps.{Going}
@@ -51,16 +51,8 @@ returns-in-None-clause-verdict g c =
 
 -- how far the manifest was read: up to a line that was judged
 pub returns-in-Some-clause-cursor : goal.returns-in-Some-clause-cursor
-returns-in-Some-clause-cursor g c =
-    let next = c.in-Ok-Line.ensures in
-    cursor-advanced g.I.Input.state (cursor_value c.args.self.now) (cursor_value c.judge_line.new.self)
-    c.next_line.new.self (Ok Line) (Ok Going) c.in-Some.ensures.cursor.reader c.in-Some.ensures.cursor.rules
-    (rw c.in-Ok-Line.field-0-is at next.reader) next.input next.bounds (λ e. refl) (λ e. cc)
+returns-in-Some-clause-cursor g c = search (rules, cursor-advanced)
 
 -- or to one whose file could not be opened
 pub returns-in-None-clause-cursor : goal.returns-in-None-clause-cursor
-returns-in-None-clause-cursor g c =
-    let next = c.in-Ok-Line.ensures in
-    cursor-advanced g.I.Input.state (cursor_value c.args.self.now) (cursor_value c.judge_line.new.self)
-    c.next_line.new.self (Ok Line) (Err Memory) c.in-None.ensures.cursor.reader c.in-None.ensures.cursor.rules
-    (rw c.in-Ok-Line.field-0-is at next.reader) next.input next.bounds (λ e. cc) (λ e. cc)
+returns-in-None-clause-cursor g c = search (rules, cursor-advanced)
