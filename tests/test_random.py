@@ -15,10 +15,11 @@ CHARACTERS = ["a", "b", "n", "r", "0", "f", "é", " ", "\t", "*", "\\", "\n", "\
 DAMAGE = [b"", b" ", b"  ", b"\t", b"\\", b"*", b"(", b")", b"=", b"#", b"\r", b"\r\r", b"\0", b"\xff", b"n", b"0",
           b"8", b"F", b"-", b"BLAKE2b-", b"MD5", b"SHA1"]
 
-WORDS = """-b -c -t -z -w -bz -cw -cq -zl -bl256 -l -l8 -l256 -é --tag --check --binary --text --zero --ignore-missing
-    --quiet --status --strict --warn --help --version --length --length=8 --len --le --l --s --st --sta --str --t --te
-    --ta --c --z --w --q --i --b --bin --v --ver --h --he --=x --foo --foo=1 --tag= --tag=1 --help=1 --\\ -- - 256 0
-    512 520 12 0256 +8 ٣ a e x folder manifest""".split() + ["", "9" * 50, "0" * 30 + "8", "-b\n", "--a\nb", "q\\\nz"]
+WORDS = """-b -c -t -z -w -bz -cw -cq -zl -bl256 -l -l8 -l256 -é --length --length=8 --len --le --l --s --st --sta --str
+    --t --te --ta --c --z --w --q --i --b --bin --v --ver --h --he --=x --foo --foo=1 --tag= --tag=1 --help=1 --\\ --
+    - 256 0 512 520 12 0256 +8 ٣ a e x folder manifest""".split()
+WORDS += [f"--{name}" for name in reference_words.NAMES]
+WORDS += ["", "9" * 50, "0" * 30 + "8", "-b\n", "--a\nb", "q\\\nz"]
 WORDS += ["\udcff", "r\udce9\n", "-\udcff"]  # which aren't UTF-8
 
 

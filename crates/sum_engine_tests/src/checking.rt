@@ -7,13 +7,10 @@ use sum_engine::{CheckSettings, Report, Streams, check_one};
 use sum_lines::ToldSink;
 use sum_sources::{Answer, Ending, Fault, NoRoom, Stdin, Told, ToldSource};
 
-/// The plain check of MD5 digests, as `CheckSettings::new` gives it.
-pub(crate) const CHECK: CheckSettings = CheckSettings {
-    algo: Algos::One(Algo::Md5),
-    report: Report::All,
-    strict: false,
-    ignore_missing: false,
-};
+/// The plain check of MD5 digests.
+pub(crate) fn plain() -> CheckSettings {
+    CheckSettings::new(Algos::One(Algo::Md5))
+}
 
 /// A manifest of which each line has another verdict.
 pub(crate) const ALL: &[u8] = b"900150983cd24fb0d6963f7d28e17f72  a\n\
@@ -91,7 +88,7 @@ fn md5sum_checks(
     l: &[u8],
     want: (bool, &str, &str),
 ) -> Result<(), Fail> {
-    checks(rt, ("md5sum", CHECK), b"l", l, Ending::Whole, want)
+    checks(rt, ("md5sum", plain()), b"l", l, Ending::Whole, want)
 }
 
 #[test]
@@ -102,7 +99,7 @@ fn all_verdicts(rt: HostRuntime) -> Result<(), Fail> {
         md5sum: WARNING: 1 computed checksum did NOT match\n";
     let out = "a: OK\nx: FAILED open or read\ne: FAILED\n";
     md5sum_checks(&rt, ALL, (false, out, warnings))?;
-    let mut settings = CHECK;
+    let mut settings = plain();
     settings.report = Report::Quiet;
     let want = (false, "x: FAILED open or read\ne: FAILED\n", warnings);
     checks(&rt, ("md5sum", settings), b"l", ALL, Ending::Whole, want)?;
@@ -111,16 +108,11 @@ fn all_verdicts(rt: HostRuntime) -> Result<(), Fail> {
     checks(&rt, ("md5sum", settings), b"l", ALL, Ending::Whole, want)
 }
 
-#[test]
-fn plain_check(rt: HostRuntime) {
-    assert!(rt; CheckSettings::new(Algos::One(Algo::Md5)) == CHECK);
-}
-
 // The manifest and each name that a line lists, and no name of a line that is ignored or bad.
 #[test]
 fn names_asked(rt: HostRuntime) -> Result<(), Fail> {
     let mut streams = told(b"", files(rt.alloc(), 8192, ALL, Ending::Whole)?);
-    assert!(rt; check_one(rt.alloc(), CHECK, "md5sum", b"l", &mut streams) == Ok(false));
+    assert!(rt; check_one(rt.alloc(), plain(), "md5sum", b"l", &mut streams) == Ok(false));
     for (i, name) in ["l", "a", "x", "e"].iter().enumerate() {
         assert_eq!(rt;
             streams.source.asked_name(i).ok_or("not asked")?,
@@ -133,7 +125,7 @@ fn names_asked(rt: HostRuntime) -> Result<(), Fail> {
 
 #[test]
 fn ignore_missing(rt: HostRuntime) -> Result<(), Fail> {
-    let mut settings = CHECK;
+    let mut settings = plain();
     settings.ignore_missing = true;
     let l2 = b"900150983cd24fb0d6963f7d28e17f72  x\n";
     let want = (false, "", "md5sum: l: no file was verified\n");
@@ -152,9 +144,9 @@ fn manifest_fails(rt: HostRuntime) -> Result<(), Fail> {
     let l4 = b"900150983cd24fb0d6963f7d28e17f72  a\n900150983cd24fb0d6963f7d28e17f72  a";
     let ending = Ending::Broken(Fault::Other);
     let want = (false, "a: OK\n", "md5sum: l: Input/output error\n");
-    checks(&rt, ("md5sum", CHECK), b"l", l4, ending, want)?;
+    checks(&rt, ("md5sum", plain()), b"l", l4, ending, want)?;
     let want = (false, "", "md5sum: x: No such file or directory\n");
-    checks(&rt, ("md5sum", CHECK), b"x", b"", Ending::Whole, want)
+    checks(&rt, ("md5sum", plain()), b"x", b"", Ending::Whole, want)
 }
 
 #[test]
@@ -163,7 +155,7 @@ fn stdin_listed(rt: HostRuntime) -> Result<(), Fail> {
     md5sum_checks(&rt, l5, (true, "-: OK\n", ""))?;
     let err = "md5sum: standard input: no properly formatted checksum lines found\n";
     let want = (false, "", err);
-    checks(&rt, ("md5sum", CHECK), b"-", l5, Ending::Whole, want)
+    checks(&rt, ("md5sum", plain()), b"-", l5, Ending::Whole, want)
 }
 
 #[test]
@@ -182,7 +174,7 @@ fn checks_twice(
     for piece in [1, 100, 8192] {
         let mut streams = told(b"abc", files(rt.alloc(), piece, l, Ending::Whole)?);
         for want in good {
-            let found = check_one(rt.alloc(), CHECK, "md5sum", b"l", &mut streams);
+            let found = check_one(rt.alloc(), plain(), "md5sum", b"l", &mut streams);
             assert!(rt; found == Ok(want));
         }
         assert_eq!(rt; streams.out.bytes(), out.as_bytes());
@@ -207,7 +199,7 @@ fn one_after_another(rt: HostRuntime) -> Result<(), Fail> {
 
 #[test]
 fn nothing_to_check(rt: HostRuntime) -> Result<(), Fail> {
-    let mut settings = CHECK;
+    let mut settings = plain();
     for report in [Report::All, Report::Status] {
         settings.report = report;
         let err = "md5sum: e: no properly formatted checksum lines found\n";
@@ -246,7 +238,7 @@ fn forms(rt: HostRuntime) -> Result<(), Fail> {
         md5sum: WARNING: 1 listed file could not be read\n";
     md5sum_checks(&rt, reversed, (false, out, err))?;
     let standard = b"900150983cd24fb0d6963f7d28e17f72  a\n900150983cd24fb0d6963f7d28e17f72 a\n";
-    let mut settings = CHECK;
+    let mut settings = plain();
     for strict in [false, true] {
         settings.strict = strict;
         let err = "md5sum: WARNING: 1 line is improperly formatted\n";
@@ -281,7 +273,7 @@ fn escaped_names(rt: HostRuntime) -> Result<(), Fail> {
 #[test]
 fn returns_and_empty_lines(rt: HostRuntime) -> Result<(), Fail> {
     let l11 = b"900150983cd24fb0d6963f7d28e17f72  a\r\n\n\r\njunk\r\n";
-    let mut settings = CHECK;
+    let mut settings = plain();
     settings.report = Report::Warn;
     let err = "md5sum: l: 4: improperly formatted MD5 checksum line\n\
         md5sum: WARNING: 1 line is improperly formatted\n";
@@ -299,7 +291,7 @@ fn blake2b(rt: HostRuntime) -> Result<(), Fail> {
         BLAKE2b-256 (e) = 0e5751c026e543b2e8ab2eb06099daa1d1e5df47778f7787faab45cdf12fe3a8\n\
         0e5 e\n\
         BLAKE2b-256 (e) = 0e5751c026e543b2e8ab2eb06099daa1d1e5df47778f7787faab45cdf12fe3\n";
-    let mut settings = CHECK;
+    let mut settings = plain();
     settings.algo = Algos::One(Algo::Blake2b);
     let err = "b2sum: WARNING: 2 lines are improperly formatted\n";
     let want = (true, "e: OK\ne: OK\n", err);
@@ -314,7 +306,7 @@ fn mixed_tags(rt: HostRuntime) -> Result<(), Fail> {
         900150983cd24fb0d6963f7d28e17f72  a\n\
         SHA256 (e) = d41d8cd98f00b204e9800998ecf8427e\n";
     let out = "a: OK\na: OK\ne: OK\n";
-    let mut settings = CHECK;
+    let mut settings = plain();
     settings.algo = Algos::Any;
     for strict in [false, true] {
         settings.strict = strict;

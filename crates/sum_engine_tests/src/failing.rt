@@ -1,5 +1,5 @@
 //! One read that fails, after which all files go on: of a file that is hashed, of a manifest, of a file that it lists.
-use crate::checking::{CHECK, files};
+use crate::checking::{files, plain};
 use digest_kinds::{Algo, Kind};
 use std::alloc::Global;
 use std::cell::Cell;
@@ -168,7 +168,7 @@ fn checking(rt: HostRuntime) -> Result<(), Fail> {
         ] {
             let count = Cell::new(before);
             let mut streams = stage(rt.alloc(), MANIFEST, 36, &count)?;
-            let good = check_one(rt.alloc(), CHECK, "md5sum", name.as_bytes(), &mut streams);
+            let good = check_one(rt.alloc(), plain(), "md5sum", name.as_bytes(), &mut streams);
             assert!(rt; good == Ok(before == 6), "{name} at {before}");
             assert_eq!(rt; streams.out.bytes(), row.out.as_bytes());
             let err = row.err.replace(rt.alloc(), "md5sum: l:", shown)?;
@@ -185,7 +185,7 @@ fn step_by_step(rt: HostRuntime) -> Result<(), Fail> {
         let count = Cell::new(before);
         let mut streams = stage(rt.alloc(), b"", 36, &count)?;
         let input = streams.source.open_file(b"l").ok().ok_or("l")?;
-        let mut checker = Checker::new(CHECK, "md5sum", b"l", false, input);
+        let mut checker = Checker::new(plain(), "md5sum", b"l", false, input);
         let mut line = Vec::new(rt.alloc());
         for _ in row.verdicts {
             assert!(rt;
@@ -217,7 +217,7 @@ fn finding(rt: HostRuntime) -> Result<(), Fail> {
         let streams = stage(rt.alloc(), b"", 36, &count)?;
         let (mut stdin, mut source) = (streams.stdin, streams.source);
         let input = source.open_file(b"l").ok().ok_or("l")?;
-        let mut finds = Verdicts::new(CHECK, false, input);
+        let mut finds = Verdicts::new(plain(), false, input);
         let mut line = Vec::new(rt.alloc());
         for verdict in row.verdicts {
             let found = finds.next(&mut line, &mut stdin, &mut source)?;

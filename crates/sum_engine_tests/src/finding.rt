@@ -1,5 +1,5 @@
 //! `Verdicts`.
-use crate::checking::{ALL, CHECK, files};
+use crate::checking::{ALL, files, plain};
 use crate::hashing::Refusing;
 use linked_list_allocator::LocalHeap;
 use std::process::Abort;
@@ -41,7 +41,7 @@ fn all_verdicts(rt: HostRuntime) -> Result<(), Fail> {
         (Verdict::Wrong, b"e"),
     ];
     for piece in [1, 100, 8192] {
-        let verdicts = Verdicts::new(CHECK, false, Told::new(ALL, Ending::Whole, piece));
+        let verdicts = Verdicts::new(plain(), false, Told::new(ALL, Ending::Whole, piece));
         finds(&rt, verdicts, &lines, (Ok(None), false))?;
     }
     Ok(())
@@ -49,7 +49,7 @@ fn all_verdicts(rt: HostRuntime) -> Result<(), Fail> {
 
 #[test]
 fn missing_and_right(rt: HostRuntime) -> Result<(), Fail> {
-    let mut settings = CHECK;
+    let mut settings = plain();
     settings.ignore_missing = true;
     let manifest = b"900150983cd24fb0d6963f7d28e17f72  x\n900150983cd24fb0d6963f7d28e17f72  a\n";
     let lines = [(Verdict::Missing, b"x".as_slice()), (Verdict::Right, b"a")];
@@ -62,7 +62,7 @@ fn missing_and_right(rt: HostRuntime) -> Result<(), Fail> {
 fn stdin_listed(rt: HostRuntime) -> Result<(), Fail> {
     let manifest = b"900150983cd24fb0d6963f7d28e17f72  -\n";
     for (from_stdin, verdict) in [(false, Verdict::Right), (true, Verdict::Bad)] {
-        let verdicts = Verdicts::new(CHECK, from_stdin, Told::new(manifest, Ending::Whole, 7));
+        let verdicts = Verdicts::new(plain(), from_stdin, Told::new(manifest, Ending::Whole, 7));
         let lines = [(verdict, b"-".as_slice())];
         finds(&rt, verdicts, &lines, (Ok(None), !from_stdin))?;
     }
@@ -74,7 +74,7 @@ fn stdin_listed(rt: HostRuntime) -> Result<(), Fail> {
 fn broken_manifest(rt: HostRuntime) -> Result<(), Fail> {
     let manifest = b"900150983cd24fb0d6963f7d28e17f72  a\n900150983cd24fb0d6963f7d28e17f72  a";
     let ending = Ending::Broken(Fault::Denied);
-    let verdicts = Verdicts::new(CHECK, false, Told::new(manifest, ending, 7));
+    let verdicts = Verdicts::new(plain(), false, Told::new(manifest, ending, 7));
     let lines = [(Verdict::Right, b"a".as_slice())];
     finds(
         &rt,
@@ -90,7 +90,7 @@ fn no_memory_to_open(rt: HostRuntime) {
         Stdin::new(Told::new(b"", Ending::Whole, 1)),
         Refusing::new(),
     );
-    let mut verdicts = Verdicts::new(CHECK, false, Told::new(ALL, Ending::Whole, 8192));
+    let mut verdicts = Verdicts::new(plain(), false, Told::new(ALL, Ending::Whole, 8192));
     let mut line = Vec::new(rt.alloc());
     for _ in 0..3 {
         let found = verdicts.next(&mut line, &mut stdin, &mut source);
@@ -111,7 +111,7 @@ fn no_memory_for_a_line(rt: HostRuntime) -> Result<(), Fail> {
     let mut stdin = Stdin::new(Told::new(b"", Ending::Whole, 1));
     let mut source = files(rt.alloc(), 8192, b"", Ending::Whole)?;
     let input = Told::new(&manifest, Ending::Whole, 8192);
-    let mut verdicts = Verdicts::new(CHECK, false, input);
+    let mut verdicts = Verdicts::new(plain(), false, input);
     let heap = LocalHeap::new(rt.alloc(), 256)?;
     let mut line = Vec::new(&heap);
     let first = verdicts.next(&mut line, &mut stdin, &mut source)?;

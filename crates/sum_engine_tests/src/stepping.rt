@@ -1,5 +1,5 @@
 //! `Checker::step`.
-use crate::checking::{ALL, CHECK, files, told};
+use crate::checking::{ALL, files, plain, told};
 use crate::hashing::Refusing;
 use linked_list_allocator::LocalHeap;
 use std::test::Fail;
@@ -11,7 +11,7 @@ fn step_by_step(rt: HostRuntime) -> Result<(), Fail> {
     let source = files(rt.alloc(), 8192, ALL, Ending::Whole)?;
     let mut streams = told(b"", source);
     let manifest = Told::new(ALL, Ending::Whole, 8192);
-    let mut checker = Checker::new(CHECK, "md5sum", b"l", false, manifest);
+    let mut checker = Checker::new(plain(), "md5sum", b"l", false, manifest);
     let mut line = Vec::new(rt.alloc());
     let after = [
         "a: OK\n",
@@ -48,7 +48,7 @@ fn reads_no_further(rt: HostRuntime) -> Result<(), Fail> {
     let source = files(rt.alloc(), 8192, b"", Ending::Whole)?;
     let mut streams = told(b"", source);
     let input = Told::new(&manifest, Ending::Whole, 8192);
-    let mut checker = Checker::new(CHECK, "md5sum", b"l", false, input);
+    let mut checker = Checker::new(plain(), "md5sum", b"l", false, input);
     let mut line = Vec::new(rt.alloc());
     for number in 1..=3 {
         assert!(rt; checker.step(&mut line, &mut streams) == Ok(Progress::Going));
@@ -63,7 +63,7 @@ fn stops_for_good(rt: HostRuntime) {
     let source = Refusing::new();
     let mut streams = told(b"", source);
     let mut checker = Checker::new(
-        CHECK,
+        plain(),
         "md5sum",
         b"l",
         false,
@@ -88,7 +88,7 @@ fn memory_refused(rt: HostRuntime) -> Result<(), Fail> {
     let source = files(rt.alloc(), 8192, b"", Ending::Whole)?;
     let mut streams = told(b"", source);
     let input = Told::new(&manifest, Ending::Whole, 8192);
-    let mut checker = Checker::new(CHECK, "md5sum", b"l3", false, input);
+    let mut checker = Checker::new(plain(), "md5sum", b"l3", false, input);
     let heap = LocalHeap::new(rt.alloc(), 256)?;
     let mut line = Vec::new(&heap);
     assert!(rt; checker.step(&mut line, &mut streams) == Ok(Progress::Going));

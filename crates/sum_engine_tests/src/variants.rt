@@ -1,5 +1,4 @@
 //! The variants and fields that callers name. Each match has an arm for each variant, and no other arm.
-use crate::checking::CHECK;
 use digest_kinds::{Algo, Algos, Kind};
 use sum_engine::{CheckSettings, LineVerdict, Progress, Report, Settings, Stop, Verdict};
 use sum_lines::{Mode, Style};
@@ -60,7 +59,7 @@ fn settings(rt: HostRuntime) {
         report,
         strict,
         ignore_missing,
-    } = CHECK;
+    } = CheckSettings::new(Algos::One(Algo::Md5));
     assert!(rt; algo == Algos::One(Algo::Md5));
     assert_eq!(rt; name_of_report(report), "all");
     assert!(rt; !strict && !ignore_missing);

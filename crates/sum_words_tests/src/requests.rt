@@ -83,20 +83,14 @@ fn assert_checks(
 
 #[test]
 fn settings_of_checking(rt: HostRuntime) -> Result<(), Fail> {
-    let all = CheckSettings {
-        algo: Algos::One(Algo::Md5),
-        report: Report::Warn,
-        strict: true,
-        ignore_missing: true,
-    };
+    let mut all = CheckSettings::new(Algos::One(Algo::Md5));
+    all.report = Report::Warn;
+    all.strict = true;
+    all.ignore_missing = true;
     let line = "-c --ignore-missing -w --strict l";
     assert_checks(&rt, (Tool::Md5sum, line), all, &[b"l"])?;
-    let last = CheckSettings {
-        algo: Algos::Any,
-        report: Report::Status,
-        strict: false,
-        ignore_missing: false,
-    };
+    let mut last = CheckSettings::new(Algos::Any);
+    last.report = Report::Status;
     let line = "--quiet --check --status - m";
     assert_checks(&rt, (Tool::Anysum, line), last, &[b"-", b"m"])
 }

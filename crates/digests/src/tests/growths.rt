@@ -8,7 +8,7 @@ use digest_kinds::{Algo, Algos};
 use std::alloc::{Allocator, Global};
 use std::process::Abort;
 use std::test::Fail;
-use sum_engine::{CheckSettings, Checker, Progress, Report, Stop};
+use sum_engine::{CheckSettings, Checker, Progress, Stop};
 use sum_sources::{Ending, Told, ToldSource};
 
 // A line of each verdict: right, a comment, bad, missing, wrong. Each name has 8 bytes.
@@ -226,13 +226,6 @@ fn long_line_refused(rt: HostRuntime) -> Result<(), Fail> {
     assert_each_growth(&rt, manifest.as_str(), &names, &places, row)
 }
 
-const CHECK: CheckSettings = CheckSettings {
-    algo: Algos::One(Algo::Md5),
-    report: Report::All,
-    strict: false,
-    ignore_missing: false,
-};
-
 // Where a checker of all verdicts stands after so many lines, and after the end.
 const AFTER_STEPS: [Place<'static>; 7] = [
     ("", "", 0),
@@ -253,7 +246,8 @@ type Reached = (usize, Result<Progress, Stop>);
 // A checker of a manifest `list.md5`, and a step of it. They have no contracts, so that the proofs of their callers are
 // spared those of `new` and `step`.
 fn checker_of<'a>(manifest: Told<'a>) -> Checker<'static, Told<'a>> {
-    Checker::new(CHECK, "md5sum", b"list.md5", false, manifest)
+    let settings = CheckSettings::new(Algos::One(Algo::Md5));
+    Checker::new(settings, "md5sum", b"list.md5", false, manifest)
 }
 
 fn step<'b>(
