@@ -7,7 +7,7 @@ use Rattle.std.proofs.lemmas.List.{get_or-take, length-take}
 use Rattle.std.proofs.lemmas.List.Sums.{passes_at_first, position_or_len_is}
 use Rattle.memchr.specs.Find.{IsFirstByte, is_byte2}
 use Rattle.sum_lines.specs.grammar.Shapes.{Algo, is_blank, Algos, One}
-use Rattle.sum_lines.specs.grammar.LineParts.{after_while, mark_and_rest, plain_parts, tag_in, tagged_parts}
+use Rattle.sum_lines.specs.grammar.LineParts.{plain_parts, tag_in, tagged_parts}
 use Rattle.sum_lines.proofs.PlainLemmas.{cut-within, no_prefix, plain-digits, plain-prefix, read_is_plain}
 use Rattle.sum_lines.proofs.ScanLemmas.{decoded-size, decoded-digits}
 use Rattle.std.proofs.lemmas.List.Elements.{All-get_or}
@@ -20,17 +20,13 @@ use Rattle.hex.proofs.HexLemmas.{decode_of-ok}
 use Rattle.digest_kinds.specs.Kinds.{KindValue, full_len, has_len, tag, IsDigits}
 use Rattle.digest_kinds.specs.declared.algo.Algo.TheVariants.{Blake2b}
 use Rattle.sum_lines.specs.refinement.Beginnings.{Cut, EndsAt, EndsDigits, LeadsTo}
-use Rattle.sum_lines.proofs.PrefixLemmas.{none_of}
+use Rattle.sum_lines.proofs.PrefixLemmas.{none_of, text}
 use Rattle.sum_lines.proofs.TaggedLemmas.{hex-no_blank, tag_in-some}
 use Rattle.sum_lines.specs.declared.reading.beginnings.Beginning.TheVariants as beginnings
 
 -- a cut has two digits for each byte of its digest, and so few that the search meets its blank
 cut-size : {a : Algo} {s d : List ℕ} → Cut a s d → (position_or_len is_blank s ≡ 2 * length d) × (length d ≤ 64)
 cut-size cut = search (rules, cut-within, decoded-size)
-
--- a line's backslash, if it has one, and what follows
-abbrev pub text : List ℕ → Bool × List ℕ
-text line = mark_and_rest (after_while is_blank line)
 
 -- ---- the tag
 
@@ -64,7 +60,7 @@ tag-within {a} s is h = let found = tag_in-some {algos = One a} {s = s} h in rw 
 
 -- ---- the blank after the digits
 
--- so its digits are as many
+-- an algorithm other than BLAKE2b has digests of one length, so a line's digits are as many
 pub fixed-len : (a : Algo) (s : List ℕ) (n : ℕ) → (a ≡ Blake2b → ⊥) → n ≡ 2 * full_len a → EndsAt a s n
 fixed-len a s n other is = grind (arith, cut-size)
 

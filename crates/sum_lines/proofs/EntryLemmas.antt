@@ -1,10 +1,10 @@
 -- The parts of entries, and the one form of a list of lines.
 use Rattle.std.proofs.lemmas.Grind.{common_steps}
-use Rattle.std.proofs.Common.{ℕ, ◌≡◌, Bool, true, false, cond, List, [], ◌∷◌, ◌++◌, Option, None, Some, refl, sym, ◌∙◌, ◌⊎◌, inl, inr, arith}
+use Rattle.std.proofs.Common.{ℕ, ◌≡◌, Bool, true, false, List, [], ◌∷◌, ◌++◌, Option, None, Some, refl, sym, ◌∙◌, ◌⊎◌, inl, inr, arith}
 use Rattle.std.specs.List.{AllPass}
 use Rattle.digest_kinds.specs.Kinds.{KindValue}
 use Rattle.sum_lines.specs.grammar.Shapes.{Algos, is_blank, mark, Plain, Tagged}
-use Rattle.sum_lines.specs.grammar.Entries.{Form, Undecided, Standard, Reversed, is_ignored, begins_standard, DecidesForm, IsForm, EntryValue, ByTag, ByTail, form_then, line_form, form}
+use Rattle.sum_lines.specs.grammar.Entries.{Form, Undecided, is_ignored, DecidesForm, IsForm, EntryValue, ByTag, ByTail, form_then, line_form, form}
 use Rattle.sum_lines.specs.grammar.LineParts.{LinePartsValue, plain_parts}
 use Rattle.sum_lines.specs.grammar.LineLaws.{OneForm}
 use Rattle.sum_lines.proofs.PrefixLemmas.{none_of}
@@ -25,10 +25,6 @@ tail_parts {s = s} by = record { escaped = by.escaped; kind = s.kind; digest = s
 
 -- ---- one form
 
--- a form that a plain line gives stays
-keeps : (b : Bool) (g : Form) → form_then (cond b Standard Reversed) g ≡ cond b Standard Reversed
-keeps b g = grind arith
-
 -- the parts of a line that decides
 abbrev decided_parts : {algos : Algos} {line : List ℕ} {f : Form} → DecidesForm algos line f → LinePartsValue
 decided_parts d = record { escaped = d.escaped; kind = d.kind; digest = d.digest; text = d.tail }
@@ -37,9 +33,9 @@ decided_parts d = record { escaped = d.escaped; kind = d.kind; digest = d.digest
 pub decides-form : {algos : Algos} {line : List ℕ} {f : Form} → DecidesForm algos line f
     → (line_form algos line ≡ f) × ((g : Form) → form_then f g ≡ f)
 decides-form {algos} {line} d =
-    (rw (plain_is_read (decided_parts d) d.plain) (sym d.is), λ g. rw d.is (keeps (begins_standard d.tail) g))
+    (rw (plain_is_read (decided_parts d) d.plain) (sym d.is), λ g. rw d.is (grind arith))
 
--- also after blanks
+-- a line of either shape isn't ignored
 speaks : (blanks : List ℕ) (e : Bool) (xs rest : List ℕ) → AllPass is_blank blanks → Begins xs
     → is_ignored (blanks ++ (mark e ++ (xs ++ rest))) ≡ false
 speaks blanks e xs rest all b = grind (arith, common_steps)

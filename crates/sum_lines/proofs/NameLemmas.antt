@@ -39,7 +39,7 @@ range-more xs i j lt =
     let sum : j - i ≡ 1 + (j - (i + 1)) = omega arith in
     rw (sum, drop-take 1 (j - (i + 1)) (drop i xs), drop-drop 1 i xs) refl
 
--- so its raw name begins one place further on
+-- the raw name begins one place further on
 pub raw_standard : (line : List ℕ) (p : LineParts) → begins_standard (line_parts line p).text ≡ true
     → with_raw Standard (line_parts line p) ≡ Some (line_parts line (record p { start = p.start + 1 }))
 raw_standard line p h = grind (arith, range-more)

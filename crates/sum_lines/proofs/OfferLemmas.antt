@@ -1,6 +1,6 @@
 -- What was offered of a text, piece by piece, while it was written.
 use Rattle.std.proofs.lemmas.Grind.{common_steps}
-use Rattle.std.proofs.Common.{ℕ, ◌≡◌, ◌<◌, ◌≤◌, List, [], ◌∷◌, ◌++◌, length, take, drop, Option, refl, sym, append_assoc, take-append-drop, length-append, length-take, arith}
+use Rattle.std.proofs.Common.{ℕ, ◌≡◌, ◌<◌, ◌≤◌, List, [], ◌∷◌, ◌++◌, length, take, drop, Option, refl, sym, append_assoc, take-append-drop, length-take, arith}
 use Rattle.sum_lines.specs.sinks.Sinks.{Offers, IsRest, AreRests, InOnePiece, OffersWhole}
 
 -- the pieces were offered one after another, each as what was left of the one before, and this rest is left of the last

@@ -1,13 +1,13 @@
 -- How a line parses, as it is computed, is what the line grammar says of it.
-use Rattle.std.proofs.Common.{◌≡◌, ℕ, Bool, true, false, List, Option, None, Some, refl, ap, sym, ◌∙◌, inl, inr, cond, arith}
-use Rattle.std.specs.Option.{option_or, option_map_or}
+use Rattle.std.proofs.Common.{◌≡◌, ℕ, Bool, false, List, Option, None, Some, refl, ap, sym, ◌∙◌, inl, inr, arith}
+use Rattle.std.specs.Option.{option_or}
 use Rattle.std.proofs.lemmas.Option.{same_Some}
 use Rattle.digest_kinds.specs.Kinds.{KindValue}
 use Rattle.sum_lines.specs.grammar.Shapes.{Algos, Plain}
 use Rattle.sum_lines.specs.grammar.Entries.{Form, Undecided, Standard, Reversed, EntryValue, IsEntry, RawOf, is_ignored_by}
 use Rattle.sum_lines.specs.Escape.{Profile, present, escape_by}
 use Rattle.sum_lines.specs.grammar.LineParts.{◌>>=◌, LinePartsValue, tagged_parts, plain_parts}
-use Rattle.sum_lines.specs.grammar.ParsedLines.{with_raw, entry_of_parts, entry_of, ParsedLine, ignored, bad, entry, parse_line}
+use Rattle.sum_lines.specs.grammar.ParsedLines.{with_raw, entry_of_parts, entry_of, ParsedLine, parse_line}
 use Rattle.sum_lines.specs.grammar.LineLaws.{OneEntry, ParseMatches, ParseIsGrammar}
 use Rattle.sum_lines.proofs.PrefixLemmas.{bind_some, none_of}
 use Rattle.sum_lines.proofs.PlainLemmas.{apart, plain_is_read, read_is_plain}
@@ -98,34 +98,20 @@ one_entry algos f line s t p q =
 
 -- ---- what a line says
 
--- a line that parses as ignored is ignored
-parsed-ignored : (skipped : Bool) (o : Option EntryValue)
-    → cond skipped ignored (option_map_or entry o bad) ≡ ignored → skipped ≡ true
-parsed-ignored skipped o h = grind arith
-
--- one that parses as an entry has it
-parsed-entry : (skipped : Bool) (o : Option EntryValue) (s : EntryValue)
-    → cond skipped ignored (option_map_or entry o bad) ≡ entry s → (skipped ≡ false) × (o ≡ Some s)
-parsed-entry skipped o s h = grind arith
-
--- one that parses as bad has none
-parsed-bad : (skipped : Bool) (o : Option EntryValue)
-    → cond skipped ignored (option_map_or entry o bad) ≡ bad → (skipped ≡ false) × (o ≡ None)
-parsed-bad skipped o h = grind arith
-
 -- what is computed is what the grammar says, whichever the profile
 pub parse_is_grammar : ParseIsGrammar
 parse_is_grammar p algos f line =
     let skipped = is_ignored_by p line in
     let found = entry_of p algos f line in
     record {
-      when_ignored = (parsed-ignored skipped found, λ h. rw h refl);
+      when_ignored = (λ h. grind arith, λ h. rw h refl);
       when_entry = λ s. (
-        λ h. let said = parsed-entry skipped found s h in (said.0, value_entry p algos f line s said.1),
+        λ h. let said : (skipped ≡ false) × (found ≡ Some s) = grind arith in
+            (said.0, value_entry p algos f line s said.1),
         λ h. rw (h.0, entry_value p algos f line s h.1) refl,
       );
       when_bad = (
-        λ h. let said = parsed-bad skipped found h in
+        λ h. let said : (skipped ≡ false) × (found ≡ None) = grind arith in
             (said.0, λ s e. let wrong = sym said.1 ∙ entry_value p algos f line s e in cc),
         λ h. rw (h.0, ← none_of found (λ s e. h.1 s (value_entry p algos f line s e))) refl,
       );

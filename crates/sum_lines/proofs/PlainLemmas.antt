@@ -10,9 +10,9 @@ use Rattle.hex.specs.Hex.{decode_of, is_hex_digit}
 use Rattle.hex.proofs.HexLemmas.{decode_of-ok}
 use Rattle.digest_kinds.specs.Kinds.{KindValue, tag}
 use Rattle.sum_lines.specs.grammar.Shapes.{Algo, Algos, One, Any, is_blank, Plain, Tagged}
-use Rattle.sum_lines.specs.grammar.LineParts.{LinePartsValue, after_while, mark_and_rest, plain_parts}
+use Rattle.sum_lines.specs.grammar.LineParts.{LinePartsValue, after_while, plain_parts}
 use Rattle.sum_lines.specs.refinement.Beginnings.{Cut}
-use Rattle.sum_lines.proofs.PrefixLemmas.{prefix_passes, prefix-and-rest, prefix_len-stop, rest-seam, mark_and_rest-is}
+use Rattle.sum_lines.proofs.PrefixLemmas.{text, prefix_passes, prefix-and-rest, prefix_len-stop, rest-seam, mark_and_rest-is}
 use Rattle.sum_lines.proofs.TaggedLemmas.{Begins, begins-by, passes-other, after_tag, hex-no_blank, tagged-prefix, mark_and_rest-prefix}
 
 -- the parts are those of a plain line
@@ -23,14 +23,14 @@ IsPlain algos line p = Plain algos line p.escaped p.kind p.digest p.text
 
 -- what is read is such a cut
 plain_parts-some : {a : Algo} (line : List ℕ) {p : LinePartsValue} → plain_parts (One a) line ≡ Some p
-    → let t = mark_and_rest (after_while is_blank line) in let tail = after_first is_blank t.1 in
+    → let t = text line in let tail = after_first is_blank t.1 in
     (d : List ℕ) × Cut a t.1 d
     × (record { escaped = t.0; kind = record { algo = a; len = length d }; digest = d; text = tail } ≡ p)
 unfolding plain_parts
 plain_parts-some line h = grind arith
 
 -- without a cut no line is plain
-pub uncut : {a : Algo} (line : List ℕ) → ((d : List ℕ) → ¬ Cut a (mark_and_rest (after_while is_blank line)).1 d)
+pub uncut : {a : Algo} (line : List ℕ) → ((d : List ℕ) → ¬ Cut a (text line).1 d)
     → None ≡ plain_parts (One a) line
 uncut line none = grind (arith, plain_parts-some)
 
@@ -43,7 +43,7 @@ pub read_is_plain : {algos : Algos} {line : List ℕ} {p : LinePartsValue} → p
     → IsPlain algos line p
 unfolding plain_parts
 read_is_plain {algos = One a} {line} {p} h =
-    let s : List ℕ = (mark_and_rest (after_while is_blank line)).1 in
+    let s : List ℕ = (text line).1 in
     let read = plain_parts-some line h in
     let cut = read.1 in
     let within = cut-within cut in
@@ -101,7 +101,7 @@ module _ {algos : Algos} {line : List ℕ} {e : Bool} {kind : KindValue} {d tail
   plain-digits = search (rules, digits-of)
 
   -- its blanks and its backslash are passed over
-  pub plain-prefix : mark_and_rest (after_while is_blank line) ≡ (e, t.digits ++ (t.blank ∷ tail))
+  pub plain-prefix : text line ≡ (e, t.digits ++ (t.blank ∷ tail))
   plain-prefix = grind (arith, plain-digits, mark_and_rest-prefix)
 
 -- so the line is read as its parts

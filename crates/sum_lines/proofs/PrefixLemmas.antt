@@ -13,7 +13,7 @@ use Rattle.std.proofs.lemmas.List.Elements.{All-cons, All-get_or, All-head, All-
 use Rattle.std.proofs.lemmas.Option.{same_Some}
 use Rattle.std.proofs.lemmas.Slice.Eq.{starts_is}
 use Rattle.sum_lines.specs.grammar.LineParts.{◌>>=◌, after_while, strip_prefix, mark_and_rest}
-use Rattle.sum_lines.specs.grammar.Shapes.{mark, optional}
+use Rattle.sum_lines.specs.grammar.Shapes.{is_blank, mark, optional}
 use Rattle.std.proofs.lemmas.Grind.{common_steps}
 
 -- a step that gives something had something to go on with
@@ -71,7 +71,11 @@ parts-at p xs y ys all stop = grind (arith, prefix_len-stop, take_at, drop_at)
 
 -- ---- a byte or a text at the start
 
--- a line's text is its backslash, if it has one, and what follows that
+-- a line's backslash, if it has one, and its text
+abbrev pub text : List ℕ → Bool × List ℕ
+text line = mark_and_rest (after_while is_blank line)
+
+-- what follows a line's blanks is its backslash, if it has one, and its text
 pub mark_and_rest-is : (xs : List ℕ) → xs ≡ mark (mark_and_rest xs).0 ++ (mark_and_rest xs).1
 mark_and_rest-is xs = grind arith
 

@@ -6,8 +6,8 @@ use Rattle.std.specs.List.{AllPass, list_all}
 use Rattle.std.proofs.lemmas.List.Folds.{list_all-append}
 use Rattle.std.proofs.lemmas.List.Sums.{list_all-from_AllPass}
 use Rattle.std.proofs.lemmas.List.Elements.{All-cons, All-nil}
-use Rattle.digest_kinds.specs.Kinds.{KindValue, tag, full_len, has_len}
-use Rattle.sum_lines.specs.grammar.Shapes.{Algo, mark, Width, is_blank, Allows, Plain, Tagged, Algos, One}
+use Rattle.digest_kinds.specs.Kinds.{KindValue, tag}
+use Rattle.sum_lines.specs.grammar.Shapes.{mark, Width, is_blank, Allows, Plain, Tagged, Algos, One}
 use Rattle.digest_kinds.specs.declared.algo.Algo.TheVariants.{Blake2b}
 use Rattle.sum_lines.specs.Escape.{present, escape, escape_of, escape_differs}
 use Rattle.std.specs.Char.{is_ascii_digit}

@@ -8,9 +8,9 @@ use Rattle.hex.proofs.HexLemmas.{decode_of-ok}
 use Rattle.digest_kinds.specs.Kinds.{KindValue, tag, IsDigits}
 use Rattle.sum_lines.specs.grammar.Shapes.{Algo, One, is_blank, mark, optional}
 use Rattle.std.proofs.lemmas.List.{take-append-drop}
-use Rattle.sum_lines.specs.grammar.LineParts.{after_while, strip_prefix, mark_and_rest, tag_in, width_at, tagged_parts}
+use Rattle.sum_lines.specs.grammar.LineParts.{after_while, strip_prefix, tag_in, width_at, tagged_parts}
 use Rattle.sum_lines.specs.refinement.LinePartRanges.{EndsIn}
-use Rattle.sum_lines.proofs.PrefixLemmas.{none_of, strip_prefix-some, strip_prefix-append, prefix-and-rest, opened-some, rfind-at, rfind-none, mark_and_rest-is, rsplit-some}
+use Rattle.sum_lines.proofs.PrefixLemmas.{none_of, text, strip_prefix-some, strip_prefix-append, prefix-and-rest, opened-some, rfind-at, rfind-none, mark_and_rest-is, rsplit-some}
 use Rattle.sum_lines.proofs.TaggedLemmas.{width_at-some}
 use Rattle.std.proofs.lemmas.Grind.{common_steps}
 
@@ -56,11 +56,11 @@ digest_none s d n some few none spelled = grind (arith, decoded-digits)
 -- ---- the places of the parts in the line
 
 -- after its blanks and its backslash the line ends in its text
-pub text_ends : (line : List ℕ) → EndsIn line (mark_and_rest (after_while is_blank line)).1
+pub text_ends : (line : List ℕ) → EndsIn line (text line).1
 text_ends line =
     let whole = prefix-and-rest is_blank line in
     let marked = mark_and_rest-is (after_while is_blank line) in
-    (take_while is_blank line ++ mark (mark_and_rest (after_while is_blank line)).0, grind (arith, append_assoc))
+    (take_while is_blank line ++ mark (text line).0, grind (arith, append_assoc))
 
 -- and so in what follows any part of that
 pub ends-after : {line s : List ℕ} (xs rest : List ℕ) → EndsIn line s → s ≡ xs ++ rest → EndsIn line rest
@@ -93,24 +93,21 @@ pub tail-place : {line tail : List ℕ} → EndsIn line tail
     → slice_range line (length line - length tail) (length line) ≡ tail
 tail-place ends = grind (arith, common_steps)
 
--- what was read step by step after the tag is read as the line's parts
-pub tagged-read : {w : KindValue × List ℕ} {inner digits d : List ℕ} {name : List ℕ × List ℕ}
-    (a : Algo) (line : List ℕ) → let text = mark_and_rest (after_while is_blank line) in
-    tag_in (One a) text.1 ≡ Some a → Some w ≡ width_at a (drop (length (tag a)) text.1)
-    → Some inner ≡ option_or (strip_prefix (32 ∷ 40 ∷ []) w.1) (strip_prefix (40 ∷ []) w.1)
-    → Some name ≡ rsplit_once 41 inner → Some digits ≡ strip_prefix (61 ∷ []) (after_while is_blank name.1)
-    → decode_of (after_while is_blank digits) ≡ Ok d → length d ≡ w.0.len → 0 < length name.0
-    → Some (record { escaped = text.0; kind = w.0; digest = d; text = name.0 }) ≡ tagged_parts (One a) line
-unfolding tagged_parts
-tagged-read a line found width opened split sign spelled size some = grind arith
+-- what was read step by step after the tag
+module _ {w : KindValue × List ℕ} {inner digits : List ℕ} {name : List ℕ × List ℕ} (a : Algo) (line : List ℕ)
+    (found : tag_in (One a) (text line).1 ≡ Some a)
+    (width : Some w ≡ width_at a (drop (length (tag a)) (text line).1))
+    (opened : Some inner ≡ option_or (strip_prefix (32 ∷ 40 ∷ []) w.1) (strip_prefix (40 ∷ []) w.1))
+    (split : Some name ≡ rsplit_once 41 inner)
+    (sign : Some digits ≡ strip_prefix (61 ∷ []) (after_while is_blank name.1)) where
+  -- is read as the line's parts
+  pub tagged-read : {d : List ℕ} → decode_of (after_while is_blank digits) ≡ Ok d → length d ≡ w.0.len → 0 < length name.0
+      → Some (record { escaped = (text line).0; kind = w.0; digest = d; text = name.0 }) ≡ tagged_parts (One a) line
+  unfolding tagged_parts
+  tagged-read spelled size some = grind arith
 
--- digits that spell no digest of the kind's length give no parts
-pub tagged-none : {w : KindValue × List ℕ} {inner digits : List ℕ} {name : List ℕ × List ℕ}
-    (a : Algo) (line : List ℕ) → let text = mark_and_rest (after_while is_blank line) in
-    tag_in (One a) text.1 ≡ Some a → Some w ≡ width_at a (drop (length (tag a)) text.1)
-    → Some inner ≡ option_or (strip_prefix (32 ∷ 40 ∷ []) w.1) (strip_prefix (40 ∷ []) w.1)
-    → Some name ≡ rsplit_once 41 inner → Some digits ≡ strip_prefix (61 ∷ []) (after_while is_blank name.1)
-    → ((d : List ℕ) → decode_of (after_while is_blank digits) ≡ Ok d → length d ≢ w.0.len)
-    → None ≡ tagged_parts (One a) line
-unfolding tagged_parts
-tagged-none a line found width opened split sign none = grind arith
+  -- digits that spell no digest of the kind's length give no parts
+  pub tagged-none : ((d : List ℕ) → decode_of (after_while is_blank digits) ≡ Ok d → length d ≢ w.0.len)
+      → None ≡ tagged_parts (One a) line
+  unfolding tagged_parts
+  tagged-none none = grind arith

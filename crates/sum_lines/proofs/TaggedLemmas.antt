@@ -18,7 +18,7 @@ use Rattle.digest_kinds.proofs.TagLemmas.{IfSome-find-begins}
 use Rattle.sum_lines.specs.grammar.Shapes.{Algo, Algos, One, Any, is_blank, Width, Allows, Tagged, mark, optional}
 use Rattle.digest_kinds.specs.declared.algo.Algo.TheVariants.{Blake2b}
 use Rattle.sum_lines.specs.grammar.LineParts.{LinePartsValue, after_while, strip_prefix, mark_and_rest, tag_in, kind_at, width_at, tagged_parts}
-use Rattle.sum_lines.proofs.PrefixLemmas.{bind_some, map_some, ok_some, prefix_passes, prefix-and-rest, mark_and_rest-is, strip_prefix-some, opened-some, rsplit-some, parts-at, prefix_len-all, opened-at, rsplit-at}
+use Rattle.sum_lines.proofs.PrefixLemmas.{text, bind_some, map_some, ok_some, prefix_passes, prefix-and-rest, mark_and_rest-is, strip_prefix-some, opened-some, rsplit-some, parts-at, prefix_len-all, opened-at, rsplit-at}
 use Rattle.sum_lines.proofs.BitsLemmas.{kind_at-some, kind_at-bits, decimal-digits}
 use Rattle.std.proofs.lemmas.List.{drop_at}
 use Rattle.std.proofs.lemmas.List.Elements.{All-cons, All-head, All-append, All-weaker}
@@ -89,9 +89,9 @@ pub read_is_tagged : {algos : Algos} {line : List ℕ} {p : LinePartsValue} → 
     → IsTagged algos line p
 unfolding tagged_parts
 read_is_tagged {algos} {line} {p} h =
-    let text : Bool × List ℕ = mark_and_rest (after_while is_blank line) in
-    let algo = bind_some (tag_in algos text.1) _ h in
-    let rest : List ℕ = drop (length (tag algo.0)) text.1 in
+    let t : Bool × List ℕ = text line in
+    let algo = bind_some (tag_in algos t.1) _ h in
+    let rest : List ℕ = drop (length (tag algo.0)) t.1 in
     let width = bind_some (width_at algo.0 rest) _ algo.2 in
     let w : List ℕ = width.0.1 in
     let inner = bind_some (option_or (strip_prefix (32 ∷ 40 ∷ []) w) (strip_prefix (40 ∷ []) w)) _ width.2 in
@@ -100,7 +100,7 @@ read_is_tagged {algos} {line} {p} h =
     let digest = bind_some (result_ok (decode_of (after_while is_blank digits.0))) _ digits.2 in
     let is = cond_some (length digest.0 == width.0.0.len && nat_lt 0 (length name.0.0)) _ p digest.2 in
     let fits = and_parts (length digest.0 == width.0.0.len) (nat_lt 0 (length name.0.0)) is.0 in
-    let found = tag_in-some {algos = algos} {s = text.1} {a = algo.0} algo.1 in
+    let found = tag_in-some {algos = algos} {s = t.1} {a = algo.0} algo.1 in
     let wide = width_at-some algo.0 rest width.0 width.1 in
     let gap = opened-some w inner.0 inner.1 in
     rw (← is.1) (record {
@@ -211,26 +211,23 @@ hex-not41 x h = λ e. let bad = rw e at h in cc
 
 -- ---- a tagged line
 
--- what follows the closing parenthesis in it
-abbrev pub after_name : {algos : Algos} {line : List ℕ} {e : Bool} {kind : KindValue} {d raw : List ℕ}
-    → Tagged algos line e kind d raw → List ℕ
-after_name t = t.before ++ (61 ∷ (t.after ++ t.digits))
+module _ {algos : Algos} {line : List ℕ} {e : Bool} {kind : KindValue} {d raw : List ℕ}
+    (t : Tagged algos line e kind d raw) where
+  -- what follows the closing parenthesis in it
+  abbrev pub after_name : List ℕ
+  after_name = t.before ++ (61 ∷ (t.after ++ t.digits))
 
--- what follows the opening one
-abbrev pub inner_of : {algos : Algos} {line : List ℕ} {e : Bool} {kind : KindValue} {d raw : List ℕ}
-    → Tagged algos line e kind d raw → List ℕ
-inner_of {raw = raw} t = raw ++ (41 ∷ after_name t)
+  -- what follows the opening one
+  abbrev pub inner_of : List ℕ
+  inner_of = raw ++ (41 ∷ after_name)
 
--- what follows the tag
-abbrev pub after_tag : {algos : Algos} {line : List ℕ} {e : Bool} {kind : KindValue} {d raw : List ℕ}
-    → Tagged algos line e kind d raw → List ℕ
-after_tag t = t.width ++ opening t.gap (inner_of t)
+  -- what follows the tag
+  abbrev pub after_tag : List ℕ
+  after_tag = t.width ++ opening t.gap inner_of
 
--- its blanks and its backslash are passed over
-pub tagged-prefix : {algos : Algos} {line : List ℕ} {e : Bool} {kind : KindValue} {d raw : List ℕ}
-    → (t : Tagged algos line e kind d raw)
-    → mark_and_rest (after_while is_blank line) ≡ (e, tag kind.algo ++ after_tag t)
-tagged-prefix t = grind (arith, mark_and_rest-prefix)
+  -- its blanks and its backslash are passed over
+  pub tagged-prefix : text line ≡ (e, tag kind.algo ++ after_tag)
+  tagged-prefix = grind (arith, mark_and_rest-prefix)
 
 module _ {algos : Algos} {line : List ℕ} (p : LinePartsValue) (t : IsTagged algos line p) where
   -- after the closing parenthesis come `=` and the digits
