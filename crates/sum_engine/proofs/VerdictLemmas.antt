@@ -1,13 +1,11 @@
 -- `judge`: the verdict of an entry, by the outcome of hashing its name.
-use Rattle.std.proofs.Common.{rules, ◌≡◌, ℕ, ◌&&◌, Bool, true, false, cond, List, [], ◌∷◌, Option, Some, Ok, Err, refl, bytes_eq}
-use Rattle.std.proofs.Math.Bool.{and-false, and-true}
-use Rattle.digest_kinds.specs.Kinds.{KindValue}
+use Rattle.std.proofs.Common.{rules, ◌≡◌, ℕ, ◌&&◌, Bool, false, cond, List, [], ◌∷◌, Option, Some, refl, bytes_eq}
 use Rattle.sum_sources.specs.declared.fault.Fault.TheVariants.{NotFound}
-use Rattle.sum_sources.specs.Contents.{IfKnown, Reply}
+use Rattle.sum_sources.specs.Contents.{IfKnown}
 use Rattle.sum_lines.specs.grammar.Entries.{EntryValue}
-use Rattle.sum_engine.specs.refinement.HashName.{HashOutcome, HashesNameIfKnown, IsHashOutcome}
-use Rattle.sum_engine.specs.check.Verdicts.{Verdict, Right, Wrong, Missing, Unread, Rules, verdict_of, not_found, asks_by}
-use Rattle.sum_engine.specs.Behavior.{World, is_dash, reply, digest_or_fault}
+use Rattle.sum_engine.specs.refinement.HashName.{HashOutcome, HashesNameIfKnown}
+use Rattle.sum_engine.specs.check.Verdicts.{Verdict, Right, Wrong, Missing, Unread, Rules, asks_by}
+use Rattle.sum_engine.specs.Behavior.{World, is_dash}
 use Rattle.sum_lines.specs.grammar.ParsedLines.{entry}
 use Rattle.sum_engine.specs.refinement.Judging.{IsJudged, verdict_of_outcome}
 use Rattle.sum_engine.specs.declared.hash_name.HashOutcome.TheVariants as asked
