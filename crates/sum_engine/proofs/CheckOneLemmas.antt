@@ -57,6 +57,7 @@ module _ (r : Rules) (labels : LabelsValue) where
   Comes (Some c) (Some s) (Some b) =
       Along (manifest_behavior c s.world) (remaining_behavior r labels b) s b.known_state
 
+  -- it begins so
   pub comes_none : {I : Type 0} (state : I → InputState) (p : CursorValue I) (input : I) (s : Option KnownState)
       → IsAtStart state p input → Comes (option_map clip (state input).content) s (check_state state p s)
   comes_none state p input s start = search rules
