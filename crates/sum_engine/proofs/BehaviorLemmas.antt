@@ -5,7 +5,7 @@ use Rattle.std.proofs.lemmas.List.Elements.{filter_map-append}
 use Rattle.sum_sources.specs.Contents.{IfKnown, SourceState}
 use Rattle.sum_sources.proofs.KnownLemmas.{IfKnown-map}
 use Rattle.sum_engine.specs.Execution.{Stop, Memory, Write, StreamsState, KnownState, known_state, Happened, PrefixHappened, PerformsSteps}
-use Rattle.sum_engine.specs.Behavior.{World, Event, Step, Behavior, trace, events_of, single_step, name_in, err_in, out_in}
+use Rattle.sum_engine.specs.Behavior.{World, Event, Step, Behavior, trace, events_of, single_step}
 use Rattle.sum_engine.specs.refinement.HashName.{world_of}
 use Rattle.sum_engine.specs.check.NextVerdict.{OnlyRefused}
 use Rattle.sum_engine.specs.check.CheckerSteps.{StepDone, LastStepDone, StepFailed, StepRefused}

@@ -1,24 +1,22 @@
 -- `check_one`: a new checker that runs to its end, by induction on its steps, after its manifest was opened.
-use Rattle.std.proofs.Common.{rules, ap, ◌++◌, ◌≡◌, ℕ, ◌||◌, Bool, true, false, List, [], ◌∷◌, Option, None, Some, Result, Ok, Err, cond, refl, sym, ◌∙◌, subst, codes, option_map, IfSome}
+use Rattle.std.proofs.Common.{rules, ◌++◌, ◌≡◌, ℕ, Bool, true, false, List, [], ◌∷◌, Option, None, Some, Result, Ok, Err, cond, refl, sym, ◌∙◌, subst, codes, option_map, IfSome}
 use Rattle.std.proofs.Math.Bool.{or-false}
 use Rattle.sum_engine.specs.Behavior.{Fault, World, is_dash, reply, after, Step, Behavior, events_of}
 use Rattle.sum_sources.specs.declared.sources.source.OpenFault.{OpenFault}
-use Rattle.sum_sources.specs.Contents.{Content, InputState, IfKnown, clip, SourceState, Reply, KnownSource, OpenOf, empty_content}
+use Rattle.sum_sources.specs.Contents.{Content, InputState, IfKnown, clip, SourceState, Reply, OpenOf, empty_content}
 use Rattle.sum_lines.specs.sinks.Sinks.{SinkState}
-use Rattle.sum_sources.proofs.KnownLemmas.{IfKnown-map}
 use Rattle.digest_kinds.specs.Limits.{one_more}
 use Rattle.sum_lines.specs.Escape.{present}
-use Rattle.sum_engine.specs.check.CheckerSteps.{Progress, Going, Ended, CheckState, initial_state, IsAtStart, state_at, StepIsIfKnown, remaining_behavior, CursorValue, check_state}
+use Rattle.sum_engine.specs.check.CheckerSteps.{Progress, Going, Ended, CheckState, initial_state, IsAtStart, StepIsIfKnown, remaining_behavior, CursorValue, check_state}
 use Rattle.sum_engine.specs.check.Verdicts.{Rules, all_verdicts}
 use Rattle.sum_engine.specs.Execution.{Phase, Reading, Stop, Memory, Write, StreamsState, KnownState, known_state, Happened, PerformsSteps}
-use Rattle.sum_sources.specs.LineReaders.{ReadSoFar, IsReadSoFar}
+use Rattle.sum_sources.specs.LineReaders.{IsReadSoFar}
 use Rattle.sum_engine.specs.refinement.FlushedWrites.{WritesOrPrefix}
 use Rattle.sum_engine.specs.Generation.{fault_line}
 use Rattle.sum_engine.specs.check.Reports.{LabelsValue}
 use Rattle.sum_engine.proofs.CountLemmas.{counts_then-none}
-use Rattle.sum_lines.specs.grammar.LineParts.{◌>>=◌}
 use Rattle.sum_engine.specs.check.Checking.{CheckSettings, rules_of, labels_of, content_behavior, check_behavior_by, check_behavior}
-use Rattle.sum_engine.specs.refinement.HashName.{world_by, world_of}
+use Rattle.sum_engine.specs.refinement.HashName.{world_of}
 use Rattle.sum_engine.proofs.ExecutionLemmas.{Runs, Writing, known_refused, names-by, err_alone}
 use Rattle.sum_engine.proofs.StepLemmas.{known_state-made}
 use Rattle.sum_engine.proofs.BehaviorLemmas.{answered, once, unasked, Along, along_more, along_end, along_breaks, along_waits, behind_step}
@@ -59,6 +57,7 @@ module _ (r : Rules) (labels : LabelsValue) where
   Comes (Some c) (Some s) (Some b) =
       Along (manifest_behavior c s.world) (remaining_behavior r labels b) s b.known_state
 
+  -- it begins so
   pub comes_none : {I : Type 0} (state : I → InputState) (p : CursorValue I) (input : I) (s : Option KnownState)
       → IsAtStart state p input → Comes (option_map clip (state input).content) s (check_state state p s)
   comes_none state p input s start = search rules

@@ -1,8 +1,7 @@
 -- The counts of a summary are numbers of members, and the code's running counters are they.
-use Rattle.std.proofs.Common.{rules, ◌≡◌, ℕ, ◌+◌, List, [], ◌∷◌, refl, ap, arith}
-use Rattle.sum_engine.specs.check.Verdicts.{Verdict, Ignored, Bad, Right, Wrong, Missing, Unread, LineVerdictValue}
+use Rattle.std.proofs.Common.{rules, ◌≡◌, []}
 use Rattle.sum_engine.specs.check.Reports.{CountsValue, counts_of}
-use Rattle.sum_engine.specs.check.CheckerSteps.{no_counts, counts_with, counts_then}
+use Rattle.sum_engine.specs.check.CheckerSteps.{no_counts, counts_then}
 
 -- after no line
 pub counts_then-none : (n : CountsValue) → counts_then no_counts n ≡ n

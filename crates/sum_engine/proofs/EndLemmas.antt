@@ -1,12 +1,10 @@
 -- What is returned after the end of a manifest's verdicts.
-use Rattle.std.proofs.Common.{rules, ◌≡◌, ℕ, Bool, true, false, List, [], length, Option, None, Some, Result, Ok, Err, ap, sym, arith, if◌then◌else◌}
+use Rattle.std.proofs.Common.{rules, ◌≡◌, ℕ, Bool, List, [], length, Option, Some, Result, Ok, ap, sym, arith, if◌then◌else◌}
 use Rattle.sum_sources.specs.declared.fault.Ending.{Ending}
 use Rattle.sum_engine.specs.check.NextVerdict.{LineStop, LineVerdict, NoVerdictLeft, NextVerdictIs}
-use Rattle.sum_sources.specs.declared.line_reader.LineStop.TheVariants.{Fault, Memory}
 use Rattle.sum_sources.specs.ManifestLines.{lines, raw_lines}
 use Rattle.sum_sources.proofs.LineLemmas.{pieces-nil, lines-nil}
-use Rattle.sum_lines.specs.grammar.Entries.{form, form_then}
-use Rattle.sum_engine.specs.check.Verdicts.{lines_by, Rules, verdicts}
+use Rattle.sum_engine.specs.check.Verdicts.{Rules}
 use Rattle.sum_engine.specs.check.CheckerSteps.{CheckState, remaining_verdicts}
 use Rattle.sum_engine.specs.check.CheckerLaws.{ended_by}
 

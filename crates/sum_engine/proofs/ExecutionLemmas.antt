@@ -1,5 +1,5 @@
 -- What happened from one state to another, one event after another; and states of streams that are known or not.
-use Rattle.std.proofs.Common.{rules, ◌≡◌, ℕ, ◌||◌, Bool, List, [], ◌∷◌, ◌++◌, map, Option, None, Some, Result, Ok, Err, refl, ap, ◌∙◌, inl, inr, append_assoc, append-nil, filter_map, option_map}
+use Rattle.std.proofs.Common.{rules, ◌≡◌, ℕ, ◌||◌, Bool, List, [], ◌∷◌, ◌++◌, map, Option, None, Some, Result, Ok, Err, refl, inl, inr, append_assoc, filter_map}
 use Rattle.std.specs.List.{list_any}
 use Rattle.std.specs.Io.KnownBytes.{Appends}
 use Rattle.std.proofs.KnownBytes.{Appends-nil, Appends-trans}
@@ -7,15 +7,14 @@ use Rattle.std.proofs.Math.Bool.{or_assoc}
 use Rattle.std.proofs.lemmas.List.{map-append}
 use Rattle.std.proofs.lemmas.List.Elements.{filter_map-append}
 use Rattle.std.proofs.lemmas.List.Folds.{list_any-append}
-use Rattle.sum_sources.specs.Contents.{IfKnown, InputState, StdinValue, stdin_state, stdin_taken as taken, stdin_phase as phase, SourceState, KnownSource, Content}
+use Rattle.sum_sources.specs.Contents.{IfKnown, InputState, StdinValue, stdin_taken as taken, SourceState}
 use Rattle.digest_kinds.specs.Limits.{one_more}
 use Rattle.sum_lines.specs.sinks.Sinks.{SinkState}
 use Rattle.sum_lines.specs.refinement.SinkStates.{AppendsPrefix}
 use Rattle.sum_engine.specs.Behavior.{World, is_dash, after, Behavior, Event, open_name, write_err, write_out, name_in, err_in, out_in}
 use Rattle.sum_engine.specs.refinement.FlushedWrites.{WritesOrPrefix, WritesBoth}
-use Rattle.sum_lines.specs.grammar.LineParts.{◌>>=◌}
 use Rattle.sum_engine.specs.Execution.{StreamsState, KnownState, known_state, Stop, Happened, PrefixHappened, PerformsSteps}
-use Rattle.sum_engine.specs.refinement.HashName.{world_by, world_of}
+use Rattle.sum_engine.specs.refinement.HashName.{world_of}
 use Rattle.sum_engine.specs.check.NextVerdict.{OnlyRefused, lent_streams}
 use Rattle.sum_engine.proofs.WorldLemmas.{after-append}
 

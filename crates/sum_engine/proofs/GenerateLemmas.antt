@@ -10,7 +10,6 @@ use Rattle.sum_engine.specs.Execution.{StreamsState}
 use Rattle.sum_engine.specs.refinement.FlushedWrites.{WritesBoth}
 use Rattle.sum_engine.proofs.ExecutionLemmas.{Runs, Writing}
 use Rattle.sum_engine.proofs.BehaviorLemmas.{answered, once}
-use Rattle.sum_engine.specs.declared.hash_name.HashOutcome.TheVariants as asked
 
 -- the outcome is what the definitions say of the reply
 digest_or_fault-is : (kind : KindValue) (r : Reply) (a : HashOutcome) → IsHashOutcome kind r a

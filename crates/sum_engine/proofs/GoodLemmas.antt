@@ -1,15 +1,14 @@
 -- A manifest of lines that were written for whole files is good: by induction on its lines.
-use Rattle.std.proofs.Common.{rules, ◌≡◌, ℕ, suc, ◌+◌, ◌<◌, true, List, [], ◌∷◌, ◌++◌, length, map, refl, ap, ◌∙◌, append_assoc, arith, inl, append-nil, sym, flat_map, All, Result, Ok, Err}
+use Rattle.std.proofs.Common.{rules, ◌≡◌, ℕ, suc, ◌+◌, ◌<◌, true, List, [], ◌∷◌, ◌++◌, length, map, refl, ap, ◌∙◌, append_assoc, arith, inl, append-nil, flat_map, All, Ok}
 use Rattle.std.proofs.lemmas.Bool.{ne_eqb}
 use Rattle.std.proofs.Math.Bool.{and-false, or-true}
 use Rattle.std.proofs.lemmas.List.Elements.{All-head, All-tail}
 use Rattle.std.proofs.lemmas.Slice.Eq.{bytes_eq-Decides}
-use Rattle.digest_kinds.specs.Kinds.{digest}
 use Rattle.sum_engine.specs.check.Reports.{Report, LabelsValue, CountsValue, out_by, out_of, err_of, counts_of, end_text, good}
 use Rattle.sum_engine.specs.check.Verdicts.{Algos, Form, Right, Rules, LineVerdictValue, verdict_of, judge, verdicts, all_verdicts}
 use Rattle.sum_lines.specs.Escape.{present, escape}
 use Rattle.sum_lines.specs.grammar.Entries.{IsEntry, form}
-use Rattle.sum_engine.specs.Behavior.{Fault, Whole, Broken, World, reply, after, digest_or_fault, Behavior, out_text, err_text}
+use Rattle.sum_engine.specs.Behavior.{Whole, World, reply, after, Behavior, out_text, err_text}
 use Rattle.sum_sources.specs.Contents.{Content, limit}
 use Rattle.sum_sources.proofs.ContentLemmas.{limit-value, clip-short}
 use Rattle.sum_engine.specs.check.CheckerSteps.{step_then}

@@ -1,5 +1,5 @@
 -- `CheckCursor::next_verdict`: the next verdict of a manifest, by what reading and judging its line did.
-use Rattle.std.proofs.Common.{rules, ◌≡◌, ℕ, ◌+◌, ◌≤◌, ◌||◌, true, false, List, [], ◌∷◌, length, map, slice_range, Option, Some, Result, Ok, Err, refl, ap, sym, ◌∙◌, subst, arith, inl, append-nil}
+use Rattle.std.proofs.Common.{rules, ◌≡◌, ℕ, ◌+◌, ◌≤◌, ◌||◌, true, false, List, [], length, slice_range, Option, Some, Result, Ok, Err, arith, inl}
 use Rattle.std.specs.List.{list_any}
 use Rattle.std.proofs.KnownBytes.{Appends-nil}
 use Rattle.sum_sources.specs.declared.line_reader.LineStop.TheVariants.{Memory}
@@ -7,18 +7,17 @@ use Rattle.sum_sources.specs.Contents.{InputState, IfKnown, SourceState}
 use Rattle.sum_sources.specs.declared.line_reader.Next.{Next}
 use Rattle.sum_sources.specs.declared.line_reader.Next.TheVariants.{Line, NoMore}
 use Rattle.sum_sources.specs.declared.line_reader.LineStop.{LineStop}
-use Rattle.sum_sources.specs.ManifestLines.{lines_after}
-use Rattle.sum_sources.specs.LineReaders.{AdvancesLines, Bounded, FinalAnswerAfter}
+use Rattle.sum_sources.specs.LineReaders.{AdvancesLines, Bounded}
 use Rattle.sum_sources.specs.declared.line_reader.LineReader.{LineReader}
 use Rattle.sum_sources.proofs.LineLemmas.{line-some}
 use Rattle.sum_lines.specs.grammar.ParsedLines.{ParsedLine}
 use Rattle.sum_engine.specs.check.Reports.{CountsValue, is_unread}
 use Rattle.sum_engine.specs.check.NextVerdict.{LineVerdict, OnlyRefused, line_verdict_value, NextVerdictIfKnown}
-use Rattle.sum_engine.specs.check.Verdicts.{Verdict, Ignored, Bad, Right, Wrong, Missing, Unread, LineVerdictValue, judge, asks_of}
-use Rattle.sum_engine.specs.Behavior.{World, is_dash, after, open_name}
+use Rattle.sum_engine.specs.check.Verdicts.{Verdict, judge, asks_of}
+use Rattle.sum_engine.specs.Behavior.{World, is_dash}
 use Rattle.sum_engine.specs.Execution.{Stop, StreamsState, known_state, Happened, ReadToEnd}
 use Rattle.sum_engine.specs.refinement.HashName.{world_of}
-use Rattle.sum_engine.specs.check.CheckerSteps.{Progress, Going, Ended, AdvancesCursor, ReadsListedFile, CursorValue, counts_with, state_at, check_state, CheckState, next_judged, remaining_verdicts}
+use Rattle.sum_engine.specs.check.CheckerSteps.{Progress, Going, Ended, AdvancesCursor, ReadsListedFile, CursorValue, counts_with, state_at, check_state, CheckState, next_judged}
 use Rattle.sum_engine.specs.refinement.Judging.{IsJudged, name_in_line, TakesLine, JudgeLineOf, parsed_at}
 use Rattle.sum_engine.proofs.ExecutionLemmas.{events_by, where_known, names-by, did_by}
 use Rattle.sum_engine.proofs.RestLemmas.{rest_on}

@@ -1,19 +1,16 @@
 -- `old_verdicts`: a manifest of the time of older versions is checked alike under both profiles.
-use Rattle.std.proofs.Common.{rules, ◌≡◌, ℕ, ◌+◌, ◌<◌, false, not, List, [], ◌∷◌, length, map, refl, ap, sym, ◌∙◌, subst, codes, append_assoc, ◌++◌, bytes_eq, All, flat_map, Ok, Err}
-use Rattle.std.specs.List.{concat}
+use Rattle.std.proofs.Common.{rules, ◌≡◌, ℕ, ◌+◌, ◌<◌, List, [], ◌∷◌, length, map, refl, ap, sym, subst, append_assoc, ◌++◌, All, flat_map, Ok, Err}
 use Rattle.std.proofs.lemmas.List.Elements.{All-nil, All-cons, All-head, All-tail}
-use Rattle.sum_engine.specs.check.Reports.{Report, LabelsValue, CountsValue, name_line, verdict_line, out_by, out_of, bad_line, err_by, err_of, counts_of, end_text, good}
-use Rattle.sum_engine.specs.Behavior.{Ending, Whole, Broken, Fault, World, after, single_step}
+use Rattle.sum_engine.specs.check.Reports.{Report, LabelsValue, CountsValue, out_by, err_by, end_text}
+use Rattle.sum_engine.specs.Behavior.{Ending, Whole, Broken, World, after}
 use Rattle.sum_sources.specs.Contents.{Content, clip}
 use Rattle.sum_sources.specs.ManifestLines.{raw_lines, last_line, past_line, bytes_of_lines}
 use Rattle.sum_sources.proofs.CutLemmas.{cut, raw_lines-joined}
-use Rattle.sum_engine.specs.check.Verdicts.{Algos, Form, Verdict, Bad, Right, Wrong, Unread, lines_by, Rules, LineVerdictValue, judge, asks_of, verdicts, all_verdicts}
-use Rattle.sum_lines.specs.grammar.Shapes.{mark}
+use Rattle.sum_engine.specs.check.Verdicts.{Algos, Form, Verdict, lines_by, Rules, LineVerdictValue, judge, asks_of, verdicts, all_verdicts}
 use Rattle.sum_lines.specs.grammar.Entries.{form}
 use Rattle.sum_lines.specs.Escape.{present}
 use Rattle.sum_engine.specs.check.CheckerSteps.{step_then}
-use Rattle.sum_lines.specs.grammar.ParsedLines.{ParsedLine, ignored, bad, entry, parse_line}
-use Rattle.sum_engine.specs.Generation.{fault_line}
+use Rattle.sum_lines.specs.grammar.ParsedLines.{ParsedLine, bad, parse_line}
 use Rattle.sum_engine.specs.check.Checking.{line_steps, content_behavior}
 use Rattle.sum_engine.specs.check.OldVerdicts.{older, rules_under, NoReturn, NamesNoReturn, IsOldManifest, OldVerdicts, OldOutcomes, OlderDiffers}
 use Rattle.sum_lines.proofs.ParsedLineLemmas.{parse_is_grammar}

@@ -1,16 +1,13 @@
 -- Read to the end, known or not: over no file, over one, and over one call after another.
-use Rattle.std.proofs.Common.{rules, ◌≡◌, ◌⊎◌, ◌||◌, ℕ, zero, suc, ◌+◌, Bool, true, false, Option, None, Some, is_none, is_some, option_map, refl, ap, sym, ◌∙◌, inl, inr, arith}
+use Rattle.std.proofs.Common.{rules, ◌≡◌, ◌⊎◌, ℕ, zero, suc, ◌+◌, Bool, true, false, Option, None, Some, ap, ◌∙◌, arith}
 use Rattle.std.specs.Option.{option_or}
-use Rattle.std.proofs.Math.Bool.{or-true}
 use Rattle.sum_sources.specs.Contents.{InputState, SourceState, StdinValue, given_state, stdin_taken, stdin_phase, closed_state}
 use Rattle.digest_kinds.specs.Limits.{one_more}
 use Rattle.sum_lines.specs.sinks.Sinks.{SinkState}
 use Rattle.sum_engine.specs.Execution.{StreamsState, Phase, Reading, Ended, raised, IsStdinWhole, ReadToEnd, known_state}
 use Rattle.sum_engine.specs.check.NextVerdict.{lent_streams}
 use Rattle.sum_engine.specs.refinement.HashName.{HashOutcome, UnlessBroken}
-use Rattle.sum_engine.specs.declared.hash_name.HashOutcome.TheVariants as outcomes
 use Rattle.sum_engine.proofs.ExecutionLemmas.{streams_of}
-use Rattle.sum_sources.specs.declared.inputs.phase.Phase.TheVariants.{Failed, Past}
 
 -- so many more, and then so many more
 raised-add : (m n count : ℕ) → raised m (raised n count) ≡ raised (m + n) count

@@ -1,5 +1,5 @@
 -- The verdicts and the behavior that remain, after one line and the next.
-use Rattle.std.proofs.Common.{rules, ◌≡◌, ℕ, zero, suc, ◌+◌, List, [], ◌∷◌, length, refl, ap, sym, ◌∙◌}
+use Rattle.std.proofs.Common.{rules, ◌≡◌, ℕ, zero, suc, ◌+◌, List, [], ◌∷◌, length, refl}
 use Rattle.sum_sources.specs.Contents.{Content}
 use Rattle.sum_sources.specs.ManifestLines.{past_line, past_lines}
 use Rattle.sum_lines.specs.grammar.Entries.{form, form_then, line_form}

@@ -4,8 +4,8 @@ use Rattle.sum_engine.specs.check.Verdicts.{Algos, Form, Rules, LineVerdictValue
 use Rattle.sum_lines.specs.declared.reading.read_line.Form.TheVariants.{Undecided}
 use Rattle.sum_lines.specs.grammar.Entries.{EntryValue, IsEntry, form, form_then, line_form}
 use Rattle.sum_engine.specs.Behavior.{World, after}
-use Rattle.sum_lines.specs.Escape.{Profile, present, escape}
-use Rattle.sum_lines.specs.grammar.ParsedLines.{ParsedLine, ignored, bad, entry, parse_line}
+use Rattle.sum_lines.specs.Escape.{present, escape}
+use Rattle.sum_lines.specs.grammar.ParsedLines.{parse_line}
 use Rattle.sum_engine.specs.check.CheckerLaws.{SameFront}
 use Rattle.sum_lines.proofs.ParsedLineLemmas.{parse_is_grammar}
 use Rattle.sum_lines.proofs.FormLemmas.{form_next, parse_stays, same_parse, same_form}

@@ -1,5 +1,5 @@
 -- One step of a checker, by the verdict that it found: `CheckCursor::next` from `next_verdict` and what is written.
-use Rattle.std.proofs.Common.{◌≡◌, ℕ, ◌+◌, ◌≤◌, ◌<◌, Bool, List, [], ◌∷◌, length, Option, None, Some, Ok, Err, refl, ap, sym, inl, inr, ◌∙◌, subst, rules, option_map, arith}
+use Rattle.std.proofs.Common.{◌≡◌, ℕ, ◌+◌, ◌≤◌, Bool, List, [], ◌∷◌, length, Option, None, Some, Ok, Err, refl, ap, sym, ◌∙◌, rules, arith}
 use Rattle.sum_sources.specs.declared.line_reader.Next.TheVariants.{Line}
 use Rattle.sum_sources.specs.declared.line_reader.LineReader.{LineReader}
 use Rattle.sum_engine.specs.Behavior.{Ending, World, Step, events_of}
@@ -8,7 +8,6 @@ use Rattle.sum_sources.specs.ManifestLines.{NextLineIs, lines}
 use Rattle.sum_sources.specs.LineReaders.{remaining_content, consumed}
 use Rattle.sum_lines.specs.sinks.Sinks.{SinkState}
 use Rattle.sum_lines.specs.Escape.{Profile, present}
-use Rattle.sum_lines.specs.grammar.LineParts.{◌>>=◌}
 use Rattle.sum_engine.specs.check.Reports.{Report, LabelsValue, err_by, out_by, end_text, good}
 use Rattle.sum_engine.specs.check.Verdicts.{Ignored, lines_by, Rules, asks_of}
 use Rattle.sum_engine.specs.check.CheckerSteps.{CursorValue, state_at, check_state, Going, Ended, CheckState, counts_with, step_then, LineHandled, StepIs, StepIsIfKnown, next_judged, remaining_verdicts, remaining_behavior}
@@ -16,13 +15,11 @@ use Rattle.sum_engine.specs.Execution.{Memory, StreamsState, KnownState, IsFlush
 use Rattle.sum_engine.specs.check.NextVerdict.{LineVerdict, line_verdict_value, NextVerdictIfKnown, NoVerdictLeft}
 use Rattle.sum_engine.specs.refinement.Judging.{TakesLine}
 use Rattle.sum_engine.specs.refinement.FlushedWrites.{WritesAndFlushes, WritesBoth}
-use Rattle.sum_engine.specs.refinement.HashName.{world_of}
-use Rattle.sum_engine.proofs.ExecutionLemmas.{Asks, Writing, Came, known, asks_by, asks_none, came_by, err_alone}
+use Rattle.sum_engine.proofs.ExecutionLemmas.{Asks, Writing, Came, known, asks_by, came_by, err_alone}
 use Rattle.sum_engine.proofs.BehaviorLemmas.{answered}
 use Rattle.sum_engine.proofs.CountLemmas.{counts_then-nil}
 use Rattle.sum_engine.proofs.RestLemmas.{line_step, behavior_by, first_step, found_first}
 use Rattle.sum_sources.specs.declared.line_reader.LineStop.TheVariants as line_stops
-use Rattle.sum_engine.specs.declared.settings.Report.TheVariants as reports
 
 -- ---- the state of a check that may not be known
 

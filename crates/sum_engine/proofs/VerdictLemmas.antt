@@ -1,28 +1,12 @@
 -- `judge`: the verdict of an entry, by the outcome of hashing its name.
-use Rattle.std.proofs.Common.{rules, ◌≡◌, ℕ, ◌&&◌, Bool, true, false, cond, List, [], ◌∷◌, Option, Some, Ok, Err, refl, bytes_eq}
-use Rattle.std.proofs.Math.Bool.{and-false, and-true}
-use Rattle.digest_kinds.specs.Kinds.{KindValue}
-use Rattle.sum_sources.specs.declared.fault.Fault.TheVariants.{NotFound}
-use Rattle.sum_sources.specs.Contents.{IfKnown, Reply}
+use Rattle.std.proofs.Common.{rules, ◌≡◌, ◌&&◌, false, Option, Some}
+use Rattle.sum_sources.specs.Contents.{IfKnown}
 use Rattle.sum_lines.specs.grammar.Entries.{EntryValue}
-use Rattle.sum_engine.specs.refinement.HashName.{HashOutcome, HashesNameIfKnown, IsHashOutcome}
-use Rattle.sum_engine.specs.check.Verdicts.{Verdict, Right, Wrong, Missing, Unread, Rules, verdict_of, not_found, asks_by}
-use Rattle.sum_engine.specs.Behavior.{World, is_dash, reply, digest_or_fault}
+use Rattle.sum_engine.specs.refinement.HashName.{HashOutcome, HashesNameIfKnown}
+use Rattle.sum_engine.specs.check.Verdicts.{Verdict, Rules}
+use Rattle.sum_engine.specs.Behavior.{World, is_dash}
 use Rattle.sum_lines.specs.grammar.ParsedLines.{entry}
 use Rattle.sum_engine.specs.refinement.Judging.{IsJudged, verdict_of_outcome}
-use Rattle.sum_engine.specs.declared.hash_name.HashOutcome.TheVariants as asked
-
--- a name that either verdict asks
-asks_either : (b : Bool) (x y : Verdict) (name : List ℕ) → asks_by x name ≡ name ∷ [] → asks_by y name ≡ name ∷ []
-    → asks_by (cond b x y) name ≡ name ∷ []
-asks_either b x y name h k = search rules
-
--- whatever the outcome, the name was asked
-asks_compared : (ignore : Bool) (d : List ℕ) (a : HashOutcome) (name : List ℕ)
-    → asks_by (verdict_of_outcome ignore d a) name ≡ name ∷ []
-asks_compared ignore d (asked.Read x) name = asks_either (bytes_eq x d) Right Wrong name refl refl
-asks_compared ignore d (asked.NotOpened NotFound) name = asks_either ignore Missing (Unread NotFound) name refl refl
-asks_compared ignore d a name = refl
 
 -- an entry's verdict, by the outcome of hashing its name
 pub judged_entry : (r : Rules) (w v : Option World) (s : EntryValue) (a : HashOutcome) (verdict : Verdict)

@@ -1,10 +1,8 @@
 -- Asking names one after another.
-use Rattle.std.proofs.Common.{rules, ◌≡◌, ℕ, ◌||◌, Bool, true, false, cond, List, [], ◌∷◌, ◌++◌, refl, append_assoc}
-use Rattle.std.proofs.lemmas.List.{append-nil}
+use Rattle.std.proofs.Common.{rules, ◌≡◌, ℕ, List, [], ◌++◌, append_assoc}
 use Rattle.std.proofs.lemmas.List.Elements.{filter-append}
 use Rattle.std.proofs.lemmas.List.Folds.{list_any-append}
-use Rattle.sum_sources.specs.Contents.{Content, Reply, empty_content}
-use Rattle.sum_engine.specs.Behavior.{World, is_dash, after}
+use Rattle.sum_engine.specs.Behavior.{World, after}
 
 -- asking nothing
 pub after-none : (w : World) → w ≡ after w []

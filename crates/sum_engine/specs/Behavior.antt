@@ -38,12 +38,12 @@ pub data Event : Type 0 where
   open_name : List ℕ → Event
   write_err write_out : ℕ → Event
 
--- a name is opened, or none; standard error gets a text, then standard output does; memory runs out only before a step
+-- between two points at which memory may run out: at most one name is opened, then `err` is written, then `out`
 pub record Step : Type 0 where
   pub names : List (List ℕ)
-  pub err : List ℕ
-  pub out : List ℕ
-  pub remaining : ℕ  -- bytes of a manifest that are still to come before it
+  pub err : List ℕ  -- a text to standard error
+  pub out : List ℕ  -- one to standard output
+  pub remaining : ℕ  -- how many bytes of a manifest are still to come before it
 
 -- a list of steps, and whether all is good
 pub record Behavior : Type 0 where

@@ -126,7 +126,7 @@ PerformsSteps steps x a b (Ok answer) = (answer ≡ x) × Happened a b (trace st
 PerformsSteps steps x a b (Err Write) = PrefixHappened a b (trace steps)
 PerformsSteps steps x a b (Err Memory) = OutOfMemory steps a b
 
--- the same of the behavior in the world at the call, if that is known and both outputs flushed; its `good` is answered
+-- the same of a behavior, if its world is known and both outputs are flushed; what is returned depends on its `good`
 abbrev pub Performs : {S A : Type 0} → (S → SourceState) → (World → Behavior) → (Bool → A) → StreamsState S
     → StreamsState S → Result A Stop → Type 0
 Performs state behavior answer a b r = IsFlushed a → IfKnown (known_state state a) (known_state state b)

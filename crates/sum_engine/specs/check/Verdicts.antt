@@ -12,13 +12,13 @@ pub use Rattle.sum_engine.specs.declared.check.judge.Verdict.TheVariants.{Ignore
 use Rattle.sum_lines.specs.Escape.{Profile}
 use Rattle.sum_lines.specs.grammar.ParsedLines.{ParsedLine, ignored, bad, entry, parse_line}
 
--- by what lines are judged: the profile, the algorithms that they may name, two options, whether it is standard input
+-- by what a manifest's lines are judged
 pub record Rules : Type 0 where
   pub profile : Profile
-  pub algo : Algos
-  pub ignore_missing : Bool
-  pub strict : Bool
-  pub from_stdin : Bool
+  pub algo : Algos  -- the algorithms that they may name
+  pub ignore_missing : Bool  -- an option that changes verdicts
+  pub strict : Bool  -- one that changes whether the manifest is good
+  pub from_stdin : Bool  -- whether the manifest came from standard input
 
 -- a line's number (the first is 1), its verdict, and the name of its entry
 pub record LineVerdictValue : Type 0 where

@@ -1,4 +1,4 @@
-use Rattle.std.proofs.Common.{◌≡◌, true, Ok, Err, refl, ap, sym, ◌∙◌, arith, rules}
+use Rattle.std.proofs.Common.{◌≡◌, true, Ok, Err, ap, sym, ◌∙◌, arith, rules}
 use Rattle.sum_engine.specs.check.CheckerSteps.{Ended}
 use Rattle.sum_engine.specs.Execution.{known_state}
 use Rattle.sum_engine.proofs.CheckOneLemmas.{comes_none, comes_more, comes_last, phase-initial}

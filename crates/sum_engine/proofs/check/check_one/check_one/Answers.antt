@@ -4,7 +4,6 @@ use Rattle.std.proofs.lemmas.Result.{err_from_is_err_and}
 use Rattle.sum_sources.specs.Contents.{StdinValue, stdin_phase}
 use Rattle.sum_engine.specs.Behavior.{is_dash}
 use Rattle.sum_engine.specs.declared.check.rules.CheckRules.{CheckRules}
-use Rattle.sum_engine.specs.refinement.Cursors.{rules_in}
 use Rattle.sum_engine.proofs.ExecutionLemmas.{streams_of}
 use Rattle.sum_engine.proofs.ReadToEndLemmas.{put_back-whole, ReadToEnd-around, known_state-put_back, known_state-closed}
 use Rattle.sum_engine.proofs.CheckOneLemmas.{check_dash, check_file, refused, no_room}

@@ -1,8 +1,5 @@
-use Rattle.std.proofs.Common.{rules, Ok, Err, refl, ap}
+use Rattle.std.proofs.Common.{rules, refl, ap}
 use Rattle.sum_sources.specs.Contents.{stdin_taken}
-use Rattle.sum_sources.specs.declared.line_reader.Next.TheVariants.{Line}
-use Rattle.sum_engine.specs.check.CheckerSteps.{Going}
-use Rattle.sum_engine.specs.declared.stop.Stop.TheVariants.{Memory}
 use Rattle.sum_engine.specs.check.NextVerdict.{lent_streams}
 use Rattle.sum_engine.specs.refinement.Cursors.{cursor_value}
 use Rattle.sum_engine.proofs.ExecutionLemmas.{known_refused}
