@@ -1,5 +1,5 @@
 -- The reading of the arguments, one after another, gives the command line.
-use Rattle.std.proofs.Common.{rules, ℕ, ◌≡◌, ◌+◌, ◌-◌, ◌<◌, ◌≤◌, true, false, not, ◌==◌, zero, suc, List, [], ◌∷◌, length, drop, Some, None, refl, ap, sym, ◌∙◌, arith, inl, inr, add-one, slice_get, Option, ◌++◌, Any, IsSomeAnd}
+use Rattle.std.proofs.Common.{rules, ℕ, ◌≡◌, ◌+◌, ◌-◌, ◌<◌, ◌≤◌, true, false, not, ◌==◌, zero, suc, List, [], ◌∷◌, length, drop, Some, None, refl, ap, sym, ◌∙◌, arith, inr, add-one, slice_get, Option, ◌++◌, Any, IsSomeAnd}
 use Rattle.std.proofs.lemmas.List.Sums.{suffix_len_is}
 use Rattle.std.proofs.lemmas.Bool.{not_from_false, not_from_true, false_from_ne_true}
 use Rattle.std.specs.List.{suffix_len}

@@ -1,8 +1,7 @@
 -- Worked command lines: what the definitions give for each, computed.
-use Rattle.std.proofs.Common.{rules, ◌≡◌, ◌==◌, ◌≤◌, ◌<◌, List, ℕ, [], ◌∷◌, Result, Ok, Err, Option, Some, None, is_some, if◌then◌else◌, refl, codes, true, false, length, inl, inr, arith, lit≤, Any as SomeOne}
+use Rattle.std.proofs.Common.{rules, ◌≡◌, ◌==◌, ◌≤◌, ◌<◌, List, ℕ, [], ◌∷◌, Result, Ok, Err, Some, None, refl, codes, true, false, length, arith, Any as SomeOne}
 use Rattle.std.proofs.lemmas.Grind.{common_steps}
 use Rattle.std.specs.List.{AllByRecursion, slice_split}
-use Rattle.std.proofs.lemmas.List.Elements.{All-from_recursion}
 use Rattle.std.specs.Str.{byte, chars, is_utf8}
 use Prim.Native.String.{String}
 use lib.Utf8.{encode}
@@ -10,10 +9,10 @@ use Rattle.sum_lines.specs.grammar.Shapes.{Algo, One, Any}
 use Rattle.digest_kinds.specs.declared.algo.Algo.TheVariants.{Md5, Sha256, Blake2b}
 use Rattle.sum_words.specs.Request.{Mode, Request, Generate, Check, Help, Version, request}
 use Rattle.sum_words.specs.Items.{Long, Short, ByteString, name_or_fault, option_of_letter}
-use Rattle.sum_words.specs.Tools.{Tool, tool_called}
+use Rattle.sum_words.specs.Tools.{tool_called}
 use Rattle.sum_words.specs.declared.tool.Tool.TheVariants.{Md5sum, Sha256sum, B2sum, Anysum}
 use Rattle.sum_words.specs.WordFaults.{WordFaultValue, unknown_long, ambiguous_long, value_not_allowed, value_missing, unknown_short, length_invalid, length_not_bytes, tag_with_text, zero_with_check, tag_with_check, mode_with_check, ignore_without_check, status_without_check, warn_without_check, quiet_without_check, strict_without_check, check_needed}
-use Rattle.sum_words.specs.CommandLines.{unknown_tool, invoke, last_part, command_line, NeedsMemory, MayNotRead}
+use Rattle.sum_words.specs.CommandLines.{unknown_tool, invoke, command_line, NeedsMemory, MayNotRead}
 use Rattle.sum_lines.specs.declared.writing.put_line.Mode.TheVariants as modes
 use Rattle.sum_engine.specs.declared.settings.Report.TheVariants as reports
 

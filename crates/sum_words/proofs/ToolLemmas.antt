@@ -1,7 +1,6 @@
 -- The search for a tool by its name.
-use Rattle.std.proofs.Common.{rules, ◌≡◌, ◌↔◌, List, ℕ, Option, Some, IfSome, refl, ◌∙◌}
+use Rattle.std.proofs.Common.{rules, ◌≡◌, ◌↔◌, List, ℕ, Option, Some, IfSome, ◌∙◌}
 use Rattle.sum_words.specs.Tools.{Tool, name_of, tool_called}
-use Rattle.sum_words.specs.declared.tool.Tool.TheVariants as tools
 
 -- each tool is found by its own name
 called_by_name : (tool : Tool) → tool_called (name_of tool) ≡ Some tool

@@ -1,4 +1,4 @@
-use Rattle.std.proofs.Common.{rules, ◌≡◌, sym, ◌∙◌, ap, ◌∷◌}
+use Rattle.std.proofs.Common.{◌≡◌, sym, ◌∙◌, ap, ◌∷◌}
 use Rattle.sum_words.specs.Items.{a_word, items_from, option}
 use Rattle.sum_words.specs.refinement.ItemIterator.{item_of}
 use Rattle.sum_words.specs.Request.{early_answer}
