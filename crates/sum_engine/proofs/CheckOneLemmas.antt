@@ -195,9 +195,11 @@ module _ {S : Type 0} (state : S → SourceState) (settings : CheckSettings) (to
       -- there was no memory to open it
       pub no_room : IsAsked (Err open_faults.Memory) → (state source).refusals ≡ one_more (state a.source).refusals
           → Performed (record a { source = source }) (Err Memory)
-      no_room h refused = unasked state (λ w. check_behavior settings tool w name) (λ g. g) a
-          (record a { source = source }) (λ w. begins (after w (name ∷ [])) (reply w name))
-          (known_refused state a (record a { source = source }) (opens (Err open_faults.Memory) h) refl refl refl refused)
+      no_room h refused =
+          let next : StreamsState S = record a { source = source } in
+          unasked state (λ w. check_behavior settings tool w name) (λ g. g) a next
+          (λ w. begins (after w (name ∷ [])) (reply w name))
+          (known_refused state a next (opens (Err open_faults.Memory) h) refl refl refl refused)
         where
           -- checking begins with a step
           begins : (w : World) (reply : Reply) → (next : Step) × (rest : List Step) × ((check_behavior_by

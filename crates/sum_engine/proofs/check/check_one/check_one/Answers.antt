@@ -62,8 +62,8 @@ returns-in_ok-put_fault_line-in-Err-Fault-clause-behavior g c =
     let refusals = rw c.in-Err-Fault.field-0-is at c.in-Err-Fault.ensures.refusals in
     let written = rw c.in-Err-Fault.fault-is at c.in_ok-put_fault_line-in-Err-Fault.ensures in
     rw (← c.streams-2.view_is) (λ flushed. refused g.S.Source.state c.args.settings c.args.tool.now c.args.name.now
-    (streams_of g.J.Input.state c.streams-2.inside.stdin _ _ _) g.S.File.Input.state _ c.in-Err-Fault.fault _ (Ok tt) dash
-    answer refusals (written.1 flushed.1).1)
+    (streams_of g.J.Input.state c.streams-2.inside.stdin _ _ _) g.S.File.Input.state _ c.in-Err-Fault.fault _ (Ok tt)
+    dash answer refusals (written.1 flushed.1).1)
 
 -- the line of its fault was cut off
 pub returns-in_err-put_fault_line-in-Err-Fault-clause-behavior :
@@ -74,9 +74,9 @@ returns-in_err-put_fault_line-in-Err-Fault-clause-behavior g c =
     let refusals = rw c.in-Err-Fault.field-0-is at c.in-Err-Fault.ensures.refusals in
     let cut = rw c.in-Err-Fault.fault-is at c.in_err-put_fault_line-in-Err-Fault.ensures in
     let stop = err_from_is_err_and c.from_residual.result c.from_residual.ensures.1 in
-    rw (stop.1, stop.2, ← c.streams-2.view_is) (λ flushed. refused g.S.Source.state c.args.settings c.args.tool.now c.args.name.now
-    (streams_of g.J.Input.state c.streams-2.inside.stdin _ _ _) g.S.File.Input.state _ c.in-Err-Fault.fault _ (Err tt) dash
-    answer refusals (cut.1 flushed.1).1)
+    rw (stop.1, stop.2, ← c.streams-2.view_is) (λ flushed. refused g.S.Source.state c.args.settings c.args.tool.now
+    c.args.name.now (streams_of g.J.Input.state c.streams-2.inside.stdin _ _ _) g.S.File.Input.state _
+    c.in-Err-Fault.fault _ (Err tt) dash answer refusals (cut.1 flushed.1).1)
 
 -- it is a file
 pub returns-in-Ok-clause-behavior : goal.returns-in-Ok-clause-behavior
