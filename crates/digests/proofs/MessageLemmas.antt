@@ -21,8 +21,8 @@ known_on_out state a out text (Ok u) none h = where_known state a (record a { ou
       rw (append-nil (events_by [] [] text)) (
           did_by [] [] text (asks_none same refl refl) (Appends-nil a.err.written) (h.1 none).1),
     ))
-known_on_out state a out text (Err e) none h = where_known state a (record a { out = out }) _ (same_known _) (λ w v same.
-    rw (append-nil (events_by [] [] text)) (
+known_on_out state a out text (Err e) none h = where_known state a (record a { out = out }) _ (same_known _)
+    (λ w v same. rw (append-nil (events_by [] [] text)) (
     prefix_out [] [] text (asks_none same refl refl) (Appends-nil a.err.written) (h.1 none).1))
 
 -- a text alone was written to standard error, or a prefix of it
@@ -35,8 +35,8 @@ known_on_err state a err text (Ok u) none h = where_known state a (record a { er
       rw (append-nil (events_by [] text [])) (
           did_by [] text [] (asks_none same refl refl) (h.1 none).1 (Appends-nil a.out.written)),
     ))
-known_on_err state a err text (Err e) none h = where_known state a (record a { err = err }) _ (same_known _) (λ w v same.
-    rw (append-nil (events_by [] text [])) (
+known_on_err state a err text (Err e) none h = where_known state a (record a { err = err }) _ (same_known _)
+    (λ w v same. rw (append-nil (events_by [] text [])) (
     prefix_err [] text [] (asks_none same refl refl) (h.1 none).1 refl))
 
 -- a call that writes a text accounts for its stop

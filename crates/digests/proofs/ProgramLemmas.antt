@@ -97,7 +97,8 @@ Gives state known a b status = IfSome known (λ arguments.
 -- the command line is what they say
 pub program_read : {S : Type 0} (state : S → SourceState) (a b : StreamsState S) (status : ℕ)
     (known : Option (List ByteString))
-    (c : CommandLineValue) → IsCommandLine known c → CallPerforms state (Some c) a b status → Gives state known a b status
+    (c : CommandLineValue) → IsCommandLine known c → CallPerforms state (Some c) a b status
+    → Gives state known a b status
 program_read state a b status None c is h = tt
 program_read state a b status (Some arguments) c is h =
     inl (subst (λ line. CallPerforms state line a b status) (sym is) h)

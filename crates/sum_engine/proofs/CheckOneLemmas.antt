@@ -159,17 +159,17 @@ module _ {S : Type 0} (state : S → SourceState) (settings : CheckSettings) (to
 
     module _ {F : Type 0} (content : F → InputState) (source : S) where
       -- the source was asked to open the manifest, if it is known
-      abbrev IsAsked : Result F OpenFault → Type 0
-      IsAsked x = IfKnown (state a.source).known (state source).known (λ s t. OpenOf content s t name x)
+      abbrev IsAnswer : Result F OpenFault → Type 0
+      IsAnswer x = IfKnown (state a.source).known (state source).known (λ s t. OpenOf content s t name x)
 
       -- so the world is, if that is known
-      opens : (x : Result F OpenFault) → IsAsked x
+      opens : (x : Result F OpenFault) → IsAnswer x
           → IfKnown (world_of state a) (world_of state (record a { source = source })) (OpensIn content name x)
       opens x h = search rules
 
       -- it is a file
       pub check_file : (b last : StreamsState S) (file : F) (x : Result Bool Stop) → is_dash name ≡ false
-          → IsAsked (Ok file) → (state source).refusals ≡ (state a.source).refusals
+          → IsAnswer (Ok file) → (state source).refusals ≡ (state a.source).refusals
           → known_state state last ≡ known_state state b
           → Checks (rules_if false) (labels_if false) state (option_map clip (content file).content)
           (record a { source = source }) b x → Performed last x
@@ -178,7 +178,7 @@ module _ {S : Type 0} (state : S → SourceState) (settings : CheckSettings) (to
 
       -- it could not be opened, and the line of its fault was written, or a prefix of it
       pub refused : (f : Fault) (err : SinkState) (x : Writing) → is_dash name ≡ false
-          → IsAsked (Err (open_faults.Fault f)) → (state source).refusals ≡ (state a.source).refusals
+          → IsAnswer (Err (open_faults.Fault f)) → (state source).refusals ≡ (state a.source).refusals
           → WritesOrPrefix a.err.written err.written (fault_line present tool name f) x
           → Performed (record a { source = source; err = err }) (answered x false)
       refused f err x dash h refusals writes =
@@ -193,7 +193,7 @@ module _ {S : Type 0} (state : S → SourceState) (settings : CheckSettings) (to
           )) (err_alone a.err err a.out _ x writes)
 
       -- there was no memory to open it
-      pub no_room : IsAsked (Err open_faults.Memory) → (state source).refusals ≡ one_more (state a.source).refusals
+      pub no_room : IsAnswer (Err open_faults.Memory) → (state source).refusals ≡ one_more (state a.source).refusals
           → Performed (record a { source = source }) (Err Memory)
       no_room h refused =
           let next : StreamsState S = record a { source = source } in

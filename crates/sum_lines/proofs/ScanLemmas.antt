@@ -101,7 +101,8 @@ module _ {w : KindValue × List ℕ} {inner digits : List ℕ} {name : List ℕ 
     (split : Some name ≡ rsplit_once 41 inner)
     (sign : Some digits ≡ strip_prefix (61 ∷ []) (after_while is_blank name.1)) where
   -- is read as the line's parts
-  pub tagged-read : {d : List ℕ} → decode_of (after_while is_blank digits) ≡ Ok d → length d ≡ w.0.len → 0 < length name.0
+  pub tagged-read : {d : List ℕ} → decode_of (after_while is_blank digits) ≡ Ok d → length d ≡ w.0.len
+      → 0 < length name.0
       → Some (record { escaped = (text line).0; kind = w.0; digest = d; text = name.0 }) ≡ tagged_parts (One a) line
   unfolding tagged_parts
   tagged-read spelled size some = grind arith

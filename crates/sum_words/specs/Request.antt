@@ -103,8 +103,8 @@ early_answer (x ∷ xs) = early_answer xs
 
 -- what a tool's items ask for; the last value of --length counts, and its fault precedes those of the options
 abbrev pub request_of_items : Tool → List ItemValue → Result Request WordFaultValue
-request_of_items t xs =
-    unwrap_or (early_answer xs) (elim (option_transpose (option_map length_kind (last_or None (filter_map value_in xs)))) [
+request_of_items t xs = let kind = option_transpose (option_map length_kind (last_or None (filter_map value_in xs))) in
+    unwrap_or (early_answer xs) (elim kind [
       | Ok kind ↦ request_or_fault (algos_of t) kind (filter_map option_in xs) (filter_map operand_in xs)
       | Err f ↦ Err f
     ])
