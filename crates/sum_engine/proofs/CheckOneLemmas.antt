@@ -1,5 +1,5 @@
 -- `check_one`: a new checker that runs to its end, by induction on its steps, after its manifest was opened.
-use Rattle.std.proofs.Common.{rules, ◌++◌, ◌≡◌, ℕ, Bool, true, false, List, [], ◌∷◌, Option, None, Some, Result, Ok, Err, cond, refl, sym, ◌∙◌, subst, codes, option_map, IfSome}
+use Rattle.std.proofs.Common.{rules, ◌++◌, ◌≡◌, ℕ, Bool, true, false, List, [], ◌∷◌, Option, None, Some, Result, Ok, Err, cond, refl, subst, codes, option_map, IfSome}
 use Rattle.std.proofs.Math.Bool.{or-false}
 use Rattle.sum_engine.specs.Behavior.{Fault, World, is_dash, reply, after, Step, Behavior, events_of}
 use Rattle.sum_sources.specs.declared.sources.source.OpenFault.{OpenFault}
@@ -183,14 +183,8 @@ module _ {S : Type 0} (state : S → SourceState) (settings : CheckSettings) (to
           → Performed (record a { source = source; err = err }) (answered x false)
       refused f err x dash h refusals writes =
           once state (λ w. check_behavior settings tool w name) (name ∷ []) (fault_line present tool name f) [] false
-          (λ g. g) a (record a { source = source; err = err }) x (opens (Err (open_faults.Fault f)) h) (λ w v is. (
-            rw (dash, is.1) refl,
-            record {
-              world = is.0 ∙ rw dash refl;
-              taken = rw dash (sym (or-false a.stdin_taken));
-              refusals = refusals;
-            },
-          )) (err_alone a.err err a.out _ x writes)
+          (λ g. g) a (record a { source = source; err = err }) x (opens (Err (open_faults.Fault f)) h)
+          (λ w v is. (rw (dash, is.1) refl, search (rules, or-false))) (err_alone a.err err a.out _ x writes)
 
       -- there was no memory to open it
       pub no_room : IsAnswer (Err open_faults.Memory) → (state source).refusals ≡ one_more (state a.source).refusals

@@ -1,8 +1,8 @@
 -- `generate_one`: the behavior of hashing one name, by the outcome of `hash_name` and what was then written.
-use Rattle.std.proofs.Common.{rules, ◌≡◌, ℕ, ◌||◌, Bool, List, [], ◌∷◌, Some, Result, Ok, Err, refl, ap, sym, ◌∙◌}
+use Rattle.std.proofs.Common.{rules, ◌≡◌, ℕ, ◌||◌, Bool, List, [], ◌∷◌, Some, Result, Ok, Err, refl}
 use Rattle.std.proofs.Math.Bool.{or-false}
 use Rattle.digest_kinds.specs.Kinds.{KindValue}
-use Rattle.sum_engine.specs.Behavior.{Fault, is_dash, reply, digest_or_fault, Step, single_step}
+use Rattle.sum_engine.specs.Behavior.{Fault, is_dash, digest_or_fault, Step, single_step}
 use Rattle.sum_sources.specs.Contents.{Reply, SourceState}
 use Rattle.sum_engine.specs.refinement.HashName.{HashOutcome, digest_of_outcome, HashesNameIfKnown, IsHashOutcome, world_of}
 use Rattle.sum_engine.specs.Generation.{Settings, generate_behavior, generate_behavior_by}
@@ -26,15 +26,8 @@ pub generate-performed : {S : Type 0} (state : S → SourceState) (settings : Se
     → WritesBoth a.err b.err a.out b.out err out x
     → Runs state (λ w. generate_behavior settings tool w name) (λ g. g) a b (answered x good)
 generate-performed state settings tool name err out good a b outcome found x h taken refusals same is writes =
-    once state (λ w. generate_behavior settings tool w name) (name ∷ []) err out good (λ g. g) a b x h (λ w v asked. (
-      ap (generate_behavior_by settings tool name)
-          (digest_or_fault-is settings.kind (reply w name) outcome asked.1 ∙ sym same) ∙ is,
-      record {
-        world = asked.0;
-        taken = taken ∙ ap (λ t. a.stdin_taken || t) (sym (or-false (is_dash name)));
-        refusals = refusals;
-      },
-    )) writes
+    once state (λ w. generate_behavior settings tool w name) (name ∷ []) err out good (λ g. g) a b x h
+    (λ w v asked. (search (rules, digest_or_fault-is), search (rules, or-false))) writes
 
 -- generation is one step
 pub one_step : (settings : Settings) (tool name : List ℕ) (x : Result (List ℕ) Fault)

@@ -143,7 +143,7 @@ vectors_fit : (r : Rules) (labels : LabelsValue) (a b : CheckState) (vectors : L
     → StepsGoing r labels a b vectors → (i : ℕ)
     → length (slice_index_or vectors i []) ≤ length (slice_index_or (lines_by r.profile a.rest) i [])
 vectors_fit r labels a b [] is i = omega arith
-vectors_fit r labels a b (v ∷ vectors) more zero = rw more.1.1.lines more.1.1.vector_len
+vectors_fit r labels a b (v ∷ vectors) more zero = search rules
 vectors_fit r labels a b (v ∷ vectors) more (suc i) = search (rules, vectors_fit r labels more.0 b vectors more.2 i)
 
 -- the law

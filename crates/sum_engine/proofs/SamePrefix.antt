@@ -1,5 +1,5 @@
 -- `same_front`: later lines have no part in what a line says, by induction on the lines before it.
-use Rattle.std.proofs.Common.{rules, ◌≡◌, ℕ, suc, ◌+◌, List, [], ◌∷◌, ◌++◌, length, take, refl, ap, sym, ◌∙◌, append_assoc, length-append}
+use Rattle.std.proofs.Common.{rules, ◌≡◌, ℕ, ◌+◌, List, [], ◌∷◌, ◌++◌, length, take, refl, sym, ◌∙◌, append_assoc, length-append}
 use Rattle.sum_engine.specs.check.Verdicts.{Algos, Form, Rules, LineVerdictValue, judge, asks_of, verdicts}
 use Rattle.sum_lines.specs.declared.reading.read_line.Form.TheVariants.{Undecided}
 use Rattle.sum_lines.specs.grammar.Entries.{EntryValue, IsEntry, form, form_then, line_form}
@@ -24,15 +24,11 @@ prefix_verdicts : (r : Rules) (w : World) (n : ℕ) (f : Form) (prefix later : L
     (prefix ++ later)) ≡ running r w n f prefix
 prefix_verdicts r w n f [] later = refl
 prefix_verdicts r w n f (l ∷ ls) later =
-    let algo = r.algo in
-    let here = form_then f (line_form algo l) in
-    let rest = form algo (ls ++ later) in
-    let all : form_then f (form algo (l ∷ (ls ++ later))) ≡ form_then here rest = form_next algo f l (ls ++ later) in
-    let j = judge r w (n + 1) (parse_line r.profile algo here l) in
-    ap (λ g. take (suc (length ls)) (verdicts r g w n (l ∷ (ls ++ later)))) all
-    ∙ ap (λ x. judge r w (n + 1) x ∷ take (length ls) (verdicts r (form_then here rest)
-    (after w (asks_of (judge r w (n + 1) x))) (n + 1) (ls ++ later))) (parse_stays r.profile algo f rest l)
-    ∙ ap (λ x. j ∷ x) (prefix_verdicts r (after w (asks_of j)) (n + 1) here ls later)
+    let here = form_then f (line_form r.algo l) in
+    let rest = form r.algo (ls ++ later) in
+    let j = judge r w (n + 1) (parse_line r.profile r.algo here l) in
+    let later_on = prefix_verdicts r (after w (asks_of j)) (n + 1) here ls later in
+    search (rules, form_next, parse_stays r.profile r.algo f rest l, later_on)
 
 -- an entry by one form is one by another, if the line says the same
 entry_same : (algos : Algos) (f g : Form) (line : List ℕ) (s : EntryValue)
