@@ -18,19 +18,19 @@ pub flushed-none : (a b : Option ByteString) {held : ByteString} → Appends a b
 flushed-none = search rules
 
 -- also if it fails
-pub dropped-none : (a b : SinkState) → FlushFailed a b → a.buffered ≡ [] → Keeps a.written b.written
-dropped-none a b h none =
+pub flush_failed-none : (a b : SinkState) → FlushFailed a b → a.buffered ≡ [] → Keeps a.written b.written
+flush_failed-none a b h none =
     flushed-none a.written b.written h.written.2 (no_prefix h.written.0 h.written.1.0 (rw none at h.written.1.1))
 
 -- the line for a stop was written, or a prefix of it
-pub tells-stop : {E : Type 0} (line : ByteString) (a b : SinkState) (r : Result (Unit {0}) E) → a.buffered ≡ []
+pub writes-stop : {E : Type 0} (line : ByteString) (a b : SinkState) (r : Result (Unit {0}) E) → a.buffered ≡ []
     → WritesAndFlushes a b line r → WritesLine line a b
-tells-stop = search rules
+writes-stop = search rules
 
 -- both outputs were flushed after a run, from a to b and from c to e, and it stopped then or before; then the line was
 -- written
-pub closes-stop : {E : Type 0} (line : Stop → ByteString) (answer : Result ℕ Stop) (stop : Stop) (a b c e d : SinkState)
-    (r : Result (Unit {0}) E) → FlushesBoth a b c e answer (Err stop) → Keeps a.written b.written
-    → Keeps c.written e.written → e.buffered ≡ [] → WritesAndFlushes e d (line stop) r
+pub finishes_run-stop : {E : Type 0} (line : Stop → ByteString) (answer : Result ℕ Stop) (stop : Stop)
+    (a b c e d : SinkState) (r : Result (Unit {0}) E) → FlushesBoth a b c e answer (Err stop)
+    → Keeps a.written b.written → Keeps c.written e.written → e.buffered ≡ [] → WritesAndFlushes e d (line stop) r
     → FinishesRun line answer a b c d 1
-closes-stop = search rules
+finishes_run-stop = search rules

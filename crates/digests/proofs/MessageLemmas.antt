@@ -40,12 +40,12 @@ known_on_err state a err text (Err e) none h = where_known state a (record a { e
     prefix_err [] text [] (asks_none same refl refl) (h.1 none).1 refl))
 
 -- a call that writes a text accounts for its stop
-pub accounts_on_out : {S E : Type 0} (state : S → SourceState) (Changes : ℕ → ℕ → Type 0) (a : StreamsState S)
+pub cause_on_out : {S E : Type 0} (state : S → SourceState) (Changes : ℕ → ℕ → Type 0) (a : StreamsState S)
     (out : SinkState) (text : ByteString) (status : ℕ) (r : Result (Unit {0}) E) → WritesAndFlushes a.out out text r
     → StopHasCause state Changes a (record a { out = out }) (status_after_write r status)
-accounts_on_out = search rules
+cause_on_out = search rules
 
-pub accounts_on_err : {S E : Type 0} (state : S → SourceState) (Changes : ℕ → ℕ → Type 0) (a : StreamsState S)
+pub cause_on_err : {S E : Type 0} (state : S → SourceState) (Changes : ℕ → ℕ → Type 0) (a : StreamsState S)
     (err : SinkState) (text : ByteString) (status : ℕ) (r : Result (Unit {0}) E) → WritesAndFlushes a.err err text r
     → StopHasCause state Changes a (record a { err = err }) (status_after_write r status)
-accounts_on_err = search rules
+cause_on_err = search rules

@@ -42,16 +42,16 @@ started o rest None is = tt
 started o rest (Some a) is =
     record { done = nothing; total = ap (operands_behavior o.one a.world) is; happened = did_nothing a; is = refl }
 
-pub reached_start : {S : Type 0} (state : S → SourceState) (o : Operands) {rest : List ByteString} (a : StreamsState S)
-    → o.names ≡ rest → OperandsDoneIfKnown state o.one o.names rest a a true
-reached_start state o {rest = rest} a is = started o rest (known_state state a) is
+pub operands_done_start : {S : Type 0} (state : S → SourceState) (o : Operands) {rest : List ByteString}
+    (a : StreamsState S) → o.names ≡ rest → OperandsDoneIfKnown state o.one o.names rest a a true
+operands_done_start state o {rest = rest} a is = started o rest (known_state state a) is
 
 -- one operand more happened
-pub reached_step : {S : Type 0} (state : S → SourceState) (o : Operands) (good this : Bool) (name : ByteString)
+pub operands_done_step : {S : Type 0} (state : S → SourceState) (o : Operands) (good this : Bool) (name : ByteString)
     (rest : List ByteString) (x y z : StreamsState S) → OperandsDoneIfKnown state o.one o.names (name ∷ rest) x y good
     → Runs state (λ w. o.one w name) (λ g. g) y z (Ok this) → OperandsDoneIfKnown state o.one o.names rest x z
     (good && this)
-reached_step state o good this name rest x y z h k =
+operands_done_step state o good this name rest x y z h k =
     IfKnown-then (known_state state x) (known_state state y) (known_state state z) (λ a b c p q.
     let run = o.one b.world name in
     let world : c.world ≡ after b.world (asks run) = (events_extend run b c q.1).0 in
@@ -64,17 +64,18 @@ reached_step state o good this name rest x y z h k =
     }) h k
 
 -- no operand is left
-pub reached_end : {S : Type 0} (state : S → SourceState) (o : Operands) (good : Bool) (x y : StreamsState S)
+pub operands_done_end : {S : Type 0} (state : S → SourceState) (o : Operands) (good : Bool) (x y : StreamsState S)
     → OperandsDoneIfKnown state o.one o.names [] x y good
     → Runs state (λ w. operands_behavior o.one w o.names) status_of x y (Ok (status_of good))
-reached_end state o good x y h = search rules
+operands_done_end state o good x y h = search rules
 
 -- the next operand stopped the run
-pub reached_stop : {S : Type 0} (state : S → SourceState) (o : Operands) (stop : Stop) (good : Bool) (name : ByteString)
-    (rest : List ByteString) (x y z : StreamsState S) → OperandsDoneIfKnown state o.one o.names (name ∷ rest) x y good
+pub operands_done_stop : {S : Type 0} (state : S → SourceState) (o : Operands) (stop : Stop) (good : Bool)
+    (name : ByteString) (rest : List ByteString) (x y z : StreamsState S)
+    → OperandsDoneIfKnown state o.one o.names (name ∷ rest) x y good
     → Runs state (λ w. o.one w name) (λ g. g) y z (Err stop)
     → Runs state (λ w. operands_behavior o.one w o.names) status_of x z (Err stop)
-reached_stop state o stop good name rest x y z h k =
+operands_done_stop state o stop good name rest x y z h k =
     IfKnown-then (known_state state x) (known_state state y) (known_state state z) (λ a b c p q.
     let run = o.one b.world name in
     let later = operands_behavior o.one (after b.world (asks run)) rest in

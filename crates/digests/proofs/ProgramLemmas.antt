@@ -16,7 +16,7 @@ use Rattle.digests.specs.Meaning.{status_of}
 use Rattle.digests.specs.Program.{CallPerforms, call_behavior, call_stop_line}
 use Rattle.digests.specs.refinement.FinishRun.{FinishesRun}
 use Rattle.digests.specs.refinement.Operands.{status_after_write}
-use Rattle.digests.proofs.MessageLemmas.{accounts_on_err}
+use Rattle.digests.proofs.MessageLemmas.{cause_on_err}
 
 -- ---- a run that answered, and its end
 
@@ -83,7 +83,7 @@ pub program_known : {S E : Type 0} (state : S → SourceState) (status : ℕ) (l
     → CallPerforms state line a (record a { out = out; err = last }) status
 program_known state status line a err out last text r none wrote ran closed =
     program_ends state status line a (record a { err = err }) out last (status_after_write r 1) ran
-    (accounts_on_err state (λ n m. m ≡ n) a err text 1 r wrote).failures (none.0, (wrote.1 none.1).0) closed
+    (cause_on_err state (λ n m. m ≡ n) a err text 1 r wrote).failures (none.0, (wrote.1 none.1).0) closed
 
 -- ---- by what was read of the arguments
 

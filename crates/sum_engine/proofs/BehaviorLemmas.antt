@@ -110,10 +110,10 @@ pub once : {S A : Type 0} (state : S → SourceState) (run : World → Behavior)
     → ((w v : World) → P w v → (run w ≡ single_step names err out good)
     × Asks (known state a w) (known state b v) names)
     → WritesBoth a.err b.err a.out b.out err out x → Runs state run answer a b (answered x (answer good))
-once state run names err out good answer a b (Ok u) h is told = where_known state a b _ h (λ w v p.
-    rw ((is w v p).0, append-nil) (refl, came_by _ _ names err out (Ok u) (is w v p).1 told))
-once state run names err out good answer a b (Err e) h is told = where_known state a b _ h (λ w v p.
-    rw ((is w v p).0, append-nil) (came_by _ _ names err out (Err e) (is w v p).1 told))
+once state run names err out good answer a b (Ok u) h is wrote = where_known state a b _ h (λ w v p.
+    rw ((is w v p).0, append-nil) (refl, came_by _ _ names err out (Ok u) (is w v p).1 wrote))
+once state run names err out good answer a b (Err e) h is wrote = where_known state a b _ h (λ w v p.
+    rw ((is w v p).0, append-nil) (came_by _ _ names err out (Err e) (is w v p).1 wrote))
 
 -- the source had no memory to open the first step's name
 pub unasked : {S A : Type 0} (state : S → SourceState) (run : World → Behavior) (answer : Bool

@@ -23,10 +23,10 @@ prefix_then a b c x y h k = search (rules, Appends-trans, append_assoc)
 -- ---- one output
 
 -- a text was written, and then flushed
-pub told_flushed : {E : Type 0} (a b c : SinkState) (text : List ℕ) (r : Result (Unit {0}) E) → Accepted a b text
+pub written_flushed : {E : Type 0} (a b c : SinkState) (text : List ℕ) (r : Result (Unit {0}) E) → Accepted a b text
     → Flushes b c r → WritesAndFlushes a c text r
-told_flushed a b c text (Ok u) h k = search rules
-told_flushed a b c text (Err e) h k = (
+written_flushed a b c text (Ok u) h k = search rules
+written_flushed a b c text (Err e) h k = (
   k.failures ∙ ap one_more h.failures,
   λ none.
       (k.buffered, subst (λ l. AppendsPrefix a.written c.written (l ++ text)) none (Accepted-flush_failed text h k)),
@@ -35,10 +35,10 @@ told_flushed a b c text (Err e) h k = (
 -- ---- one text after another
 
 -- a text, and then another or a prefix of it
-pub tells_then : {E : Type 0} (a b c : SinkState) (x y : List ℕ) (r : Result (Unit {0}) E)
+pub written_then : {E : Type 0} (a b c : SinkState) (x y : List ℕ) (r : Result (Unit {0}) E)
     → WritesAndFlushes {E = E} a b x (Ok tt) → WritesAndFlushes b c y r → WritesAndFlushes a c (x ++ y) r
-tells_then a b c x y (Ok u) h k = search (rules, Appends-trans)
-tells_then a b c x y (Err e) h k = (
+written_then a b c x y (Ok u) h k = search (rules, Appends-trans)
+written_then a b c x y (Err e) h k = (
   k.0 ∙ ap one_more h.0,
   λ none.
       let then = k.1 (h.1 none).0 in

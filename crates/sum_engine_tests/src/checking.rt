@@ -20,7 +20,7 @@ pub(crate) const ALL: &[u8] = b"900150983cd24fb0d6963f7d28e17f72  a\n\
     900150983cd24fb0d6963f7d28e17f72  e\n";
 
 /// Streams of known values: what standard input gives, and the files.
-pub(crate) fn told<'a, S>(
+pub(crate) fn known<'a, S>(
     input: &'a [u8],
     source: S,
 ) -> Streams<Told<'a>, S, ToldSink<1000>, ToldSink<1000>> {
@@ -65,7 +65,7 @@ fn checks(
         } else {
             b"abc".as_slice()
         };
-        let mut streams = told(input, source);
+        let mut streams = known(input, source);
         let good = check_one(rt.alloc(), settings, tool, name, &mut streams);
         assert!(rt; good == Ok(want.0));
         assert_eq!(rt; streams.out.bytes(), want.1.as_bytes());
@@ -111,7 +111,7 @@ fn all_verdicts(rt: HostRuntime) -> Result<(), Fail> {
 // The manifest and each name that a line lists, and no name of a line that is ignored or bad.
 #[test]
 fn names_asked(rt: HostRuntime) -> Result<(), Fail> {
-    let mut streams = told(b"", files(rt.alloc(), 8192, ALL, Ending::Whole)?);
+    let mut streams = known(b"", files(rt.alloc(), 8192, ALL, Ending::Whole)?);
     assert!(rt; check_one(rt.alloc(), plain(), "md5sum", b"l", &mut streams) == Ok(false));
     for (i, name) in ["l", "a", "x", "e"].iter().enumerate() {
         assert_eq!(rt;
@@ -172,7 +172,7 @@ fn checks_twice(
     (out, err): (&str, &str),
 ) -> Result<(), Fail> {
     for piece in [1, 100, 8192] {
-        let mut streams = told(b"abc", files(rt.alloc(), piece, l, Ending::Whole)?);
+        let mut streams = known(b"abc", files(rt.alloc(), piece, l, Ending::Whole)?);
         for want in good {
             let found = check_one(rt.alloc(), plain(), "md5sum", b"l", &mut streams);
             assert!(rt; found == Ok(want));

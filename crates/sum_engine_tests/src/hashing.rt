@@ -16,7 +16,7 @@ const BINARY: Style = Style {
 };
 
 // Streams over this input and these files.
-fn told<'a, S>(input: Told<'a>, source: S) -> Streams<Told<'a>, S, ToldSink<200>, ToldSink<200>> {
+fn known<'a, S>(input: Told<'a>, source: S) -> Streams<Told<'a>, S, ToldSink<200>, ToldSink<200>> {
     Streams {
         stdin: Stdin::new(input),
         source,
@@ -30,7 +30,7 @@ fn files(rt: HostRuntime) -> Result<(), Fail> {
     let mut source = ToldSource::new(rt.alloc(), 8192);
     source.add(b"a", Answer::Content(b"abc", Ending::Whole))?;
     source.add(b"e", Answer::Content(b"", Ending::Whole))?;
-    let mut streams = told(Told::new(b"", Ending::Whole, 1), source);
+    let mut streams = known(Told::new(b"", Ending::Whole, 1), source);
     let kind = Kind::of(Algo::Md5);
     for (style, name) in [(TEXT, "a"), (TEXT, "e"), (BINARY, "a")] {
         let settings = Settings { kind, style };
@@ -52,7 +52,7 @@ fn faults(rt: HostRuntime) -> Result<(), Fail> {
         b"f",
         Answer::Content(&content, Ending::Broken(Fault::Other)),
     )?;
-    let mut streams = told(Told::new(b"abc", Ending::Broken(Fault::Other), 1), source);
+    let mut streams = known(Told::new(b"abc", Ending::Broken(Fault::Other), 1), source);
     let settings = Settings {
         kind: Kind::of(Algo::Md5),
         style: TEXT,
@@ -87,7 +87,7 @@ fn stdin_alone(rt: HostRuntime) {
             fault,
         ),
     ] {
-        let mut streams = told(input, ToldSource::new(rt.alloc(), 1));
+        let mut streams = known(input, ToldSource::new(rt.alloc(), 1));
         assert!(rt; generate_one(&settings, "sha256sum", b"-", &mut streams) == Ok(good));
         assert_eq!(rt; streams.out.bytes(), out.as_bytes());
         assert_eq!(rt; streams.err.bytes(), err.as_bytes());
@@ -106,7 +106,7 @@ fn fault_at_each_place(rt: HostRuntime) -> Result<(), Fail> {
         let given = content.get(..place).ok_or("place")?;
         let mut source = ToldSource::new(rt.alloc(), 127);
         source.add(b"f", Answer::Content(given, Ending::Broken(Fault::Denied)))?;
-        let mut streams = told(Told::new(b"", Ending::Whole, 1), source);
+        let mut streams = known(Told::new(b"", Ending::Whole, 1), source);
         assert!(rt; generate_one(&settings, "md5sum", b"f", &mut streams) == Ok(false));
         assert!(rt; streams.out.bytes().is_empty());
         assert_eq!(rt;
@@ -124,7 +124,7 @@ fn missing_file(rt: HostRuntime) -> Result<(), Fail> {
     let mut source = ToldSource::new(rt.alloc(), 1);
     source.add(b"a", Answer::Content(b"abc", Ending::Whole))?;
     source.add(b"e", Answer::Content(b"", Ending::Whole))?;
-    let mut streams = told(Told::new(b"", Ending::Whole, 1), source);
+    let mut streams = known(Told::new(b"", Ending::Whole, 1), source);
     let settings = Settings {
         kind: Kind::of(Algo::Md5),
         style: TEXT,
@@ -151,7 +151,7 @@ fn missing_file(rt: HostRuntime) -> Result<(), Fail> {
 fn output_stops(rt: HostRuntime) -> Result<(), Fail> {
     let mut source = ToldSource::new(rt.alloc(), 1);
     source.add(b"a", Answer::Content(b"abc", Ending::Whole))?;
-    let mut streams = told(Told::new(b"", Ending::Whole, 1), source);
+    let mut streams = known(Told::new(b"", Ending::Whole, 1), source);
     streams.out = ToldSink::new(10);
     let settings = Settings {
         kind: Kind::of(Algo::Md5),
@@ -167,7 +167,7 @@ fn output_stops(rt: HostRuntime) -> Result<(), Fail> {
 #[test]
 fn stdin_twice(rt: HostRuntime) -> Result<(), Fail> {
     let source = ToldSource::new(rt.alloc(), 8192);
-    let mut streams = told(Told::new(b"abc", Ending::Whole, 1), source);
+    let mut streams = known(Told::new(b"abc", Ending::Whole, 1), source);
     let settings = Settings {
         kind: Kind::of(Algo::Md5),
         style: TEXT,
@@ -219,7 +219,7 @@ impl Source for Refusing {
 #[test]
 fn memory_refused(rt: HostRuntime) {
     let source = Refusing::new();
-    let mut streams = told(Told::new(b"", Ending::Whole, 1), source);
+    let mut streams = known(Told::new(b"", Ending::Whole, 1), source);
     let settings = Settings {
         kind: Kind::of(Algo::Md5),
         style: TEXT,

@@ -1,5 +1,5 @@
 //! `Checker::step`.
-use crate::checking::{ALL, files, plain, told};
+use crate::checking::{ALL, files, known, plain};
 use crate::hashing::Refusing;
 use linked_list_allocator::LocalHeap;
 use std::test::Fail;
@@ -9,7 +9,7 @@ use sum_sources::{Ending, Told};
 #[test]
 fn step_by_step(rt: HostRuntime) -> Result<(), Fail> {
     let source = files(rt.alloc(), 8192, ALL, Ending::Whole)?;
-    let mut streams = told(b"", source);
+    let mut streams = known(b"", source);
     let manifest = Told::new(ALL, Ending::Whole, 8192);
     let mut checker = Checker::new(plain(), "md5sum", b"l", false, manifest);
     let mut line = Vec::new(rt.alloc());
@@ -46,7 +46,7 @@ fn reads_no_further(rt: HostRuntime) -> Result<(), Fail> {
         manifest.push(b'\n')?;
     }
     let source = files(rt.alloc(), 8192, b"", Ending::Whole)?;
-    let mut streams = told(b"", source);
+    let mut streams = known(b"", source);
     let input = Told::new(&manifest, Ending::Whole, 8192);
     let mut checker = Checker::new(plain(), "md5sum", b"l", false, input);
     let mut line = Vec::new(rt.alloc());
@@ -61,7 +61,7 @@ fn reads_no_further(rt: HostRuntime) -> Result<(), Fail> {
 #[test]
 fn stops_for_good(rt: HostRuntime) {
     let source = Refusing::new();
-    let mut streams = told(b"", source);
+    let mut streams = known(b"", source);
     let mut checker = Checker::new(
         plain(),
         "md5sum",
@@ -86,7 +86,7 @@ fn memory_refused(rt: HostRuntime) -> Result<(), Fail> {
     let name = vec![in rt.alloc(); b'x'; 5000]?;
     manifest.extend_from_slice(&name)?;
     let source = files(rt.alloc(), 8192, b"", Ending::Whole)?;
-    let mut streams = told(b"", source);
+    let mut streams = known(b"", source);
     let input = Told::new(&manifest, Ending::Whole, 8192);
     let mut checker = Checker::new(plain(), "md5sum", b"l3", false, input);
     let heap = LocalHeap::new(rt.alloc(), 256)?;

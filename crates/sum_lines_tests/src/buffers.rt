@@ -3,7 +3,7 @@
 ghost use Rattle.std.specs.Prelude.{◌≡◌, [], None};
 ghost use Rattle.digest_kinds.specs.Limits.{one_more};
 
-use crate::calls::{flush, offer, put, told};
+use crate::calls::{flush, known, offer, put};
 use digest_kinds::{Algo, Digest, Kind};
 use std::io;
 use std::io::{ErrorKind, Write};
@@ -142,7 +142,7 @@ fn put_md5_line(
 
 // A line is written as one piece when it is flushed.
 fn check_line(rt: &impl Abort, style: Style, name: &[u8], line: [&[u8]; 3]) {
-    let mut want: ToldSink<256> = told(256);
+    let mut want: ToldSink<256> = known(256);
     for part in line {
         assert_eq!(rt; put(&mut want, part), Ok(()));
     }
@@ -308,7 +308,7 @@ fn a_write_that_fails_loses_what_is_buffered(rt: HostRuntime) {
 fn a_full_sink_has_a_prefix(rt: HostRuntime) {
     let text = b"abc\ndef\n";
     for stop in 0..=text.len() {
-        let mut buffer = Buffered::new(told::<16>(stop));
+        let mut buffer = Buffered::new(known::<16>(stop));
         assert_eq!(rt; put(&mut buffer, text), Ok(()));
         let whole = stop == text.len();
         let want = if whole { Ok(()) } else { Err(SinkFault) };

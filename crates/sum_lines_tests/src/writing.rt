@@ -1,6 +1,6 @@
 //! Worked lines, and worked names that are read back.
 
-use crate::calls::{put, told};
+use crate::calls::{known, put};
 use digest_kinds::{Algo, Digest, Kind};
 use std::process::Abort;
 use std::test::Fail;
@@ -55,13 +55,13 @@ fn put_row(rt: &impl Abort, sink: &mut ToldSink<256>, row: &Row) -> Result<(), S
 
 // Writes the row's line into a sink that stops after each count of bytes up to the line's length.
 fn check_row(rt: &impl Abort, row: &Row) {
-    let mut want: ToldSink<256> = told(256);
+    let mut want: ToldSink<256> = known(256);
     for piece in [row.before, row.digits, row.after] {
         assert_eq!(rt; put(&mut want, piece), Ok(()));
     }
     let want = want.bytes();
     for stop in 0..=want.len() {
-        let mut sink: ToldSink<256> = told(stop);
+        let mut sink: ToldSink<256> = known(stop);
         let answer = put_row(rt, &mut sink, row);
         let whole = stop == want.len();
         assert_eq!(rt; answer, if whole { Ok(()) } else { Err(SinkFault) });

@@ -1,4 +1,4 @@
-//! An input and a source of which one read fails, after which they go on. A told input repeats its fault, so it doesn't
+//! An input and a source of which one read fails, after which they go on. A `Told` repeats its fault, so it doesn't
 //! show what a body reads after one.
 use std::alloc::Allocator;
 use std::cell::Cell;

@@ -1,4 +1,4 @@
-//! `hash_input` and `hash_input_over` over told inputs.
+//! `hash_input` and `hash_input_over` over known inputs.
 use digest_kinds::{Hasher, Md5Hasher, Sha256Hasher};
 use std::process::Abort;
 use std::test::Fail;
@@ -6,7 +6,7 @@ use sum_sources::{Ending, Fault, PIECE, Told, hash_input, hash_input_over};
 
 const PIECES: [usize; 4] = [1, 127, 8191, 8192];
 
-// The hash of the told content equals one update by the whole of it.
+// The hash of the known content equals one update by the whole of it.
 fn agrees(rt: &impl Abort, content: &[u8]) {
     for piece in PIECES {
         let mut input = Told::new(content, Ending::Whole, piece);

@@ -1,4 +1,4 @@
-//! `LineReader` over told manifests.
+//! `LineReader` over known manifests.
 use linked_list_allocator::LocalHeap;
 use std::process::Abort;
 use std::test::Fail;

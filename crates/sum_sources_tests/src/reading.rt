@@ -1,4 +1,4 @@
-//! Inputs over readers, and the answers of told inputs.
+//! Inputs over readers, and the answers of known inputs.
 use std::io::{self, ErrorKind, Read};
 use std::test::Fail;
 use sum_sources::{

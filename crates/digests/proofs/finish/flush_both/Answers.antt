@@ -1,13 +1,14 @@
 use Rattle.std.proofs.KnownBytes.{Keeps-refl}
-use Rattle.digests.proofs.FinishRunLemmas.{flushed-none, dropped-none}
+use Rattle.digests.proofs.FinishRunLemmas.{flushed-none, flush_failed-none}
 use Rattle.digests.proofs.finish.flush_both.Goals as goal
 
 -- the flush of standard output failed
 pub returns-in_err-flush-clause-bytes : goal.returns-in_err-flush-clause-bytes
 returns-in_err-flush-clause-bytes g c =
-    λ out err. (dropped-none _ _ c.in_err-flush.ensures.bytes out, Keeps-refl (g.E.Sink.state c.args.err.now).written)
+    λ out err.
+    (flush_failed-none _ _ c.in_err-flush.ensures.bytes out, Keeps-refl (g.E.Sink.state c.args.err.now).written)
 
 -- the flush of standard error failed
 pub returns-in_err-flush-2-clause-bytes : goal.returns-in_err-flush-2-clause-bytes
 returns-in_err-flush-2-clause-bytes g c = λ out err.
-    (flushed-none _ _ c.in_ok-flush.ensures.bytes.0 out, dropped-none _ _ c.in_err-flush-2.ensures.bytes err)
+    (flushed-none _ _ c.in_ok-flush.ensures.bytes.0 out, flush_failed-none _ _ c.in_err-flush-2.ensures.bytes err)

@@ -3,7 +3,7 @@ use Rattle.sum_words.specs.Tools.{name_of}
 use Rattle.digests.specs.Meaning.{or_dash}
 use Rattle.digests.specs.refinement.Operands.{operand_behavior}
 use Rattle.sum_engine.proofs.ReadToEndLemmas.{ReadToEnd-none}
-use Rattle.digests.proofs.OperandLemmas.{Operands, reached_start, reached_step, reached_end, reached_stop, read_step, read_end}
+use Rattle.digests.proofs.OperandLemmas.{Operands, operands_done_start, operands_done_step, operands_done_end, operands_done_stop, read_step, read_end}
 use Rattle.digests.proofs.run.run_operands.Goals.{then-good, else-good}
 use Rattle.digests.proofs.run.run_operands.Goals as goal
 
@@ -13,7 +13,7 @@ operands-init g c =
     let all : Operands =
     record { one = operand_behavior c.args.job.now (name_of c.args.tool); names = or_dash c.args.operands } in
     record {
-      reached = λ hold. reached_start g.S.Source.state all c.args.streams.now c.first_name-name.ensures;
+      reached = λ hold. operands_done_start g.S.Source.state all c.args.streams.now c.first_name-name.ensures;
       so_far = search rules;
       whole = λ good. ReadToEnd-none g.S.Source.state c.args.streams.now c.args.streams.now refl refl refl refl;
     }
@@ -24,8 +24,8 @@ returns-in-Err-clause-behavior g c =
     let all : Operands =
     record { one = operand_behavior c.args.job.now (name_of c.args.tool); names = or_dash c.args.operands } in
     let so_far = c.operands.invariant in
-    λ hold. reached_stop g.S.Source.state all c.in-Err.stop c.operands.good c.operands.name.now c.operands.operands
-    c.args.streams.now c.operands.streams c.run_operand.new.streams (so_far.reached hold)
+    λ hold. operands_done_stop g.S.Source.state all c.in-Err.stop c.operands.good c.operands.name.now
+    c.operands.operands c.args.streams.now c.operands.streams c.run_operand.new.streams (so_far.reached hold)
     (c.in-Err.ensures.behavior (so_far.so_far.flushed hold))
 
 -- an operand happened, and another one is left
@@ -41,7 +41,7 @@ operands-preserved g c =
     let so_far = c.operands.invariant in
     record {
       reached = λ hold. rw (is, ← c.in-Some.ensures.steps)
-          (reached_step g.S.Source.state all c.operands.good c.in-Ok.this c.operands.name.now c.operands.operands
+          (operands_done_step g.S.Source.state all c.operands.good c.in-Ok.this c.operands.name.now c.operands.operands
           c.args.streams.now c.operands.streams c.run_operand.new.streams
           (so_far.reached hold) (c.in-Ok.ensures.behavior (so_far.so_far.flushed hold)));
       so_far = search rules;
@@ -61,10 +61,10 @@ returns-in-None-clause-behavior g c =
     record { one = operand_behavior c.args.job.now (name_of c.args.tool); names = or_dash c.args.operands } in
     let so_far = c.operands.invariant in
     λ hold.
-    let reached = reached_step g.S.Source.state all c.operands.good c.in-Ok.this c.operands.name.now c.operands.operands
-    c.args.streams.now c.operands.streams c.run_operand.new.streams (so_far.reached hold)
+    let reached = operands_done_step g.S.Source.state all c.operands.good c.in-Ok.this c.operands.name.now
+    c.operands.operands c.args.streams.now c.operands.streams c.run_operand.new.streams (so_far.reached hold)
     (c.in-Ok.ensures.behavior (so_far.so_far.flushed hold)) in
-    rw c.status.ensures (reached_end g.S.Source.state all _ c.args.streams.now c.run_operand.new.streams
+    rw c.status.ensures (operands_done_end g.S.Source.state all _ c.args.streams.now c.run_operand.new.streams
     (rw (← is, c.in-None.ensures.steps.0) at reached))
 
 -- then all were read to the end, if all are good

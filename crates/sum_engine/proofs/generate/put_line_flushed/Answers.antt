@@ -1,6 +1,6 @@
-use Rattle.sum_engine.proofs.FlushedWriteLemmas.{told_flushed}
+use Rattle.sum_engine.proofs.FlushedWriteLemmas.{written_flushed}
 use Rattle.sum_engine.proofs.generate.put_line_flushed.Goals as goal
 
 -- the line was written, and then the sink was flushed
 pub returns : goal.returns
-returns g c = told_flushed _ _ _ _ c.flush.result c.in_ok-put_line.ensures c.flush.ensures.bytes
+returns g c = written_flushed _ _ _ _ c.flush.result c.in_ok-put_line.ensures c.flush.ensures.bytes
