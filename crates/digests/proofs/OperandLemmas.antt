@@ -11,8 +11,11 @@ use Rattle.sum_engine.proofs.ExecutionLemmas.{Runs, did_nothing}
 use Rattle.sum_engine.proofs.ReadToEndLemmas.{ReadToEnd-trans}
 use Rattle.sum_engine.proofs.BehaviorLemmas.{behavior_then-did, behavior_then-first, behavior_then-second, events_extend}
 use Rattle.sum_words.specs.Items.{ByteString}
-use Rattle.digests.specs.Meaning.{operands_behavior, status_of}
-use Rattle.digests.specs.refinement.Operands.{OperandsDone, OperandsDoneIfKnown}
+use Rattle.sum_words.specs.declared.tool.Tool.{Tool}
+use Rattle.sum_words.specs.Tools.{name_of}
+use Rattle.digests.specs.Meaning.{operands_behavior, or_dash, status_of}
+use Rattle.digests.specs.declared.run.Job.{Job}
+use Rattle.digests.specs.refinement.Operands.{OperandsDone, OperandsDoneIfKnown, operand_behavior}
 
 -- ---- behaviors, one after another
 
@@ -34,6 +37,10 @@ behavior_then-nothing a = rw (append-nil a.steps, and-true a.good) refl
 pub record Operands : Type 0 where
   pub one : World → ByteString → Behavior
   pub names : List ByteString
+
+-- those of a run: what its job does with each, and their names
+abbrev pub operands_of : Job → Tool → List ByteString → Operands
+operands_of job tool names = record { one = operand_behavior job (name_of tool); names = or_dash names }
 
 -- before the first operand nothing happened
 started : (o : Operands) (rest : List ByteString) (s : Option KnownState) → o.names ≡ rest

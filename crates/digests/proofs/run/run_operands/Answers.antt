@@ -1,17 +1,13 @@
 use Rattle.std.proofs.Common.{◌≡◌, ◌∙◌, rules, ◌&&◌, refl}
-use Rattle.sum_words.specs.Tools.{name_of}
-use Rattle.digests.specs.Meaning.{or_dash}
-use Rattle.digests.specs.refinement.Operands.{operand_behavior}
 use Rattle.sum_engine.proofs.ReadToEndLemmas.{ReadToEnd-none}
-use Rattle.digests.proofs.OperandLemmas.{Operands, operands_done_start, operands_done_step, operands_done_end, operands_done_stop, read_step, read_end}
+use Rattle.digests.proofs.OperandLemmas.{operands_of, operands_done_start, operands_done_step, operands_done_end, operands_done_stop, read_step, read_end}
 use Rattle.digests.proofs.run.run_operands.Goals.{then-good, else-good}
 use Rattle.digests.proofs.run.run_operands.Goals as goal
 
 -- before the first operand nothing happened
 pub operands-init : goal.operands-init
 operands-init g c =
-    let all : Operands =
-    record { one = operand_behavior c.args.job.now (name_of c.args.tool); names = or_dash c.args.operands } in
+    let all = operands_of c.args.job.now c.args.tool c.args.operands in
     record {
       reached = λ hold. operands_done_start g.S.Source.state all c.args.streams.now c.first_name-name.ensures;
       so_far = search rules;
@@ -21,8 +17,7 @@ operands-init g c =
 -- an operand stopped the run
 pub returns-in-Err-clause-behavior : goal.returns-in-Err-clause-behavior
 returns-in-Err-clause-behavior g c =
-    let all : Operands =
-    record { one = operand_behavior c.args.job.now (name_of c.args.tool); names = or_dash c.args.operands } in
+    let all = operands_of c.args.job.now c.args.tool c.args.operands in
     let so_far = c.operands.invariant in
     λ hold. operands_done_stop g.S.Source.state all c.in-Err.stop c.operands.good c.operands.name.now
     c.operands.operands c.args.streams.now c.operands.streams c.run_operand.new.streams (so_far.reached hold)
@@ -36,8 +31,7 @@ operands-preserved g c =
       | then-good w ↦ rw w.if-good.true w.good-is
       | else-good w ↦ rw w.if-good.false (w.good-is ∙ w.if-good.false)
     ] in
-    let all : Operands =
-    record { one = operand_behavior c.args.job.now (name_of c.args.tool); names = or_dash c.args.operands } in
+    let all = operands_of c.args.job.now c.args.tool c.args.operands in
     let so_far = c.operands.invariant in
     record {
       reached = λ hold. rw (is, ← c.in-Some.ensures.steps)
@@ -57,8 +51,7 @@ returns-in-None-clause-behavior g c =
       | then-good w ↦ rw w.if-good.true w.good-is
       | else-good w ↦ rw w.if-good.false (w.good-is ∙ w.if-good.false)
     ] in
-    let all : Operands =
-    record { one = operand_behavior c.args.job.now (name_of c.args.tool); names = or_dash c.args.operands } in
+    let all = operands_of c.args.job.now c.args.tool c.args.operands in
     let so_far = c.operands.invariant in
     λ hold.
     let reached = operands_done_step g.S.Source.state all c.operands.good c.in-Ok.this c.operands.name.now
