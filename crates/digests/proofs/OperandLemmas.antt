@@ -3,11 +3,11 @@ use Rattle.std.proofs.Common.{rules, ◌≡◌, ℕ, Bool, true, false, List, []
 use Rattle.std.proofs.Math.Bool.{and_assoc, and-true}
 use Rattle.std.proofs.lemmas.List.{append-nil}
 use Rattle.sum_sources.specs.Contents.{IfKnown, SourceState}
-use Rattle.sum_sources.proofs.KnownLemmas.{IfKnown-then}
+use Rattle.sum_sources.proofs.KnownLemmas.{IfKnown-map, IfKnown-then}
 use Rattle.sum_engine.specs.declared.stop.Stop.{Stop}
-use Rattle.sum_engine.specs.Behavior.{World, after, Behavior, behavior_then, asks}
-use Rattle.sum_engine.specs.Execution.{StreamsState, KnownState, known_state, PerformsSteps, ReadToEnd}
-use Rattle.sum_engine.proofs.ExecutionLemmas.{Runs, did_nothing}
+use Rattle.sum_engine.specs.Behavior.{World, after, Behavior, behavior_then, trace, asks}
+use Rattle.sum_engine.specs.Execution.{InputsState, StreamsState, IsFlushed, known_world, known_state, Happened, Performs, PerformsSteps, ReadToEnd}
+use Rattle.sum_engine.proofs.ExecutionLemmas.{did_nothing}
 use Rattle.sum_engine.proofs.ReadToEndLemmas.{ReadToEnd-trans}
 use Rattle.sum_engine.proofs.BehaviorLemmas.{behavior_then-did, behavior_then-first, behavior_then-second, events_extend}
 use Rattle.sum_words.specs.Items.{ByteString}
@@ -42,59 +42,77 @@ pub record Operands : Type 0 where
 abbrev pub operands_of : Job → Tool → List ByteString → Operands
 operands_of job tool names = record { one = operand_behavior job (name_of tool); names = or_dash names }
 
--- before the first operand nothing happened
-started : (o : Operands) (rest : List ByteString) (s : Option KnownState) → o.names ≡ rest
-    → IfKnown s s (λ s t. OperandsDone o.one o.names rest s t true)
-started o rest None is = tt
-started o rest (Some a) is =
-    record { done = nothing; total = ap (operands_behavior o.one a.world) is; happened = did_nothing a; is = refl }
+module _ {S : Type 0} (state : S → SourceState) (o : Operands) where
+  -- the operands before the rest were done, from x to y, if both outputs were flushed
+  abbrev pub Reached : List ByteString → StreamsState S → StreamsState S → Bool → Type 0
+  Reached rest x y good = IsFlushed x.outputs → OperandsDoneIfKnown state o.one o.names rest x y good
 
-pub operands_done_start : {S : Type 0} (state : S → SourceState) (o : Operands) {rest : List ByteString}
-    (a : StreamsState S) → o.names ≡ rest → OperandsDoneIfKnown state o.one o.names rest a a true
-operands_done_start state o {rest = rest} a is = started o rest (known_state state a) is
+  -- before the first operand nothing happened
+  pub operands_done_start : (rest : List ByteString) (a : StreamsState S) → o.names ≡ rest → Reached rest a a true
+  operands_done_start rest a is = λ flushed. started (known_world state a.inputs)
+    where
+      started : (s : Option World) → IfKnown s s
+          (λ w v. OperandsDone o.one o.names rest (known_state state a w) (known_state state a v) true)
+      started None = tt
+      started (Some w) = record {
+        done = nothing;
+        total = ap (operands_behavior o.one w) is;
+        happened = did_nothing (known_state state a w);
+        is = refl;
+      }
 
--- one operand more happened
-pub operands_done_step : {S : Type 0} (state : S → SourceState) (o : Operands) (good this : Bool) (name : ByteString)
-    (rest : List ByteString) (x y z : StreamsState S) → OperandsDoneIfKnown state o.one o.names (name ∷ rest) x y good
-    → Runs state (λ w. o.one w name) (λ g. g) y z (Ok this) → OperandsDoneIfKnown state o.one o.names rest x z
-    (good && this)
-operands_done_step state o good this name rest x y z h k =
-    IfKnown-then (known_state state x) (known_state state y) (known_state state z) (λ a b c p q.
-    let run = o.one b.world name in
-    let world : c.world ≡ after b.world (asks run) = (events_extend run b c q.1).0 in
-    record {
-      done = behavior_then p.done run;
-      total = p.total ∙ sym (behavior_then-assoc p.done run (operands_behavior o.one (after b.world (asks run)) rest))
-          ∙ ap (λ w. behavior_then (behavior_then p.done run) (operands_behavior o.one w rest)) (sym world);
-      happened = behavior_then-did p.done.steps run.steps p.happened q.1;
-      is = ap (λ g. g && this) p.is ∙ ap (λ g. p.done.good && g) q.0;
-    }) h k
+  -- one operand more happened
+  pub operands_done_step : (good this : Bool) (name : ByteString) (rest : List ByteString) (x y z : StreamsState S)
+      → Reached (name ∷ rest) x y good → (IsFlushed x.outputs → IsFlushed y.outputs)
+      → Performs state (λ w. o.one w name) (λ g. g) y z (Ok this) → Reached rest x z (good && this)
+  operands_done_step good this name rest x y z h kept k = λ flushed.
+      IfKnown-then (known_world state x.inputs) (known_world state y.inputs) (known_world state z.inputs)
+      (λ u v w p q.
+      let b = known_state state y v in
+      let c = known_state state z w in
+      let run = o.one v name in
+      let world : w ≡ after v (asks run) = (events_extend run b c q.1).0 in
+      record {
+        done = behavior_then p.done run;
+        total = p.total ∙ sym (behavior_then-assoc p.done run (operands_behavior o.one (after v (asks run)) rest))
+            ∙ ap (λ w. behavior_then (behavior_then p.done run) (operands_behavior o.one w rest)) (sym world);
+        happened = behavior_then-did p.done.steps run.steps p.happened q.1;
+        is = ap (λ g. g && this) p.is ∙ ap (λ g. p.done.good && g) q.0;
+      }) (h flushed) (k (kept flushed))
 
--- no operand is left
-pub operands_done_end : {S : Type 0} (state : S → SourceState) (o : Operands) (good : Bool) (x y : StreamsState S)
-    → OperandsDoneIfKnown state o.one o.names [] x y good
-    → Runs state (λ w. operands_behavior o.one w o.names) status_of x y (Ok (status_of good))
-operands_done_end state o good x y h = search rules
+  -- no operand is left
+  pub operands_done_end : (good : Bool) (x y : StreamsState S) → Reached [] x y good
+      → Performs state (λ w. operands_behavior o.one w o.names) status_of x y (Ok (status_of good))
+  operands_done_end good x y h = λ flushed.
+      IfKnown-map (known_world state x.inputs) (known_world state y.inputs) (λ w v p.
+      let total = p.total ∙ behavior_then-nothing p.done in (
+        ap status_of (p.is ∙ ap (λ (r : Behavior). r.good) (sym total)),
+        subst (λ (r : Behavior). Happened _ _ (trace r.steps)) (sym total) p.happened,
+      )) (h flushed)
 
--- the next operand stopped the run
-pub operands_done_stop : {S : Type 0} (state : S → SourceState) (o : Operands) (stop : Stop) (good : Bool)
-    (name : ByteString) (rest : List ByteString) (x y z : StreamsState S)
-    → OperandsDoneIfKnown state o.one o.names (name ∷ rest) x y good
-    → Runs state (λ w. o.one w name) (λ g. g) y z (Err stop)
-    → Runs state (λ w. operands_behavior o.one w o.names) status_of x z (Err stop)
-operands_done_stop state o stop good name rest x y z h k =
-    IfKnown-then (known_state state x) (known_state state y) (known_state state z) (λ a b c p q.
-    let run = o.one b.world name in
-    let later = operands_behavior o.one (after b.world (asks run)) rest in
-    let status = status_of (behavior_then p.done (behavior_then run later)).good in
-    let next = behavior_then-first b c status run.good run.steps later.steps stop q in
-    let all = behavior_then-second c status status p.done.steps (behavior_then run later).steps stop p.happened next in
-    subst (λ (r : Behavior). PerformsSteps r.steps (status_of r.good) a c (Err stop)) (sym p.total) all) h k
+  -- the next operand stopped the run
+  pub operands_done_stop : (stop : Stop) (good : Bool) (name : ByteString) (rest : List ByteString)
+      (x y z : StreamsState S) → Reached (name ∷ rest) x y good → (IsFlushed x.outputs → IsFlushed y.outputs)
+      → Performs state (λ w. o.one w name) (λ g. g) y z (Err stop)
+      → Performs state (λ w. operands_behavior o.one w o.names) status_of x z (Err stop)
+  operands_done_stop stop good name rest x y z h kept k = λ flushed.
+      IfKnown-then (known_world state x.inputs) (known_world state y.inputs) (known_world state z.inputs)
+      (λ u v w p q.
+      let a = known_state state x u in
+      let b = known_state state y v in
+      let c = known_state state z w in
+      let run = o.one v name in
+      let later = operands_behavior o.one (after v (asks run)) rest in
+      let status = status_of (behavior_then p.done (behavior_then run later)).good in
+      let next = behavior_then-first b c status run.good run.steps later.steps stop q in
+      let all = behavior_then-second c status status p.done.steps (behavior_then run later).steps stop p.happened next in
+      subst (λ (r : Behavior). PerformsSteps r.steps (status_of r.good) a c (Err stop)) (sym p.total) all)
+      (h flushed) (k (kept flushed))
 
 -- ---- read to the end, known or not
 
 -- the operands before were, if they were good, and this one, if it was
-pub read_step : {S : Type 0} (state : S → SourceState) (good this : Bool) (x y z : StreamsState S)
+pub read_step : {S : Type 0} (state : S → SourceState) (good this : Bool) (x y z : InputsState S)
     → (good ≡ true → ReadToEnd state x y)
     → (let answer : Result Bool Stop = Ok this in let yes : Result Bool Stop = Ok true in answer ≡ yes
     → ReadToEnd state y z)

@@ -6,7 +6,7 @@ use Rattle.sum_lines.specs.sinks.Sinks.{SinkState, IsPrefix}
 use Rattle.digest_kinds.specs.Limits.{one_more}
 use Rattle.sum_engine.specs.declared.stop.Stop.{Stop}
 use Rattle.sum_engine.specs.Behavior.{World, Behavior, single_step}
-use Rattle.sum_engine.specs.Execution.{StreamsState, IsFlushed, FailuresMatch, Performs}
+use Rattle.sum_engine.specs.Execution.{OutputsState, StreamsState, IsFlushed, FailuresMatch, Performs}
 use Rattle.sum_words.specs.Items.{ByteString}
 use Rattle.sum_words.specs.CommandLines.{CommandLineValue, unknown_tool, invoke, command_line, NeedsMemory}
 use Rattle.sum_words.specs.Texts.{stop_line, unknown_tool_line, not_read_line}
@@ -29,22 +29,22 @@ WritesLine line a b = (said : ByteString) × Appends a.written b.written said
     × (((said ≡ line) × (b.failures ≡ a.failures)) ⊎ (IsPrefix said line × (b.failures ≡ one_more a.failures)))
 
 -- after an answer, it is the status; after a stop, standard error gets its line, and the status is 1
-abbrev pub ReportsStop : {S : Type 0} → Option CommandLineValue → Result ℕ Stop
-    → StreamsState S → StreamsState S → ℕ → Type 0
+abbrev pub ReportsStop : (Stop → ByteString) → Result ℕ Stop → OutputsState → OutputsState → ℕ → Type 0
 ReportsStop line (Ok answer) a b status = (status ≡ answer) × (b ≡ a)
 ReportsStop line (Err stop) a b status = (status ≡ 1) × (b ≡ record a { err = b.err })
-    × WritesLine (call_stop_line line stop) a.err b.err
+    × WritesLine (line stop) a.err b.err
 
 -- THE PROGRAM, for one call: it performs the call's behavior, and then reports a stop
 abbrev pub CallPerforms : {S : Type 0} → (S → SourceState) → Option CommandLineValue
     → StreamsState S → StreamsState S → ℕ → Type 0
 CallPerforms {S} state line a b status = (answer : Result ℕ Stop) × (between : StreamsState S)
-    × Performs state (call_behavior line) status_of a between answer × FailuresMatch a between answer
-    × ReportsStop line answer between b status
+    × Performs state (call_behavior line) status_of a between answer
+    × FailuresMatch a.outputs between.outputs answer × (b.inputs ≡ between.inputs)
+    × ReportsStop (call_stop_line line) answer between.outputs b.outputs status
 
 -- known arguments, flushed outputs: their call is performed, or, if it needs memory, that of words that were not read
 abbrev pub ProgramPerforms :
     {S : Type 0} → (S → SourceState) → Option (List ByteString) → StreamsState S → StreamsState S → ℕ → Type 0
-ProgramPerforms state known a b status = IsFlushed a → IfSome known (λ arguments.
+ProgramPerforms state known a b status = IsFlushed a.outputs → IfSome known (λ arguments.
     CallPerforms state (command_line arguments) a b status
     ⊎ (NeedsMemory arguments × CallPerforms state None a b status))

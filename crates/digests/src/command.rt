@@ -1,15 +1,14 @@
 //! The whole program, from the list of its arguments to its exit status.
-ghost use Rattle.std.specs.Prelude.{◌≡◌, [], Ok};
-ghost use Rattle.sum_engine.specs.Execution.{IsFlushed, NoFailures, ReadToEnd};
-ghost use Rattle.sum_engine.specs.refinement.FlushedWrites.{NoneFailed};
+ghost use Rattle.std.specs.Prelude.{◌≡◌, Ok};
+ghost use Rattle.sum_engine.specs.Execution.{IsFlushed, NoneFailed, ReadToEnd};
 ghost use Rattle.digests.specs.Program.{ProgramPerforms};
 ghost use Rattle.digests.specs.refinement.FinishRun.{FinishesRun, tool_stop_line};
 
 use crate::finish::{flush_both, put_stop_message};
-use crate::messages::{Message, put_message};
+use crate::messages::{Message, put_err_message};
 use crate::run::{run, status_after_write};
 use std::alloc::Allocator;
-use sum_engine::{Stop, Streams};
+use sum_engine::{Inputs, Outputs, Stop, Streams};
 use sum_lines::Sink;
 use sum_sources::{Input, Source};
 use sum_words::{Arguments, CommandLine, NotRead, Tool, read_command_line};
@@ -27,28 +26,30 @@ use sum_words::{Arguments, CommandLine, NotRead, Tool, read_command_line};
 pub fn command<A: Allocator + Copy, G: Arguments, I: Input + Drop, S: Source, O: Sink, E: Sink>(
     alloc: A,
     arguments: &G,
-    streams: &mut Streams<I, S, O, E>,
+    streams: &mut Streams<Inputs<I, S>, Outputs<O, E>>,
 ) -> u8
     // If arguments, source and standard input are known and both outputs flushed: the behavior of the arguments.
     ensures behavior { ProgramPerforms S.state (G.known arguments.now) streams.old streams.new result }
-    ensures flushed { IsFlushed streams.old → IsFlushed streams.new }
+    ensures flushed { IsFlushed streams.old.outputs → IsFlushed streams.new.outputs }
     // Known or not: status 0 only if no call of either output failed.
-    ensures no_failures { result ≡ 0 → NoFailures streams.old streams.new }
+    ensures no_failures { result ≡ 0 → NoneFailed streams.old.outputs streams.new.outputs }
     // Known or not: status 0 only if each file that was opened, and standard input if taken, was read to its end.
-    ensures read_to_end { result ≡ 0 → ReadToEnd S.state streams.old streams.new }
+    ensures read_to_end { result ≡ 0 → ReadToEnd S.state streams.old.inputs streams.new.inputs }
 {
     match read_command_line(alloc, arguments) {
         Ok(CommandLine::Invoke(tool, words)) => {
             let answer = run(alloc, tool, &words, streams);
-            finish_run(Some(tool), answer, &mut streams.out, &mut streams.err)
+            finish_run(Some(tool), answer, &mut streams.outputs)
         }
         Ok(CommandLine::UnknownTool) => {
-            let answer = status_after_write(put_message(&mut streams.err, Message::UnknownTool), 1);
-            finish_run(None, answer, &mut streams.out, &mut streams.err)
+            let outputs = &mut streams.outputs;
+            let answer = status_after_write(put_err_message(outputs, Message::UnknownTool), 1);
+            finish_run(None, answer, &mut streams.outputs)
         }
         Err(NotRead) => {
-            let answer = status_after_write(put_message(&mut streams.err, Message::NotRead), 1);
-            finish_run(None, answer, &mut streams.out, &mut streams.err)
+            let outputs = &mut streams.outputs;
+            let answer = status_after_write(put_err_message(outputs, Message::NotRead), 1);
+            finish_run(None, answer, &mut streams.outputs)
         }
     }
 }
@@ -58,21 +59,17 @@ pub fn command<A: Allocator + Copy, G: Arguments, I: Input + Drop, S: Source, O:
 fn finish_run<O: Sink, E: Sink>(
     tool: Option<Tool>,
     answer: Result<u8, Stop>,
-    out: &mut O,
-    err: &mut E,
+    outputs: &mut Outputs<O, E>,
 ) -> u8
-    ensures finish { (O.state out.old).buffered ≡ [] → (E.state err.old).buffered ≡ []
-        → FinishesRun (tool_stop_line tool) answer
-        (O.state out.old) (O.state out.new) (E.state err.old) (E.state err.new) result }
-    ensures flushed { (O.state out.old).buffered ≡ [] → (E.state err.old).buffered ≡ []
-        → ((O.state out.new).buffered ≡ []) × ((E.state err.new).buffered ≡ []) }
-    ensures no_failures { result ≡ 0
-        → (answer ≡ Ok 0) × NoneFailed (O.state out.old) (O.state out.new) (E.state err.old) (E.state err.new) }
+    ensures finish { IsFlushed outputs.old
+        → FinishesRun (tool_stop_line tool) answer outputs.old outputs.new result }
+    ensures flushed { IsFlushed outputs.old → IsFlushed outputs.new }
+    ensures no_failures { result ≡ 0 → (answer ≡ Ok 0) × NoneFailed outputs.old outputs.new }
 {
-    match flush_both(answer, out, err) {
+    match flush_both(answer, outputs) {
         Ok(status) => status,
         Err(stop) => {
-            let _ = put_stop_message(tool, stop, err);
+            let _ = put_stop_message(tool, stop, &mut outputs.err);
             1
         }
     }

@@ -1,11 +1,11 @@
 //! The end of a run: both outputs are flushed once more, and a stop has its line.
 ghost use Rattle.std.specs.Prelude.{◌≡◌, []};
-ghost use Rattle.std.specs.Io.KnownBytes.{Keeps};
+ghost use Rattle.sum_engine.specs.Execution.{IsFlushed};
 ghost use Rattle.sum_engine.specs.refinement.FlushedWrites.{WritesAndFlushes};
-ghost use Rattle.digests.specs.refinement.FinishRun.{FlushesBoth, tool_stop_line};
+ghost use Rattle.digests.specs.refinement.FinishRun.{FlushesBoth, KeepsBoth, tool_stop_line};
 
 use crate::messages::{Message, put_message};
-use sum_engine::Stop;
+use sum_engine::{Outputs, Stop};
 use sum_lines::{Sink, SinkFault};
 use sum_words::Tool;
 
@@ -13,19 +13,15 @@ use sum_words::Tool;
 /// `Stop::Write` if a flush failed, which is possible if nothing was buffered, too.
 pub(crate) fn flush_both<O: Sink, E: Sink>(
     answer: Result<u8, Stop>,
-    out: &mut O,
-    err: &mut E,
+    outputs: &mut Outputs<O, E>,
 ) -> Result<u8, Stop>
-    ensures answer { FlushesBoth (O.state out.old) (O.state out.new) (E.state err.old) (E.state err.new) answer result }
-    ensures bytes { (O.state out.old).buffered ≡ [] → (E.state err.old).buffered ≡ []
-        → Keeps (O.state out.old).written (O.state out.new).written
-        × Keeps (E.state err.old).written (E.state err.new).written }
-    ensures flushed { (O.state out.old).buffered ≡ [] → (E.state err.old).buffered ≡ []
-        → ((O.state out.new).buffered ≡ []) × ((E.state err.new).buffered ≡ []) }
+    ensures answer { FlushesBoth outputs.old outputs.new answer result }
+    ensures bytes { IsFlushed outputs.old → KeepsBoth outputs.old outputs.new }
+    ensures flushed { IsFlushed outputs.old → IsFlushed outputs.new }
 {
     let status = answer?;
-    out.flush()?;
-    err.flush()?;
+    outputs.out.flush()?;
+    outputs.err.flush()?;
     Ok(status)
 }
 

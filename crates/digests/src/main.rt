@@ -19,12 +19,12 @@ use sum_sources::{Files, Stdin};
 use sum_words::SystemArguments;
 
 fn main(rt: HostRuntime) -> ExitCode {
-    let mut streams = Streams {
-        stdin: Stdin::new(standard_input(rt.stdin())),
-        source: Files::new(rt),
-        out: Buffered::new(FromWrite::new(rt.stdout())),
-        err: Buffered::new(FromWrite::new(rt.stderr())),
-    };
+    let mut streams = Streams::new(
+        Stdin::new(standard_input(rt.stdin())),
+        Files::new(rt),
+        Buffered::new(FromWrite::new(rt.stdout())),
+        Buffered::new(FromWrite::new(rt.stderr())),
+    );
     let status = command(rt.alloc(), &SystemArguments::new(rt), &mut streams);
     ExitCode::from(status)
 }

@@ -1,8 +1,9 @@
 //! The texts that the program writes as a whole.
+ghost use Rattle.std.specs.Prelude.{[]};
 ghost use Rattle.sum_lines.specs.sinks.Sinks.{WritesAll};
-ghost use Rattle.sum_engine.specs.refinement.FlushedWrites.{WritesAndFlushes};
+ghost use Rattle.sum_engine.specs.refinement.FlushedWrites.{WritesAndFlushes, WritesAndFlushesBoth};
 
-use sum_engine::Stop;
+use sum_engine::{Outputs, Stop};
 use sum_lines::{Sink, SinkFault};
 use sum_words::{
     Tool, WordFault, put_fault, put_help, put_not_read, put_stop, put_unknown, put_version,
@@ -25,7 +26,27 @@ pub(crate) enum Message<'a> {
 
 ghost use Rattle.digests.specs.refinement.Messages.{message_text};
 
-/// Writes a text and flushes the sink, or returns its fault; then a prefix of the text was written.
+/// Writes a text to standard error and flushes it, or returns its fault; then a prefix of the text was written.
+pub(crate) fn put_err_message<O: Sink, E: Sink>(
+    outputs: &mut Outputs<O, E>,
+    text: Message,
+) -> Result<(), SinkFault>
+    ensures { WritesAndFlushesBoth outputs.old outputs.new (message_text text.entry) [] result }
+{
+    put_message(&mut outputs.err, text)
+}
+
+/// The same to standard output.
+pub(crate) fn put_out_message<O: Sink, E: Sink>(
+    outputs: &mut Outputs<O, E>,
+    text: Message,
+) -> Result<(), SinkFault>
+    ensures { WritesAndFlushesBoth outputs.old outputs.new [] (message_text text.entry) result }
+{
+    put_message(&mut outputs.out, text)
+}
+
+/// The same to any sink.
 pub(crate) fn put_message<S: Sink>(sink: &mut S, text: Message) -> Result<(), SinkFault>
     ensures { WritesAndFlushes (S.state sink.old) (S.state sink.new) (message_text text.entry) result }
 {

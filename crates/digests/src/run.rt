@@ -9,9 +9,11 @@ ghost use Rattle.digests.specs.Meaning.{operands_behavior, request_behavior, or_
 ghost use Rattle.digests.specs.Refusals.{RefusalsOf};
 ghost use Rattle.digests.specs.refinement.Operands.{operand_behavior, RefusalsOfJob, status_after_write};
 
-use crate::messages::{Message, put_message};
+use crate::messages::{Message, put_err_message, put_out_message};
 use std::alloc::Allocator;
-use sum_engine::{CheckSettings, Settings, Stop, Streams, check_one, generate_one};
+use sum_engine::{
+    CheckSettings, Inputs, Outputs, Settings, Stop, Streams, check_one, generate_one,
+};
 use sum_lines::{Sink, SinkFault};
 use sum_sources::{Input, Source};
 use sum_words::{Operands, Request, Tool, WordFault, Words, read_words};
@@ -25,16 +27,17 @@ pub fn run<A: Allocator + Copy, I: Input + Drop, S: Source, O: Sink, E: Sink>(
     alloc: A,
     tool: Tool,
     words: &Words<A>,
-    streams: &mut Streams<I, S, O, E>,
+    streams: &mut Streams<Inputs<I, S>, Outputs<O, E>>,
 ) -> Result<u8, Stop>
     // If the source and standard input are known and both outputs flushed: the behavior that the words mean.
     ensures behavior { Performs S.state (meaning tool words.now) status_of streams.old streams.new result }
-    ensures flushed { IsFlushed streams.old → IsFlushed streams.new }
+    ensures flushed { IsFlushed streams.old.outputs → IsFlushed streams.new.outputs }
     // Known or not, a stop has its cause: refusals as the request allows, or one failure more of one output.
-    ensures refusals { RefusalsMatch S.state (RefusalsOf (request tool words.now)) streams.old streams.new result }
-    ensures failures { FailuresMatch streams.old streams.new result }
+    ensures refusals { RefusalsMatch S.state (RefusalsOf (request tool words.now)) streams.old.inputs
+        streams.new.inputs result }
+    ensures failures { FailuresMatch streams.old.outputs streams.new.outputs result }
     // Known or not: status 0 only if each file that was opened, and standard input if taken, was read to its end.
-    ensures read_to_end { result ≡ Ok 0 → ReadToEnd S.state streams.old streams.new }
+    ensures read_to_end { result ≡ Ok 0 → ReadToEnd S.state streams.old.inputs streams.new.inputs }
 {
     run_request(alloc, tool, read_words(tool, words), streams)
 }
@@ -44,24 +47,24 @@ fn run_request<A: Allocator + Copy, I: Input + Drop, S: Source, O: Sink, E: Sink
     alloc: A,
     tool: Tool,
     asked: Result<Request, WordFault>,
-    streams: &mut Streams<I, S, O, E>,
+    streams: &mut Streams<Inputs<I, S>, Outputs<O, E>>,
 ) -> Result<u8, Stop>
     ensures behavior { Performs S.state (request_behavior tool (result_of asked.entry)) status_of streams.old
         streams.new result }
     ensures cause { StopHasCause S.state (RefusalsOf (result_of asked.entry)) streams.old streams.new result }
-    ensures read_to_end { result ≡ Ok 0 → ReadToEnd S.state streams.old streams.new }
+    ensures read_to_end { result ≡ Ok 0 → ReadToEnd S.state streams.old.inputs streams.new.inputs }
 {
     match asked {
         Err(fault) => status_after_write(
-            put_message(&mut streams.err, Message::Fault(tool, &fault)),
+            put_err_message(&mut streams.outputs, Message::Fault(tool, &fault)),
             1,
         ),
         Ok(Request::Help) => status_after_write(
-            put_message(&mut streams.out, Message::Help(tool)),
+            put_out_message(&mut streams.outputs, Message::Help(tool)),
             0,
         ),
         Ok(Request::Version) => status_after_write(
-            put_message(&mut streams.out, Message::Version(tool)),
+            put_out_message(&mut streams.outputs, Message::Version(tool)),
             0,
         ),
         Ok(Request::Generate(settings, operands)) => {
@@ -94,12 +97,12 @@ fn run_operand<A: Allocator + Copy, I: Input + Drop, S: Source, O: Sink, E: Sink
     job: &Job,
     tool: Tool,
     name: &[u8],
-    streams: &mut Streams<I, S, O, E>,
+    streams: &mut Streams<Inputs<I, S>, Outputs<O, E>>,
 ) -> Result<bool, Stop>
     ensures behavior { Performs S.state (λ w. operand_behavior job.now (name_of tool) w name.now) (λ good. good)
         streams.old streams.new result }
     ensures cause { StopHasCause S.state (RefusalsOfJob job.now) streams.old streams.new result }
-    ensures read_to_end { result ≡ Ok true → ReadToEnd S.state streams.old streams.new }
+    ensures read_to_end { result ≡ Ok true → ReadToEnd S.state streams.old.inputs streams.new.inputs }
 {
     match job {
         Job::Generate(settings) => generate_one(settings, tool.name(), name, streams),
@@ -123,13 +126,13 @@ fn run_operands<A: Allocator + Copy, I: Input + Drop, S: Source, O: Sink, E: Sin
     job: &Job,
     tool: Tool,
     operands: Operands,
-    streams: &mut Streams<I, S, O, E>,
+    streams: &mut Streams<Inputs<I, S>, Outputs<O, E>>,
 ) -> Result<u8, Stop>
     ensures behavior { Performs S.state (λ w. operands_behavior (operand_behavior job.now (name_of tool)) w
         (or_dash operands.entry)) status_of
         streams.old streams.new result }
     ensures cause { StopHasCause S.state (RefusalsOfJob job.now) streams.old streams.new result }
-    ensures read_to_end { result ≡ Ok 0 → ReadToEnd S.state streams.old streams.new }
+    ensures read_to_end { result ≡ Ok 0 → ReadToEnd S.state streams.old.inputs streams.new.inputs }
 {
     let mut operands = operands;
     let mut name = first_name(&mut operands);

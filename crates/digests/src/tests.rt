@@ -15,7 +15,7 @@ use bumpalo::Bump;
 use std::alloc::{Allocator, Global};
 use std::process::Abort;
 use std::test::Fail;
-use sum_engine::{Stop, Streams};
+use sum_engine::{Inputs, Outputs, Stop, Streams};
 use sum_lines::ToldSink;
 use sum_sources::{Answer, Ending, Fault, Stdin, Told, ToldSource};
 use sum_words::{NoRoom, Tool, Words};
@@ -157,13 +157,9 @@ fn run_line_on<'a, A: Allocator + Copy, const N: usize>(
     };
     let mut streams = told_streams(input, files, stops);
     let answer = run_words(heap, tool, &words, &mut streams);
-    let Streams {
-        stdin: _,
-        source,
-        out,
-        err,
-    } = streams;
-    Ok(Some((Run { out, err, answer }, source)))
+    let Streams { inputs, outputs } = streams;
+    let Outputs { out, err } = outputs;
+    Ok(Some((Run { out, err, answer }, inputs.source)))
 }
 
 // The tool and the words of a line: `None` if the heap has no room for them.
@@ -181,10 +177,8 @@ fn read_line<A: Allocator + Copy>(heap: A, line: &str) -> Result<Option<(Tool, W
 
 // What a run works on: known input, known files, and outputs that stop after so many bytes.
 type ToldStreams<'i, 'f, A, const N: usize> = Streams<
-    Told<'i>,
-    ToldSource<'f, A>,
-    ToldSink<N>,
-    ToldSink<N>,
+    Inputs<Told<'i>, ToldSource<'f, A>>,
+    Outputs<ToldSink<N>, ToldSink<N>>,
 >;
 
 fn told_streams<'i, 'f, A: Allocator + Copy, const N: usize>(
@@ -192,12 +186,12 @@ fn told_streams<'i, 'f, A: Allocator + Copy, const N: usize>(
     files: ToldSource<'f, A>,
     (out_stop, err_stop): (usize, usize),
 ) -> ToldStreams<'i, 'f, A, N> {
-    Streams {
-        stdin: Stdin::new(input),
-        source: files,
-        out: ToldSink::new(out_stop),
-        err: ToldSink::new(err_stop),
-    }
+    Streams::new(
+        Stdin::new(input),
+        files,
+        ToldSink::new(out_stop),
+        ToldSink::new(err_stop),
+    )
 }
 
 // The run itself. It has no contract, so that the proofs of its callers are spared that of `run`.

@@ -2,7 +2,7 @@
 #![tactic(auto)]
 
 use digest_kinds::{Algo, Algos};
-use sum_engine::{CheckSettings, Verdict, Verdicts};
+use sum_engine::{CheckSettings, Inputs, Verdict, Verdicts};
 use sum_sources::{Ending, Fault, Files, FromRead, Stdin, Told};
 
 fn main(rt: HostRuntime) -> anyhow::Result<()> {
@@ -10,11 +10,13 @@ fn main(rt: HostRuntime) -> anyhow::Result<()> {
     settings.strict = true;
     let mut verdicts = Verdicts::new(settings, true, FromRead::new(rt.stdin()));
     // A manifest from standard input can't list it: this one is never read.
-    let mut stdin = Stdin::new(Told::new(b"", Ending::Whole, 1));
-    let mut files = Files::new(rt);
+    let mut inputs = Inputs {
+        stdin: Stdin::new(Told::new(b"", Ending::Whole, 1)),
+        source: Files::new(rt),
+    };
     let mut line = Vec::new(rt.alloc());
     for _ in 0..u64::MAX {
-        let Some(found) = verdicts.next(&mut line, &mut stdin, &mut files)? else {
+        let Some(found) = verdicts.next(&mut line, &mut inputs)? else {
             return Ok(println!(rt; "all in all it holds: {}", verdicts.is_good())?);
         };
         let why = match found.verdict {

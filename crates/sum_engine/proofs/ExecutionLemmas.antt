@@ -1,5 +1,5 @@
 -- What happened from one state to another, one event after another; and states of streams that are known or not.
-use Rattle.std.proofs.Common.{rules, ◌≡◌, ℕ, ◌||◌, Bool, List, [], ◌∷◌, ◌++◌, map, Option, None, Some, Result, Ok, Err, refl, inl, inr, append_assoc, filter_map}
+use Rattle.std.proofs.Common.{rules, ◌≡◌, ℕ, ◌||◌, List, [], ◌∷◌, ◌++◌, map, Option, None, Some, Result, Ok, Err, refl, ap, ◌∙◌, inl, inr, append_assoc, append-nil, filter_map}
 use Rattle.std.specs.List.{list_any}
 use Rattle.std.specs.Io.KnownBytes.{Appends}
 use Rattle.std.proofs.KnownBytes.{Appends-nil, Appends-trans}
@@ -7,15 +7,12 @@ use Rattle.std.proofs.Math.Bool.{or_assoc}
 use Rattle.std.proofs.lemmas.List.{map-append}
 use Rattle.std.proofs.lemmas.List.Elements.{filter_map-append}
 use Rattle.std.proofs.lemmas.List.Folds.{list_any-append}
-use Rattle.sum_sources.specs.Contents.{IfKnown, InputState, StdinValue, stdin_taken as taken, SourceState}
+use Rattle.sum_sources.specs.Contents.{IfKnown, SourceState}
 use Rattle.digest_kinds.specs.Limits.{one_more}
-use Rattle.sum_lines.specs.sinks.Sinks.{SinkState}
 use Rattle.sum_lines.specs.refinement.SinkStates.{AppendsPrefix}
-use Rattle.sum_engine.specs.Behavior.{World, is_dash, after, Behavior, Event, open_name, write_err, write_out, name_in, err_in, out_in}
-use Rattle.sum_engine.specs.refinement.FlushedWrites.{WritesOrPrefix, WritesBoth}
-use Rattle.sum_engine.specs.Execution.{StreamsState, KnownState, known_state, Stop, Happened, PrefixHappened, PerformsSteps}
-use Rattle.sum_engine.specs.refinement.HashName.{world_of}
-use Rattle.sum_engine.specs.check.NextVerdict.{OnlyRefused, lent_streams}
+use Rattle.sum_engine.specs.Behavior.{is_dash, after, Event, Step, events_of, open_name, write_err, write_out, name_in, err_in, out_in}
+use Rattle.sum_engine.specs.refinement.FlushedWrites.{WritesBoth}
+use Rattle.sum_engine.specs.Execution.{InputsState, StreamsState, KeepsStdin, KnownState, known_world, IfWorldKnown, Stop, Write, Happened, PrefixHappened, PerformsSteps}
 use Rattle.sum_engine.proofs.WorldLemmas.{after-append}
 
 -- ---- what of a step's events is of each kind
@@ -67,7 +64,7 @@ asks_by names h = search (rules, kind-all)
 
 -- these names were asked and these texts written
 pub did_by : {a b : KnownState} (names : List (List ℕ)) (err out : List ℕ) → Asks a b names
-    → Appends a.err.written b.err.written err → Appends a.out.written b.out.written out
+    → Appends a.outputs.err.written b.outputs.err.written err → Appends a.outputs.out.written b.outputs.out.written out
     → Happened a b (events_by names err out)
 did_by names err out h p q = search (rules, names-by, err-by, out-by)
 
@@ -83,16 +80,16 @@ did_both p q h k = search (rules, after-append, filter_map-append, list_any-appe
 
 -- the names were asked, and of the text on standard error a prefix was written
 pub prefix_err : {a b : KnownState} (names : List (List ℕ)) (err out : List ℕ) → Asks a b names
-    → AppendsPrefix a.err.written b.err.written err → b.out.written ≡ a.out.written
+    → AppendsPrefix a.outputs.err.written b.outputs.err.written err → b.outputs.out.written ≡ a.outputs.out.written
     → PrefixHappened a b (events_by names err out)
 prefix_err {a} names err out asked h same =
     let rest : List Event = map write_err h.1.0 ++ map write_out out in
-    let did = did_by names h.0 [] asked h.2 (rw same (Appends-nil a.out.written)) in
+    let did = did_by names h.0 [] asked h.2 (rw same (Appends-nil a.outputs.out.written)) in
     (events_by names h.0 [], (rest, search (rules, map-append, append_assoc)), did)
 
 -- all of it was, and a prefix of the text on standard output
 pub prefix_out : {a b : KnownState} (names : List (List ℕ)) (err out : List ℕ) → Asks a b names
-    → Appends a.err.written b.err.written err → AppendsPrefix a.out.written b.out.written out
+    → Appends a.outputs.err.written b.outputs.err.written err → AppendsPrefix a.outputs.out.written b.outputs.out.written out
     → PrefixHappened a b (events_by names err out)
 prefix_out names err out asked all h =
     let rest : List Event = map write_out h.1.0 in
@@ -109,39 +106,27 @@ Came (Err e) a b es = PrefixHappened a b es
 
 -- the names were asked, and the two texts or a prefix of them were written
 pub came_by : (a b : KnownState) (names : List (List ℕ)) (err out : List ℕ) (x : Writing) → Asks a b names
-    → WritesBoth a.err b.err a.out b.out err out x → Came x a b (events_by names err out)
+    → WritesBoth a.outputs b.outputs err out x → Came x a b (events_by names err out)
 came_by a b names err out (Ok u) asked h = did_by names err out asked h.0 h.1
 came_by a b names err out (Err e) asked (inl h) = prefix_err names err out asked h.0 h.1
 came_by a b names err out (Err e) asked (inr h) = prefix_out names err out asked h.0 h.1
 
--- standard error alone was written to
-pub err_alone : (a b out : SinkState) (text : List ℕ) (x : Writing) → WritesOrPrefix a.written b.written text x
-    → WritesBoth a b out out text [] x
-err_alone a b out text x h = search rules
+-- what a call answers that writes and then answers so
+abbrev pub answered : {A : Type 0} → Writing → A → Result A Stop
+answered (Ok u) x = Ok x
+answered (Err e) x = Err Write
 
--- a prefix of what comes next, after what happened
-pub prefix_behind : {a b c : KnownState} (p es more : List Event) → Happened a b p → PrefixHappened b c es
-    → PrefixHappened a c (p ++ (es ++ more))
-prefix_behind p es more done h =
-    (p ++ h.0, (h.1.0 ++ more, rw (h.1.1) (simp append_assoc)), did_both p h.0 done h.2)
+-- one step was performed, by what came of its events
+pub step_performed : {A : Type 0} (answer : A) (a b : KnownState) (step : Step) (x : Writing)
+    → Came x a b (events_of step) → PerformsSteps (step ∷ []) answer a b (answered x answer)
+step_performed answer a b step (Ok u) came = rw (append-nil (events_of step)) (refl, came)
+step_performed answer a b step (Err e) came = rw (append-nil (events_of step)) came
 
 -- ---- states that are known or not
 
--- the known state of these streams, by their world
-abbrev pub known : {S : Type 0} → (S → SourceState) → StreamsState S → World → KnownState
-known state m w = let s = state m.source in
-    record { world = w; refusals = s.refusals; stdin_taken = m.stdin_taken; err = m.err; out = m.out }
-
--- the state of the streams that a call has
-abbrev pub streams_of : {I S : Type 0} → (I → InputState) → StdinValue I → S → SinkState → SinkState → StreamsState S
-streams_of state stdin source err out = record (lent_streams state stdin source) { err = err; out = out }
-
--- what follows of two states from what holds of their worlds, if these are known
-pub where_known : {S : Type 0} (state : S → SourceState) (a b : StreamsState S) {P : World → World → Type 0}
-    (R : KnownState → KnownState → Type 0) → IfKnown (world_of state a) (world_of state b) P
-    → ((w v : World) → P w v → R (known state a w) (known state b v))
-    → IfKnown (known_state state a) (known_state state b) R
-where_known state a b R h f = search rules
+-- standard input stayed over one call and another
+pub KeepsStdin-trans : {S : Type 0} (a b c : InputsState S) → KeepsStdin a b → KeepsStdin b c → KeepsStdin a c
+KeepsStdin-trans {S} a b c h k = k ∙ ap (λ (m : InputsState S). record m { source = c.source }) h
 
 -- a value that stayed
 pub same_known : {A : Type 0} (x : Option A) → IfKnown x x (λ a b. b ≡ a)
@@ -149,14 +134,8 @@ same_known x = search rules
 
 -- the source was refused memory, and nothing else was done
 pub known_refused : {S : Type 0} (state : S → SourceState) (a b : StreamsState S)
-    → IfKnown (world_of state a) (world_of state b) (λ w v. v ≡ w) → b.stdin_taken ≡ a.stdin_taken → b.err ≡ a.err
-    → b.out ≡ a.out → (state b.source).refusals ≡ one_more (state a.source).refusals
-    → IfKnown (known_state state a) (known_state state b) OnlyRefused
-known_refused state a b world taken err out refused = search rules
-
--- a behavior from one state to another, whatever the outputs buffer
-abbrev pub Runs : {S A : Type 0} → (S → SourceState) → (World → Behavior) → (Bool → A) → StreamsState S → StreamsState S
-    → Result A Stop → Type 0
-Runs state run answer a b r =
-    IfKnown (known_state state a) (known_state state b)
-    (λ s t. PerformsSteps (run s.world).steps (answer (run s.world).good) s t r)
+    → IfKnown (known_world state a.inputs) (known_world state b.inputs) (λ w v. v ≡ w)
+    → b.inputs.stdin_taken ≡ a.inputs.stdin_taken → b.outputs ≡ a.outputs
+    → (state b.inputs.source).refusals ≡ one_more (state a.inputs.source).refusals
+    → IfWorldKnown state a b (λ s t. t ≡ record s { refusals = one_more s.refusals })
+known_refused state a b world taken outputs refused = search rules

@@ -1,12 +1,13 @@
 -- A text that is written and flushed, and one such text after another.
-use Rattle.std.proofs.Common.{rules, ℕ, List, ◌++◌, Option, Result, Ok, Err, ap, ◌∙◌, append_assoc, subst}
+use Rattle.std.proofs.Common.{rules, ◌≡◌, ℕ, List, [], ◌++◌, Option, Result, Ok, Err, ap, ◌∙◌, append_assoc, subst}
 use Rattle.std.specs.Io.KnownBytes.{Appends}
-use Rattle.std.proofs.KnownBytes.{Appends-trans}
+use Rattle.std.proofs.KnownBytes.{Appends-nil, Appends-trans}
 use Rattle.sum_lines.specs.sinks.Sinks.{SinkState, Accepted, Flushes}
 use Rattle.digest_kinds.specs.Limits.{one_more}
 use Rattle.sum_lines.specs.refinement.SinkStates.{AppendsPrefix}
 use Rattle.sum_lines.proofs.SinkLemmas.{Accepted-flush_failed}
-use Rattle.sum_engine.specs.refinement.FlushedWrites.{WritesAndFlushes}
+use Rattle.sum_engine.specs.refinement.FlushedWrites.{WritesAndFlushes, WritesAndFlushesBoth}
+use Rattle.sum_engine.specs.Execution.{OutputsState}
 
 -- ---- known bytes
 
@@ -49,3 +50,16 @@ written_then a b c x y (Err e) h k = (
 pub part_more : {E : Type 0} (a b : SinkState) (x y : List ℕ) (e : E) → WritesAndFlushes a b x (Err e)
     → WritesAndFlushes a b (x ++ y) (Err e)
 part_more a b x y e h = (h.0, λ none. ((h.1 none).0, prefix_more a.written b.written x y (h.1 none).1))
+
+-- ---- both outputs
+
+-- standard error alone was written to, or standard output
+pub err_alone : {E : Type 0} (a b : OutputsState) (text : List ℕ) (r : Result (Unit {0}) E)
+    → WritesAndFlushes a.err b.err text r → b.out ≡ a.out → WritesAndFlushesBoth a b text [] r
+err_alone a b text (Ok u) h same = search rules
+err_alone a b text (Err e) h same = search rules
+
+pub out_alone : {E : Type 0} (a b : OutputsState) (text : List ℕ) (r : Result (Unit {0}) E)
+    → WritesAndFlushes a.out b.out text r → b.err ≡ a.err → WritesAndFlushesBoth a b [] text r
+out_alone a b text (Ok u) h same = search (rules, Appends-nil)
+out_alone a b text (Err e) h same = search (rules, Appends-nil)

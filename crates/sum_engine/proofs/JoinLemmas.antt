@@ -1,21 +1,21 @@
 -- `steps_join`: the steps of a new checker, one after another, by induction on the list of their vectors.
-use Rattle.std.proofs.Common.{rules, ◌≡◌, ℕ, zero, suc, ◌+◌, ◌-◌, ◌≤◌, Bool, true, List, [], ◌∷◌, ◌++◌, length, take, drop, refl, ap, sym, ◌∙◌, arith, length-drop, flat_map, slice_index_or}
+use Rattle.std.proofs.Common.{rules, ◌≡◌, ℕ, zero, suc, ◌+◌, ◌-◌, ◌≤◌, Bool, true, List, [], ◌∷◌, ◌++◌, Ok, append-nil, length, take, drop, refl, ap, sym, ◌∙◌, arith, length-drop, flat_map, slice_index_or}
 use Rattle.std.proofs.lemmas.List.{take-append-drop}
 use Rattle.sum_sources.specs.Contents.{Content}
 use Rattle.sum_sources.specs.ManifestLines.{past_line, past_lines}
 use Rattle.sum_engine.specs.check.Verdicts.{Form, lines_by, Rules, LineVerdictValue, asks_of, verdicts, all_verdicts, judge}
 use Rattle.sum_lines.specs.grammar.ParsedLines.{parse_line}
-use Rattle.sum_engine.specs.Behavior.{World, after, Behavior, trace, out_text, err_text, asks}
+use Rattle.sum_engine.specs.Behavior.{World, after, Behavior, trace, events_of, out_text, err_text, asks}
 use Rattle.sum_engine.specs.check.Reports.{LabelsValue, out_of, err_of, counts_of, end_text}
 use Rattle.sum_engine.specs.check.Checking.{line_steps, content_behavior}
-use Rattle.sum_engine.specs.Execution.{KnownState, Happened}
-use Rattle.sum_engine.specs.check.CheckerSteps.{CheckState, LineHandled, StepDone, LastStepDone, counts_then, remaining_verdicts, remaining_behavior, initial_state}
+use Rattle.sum_engine.specs.Execution.{Write, KnownState, Happened}
+use Rattle.sum_engine.specs.check.CheckerSteps.{Going, Ended, CheckState, StepIs, step_then, progress_before, counts_then, remaining_verdicts, remaining_behavior, initial_state}
 use Rattle.sum_engine.specs.check.CheckerLaws.{StepsGoing, StepsJoin, EndsManifest}
 use Rattle.sum_engine.proofs.RestLemmas.{past_next}
 use Rattle.sum_engine.proofs.ExecutionLemmas.{did_nothing, err-by, out-by, names-by}
 use Rattle.sum_engine.proofs.WorldLemmas.{after-none}
-use Rattle.sum_engine.proofs.BehaviorLemmas.{Along, steps_more, along_end, along_breaks, events_extend}
-use Rattle.sum_engine.proofs.CheckOneLemmas.{remaining-initial}
+use Rattle.sum_engine.proofs.BehaviorLemmas.{Along, along_stops, behavior_then-did, events_extend}
+use Rattle.sum_engine.proofs.CheckOneLemmas.{remaining-initial, none_left, along_last}
 
 -- ---- the reports of the first steps
 
@@ -71,26 +71,27 @@ module _ (r : Rules) (labels : LabelsValue) (c : Content) (s : KnownState) where
   end = end_text r labels c.ending (counts_of js)
 
   -- exactly the first k steps happened, and the others remain; the bytes consumed are those up to the end of line k
-  pub record After (b : CheckState) (k : ℕ) : Type 0 where
+  pub record After (b : CheckState) (t : KnownState) (k : ℕ) : Type 0 where
     pub rest : b.rest ≡ past_lines k c
     pub lines : lines_by r.profile b.rest ≡ drop k (lines_by r.profile c)
     pub consumed : b.consumed + length (past_lines k c).bytes ≡ length c.bytes
     pub taken : b.taken ≤ b.consumed + 8192
-    pub done : Happened s b.known_state (trace (take k whole.steps))
+    pub done : Happened s t (trace (take k whole.steps))
     pub remaining : (remaining_behavior r labels b).steps ≡ drop k whole.steps
     pub good : (remaining_behavior r labels b).good ≡ whole.good
 
   -- no step yet
-  after_none : After (initial_state c s) 0
+  after_none : After (initial_state c s.world) s 0
   after_none = search (rules, remaining-initial, did_nothing)
 
   -- one more
-  after_more : {b d : CheckState} {v : List ℕ} {k : ℕ} → After b k
-      → StepDone (remaining_behavior r labels b) (remaining_behavior r labels d) b.known_state d.known_state
-      → LineHandled r b d v → After d (suc k)
-  after_more {b} {d} {v} {k} h step moves =
+  after_more : {b d : CheckState} {t z : KnownState} {v : List ℕ} {k : ℕ} → After b t k
+      → StepIs r labels v b d t z (Ok Going) → After d z (suc k)
+  after_more {b} {d} {t} {z} {v} {k} h step =
+      let moves = (step.going refl).1 in
+      let is = step.is ∙ ap (step_then step.step) (step.going refl).0 in
       let remaining = drop_next k whole.steps (remaining_behavior r labels d).steps step.step
-      (sym h.remaining ∙ ap (λ (q : Behavior). q.steps) step.is) in
+      (sym h.remaining ∙ ap (λ (q : Behavior). q.steps) is) in
       let rest = moves.rest ∙ ap past_line h.rest ∙ past_next k c in
       let line = drop_next k (lines_by r.profile c) (lines_by r.profile d.rest) moves.line (sym h.lines ∙ moves.lines)
       in
@@ -99,70 +100,77 @@ module _ (r : Rules) (labels : LabelsValue) (c : Content) (s : KnownState) where
         lines = sym line.0;
         consumed = search (rules, rest);
         taken = moves.taken;
-        done = rw remaining.1 (steps_more (take k whole.steps) step.step h.done step.happened);
+        done = rw remaining.1 (behavior_then-did (take k whole.steps) (step.step ∷ []) h.done step.performs.1);
         remaining = sym remaining.0;
-        good = sym (ap (λ (q : Behavior). q.good) step.is) ∙ h.good;
+        good = sym (ap (λ (q : Behavior). q.good) is) ∙ h.good;
       }
 
   -- all, one after another
-  after_all : (a b : CheckState) (i : ℕ) (vectors : List (List ℕ)) → After a i → StepsGoing r labels a b vectors
-      → After b (i + length vectors)
-  after_all a b i [] h is = let none : i + 0 ≡ i = omega arith in rw (is, none) h
-  after_all a b i (v ∷ vectors) h more =
+  after_all : (a b : CheckState) (m t : KnownState) (i : ℕ) (vectors : List (List ℕ)) → After a m i
+      → StepsGoing r labels a b m t vectors → After b t (i + length vectors)
+  after_all a b m t i [] h is = let none : i + 0 ≡ i = omega arith in rw (is.0, is.1, none) h
+  after_all a b m t i (v ∷ vectors) h more =
       let next : i + suc (length vectors) ≡ suc i + length vectors = omega arith in
-      rw next (after_all more.0 b (suc i) vectors (after_more h more.1.0 more.1.1) more.2)
+      rw next (after_all more.0 b more.1 t (suc i) vectors (after_more h more.2) more.3)
 
   -- the whole behavior is what was done and what remains
-  along : {b : CheckState} {k : ℕ} → After b k → Along whole (remaining_behavior r labels b) s b.known_state
+  along : {b : CheckState} {t : KnownState} {k : ℕ} → After b t k → Along whole (remaining_behavior r labels b) s t
   along h = search (rules, take-append-drop)
 
   -- a step is left after k steps only if k is at most the number of lines
-  few : {b : CheckState} {k : ℕ} → After b k → k ≤ length js
-  few {b} {k} h =
+  few : {b : CheckState} {t : KnownState} {k : ℕ} → After b t k → k ≤ length js
+  few {b} {t} {k} h =
       let ks = remaining_verdicts r b in
       let text = end_text r labels b.rest.ending (counts_then b.counts (counts_of ks)) in
       let left = ap length h.remaining ∙ length-drop k whole.steps in
       omega (arith, left, length_steps r labels text b.rest ks, length_steps r labels end c js)
 
   -- the step that ends
-  ends : {b : CheckState} {k : ℕ} → After b k → (answer : Bool) (z : KnownState)
-      → LastStepDone (remaining_behavior r labels b) answer b.known_state z
-      → EndsManifest r labels c js k b.known_state z answer
-  ends {b} {k} h answer z e =
-      let last = sym h.remaining ∙ ap (λ (q : Behavior). q.steps) e.is in
+  ends : {b : CheckState} {t : KnownState} {k : ℕ} → After b t k → (answer : Bool) (vector : List ℕ) (d : CheckState)
+      (z : KnownState) → StepIs r labels vector b d t z (Ok (Ended answer)) → EndsManifest r labels c js k t z answer
+  ends {b} {t} {k} h answer vector d z e =
+      let none = none_left e.later.steps e.later.good answer e.performs.0 in
+      let last = sym h.remaining ∙ ap (λ (q : Behavior). q.steps) e.is ∙ ap (λ steps. e.step ∷ steps) none.0 in
       let one : length whole.steps - k ≡ 1 = sym (length-drop k whole.steps) ∙ ap length last in
       let number : k ≡ length js = omega (arith, one, length_steps r labels end c js) in
       let step = last_step r labels end c js in
       let is : e.step ≡ record { names = []; err = end; out = []; remaining = step.0 } =
       search (rules, last, number, step.1) in
-      let did = rw is at e.happened in
-      search (rules, number, length_verdicts, along_end, along, did, err-by, out-by, names-by, after-none)
+      let did = rw (append-nil (events_of e.step), is) at e.performs.1 in
+      let all = along_last z e.step e.later (Ok answer) (along h) e.is e.performs in
+      search (rules, number, length_verdicts, all.0, did, err-by, out-by, names-by, after-none)
 
 -- no vector is longer than its line
-vectors_fit : (r : Rules) (labels : LabelsValue) (a b : CheckState) (vectors : List (List ℕ))
-    → StepsGoing r labels a b vectors → (i : ℕ)
+vectors_fit : (r : Rules) (labels : LabelsValue) (a b : CheckState) (s t : KnownState) (vectors : List (List ℕ))
+    → StepsGoing r labels a b s t vectors → (i : ℕ)
     → length (slice_index_or vectors i []) ≤ length (slice_index_or (lines_by r.profile a.rest) i [])
-vectors_fit r labels a b [] is i = omega arith
-vectors_fit r labels a b (v ∷ vectors) more zero = search rules
-vectors_fit r labels a b (v ∷ vectors) more (suc i) = search (rules, vectors_fit r labels more.0 b vectors more.2 i)
+vectors_fit r labels a b s t [] is i = omega arith
+vectors_fit r labels a b s t (v ∷ vectors) more zero =
+    let moves = (more.2.going refl).1 in
+    search (rules, moves.lines, moves.vector_len)
+vectors_fit r labels a b s t (v ∷ vectors) more (suc i) =
+    let moves = (more.2.going refl).1 in
+    search (rules, moves.lines, vectors_fit r labels more.0 b more.1 t vectors more.3 i)
 
 -- the law
 pub steps_join : StepsJoin
-steps_join r labels c s b vectors going =
+steps_join r labels c b s t vectors going =
     let js = all_verdicts r s.world c in
     let k = length vectors in
     let start : 0 + k ≡ k = omega arith in
-    let h : After r labels c s b k = rw start at (after_all r labels c s (initial_state c s) b 0 vectors
+    let h : After r labels c s b t k = rw start at (after_all r labels c s (initial_state c s.world) b s t 0 vectors
     (after_none r labels c s) going) in
-    let some : Behavior = record { steps = take k (content_behavior r labels c js).steps; good = true } in
-    let texts = events_extend some s b.known_state h.done in
+    let all = content_behavior r labels c js in
+    let some : Behavior = record { steps = take k all.steps; good = true } in
+    let texts = events_extend some s t h.done in
     let by = reports r labels (end_text r labels c.ending (counts_of js)) c js k (few r labels c s h) in
     record {
       err = rw by.1 at texts.1;
       out = rw by.0 at texts.2;
       world = rw by.2 at texts.0;
       taken = omega (arith, h.taken, h.consumed);
-      vector_lens = vectors_fit r labels (initial_state c s) b vectors going;
+      vector_lens = vectors_fit r labels (initial_state c s.world) b s t vectors going;
       end = ends r labels c s h;
-      cut = λ z e. along_breaks (along r labels c s h) e;
+      cut = λ vector d z e. along_stops z all.good (progress_before e.later) e.step e.later Write
+          (along r labels c s h) e.is e.performs;
     }

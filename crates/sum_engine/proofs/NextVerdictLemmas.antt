@@ -1,7 +1,5 @@
 -- `CheckCursor::next_verdict`: the next verdict of a manifest, by what reading and judging its line did.
-use Rattle.std.proofs.Common.{rules, ◌≡◌, ℕ, ◌+◌, ◌≤◌, ◌||◌, true, false, List, [], length, slice_range, Option, Some, Result, Ok, Err, arith, inl}
-use Rattle.std.specs.List.{list_any}
-use Rattle.std.proofs.KnownBytes.{Appends-nil}
+use Rattle.std.proofs.Common.{rules, ◌≡◌, ℕ, ◌+◌, ◌≤◌, true, false, List, length, slice_range, Option, Some, Result, Ok, Err, arith}
 use Rattle.sum_sources.specs.declared.line_reader.LineStop.TheVariants.{Memory}
 use Rattle.sum_sources.specs.Contents.{InputState, IfKnown, SourceState}
 use Rattle.sum_sources.specs.declared.line_reader.Next.{Next}
@@ -12,14 +10,12 @@ use Rattle.sum_sources.specs.declared.line_reader.LineReader.{LineReader}
 use Rattle.sum_sources.proofs.LineLemmas.{line-some}
 use Rattle.sum_lines.specs.grammar.ParsedLines.{ParsedLine}
 use Rattle.sum_engine.specs.check.Reports.{CountsValue, is_unread}
-use Rattle.sum_engine.specs.check.NextVerdict.{LineVerdict, OnlyRefused, line_verdict_value, NextVerdictIfKnown}
-use Rattle.sum_engine.specs.check.Verdicts.{Verdict, judge, asks_of}
-use Rattle.sum_engine.specs.Behavior.{World, is_dash}
-use Rattle.sum_engine.specs.Execution.{Stop, StreamsState, known_state, Happened, ReadToEnd}
-use Rattle.sum_engine.specs.refinement.HashName.{world_of}
+use Rattle.sum_engine.specs.check.NextVerdict.{LineVerdict, line_verdict_value, NextVerdictIs}
+use Rattle.sum_engine.specs.check.Verdicts.{Verdict}
+use Rattle.sum_engine.specs.Behavior.{World}
+use Rattle.sum_engine.specs.Execution.{Stop, InputsState, KeepsStdin, ReadToEnd}
 use Rattle.sum_engine.specs.check.CheckerSteps.{Progress, Going, Ended, AdvancesCursor, ReadsListedFile, CursorValue, counts_with, state_at, check_state, CheckState, next_judged}
 use Rattle.sum_engine.specs.refinement.Judging.{IsJudged, name_in_line, TakesLine, JudgeLineOf, parsed_at}
-use Rattle.sum_engine.proofs.ExecutionLemmas.{events_by, where_known, names-by, did_by}
 use Rattle.sum_engine.proofs.RestLemmas.{rest_on}
 use Rattle.sum_engine.proofs.StepLemmas.{check_state-made, ReadsLine, line_handled}
 
@@ -34,43 +30,32 @@ pub judged-line : {I : Type 0} (p : CursorValue I) (line : List ℕ) (said : Par
 judged-line p line said k d vector w v verdict start stop is h count place number = search rules
 
 -- it is the first of those that remained; q is the place then
-pub next_verdict-line : {I S : Type 0} (input : I → InputState) (state : S → SourceState) (p q : CursorValue I)
-    (reader : LineReader I) (a b : StreamsState S) (line vector : List ℕ) (v : LineVerdict)
+pub next_verdict-line : {I : Type 0} (input : I → InputState) (p q : CursorValue I) (reader : LineReader I)
+    (w v : Option World) (line vector : List ℕ) (found : LineVerdict)
     → ReadsLine input p reader line → TakesLine (record p { reader = reader }) q line → length vector ≤ length line
-    → IfKnown (world_of state a) (world_of state b)
-    (λ w w'. JudgeLineOf (record p { reader = reader }) line q.counts vector w w' (Some v))
-    → b.stdin_taken ≡ a.stdin_taken || list_any is_dash (asks_of (line_verdict_value vector v)) → b.err ≡ a.err
-    → b.out ≡ a.out
-    → (state b.source).refusals ≡ (state a.source).refusals
-    → NextVerdictIfKnown p.rules vector (check_state input p (known_state state a))
-    (check_state input q (known_state state b)) (Ok (Some v))
-next_verdict-line {I} input state p q reader a b line vector v reads takes few h taken err out refusals =
-    let then : CursorValue I = record q { reader = reader } in
-    let names = asks_of (line_verdict_value vector v) in
-    let said = parsed_at (record p { reader = reader }) line in
-    let found = where_known state a b (λ s t. (judge p.rules s.world reader.lines said ≡ line_verdict_value vector v)
-    × Happened s t (events_by names [] []) × (q.counts ≡ counts_with p.counts v.verdict)) h
-    (λ w w' judged. search (rules, did_by, Appends-nil)) in
-    rw takes.reader (check_state-made input p then (known_state state a) (known_state state b) _ reads.next found
-    (λ c d s t took found.
-    let f = rw reads.number at found in
-    let first : CheckState = state_at p c s in
-    let next : CheckState = state_at then d t in
-    let is : next_judged p.rules first line ≡ line_verdict_value vector v = f.0 in
+    → IfKnown w v (λ w v. JudgeLineOf (record p { reader = reader }) line q.counts vector w v (Some found))
+    → IfKnown (check_state input p w) (check_state input q v)
+    (λ c d. NextVerdictIs p.rules vector c d (Ok (Some found)))
+next_verdict-line input p q reader w v line vector found reads takes few judged =
+    let then : CursorValue _ = record q { reader = reader } in
+    rw takes.reader (check_state-made input p then w v _ reads.next judged
+    (λ c d w v took judged.
+    let f = rw reads.number at judged in
+    let first : CheckState = state_at p c w in
+    let next : CheckState = state_at then d v in
+    let is : next_judged p.rules first line ≡ line_verdict_value vector found = f.0 in
     let counted : q.counts ≡ counts_with p.counts (next_judged p.rules first line).verdict = search (rules, f.2, is) in
-    let moves = line_handled input p q reader c d s t line vector reads took takes few counted in
-    (search (rules, rest_on p.rules first next vector moves, names-by, is, f.1), moves)))
+    let moves = line_handled input p q reader c d w v line vector reads took takes few counted in
+    (search (rules, rest_on p.rules first next vector moves, is, f.1), moves)))
 
 -- memory to open a line's file was refused: nothing happened, and the line remained
-pub next_verdict-refused : {I S : Type 0} (input : I → InputState) (state : S → SourceState) (p q : CursorValue I)
-    (reader : LineReader I) (a b : StreamsState S) (line vector : List ℕ) → ReadsLine input p reader line
-    → q.reader ≡ reader → IfKnown (known_state state a) (known_state state b) OnlyRefused
-    → NextVerdictIfKnown p.rules vector (check_state input p (known_state state a))
-    (check_state input q (known_state state b)) (Err Memory)
-next_verdict-refused {I} input state p q reader a b line vector reads is refused =
-    let then : CursorValue I = record q { reader = reader } in
-    rw is (check_state-made input p then (known_state state a) (known_state state b) _ reads.next refused
-    (λ c d s t next refused. (inl refused, line-some c d line next.0)))
+pub next_verdict-refused : {I : Type 0} (input : I → InputState) (p q : CursorValue I) (reader : LineReader I)
+    (w v : Option World) (line vector : List ℕ) → ReadsLine input p reader line
+    → q.reader ≡ reader → IfKnown w v (λ w v. v ≡ w)
+    → IfKnown (check_state input p w) (check_state input q v) (λ c d. NextVerdictIs p.rules vector c d (Err Memory))
+next_verdict-refused input p q reader w v line vector reads is same =
+    let then : CursorValue _ = record q { reader = reader } in
+    rw is (check_state-made input p then w v _ reads.next same (λ c d w v next same. (same, line-some c d line next.0)))
 
 -- ---- known or not
 
@@ -85,10 +70,10 @@ pub cursor-advanced : {I : Type 0} (state : I → InputState) (p q : CursorValue
 cursor-advanced state p q reader n x is rules lines sum bounds going ended = grind (arith)
 
 -- how far the file was read whose line has this verdict
-pub files-found : {I S : Type 0} (state : S → SourceState) (p q : CursorValue I) (a b : StreamsState S)
+pub files-found : {I S : Type 0} (state : S → SourceState) (p q : CursorValue I) (a b : InputsState S)
     (v : LineVerdict)
     (x : Result Progress Stop) → q.counts ≡ counts_with p.counts v.verdict
     → (is_unread v.verdict ≡ false → ReadToEnd state a b)
-    → (p.rules.from_stdin ≡ true → (b.stdin_taken ≡ a.stdin_taken) × (b.stdin_phase ≡ a.stdin_phase))
+    → (p.rules.from_stdin ≡ true → KeepsStdin a b)
     → (x ≡ Ok (Ended true) → ⊥) → ReadsListedFile state p q a b x
 files-found state p q a b v x counted read stdin going = search rules

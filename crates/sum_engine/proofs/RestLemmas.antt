@@ -1,5 +1,5 @@
 -- The verdicts and the behavior that remain, after one line and the next.
-use Rattle.std.proofs.Common.{rules, ◌≡◌, ℕ, zero, suc, ◌+◌, List, [], ◌∷◌, length, refl}
+use Rattle.std.proofs.Common.{rules, ◌≡◌, ℕ, zero, suc, ◌+◌, Bool, List, [], ◌∷◌, length, refl}
 use Rattle.sum_sources.specs.Contents.{Content}
 use Rattle.sum_sources.specs.ManifestLines.{past_line, past_lines}
 use Rattle.sum_lines.specs.grammar.Entries.{form, form_then, line_form}
@@ -9,7 +9,7 @@ use Rattle.sum_engine.specs.check.Verdicts.{lines_by, Rules, LineVerdictValue, a
 use Rattle.sum_lines.specs.grammar.ParsedLines.{parse_line}
 use Rattle.sum_engine.specs.check.Reports.{LabelsValue, CountsValue, counts_of, out_of, err_of, end_text, good}
 use Rattle.sum_engine.specs.check.Checking.{line_steps}
-use Rattle.sum_engine.specs.check.CheckerSteps.{counts_with, counts_then, step_then, CheckState, LineHandled, next_judged, remaining_verdicts, remaining_behavior}
+use Rattle.sum_engine.specs.check.CheckerSteps.{Going, counts_with, counts_then, step_then, progress_before, CheckState, LineHandled, next_judged, remaining_verdicts, remaining_behavior}
 
 -- what a line says by the form of all lines is what it says by the form so far and its own
 parse_line_now : (r : Rules) (a : CheckState) (l : List ℕ) (ls : List (List ℕ)) →
@@ -20,12 +20,12 @@ parse_line_now r a l ls = search (rules, form_next, parse_stays)
 -- the first of those that remain
 pub rest_head : (r : Rules) (a : CheckState) (l : List ℕ) (ls : List (List ℕ)) → lines_by r.profile a.rest ≡ l ∷ ls
     → remaining_verdicts r a ≡ next_judged r a l ∷ verdicts r (form_then a.form (form r.algo (l ∷ ls)))
-    (after a.known_state.world (asks_of (next_judged r a l))) (a.number + 1) ls
+    (after a.world (asks_of (next_judged r a l))) (a.number + 1) ls
 rest_head r a l ls h = rw (h, parse_line_now r a l ls) refl
 
 -- one line's verdict, and those that remain after it
 pub rest_on : (r : Rules) (a b : CheckState) (v : List ℕ) (h : LineHandled r a b v)
-    → b.known_state.world ≡ after a.known_state.world (asks_of (next_judged r a h.line))
+    → b.world ≡ after a.world (asks_of (next_judged r a h.line))
     → remaining_verdicts r a ≡ next_judged r a h.line ∷ remaining_verdicts r b
 rest_on r a b v h world = search (rules, rest_head, form_next)
 
@@ -63,6 +63,18 @@ pub found_first : (r : Rules) (labels : LabelsValue) (a b : CheckState) (j : Lin
     → remaining_behavior r labels a
     ≡ step_then (line_step r labels (length a.rest.bytes) j) (remaining_behavior r labels b)
 found_first r labels a b j first counted rest = search rules
+
+-- a step always remains
+pub going-before : (r : Rules) (labels : LabelsValue) (a : CheckState)
+    → progress_before (remaining_behavior r labels a) ≡ Going
+going-before r labels a =
+    let js = remaining_verdicts r a in
+    by (end_text r labels a.rest.ending (counts_then a.counts (counts_of js))) a.rest js _
+  where
+    by : (end : List ℕ) (c : Content) (js : List LineVerdictValue) (good : Bool)
+        → progress_before (record { steps = line_steps r labels end c js; good = good }) ≡ Going
+    by end c [] good = refl
+    by end c (j ∷ js) good = refl
 
 -- contents past so many lines
 pub past_next : (k : ℕ) (c : Content) → past_line (past_lines k c) ≡ past_lines (suc k) c

@@ -1,17 +1,18 @@
 //! Hashing one name.
-ghost use Rattle.std.specs.Prelude.{◌≡◌, ◌||◌, true, Ok, Err, OnOk, length};
+ghost use Rattle.std.specs.Prelude.{◌≡◌, ◌||◌, true, Ok, Err, OnOk, [], length};
 ghost use Rattle.sum_engine.specs.Behavior.{is_dash};
 ghost use Rattle.sum_lines.specs.Lines.{line};
 ghost use Rattle.sum_engine.specs.Generation.{generate_behavior};
-ghost use Rattle.sum_engine.specs.refinement.FlushedWrites.{WritesAndFlushes};
+ghost use Rattle.sum_engine.specs.refinement.FlushedWrites.{WritesAndFlushesBoth};
 ghost use Rattle.sum_engine.specs.Execution.{IsFlushed, FailuresMatch, ReadToEnd, OneMore};
 ghost use Rattle.sum_engine.specs.Execution.{RefusalsMatch, NoOutputOnMemory, Performs};
 
 use crate::check::report::put_fault_line;
 use crate::hash_name::hash_name;
+use crate::inputs::Inputs;
 use crate::settings::Settings;
 use crate::stop::Stop;
-use crate::streams::Streams;
+use crate::streams::{Outputs, Streams};
 use digest_kinds::Digest;
 use sum_lines::{Sink, SinkFault, put_line};
 use sum_sources::{Input, PIECE, Source};
@@ -25,37 +26,31 @@ pub fn generate_one<I: Input + Drop, S: Source, O: Sink, E: Sink>(
     settings: &Settings,
     tool: &str,
     name: &[u8],
-    streams: &mut Streams<I, S, O, E>,
+    streams: &mut Streams<Inputs<I, S>, Outputs<O, E>>,
 ) -> Result<bool, Stop>
     // If the source and standard input are known, and both outputs flushed: the behavior of hashing that name.
     ensures behavior { Performs S.state (λ w. generate_behavior settings.now tool.now w name.now) (λ good. good)
         streams.old streams.new result }
-    ensures flushed { IsFlushed streams.old → IsFlushed streams.new }
+    ensures flushed { IsFlushed streams.old.outputs → IsFlushed streams.new.outputs }
     // Known or not, a stop has its cause: one refusal more of the source, or one failure more of one output.
-    ensures refusals { RefusalsMatch S.state OneMore streams.old streams.new result }
-    ensures failures { FailuresMatch streams.old streams.new result }
-    ensures stdin_taken { OnOk result (streams.new.stdin_taken ≡ streams.old.stdin_taken || is_dash name.now) }
+    ensures refusals { RefusalsMatch S.state OneMore streams.old.inputs streams.new.inputs result }
+    ensures failures { FailuresMatch streams.old.outputs streams.new.outputs result }
+    ensures stdin_taken { OnOk result
+        (streams.new.inputs.stdin_taken ≡ streams.old.inputs.stdin_taken || is_dash name.now) }
     // Known or not: true only if the file, or standard input, was read to its end.
-    ensures read_to_end { result ≡ Ok true → ReadToEnd S.state streams.old streams.new }
-    ensures no_output_on_memory { NoOutputOnMemory streams.old streams.new result }
+    ensures read_to_end { result ≡ Ok true → ReadToEnd S.state streams.old.inputs streams.new.inputs }
+    ensures no_output_on_memory { NoOutputOnMemory streams.old.outputs streams.new.outputs result }
 {
     let mut buffer = [0; PIECE];
-    let outcome = hash_name(
-        settings.kind,
-        name,
-        &mut streams.stdin,
-        &mut streams.source,
-        &mut buffer,
-    );
-    match outcome {
+    match hash_name(settings.kind, name, &mut streams.inputs, &mut buffer) {
         None => Err(Stop::Memory),
         Some(outcome) => match outcome.into_result() {
             Ok(digest) => {
-                put_line_flushed(&mut streams.out, settings, name, &digest)?;
+                put_line_flushed(&mut streams.outputs, settings, name, &digest)?;
                 Ok(true)
             }
             Err(fault) => {
-                put_fault_line(&mut streams.err, tool, name, fault)?;
+                put_fault_line(&mut streams.outputs, tool, name, fault)?;
                 Ok(false)
             }
         },
@@ -63,16 +58,22 @@ pub fn generate_one<I: Input + Drop, S: Source, O: Sink, E: Sink>(
 }
 
 // Writes the line of a name and its digest, and flushes it.
-fn put_line_flushed<O: Sink>(
-    out: &mut O,
+fn put_line_flushed<O: Sink, E: Sink>(
+    outputs: &mut Outputs<O, E>,
     settings: &Settings,
     name: &[u8],
     digest: &Digest,
 ) -> Result<(), SinkFault>
     requires { length digest.now ≡ settings.now.kind.len }
-    ensures { WritesAndFlushes (O.state out.old) (O.state out.new)
+    ensures { WritesAndFlushesBoth outputs.old outputs.new []
         (line settings.now.style settings.now.kind name.now digest.now) result }
 {
-    put_line(out, settings.style, settings.kind, name, digest)?;
-    out.flush()
+    put_line(
+        &mut outputs.out,
+        settings.style,
+        settings.kind,
+        name,
+        digest,
+    )?;
+    outputs.out.flush()
 }

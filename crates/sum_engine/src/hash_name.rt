@@ -1,11 +1,11 @@
 //! Hashing one name.
 ghost use Rattle.std.specs.Prelude.{◌≡◌, ◌||◌, [], false, IfNone, IfSome};
-ghost use Rattle.sum_sources.specs.Contents.{stdin_taken};
+ghost use Rattle.sum_sources.specs.Contents.{IfKnown};
 ghost use Rattle.sum_engine.specs.Behavior.{is_dash};
-ghost use Rattle.sum_engine.specs.check.NextVerdict.{lent_streams};
 
+use crate::inputs::Inputs;
 use digest_kinds::{AnyHasher, Digest, Hasher, Kind};
-use sum_sources::{Fault, Input, OpenFault, PIECE, Source, Stdin, hash_input_over};
+use sum_sources::{Fault, Input, OpenFault, PIECE, Source, hash_input_over};
 
 /// The outcome of hashing a name.
 #[derive(Drop)]
@@ -37,39 +37,37 @@ pub(crate) fn is_dash(name: &[u8]) -> bool
     name == b"-".as_slice()
 }
 
-ghost use Rattle.sum_engine.specs.refinement.HashName.{HashesNameIfKnown, IsRead, RefusedUnless, UnlessBroken};
-ghost use Rattle.sum_engine.specs.refinement.HashName.{HasKindLen, digest_of_outcome, world_of};
-ghost use Rattle.sum_engine.specs.Execution.{ReadToEnd, Reading, Ended};
+ghost use Rattle.sum_engine.specs.refinement.HashName.{HashesName, IsRead, RefusedUnless, UnlessBroken};
+ghost use Rattle.sum_engine.specs.refinement.HashName.{HasKindLen, digest_of_outcome};
+ghost use Rattle.sum_engine.specs.Execution.{known_world, KeepsStdin, ReadToEnd, Reading, Ended};
 
 /// Opens the name (`-` is standard input) and hashes it, through the buffer. `None` if the source is out of memory; the
 /// name is then not recorded as asked.
 pub(crate) fn hash_name<I: Input + Drop, S: Source>(
     kind: Kind,
     name: &[u8],
-    stdin: &mut Stdin<I>,
-    source: &mut S,
+    inputs: &mut Inputs<I, S>,
     buffer: &mut [u8; PIECE],
 ) -> Option<HashOutcome>
-    ensures outcome { HashesNameIfKnown kind (world_of S.state (lent_streams I.state stdin.old source.old))
-        (world_of S.state (lent_streams I.state stdin.new source.new)) name.now result }
-    ensures stdin_taken { stdin_taken stdin.new ≡ stdin_taken stdin.old || is_dash name.now }
-    ensures other_name { is_dash name.now ≡ false → stdin.new ≡ stdin.old }
-    ensures stdin_kept { IfNone result (stdin.new ≡ stdin.old) }
-    ensures refusals { RefusedUnless (S.state source.old) (S.state source.new) result }
-    ensures read_to_end { UnlessBroken result
-        (ReadToEnd S.state (lent_streams I.state stdin.old source.old) (lent_streams I.state stdin.new source.new)) }
+    ensures outcome { IfKnown (known_world S.state inputs.old) (known_world S.state inputs.new)
+        (λ w v. HashesName kind w v name.now result) }
+    ensures stdin_taken { inputs.new.stdin_taken ≡ inputs.old.stdin_taken || is_dash name.now }
+    ensures other_name { is_dash name.now ≡ false → KeepsStdin inputs.old inputs.new }
+    ensures stdin_kept { IfNone result (KeepsStdin inputs.old inputs.new) }
+    ensures refusals { RefusedUnless (S.state inputs.old.source) (S.state inputs.new.source) result }
+    ensures read_to_end { UnlessBroken result (ReadToEnd S.state inputs.old inputs.new) }
     ensures digest_len { HasKindLen kind result }
 {
     if is_dash(name) {
-        let mut input = stdin.take();
+        let mut input = inputs.take_stdin();
         let outcome = read_digest(&mut input, AnyHasher::new(kind), buffer);
-        stdin.put_back(input);
+        inputs.put_back_stdin(input);
         return Some(outcome);
     }
-    match source.open_file(name) {
+    match inputs.open_file(name) {
         Ok(mut file) => {
             let outcome = read_digest(&mut file, AnyHasher::new(kind), buffer);
-            source.close_file(file);
+            inputs.close_file(file);
             Some(outcome)
         }
         Err(OpenFault::Fault(fault)) => Some(HashOutcome::NotOpened(fault)),

@@ -2,12 +2,9 @@
 //! it finds in its own way.
 //!
 //! ```rust
-//! let mut streams = Streams {
-//!     stdin: Stdin::new(FromRead::new(rt.stdin())),
-//!     source: Files::new(rt),
-//!     out: FromWrite::new(rt.stdout()),
-//!     err: FromWrite::new(rt.stderr()),
-//! };
+//! let stdin = Stdin::new(FromRead::new(rt.stdin()));
+//! let (out, err) = (FromWrite::new(rt.stdout()), FromWrite::new(rt.stderr()));
+//! let mut streams = Streams::new(stdin, Files::new(rt), out, err);
 //! let settings = CheckSettings::new(Algos::One(Algo::Md5));
 //! let good = check_one(rt.alloc(), settings, "md5sum", b"MD5SUMS", &mut streams)?;
 //! ```
@@ -16,6 +13,7 @@
 mod check;
 mod generate;
 mod hash_name;
+mod inputs;
 pub mod laws;
 mod put_flushed;
 mod settings;
@@ -28,6 +26,7 @@ pub use check::judge::{LineVerdict, Verdict};
 pub use check::progress::Progress;
 pub use check::verdicts::Verdicts;
 pub use generate::generate_one;
+pub use inputs::Inputs;
 pub use settings::{CheckSettings, Report, Settings};
 pub use stop::Stop;
-pub use streams::Streams;
+pub use streams::{Outputs, Streams};

@@ -1,34 +1,51 @@
 //! The streams of a call.
+ghost use Rattle.std.specs.Prelude.{◌≡◌};
+ghost use Rattle.sum_sources.specs.Contents.{stdin_state, stdin_taken, stdin_phase};
+
+use crate::inputs::Inputs;
 use std::marker::Model;
 use sum_lines::Sink;
 use sum_sources::{Input, Stdin};
 
-/// What a call reads from and writes to. What contracts say of bytes assumes outputs that are flushed at the call, and
-/// holds if the source and standard input are known.
+/// Both outputs.
 #[derive(Drop)]
-pub struct Streams<I: Input, S, O: Sink, E: Sink> {
-    /// Standard input.
-    pub stdin: Stdin<I>,
-    /// Where files are opened by their names.
-    pub source: S,
+pub struct Outputs<O: Sink, E: Sink> {
     /// Standard output.
     pub out: O,
     /// Standard error.
     pub err: E,
 }
 
-impl<I: Input, S, O: Sink, E: Sink> Model for Streams<I, S, O, E> {
-    ghost use Rattle.sum_sources.specs.Contents.{stdin_state, stdin_taken, stdin_phase};
-    ghost use Rattle.sum_engine.specs.Execution.{StreamsState};
+impl<O: Sink, E: Sink> Model for Outputs<O, E> {
+    ghost use Rattle.sum_engine.specs.Execution.{OutputsState};
 
-    ghost Value = { StreamsState S };
+    ghost Value = { OutputsState };
 
-    ghost view = { λ s. record {
-      source = s.source;
-      input = (stdin_state I.state s.stdin).content;
-      stdin_taken = stdin_taken s.stdin;
-      stdin_phase = stdin_phase I.state s.stdin;
-      err = E.state s.err;
-      out = O.state s.out;
-    } };
+    ghost view = { λ outputs. record { out = O.state outputs.out; err = E.state outputs.err } };
+}
+
+/// What a call reads from and writes to. What contracts say of bytes assumes outputs that are flushed at the call, and
+/// holds if the source and standard input are known.
+#[derive(Drop)]
+pub struct Streams<In, Out> {
+    /// Where it opens and reads: [`Inputs`].
+    pub inputs: In,
+    /// Where it writes: [`Outputs`].
+    pub outputs: Out,
+}
+
+impl<I: Input, S, O: Sink, E: Sink> Streams<Inputs<I, S>, Outputs<O, E>> {
+    /// These streams.
+    pub fn new(stdin: Stdin<I>, source: S, out: O, err: E) -> Self
+        ensures source { result.inputs.source ≡ source }
+        ensures input { result.inputs.input ≡ (stdin_state I.state stdin).content }
+        ensures stdin_taken { result.inputs.stdin_taken ≡ stdin_taken stdin }
+        ensures stdin_phase { result.inputs.stdin_phase ≡ stdin_phase I.state stdin }
+        ensures outputs { result.outputs ≡ record { out = O.state out; err = E.state err } }
+    {
+        Streams {
+            inputs: Inputs { stdin, source },
+            outputs: Outputs { out, err },
+        }
+    }
 }

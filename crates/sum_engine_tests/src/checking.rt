@@ -3,7 +3,7 @@ use digest_kinds::{Algo, Algos};
 use std::alloc::{Allocator, Global};
 use std::process::Abort;
 use std::test::Fail;
-use sum_engine::{CheckSettings, Report, Streams, check_one};
+use sum_engine::{CheckSettings, Inputs, Outputs, Report, Streams, check_one};
 use sum_lines::ToldSink;
 use sum_sources::{Answer, Ending, Fault, NoRoom, Stdin, Told, ToldSource};
 
@@ -23,13 +23,13 @@ pub(crate) const ALL: &[u8] = b"900150983cd24fb0d6963f7d28e17f72  a\n\
 pub(crate) fn known<'a, S>(
     input: &'a [u8],
     source: S,
-) -> Streams<Told<'a>, S, ToldSink<1000>, ToldSink<1000>> {
-    Streams {
-        stdin: Stdin::new(Told::new(input, Ending::Whole, 1)),
+) -> Streams<Inputs<Told<'a>, S>, Outputs<ToldSink<1000>, ToldSink<1000>>> {
+    Streams::new(
+        Stdin::new(Told::new(input, Ending::Whole, 1)),
         source,
-        out: ToldSink::new(1000),
-        err: ToldSink::new(1000),
-    }
+        ToldSink::new(1000),
+        ToldSink::new(1000),
+    )
 }
 
 /// The files `a`, which holds `abc`, and the empty `e`; and a manifest `l`. A read gives at most so many bytes.
@@ -68,9 +68,12 @@ fn checks(
         let mut streams = known(input, source);
         let good = check_one(rt.alloc(), settings, tool, name, &mut streams);
         assert!(rt; good == Ok(want.0));
-        assert_eq!(rt; streams.out.bytes(), want.1.as_bytes());
-        assert_eq!(rt; streams.err.bytes(), want.2.as_bytes());
-        let (opened, ended) = (streams.source.opened(), streams.source.ended());
+        assert_eq!(rt; streams.outputs.out.bytes(), want.1.as_bytes());
+        assert_eq!(rt; streams.outputs.err.bytes(), want.2.as_bytes());
+        let (opened, ended) = (
+            streams.inputs.source.opened(),
+            streams.inputs.source.ended(),
+        );
         assert!(rt;
             if want.0 {
                 ended == opened
@@ -115,11 +118,11 @@ fn names_asked(rt: HostRuntime) -> Result<(), Fail> {
     assert!(rt; check_one(rt.alloc(), plain(), "md5sum", b"l", &mut streams) == Ok(false));
     for (i, name) in ["l", "a", "x", "e"].iter().enumerate() {
         assert_eq!(rt;
-            streams.source.asked_name(i).ok_or("not asked")?,
+            streams.inputs.source.asked_name(i).ok_or("not asked")?,
             name.as_bytes()
         );
     }
-    assert!(rt; streams.source.asked_name(4).is_none());
+    assert!(rt; streams.inputs.source.asked_name(4).is_none());
     Ok(())
 }
 
@@ -177,10 +180,10 @@ fn checks_twice(
             let found = check_one(rt.alloc(), plain(), "md5sum", b"l", &mut streams);
             assert!(rt; found == Ok(want));
         }
-        assert_eq!(rt; streams.out.bytes(), out.as_bytes());
-        assert_eq!(rt; streams.err.bytes(), err.as_bytes());
+        assert_eq!(rt; streams.outputs.out.bytes(), out.as_bytes());
+        assert_eq!(rt; streams.outputs.err.bytes(), err.as_bytes());
         // Each file that was opened was read to its end.
-        assert!(rt; streams.source.ended() == streams.source.opened());
+        assert!(rt; streams.inputs.source.ended() == streams.inputs.source.opened());
     }
     Ok(())
 }

@@ -5,7 +5,8 @@ use std::alloc::Global;
 use std::cell::Cell;
 use std::test::Fail;
 use sum_engine::{
-    Checker, Progress, Settings, Streams, Verdict, Verdicts, check_one, generate_one,
+    Checker, Inputs, Outputs, Progress, Settings, Streams, Verdict, Verdicts, check_one,
+    generate_one,
 };
 use sum_lines::{Mode, Style, ToldSink};
 use sum_sources::{Ending, Fault, LineStop, NoRoom, Phase, Source, Stdin, Told};
@@ -15,7 +16,10 @@ use sum_sources_tests::fails_once::{FailsOnce, FilesFailOnce};
 const MANIFEST: &[u8] =
     b"900150983cd24fb0d6963f7d28e17f72  a\nd41d8cd98f00b204e9800998ecf8427e  e\n";
 
-type Stage<'a> = Streams<FailsOnce<'a>, FilesFailOnce<'a, Global>, ToldSink<1000>, ToldSink<1000>>;
+type Stage<'a> = Streams<
+    Inputs<FailsOnce<'a>, FilesFailOnce<'a, Global>>,
+    Outputs<ToldSink<1000>, ToldSink<1000>>,
+>;
 
 // What a run works on. The manifest is the file `l`. A read gives at most so many bytes.
 fn stage<'a>(
@@ -24,20 +28,20 @@ fn stage<'a>(
     piece: usize,
     before: &'a Cell<usize>,
 ) -> Result<Stage<'a>, NoRoom> {
-    Ok(Streams {
-        stdin: Stdin::new(FailsOnce::new(
+    Ok(Streams::new(
+        Stdin::new(FailsOnce::new(
             Told::new(input, Ending::Whole, piece),
             before,
             Fault::Denied,
         )),
-        source: FilesFailOnce::new(
+        FilesFailOnce::new(
             files(alloc, piece, MANIFEST, Ending::Whole)?,
             before,
             Fault::Denied,
         ),
-        out: ToldSink::new(1000),
-        err: ToldSink::new(1000),
-    })
+        ToldSink::new(1000),
+        ToldSink::new(1000),
+    ))
 }
 
 // No digest of a prefix, and none of what follows the fault.
@@ -68,13 +72,13 @@ fn generating(rt: HostRuntime) -> Result<(), Fail> {
             let good = generate_one(&settings, "md5sum", name.as_bytes(), &mut streams);
             let (out, err) = if before < 4 { ("", fault) } else { (line, "") };
             assert!(rt; good == Ok(before == 4), "{name} at {before}");
-            assert_eq!(rt; streams.out.bytes(), out.as_bytes());
-            assert_eq!(rt; streams.err.bytes(), err.as_bytes());
+            assert_eq!(rt; streams.outputs.out.bytes(), out.as_bytes());
+            assert_eq!(rt; streams.outputs.err.bytes(), err.as_bytes());
             // The read that failed was the last.
             assert!(rt; count.get() == if before < 4 { usize::MAX } else { 0 });
             let opened = u64::from(name == "a");
             let ended = if before < 4 { 0 } else { opened };
-            assert!(rt; streams.source.counts() == (opened, ended));
+            assert!(rt; streams.inputs.source.counts() == (opened, ended));
         }
     }
     Ok(())
@@ -170,10 +174,13 @@ fn checking(rt: HostRuntime) -> Result<(), Fail> {
             let mut streams = stage(rt.alloc(), MANIFEST, 36, &count)?;
             let good = check_one(rt.alloc(), plain(), "md5sum", name.as_bytes(), &mut streams);
             assert!(rt; good == Ok(before == 6), "{name} at {before}");
-            assert_eq!(rt; streams.out.bytes(), row.out.as_bytes());
+            assert_eq!(rt; streams.outputs.out.bytes(), row.out.as_bytes());
             let err = row.err.replace(rt.alloc(), "md5sum: l:", shown)?;
-            assert_eq!(rt; streams.err.bytes(), err.as_bytes());
-            assert!(rt; streams.source.counts() == counts, "{name} at {before}");
+            assert_eq!(rt; streams.outputs.err.bytes(), err.as_bytes());
+            assert!(rt;
+                streams.inputs.source.counts() == counts,
+                "{name} at {before}"
+            );
         }
     }
     Ok(())
@@ -184,7 +191,7 @@ fn step_by_step(rt: HostRuntime) -> Result<(), Fail> {
     for (before, row) in rows().into_iter().enumerate() {
         let count = Cell::new(before);
         let mut streams = stage(rt.alloc(), b"", 36, &count)?;
-        let input = streams.source.open_file(b"l").ok().ok_or("l")?;
+        let input = streams.inputs.source.open_file(b"l").ok().ok_or("l")?;
         let mut checker = Checker::new(plain(), "md5sum", b"l", false, input);
         let mut line = Vec::new(rt.alloc());
         for _ in row.verdicts {
@@ -196,14 +203,14 @@ fn step_by_step(rt: HostRuntime) -> Result<(), Fail> {
         for _ in 0..2 {
             let last = checker.step(&mut line, &mut streams);
             assert!(rt; last == Ok(Progress::Ended(before == 6)), "at {before}");
-            assert_eq!(rt; streams.out.bytes(), row.out.as_bytes());
-            assert_eq!(rt; streams.err.bytes(), row.err.as_bytes());
+            assert_eq!(rt; streams.outputs.out.bytes(), row.out.as_bytes());
+            assert_eq!(rt; streams.outputs.err.bytes(), row.err.as_bytes());
         }
         let input = checker.into_inner();
         assert!(rt; input.phase() == row.phase(), "at {before}");
-        streams.source.close_file(input);
+        streams.inputs.source.close_file(input);
         assert!(rt;
-            streams.source.counts() == row.counts_with_list(),
+            streams.inputs.source.counts() == row.counts_with_list(),
             "at {before}"
         );
     }
@@ -215,12 +222,12 @@ fn finding(rt: HostRuntime) -> Result<(), Fail> {
     for (before, row) in rows().into_iter().enumerate() {
         let count = Cell::new(before);
         let streams = stage(rt.alloc(), b"", 36, &count)?;
-        let (mut stdin, mut source) = (streams.stdin, streams.source);
-        let input = source.open_file(b"l").ok().ok_or("l")?;
+        let mut inputs = streams.inputs;
+        let input = inputs.source.open_file(b"l").ok().ok_or("l")?;
         let mut finds = Verdicts::new(plain(), false, input);
         let mut line = Vec::new(rt.alloc());
         for verdict in row.verdicts {
-            let found = finds.next(&mut line, &mut stdin, &mut source)?;
+            let found = finds.next(&mut line, &mut inputs)?;
             assert!(rt; found.ok_or("no line")?.verdict == *verdict, "at {before}");
         }
         let end = if row.broken {
@@ -229,7 +236,7 @@ fn finding(rt: HostRuntime) -> Result<(), Fail> {
             Ok(None)
         };
         for _ in 0..2 {
-            let last = finds.next(&mut line, &mut stdin, &mut source);
+            let last = finds.next(&mut line, &mut inputs);
             assert!(rt;
                 last == end && finds.is_good() == (before == 6),
                 "at {before}"
@@ -237,8 +244,11 @@ fn finding(rt: HostRuntime) -> Result<(), Fail> {
         }
         let input = finds.into_inner();
         assert!(rt; input.phase() == row.phase(), "at {before}");
-        source.close_file(input);
-        assert!(rt; source.counts() == row.counts_with_list(), "at {before}");
+        inputs.source.close_file(input);
+        assert!(rt;
+            inputs.source.counts() == row.counts_with_list(),
+            "at {before}"
+        );
     }
     Ok(())
 }

@@ -4,7 +4,7 @@ use crate::hashing::Refusing;
 use linked_list_allocator::LocalHeap;
 use std::process::Abort;
 use std::test::Fail;
-use sum_engine::{LineVerdict, Verdict, Verdicts};
+use sum_engine::{Inputs, LineVerdict, Verdict, Verdicts};
 use sum_sources::{Ending, Fault, LineStop, Stdin, Told};
 
 // The lines of a manifest have these verdicts and names, and then it ends so.
@@ -14,18 +14,20 @@ fn finds(
     lines: &[(Verdict, &[u8])],
     (end, good): (Result<Option<LineVerdict>, LineStop>, bool),
 ) -> Result<(), Fail> {
-    let mut stdin = Stdin::new(Told::new(b"abc", Ending::Whole, 1));
-    let mut source = files(rt.alloc(), 1, b"", Ending::Whole)?;
+    let mut inputs = Inputs {
+        stdin: Stdin::new(Told::new(b"abc", Ending::Whole, 1)),
+        source: files(rt.alloc(), 1, b"", Ending::Whole)?,
+    };
     let mut line = Vec::new(rt.alloc());
     for (i, (verdict, name)) in lines.iter().enumerate() {
-        let found = verdicts.next(&mut line, &mut stdin, &mut source)?;
+        let found = verdicts.next(&mut line, &mut inputs)?;
         let found = found.ok_or("no line")?;
         assert!(rt; found.number == i as u64 + 1 && found.verdict == *verdict);
         assert_eq!(rt; &line[found.start..found.stop], *name);
         assert!(rt; !verdicts.is_good());
     }
     for _ in 0..2 {
-        assert!(rt; verdicts.next(&mut line, &mut stdin, &mut source) == end);
+        assert!(rt; verdicts.next(&mut line, &mut inputs) == end);
         assert!(rt; verdicts.is_good() == good);
     }
     Ok(())
@@ -86,14 +88,14 @@ fn broken_manifest(rt: HostRuntime) -> Result<(), Fail> {
 
 #[test]
 fn no_memory_to_open(rt: HostRuntime) {
-    let (mut stdin, mut source) = (
-        Stdin::new(Told::new(b"", Ending::Whole, 1)),
-        Refusing::new(),
-    );
+    let mut inputs = Inputs {
+        stdin: Stdin::new(Told::new(b"", Ending::Whole, 1)),
+        source: Refusing::new(),
+    };
     let mut verdicts = Verdicts::new(plain(), false, Told::new(ALL, Ending::Whole, 8192));
     let mut line = Vec::new(rt.alloc());
     for _ in 0..3 {
-        let found = verdicts.next(&mut line, &mut stdin, &mut source);
+        let found = verdicts.next(&mut line, &mut inputs);
         assert!(rt; found == Err(LineStop::Memory) && !verdicts.is_good());
         assert!(rt; verdicts.taken() == 116);
     }
@@ -108,16 +110,18 @@ fn no_memory_for_a_line(rt: HostRuntime) -> Result<(), Fail> {
     )?;
     let name = vec![in rt.alloc(); b'x'; 5000]?;
     manifest.extend_from_slice(&name)?;
-    let mut stdin = Stdin::new(Told::new(b"", Ending::Whole, 1));
-    let mut source = files(rt.alloc(), 8192, b"", Ending::Whole)?;
+    let mut inputs = Inputs {
+        stdin: Stdin::new(Told::new(b"", Ending::Whole, 1)),
+        source: files(rt.alloc(), 8192, b"", Ending::Whole)?,
+    };
     let input = Told::new(&manifest, Ending::Whole, 8192);
     let mut verdicts = Verdicts::new(plain(), false, input);
     let heap = LocalHeap::new(rt.alloc(), 256)?;
     let mut line = Vec::new(&heap);
-    let first = verdicts.next(&mut line, &mut stdin, &mut source)?;
+    let first = verdicts.next(&mut line, &mut inputs)?;
     assert!(rt; first.ok_or("no line")?.verdict == Verdict::Right);
     for _ in 0..3 {
-        let found = verdicts.next(&mut line, &mut stdin, &mut source);
+        let found = verdicts.next(&mut line, &mut inputs);
         assert!(rt; found == Err(LineStop::Memory) && !verdicts.is_good());
     }
     Ok(())

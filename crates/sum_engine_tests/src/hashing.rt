@@ -1,7 +1,7 @@
 //! `generate_one`.
 use digest_kinds::{Algo, Kind};
 use std::test::Fail;
-use sum_engine::{Settings, Stop, Streams, generate_one};
+use sum_engine::{Inputs, Outputs, Settings, Stop, Streams, generate_one};
 use sum_lines::{Mode, Style, ToldSink};
 use sum_sources::{Answer, Ending, Fault, OpenFault, Phase, Source, Stdin, Told, ToldSource};
 
@@ -16,13 +16,16 @@ const BINARY: Style = Style {
 };
 
 // Streams over this input and these files.
-fn known<'a, S>(input: Told<'a>, source: S) -> Streams<Told<'a>, S, ToldSink<200>, ToldSink<200>> {
-    Streams {
-        stdin: Stdin::new(input),
+fn known<'a, S>(
+    input: Told<'a>,
+    source: S,
+) -> Streams<Inputs<Told<'a>, S>, Outputs<ToldSink<200>, ToldSink<200>>> {
+    Streams::new(
+        Stdin::new(input),
         source,
-        out: ToldSink::new(200),
-        err: ToldSink::new(200),
-    }
+        ToldSink::new(200),
+        ToldSink::new(200),
+    )
 }
 
 #[test]
@@ -39,8 +42,8 @@ fn files(rt: HostRuntime) -> Result<(), Fail> {
     let lines = "900150983cd24fb0d6963f7d28e17f72  a\n\
         d41d8cd98f00b204e9800998ecf8427e  e\n\
         900150983cd24fb0d6963f7d28e17f72 *a\n";
-    assert_eq!(rt; streams.out.bytes(), lines.as_bytes());
-    assert!(rt; streams.err.bytes().is_empty());
+    assert_eq!(rt; streams.outputs.out.bytes(), lines.as_bytes());
+    assert!(rt; streams.outputs.err.bytes().is_empty());
     Ok(())
 }
 
@@ -64,8 +67,8 @@ fn faults(rt: HostRuntime) -> Result<(), Fail> {
         md5sum: x: No such file or directory\n\
         md5sum: : No such file or directory\n\
         md5sum: -: Input/output error\n";
-    assert_eq!(rt; streams.err.bytes(), lines.as_bytes());
-    assert!(rt; streams.out.bytes().is_empty());
+    assert_eq!(rt; streams.outputs.err.bytes(), lines.as_bytes());
+    assert!(rt; streams.outputs.out.bytes().is_empty());
     Ok(())
 }
 
@@ -89,8 +92,8 @@ fn stdin_alone(rt: HostRuntime) {
     ] {
         let mut streams = known(input, ToldSource::new(rt.alloc(), 1));
         assert!(rt; generate_one(&settings, "sha256sum", b"-", &mut streams) == Ok(good));
-        assert_eq!(rt; streams.out.bytes(), out.as_bytes());
-        assert_eq!(rt; streams.err.bytes(), err.as_bytes());
+        assert_eq!(rt; streams.outputs.out.bytes(), out.as_bytes());
+        assert_eq!(rt; streams.outputs.err.bytes(), err.as_bytes());
     }
 }
 
@@ -108,12 +111,12 @@ fn fault_at_each_place(rt: HostRuntime) -> Result<(), Fail> {
         source.add(b"f", Answer::Content(given, Ending::Broken(Fault::Denied)))?;
         let mut streams = known(Told::new(b"", Ending::Whole, 1), source);
         assert!(rt; generate_one(&settings, "md5sum", b"f", &mut streams) == Ok(false));
-        assert!(rt; streams.out.bytes().is_empty());
+        assert!(rt; streams.outputs.out.bytes().is_empty());
         assert_eq!(rt;
-            streams.err.bytes(),
+            streams.outputs.err.bytes(),
             b"md5sum: f: Permission denied\n".as_slice()
         );
-        assert!(rt; streams.source.opened() == 1 && streams.source.ended() == 0);
+        assert!(rt; streams.inputs.source.opened() == 1 && streams.inputs.source.ended() == 0);
     }
     Ok(())
 }
@@ -133,16 +136,16 @@ fn missing_file(rt: HostRuntime) -> Result<(), Fail> {
         let good = generate_one(&settings, "md5sum", name.as_bytes(), &mut streams);
         assert!(rt; good == Ok(i != 1));
         assert_eq!(rt;
-            streams.source.asked_name(i).ok_or("not asked")?,
+            streams.inputs.source.asked_name(i).ok_or("not asked")?,
             name.as_bytes()
         );
     }
-    assert!(rt; streams.source.asked_name(3).is_none());
+    assert!(rt; streams.inputs.source.asked_name(3).is_none());
     let lines = "900150983cd24fb0d6963f7d28e17f72  a\nd41d8cd98f00b204e9800998ecf8427e  e\n";
-    assert_eq!(rt; streams.out.bytes(), lines.as_bytes());
+    assert_eq!(rt; streams.outputs.out.bytes(), lines.as_bytes());
     let fault = b"md5sum: x: No such file or directory\n".as_slice();
-    assert_eq!(rt; streams.err.bytes(), fault);
-    assert!(rt; streams.source.opened() == 2 && streams.source.ended() == 2);
+    assert_eq!(rt; streams.outputs.err.bytes(), fault);
+    assert!(rt; streams.inputs.source.opened() == 2 && streams.inputs.source.ended() == 2);
     Ok(())
 }
 
@@ -152,15 +155,15 @@ fn output_stops(rt: HostRuntime) -> Result<(), Fail> {
     let mut source = ToldSource::new(rt.alloc(), 1);
     source.add(b"a", Answer::Content(b"abc", Ending::Whole))?;
     let mut streams = known(Told::new(b"", Ending::Whole, 1), source);
-    streams.out = ToldSink::new(10);
+    streams.outputs.out = ToldSink::new(10);
     let settings = Settings {
         kind: Kind::of(Algo::Md5),
         style: TEXT,
     };
     assert!(rt; generate_one(&settings, "md5sum", b"a", &mut streams) == Err(Stop::Write));
-    assert_eq!(rt; streams.out.bytes(), b"900150983c".as_slice());
-    assert!(rt; streams.err.bytes().is_empty());
-    assert!(rt; streams.source.opened() == 1 && streams.source.ended() == 1);
+    assert_eq!(rt; streams.outputs.out.bytes(), b"900150983c".as_slice());
+    assert!(rt; streams.outputs.err.bytes().is_empty());
+    assert!(rt; streams.inputs.source.opened() == 1 && streams.inputs.source.ended() == 1);
     Ok(())
 }
 
@@ -176,8 +179,8 @@ fn stdin_twice(rt: HostRuntime) -> Result<(), Fail> {
         assert!(rt; generate_one(&settings, "md5sum", b"-", &mut streams) == Ok(true));
     }
     let lines = "900150983cd24fb0d6963f7d28e17f72  -\nd41d8cd98f00b204e9800998ecf8427e  -\n";
-    assert_eq!(rt; streams.out.bytes(), lines.as_bytes());
-    assert!(rt; streams.source.asked_name(0).is_none());
+    assert_eq!(rt; streams.outputs.out.bytes(), lines.as_bytes());
+    assert!(rt; streams.inputs.source.asked_name(0).is_none());
     Ok(())
 }
 
@@ -225,5 +228,5 @@ fn memory_refused(rt: HostRuntime) {
         style: TEXT,
     };
     assert!(rt; generate_one(&settings, "md5sum", b"a", &mut streams) == Err(Stop::Memory));
-    assert!(rt; streams.out.bytes().is_empty() && streams.err.bytes().is_empty());
+    assert!(rt; streams.outputs.out.bytes().is_empty() && streams.outputs.err.bytes().is_empty());
 }

@@ -22,7 +22,7 @@ fn step_by_step(rt: HostRuntime) -> Result<(), Fail> {
     ];
     for text in after {
         assert!(rt; checker.step(&mut line, &mut streams) == Ok(Progress::Going));
-        assert_eq!(rt; streams.out.bytes(), text.as_bytes());
+        assert_eq!(rt; streams.outputs.out.bytes(), text.as_bytes());
     }
     let texts = "md5sum: x: No such file or directory\n\
         md5sum: WARNING: 1 line is improperly formatted\n\
@@ -30,7 +30,7 @@ fn step_by_step(rt: HostRuntime) -> Result<(), Fail> {
         md5sum: WARNING: 1 computed checksum did NOT match\n";
     for _ in 0..2 {
         assert!(rt; checker.step(&mut line, &mut streams) == Ok(Progress::Ended(false)));
-        assert_eq!(rt; streams.err.bytes(), texts.as_bytes());
+        assert_eq!(rt; streams.outputs.err.bytes(), texts.as_bytes());
     }
     assert!(rt; checker.taken() == 116);
     Ok(())
@@ -72,7 +72,9 @@ fn stops_for_good(rt: HostRuntime) {
     let mut line = Vec::new(rt.alloc());
     for _ in 0..3 {
         assert!(rt; checker.step(&mut line, &mut streams) == Err(Stop::Memory));
-        assert!(rt; streams.out.bytes().is_empty() && streams.err.bytes().is_empty());
+        assert!(rt;
+            streams.outputs.out.bytes().is_empty() && streams.outputs.err.bytes().is_empty()
+        );
     }
 }
 
@@ -94,8 +96,8 @@ fn memory_refused(rt: HostRuntime) -> Result<(), Fail> {
     assert!(rt; checker.step(&mut line, &mut streams) == Ok(Progress::Going));
     for _ in 0..3 {
         assert!(rt; checker.step(&mut line, &mut streams) == Err(Stop::Memory));
-        assert_eq!(rt; streams.out.bytes(), b"a: OK\n".as_slice());
-        assert!(rt; streams.err.bytes().is_empty());
+        assert_eq!(rt; streams.outputs.out.bytes(), b"a: OK\n".as_slice());
+        assert!(rt; streams.outputs.err.bytes().is_empty());
     }
     Ok(())
 }

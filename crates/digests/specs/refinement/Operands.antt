@@ -1,10 +1,10 @@
 -- Relates the calls of a run to its operands.
 use Rattle.std.specs.Prelude.{ℕ, ◌≡◌, Bool, List, Result, Ok, Err}
-use Rattle.sum_sources.specs.Contents.{SourceState, IfKnown}
+use Rattle.sum_sources.specs.Contents.{SourceState}
 use Rattle.sum_engine.specs.declared.stop.Stop.{Stop}
 use Rattle.sum_engine.specs.declared.stop.Stop.TheVariants.{Write}
 use Rattle.sum_engine.specs.Behavior.{World, Behavior, behavior_then, trace}
-use Rattle.sum_engine.specs.Execution.{StreamsState, KnownState, known_state, Happened, OneMore, OneMoreAtMost}
+use Rattle.sum_engine.specs.Execution.{StreamsState, KnownState, IfWorldKnown, Happened, OneMore, OneMoreAtMost}
 use Rattle.sum_engine.specs.Generation.{generate_behavior}
 use Rattle.sum_engine.specs.check.Checking.{check_behavior}
 use Rattle.sum_words.specs.Items.{ByteString}
@@ -34,7 +34,7 @@ pub record OperandsDone (one : World → ByteString → Behavior) (names rest : 
 abbrev pub OperandsDoneIfKnown : {S : Type 0} → (S → SourceState) → (World → ByteString → Behavior)
     → List ByteString → List ByteString → StreamsState S → StreamsState S → Bool → Type 0
 OperandsDoneIfKnown state one names rest a b good =
-    IfKnown (known_state state a) (known_state state b) (λ s t. OperandsDone one names rest s t good)
+    IfWorldKnown state a b (λ s t. OperandsDone one names rest s t good)
 
 -- the status after a text was written
 abbrev pub status_after_write : {U E : Type 0} → Result U E → ℕ → Result ℕ Stop

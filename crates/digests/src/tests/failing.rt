@@ -99,32 +99,35 @@ fn assert_leaves(
         ("l", list.as_bytes(), Ending::Whole),
     ];
     let count = Cell::new(before);
-    let mut streams = Streams {
-        stdin: Stdin::new(Told::new(b"", Ending::Whole, 1)),
-        source: FilesFailOnce {
+    let mut streams = Streams::new(
+        Stdin::new(Told::new(b"", Ending::Whole, 1)),
+        FilesFailOnce {
             files: source_of(rt.alloc(), &added, 68)?,
             before: &count,
             ended: 0,
         },
-        out: ToldSink::<1024>::new(1024),
-        err: ToldSink::<1024>::new(1024),
-    };
+        ToldSink::<1024>::new(1024),
+        ToldSink::<1024>::new(1024),
+    );
     let answer = status_of(rt.alloc(), arguments, &mut streams);
     assert_text(
         rt,
-        streams.out.bytes(),
+        streams.outputs.out.bytes(),
         out,
         ("standard output", "the program"),
     )?;
     assert_text(
         rt,
-        streams.err.bytes(),
+        streams.outputs.err.bytes(),
         err,
         ("standard error", "the program"),
     )?;
     assert_eq!(rt; answer, status, "{before}");
     // Every file was opened; the one of which a read failed has no end, and no file has one by a read after its fault.
-    let unread = u64::saturating_sub(streams.source.files.opened(), streams.source.ended);
+    let unread = u64::saturating_sub(
+        streams.inputs.source.files.opened(),
+        streams.inputs.source.ended,
+    );
     assert_eq!(rt; unread, u64::from(status), "{before}");
     Ok(())
 }

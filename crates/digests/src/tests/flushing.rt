@@ -51,14 +51,14 @@ fn count_flushes(
 ) -> Result<(u64, u64, u8), Fail> {
     let list = spelled(alloc, "$M  a\n")?;
     let files = source_of(alloc, &[("list", list.as_bytes(), Ending::Whole)], 100)?;
-    let mut streams = Streams {
-        stdin: Stdin::new(Told::new(b"", Ending::Whole, 1)),
-        source: files,
-        out: sink(out_fails),
-        err: sink(err_fails),
-    };
+    let mut streams = Streams::new(
+        Stdin::new(Told::new(b"", Ending::Whole, 1)),
+        files,
+        sink(out_fails),
+        sink(err_fails),
+    );
     let status = status_of(alloc, arguments, &mut streams);
-    Ok((streams.out.count, streams.err.count, status))
+    Ok((streams.outputs.out.count, streams.outputs.err.count, status))
 }
 
 // Each line is flushed at its end, and both outputs once more at the end of the run, also where nothing was written. No

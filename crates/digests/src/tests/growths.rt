@@ -282,9 +282,9 @@ fn step_on<'b>(
 // That the outputs and the names asked stand where they do after so many lines.
 fn assert_there(alloc: Global, streams: &Stage, lines: usize) -> Result<(), Fail> {
     let there = AFTER_STEPS.get(lines..=lines).ok_or("lines")?;
-    let texts = (streams.out.bytes(), streams.err.bytes());
+    let texts = (streams.outputs.out.bytes(), streams.outputs.err.bytes());
     let names = ["abc.text", "gone.txt", "none.txt"];
-    place_of(alloc, texts, &streams.source, &names, there)?;
+    place_of(alloc, texts, &streams.inputs.source, &names, there)?;
     Ok(())
 }
 

@@ -23,22 +23,22 @@ fn assert_row(rt: &(impl Abort + AllocGlobal), row: Row) -> Result<(), Fail> {
     add_files(&mut source)?;
     source.add(b"\xff\\\n", Answer::Content(b"abc", Ending::Whole))?;
     source.add(b"l", Answer::Content(LINE_OF_A, Ending::Whole))?;
-    let mut streams = Streams {
-        stdin: Stdin::new(Told::new(b"", Ending::Whole, 1)),
+    let mut streams = Streams::new(
+        Stdin::new(Told::new(b"", Ending::Whole, 1)),
         source,
-        out: ToldSink::<16_384>::new(16_384),
-        err: ToldSink::<16_384>::new(16_384),
-    };
+        ToldSink::<16_384>::new(16_384),
+        ToldSink::<16_384>::new(16_384),
+    );
     let answer = status_of(rt.alloc(), arguments, &mut streams);
     assert_bytes(
         rt,
-        streams.out.bytes(),
+        streams.outputs.out.bytes(),
         out,
         ("standard output", "the program"),
     );
     assert_bytes(
         rt,
-        streams.err.bytes(),
+        streams.outputs.err.bytes(),
         err,
         ("standard error", "the program"),
     );

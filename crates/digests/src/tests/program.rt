@@ -43,16 +43,16 @@ fn call<A: Allocator + Copy, I: Input + Drop>(
     (out_stop, err_stop): (usize, usize),
 ) -> Result<Ended, Fail> {
     let files = source_of(alloc, &[], 100)?;
-    let mut streams = Streams {
-        stdin: Stdin::new(input),
-        source: files,
-        out: buffered(out_stop),
-        err: buffered(err_stop),
-    };
+    let mut streams = Streams::new(
+        Stdin::new(input),
+        files,
+        buffered(out_stop),
+        buffered(err_stop),
+    );
     let status = status_of(heap, arguments, &mut streams);
     Ok(Ended {
-        out: held_in(streams.out),
-        err: held_in(streams.err),
+        out: held_in(streams.outputs.out),
+        err: held_in(streams.outputs.err),
         status,
     })
 }
@@ -61,7 +61,7 @@ fn call<A: Allocator + Copy, I: Input + Drop>(
 pub(super) fn status_of<A: Allocator + Copy, I: Input + Drop, S: Source, O: Sink, E: Sink>(
     heap: A,
     arguments: &[&[u8]],
-    streams: &mut Streams<I, S, O, E>,
+    streams: &mut Streams<Inputs<I, S>, Outputs<O, E>>,
 ) -> u8 {
     command(heap, &ToldArguments::new(arguments), streams)
 }
@@ -216,14 +216,14 @@ fn call_not_kept<A: Allocator + Copy>(
     input: &[u8],
 ) -> Result<(ToldSink<64>, u8), Fail> {
     let files = source_of(alloc, &[], 100)?;
-    let mut streams = Streams {
-        stdin: Stdin::new(Told::new(input, Ending::Whole, 1)),
-        source: files,
-        out: Buffered::new(FromWrite::new(LosesAll)),
-        err: buffered(64),
-    };
+    let mut streams = Streams::new(
+        Stdin::new(Told::new(input, Ending::Whole, 1)),
+        files,
+        Buffered::new(FromWrite::new(LosesAll)),
+        buffered(64),
+    );
     let status = status_of(heap, arguments, &mut streams);
-    Ok((held_in(streams.err), status))
+    Ok((held_in(streams.outputs.err), status))
 }
 
 // A standard output that can't be flushed is a write error.

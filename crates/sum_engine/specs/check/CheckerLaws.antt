@@ -3,71 +3,69 @@ use Rattle.std.specs.Prelude.{ℕ, ◌≡◌, ◌+◌, ◌≤◌, ◌↔◌, Boo
 use Rattle.std.specs.Io.KnownBytes.{Appends}
 use Rattle.digest_kinds.specs.Kinds.{KindValue}
 use Rattle.sum_sources.specs.declared.line_reader.LineStop.TheVariants.{Fault}
-use Rattle.sum_sources.specs.Contents.{Content, IfKnown, SourceState}
+use Rattle.sum_sources.specs.Contents.{Content, SourceState}
 use Rattle.sum_sources.specs.ManifestLines.{past_lines}
 use Rattle.sum_lines.specs.Escape.{escape}
 use Rattle.sum_lines.specs.grammar.Shapes.{Plain}
 use Rattle.sum_lines.specs.grammar.Entries.{EntryValue, IsEntry, form}
-use Rattle.sum_engine.specs.Execution.{Stop, StreamsState, IsFlushed, KnownState, known_state, Happened, PrefixHappened, PerformsSteps}
+use Rattle.sum_engine.specs.Execution.{Stop, Write, StreamsState, KnownState, Happened, PrefixHappened, Performs}
 use Rattle.sum_engine.specs.Behavior.{after, Behavior, trace, out_text, err_text, asks, Ending, Whole, Broken, World}
 use Rattle.sum_engine.specs.check.Verdicts.{lines_by, Rules, LineVerdictValue, asks_of, all_verdicts, verdicts}
 use Rattle.sum_engine.specs.check.Reports.{LabelsValue, out_of, err_of, counts_of, end_text, good}
 use Rattle.sum_engine.specs.check.Checking.{content_behavior}
-use Rattle.sum_engine.specs.check.CheckerSteps.{Going, CheckState, StepIs, LastStepDone, StepFailed, remaining_behavior, initial_state}
+use Rattle.sum_engine.specs.check.CheckerSteps.{Going, Ended, CheckState, StepIs, initial_state}
 use Rattle.sum_engine.specs.check.NextVerdict.{LineStop, LineVerdict, NoVerdictLeft, NextVerdictIs}
 
--- a new checker ran to its end, from flushed outputs
+-- a new checker ran to its end: the behavior of its manifest, if that is known
 abbrev pub ManifestPerforms : {S : Type 0} → (S → SourceState) → Rules → LabelsValue → Option Content → StreamsState S
     → StreamsState S → Result Bool Stop → Type 0
-ManifestPerforms state r labels c a b x = IsFlushed a → IfSome c
-    (λ c. IfKnown (known_state state a) (known_state state b)
-    (λ s t. let all = content_behavior r labels c (all_verdicts r s.world c) in PerformsSteps all.steps all.good s t x))
+ManifestPerforms state r labels c a b x = IfSome c
+    (λ c. Performs state (λ w. content_behavior r labels c (all_verdicts r w c)) (λ good. good) a b x)
 
 -- ---- the laws
 
 -- if a behavior's trace happened, each output grew by its text, and its names were asked
 abbrev pub EventsExtend : Type 0
 EventsExtend = (r : Behavior) (a b : KnownState) → Happened a b (trace r.steps)
-    → (b.world ≡ after a.world (asks r)) × Appends a.err.written b.err.written (err_text r)
-    × Appends a.out.written b.out.written (out_text r)
+    → (b.world ≡ after a.world (asks r)) × Appends a.outputs.err.written b.outputs.err.written (err_text r)
+    × Appends a.outputs.out.written b.outputs.out.written (out_text r)
 
 -- steps that each answered Going, one after another; the line's vector then held these
-abbrev pub StepsGoing : Rules → LabelsValue → CheckState → CheckState → List (List ℕ) → Type 0
-StepsGoing r labels a b [] = b ≡ a
-StepsGoing r labels a b (vector ∷ vectors) = (m : CheckState) × StepIs r labels vector a m (Ok Going)
-    × StepsGoing r labels m b vectors
+abbrev pub StepsGoing : Rules → LabelsValue → CheckState → CheckState → KnownState → KnownState → List (List ℕ) → Type 0
+StepsGoing r labels a b s t [] = (b ≡ a) × (t ≡ s)
+StepsGoing r labels a b s t (vector ∷ vectors) = (m : CheckState) × (between : KnownState)
+    × StepIs r labels vector a m s between (Ok Going) × StepsGoing r labels m b between t vectors
 
 -- the step that ends a manifest comes after all k lines, and writes exactly the summary or the fault line
 pub record EndsManifest (r : Rules) (labels : LabelsValue) (c : Content) (js : List LineVerdictValue) (k : ℕ)
     (a b : KnownState) (answer : Bool) : Type 0 where
   pub lines : k ≡ length (lines_by r.profile c)
   pub good : answer ≡ good r c.ending (counts_of js)
-  pub err : Appends a.err.written b.err.written (end_text r labels c.ending (counts_of js))
-  pub out : Appends a.out.written b.out.written []
+  pub err : Appends a.outputs.err.written b.outputs.err.written (end_text r labels c.ending (counts_of js))
+  pub out : Appends a.outputs.out.written b.outputs.out.written []
   pub world : b.world ≡ a.world
 
 -- STEP BY STEP, for a manifest c that has these verdicts, once k steps answered Going
 pub record AfterSteps (r : Rules) (labels : LabelsValue) (c : Content) (js : List LineVerdictValue) (k : ℕ)
-    (vectors : List (List ℕ)) (s : KnownState) (b : CheckState) : Type 0 where
+    (vectors : List (List ℕ)) (b : CheckState) (s t : KnownState) : Type 0 where
   -- both outputs grew by exactly the reports of the first k lines, whose names were asked
-  pub err : Appends s.err.written b.known_state.err.written (flat_map (err_of r labels) (take k js))
-  pub out : Appends s.out.written b.known_state.out.written (flat_map (out_of r labels) (take k js))
-  pub world : b.known_state.world ≡ after s.world (flat_map asks_of (take k js))
+  pub err : Appends s.outputs.err.written t.outputs.err.written (flat_map (err_of r labels) (take k js))
+  pub out : Appends s.outputs.out.written t.outputs.out.written (flat_map (out_of r labels) (take k js))
+  pub world : t.world ≡ after s.world (flat_map asks_of (take k js))
   -- what the input gave goes at most 8192 bytes beyond the end of line k
   pub taken : b.taken + length (past_lines k c).bytes ≤ length c.bytes + 8192
   -- each vector holds at most as many bytes as its line
   pub vector_lens : (i : ℕ) → length (slice_index_or vectors i []) ≤ length (slice_index_or (lines_by r.profile c) i [])
-  pub end : (answer : Bool) (z : KnownState)
-      → LastStepDone (remaining_behavior r labels b) answer b.known_state z
-      → EndsManifest r labels c js k b.known_state z answer
+  pub end : (answer : Bool) (vector : List ℕ) (d : CheckState) (z : KnownState)
+      → StepIs r labels vector b d t z (Ok (Ended answer)) → EndsManifest r labels c js k t z answer
   -- if the next step fails to write, a prefix of the manifest's whole trace happened
-  pub cut : (z : KnownState) → StepFailed (remaining_behavior r labels b) b.known_state z
+  pub cut : (vector : List ℕ) (d : CheckState) (z : KnownState) → StepIs r labels vector b d t z (Err Write)
       → PrefixHappened s z (trace (content_behavior r labels c js).steps)
 
 abbrev pub StepsJoin : Type 0
-StepsJoin = (r : Rules) (labels : LabelsValue) (c : Content) (s : KnownState) (b : CheckState)
-    (vectors : List (List ℕ)) → StepsGoing r labels (initial_state c s) b vectors
-    → AfterSteps r labels c (all_verdicts r s.world c) (length vectors) vectors s b
+StepsJoin = (r : Rules) (labels : LabelsValue) (c : Content) (b : CheckState) (s t : KnownState)
+    (vectors : List (List ℕ)) → StepsGoing r labels (initial_state c s.world) b s t vectors
+    → AfterSteps r labels c (all_verdicts r s.world c) (length vectors) vectors b s t
 
 -- a line after the same lines, in two manifests: it spells the same entry; the verdicts up to its own are the same
 -- after the same asks; and if it is plain, the form is the same

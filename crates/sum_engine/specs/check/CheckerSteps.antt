@@ -1,5 +1,5 @@
 -- A checker: its state in its manifest, what remains there, and what its next step does.
-use Rattle.std.specs.Prelude.{ℕ, ◌≡◌, ◌+◌, ◌≤◌, ◌⊎◌, ◌<◌, Bool, List, [], ◌∷◌, length, Option, None, Some, Result, Ok, Err, IfSome, true, option_map}
+use Rattle.std.specs.Prelude.{ℕ, ◌≡◌, ◌+◌, ◌≤◌, ◌⊎◌, ◌<◌, List, [], ◌∷◌, length, Option, None, Some, Result, Ok, Err, IfSome, true, option_map}
 use Rattle.digest_kinds.specs.Limits.{one_more}
 use Rattle.sum_sources.specs.declared.line_reader.LineReader.{LineReader}
 use Rattle.sum_sources.specs.Contents.{Content, IfKnown, SourceState, InputState, clip}
@@ -13,9 +13,9 @@ use Rattle.sum_lines.specs.grammar.ParsedLines.{parse_line}
 pub use Rattle.sum_engine.specs.declared.check.progress.Progress.{Progress}
 pub use Rattle.sum_engine.specs.declared.check.progress.Progress.TheVariants.{Going, Ended}
 use Rattle.sum_engine.specs.check.Verdicts.{Form, Verdict, Ignored, Bad, Right, Wrong, Missing, Unread, lines_by, Rules, LineVerdictValue, judge, verdicts}
-use Rattle.sum_engine.specs.Execution.{Stop, Memory, Write, KnownState, Happened, PrefixHappened, RefusedAt, StreamsState, IsFlushed, FailuresMatch, NoOutputOnMemory, ReadToEnd, known_state}
+use Rattle.sum_engine.specs.Execution.{Stop, Memory, Write, KnownState, PerformsSteps, InputsState, StreamsState, KeepsStdin, IsFlushed, FailuresMatch, NoOutputOnMemory, ReadToEnd, known_world, known_state}
 use Rattle.sum_engine.specs.check.Reports.{LabelsValue, CountsValue, counts_of, end_text, good}
-use Rattle.sum_engine.specs.Behavior.{Step, Behavior, events_of}
+use Rattle.sum_engine.specs.Behavior.{World, Step, Behavior}
 use Rattle.sum_engine.specs.check.Checking.{line_steps}
 
 -- the counts of no line, those with one line more, and those of lines and then of others
@@ -40,7 +40,7 @@ counts_then c d = record {
 }
 
 -- the state of a manifest's check: what remains of it, the lines handled, the bytes that these consumed and those that
--- its input has given, the form and the counts so far, and the state of the streams
+-- its input has given, the form and the counts so far, and the world
 pub record CheckState : Type 0 where
   pub rest : Content
   pub number : ℕ
@@ -48,30 +48,30 @@ pub record CheckState : Type 0 where
   pub taken : ℕ
   pub form : Form
   pub counts : CountsValue
-  pub known_state : KnownState
+  pub world : World
 
 -- before the first line
-abbrev pub initial_state : Content → KnownState → CheckState
-initial_state c s = record {
+abbrev pub initial_state : Content → World → CheckState
+initial_state c w = record {
   rest = c;
   number = 0;
   consumed = 0;
   taken = 0;
   form = Undecided;
   counts = no_counts;
-  known_state = s;
+  world = w;
 }
 
 -- the next line's verdict
 abbrev pub next_judged : Rules → CheckState → List ℕ → LineVerdictValue
 next_judged r a l =
-    judge r a.known_state.world (a.number + 1) (parse_line r.profile r.algo (form_then a.form (line_form r.algo l)) l)
+    judge r a.world (a.number + 1) (parse_line r.profile r.algo (form_then a.form (line_form r.algo l)) l)
 
 -- the verdicts of the lines that remain
 abbrev pub remaining_verdicts : Rules → CheckState → List LineVerdictValue
 remaining_verdicts r a =
     let ls = lines_by r.profile a.rest in
-    verdicts r (form_then a.form (form r.algo ls)) a.known_state.world a.number ls
+    verdicts r (form_then a.form (form r.algo ls)) a.world a.number ls
 
 -- the behavior that remains
 abbrev pub remaining_behavior : Rules → LabelsValue → CheckState → Behavior
@@ -89,32 +89,6 @@ remaining_behavior r labels a =
 abbrev pub step_then : Step → Behavior → Behavior
 step_then s r = record { steps = s ∷ r.steps; good = r.good }
 
--- the first step of r happened, and s remains
-pub record StepDone (r s : Behavior) (a b : KnownState) : Type 0 where
-  pub step : Step
-  pub is : r ≡ step_then step s
-  pub happened : Happened a b (events_of step)
-
--- it was the last, and the answer is whether all is good
-pub record LastStepDone (r : Behavior) (answer : Bool) (a b : KnownState) : Type 0 where
-  pub step : Step
-  pub is : r ≡ record { steps = step ∷ []; good = answer }
-  pub happened : Happened a b (events_of step)
-
--- a write failed after a prefix of the step's events
-pub record StepFailed (r : Behavior) (a b : KnownState) : Type 0 where
-  pub step : Step
-  pub rest : Behavior
-  pub is : r ≡ step_then step rest
-  pub happened : PrefixHappened a b (events_of step)
-
--- memory ran out: nothing of the step happened
-pub record StepRefused (r : Behavior) (a b : KnownState) : Type 0 where
-  pub step : Step
-  pub rest : Behavior
-  pub is : r ≡ step_then step rest
-  pub refused : RefusedAt step a b
-
 -- one line was handled; the line's vector then holds this
 pub record LineHandled (r : Rules) (a b : CheckState) (vector : List ℕ) : Type 0 where
   pub line : List ℕ
@@ -127,20 +101,19 @@ pub record LineHandled (r : Rules) (a b : CheckState) (vector : List ℕ) : Type
   pub counts : b.counts ≡ counts_with a.counts (next_judged r a line).verdict
   pub vector_len : length vector ≤ length line
 
--- what a step does, by its answer
-abbrev pub StepIs : Rules → LabelsValue → List ℕ → CheckState → CheckState → Result Progress Stop → Type 0
-StepIs r labels vector a b (Ok Going) =
-    StepDone (remaining_behavior r labels a) (remaining_behavior r labels b) a.known_state b.known_state
-    × LineHandled r a b vector
-StepIs r labels vector a b (Ok (Ended answer)) =
-    LastStepDone (remaining_behavior r labels a) answer a.known_state b.known_state
-StepIs r labels vector a b (Err Write) = StepFailed (remaining_behavior r labels a) a.known_state b.known_state
-StepIs r labels vector a b (Err Memory) = StepRefused (remaining_behavior r labels a) a.known_state b.known_state
+-- what a step answers before this: Going, if steps remain, and otherwise whether all is good
+abbrev pub progress_before : Behavior → Progress
+progress_before r = elim r.steps [ [] ↦ Ended r.good | steps ↦ Going ]
 
--- the same, if the state of the check is known
-abbrev pub StepIsIfKnown : Rules → LabelsValue → List ℕ → Option CheckState → Option CheckState → Result Progress Stop
-    → Type 0
-StepIsIfKnown r labels vector a b x = IfKnown a b (λ a b. StepIs r labels vector a b x)
+-- what a step does from a to b, and of the streams from s to t: it performs the first step of the behavior that
+-- remained; if it answers Going, a line was handled, and the others remain
+pub record StepIs (r : Rules) (labels : LabelsValue) (vector : List ℕ) (a b : CheckState) (s t : KnownState)
+    (x : Result Progress Stop) : Type 0 where
+  pub step : Step
+  pub later : Behavior
+  pub is : remaining_behavior r labels a ≡ step_then step later
+  pub performs : PerformsSteps (step ∷ []) (progress_before later) s t x
+  pub going : x ≡ Ok Going → (later ≡ remaining_behavior r labels b) × LineHandled r a b vector
 
 -- out of memory, known or not: the source was refused it, or bytes of the manifest remained
 abbrev pub MemoryStopHasCause : SourceState → SourceState → Option Content → Result Progress Stop → Type 0
@@ -167,21 +140,21 @@ abbrev pub final_answer_of_step : Result Progress Stop → Option (Result Progre
 final_answer_of_step (Ok Going) = None
 final_answer_of_step x = Some x
 
--- the state of the check at a place, with this content and these streams
-abbrev pub state_at : {I : Type 0} → CursorValue I → Content → KnownState → CheckState
-state_at p c s = record {
+-- the state of the check at a place, with this content in this world
+abbrev pub state_at : {I : Type 0} → CursorValue I → Content → World → CheckState
+state_at p c w = record {
   rest = c;
   number = p.reader.lines;
   consumed = consumed p.reader;
   taken = p.reader.taken;
   form = p.form;
   counts = p.counts;
-  known_state = s;
+  world = w;
 }
 
 -- that, if both are known
-abbrev pub check_state : {I : Type 0} → (I → InputState) → CursorValue I → Option KnownState → Option CheckState
-check_state state p known = remaining_content state p.reader >>= λ c. known >>= λ s. Some (state_at p c s)
+abbrev pub check_state : {I : Type 0} → (I → InputState) → CursorValue I → Option World → Option CheckState
+check_state state p known = remaining_content state p.reader >>= λ c. known >>= λ w. Some (state_at p c w)
 
 -- it is at the first line of that input; nothing of it was read
 pub record IsAtStart {I : Type 0} (state : I → InputState) (p : CursorValue I) (input : I) : Type 0 where
@@ -206,13 +179,13 @@ pub record AdvancesCursor {I : Type 0} (state : I → InputState) (a b : CursorV
   pub bounds : Bounded b.reader
 
 -- how far a step read the listed file that it opened, known or not
-pub record ReadsListedFile {I S : Type 0} (source : S → SourceState) (p q : CursorValue I) (a b : StreamsState S)
+pub record ReadsListedFile {I S : Type 0} (source : S → SourceState) (p q : CursorValue I) (a b : InputsState S)
     (x : Result Progress Stop) : Type 0 where
   pub unread : p.counts.unread ≤ q.counts.unread
   -- unless it is one more that could not be read, it was read to its end
   pub read_to_end : q.counts.unread ≡ p.counts.unread → ReadToEnd source a b
   -- the lines of standard input don't name it
-  pub stdin : p.rules.from_stdin ≡ true → (b.stdin_taken ≡ a.stdin_taken) × (b.stdin_phase ≡ a.stdin_phase)
+  pub stdin : p.rules.from_stdin ≡ true → KeepsStdin a b
   pub good : x ≡ Ok (Ended true) → q.counts.unread ≡ 0
 
 -- what a step does to the checker, the files and the outputs, known or not
@@ -221,14 +194,16 @@ pub record AdvancesChecker {I S : Type 0} (input : I → InputState) (source : S
   pub labels : q.labels ≡ p.labels
   pub final_answer : q.final_answer ≡ final_answer_of_step x
   pub cursor : AdvancesCursor input p.cursor q.cursor x
-  pub files : ReadsListedFile source p.cursor q.cursor a b x
+  pub files : ReadsListedFile source p.cursor q.cursor a.inputs b.inputs x
   -- a stop has its cause: the source was refused memory, or bytes of the manifest remained; or an output failed
-  pub out_of_memory : MemoryStopHasCause (source a.source) (source b.source) (remaining_content input p.cursor.reader) x
-  pub failures : FailuresMatch a b x
-  pub no_output_on_memory : NoOutputOnMemory a b x
+  pub out_of_memory : MemoryStopHasCause (source a.inputs.source) (source b.inputs.source)
+      (remaining_content input p.cursor.reader) x
+  pub failures : FailuresMatch a.outputs b.outputs x
+  pub no_output_on_memory : NoOutputOnMemory a.outputs b.outputs x
 
 -- a step, if both outputs are flushed at the call, and manifest and streams are known
 abbrev pub PerformsStep : {I S : Type 0} → (I → InputState) → (S → SourceState) → List ℕ → LabelsValue → CursorValue I
     → CursorValue I → StreamsState S → StreamsState S → Result Progress Stop → Type 0
-PerformsStep input source vector labels p q a b x = IsFlushed a → StepIsIfKnown p.rules labels vector
-    (check_state input p (known_state source a)) (check_state input q (known_state source b)) x
+PerformsStep input source vector labels p q a b x = IsFlushed a.outputs → IfKnown
+    (check_state input p (known_world source a.inputs)) (check_state input q (known_world source b.inputs))
+    (λ c d. StepIs p.rules labels vector c d (known_state source a c.world) (known_state source b d.world) x)

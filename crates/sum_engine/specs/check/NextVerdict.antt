@@ -1,14 +1,13 @@
 -- What the next verdict of a manifest is; no text is written.
-use Rattle.std.specs.Prelude.{ℕ, ◌≡◌, ◌≤◌, ◌<◌, ◌⊎◌, List, [], ◌∷◌, map, length, slice_range, Bool, true, false, Option, None, Some, Result, Ok, Err}
-use Rattle.sum_engine.specs.Behavior.{Ending, Whole, Broken, open_name}
+use Rattle.std.specs.Prelude.{ℕ, ◌≡◌, ◌≤◌, ◌<◌, ◌||◌, List, [], ◌∷◌, length, slice_range, Bool, true, false, Option, None, Some, Result, Ok, Err}
+use Rattle.std.specs.List.{list_any}
+use Rattle.sum_engine.specs.Behavior.{Ending, Whole, Broken, is_dash, after}
 pub use Rattle.sum_sources.specs.declared.line_reader.LineStop.{LineStop}
 use Rattle.sum_sources.specs.declared.line_reader.LineStop.TheVariants.{Fault, Memory}
-use Rattle.sum_sources.specs.Contents.{InputState, IfKnown, SourceState, StdinValue, stdin_state, stdin_taken as taken, stdin_phase as phase}
+use Rattle.sum_sources.specs.Contents.{InputState, IfKnown, SourceState}
 use Rattle.sum_sources.specs.LineReaders.{remaining_content}
-use Rattle.sum_lines.specs.sinks.Sinks.{SinkState}
-use Rattle.digest_kinds.specs.Limits.{one_more}
-use Rattle.sum_engine.specs.Execution.{StreamsState, KnownState, Stop, Happened, ReadToEnd}
-use Rattle.sum_engine.specs.check.CheckerSteps.{Progress, Going, Ended, CheckState, CursorValue, counts_with, LineHandled, remaining_verdicts, AdvancesCursor, MemoryStopHasCause}
+use Rattle.sum_engine.specs.Execution.{InputsState, Stop, ReadToEnd, known_world}
+use Rattle.sum_engine.specs.check.CheckerSteps.{Progress, Going, Ended, CheckState, CursorValue, counts_with, LineHandled, remaining_verdicts, check_state, AdvancesCursor, MemoryStopHasCause}
 pub use Rattle.sum_engine.specs.declared.check.judge.LineVerdict.{LineVerdict}
 use Rattle.sum_engine.specs.check.Verdicts.{Rules, LineVerdictValue, asks_of}
 use Rattle.sum_engine.specs.check.Reports.{CountsValue, is_unread}
@@ -17,19 +16,6 @@ use Rattle.sum_engine.specs.declared.stop.Stop.TheVariants as stops
 -- what a call for the next verdict returns
 abbrev pub VerdictResult : Type 0
 VerdictResult = Result (Option LineVerdict) LineStop
-
--- the state of a call that is lent standard input and a source, and writes to no output
-abbrev pub lent_streams : {I S : Type 0} → (I → InputState) → StdinValue I → S → StreamsState S
-lent_streams state stdin source =
-    let silent : SinkState = record { written = None; buffered = []; failures = 0 } in
-    record {
-      source = source;
-      input = (stdin_state state stdin).content;
-      stdin_taken = taken stdin;
-      stdin_phase = phase state stdin;
-      err = silent;
-      out = silent;
-    }
 
 -- the line's verdict, with its name in place of the name's range in the vector
 abbrev pub line_verdict_value : List ℕ → LineVerdict → LineVerdictValue
@@ -44,32 +30,29 @@ pub record HasNameRange (vector : List ℕ) (v : LineVerdict) : Type 0 where
 -- a line was judged, which is the first of those that remained; its name was opened, if its verdict asks it
 pub record VerdictFound (r : Rules) (a b : CheckState) (j : LineVerdictValue) : Type 0 where
   pub first : remaining_verdicts r a ≡ j ∷ remaining_verdicts r b
-  pub happened : Happened a.known_state b.known_state (map open_name (asks_of j))
+  pub world : b.world ≡ after a.world (asks_of j)
   pub counts : b.counts ≡ counts_with a.counts j.verdict
 
 -- no line remained, and the manifest ends so; nothing was opened, and only that ending remains
 pub record NoVerdictLeft (r : Rules) (e : Ending) (a b : CheckState) : Type 0 where
   pub none : remaining_verdicts r a ≡ []
   pub ending : a.rest.ending ≡ e
-  pub same : b.known_state ≡ a.known_state
+  pub world : b.world ≡ a.world
   pub counts : b.counts ≡ a.counts
   pub rest : b.rest ≡ record { bytes = []; ending = e }
-
--- the source was refused memory, and nothing happened
-abbrev pub OnlyRefused : KnownState → KnownState → Type 0
-OnlyRefused a b = b ≡ record a { refusals = one_more a.refusals }
 
 -- what the next verdict is, by what the call returns
 abbrev pub NextVerdictIs : Rules → List ℕ → CheckState → CheckState → VerdictResult → Type 0
 NextVerdictIs r vector a b (Ok (Some v)) = VerdictFound r a b (line_verdict_value vector v) × LineHandled r a b vector
 NextVerdictIs r vector a b (Ok None) = NoVerdictLeft r Whole a b
 NextVerdictIs r vector a b (Err (Fault f)) = NoVerdictLeft r (Broken f) a b
-NextVerdictIs r vector a b (Err Memory) =
-    (OnlyRefused a.known_state b.known_state ⊎ (b.known_state ≡ a.known_state)) × (0 < length a.rest.bytes)
+NextVerdictIs r vector a b (Err Memory) = (b.world ≡ a.world) × (0 < length a.rest.bytes)
 
--- the same, if manifest, source and standard input are known
-abbrev pub NextVerdictIfKnown : Rules → List ℕ → Option CheckState → Option CheckState → VerdictResult → Type 0
-NextVerdictIfKnown r vector a b x = IfKnown a b (λ a b. NextVerdictIs r vector a b x)
+-- the same between two places and inputs, if manifest, source and standard input are known
+abbrev pub FindsVerdict : {I S : Type 0} → (I → InputState) → (S → SourceState) → List ℕ → CursorValue I → CursorValue I
+    → InputsState S → InputsState S → VerdictResult → Type 0
+FindsVerdict input source vector p q a b x = IfKnown (check_state input p (known_world source a))
+    (check_state input q (known_world source b)) (λ c d. NextVerdictIs p.rules vector c d x)
 
 -- the progress of a checker that finds this: a line, the end, or out of memory
 abbrev pub progress_of : VerdictResult → Result Progress Stop
@@ -103,9 +86,14 @@ abbrev pub UnlessUnread : VerdictResult → Type 0 → Type 0
 UnlessUnread (Ok (Some v)) P = is_unread v.verdict ≡ false → P
 UnlessUnread x P = P
 
+-- whether standard input is taken once that verdict was found
+abbrev pub taken_after : Bool → List ℕ → VerdictResult → Bool
+taken_after taken vector (Ok (Some v)) = taken || list_any is_dash (asks_of (line_verdict_value vector v))
+taken_after taken vector x = taken
+
 -- what a call for the next verdict does, known or not
-pub record AdvancesVerdicts {I S : Type 0} (input : I → InputState) (source : S → SourceState) (p q : VerdictsValue I)
-    (a b : StreamsState S) (x : VerdictResult) : Type 0 where
+pub record AdvancesVerdicts {I S : Type 0} (input : I → InputState) (source : S → SourceState) (vector : List ℕ)
+    (p q : VerdictsValue I) (a b : InputsState S) (x : VerdictResult) : Type 0 where
   pub final_answer : q.final_answer ≡ final_answer_of_next x
   pub cursor : AdvancesCursor input p.cursor q.cursor (progress_of x)
   -- out of memory only if the source was refused it, or bytes of the manifest remained
@@ -113,3 +101,4 @@ pub record AdvancesVerdicts {I S : Type 0} (input : I → InputState) (source : 
       (progress_of x)
   -- Right and Wrong only if the file that was opened was read to its end
   pub read_to_end : UnlessUnread x (ReadToEnd source a b)
+  pub stdin_taken : b.stdin_taken ≡ taken_after a.stdin_taken vector x

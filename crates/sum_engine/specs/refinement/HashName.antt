@@ -1,21 +1,11 @@
 -- Relates hashing one name to the world.
 use Rattle.std.specs.Prelude.{ℕ, ◌≡◌, List, [], ◌∷◌, length, Option, None, Some, Result, Ok, Err, ⊤}
 use Rattle.digest_kinds.specs.Kinds.{KindValue}
-use Rattle.sum_sources.specs.Contents.{Content, IfKnown, Reply, SourceState, KnownSource}
-use Rattle.sum_engine.specs.Execution.{StreamsState}
+use Rattle.sum_sources.specs.Contents.{Content, Reply, SourceState}
 use Rattle.digest_kinds.specs.Limits.{one_more}
 pub use Rattle.sum_engine.specs.declared.hash_name.HashOutcome.{HashOutcome}
 use Rattle.sum_engine.specs.Behavior.{Fault, World, after, digest_or_fault, reply}
 use Rattle.sum_engine.specs.declared.hash_name.HashOutcome.TheVariants as asked
-
--- the world of these streams, if the source and standard input are known
-abbrev pub world_by : Option KnownSource → Option Content → Option World
-world_by None c = None
-world_by (Some t) None = None
-world_by (Some t) (Some c) = Some (record { answer = t.answer; asked = t.asked; input = c })
-
-abbrev pub world_of : {S : Type 0} → (S → SourceState) → StreamsState S → Option World
-world_of state m = world_by (state m.source).known m.input
 
 -- the digest of an outcome, or the fault of opening or reading
 abbrev pub digest_of_outcome : HashOutcome → Result (List ℕ) Fault
@@ -39,10 +29,6 @@ IsRead kind c (asked.Broken f) = digest_or_fault kind (Ok c) ≡ Err f
 abbrev pub HashesName : KindValue → World → World → List ℕ → Option HashOutcome → Type 0
 HashesName kind w v name None = v ≡ w
 HashesName kind w v name (Some a) = (v ≡ after w (name ∷ [])) × IsHashOutcome kind (reply w name) a
-
--- the same, if the world is known
-abbrev pub HashesNameIfKnown : KindValue → Option World → Option World → List ℕ → Option HashOutcome → Type 0
-HashesNameIfKnown kind w v name r = IfKnown w v (λ w v. HashesName kind w v name r)
 
 -- P, unless reading the file failed
 abbrev pub UnlessBroken : Option HashOutcome → Type 0 → Type 0

@@ -1,5 +1,5 @@
 -- Relates what the code finds of a line to what the line says, and to its verdict.
-use Rattle.std.specs.Prelude.{ℕ, ◌≡◌, Bool, false, List, [], Option, None, Some, if◌then◌else◌, bytes_eq}
+use Rattle.std.specs.Prelude.{ℕ, ◌≡◌, Bool, false, List, [], Option, None, Some, Ok, Err, if◌then◌else◌, bytes_eq}
 use Rattle.sum_sources.specs.declared.fault.Fault.TheVariants.{NotFound, Denied, Other}
 use Rattle.sum_lines.specs.grammar.Entries.{EntryValue, form_then, line_form}
 use Rattle.sum_engine.specs.declared.check.judge.ListedEntry.{ListedEntry}
@@ -8,7 +8,8 @@ use Rattle.sum_engine.specs.check.Verdicts.{Verdict, Right, Wrong, Missing, Unre
 use Rattle.sum_lines.specs.grammar.ParsedLines.{ParsedLine, ignored, bad, entry, parse_line}
 use Rattle.sum_engine.specs.Behavior.{World, after}
 use Rattle.sum_engine.specs.check.Reports.{CountsValue, is_unread}
-use Rattle.sum_engine.specs.check.NextVerdict.{LineVerdict, line_verdict_value}
+use Rattle.sum_engine.specs.check.NextVerdict.{LineVerdict, VerdictResult, line_verdict_value}
+use Rattle.sum_sources.specs.declared.line_reader.LineStop.TheVariants.{Memory}
 use Rattle.sum_engine.specs.check.CheckerSteps.{CursorValue, counts_with}
 use Rattle.sum_engine.specs.declared.hash_name.HashOutcome.TheVariants as asked
 
@@ -58,6 +59,11 @@ JudgeLineOf p line d vector w v None = v ≡ w
 JudgeLineOf p line d vector w v (Some found) =
     (judge p.rules w p.reader.lines (parsed_at p line) ≡ line_verdict_value vector found)
     × (v ≡ after w (asks_of (line_verdict_value vector found))) × (d ≡ counts_with p.counts found.verdict)
+
+-- what a call for the next verdict returns that found this, or was refused memory to open the file
+abbrev pub found_of : Option LineVerdict → VerdictResult
+found_of None = Err Memory
+found_of (Some v) = Ok (Some v)
 
 -- P, unless the file could not be read
 abbrev pub UnlessUnreadVerdict : Option Verdict → Type 0 → Type 0

@@ -3,7 +3,7 @@ ghost use Rattle.std.specs.Option.{option_map};
 ghost use Rattle.sum_sources.specs.Contents.{clip};
 ghost use Rattle.sum_engine.specs.check.Checking.{check_behavior};
 ghost use Rattle.sum_engine.specs.Execution.{IsFlushed, FailuresMatch, OneMoreAtMost, RefusalsMatch, StopHasCause};
-ghost use Rattle.sum_engine.specs.Execution.{Performs, ReadToEnd, Reading, Ended};
+ghost use Rattle.sum_engine.specs.Execution.{Performs, KeepsStdin, ReadToEnd, Reading, Ended};
 ghost use Rattle.sum_engine.specs.check.CheckerSteps.{IsAtStart};
 ghost use Rattle.std.specs.Prelude.{◌≡◌, true, None, Ok};
 ghost use Rattle.sum_engine.specs.check.CheckerLaws.{ManifestPerforms};
@@ -14,9 +14,10 @@ use crate::check::progress::Progress;
 use crate::check::report::put_fault_line;
 use crate::check::rules::{CheckRules, Labels};
 use crate::hash_name::is_dash;
+use crate::inputs::Inputs;
 use crate::settings::CheckSettings;
 use crate::stop::Stop;
-use crate::streams::Streams;
+use crate::streams::{Outputs, Streams};
 use std::alloc::Allocator;
 use sum_lines::Sink;
 use sum_sources::{Input, OpenFault, Source};
@@ -33,20 +34,20 @@ pub fn check_one<A: Allocator + Copy, J: Input + Drop, S: Source, O: Sink, E: Si
     settings: CheckSettings,
     tool: &str,
     name: &[u8],
-    streams: &mut Streams<J, S, O, E>,
+    streams: &mut Streams<Inputs<J, S>, Outputs<O, E>>,
 ) -> Result<bool, Stop>
     // If the source and standard input are known, and both outputs flushed: the behavior of checking that name.
     ensures behavior { Performs S.state (λ w. check_behavior settings tool.now w name.now) (λ good. good)
         streams.old streams.new result }
-    ensures flushed { IsFlushed streams.old → IsFlushed streams.new }
+    ensures flushed { IsFlushed streams.old.outputs → IsFlushed streams.new.outputs }
     // Known or not, a stop has its cause: at most one refusal more of the source, or one failure more of one output.
-    ensures refusals { RefusalsMatch S.state OneMoreAtMost streams.old streams.new result }
-    ensures failures { FailuresMatch streams.old streams.new result }
+    ensures refusals { RefusalsMatch S.state OneMoreAtMost streams.old.inputs streams.new.inputs result }
+    ensures failures { FailuresMatch streams.old.outputs streams.new.outputs result }
     // Known or not: true only if the manifest and each file that was opened were read to their ends.
-    ensures read_to_end { result ≡ Ok true → ReadToEnd S.state streams.old streams.new }
+    ensures read_to_end { result ≡ Ok true → ReadToEnd S.state streams.old.inputs streams.new.inputs }
 {
     if is_dash(name) {
-        let input = streams.stdin.take();
+        let input = streams.inputs.take_stdin();
         let rules = CheckRules::new(settings, true);
         let labels = Labels {
             tool,
@@ -54,13 +55,13 @@ pub fn check_one<A: Allocator + Copy, J: Input + Drop, S: Source, O: Sink, E: Si
             report: settings.report,
         };
         let (result, input) = check_input(alloc, rules, labels, input, streams);
-        streams.stdin.put_back(input);
+        streams.inputs.put_back_stdin(input);
         return result;
     }
-    match streams.source.open_file(name) {
+    match streams.inputs.open_file(name) {
         Err(OpenFault::Memory) => Err(Stop::Memory),
         Err(OpenFault::Fault(fault)) => {
-            put_fault_line(&mut streams.err, tool, name, fault)?;
+            put_fault_line(&mut streams.outputs, tool, name, fault)?;
             Ok(false)
         }
         Ok(file) => {
@@ -71,7 +72,7 @@ pub fn check_one<A: Allocator + Copy, J: Input + Drop, S: Source, O: Sink, E: Si
                 report: settings.report,
             };
             let (result, file) = check_input(alloc, rules, labels, file, streams);
-            streams.source.close_file(file);
+            streams.inputs.close_file(file);
             result
         }
     }
@@ -83,14 +84,13 @@ fn check_input<'a, A: Allocator, I: Input, J: Input + Drop, S: Source, O: Sink, 
     rules: CheckRules,
     labels: Labels<'a>,
     input: I,
-    streams: &mut Streams<J, S, O, E>,
+    streams: &mut Streams<Inputs<J, S>, Outputs<O, E>>,
 ) -> (Result<bool, Stop>, I)
     ensures behavior { ManifestPerforms S.state (rules_in rules) (labels_in labels.entry)
         (option_map clip (I.state input).content) streams.old streams.new result.0 }
     ensures cause { StopHasCause S.state OneMoreAtMost streams.old streams.new result.0 }
-    ensures read_to_end { result.0 ≡ Ok true → ReadToEnd S.state streams.old streams.new }
-    ensures stdin { rules.from_stdin ≡ true → (streams.new.stdin_taken ≡ streams.old.stdin_taken)
-        × (streams.new.stdin_phase ≡ streams.old.stdin_phase) }
+    ensures read_to_end { result.0 ≡ Ok true → ReadToEnd S.state streams.old.inputs streams.new.inputs }
+    ensures stdin { rules.from_stdin ≡ true → KeepsStdin streams.old.inputs streams.new.inputs }
     ensures phase { result.0 ≡ Ok true → (I.state input).phase ≡ Reading → (I.state result.1).phase ≡ Ended }
 {
     let mut checker = Checker::over(rules, labels, input);
@@ -103,16 +103,15 @@ fn check_input<'a, A: Allocator, I: Input, J: Input + Drop, S: Source, O: Sink, 
 fn check_lines<'a, A: Allocator, I: Input, J: Input + Drop, S: Source, O: Sink, E: Sink>(
     checker: &mut Checker<'a, I>,
     line: &mut Vec<u8, A>,
-    streams: &mut Streams<J, S, O, E>,
+    streams: &mut Streams<Inputs<J, S>, Outputs<O, E>>,
 ) -> Result<bool, Stop>
     requires start { IsAtStart I.state checker.old.cursor checker.old.cursor.reader.input }
     requires final_answer { checker.old.final_answer ≡ None }
     ensures behavior { ManifestPerforms S.state checker.old.cursor.rules checker.old.labels
         (option_map clip (I.state checker.old.cursor.reader.input).content) streams.old streams.new result }
     ensures cause { StopHasCause S.state OneMoreAtMost streams.old streams.new result }
-    ensures read_to_end { result ≡ Ok true → ReadToEnd S.state streams.old streams.new }
-    ensures stdin { checker.old.cursor.rules.from_stdin ≡ true
-        → (streams.new.stdin_taken ≡ streams.old.stdin_taken) × (streams.new.stdin_phase ≡ streams.old.stdin_phase) }
+    ensures read_to_end { result ≡ Ok true → ReadToEnd S.state streams.old.inputs streams.new.inputs }
+    ensures stdin { checker.old.cursor.rules.from_stdin ≡ true → KeepsStdin streams.old.inputs streams.new.inputs }
     ensures phase { result ≡ Ok true → (I.state checker.old.cursor.reader.input).phase ≡ Reading
         → (I.state checker.new.cursor.reader.input).phase ≡ Ended }
 {

@@ -5,9 +5,10 @@ ghost use Rattle.sum_lines.specs.Escape.{present};
 use crate::check::cursor::CheckCursor;
 use crate::check::progress::Progress;
 use crate::check::rules::{CheckRules, Labels};
+use crate::inputs::Inputs;
 use crate::settings::CheckSettings;
 use crate::stop::Stop;
-use crate::streams::Streams;
+use crate::streams::{Outputs, Streams};
 use digest_kinds::LIMIT;
 use std::alloc::Allocator;
 use std::marker::Model;
@@ -110,7 +111,7 @@ impl<'a, I: Input> Checker<'a, I> {
     pub fn step<A: Allocator, J: Input + Drop, S: Source, O: Sink, E: Sink>(
         &mut self,
         line: &mut Vec<u8, A>,
-        streams: &mut Streams<J, S, O, E>,
+        streams: &mut Streams<Inputs<J, S>, Outputs<O, E>>,
     ) -> Result<Progress, Stop>
         // A final answer is returned again; checker and streams stay as they are.
         ensures repeats { IfSome self.old.final_answer
@@ -121,7 +122,7 @@ impl<'a, I: Input> Checker<'a, I> {
         // Known or not: how far the manifest was read, the cause of a stop, and which answers are final.
         ensures advances { self.old.final_answer ≡ None
             → AdvancesChecker I.state S.state self.old self.new streams.old streams.new result }
-        ensures flushed { IsFlushed streams.old → IsFlushed streams.new }
+        ensures flushed { IsFlushed streams.old.outputs → IsFlushed streams.new.outputs }
     {
         if let Some(answer) = self.final_answer {
             return answer;

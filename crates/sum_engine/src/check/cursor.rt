@@ -1,5 +1,5 @@
 //! The place in a manifest that is being checked.
-ghost use Rattle.std.specs.Prelude.{◌≡◌, ◌≤◌, ◌<◌, ◌||◌, Ok, Err, None, [], length, Option, MatchOption};
+ghost use Rattle.std.specs.Prelude.{◌≡◌, ◌≤◌, ◌<◌, Ok, Err, None, [], length, Option};
 ghost use Rattle.std.specs.Prelude.{true, false, IfSome, IfOk};
 ghost use Rattle.digest_kinds.specs.Limits.{LIMIT};
 ghost use Rattle.sum_engine.specs.check.CheckerSteps.{counts_with};
@@ -10,12 +10,13 @@ use crate::check::progress::Progress;
 use crate::check::report::{JudgedLine, put_fault_line, put_report};
 use crate::check::rules::{CheckRules, Labels};
 use crate::check::summary::{Counts, is_good, put_summary};
+use crate::inputs::Inputs;
 use crate::stop::Stop;
-use crate::streams::Streams;
+use crate::streams::{Outputs, Streams};
 use digest_kinds::LIMIT;
 use std::alloc::Allocator;
 use sum_lines::{Form, Reading, Sink, read_line};
-use sum_sources::{Input, LineReader, LineStop, Next, PIECE, Source, Stdin};
+use sum_sources::{Input, LineReader, LineStop, Next, PIECE, Source};
 
 /// A manifest, its lines so far, and what remains of it.
 #[derive(Drop)]
@@ -30,21 +31,18 @@ pub(crate) struct CheckCursor<I> {
 }
 
 impl<I: Input> CheckCursor<I> {
-    ghost use Rattle.sum_sources.specs.Contents.{IfKnown, stdin_taken};
+    ghost use Rattle.sum_sources.specs.Contents.{IfKnown};
     ghost use Rattle.sum_sources.specs.LineReaders.{remaining_content};
-    ghost use Rattle.sum_engine.specs.Execution.{known_state, IsFlushed, FailuresMatch, NoOutputOnMemory, ReadToEnd};
-    ghost use Rattle.sum_engine.specs.check.CheckerSteps.{MemoryStopHasCause, IsAtStart, check_state};
+    ghost use Rattle.sum_engine.specs.Execution.{known_world, KeepsStdin, IsFlushed, FailuresMatch, NoOutputOnMemory};
+    ghost use Rattle.sum_engine.specs.Execution.{ReadToEnd};
+    ghost use Rattle.sum_engine.specs.check.CheckerSteps.{MemoryStopHasCause, IsAtStart};
     ghost use Rattle.sum_engine.specs.check.CheckerSteps.{PerformsStep, AdvancesCursor, ReadsListedFile};
     ghost use Rattle.sum_sources.specs.declared.fault.Ending.TheVariants.{Whole};
     ghost use Rattle.sum_engine.specs.check.Reports.{good, is_unread};
-    ghost use Rattle.std.specs.List.{list_any};
-    ghost use Rattle.sum_engine.specs.Behavior.{is_dash};
-    ghost use Rattle.sum_engine.specs.check.Verdicts.{asks_of};
-    ghost use Rattle.sum_engine.specs.refinement.HashName.{RefusedUnless, world_of};
-    ghost use Rattle.sum_engine.specs.check.NextVerdict.{line_verdict_value, HasNameRange};
-    ghost use Rattle.sum_engine.specs.check.NextVerdict.{NextVerdictIfKnown, progress_of};
-    ghost use Rattle.sum_engine.specs.check.NextVerdict.{lent_streams, counts_after, UnlessUnread};
-    ghost use Rattle.sum_engine.specs.refinement.Judging.{TakesLine, JudgeLineOf};
+    ghost use Rattle.sum_engine.specs.refinement.HashName.{RefusedUnless};
+    ghost use Rattle.sum_engine.specs.check.NextVerdict.{HasNameRange, FindsVerdict, progress_of};
+    ghost use Rattle.sum_engine.specs.check.NextVerdict.{counts_after, taken_after, UnlessUnread};
+    ghost use Rattle.sum_engine.specs.refinement.Judging.{TakesLine, JudgeLineOf, found_of};
     ghost use Rattle.sum_engine.specs.refinement.Cursors.{rules_in, labels_in, cursor_value};
 
     /// At the first line of the manifest that `input` gives.
@@ -88,27 +86,27 @@ impl<I: Input> CheckCursor<I> {
         &mut self,
         labels: &Labels,
         line: &mut Vec<u8, A>,
-        streams: &mut Streams<J, S, O, E>,
+        streams: &mut Streams<Inputs<J, S>, Outputs<O, E>>,
     ) -> Result<Progress, Stop>
         ensures step { PerformsStep I.state S.state line.new.items (labels_in labels.now) (cursor_value self.old)
             (cursor_value self.new) streams.old streams.new result }
-        ensures flushed { IsFlushed streams.old → IsFlushed streams.new }
-        ensures out_of_memory { MemoryStopHasCause (S.state streams.old.source) (S.state streams.new.source)
-            (remaining_content I.state self.old.reader) result }
-        ensures failures { FailuresMatch streams.old streams.new result }
-        ensures no_output_on_memory { NoOutputOnMemory streams.old streams.new result }
+        ensures flushed { IsFlushed streams.old.outputs → IsFlushed streams.new.outputs }
+        ensures out_of_memory { MemoryStopHasCause (S.state streams.old.inputs.source)
+            (S.state streams.new.inputs.source) (remaining_content I.state self.old.reader) result }
+        ensures failures { FailuresMatch streams.old.outputs streams.new.outputs result }
+        ensures no_output_on_memory { NoOutputOnMemory streams.old.outputs streams.new.outputs result }
         ensures cursor { AdvancesCursor I.state (cursor_value self.old) (cursor_value self.new) result }
-        ensures files { ReadsListedFile S.state (cursor_value self.old) (cursor_value self.new) streams.old streams.new
-            result }
+        ensures files { ReadsListedFile S.state (cursor_value self.old) (cursor_value self.new) streams.old.inputs
+            streams.new.inputs result }
     {
-        match self.next_verdict(line, &mut streams.stdin, &mut streams.source) {
+        match self.next_verdict(line, &mut streams.inputs) {
             Err(LineStop::Memory) => Err(Stop::Memory),
             Err(LineStop::Fault(fault)) => {
-                put_fault_line(&mut streams.err, labels.tool, labels.list, fault)?;
+                put_fault_line(&mut streams.outputs, labels.tool, labels.list, fault)?;
                 Ok(Progress::Ended(false))
             }
             Ok(None) => {
-                put_summary(&mut streams.err, self.rules, labels, self.counts)?;
+                put_summary(&mut streams.outputs, self.rules, labels, self.counts)?;
                 Ok(Progress::Ended(is_good(self.rules, self.counts)))
             }
             Ok(Some(found)) => {
@@ -120,13 +118,7 @@ impl<I: Input> CheckCursor<I> {
                     verdict: found.verdict,
                     name: &line[found.start..found.stop],
                 };
-                put_report(
-                    &mut streams.out,
-                    &mut streams.err,
-                    self.rules,
-                    labels,
-                    &judged,
-                )?;
+                put_report(&mut streams.outputs, self.rules, labels, &judged)?;
                 Ok(Progress::Going)
             }
         }
@@ -136,27 +128,23 @@ impl<I: Input> CheckCursor<I> {
     pub(crate) fn next_verdict<A: Allocator, J: Input + Drop, S: Source>(
         &mut self,
         line: &mut Vec<u8, A>,
-        stdin: &mut Stdin<J>,
-        source: &mut S,
+        inputs: &mut Inputs<J, S>,
     ) -> Result<Option<LineVerdict>, LineStop>
-        ensures verdict { NextVerdictIfKnown (rules_in self.old.rules) line.new.items
-            (check_state I.state (cursor_value self.old)
-            (known_state S.state (lent_streams J.state stdin.old source.old)))
-            (check_state I.state (cursor_value self.new)
-            (known_state S.state (lent_streams J.state stdin.new source.new))) result }
+        ensures verdict { FindsVerdict I.state S.state line.new.items (cursor_value self.old)
+            (cursor_value self.new) inputs.old inputs.new result }
         ensures name_range { IfOk result (λ found. IfSome found (λ v. HasNameRange line.new.items v)) }
-        ensures out_of_memory { MemoryStopHasCause (S.state source.old) (S.state source.new)
+        ensures out_of_memory { MemoryStopHasCause (S.state inputs.old.source) (S.state inputs.new.source)
             (remaining_content I.state self.old.reader) (progress_of result) }
         ensures cursor { AdvancesCursor I.state (cursor_value self.old) (cursor_value self.new) (progress_of result) }
-        ensures stdin_kept { self.old.rules.from_stdin ≡ true → stdin.new ≡ stdin.old }
+        ensures stdin_taken { inputs.new.stdin_taken ≡ taken_after inputs.old.stdin_taken line.new.items result }
+        ensures stdin_kept { self.old.rules.from_stdin ≡ true → KeepsStdin inputs.old inputs.new }
         ensures counts { counts_value self.new.counts ≡ counts_after (counts_value self.old.counts) result }
-        ensures read_to_end { UnlessUnread result (ReadToEnd S.state (lent_streams J.state stdin.old source.old)
-            (lent_streams J.state stdin.new source.new)) }
+        ensures read_to_end { UnlessUnread result (ReadToEnd S.state inputs.old inputs.new) }
     {
         match self.reader.next_line(line) {
             Err(stop) => Err(stop),
             Ok(Next::NoMore) => Ok(None),
-            Ok(Next::Line) => match self.judge_line(line, stdin, source) {
+            Ok(Next::Line) => match self.judge_line(line, inputs) {
                 Some(verdict) => Ok(Some(verdict)),
                 None => Err(LineStop::Memory),
             },
@@ -167,28 +155,23 @@ impl<I: Input> CheckCursor<I> {
     fn judge_line<A: Allocator, J: Input + Drop, S: Source>(
         &mut self,
         line: &mut Vec<u8, A>,
-        stdin: &mut Stdin<J>,
-        source: &mut S,
+        inputs: &mut Inputs<J, S>,
     ) -> Option<LineVerdict>
         requires few { total (counts_value self.old.counts) < self.old.reader.lines }
         requires lines { self.old.reader.lines ≤ LIMIT }
-        ensures verdict { IfKnown (world_of S.state (lent_streams J.state stdin.old source.old))
-            (world_of S.state (lent_streams J.state stdin.new source.new))
+        ensures verdict { IfKnown (known_world S.state inputs.old) (known_world S.state inputs.new)
             (λ w v. JudgeLineOf (cursor_value self.old) line.old.items (counts_value self.new.counts)
             line.new.items w v result) }
-        ensures stdin_taken { MatchOption result (stdin.new ≡ stdin.old) (λ v. stdin_taken stdin.new
-            ≡ stdin_taken stdin.old || list_any is_dash (asks_of (line_verdict_value line.new.items v))) }
+        ensures stdin_taken { inputs.new.stdin_taken
+            ≡ taken_after inputs.old.stdin_taken line.new.items (found_of result) }
         ensures name_range { IfSome result (λ v. HasNameRange line.new.items v) }
         ensures cursor { TakesLine (cursor_value self.old) (cursor_value self.new) line.old.items }
         ensures len { length line.new.items ≤ length line.old.items }
-        ensures stdin_kept { self.old.rules.from_stdin ≡ true → stdin.new ≡ stdin.old }
-        ensures counts { MatchOption result (counts_value self.new.counts ≡ counts_value self.old.counts)
-            (λ v. counts_value self.new.counts ≡ counts_with (counts_value self.old.counts) v.verdict) }
-        ensures read_to_end { MatchOption result
-            (ReadToEnd S.state (lent_streams J.state stdin.old source.old) (lent_streams J.state stdin.new source.new))
-            (λ v. is_unread v.verdict ≡ false → ReadToEnd S.state (lent_streams J.state stdin.old source.old)
-            (lent_streams J.state stdin.new source.new)) }
-        ensures refusals { RefusedUnless (S.state source.old) (S.state source.new) result }
+        ensures stdin_kept { self.old.rules.from_stdin ≡ true → KeepsStdin inputs.old inputs.new }
+        ensures counts { counts_value self.new.counts
+            ≡ counts_after (counts_value self.old.counts) (found_of result) }
+        ensures read_to_end { UnlessUnread (found_of result) (ReadToEnd S.state inputs.old inputs.new) }
+        ensures refusals { RefusedUnless (S.state inputs.old.source) (S.state inputs.new.source) result }
     {
         let (reading, form) = read_line(self.rules.algo, self.form, line);
         self.form = form;
@@ -206,7 +189,7 @@ impl<I: Input> CheckCursor<I> {
                     digest: &digest,
                     name: &line[start..stop],
                 };
-                let verdict = judge(self.rules, &listed, stdin, source, &mut self.buffer)?;
+                let verdict = judge(self.rules, &listed, inputs, &mut self.buffer)?;
                 Some(self.count_verdict(verdict, start, stop))
             }
         }

@@ -4,13 +4,13 @@ ghost use Rattle.std.specs.List.{list_any};
 ghost use Rattle.sum_engine.specs.Behavior.{is_dash};
 ghost use Rattle.sum_engine.specs.check.Verdicts.{asks_by};
 ghost use Rattle.sum_lines.specs.grammar.ParsedLines.{entry};
-ghost use Rattle.sum_engine.specs.check.NextVerdict.{lent_streams};
-ghost use Rattle.sum_engine.specs.refinement.HashName.{RefusedUnless, world_of};
+ghost use Rattle.sum_engine.specs.refinement.HashName.{RefusedUnless};
 
 use crate::check::rules::CheckRules;
 use crate::hash_name::{HashOutcome, hash_name, is_dash};
+use crate::inputs::Inputs;
 use digest_kinds::{Digest, Kind};
-use sum_sources::{Fault, Input, PIECE, Source, Stdin};
+use sum_sources::{Fault, Input, PIECE, Source};
 
 /// What checking finds of a manifest's line.
 #[derive(Clone, Copy, Debug, PartialEq, Eq)]
@@ -40,9 +40,9 @@ pub struct LineVerdict {
 }
 
 ghost use Rattle.sum_engine.specs.refinement.Cursors.{rules_in};
-ghost use Rattle.sum_sources.specs.Contents.{IfKnown, stdin_taken};
+ghost use Rattle.sum_sources.specs.Contents.{IfKnown};
 ghost use Rattle.sum_engine.specs.refinement.Judging.{JudgeOf, UnlessUnreadVerdict, verdict_of_outcome, listed_entry};
-ghost use Rattle.sum_engine.specs.Execution.{ReadToEnd};
+ghost use Rattle.sum_engine.specs.Execution.{known_world, KeepsStdin, ReadToEnd};
 
 /// An entry of a manifest: the digest of a file, with its kind, and the file's name.
 #[derive(Clone, Copy)]
@@ -56,24 +56,21 @@ pub(crate) struct ListedEntry<'a> {
 pub(crate) fn judge<I: Input + Drop, S: Source>(
     rules: CheckRules,
     listed: &ListedEntry,
-    stdin: &mut Stdin<I>,
-    source: &mut S,
+    inputs: &mut Inputs<I, S>,
     buffer: &mut [u8; PIECE],
 ) -> Option<Verdict>
-    ensures verdict { IfKnown (world_of S.state (lent_streams I.state stdin.old source.old))
-        (world_of S.state (lent_streams I.state stdin.new source.new))
+    ensures verdict { IfKnown (known_world S.state inputs.old) (known_world S.state inputs.new)
         (λ w v. JudgeOf (rules_in rules) w v (entry (listed_entry listed.now)) result) }
-    ensures stdin_taken { MatchOption result (stdin.new ≡ stdin.old)
-        (λ v. stdin_taken stdin.new ≡ stdin_taken stdin.old || list_any is_dash (asks_by v listed.now.name.now)) }
-    ensures stdin_kept { rules.from_stdin ≡ true → stdin.new ≡ stdin.old }
-    ensures refusals { RefusedUnless (S.state source.old) (S.state source.new) result }
-    ensures read_to_end { UnlessUnreadVerdict result
-        (ReadToEnd S.state (lent_streams I.state stdin.old source.old) (lent_streams I.state stdin.new source.new)) }
+    ensures stdin_taken { MatchOption result (KeepsStdin inputs.old inputs.new)
+        (λ v. inputs.new.stdin_taken ≡ inputs.old.stdin_taken || list_any is_dash (asks_by v listed.now.name.now)) }
+    ensures stdin_kept { rules.from_stdin ≡ true → KeepsStdin inputs.old inputs.new }
+    ensures refusals { RefusedUnless (S.state inputs.old.source) (S.state inputs.new.source) result }
+    ensures read_to_end { UnlessUnreadVerdict result (ReadToEnd S.state inputs.old inputs.new) }
 {
     if rules.from_stdin && is_dash(listed.name) {
         return Some(Verdict::Bad);
     }
-    let outcome = hash_name(listed.kind, listed.name, stdin, source, buffer)?;
+    let outcome = hash_name(listed.kind, listed.name, inputs, buffer)?;
     Some(compare(&outcome, listed.digest, rules.ignore_missing))
 }
 

@@ -1,17 +1,18 @@
 //! The lines that checking writes about a manifest's lines.
-ghost use Rattle.std.specs.Prelude.{◌≡◌, [], ◌∷◌, MatchResult};
+ghost use Rattle.std.specs.Prelude.{◌≡◌, [], ◌∷◌};
 ghost use Rattle.std.specs.List.{concat};
 ghost use Rattle.sum_lines.specs.Escape.{present, escape, escape_differs};
 ghost use Rattle.sum_lines.specs.grammar.Shapes.{mark};
 ghost use Rattle.sum_engine.specs.Generation.{tool_line, fault_line};
 ghost use Rattle.sum_engine.specs.check.Reports.{verdict_line, bad_line, err_by, out_by};
 ghost use Rattle.sum_engine.specs.refinement.Cursors.{rules_in, labels_in};
-ghost use Rattle.sum_engine.specs.refinement.FlushedWrites.{WritesAndFlushes, WritesBoth, NoneFailed, OneFailed};
+ghost use Rattle.sum_engine.specs.refinement.FlushedWrites.{WritesAndFlushes, WritesAndFlushesBoth};
 
 use crate::check::judge::Verdict;
 use crate::check::rules::{CheckRules, Labels};
 use crate::put_flushed::put_parts_flushed;
 use crate::settings::Report;
+use crate::streams::Outputs;
 use digest_kinds::Algos;
 use sum_lines::{Part, Sink, SinkFault, needs_escape};
 use sum_sources::Fault;
@@ -39,13 +40,19 @@ pub(crate) fn put_tool_line<'a, E: Sink>(
     )
 }
 
-/// The same for a name that could not be opened or read.
-pub(crate) fn put_fault_line<E: Sink>(
-    err: &mut E,
+/// The same for a name that could not be opened or read, to standard error.
+pub(crate) fn put_fault_line<O: Sink, E: Sink>(
+    outputs: &mut Outputs<O, E>,
     tool: &str,
     name: &[u8],
     fault: Fault,
 ) -> Result<(), SinkFault>
+    ensures { WritesAndFlushesBoth outputs.old outputs.new (fault_line present tool.now name.now fault) [] result }
+{
+    put_fault(&mut outputs.err, tool, name, fault)
+}
+
+fn put_fault<E: Sink>(err: &mut E, tool: &str, name: &[u8], fault: Fault) -> Result<(), SinkFault>
     ensures { WritesAndFlushes (E.state err.old) (E.state err.new) (fault_line present tool.now name.now fault) result }
 {
     put_tool_line(err, tool, name, fault.text().as_bytes())
@@ -61,24 +68,17 @@ pub(crate) struct JudgedLine<'a> {
 
 /// Writes what is reported of a line: first to `err`, and then to `out`.
 pub(crate) fn put_report<O: Sink, E: Sink>(
-    out: &mut O,
-    err: &mut E,
+    outputs: &mut Outputs<O, E>,
     rules: CheckRules,
     labels: &Labels,
     line: &JudgedLine,
 ) -> Result<(), SinkFault>
-    ensures texts { (E.state err.old).buffered ≡ [] → (O.state out.old).buffered ≡ []
-        → WritesBoth (E.state err.old) (E.state err.new) (O.state out.old) (O.state out.new)
+    ensures { WritesAndFlushesBoth outputs.old outputs.new
         (err_by (rules_in rules) (labels_in labels.now) line.now.number line.now.verdict line.now.name.now)
         (out_by present labels.now.report line.now.verdict line.now.name.now) result }
-    ensures flushed { (E.state err.old).buffered ≡ [] → (O.state out.old).buffered ≡ []
-        → ((E.state err.new).buffered ≡ []) × ((O.state out.new).buffered ≡ []) }
-    ensures failures { MatchResult result
-        (λ _. NoneFailed (O.state out.old) (O.state out.new) (E.state err.old) (E.state err.new))
-        (λ _. OneFailed (O.state out.old) (O.state out.new) (E.state err.old) (E.state err.new)) }
 {
-    put_err(err, rules, labels, line)?;
-    put_out(out, labels.report, line.verdict, line.name)
+    put_err(&mut outputs.err, rules, labels, line)?;
+    put_out(&mut outputs.out, labels.report, line.verdict, line.name)
 }
 
 fn put_out<O: Sink>(
@@ -135,7 +135,7 @@ fn put_err<E: Sink>(
             Report::Warn => put_bad_line(err, rules, labels, line.number),
             _ => Ok(()),
         },
-        Verdict::Unread(fault) => put_fault_line(err, labels.tool, line.name, fault),
+        Verdict::Unread(fault) => put_fault(err, labels.tool, line.name, fault),
     }
 }
 

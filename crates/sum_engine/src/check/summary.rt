@@ -1,11 +1,12 @@
 //! The end of a manifest.
-ghost use Rattle.std.specs.Prelude.{◌≡◌, ◌<◌, ◌^◌};
+ghost use Rattle.std.specs.Prelude.{◌≡◌, ◌<◌, ◌^◌, []};
 
 use crate::check::judge::Verdict;
 use crate::check::report::put_tool_line;
 use crate::check::rules::{CheckRules, Labels};
 use crate::put_flushed::put_parts_flushed;
 use crate::settings::Report;
+use crate::streams::Outputs;
 use sum_lines::{Part, Sink, SinkFault};
 
 /// How many lines of a manifest have each verdict but `Ignored`.
@@ -22,7 +23,7 @@ ghost use Rattle.sum_engine.specs.check.Reports.{warning, warnings, unverified_l
 ghost use Rattle.sum_engine.specs.check.CheckerSteps.{counts_with};
 ghost use Rattle.sum_engine.specs.refinement.Counters.{counts_value, total};
 ghost use Rattle.sum_engine.specs.refinement.Cursors.{rules_in, labels_in};
-ghost use Rattle.sum_engine.specs.refinement.FlushedWrites.{WritesAndFlushes};
+ghost use Rattle.sum_engine.specs.refinement.FlushedWrites.{WritesAndFlushes, WritesAndFlushesBoth};
 ghost use Rattle.sum_sources.specs.declared.fault.Ending.TheVariants.{Whole};
 
 impl Counts {
@@ -70,8 +71,21 @@ pub(crate) fn is_good(rules: CheckRules, counts: Counts) -> bool
         && (!rules.strict || counts.bad == 0)
 }
 
-/// Writes the end of a manifest that was read whole.
-pub(crate) fn put_summary<E: Sink>(
+/// Writes the end of a manifest that was read whole, to standard error.
+pub(crate) fn put_summary<O: Sink, E: Sink>(
+    outputs: &mut Outputs<O, E>,
+    rules: CheckRules,
+    labels: &Labels,
+    counts: Counts,
+) -> Result<(), SinkFault>
+    requires { total (counts_value counts) < 2 ^ 63 }
+    ensures { WritesAndFlushesBoth outputs.old outputs.new
+        (end_text (rules_in rules) (labels_in labels.now) Whole (counts_value counts)) [] result }
+{
+    put_end(&mut outputs.err, rules, labels, counts)
+}
+
+fn put_end<E: Sink>(
     err: &mut E,
     rules: CheckRules,
     labels: &Labels,

@@ -7,11 +7,12 @@ ghost use Rattle.sum_engine.specs.check.NextVerdict.{final_answer_of_next};
 use crate::check::cursor::CheckCursor;
 use crate::check::judge::LineVerdict;
 use crate::check::rules::CheckRules;
+use crate::inputs::Inputs;
 use crate::settings::CheckSettings;
 use digest_kinds::LIMIT;
 use std::alloc::Allocator;
 use std::marker::Model;
-use sum_sources::{Input, LineStop, Source, Stdin};
+use sum_sources::{Input, LineStop, Source};
 
 /// The verdicts of a manifest's lines, one at a time, for a program that shows them in its own way. Nothing is written.
 #[derive(Drop)]
@@ -35,9 +36,8 @@ impl<I> Model for Verdicts<I> {
 impl<I: Input> Verdicts<I> {
     ghost use Rattle.sum_sources.specs.declared.fault.Ending.TheVariants.{Whole};
     ghost use Rattle.sum_engine.specs.check.Reports.{good};
-    ghost use Rattle.sum_engine.specs.Execution.{known_state};
-    ghost use Rattle.sum_engine.specs.check.CheckerSteps.{IsAtStart, check_state};
-    ghost use Rattle.sum_engine.specs.check.NextVerdict.{lent_streams, HasNameRange, NextVerdictIfKnown};
+    ghost use Rattle.sum_engine.specs.check.CheckerSteps.{IsAtStart};
+    ghost use Rattle.sum_engine.specs.check.NextVerdict.{HasNameRange, FindsVerdict};
     ghost use Rattle.sum_engine.specs.check.NextVerdict.{AdvancesVerdicts, is_whole};
 
     /// At the first line of the manifest that `input` gives; `from_stdin` says whether it came from standard input,
@@ -76,34 +76,31 @@ impl<I: Input> Verdicts<I> {
 
     /// Reads the next line, and finds its verdict; `None` if none is left and the manifest ended whole. `line` is grown
     /// for the line, and then contains the name of its entry, at the range in the result; its content before is of no
-    /// matter. `stdin` is what the name `-` means in a manifest that didn't come from there, and `source` is where
-    /// files are opened.
+    /// matter. `inputs` is where files are opened, and standard input, which the name `-` means in a manifest that didn't
+    /// come from there.
     ///
     /// `LineStop::Fault` if that fault broke the manifest. `LineStop::Memory` if there is no memory for the line or to
     /// open the file that it names. After either, and after `None`, each call returns the same and does nothing.
     pub fn next<A: Allocator, J: Input + Drop, S: Source>(
         &mut self,
         line: &mut Vec<u8, A>,
-        stdin: &mut Stdin<J>,
-        source: &mut S,
+        inputs: &mut Inputs<J, S>,
     ) -> Result<Option<LineVerdict>, LineStop>
         // A final answer is returned again; all but `line` stays as it is.
-        ensures repeats { IfSome self.old.final_answer (λ r. (result ≡ r) × (self.new ≡ self.old)
-            × (stdin.new ≡ stdin.old) × (source.new ≡ source.old)) }
+        ensures repeats { IfSome self.old.final_answer
+            (λ r. (result ≡ r) × (self.new ≡ self.old) × (inputs.new ≡ inputs.old)) }
         // If manifest, source and standard input are known: the first of the verdicts that remained.
-        ensures verdict { self.old.final_answer ≡ None → NextVerdictIfKnown self.old.cursor.rules line.new.items
-            (check_state I.state self.old.cursor (known_state S.state (lent_streams J.state stdin.old source.old)))
-            (check_state I.state self.new.cursor (known_state S.state (lent_streams J.state stdin.new source.new)))
-            result }
+        ensures verdict { self.old.final_answer ≡ None → FindsVerdict I.state S.state line.new.items
+            self.old.cursor self.new.cursor inputs.old inputs.new result }
         ensures name_range { IfOk result (λ found. IfSome found (λ v. HasNameRange line.new.items v)) }
         // Known or not: how far the manifest was read, the cause of a stop, and which answers are final.
-        ensures advances { self.old.final_answer ≡ None → AdvancesVerdicts I.state S.state self.old self.new
-            (lent_streams J.state stdin.old source.old) (lent_streams J.state stdin.new source.new) result }
+        ensures advances { self.old.final_answer ≡ None → AdvancesVerdicts I.state S.state line.new.items self.old
+            self.new inputs.old inputs.new result }
     {
         if let Some(answer) = self.final_answer {
             return answer;
         }
-        let found = self.cursor.next_verdict(line, stdin, source);
+        let found = self.cursor.next_verdict(line, inputs);
         self.final_answer = match found {
             Ok(Some(_)) => None,
             _ => Some(found),

@@ -4,11 +4,12 @@ use Rattle.digests.proofs.finish.flush_both.Goals as goal
 
 -- the flush of standard output failed
 pub returns-in_err-flush-clause-bytes : goal.returns-in_err-flush-clause-bytes
-returns-in_err-flush-clause-bytes g c =
-    λ out err.
-    (flush_failed-none _ _ c.in_err-flush.ensures.bytes out, Keeps-refl (g.E.Sink.state c.args.err.now).written)
+returns-in_err-flush-clause-bytes g c = rw (← c.outputs.view_is) (λ flushed.
+    (flush_failed-none _ _ c.in_err-flush.ensures.bytes flushed.0, Keeps-refl _))
 
 -- the flush of standard error failed
 pub returns-in_err-flush-2-clause-bytes : goal.returns-in_err-flush-2-clause-bytes
-returns-in_err-flush-2-clause-bytes g c = λ out err.
-    (flushed-none _ _ c.in_ok-flush.ensures.bytes.0 out, flush_failed-none _ _ c.in_err-flush-2.ensures.bytes err)
+returns-in_err-flush-2-clause-bytes g c = rw (← c.outputs.view_is) (λ flushed. (
+  flushed-none _ _ c.in_ok-flush.ensures.bytes.0 flushed.0,
+  flush_failed-none _ _ c.in_err-flush-2.ensures.bytes flushed.1,
+))

@@ -9,9 +9,9 @@ pub operands-init : goal.operands-init
 operands-init g c =
     let all = operands_of c.args.job.now c.args.tool c.args.operands in
     record {
-      reached = λ hold. operands_done_start g.S.Source.state all c.args.streams.now c.first_name-name.ensures;
+      reached = operands_done_start g.S.Source.state all _ c.args.streams.now c.first_name-name.ensures;
       so_far = search rules;
-      whole = λ good. ReadToEnd-none g.S.Source.state c.args.streams.now c.args.streams.now refl refl refl refl;
+      whole = λ good. ReadToEnd-none g.S.Source.state c.args.streams.now.inputs c.args.streams.now.inputs refl refl refl refl;
     }
 
 -- an operand stopped the run
@@ -19,9 +19,9 @@ pub returns-in-Err-clause-behavior : goal.returns-in-Err-clause-behavior
 returns-in-Err-clause-behavior g c =
     let all = operands_of c.args.job.now c.args.tool c.args.operands in
     let so_far = c.operands.invariant in
-    λ hold. operands_done_stop g.S.Source.state all c.in-Err.stop c.operands.good c.operands.name.now
-    c.operands.operands c.args.streams.now c.operands.streams c.run_operand.new.streams (so_far.reached hold)
-    (c.in-Err.ensures.behavior (so_far.so_far.flushed hold))
+    operands_done_stop g.S.Source.state all c.in-Err.stop c.operands.good c.operands.name.now
+    c.operands.operands c.args.streams.now c.operands.streams c.run_operand.new.streams so_far.reached
+    so_far.so_far.flushed c.in-Err.ensures.behavior
 
 -- an operand happened, and another one is left
 pub operands-preserved : goal.operands-preserved
@@ -34,13 +34,13 @@ operands-preserved g c =
     let all = operands_of c.args.job.now c.args.tool c.args.operands in
     let so_far = c.operands.invariant in
     record {
-      reached = λ hold. rw (is, ← c.in-Some.ensures.steps)
+      reached = rw (is, ← c.in-Some.ensures.steps)
           (operands_done_step g.S.Source.state all c.operands.good c.in-Ok.this c.operands.name.now c.operands.operands
-          c.args.streams.now c.operands.streams c.run_operand.new.streams
-          (so_far.reached hold) (c.in-Ok.ensures.behavior (so_far.so_far.flushed hold)));
+          c.args.streams.now c.operands.streams c.run_operand.new.streams so_far.reached so_far.so_far.flushed
+          c.in-Ok.ensures.behavior);
       so_far = search rules;
-      whole = rw is (read_step g.S.Source.state c.operands.good c.in-Ok.this c.args.streams.now c.operands.streams
-          c.run_operand.new.streams so_far.whole c.in-Ok.ensures.read_to_end);
+      whole = rw is (read_step g.S.Source.state c.operands.good c.in-Ok.this c.args.streams.now.inputs
+          c.operands.streams.inputs c.run_operand.new.streams.inputs so_far.whole c.in-Ok.ensures.read_to_end);
     }
 
 -- an operand happened, and it was the last
@@ -53,10 +53,9 @@ returns-in-None-clause-behavior g c =
     ] in
     let all = operands_of c.args.job.now c.args.tool c.args.operands in
     let so_far = c.operands.invariant in
-    λ hold.
     let reached = operands_done_step g.S.Source.state all c.operands.good c.in-Ok.this c.operands.name.now
-    c.operands.operands c.args.streams.now c.operands.streams c.run_operand.new.streams (so_far.reached hold)
-    (c.in-Ok.ensures.behavior (so_far.so_far.flushed hold)) in
+    c.operands.operands c.args.streams.now c.operands.streams c.run_operand.new.streams so_far.reached
+    so_far.so_far.flushed c.in-Ok.ensures.behavior in
     rw c.status.ensures (operands_done_end g.S.Source.state all _ c.args.streams.now c.run_operand.new.streams
     (rw (← is, c.in-None.ensures.steps.0) at reached))
 
@@ -69,5 +68,5 @@ returns-in-None-clause-read_to_end g c =
       | else-good w ↦ rw w.if-good.false (w.good-is ∙ w.if-good.false)
     ] in
     read_end c.status.result (c.operands.good && c.in-Ok.this) (rw (← is) c.status.ensures)
-    (read_step g.S.Source.state c.operands.good c.in-Ok.this c.args.streams.now c.operands.streams
-    c.run_operand.new.streams c.operands.invariant.whole c.in-Ok.ensures.read_to_end)
+    (read_step g.S.Source.state c.operands.good c.in-Ok.this c.args.streams.now.inputs c.operands.streams.inputs
+    c.run_operand.new.streams.inputs c.operands.invariant.whole c.in-Ok.ensures.read_to_end)

@@ -1,28 +1,23 @@
-use Rattle.digests.proofs.MessageLemmas.{known_on_out, known_on_err}
-use Rattle.sum_engine.proofs.ExecutionLemmas.{streams_of}
+use Rattle.std.proofs.Common.{true, false, []}
+use Rattle.digests.proofs.MessageLemmas.{texts_performed}
 use Rattle.digests.proofs.run.run_request.Goals as goal
 
 -- a fault's lines are written to standard error
 pub returns-in-Err-clause-behavior : goal.returns-in-Err-clause-behavior
-returns-in-Err-clause-behavior g c =
-    rw (c.in-Err.is, c.status_after_write.ensures, ← c.streams.view_is)
-    (λ hold. known_on_err g.S.Source.state (streams_of g.I.Input.state c.streams.inside.stdin _ _ _) _ _
-    c.put_message.result hold.1 c.put_message.ensures)
+returns-in-Err-clause-behavior g c = rw (c.in-Err.is, c.status_after_write.ensures)
+    (texts_performed g.S.Source.state c.args.streams.now _ _ [] false c.put_err_message.result
+    c.put_err_message.ensures)
 
 -- the help stands on standard output
 pub returns-in-Ok-Help-clause-behavior : goal.returns-in-Ok-Help-clause-behavior
 returns-in-Ok-Help-clause-behavior g c =
-    let wrote = c.put_message-in-Ok-Help in
+    let wrote = c.put_out_message in
     rw (c.in-Ok-Help.is, c.in-Ok-Help.field-0-is, c.status_after_write-in-Ok-Help.ensures)
-    (rw (← c.streams-in-Ok-Help.view_is)
-    (λ hold. known_on_out g.S.Source.state (streams_of g.I.Input.state c.streams-in-Ok-Help.inside.stdin _ _ _) _ _
-    wrote.result hold.0 wrote.ensures))
+    (texts_performed g.S.Source.state c.args.streams.now _ [] _ true wrote.result wrote.ensures)
 
 -- the version likewise
 pub returns-in-Ok-Version-clause-behavior : goal.returns-in-Ok-Version-clause-behavior
 returns-in-Ok-Version-clause-behavior g c =
-    let wrote = c.put_message-in-Ok-Version in
+    let wrote = c.put_out_message-in-Ok-Version in
     rw (c.in-Ok-Version.is, c.in-Ok-Version.field-0-is, c.status_after_write-in-Ok-Version.ensures)
-    (rw (← c.streams-in-Ok-Version.view_is)
-    (λ hold. known_on_out g.S.Source.state (streams_of g.I.Input.state c.streams-in-Ok-Version.inside.stdin _ _ _) _ _
-    wrote.result hold.0 wrote.ensures))
+    (texts_performed g.S.Source.state c.args.streams.now _ [] _ true wrote.result wrote.ensures)

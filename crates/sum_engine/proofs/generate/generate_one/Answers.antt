@@ -1,10 +1,8 @@
-use Rattle.std.proofs.Common.{refl, ap, inl, inr, Ok, Err}
-use Rattle.std.proofs.KnownBytes.{Appends-nil}
+use Rattle.std.proofs.Common.{refl, ap, Ok, Err}
 use Rattle.std.proofs.lemmas.Result.{err_from_is_err_and}
 use Rattle.sum_engine.specs.Behavior.{reply, digest_or_fault}
+use Rattle.sum_engine.specs.Execution.{InputsState}
 use Rattle.sum_engine.specs.Generation.{generate_behavior}
-use Rattle.sum_sources.specs.Contents.{stdin_taken}
-use Rattle.sum_engine.proofs.ExecutionLemmas.{known_refused, streams_of}
 use Rattle.sum_engine.proofs.BehaviorLemmas.{unasked}
 use Rattle.sum_engine.proofs.GenerateLemmas.{generate-performed, one_step}
 use Rattle.sum_engine.proofs.generate.generate_one.Goals as goal
@@ -15,14 +13,11 @@ returns-in-None-clause-behavior g c =
     let settings = c.args.settings.now in
     let tool = c.args.tool.now in
     let name = c.args.name.now in
-    rw (← c.streams.view_is) (λ flushed. unasked g.S.Source.state (λ w. generate_behavior settings tool w name) (λ g. g)
-    (streams_of g.I.Input.state c.streams.inside.stdin _ _ _)
-    (streams_of g.I.Input.state c.hash_name-outcome.new.stdin _ _ _)
-    (λ w. one_step settings tool name (digest_or_fault settings.kind (reply w name)))
-    (known_refused g.S.Source.state (streams_of g.I.Input.state c.streams.inside.stdin _ _ _)
-    (streams_of g.I.Input.state c.hash_name-outcome.new.stdin _ _ _) c.in-None.ensures.outcome
-    (ap stdin_taken c.in-None.ensures.stdin_kept) refl refl
-    c.in-None.ensures.refusals))
+    let kept = ap (λ (m : InputsState g.row.S.Denot). m.stdin_taken) c.in-None.ensures.stdin_kept in
+    unasked g.S.Source.state (λ w. generate_behavior settings tool w name) (λ g. g) c.args.streams.now
+    (record c.args.streams.now { inputs = c.hash_name.new.inputs })
+    (λ w. one_step settings tool name (digest_or_fault settings.kind (reply w name))) c.in-None.ensures.outcome kept refl
+    c.in-None.ensures.refusals
 
 -- the name was read, and writing its line failed
 pub returns-in_err-put_line_flushed-in-Ok-clause-behavior :
@@ -30,18 +25,18 @@ pub returns-in_err-put_line_flushed-in-Ok-clause-behavior :
 returns-in_err-put_line_flushed-in-Ok-clause-behavior g c =
     let stop = err_from_is_err_and c.from_residual.result c.from_residual.ensures.1 in
     let done = c.in-Some.ensures in
-    rw (stop.1, stop.2, ← c.streams.view_is) (λ flushed. generate-performed g.S.Source.state _ _ c.args.name.now _ _ _
-    (streams_of _ _ _ _ _) (streams_of _ _ _ _ _) _ (Ok _) (Err tt) done.outcome done.stdin_taken done.refusals
-    c.in-Ok.ensures refl (inr (Appends-nil _, (c.in_err-put_line_flushed-in-Ok.ensures.1 flushed.0).1)))
+    rw (stop.1, stop.2) (generate-performed g.S.Source.state _ _ c.args.name.now _ _ _ c.args.streams.now
+    (record { inputs = c.hash_name.new.inputs; outputs = _ }) _ (Ok _) (Err tt) done.outcome done.stdin_taken
+    done.refusals c.in-Ok.ensures refl c.in_err-put_line_flushed-in-Ok.ensures)
 
 -- its line was written
 pub returns-in_ok-put_line_flushed-in-Ok-clause-behavior :
     goal.returns-in_ok-put_line_flushed-in-Ok-clause-behavior
 returns-in_ok-put_line_flushed-in-Ok-clause-behavior g c =
     let done = c.in-Some.ensures in
-    rw (← c.streams.view_is) (λ flushed. generate-performed g.S.Source.state _ _ c.args.name.now _ _ _
-    (streams_of _ _ _ _ _) (streams_of _ _ _ _ _) _ (Ok _) (Ok tt) done.outcome done.stdin_taken done.refusals
-    c.in-Ok.ensures refl (Appends-nil _, (c.in_ok-put_line_flushed-in-Ok.ensures.1 flushed.0).1))
+    generate-performed g.S.Source.state _ _ c.args.name.now _ _ _ c.args.streams.now
+    (record { inputs = c.hash_name.new.inputs; outputs = _ }) _ (Ok _) (Ok tt) done.outcome done.stdin_taken
+    done.refusals c.in-Ok.ensures refl c.in_ok-put_line_flushed-in-Ok.ensures
 
 -- the name could not be opened or read, and writing the line of its fault failed
 pub returns-in_err-put_fault_line-in-Err-clause-behavior :
@@ -50,15 +45,15 @@ returns-in_err-put_fault_line-in-Err-clause-behavior g c =
     let back = c.from_residual-in_err-put_fault_line-in-Err in
     let stop = err_from_is_err_and back.result back.ensures.1 in
     let done = c.in-Some.ensures in
-    rw (stop.1, stop.2, ← c.streams.view_is) (λ flushed. generate-performed g.S.Source.state _ _ c.args.name.now _ _ _
-    (streams_of _ _ _ _ _) (streams_of _ _ _ _ _) _ (Err _) (Err tt) done.outcome done.stdin_taken done.refusals
-    c.in-Err.ensures refl (inl ((c.in_err-put_fault_line-in-Err.ensures.1 flushed.1).1, refl)))
+    rw (stop.1, stop.2) (generate-performed g.S.Source.state _ _ c.args.name.now _ _ _ c.args.streams.now
+    (record { inputs = c.hash_name.new.inputs; outputs = _ }) _ (Err _) (Err tt) done.outcome done.stdin_taken
+    done.refusals c.in-Err.ensures refl c.in_err-put_fault_line-in-Err.ensures)
 
 -- that line was written
 pub returns-in_ok-put_fault_line-in-Err-clause-behavior :
     goal.returns-in_ok-put_fault_line-in-Err-clause-behavior
 returns-in_ok-put_fault_line-in-Err-clause-behavior g c =
     let done = c.in-Some.ensures in
-    rw (← c.streams.view_is) (λ flushed. generate-performed g.S.Source.state _ _ c.args.name.now _ _ _
-    (streams_of _ _ _ _ _) (streams_of _ _ _ _ _) _ (Err _) (Ok tt) done.outcome done.stdin_taken done.refusals
-    c.in-Err.ensures refl ((c.in_ok-put_fault_line-in-Err.ensures.1 flushed.1).1, Appends-nil _))
+    generate-performed g.S.Source.state _ _ c.args.name.now _ _ _ c.args.streams.now
+    (record { inputs = c.hash_name.new.inputs; outputs = _ }) _ (Err _) (Ok tt) done.outcome done.stdin_taken
+    done.refusals c.in-Err.ensures refl c.in_ok-put_fault_line-in-Err.ensures

@@ -1,6 +1,6 @@
 use Rattle.std.proofs.Common.{◌≡◌, true, Ok, Err, ap, sym, ◌∙◌, arith, rules}
 use Rattle.sum_engine.specs.check.CheckerSteps.{Ended}
-use Rattle.sum_engine.specs.Execution.{known_state}
+use Rattle.sum_engine.proofs.ExecutionLemmas.{KeepsStdin-trans}
 use Rattle.sum_engine.proofs.CheckOneLemmas.{comes_none, comes_more, comes_last, phase-initial}
 use Rattle.sum_engine.proofs.ReadToEndLemmas.{ReadToEnd-none, ReadToEnd-trans}
 use Rattle.sum_engine.proofs.check.check_one.check_lines.Goals as goal
@@ -13,23 +13,21 @@ pub returns-in-Err-clause-behavior : goal.returns-in-Err-clause-behavior
 returns-in-Err-clause-behavior g c =
     let so_far = c.lines.invariant in
     let first = c.args.checker.now in
-    λ flushed.
-    let step = c.in-Err.ensures.step so_far.going (so_far.so_far.flushed flushed) in
-    comes_last first.cursor.rules first.labels g.I.Input.state _ _ _ (known_state g.S.Source.state c.args.streams.now)
-    (known_state g.S.Source.state c.step.new.streams) _ c.step.new.self.cursor c.step.new.line.items
-    (Err c.in-Err.stop) so_far.rules so_far.labels (so_far.comes flushed) step
+    comes_last g.I.Input.state g.S.Source.state first.cursor.rules first.labels first.cursor c.args.streams.now
+    c.lines.checker.labels first.cursor.reader.input c.lines.checker.cursor c.step.new.self.cursor c.lines.streams
+    c.step.new.streams c.step.new.line.items (Err c.in-Err.stop) c.requires.start so_far.rules so_far.labels
+    so_far.comes so_far.so_far.flushed (c.in-Err.ensures.step so_far.going)
 
 -- the end was handled
 pub returns-in-Ok-Ended-clause-behavior : goal.returns-in-Ok-Ended-clause-behavior
 returns-in-Ok-Ended-clause-behavior g c =
     let so_far = c.lines.invariant in
     let first = c.args.checker.now in
-    λ flushed.
-    let step = rw c.in-Ok-Ended.field-0-is at (c.in-Ok-Ended.ensures.step so_far.going (so_far.so_far.flushed flushed))
-    in
-    comes_last first.cursor.rules first.labels g.I.Input.state _ _ _ (known_state g.S.Source.state c.args.streams.now)
-    (known_state g.S.Source.state c.step.new.streams) _ c.step.new.self.cursor c.step.new.line.items
-    (Ok c.in-Ok-Ended.good) so_far.rules so_far.labels (so_far.comes flushed) step
+    let step = rw c.in-Ok-Ended.field-0-is at (c.in-Ok-Ended.ensures.step so_far.going) in
+    comes_last g.I.Input.state g.S.Source.state first.cursor.rules first.labels first.cursor c.args.streams.now
+    c.lines.checker.labels first.cursor.reader.input c.lines.checker.cursor c.step.new.self.cursor c.lines.streams
+    c.step.new.streams c.step.new.line.items (Ok c.in-Ok-Ended.good) c.requires.start so_far.rules so_far.labels
+    so_far.comes so_far.so_far.flushed step
 
 -- a good manifest has no file that could not be read
 pub returns-in-Ok-Ended-clause-read_to_end : goal.returns-in-Ok-Ended-clause-read_to_end
@@ -47,11 +45,10 @@ lines-preserved g c =
     let first = c.args.checker.now in
     let advances = c.in-Ok-Going.ensures.advances so_far.going in
     record {
-      comes = λ flushed.
-          let step = rw c.in-Ok-Going.field-0-is
-          at (c.in-Ok-Going.ensures.step so_far.going (so_far.so_far.flushed flushed)) in
-          comes_more first.cursor.rules first.labels _ _ _ _ _ _ c.step.new.line.items so_far.rules so_far.labels
-          (so_far.comes flushed) step;
+      comes = comes_more g.I.Input.state g.S.Source.state first.cursor.rules first.labels first.cursor
+          c.args.streams.now c.lines.checker.labels c.lines.checker.cursor c.step.new.self.cursor c.lines.streams
+          c.step.new.streams c.step.new.line.items so_far.rules so_far.labels so_far.comes so_far.so_far.flushed
+          (rw c.in-Ok-Going.field-0-is at (c.in-Ok-Going.ensures.step so_far.going));
       rules = advances.cursor.rules ∙ so_far.rules;
       labels = advances.labels ∙ so_far.labels;
       going = advances.final_answer ∙ search rules;
@@ -61,7 +58,6 @@ lines-preserved g c =
           let before : c.lines.checker.cursor.counts.unread ≡ 0 = omega (arith, advances.files.unread, none) in
           ReadToEnd-trans (so_far.read_to_end before) (advances.files.read_to_end (none ∙ sym before));
       stdin = λ from.
-          let same = advances.files.stdin (ap (λ r. r.from_stdin) so_far.rules ∙ from) in
-          let first = so_far.stdin from in
-          (same.0 ∙ first.0, same.1 ∙ first.1);
+          KeepsStdin-trans c.args.streams.now.inputs c.lines.streams.inputs c.step.new.streams.inputs (so_far.stdin from)
+          (advances.files.stdin (ap (λ r. r.from_stdin) so_far.rules ∙ from));
     }

@@ -1,8 +1,5 @@
-use Rattle.std.proofs.Common.{rules, refl, ap}
-use Rattle.sum_sources.specs.Contents.{stdin_taken}
-use Rattle.sum_engine.specs.check.NextVerdict.{lent_streams}
+use Rattle.std.proofs.Common.{rules, refl}
 use Rattle.sum_engine.specs.refinement.Cursors.{cursor_value}
-use Rattle.sum_engine.proofs.ExecutionLemmas.{known_refused}
 use Rattle.sum_engine.proofs.NextVerdictLemmas.{next_verdict-line, next_verdict-refused, cursor-advanced}
 use Rattle.sum_engine.proofs.check.cursor.CheckCursor.next_verdict.Goals as goal
 
@@ -12,9 +9,7 @@ returns-in-Some-clause-verdict g c =
     let gives = rw c.in-Ok-Line.field-0-is at c.in-Ok-Line.ensures.line in
     let number = rw c.in-Ok-Line.field-0-is at c.in-Ok-Line.ensures.reader.lines in
     let done = c.in-Some.ensures in
-    let first = lent_streams g.J.Input.state c.args.stdin.now c.args.source.now in
-    let then = lent_streams g.J.Input.state c.judge_line.new.stdin c.judge_line.new.source in
-    next_verdict-line g.I.Input.state g.S.Source.state (cursor_value c.args.self.now) _ c.next_line.new.self first then
+    next_verdict-line g.I.Input.state (cursor_value c.args.self.now) _ c.next_line.new.self _ _
     c.next_line.new.line.items c.judge_line.new.line.items c.in-Some.verdict
     (record {
       next = gives;
@@ -22,7 +17,7 @@ returns-in-Some-clause-verdict g c =
       ahead = c.in-Ok-Line.ensures.bounds.ahead;
       profile = refl;
     })
-    done.cursor done.len done.verdict done.stdin_taken refl refl done.refusals
+    done.cursor done.len done.verdict
 
 -- no memory to open the line's file
 pub returns-in-None-clause-verdict : goal.returns-in-None-clause-verdict
@@ -30,21 +25,15 @@ returns-in-None-clause-verdict g c =
     let gives = rw c.in-Ok-Line.field-0-is at c.in-Ok-Line.ensures.line in
     let number = rw c.in-Ok-Line.field-0-is at c.in-Ok-Line.ensures.reader.lines in
     let done = c.in-None.ensures in
-    let first = lent_streams g.J.Input.state c.args.stdin.now c.args.source.now in
-    let then = lent_streams g.J.Input.state c.judge_line.new.stdin c.judge_line.new.source in
-    next_verdict-refused g.I.Input.state g.S.Source.state (cursor_value c.args.self.now)
-    (cursor_value c.judge_line.new.self)
-    c.next_line.new.self first then
-    c.next_line.new.line.items c.judge_line.new.line.items
+    next_verdict-refused g.I.Input.state (cursor_value c.args.self.now) (cursor_value c.judge_line.new.self)
+    c.next_line.new.self _ _ c.next_line.new.line.items c.judge_line.new.line.items
     (record {
       next = gives;
       number = number;
       ahead = c.in-Ok-Line.ensures.bounds.ahead;
       profile = refl;
     })
-    done.cursor.reader (known_refused g.S.Source.state first then done.verdict (ap stdin_taken done.stdin_taken) refl
-    refl
-    done.refusals)
+    done.cursor.reader done.verdict
 
 -- how far the manifest was read: up to a line that was judged
 pub returns-in-Some-clause-cursor : goal.returns-in-Some-clause-cursor

@@ -6,7 +6,7 @@ use Rattle.sum_engine.specs.declared.settings.Report.TheVariants.{Status}
 use Rattle.sum_engine.specs.check.Verdicts.{Rules}
 use Rattle.sum_engine.specs.refinement.Counters.{counts_value}
 use Rattle.sum_engine.specs.refinement.Cursors.{rules_in, labels_in}
-use Rattle.sum_engine.proofs.check.summary.put_summary.Goals as goal
+use Rattle.sum_engine.proofs.check.summary.put_end.Goals as goal
 
 -- if there are entries, and the setting isn't `--status`, the summary is the warnings
 end_text-shown : (r : Rules) (labels : LabelsValue) (c : CountsValue) → (entries c ≡ 0 → ⊥)

@@ -1,0 +1,74 @@
+//! Where a call opens and reads.
+ghost use Rattle.std.specs.Prelude.{◌≡◌, false, true, Some, IfOk};
+ghost use Rattle.std.specs.Option.{option_or};
+ghost use Rattle.sum_sources.specs.Contents.{IfKnown, given_state, refusals_after, opened_after, closed_state};
+ghost use Rattle.sum_engine.specs.Execution.{known_world, KeepsStdin, Reading};
+ghost use Rattle.sum_engine.specs.refinement.Openings.{stdin_taken_from, phase_of, Opens};
+
+use std::marker::Model;
+use sum_sources::{Given, Input, OpenFault, Source, Stdin};
+
+/// Standard input, and where files are opened by their names.
+#[derive(Drop)]
+pub struct Inputs<I: Input, S> {
+    /// Standard input.
+    pub stdin: Stdin<I>,
+    /// Where files are opened by their names.
+    pub source: S,
+}
+
+impl<I: Input, S> Model for Inputs<I, S> {
+    ghost use Rattle.sum_engine.specs.Execution.{InputsState};
+    ghost use Rattle.sum_sources.specs.Contents.{stdin_state, stdin_taken, stdin_phase};
+
+    ghost Value = { InputsState S };
+
+    ghost view = { λ inputs. record {
+      source = inputs.source;
+      input = (stdin_state I.state inputs.stdin).content;
+      stdin_taken = stdin_taken inputs.stdin;
+      stdin_phase = stdin_phase I.state inputs.stdin;
+    } };
+}
+
+impl<I: Input + Drop, S: Source> Inputs<I, S> {
+    /// Takes standard input: what it has left the first time, and an empty input afterwards.
+    pub(crate) fn take_stdin(&mut self) -> Given<I>
+        ensures content { (given_state I.state result).content ≡ self.old.input }
+        ensures phase { self.old.stdin_taken ≡ false
+            → self.old.stdin_phase ≡ Some (given_state I.state result).phase }
+        ensures taken { self.new ≡ stdin_taken_from self.old }
+    {
+        self.stdin.take()
+    }
+
+    /// Puts back what `take_stdin` gave, so that its phase is known from then on. What is put back first stays.
+    pub(crate) fn put_back_stdin(&mut self, given: Given<I>)
+        ensures phase { self.old.stdin_taken ≡ true → self.new
+            ≡ record self.old { stdin_phase = option_or self.old.stdin_phase (phase_of I.state given) } }
+    {
+        self.stdin.put_back(given);
+    }
+
+    /// Opens the file of this name, as the source does.
+    pub(crate) fn open_file(&mut self, name: &[u8]) -> Result<S::File, OpenFault>
+        ensures answer { IfKnown (known_world S.state self.old) (known_world S.state self.new)
+            (λ w v. Opens S.File.state w v name.now result) }
+        ensures stdin { KeepsStdin self.old self.new }
+        ensures refusals { (S.state self.new.source).refusals
+            ≡ refusals_after (S.state self.old.source).refusals result }
+        ensures opened { ((S.state self.new.source).opened ≡ opened_after (S.state self.old.source).opened result)
+            × ((S.state self.new.source).ended ≡ (S.state self.old.source).ended) }
+        ensures phase { IfOk result (λ file. (S.File.state file).phase ≡ Reading) }
+    {
+        self.source.open_file(name)
+    }
+
+    /// Closes a file, which the source counts if it is at its end.
+    pub(crate) fn close_file(&mut self, file: S::File)
+        ensures closed { S.state self.new.source ≡ closed_state (S.state self.old.source) (S.File.state file).phase }
+        ensures stdin { KeepsStdin self.old self.new }
+    {
+        self.source.close_file(file);
+    }
+}
