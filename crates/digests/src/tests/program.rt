@@ -10,7 +10,7 @@ use std::io;
 use std::io::{ErrorKind, Write};
 use std::process::Abort;
 use std::test::Fail;
-use sum_engine::Streams;
+use sum_engine::{Inputs, Outputs, Streams};
 use sum_lines::{Buffered, FromWrite, Sink, ToldSink};
 use sum_sources::{Closable, Ending, Input, Source, Stdin, Told, ToldSource};
 use sum_words::{Arguments, ToldArguments};
