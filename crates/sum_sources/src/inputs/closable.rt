@@ -4,7 +4,7 @@ ghost use Rattle.sum_sources.specs.Contents.{unless_closed};
 
 use crate::{Fault, Input, Phase};
 
-/// An input that may be closed: then each read fails with `Fault::Other`.
+/// An input that may be closed: then each read fails with `Fault::NotOpen`.
 #[derive(Drop)]
 pub enum Closable<I> {
     /// This input.
@@ -29,7 +29,7 @@ impl<I: Input> Input for Closable<I> {
         match self {
             Closable::Open(input) => input.read(buf),
             Closable::Closed(phase) => {
-                let result = Err(Fault::Other);
+                let result = Err(Fault::NotOpen);
                 *phase = phase.after(buf.len(), &result);
                 result
             }

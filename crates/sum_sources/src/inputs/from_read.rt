@@ -3,21 +3,13 @@ ghost use Rattle.std.specs.Prelude.{◌≡◌, ◌≤◌, length, IfOk};
 ghost use Rattle.std.specs.Io.KnownBytes.{ReadConsumes};
 ghost use Rattle.sum_sources.specs.Phases.{phase_after};
 
+use crate::fault::fault_of;
 use crate::{Fault, Input, Phase};
-use std::io::{self, ErrorKind, Read};
+use std::io::{ErrorKind, Read};
 use std::marker::Model;
 
 /// How many interruptions in a row are a fault.
 const INTERRUPTIONS: u32 = 1000;
-
-/// The fault for an error of std's.
-pub(crate) fn fault_of(error: &io::Error) -> Fault {
-    match error.kind() {
-        ErrorKind::NotFound => Fault::NotFound,
-        ErrorKind::PermissionDenied => Fault::Denied,
-        _ => Fault::Other,
-    }
-}
 
 /// An input over a reader. Its bytes aren't known; each read has the contract of std's `Read`.
 #[derive(Drop)]
@@ -35,7 +27,7 @@ impl<R> Model for FromRead<R> {
 }
 
 impl<R: Read> FromRead<R> {
-    /// The input that reads from `reader`. A fault of the reader is returned by its kind; the 1,000th interruption in a
+    /// The input that reads from `reader`. A fault of the reader is returned by its kind and number; the 1,000th interruption in a
     /// row within one read is `Fault::Other`.
     pub fn new(reader: R) -> Self
         ensures { result ≡ record { reader = reader; phase = Phase.Reading } }

@@ -3,7 +3,7 @@ ghost use Rattle.std.specs.Prelude.{◌≡◌, IfOk};
 ghost use Rattle.std.specs.Str.{IsUtf8};
 ghost use Rattle.sum_sources.specs.Contents.{refusals_after, opened_after};
 
-use crate::inputs::from_read::fault_of;
+use crate::fault::fault_of;
 use crate::{Fault, FromRead, OpenFault, Phase, Source};
 use std::io::{ErrorKind, Read};
 use std::marker::Model;
