@@ -8,3 +8,4 @@ pub(crate) mod phase;
 pub(crate) mod size_limit;
 pub(crate) mod stdin;
 pub(crate) mod told;
+mod uninterrupted;

@@ -1,15 +1,12 @@
 //! Inputs over std's readers.
-ghost use Rattle.std.specs.Prelude.{◌≡◌, ◌≤◌, length, IfOk};
-ghost use Rattle.std.specs.Io.KnownBytes.{ReadConsumes};
+ghost use Rattle.std.specs.Prelude.{◌≡◌, ◌≤◌, length, IfOk, IfSome, MatchOption};
+ghost use Rattle.std.specs.Io.KnownBytes.{Keeps, ReadConsumes};
 ghost use Rattle.sum_sources.specs.Phases.{phase_after};
 
 use crate::fault::fault_of;
-use crate::{Fault, Input, Phase};
+use crate::{Fault, Phase};
 use std::io::{ErrorKind, Read};
 use std::marker::Model;
-
-/// How many interruptions in a row are a fault.
-const INTERRUPTIONS: u32 = 1000;
 
 /// An input over a reader. Its bytes aren't known; each read has the contract of std's `Read`.
 #[derive(Drop)]
@@ -27,8 +24,8 @@ impl<R> Model for FromRead<R> {
 }
 
 impl<R: Read> FromRead<R> {
-    /// The input that reads from `reader`. A fault of the reader is returned by its kind and number; the 1,000th interruption in a
-    /// row within one read is `Fault::Other`.
+    /// The input that reads from `reader`. A fault of the reader is returned by its kind and number; the 1,000th
+    /// interruption in a row within one read is `Fault::Other`.
     pub fn new(reader: R) -> Self
         ensures { result ≡ record { reader = reader; phase = Phase.Reading } }
     {
@@ -51,38 +48,32 @@ impl<R: Read> FromRead<R> {
     {
         self.reader
     }
-}
 
-impl<R: Read> Input for FromRead<R> {
-    ghost use Rattle.std.specs.Prelude.{None};
-
-    ghost state = { λ s. record { content = None; phase = s.phase } };
-
-    fn read(&mut self, buf: &mut [u8]) -> Result<usize, Fault>
-        ensures count { IfOk result (λ n. n ≤ length buf.new) }
-        ensures given { ReadConsumes (R.remaining self.old.reader) (R.remaining self.new.reader) result buf.new }
-        ensures phase { self.new.phase ≡ phase_after self.old.phase (length buf.old) result }
+    // Calls the reader once, which nothing else does, and keeps in the phase what it returned. `None` if it was
+    // interrupted.
+    pub(crate) fn read_once(&mut self, buf: &mut [u8]) -> Option<Result<usize, Fault>>
+        ensures count { IfSome result (λ read. IfOk read (λ n. n ≤ length buf.new)) }
+        ensures given { MatchOption result (Keeps (R.remaining self.old.reader) (R.remaining self.new.reader)) (λ read.
+            ReadConsumes (R.remaining self.old.reader) (R.remaining self.new.reader) read buf.new) }
+        ensures phase { MatchOption result (self.new.phase ≡ self.old.phase) (λ read.
+            self.new.phase ≡ phase_after self.old.phase (length buf.old) read) }
     {
-        let result = read_uninterrupted(&mut self.reader, buf);
-        self.phase = self.phase.after(buf.len(), &result);
-        result
+        let read = match self.reader.read(buf) {
+            Ok(n) => Ok(n),
+            Err(error) if error.kind() == ErrorKind::Interrupted => return None,
+            Err(error) => Err(fault_of(&error)),
+        };
+        self.phase = self.phase.after(buf.len(), &read);
+        Some(read)
     }
-}
 
-// One read of the reader, repeated if it is interrupted.
-fn read_uninterrupted<R: Read>(reader: &mut R, buf: &mut [u8]) -> Result<usize, Fault>
-    ensures count { IfOk result (λ n. n ≤ length buf.new) }
-    ensures given { ReadConsumes (R.remaining reader.old) (R.remaining reader.new) result buf.new }
-{
-    for _ in 0..INTERRUPTIONS {
-        match reader.read(buf) {
-            Ok(n) => return Ok(n),
-            Err(error) => {
-                if error.kind() != ErrorKind::Interrupted {
-                    return Err(fault_of(&error));
-                }
-            }
-        }
+    // A read of so many bytes that fails by this fault, without the reader.
+    pub(crate) fn fail(&mut self, size: usize, fault: Fault) -> Result<usize, Fault>
+        ensures fault { result ≡ Err fault }
+        ensures phase { self.new ≡ record self.old { phase = phase_after self.old.phase size result } }
+    {
+        let read = Err(fault);
+        self.phase = self.phase.after(size, &read);
+        read
     }
-    Err(Fault::Other)
 }

@@ -1,0 +1,10 @@
+use Rattle.std.proofs.Common.{◌≡◌}
+use Rattle.std.specs.Io.KnownBytes.{Keeps}
+use Rattle.sum_sources.proofs.inputs.uninterrupted.FromReadInput.read.Given as goal
+
+-- interruptions take no byte, and end nothing
+abbrev pub invariant-loop : goal.invariant-loop
+invariant-loop g l = record {
+  given : Keeps (g.R.Read.remaining l.fn.self.reader) (g.R.Read.remaining l.self.reader);
+  phase : l.self.phase ≡ l.fn.self.phase;
+}
