@@ -38,7 +38,7 @@ fn reader_of<'a>(input: FailsOnce<'a>, kind: ErrorKind) -> FromRead<Reader<'a>> 
 const FAULTS: [(Fault, ErrorKind); 4] = [
     (Fault::NotFound, ErrorKind::NotFound),
     (Fault::Denied, ErrorKind::PermissionDenied),
-    (Fault::Other, ErrorKind::WouldBlock),
+    (Fault::WouldBlock, ErrorKind::WouldBlock),
     (Fault::Other, ErrorKind::UnexpectedEof),
 ];
 

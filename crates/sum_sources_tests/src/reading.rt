@@ -55,11 +55,45 @@ fn kinds_of_faults(rt: HostRuntime) {
     for (kind, fault) in [
         (ErrorKind::NotFound, Fault::NotFound),
         (ErrorKind::PermissionDenied, Fault::Denied),
+        (ErrorKind::IsADirectory, Fault::IsADirectory),
+        (ErrorKind::NotADirectory, Fault::NotADirectory),
+        (ErrorKind::FilesystemLoop, Fault::FilesystemLoop),
+        (ErrorKind::InvalidFilename, Fault::InvalidFilename),
+        (ErrorKind::WouldBlock, Fault::WouldBlock),
+        (ErrorKind::StaleNetworkFileHandle, Fault::StaleHandle),
         (ErrorKind::InvalidInput, Fault::Other),
         (ErrorKind::OutOfMemory, Fault::Other),
     ] {
         let mut input = reader_of(2, Err(io::Error::from(kind)));
         assert!(rt; input.read(&mut [0; 4]) == Err(fault));
+    }
+}
+
+// Linux' numbers, by errno(3).
+const NUMBERS: [(i32, Fault); 11] = [
+    (1, Fault::Denied),
+    (2, Fault::NotFound),
+    (6, Fault::NoDevice),
+    (9, Fault::NotOpen),
+    (11, Fault::WouldBlock),
+    (13, Fault::Denied),
+    (20, Fault::NotADirectory),
+    (21, Fault::IsADirectory),
+    (36, Fault::InvalidFilename),
+    (40, Fault::FilesystemLoop),
+    (116, Fault::StaleHandle),
+];
+
+// A number without a fault of its own is another; so is that of an interruption, each time.
+#[test]
+fn numbers_of_faults(rt: HostRuntime) {
+    for number in -1..=134 {
+        let fault = NUMBERS
+            .iter()
+            .find(|row| row.0 == number)
+            .map_or(Fault::Other, |row| row.1);
+        let mut input = reader_of(2, Err(io::Error::from_raw_os_error(number)));
+        assert!(rt; input.read(&mut [0; 4]) == Err(fault), "{number}");
     }
 }
 
@@ -90,7 +124,7 @@ impl Read for LateByte {
 fn nothing_yet(rt: HostRuntime) {
     let mut buf = [0; 4];
     let mut input = FromRead::new(LateByte { is_there: false });
-    assert!(rt; input.read(&mut buf) == Err(Fault::Other));
+    assert!(rt; input.read(&mut buf) == Err(Fault::WouldBlock));
     assert_eq!(rt; buf, [0; 4]);
 }
 
@@ -99,6 +133,14 @@ fn texts_of_faults(rt: HostRuntime) -> Result<(), Fail> {
     for (fault, text) in [
         (Fault::NotFound, "No such file or directory"),
         (Fault::Denied, "Permission denied"),
+        (Fault::IsADirectory, "Is a directory"),
+        (Fault::NotADirectory, "Not a directory"),
+        (Fault::FilesystemLoop, "Too many levels of symbolic links"),
+        (Fault::InvalidFilename, "File name too long"),
+        (Fault::WouldBlock, "Resource temporarily unavailable"),
+        (Fault::StaleHandle, "Stale file handle"),
+        (Fault::NoDevice, "No such device or address"),
+        (Fault::NotOpen, "Bad file descriptor"),
         (Fault::Other, "Input/output error"),
     ] {
         assert_eq!(rt; fault.text(), text);
@@ -121,7 +163,7 @@ fn texts_of_faults(rt: HostRuntime) -> Result<(), Fail> {
 fn reader_given_back(rt: HostRuntime) -> Result<(), Fail> {
     let mut buf = [0; 4];
     let mut input = FromRead::new(LateByte { is_there: false });
-    assert!(rt; input.read(&mut buf) == Err(Fault::Other));
+    assert!(rt; input.read(&mut buf) == Err(Fault::WouldBlock));
     let mut reader = input.into_inner();
     assert!(rt; reader.is_there);
     assert!(rt; reader.read(&mut buf).ok() == Some(1));

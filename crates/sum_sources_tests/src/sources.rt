@@ -69,16 +69,26 @@ fn real_files(rt: HostRuntime) -> Result<(), Fail> {
     assert!(rt; file.read(&mut buf) == Ok(0));
     files.close_file(file);
     assert!(rt; (files.opened(), files.ended()) == (1, 1));
-    // A file is no folder.
-    assert!(rt;
-        files.open_file(b"sum_sources_real/").err() == Some(OpenFault::Fault(Fault::Other))
-    );
+    // A directory opens, and can't be read.
+    let mut directory = files.open_file(b".").ok().ok_or("not opened")?;
+    assert!(rt; directory.read(&mut buf) == Err(Fault::IsADirectory));
+    files.close_file(directory);
+    assert!(rt; (files.opened(), files.ended()) == (2, 1));
+    for (name, fault) in [
+        (b"sum_sources_real/".as_slice(), Fault::NotADirectory),
+        (b"sum_sources_real/x", Fault::NotADirectory),
+        (&[b'n'; 256], Fault::InvalidFilename),
+        (b"sum_sources_none", Fault::NotFound),
+        (b"", Fault::NotFound),
+        (b"a\0", Fault::Other),
+        (b"\xff", Fault::Other),
+    ] {
+        assert!(rt; files.open_file(name).err() == Some(OpenFault::Fault(fault)));
+    }
     fs::remove_file(&rt, "sum_sources_real")?;
     assert!(rt;
         files.open_file(b"sum_sources_real").err() == Some(OpenFault::Fault(Fault::NotFound))
     );
-    assert!(rt; files.open_file(b"\xff").err() == Some(OpenFault::Fault(Fault::Other)));
-    assert!(rt; files.open_file(b"").err() == Some(OpenFault::Fault(Fault::NotFound)));
     Ok(())
 }
 
@@ -157,9 +167,9 @@ fn closable(rt: HostRuntime) -> Result<(), Fail> {
     assert!(rt; open.read(&mut buf) == Err(Fault::Denied));
     let mut closed: Closable<Told> = Closable::closed();
     assert!(rt; matches!(closed, Closable::Closed(Phase::Reading)));
-    assert!(rt; closed.read(&mut buf) == Err(Fault::Other));
+    assert!(rt; closed.read(&mut buf) == Err(Fault::NotOpen));
     assert!(rt; matches!(closed, Closable::Closed(Phase::Failed)));
-    assert!(rt; closed.read(&mut buf) == Err(Fault::Other));
+    assert!(rt; closed.read(&mut buf) == Err(Fault::NotOpen));
     assert!(rt; matches!(closed, Closable::Closed(Phase::Past)));
     Ok(())
 }
