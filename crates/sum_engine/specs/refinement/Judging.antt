@@ -1,6 +1,6 @@
 -- Relates what the code finds of a line to what the line says, and to its verdict.
 use Rattle.std.specs.Prelude.{ℕ, ◌≡◌, Bool, false, List, [], Option, None, Some, Ok, Err, if◌then◌else◌, bytes_eq}
-use Rattle.sum_sources.specs.declared.fault.Fault.TheVariants.{NotFound, Denied, Other}
+use Rattle.sum_sources.specs.declared.fault.Fault.TheVariants.{NotFound}
 use Rattle.sum_lines.specs.grammar.Entries.{EntryValue, form_then, line_form}
 use Rattle.sum_engine.specs.declared.check.judge.ListedEntry.{ListedEntry}
 use Rattle.sum_engine.specs.declared.hash_name.HashOutcome.{HashOutcome}
@@ -27,8 +27,7 @@ name_in_line (entry s) = s.name
 abbrev pub verdict_of_outcome : Bool → List ℕ → HashOutcome → Verdict
 verdict_of_outcome ignore d (asked.Read found) = if bytes_eq found d then Right else Wrong
 verdict_of_outcome ignore d (asked.NotOpened NotFound) = if ignore then Missing else Unread NotFound
-verdict_of_outcome ignore d (asked.NotOpened Denied) = Unread Denied
-verdict_of_outcome ignore d (asked.NotOpened Other) = Unread Other
+verdict_of_outcome ignore d (asked.NotOpened f) = Unread f
 verdict_of_outcome ignore d (asked.Broken f) = Unread f
 
 -- a line that says this has this verdict, whatever its number, and its name was asked, if the verdict asks it
