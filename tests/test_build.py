@@ -123,7 +123,7 @@ class Launcher(Repository):
         said = b"md5sum: : No such file or directory\nmd5sum: new\\nline: No such file or directory\n"
         self.assertEqual(ran, Ran(1, f"{M}  two  words *\n{M}  -\n".encode(), said))
         self.assertEqual(self.script("digests"), Ran(1, b"", b"digests: unknown tool\n"))
-        for closed, wanted in (("<&-", Ran(1, b"", b"md5sum: -: Input/output error\n")),
+        for closed, wanted in (("<&-", Ran(1, b"", b"md5sum: -: Bad file descriptor\n")),
                                (">&-", Ran(1, b"", b"md5sum: write error\n"))):
             ran = self.run_command(["sh", "-c", f'"$0" md5sum {closed}', self.in_top("digests")], env=self.env)
             self.assertEqual(ran, wanted)

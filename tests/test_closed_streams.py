@@ -3,14 +3,12 @@ closed outputs are write errors if there is something to write."""
 
 import hashlib
 import os
-import pwd
-import shutil
 
 import harness
 from harness import E, M, S, TOOLS, VERDICTS, X_MISSING, Case, Ran, as_bytes, as_words
 from tracing import Traced, needs_strace
 
-FAULT = "md5sum: -: Input/output error"
+FAULT = "md5sum: -: Bad file descriptor"
 WRITE_ERROR = b"md5sum: write error\n"
 ONE_UNREAD = "md5sum: WARNING: 1 listed file could not be read"
 
@@ -36,7 +34,7 @@ class ClosedInput(Closing):
     def test_alone(self):
         """`md5sum <&-` says that it can't read standard input, under every tool."""
         for tool in TOOLS:
-            fault = as_bytes([f"{tool}: -: Input/output error"])
+            fault = as_bytes([f"{tool}: -: Bad file descriptor"])
             self.assertEqual(self.closed(tool, 0), Ran(1, b"", fault))
             self.assertEqual(self.closed([tool, "-"], 0), Ran(1, b"", fault))
 
@@ -53,12 +51,10 @@ class ClosedInput(Closing):
 
     def test_as_the_manifest(self):
         """`md5sum -c <&-` can't read its manifest."""
-        for words in ("md5sum -c", "md5sum -c -", "md5sum -c --status"):
-            ran = self.closed(words, 0)
-            self.assertEqual(ran, Ran(1, b"", b"md5sum: standard input: Input/output error\n"))
+        fault = b"md5sum: standard input: Bad file descriptor\n"
+        self.assertEqual(self.closed("md5sum -c", 0), Ran(1, b"", fault))
         self.write("l", [f"{M}  a"])
-        ran = self.closed("md5sum -c l - l", 0)
-        self.assertEqual(ran, Ran(1, b"a: OK\na: OK\n", b"md5sum: standard input: Input/output error\n"))
+        self.assertEqual(self.closed("md5sum -c l - l", 0), Ran(1, b"a: OK\na: OK\n", fault))
 
     def test_listed(self):
         """Its entry can't be read; the manifest's own bytes never take its place, whatever digest is listed."""
@@ -76,61 +72,12 @@ class ClosedInput(Closing):
         nothing = TOOLS["sha256sum"][1]
         self.write("l", [f"SHA256 (-) = {nothing}", f"SHA256 (a) = {S}", f"MD5 (a) = {M}"])
         ran = self.closed("anysum -c l", 0)
-        err = ["anysum: -: Input/output error", "anysum: WARNING: 1 listed file could not be read"]
+        err = ["anysum: -: Bad file descriptor", "anysum: WARNING: 1 listed file could not be read"]
         self.assertEqual(ran, Ran(1, as_bytes(["-: FAILED open or read", "a: OK", "a: OK"]), as_bytes(err)))
-
-    def test_listed_under_ignore_missing_and_status(self):
-        """It isn't missing, so --ignore-missing doesn't pass it over."""
-        self.write("l", [f"{M}  a", f"{E}  -"])
-        ran = self.closed("md5sum -c --ignore-missing l", 0)
-        err = as_bytes([FAULT, ONE_UNREAD])
-        self.assertEqual(ran, Ran(1, b"a: OK\n-: FAILED open or read\n", err))
-        self.assertEqual(self.closed("md5sum -c --status l", 0), Ran(1, b"", as_bytes([FAULT])))
 
 
 class NoRootFolder(Traced):
     """Standard input is closed, and the root folder can't be opened: nothing may depend on its being readable."""
-
-    def test_of_another_user(self):
-        """In a sandbox whose root folder has the mode 711, as the user nobody: never `OK`."""
-        root = self.path("root")
-        self.make_sandbox(root)
-        try:
-            nobody = pwd.getpwnam("nobody")
-        except KeyError:
-            self.skipTest("there is no user nobody")
-
-        def enter():
-            os.chroot(root)
-            os.chdir("/")
-            os.setgroups([])
-            os.setgid(nobody.pw_gid)
-            os.setuid(nobody.pw_uid)
-            os.close(0)
-
-        for manifest in hostile_manifests():
-            self.write("root/l", manifest)
-            ran = self.run_command(["/digests", "md5sum", "-c", "l"], stdin=None, cwd=None, preexec_fn=enter)
-            self.assertEqual(ran, Ran(1, b"-: FAILED open or read\n", as_bytes([FAULT, ONE_UNREAD])))
-        ran = self.run_command(["/digests", "md5sum", "a", "-"], stdin=None, cwd=None, preexec_fn=enter)
-        self.assertEqual(ran, Ran(1, as_bytes([f"{M}  a"]), as_bytes([FAULT])))
-
-    def make_sandbox(self, root):
-        """A folder that holds the program and its libraries, which others may enter and not list."""
-        if os.getuid() != 0:
-            self.skipTest("only root can change the root folder")
-        if shutil.which("ldd") is None:
-            self.skipTest("there is no ldd here, which names the program's libraries")
-        told = self.run_command(["ldd", harness.PROGRAM]).out
-        os.mkdir(root)
-        for word in told.split():
-            if word.startswith(b"/"):
-                copy = root + word
-                os.makedirs(os.path.dirname(copy), exist_ok=True)
-                shutil.copy(word, copy)
-        shutil.copy(harness.PROGRAM, os.path.join(root, b"digests"))
-        self.write("root/a", "abc")
-        os.chmod(root, 0o711)
 
     @needs_strace
     def test_refused(self):

@@ -54,16 +54,17 @@ class Messages(Described):
         for called, wanted in ((os.fsdecode(self.path("md5sum")), "md5sum"), (gnu("md5sum"), gnu("md5sum"))):
             self.assertEqual(self.run_command([called, "x"]), Ran(1, b"", f"{wanted}: {missing}".encode()))
 
-    def test_other_faults(self):
-        """Each is an `Input/output error` with us; GNU's tools name most of them."""
-        os.symlink("loop", self.path("loop"))
-        self.write("list", [f"{M}  d"])
-        for name, theirs in (("d", "Is a directory"), ("a/x", "Not a directory"), ("n" * 300, "File name too long"),
-                             ("loop", "Too many levels of symbolic links")):
-            said = [(1, b"", [f"md5sum: {name}: {fault}"]) for fault in ("Input/output error", theirs)]
-            self.expect_both(["md5sum", name], *said)
-        said = [(1, b"", [f"md5sum: d: {fault}"]) for fault in ("Input/output error", "read error")]
+    def test_reasons(self):
+        """GNU's tools don't say why a list can't be read, and a closed standard input is a fault once more at their
+        end. A name that isn't UTF-8 is one with us alone. `test_reasons` has what both say alike."""
+        said = [(1, b"", [f"md5sum: d: {reason}"]) for reason in ("Is a directory", "read error")]
         self.expect_both("md5sum -c d", *said)
+        closed = ["md5sum: -: Bad file descriptor", "md5sum: standard input: Bad file descriptor"]
+        self.expect_both("md5sum a -", (1, [f"{M}  a"], closed[:1]), (1, [f"{M}  a"], closed), stdin=subprocess.DEVNULL,
+                         preexec_fn=lambda: os.close(0))
+        self.write(b"\xff", "abc")
+        self.expect_both(["md5sum", b"\xff"], (1, b"", b"md5sum: \xff: Input/output error\n"),
+                         (0, M.encode() + b"  \xff\n", b""))
 
     def test_help_and_version(self):
         for option in ("--help", "--version"):
@@ -72,7 +73,8 @@ class Messages(Described):
             self.assertNotEqual(ours.out, theirs.out)
 
     def test_unknown_options(self):
-        """GNU's tools name those that are possible, and a value."""
+        """GNU's tools name those that are possible, and a value, and of a cluster the letter; ours the whole word if it
+        isn't UTF-8."""
         cut, possible = "option '--st' is ambiguous", "; possibilities: '--status' '--strict'"
         for words, ours, theirs in (("-c --st a", cut, cut + possible),
                                     ("-c --st=x a", cut, f"option '--st=x' is ambiguous{possible}"),
@@ -80,6 +82,12 @@ class Messages(Described):
             more = "Try 'md5sum --help' for more information."
             said = [(1, b"", [f"md5sum: {text}", more]) for text in (ours, theirs)]
             self.expect_both(f"md5sum {words}", *said)
+        for word, theirs in ((b"-b\xff", b"invalid option -- '\xff'"),
+                             (b"--tag=\xff", b"option '--tag' doesn't allow an argument"),
+                             (b"--o\xff=x", b"unrecognized option '--o\xff=x'")):
+            said = [(1, b"", b"md5sum: %s\n%s\n" % (text, more.encode()))
+                    for text in (b"unrecognized option '%s'" % word, theirs)]
+            self.expect_both(["md5sum", word, "a"], *said)
 
     def test_lengths(self):
         """GNU's tool takes blanks or a plus sign before the number, and reports a fault in other lines."""
@@ -106,8 +114,8 @@ class Messages(Described):
         """A second `-` is an empty file; GNU's tools read on, and report a fault again."""
         folder = os.open(self.path("d"), os.O_RDONLY)
         self.addCleanup(os.close, folder)
-        ours, theirs = ([f"md5sum: -: {fault}"] for fault in ("Input/output error", "Is a directory"))
-        self.expect_both("md5sum - -", (1, [f"{E}  -"], ours), (1, b"", theirs * 2), stdin=folder)
+        said = ["md5sum: -: Is a directory"]
+        self.expect_both("md5sum - -", (1, [f"{E}  -"], said), (1, b"", said * 2), stdin=folder)
         self.expect_alike("md5sum - -", 0, [f"{M}  -", f"{E}  -"], stdin=b"abc")
 
     def test_standard_input_twice_at_a_terminal(self):

@@ -1,9 +1,11 @@
 """One read of a run fails, by `strace`, and those after it would go on: the fault is never passed over."""
 
+import errno
 import hashlib
 import os
 
 from harness import E, M, Ran, as_bytes
+from reference import OTHER, REASONS
 from tracing import Traced, needs_strace
 
 PIECE = 8192  # the most bytes of a read
@@ -24,24 +26,25 @@ class FailedRead(Traced):
     def expect_each(self, name, words, outs, err, stdin=os.devnull):
         """Runs `digests` with these words once for each read of this file, which fails: with an error of the device,
         or as one that would have to wait. Both are no end of the file. Of `outs` each belongs to one read."""
-        for error in ("EIO", "EAGAIN"):
+        for number in (errno.EIO, errno.EAGAIN):
+            error, reason = errno.errorcode[number], REASONS.get(number, OTHER)
             for read, out in enumerate(outs, 1):
                 with open(self.path(stdin), "rb") as file:
                     only = os.fsdecode(self.path(name))
                     ran, _ = self.failing("read", error, words, only=only, when=str(read), stdin=file)
-                    self.assertEqual(ran, Ran(1, as_bytes(out), err), (words, error, read))
+                    self.assertEqual(ran, Ran(1, as_bytes(out), err % reason), (words, error, read))
 
     def test_hashing(self):
         """No digest comes of a part of the file."""
-        fault = b"md5sum: f: Input/output error\n"
+        fault = b"md5sum: f: %s\n"
         self.expect_each("f", "md5sum f a f", [[f"{M}  a", self.line]] * READS, fault)
-        self.expect_each("f", "md5sum", [b""] * READS, b"md5sum: -: Input/output error\n", stdin="f")
+        self.expect_each("f", "md5sum", [b""] * READS, b"md5sum: -: %s\n", stdin="f")
 
     def test_listed_file(self):
         """It isn't OK, though its digest is right."""
         self.write("l", [self.line, f"{M}  a", self.line])
         reports = ["f: FAILED open or read", "a: OK", "f: OK"]
-        self.expect_each("f", "md5sum -c l", [reports] * READS, b"md5sum: f: Input/output error\n" + LISTED)
+        self.expect_each("f", "md5sum -c l", [reports] * READS, b"md5sum: f: %s\n" + LISTED)
 
     def test_list(self):
         """What is whole before the fault is checked, and nothing after it."""
@@ -49,8 +52,8 @@ class FailedRead(Traced):
         lines = 2 * PIECE // len(line) + 1
         self.write("l", line * lines)
         outs = [["a: OK"] * min(read * PIECE // len(line), lines) for read in range(READS)]
-        self.expect_each("l", "md5sum -c l", outs, b"md5sum: l: Input/output error\n")
-        self.expect_each("l", "md5sum -c", outs, b"md5sum: standard input: Input/output error\n", stdin="l")
+        self.expect_each("l", "md5sum -c l", outs, b"md5sum: l: %s\n")
+        self.expect_each("l", "md5sum -c", outs, b"md5sum: standard input: %s\n", stdin="l")
 
     def expect_failure(self, words, stdin):
         """A run whose status is 0 has another one if one of its reads fails, whichever that is: of an operand, a list,

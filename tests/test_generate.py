@@ -1,12 +1,10 @@
-"""Lines that the tools write: digests of standard input and of files, the styles, and names that can't be read."""
+"""Lines that the tools write: digests of standard input and of files, the styles, and names that aren't there."""
 
 import hashlib
 import os
-import pwd
-import shutil
 
 import harness
-from harness import E, M, S, TOOLS, Case, Ran
+from harness import E, M, S, TOOLS, Case
 
 # A file's name that has each of the three special bytes' kinds, and how a line holds it.
 SPECIAL = "q\\\nz"
@@ -109,14 +107,7 @@ class Operands(Case):
         self.expect(["md5sum", SPECIAL, "a\rb"], err=err, status=1)
         self.expect(["md5sum", "-z", SPECIAL, "a\rb"], err=err, status=1)
 
-    def test_other_failures(self):
-        os.mkdir(self.path("d"))
-        err = ["md5sum: d: Input/output error"]
-        self.expect("md5sum d", err=err, status=1)
-        self.expect("md5sum a d e", out=[f"{M}  a", f"{E}  e"], err=err, status=1)
-        os.symlink("loop", self.path("loop"))
-        for name in ("a/", "a/x", "a/.", "loop", "n" * 300, "d/" * 3000):
-            self.expect(["md5sum", name], err=[f"md5sum: {name}: Input/output error"], status=1)
+    def test_links(self):
         os.symlink("a", self.path("good"))
         os.symlink("x", self.path("bad"))
         err = ["md5sum: bad: No such file or directory"]
@@ -136,31 +127,3 @@ class Operands(Case):
             pipe.write(b"bc")
         self.assertEqual(started.communicate(timeout=harness.RUN_SECONDS)[0], f"{M}  p\n".encode())
         self.assertEqual(started.returncode, 0)
-
-    def test_a_file_without_permission(self):
-        """Root may read everything, so there the program runs as the user nobody."""
-        how = {}
-        program = harness.PROGRAM
-        if os.getuid() == 0:
-            try:
-                nobody = pwd.getpwnam("nobody")
-            except KeyError:
-                self.skipTest("there is no user nobody")
-            how = {"user": nobody.pw_uid, "group": nobody.pw_gid, "extra_groups": []}
-            program = os.fsdecode(self.path("digests"))  # a copy: the program's own folder may be closed to others
-            shutil.copy(harness.PROGRAM, program)
-            os.chmod(program, 0o755)
-        self.write("f", "abc")
-        os.chmod(self.path("f"), 0)
-        os.mkdir(self.path("d"), 0)
-        self.addCleanup(os.chmod, self.path("d"), 0o700)
-        denied = ["md5sum: f: Permission denied", "md5sum: d/f: Permission denied"]
-        ran = self.run_command([program, "md5sum", "f", "a", "d/f"], **how)
-        self.assertEqual(ran, Ran(1, f"{M}  a\n".encode(), harness.as_bytes(denied)))
-        self.write("l", [f"{M}  f", f"{M}  a"])
-        ran = self.run_command([program, "md5sum", "-c", "--ignore-missing", "l"], **how)
-        err = [denied[0], "md5sum: WARNING: 1 listed file could not be read"]
-        self.assertEqual(ran, Ran(1, b"f: FAILED open or read\na: OK\n", harness.as_bytes(err)))
-        os.chmod(self.path("l"), 0)
-        ran = self.run_command([program, "md5sum", "-c", "l"], **how)
-        self.assertEqual(ran, Ran(1, b"", b"md5sum: l: Permission denied\n"))

@@ -2,6 +2,7 @@
 
 import os
 import random
+import socket
 
 import harness
 import reference
@@ -17,10 +18,14 @@ DAMAGE = [b"", b" ", b"  ", b"\t", b"\\", b"*", b"(", b")", b"=", b"#", b"\r", b
 
 WORDS = """-b -c -t -z -w -bz -cw -cq -zl -bl256 -l -l8 -l256 -é --length --length=8 --len --le --l --s --st --sta --str
     --t --te --ta --c --z --w --q --i --b --bin --v --ver --h --he --=x --foo --foo=1 --tag= --tag=1 --help=1 --\\ --
-    - 256 0 512 520 12 0256 +8 ٣ a e x folder manifest""".split()
+    - 256 0 512 520 12 0256 +8 ٣ a e x manifest""".split()
 WORDS += [f"--{name}" for name in reference_words.NAMES]
 WORDS += ["", "9" * 50, "0" * 30 + "8", "-b\n", "--a\nb", "q\\\nz"]
 WORDS += ["\udcff", "r\udce9\n", "-\udcff"]  # which aren't UTF-8
+
+# Names under which no file can be read.
+UNREADABLE = ["folder", "folder/", "folder/x", "loop", "loop/x", "a/", "a/x", "socket", "n" * 256, "./" * 2048 + "a"]
+WORDS += UNREADABLE
 
 
 class AtRandom(Case):
@@ -31,6 +36,9 @@ class AtRandom(Case):
         os.chdir(self.folder)
         self.addCleanup(os.chdir, harness.TOP)
         os.mkdir("folder")
+        os.symlink("loop", "loop")
+        with socket.socket(socket.AF_UNIX) as made:
+            made.bind("socket")
 
     def cases(self):
         """Makes each case its files. A case depends on its own seed alone, one more than that of the case before."""
@@ -48,10 +56,10 @@ class AtRandom(Case):
         return "".join(self.random.choices(CHARACTERS, k=self.random.randint(1, 5)))
 
     def a_name(self):
-        """The name of a file; now and then standard input, a folder, or a name that may not be there."""
+        """The name of a file; now and then standard input, one that can't be read, or one that may not be there."""
         if self.random.random() < 0.75:
             return self.random.choice(list(self.files))
-        return self.random.choice(["-", "folder", "x", self.a_text()])
+        return self.random.choice(["-", self.random.choice(UNREADABLE), "x", self.a_text()])
 
     def a_line(self, tool):
         """A line of a manifest, mostly right, in some style, and sometimes damaged."""
@@ -97,7 +105,7 @@ class AtRandom(Case):
             words += self.random.sample(["--ignore-missing", "--strict", "-w", "--quiet", "--status"],
                                         self.random.choice([0, 0, 1, 1, 2]))
             words += self.random.choice([["manifest"], ["manifest"], ["manifest"] * 2, [], ["-"],
-                                         ["folder", "manifest"], ["manifest", "x", "-"]])
+                                         [self.random.choice(UNREADABLE), "manifest"], ["manifest", "x", "-"]])
             self.compare(self.random.choice(list(reference.ALGORITHMS)), words)
 
     def test_words(self):

@@ -3,7 +3,6 @@ well and in which it isn't. Its status is 0 only if all that it is for was done.
 
 import hashlib
 import os
-import pwd
 import re
 import shutil
 
@@ -297,13 +296,8 @@ class Recipes(Typed):
 
     def test_a_folder_that_may_not_be_read(self):
         """No list is made, and nothing passes for unlisted."""
-        how = {}
-        if os.getuid() == 0:  # who may read everything
-            try:
-                nobody = pwd.getpwnam("nobody")
-            except KeyError:
-                self.skipTest("there is no user nobody")
-            how = {"user": nobody.pw_uid, "group": nobody.pw_gid, "extra_groups": []}
+        how = self.nobody()
+        if how:
             for name in NAMES:
                 os.remove(self.path(f"commands/{name}"))
                 os.symlink("a copy", self.path(f"commands/{name}"))
@@ -316,7 +310,7 @@ class Recipes(Typed):
                 self.put("SUMS", "".join(f"0  {name}\n" for name in GOOD))
             os.chmod(self.path("here/shut"), 0)
             for name in ("here", "temporary") if how else ():
-                os.chown(self.path(name), nobody.pw_uid, nobody.pw_gid)
+                os.chown(self.path(name), how["user"], how["group"])
             ran = self.type(recipe, shell, **how)
             self.assertEqual((ran.status, ran.out), (1, b""), recipe)
             self.assertRegex(ran.err, rb"\Afind: [^\n]*\./shut[^\n]*: Permission denied\n\Z")

@@ -108,10 +108,10 @@ class SideBySide(Case):
     def test_longest_lines_into_one_file(self):
         """A line of 8,192 bytes is one write, which a file that is appended to takes as a whole. A name of that length
         can't be opened, so the line says that."""
-        rest = b"md5sum: : Input/output error\n"
+        rest = b"md5sum: : File name too long\n"
         names = [b"%d" % run + b"x" * (8192 - len(rest) - 1) for run in range(8)]
         with open(self.path("said"), "ab") as said:
             started = [self.start(["md5sum", *[os.fsdecode(name)] * 10], stderr=said) for name in names]
         self.assertEqual([one.wait(timeout=harness.RUN_SECONDS) for one in started], [1] * 8)
-        wanted = sorted(10 * [b"md5sum: " + name + b": Input/output error" for name in names])
+        wanted = sorted(10 * [b"md5sum: " + name + b": File name too long" for name in names])
         self.assertTrue(sorted(self.read("said").splitlines()) == wanted, "lines are torn")

@@ -6,6 +6,7 @@ import errno
 import functools
 import os
 import pty
+import pwd
 import resource
 import select
 import shutil
@@ -164,6 +165,16 @@ class Case(unittest.TestCase):
         started = subprocess.Popen([PROGRAM, *as_words(words)], cwd=folder or self.folder, **how)
         self.addCleanup(end, started)
         return started
+
+    def nobody(self):
+        """How a command is run by somebody who may not read everything: for root, as the user nobody."""
+        if os.getuid() != 0:
+            return {}
+        try:
+            nobody = pwd.getpwnam("nobody")
+        except KeyError:
+            self.skipTest("there is no user nobody")
+        return {"user": nobody.pw_uid, "group": nobody.pw_gid, "extra_groups": []}
 
     def full(self):
         """The device that has no room for a single byte, opened for writing."""

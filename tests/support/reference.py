@@ -18,8 +18,22 @@ ALGORITHMS["anysum"] = (None, 0)
 SIZES = {tag: size for tag, size in ALGORITHMS.values() if tag}
 
 NOT_FOUND = b"No such file or directory"
-DENIED = b"Permission denied"
 OTHER = b"Input/output error"
+
+# The reasons that have a text of their own.
+REASONS = {
+    errno.ENOENT: NOT_FOUND,
+    errno.EACCES: b"Permission denied",
+    errno.EPERM: b"Permission denied",
+    errno.EISDIR: b"Is a directory",
+    errno.ENOTDIR: b"Not a directory",
+    errno.ELOOP: b"Too many levels of symbolic links",
+    errno.ENAMETOOLONG: b"File name too long",
+    errno.EAGAIN: b"Resource temporarily unavailable",
+    errno.ESTALE: b"Stale file handle",
+    errno.ENXIO: b"No such device or address",
+    errno.EBADF: b"Bad file descriptor",
+}
 
 
 # Digests, names and lines
@@ -134,8 +148,7 @@ class Fault:
 
     @staticmethod
     def of(error, in_opening):
-        texts = {errno.ENOENT: NOT_FOUND, errno.EACCES: DENIED, errno.EPERM: DENIED}
-        return Fault(texts.get(error.errno, OTHER), in_opening)
+        return Fault(REASONS.get(error.errno, OTHER), in_opening)
 
 
 class World:

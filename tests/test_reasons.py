@@ -1,0 +1,106 @@
+"""Why a file can't be read: the reason that the system gives, wherever the file is named, as GNU's md5sum tells it. And
+only what isn't there is missing."""
+
+import errno
+import os
+import pty
+import shutil
+import stat
+import subprocess
+
+import harness
+from harness import M, Case, Ran, as_bytes, gnu
+from reference import OTHER, REASONS
+from tracing import needs_strace, strace
+
+# Names under which no file can be read, and why; and what the system may say besides.
+NAMES = {"d": errno.EISDIR, "d/": errno.EISDIR, "a/": errno.ENOTDIR, "a/.": errno.ENOTDIR, "a/x": errno.ENOTDIR,
+         "loop": errno.ELOOP, "loop/x": errno.ELOOP, "n" * 300: errno.ENAMETOOLONG, "d/" * 3000: errno.ENAMETOOLONG,
+         "s": errno.ENXIO, "shut": errno.EACCES, "closed/x": errno.EACCES, "x": errno.ENOENT, "d/x": errno.ENOENT}
+OTHERS = (errno.EIO, errno.EMFILE, errno.ENODEV, errno.ETIMEDOUT)
+
+
+class Reasons(Case):
+    """A folder of such names. For root, tools run as a user who may not read everything."""
+
+    def setUp(self):
+        super().setUp()
+        for name, mode in (("d", 0o755), ("closed", 0)):
+            os.mkdir(self.path(name), mode)
+        self.addCleanup(os.chmod, self.path("closed"), 0o700)
+        os.symlink("loop", self.path("loop"))
+        os.mknod(self.path("s"), stat.S_IFSOCK | 0o644)
+        self.write("shut", "abc")
+        os.chmod(self.path("shut"), 0)
+        shutil.copy(harness.PROGRAM, self.path("md5sum"))  # its own folder may be closed to others
+        os.chmod(self.path("md5sum"), 0o755)
+        self.tools = [self.folder] + ([os.path.dirname(gnu("md5sum"))] if gnu("md5sum") else [])
+
+    def run_tool(self, folder, words, front=(), **how):
+        """Runs the md5sum of this folder, by what stands in front."""
+        env = {**os.environ, "PATH": folder}
+        return self.run_command([*front, "md5sum", *words.split(" ")], env=env, **how)
+
+    def expect_each(self, name, reason, missing=False, opened=False, alike=True, last=b"", **how):
+        """Names what can't be read as an operand, a list and a listed file, with the settings that could hide it. Where
+        both tools are `alike`, theirs says the same, and this line at its `last`; but of a list that could be `opened`
+        it says `read error`."""
+        reason = reason.decode()
+        fault, unread = f"md5sum: {name}: {reason}", "md5sum: WARNING: 1 listed file could not be read"
+        of_list = fault.replace("md5sum: -:", "md5sum: standard input:")
+        reports = [f"{name}: FAILED open or read", "a: OK"]
+        self.write("l", [f"{M}  {name}", f"{M}  a"])
+        for words, status, out, err in (
+                (f"{name} a", 1, [f"{M}  a"], [fault]), (f"-c {name}", 1, [], [of_list]),
+                (f"-c --status --ignore-missing {name}", 1, [], [of_list]), ("-c l", 1, reports, [fault, unread]),
+                ("-c --status l", 1, [], [fault]),
+                ("-c --ignore-missing l", *((0, ["a: OK"], []) if missing else (1, reports, [fault, unread])))):
+            wanted = Ran(status, as_bytes(out), as_bytes(err))
+            ours, *theirs = (self.run_tool(folder, words, **how) for folder in self.tools[:1 + alike])
+            self.assertEqual(ours, wanted, words)
+            if theirs and (words.endswith((" a", " l")) or not opened):
+                self.assertEqual(theirs, [wanted._replace(err=wanted.err + last)], words)
+
+    def test_names(self):
+        for name, number in NAMES.items():
+            missing, opened = number == errno.ENOENT, number == errno.EISDIR
+            self.expect_each(name, REASONS[number], missing, opened, **self.nobody())
+
+    def test_a_folder_of_them(self):
+        """A directory, a loop, a socket and a file without permission give GNU's four lines."""
+        err = ["md5sum: d: Is a directory", "md5sum: loop: Too many levels of symbolic links",
+               "md5sum: s: No such device or address", "md5sum: shut: Permission denied"]
+        for folder in self.tools:
+            ran = self.run_tool(folder, "d loop s shut", **self.nobody())
+            self.assertEqual(ran, Ran(1, b"", as_bytes(err)))
+
+    def test_standard_input(self):
+        """A directory, a file that is open for writing alone, a pipe and a terminal that have nothing yet and don't
+        wait, a terminal whose other side is closed, and nothing."""
+        pipe, feed = os.pipe()
+        shows, terminal = pty.openpty()
+        folder, written = os.open(self.folder, os.O_RDONLY), os.open(self.path("w"), os.O_WRONLY | os.O_CREAT)
+        for opened in (pipe, feed, shows, terminal, folder, written):
+            os.set_blocking(opened, False)
+            self.addCleanup(os.close, opened)
+        for stdin, reason in ((folder, REASONS[errno.EISDIR]), (written, REASONS[errno.EBADF]),
+                              (pipe, REASONS[errno.EAGAIN]), (terminal, REASONS[errno.EAGAIN]),
+                              (self.broken_input(""), OTHER)):
+            self.expect_each("-", reason, opened=True, stdin=stdin)
+        reason = REASONS[errno.EBADF]
+        self.expect_each("-", reason, opened=True, last=b"md5sum: standard input: %s\n" % reason,
+                         stdin=subprocess.DEVNULL, preexec_fn=lambda: os.close(0))
+
+    @needs_strace
+    def test_calls_that_fail(self):
+        """Whatever the system says of an opening or a read. What has no text of its own is an input/output error, where
+        GNU's tool names each."""
+        path = os.fsdecode(self.path("f"))
+        self.write("f", "abc")
+        for number in (*REASONS, *OTHERS):
+            for call in ("openat", "read"):
+                front = [strace(), "-qq", "-o", os.devnull, "-P", path, "-e", f"trace={call}", "-e",
+                         f"inject={call}:error={errno.errorcode[number]}"]
+                reason, opened = REASONS.get(number, OTHER), call == "read"
+                self.expect_each(path, reason, missing=number == errno.ENOENT and not opened, opened=opened,
+                                 alike=reason.decode() == os.strerror(number), front=front)
