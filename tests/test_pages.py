@@ -9,6 +9,7 @@ import harness
 from harness import TOP, Case, Ran
 from options import takes
 from recipes import NAMES, TOOLS, path_of, sections_of
+from reference import REASONS
 
 
 class Pages(Case):
@@ -51,21 +52,25 @@ class Said(Case):
     """What the program says on standard error is in the DIAGNOSTICS of its page."""
 
     def marks(self):
-        """What a line may be, as patterns: names in capitals are names of others."""
-        marks = re.findall(r"(?m)^\.TP\n(.*)$", sections_of("digests")["DIAGNOSTICS"])
-        return [re.sub(r"\b(?:TOOL|FILE|NAME|N|TAG)\b", ".*", re.escape(mark)) for mark in marks]
+        """What a line may be, as patterns: names in capitals are names of others, but for a reason, which is named."""
+        page = sections_of("digests")["DIAGNOSTICS"]
+        marks = [re.sub(r"\b(?:TOOL|FILE|NAME|N|TAG)\b", ".*", re.escape(mark))
+                 for mark in re.findall(r"(?m)^\.TP\n(.*)$", page)]
+        for reason in map(bytes.decode, REASONS.values()):
+            self.assertIn(reason, page.replace("\n", " "))
+        return [mark.replace("REASON", f"(?:{b'|'.join(REASONS.values()).decode()})") for mark in marks]
 
     def said_by(self, tool):
         """Lines for each diagnostic that can be had without refusing memory or permission."""
         tag, digits, _ = harness.TOOLS[tool]
         self.write("list", f"bad\n{tag} (x) = {digits}\n")
         self.write("missing", f"{tag} (x) = {digits}\n")
-        runs = [["x"], ["/"], ["-c", "-w", "list"], ["-c", "e"], ["-c", "--ignore-missing", "missing"], ["--other"]]
+        runs = [["x"], [b"\xff"], ["-c", "-w", "list"], ["-c", "e"], ["-c", "--ignore-missing", "missing"], ["--other"]]
         said = b"".join(self.run_words([tool, *words]).err for words in runs)
-        said += self.run_words(["other"]).err + self.run_words([tool, b"-\xff"]).err
+        said += self.run_words(["other"]).err
         with self.full() as full:
             said += self.run_words([tool, "a"], stdout=full).err
-        return [line for line in said.decode().splitlines()
+        return [line for line in said.decode(errors="replace").splitlines()
                 if not line.startswith("Try '") and "WARNING: 1 line is" not in line]
 
     def test_each(self):
@@ -77,7 +82,7 @@ class Said(Case):
                 found.update(fitting)
             missing = [mark for mark in self.marks() if mark not in found]
             self.assertEqual([re.sub(r"\W", "", mark) for mark in missing],
-                             ["Permissiondenied", "memoryexhausted", "thismachinelacksafeatureofx8664v3"])
+                             ["memoryexhausted", "digestswordsnotread", "thismachinelacksafeatureofx8664v3"])
 
 
 class Made(Case):

@@ -25,6 +25,7 @@ SORTS = {
     "check list on all": r"\bsplit ",
     "check one": r"^grep ",
     "unlisted": r"^comm ",
+    "not UTF-8": r" sed -nz ",
 }
 
 # What the recipes, and the script in the place of `pv`, call besides a tool: without one of these no recipe is typed.
@@ -190,6 +191,8 @@ class Recipes(Typed):
         for recipe, _, shell in self.each("list", "list on all"):
             self.assertNotEqual(self.fails(recipe, shell).err, b"")
             self.assertEqual(self.read("here/SUMS"), before)
+        ran = self.fails(self.recipe("not UTF-8"))
+        self.assertEqual((sorted(ran.out.splitlines()), ran.err), (sorted(b"\n".join(BAD).splitlines()), b""))
         for recipe, sort, shell in self.each("check list", "check list on all", "check one"):
             self.passes(recipe, self.report(sort, "OK"), shell)
         self.make()
@@ -202,10 +205,10 @@ class Recipes(Typed):
         self.assertEqual((ran.status, ran.out.splitlines(), ran.err), (1, wanted, b""))
 
     def test_nothing_there(self):
-        """Nothing passes in an empty tree, nor a check of an empty list."""
-        for recipe, _, shell in self.each():
+        """Nothing passes in an empty tree but that its names are UTF-8, nor a check of an empty list."""
+        for recipe, sort, shell in self.each():
             self.make(good=False)
-            self.fails(recipe, shell)
+            (self.passes if sort == "not UTF-8" else self.fails)(recipe, shell=shell)
         self.make()
         for name in ("SUMS", "image.sum"):
             self.put(name, "")
@@ -282,11 +285,12 @@ class Recipes(Typed):
                 ("pv", "head -c 1000 image.iso; exit 1", "write by pv"),
                 ("tee", "head -c 1000; exit 1", "write at once"),
                 ("sed", "cat; exit 1", "write at once"),
-                ("find", find, *lists, "unlisted"),
+                ("find", find, *lists, "unlisted", "not UTF-8"),
                 ("find", "printf './x\\0'", "list on all"),
                 ("xargs", "exit 123", "list on all"),
                 ("mktemp", "exit 1", *lists, *images, "unlisted"),
-                *((command, "exit 1", "unlisted") for command in ("sed", "tr", "sort", "comm"))):
+                *((command, "exit 1", "unlisted") for command in ("sort", "comm")),
+                *((command, "exit 1", "unlisted", "not UTF-8") for command in ("sed", "tr"))):
             self.expect_failures(sorts, command, script)
         self.make()
         self.command("pv", "cat image.iso")
@@ -295,7 +299,7 @@ class Recipes(Typed):
         self.fails(self.recipe("check by pv"))
 
     def test_a_folder_that_may_not_be_read(self):
-        """No list is made, and nothing passes for unlisted."""
+        """No list is made, and nothing passes for listed or for UTF-8."""
         how = self.nobody()
         if how:
             for name in NAMES:
@@ -304,7 +308,7 @@ class Recipes(Typed):
             shutil.copy(harness.PROGRAM, self.path("commands/a copy"))  # its own folder may be closed to others
         os.mkdir(self.path("temporary"))
         self.env["TMPDIR"] = os.fsdecode(self.path("temporary"))
-        for recipe, sort, shell in self.each("list", "list on all", "unlisted"):
+        for recipe, sort, shell in self.each("list", "list on all", "unlisted", "not UTF-8"):
             self.make(more=["shut/more", b"shut/bad\xff"])
             if sort == "unlisted":
                 self.put("SUMS", "".join(f"0  {name}\n" for name in GOOD))

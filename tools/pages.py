@@ -18,7 +18,7 @@ from roff import WIDTH, bullet, inline, item, page, section, shown  # noqa: E402
 HERE = os.path.dirname(os.path.abspath(__file__))
 TOP = os.path.dirname(HERE)
 PROGRAM = os.path.join(TOP, "digests")  # builds what is stale
-DATE = "2026-11-26"  # of the last change of the texts
+DATE = "2026-11-27"  # of the last change of the texts
 FEWER = ", or fewer with `--length`"
 
 
