@@ -91,14 +91,6 @@ class Outputs(Case):
             self.expect("md5sum -c l", err=["md5sum: write error"], status=1, stdout=file, **how)
         self.assertEqual(self.read("limited"), reports[:100001])
 
-    def test_a_reader_that_goes_away(self):
-        self.write("l", [f"{M}  a"] * 50000)
-        started = self.start("md5sum -c l", stdout=subprocess.PIPE, stderr=subprocess.PIPE, restore_signals=False)
-        self.assertEqual(started.stdout.read(10), b"a: OK\na: O")
-        started.stdout.close()
-        self.assertEqual(started.stderr.read(), b"md5sum: write error\n")
-        self.assertEqual(started.wait(timeout=harness.RUN_SECONDS), 1)
-
 
 class Sizes(Case):
     """Manifests of many lines and of very long ones. The bounds on memory are wide: they tell a program that keeps

@@ -64,11 +64,6 @@ class ClosedInput(Closing):
             self.assertEqual(ran, Ran(1, b"-: FAILED open or read\n", as_bytes([FAULT, ONE_UNREAD])))
 
     def test_listed_among_others(self):
-        self.write("l", [f"{M}  a", f"{E}  -", f"{E}  e"])
-        self.write("l2", [f"{M}  a"])
-        out = ["a: OK", "-: FAILED open or read", "e: OK", "a: OK"]
-        self.assertEqual(self.closed("md5sum -c l l2", 0), Ran(1, as_bytes(out), as_bytes([FAULT, ONE_UNREAD])))
-        self.assertEqual(self.closed("md5sum -c l2", 0), Ran(0, b"a: OK\n", b""))
         nothing = TOOLS["sha256sum"][1]
         self.write("l", [f"SHA256 (-) = {nothing}", f"SHA256 (a) = {S}", f"MD5 (a) = {M}"])
         ran = self.closed("anysum -c l", 0)
@@ -76,20 +71,9 @@ class ClosedInput(Closing):
         self.assertEqual(ran, Ran(1, as_bytes(["-: FAILED open or read", "a: OK", "a: OK"]), as_bytes(err)))
 
 
-class NoRootFolder(Traced):
-    """Standard input is closed, and the root folder can't be opened: nothing may depend on its being readable."""
-
-    @needs_strace
-    def test_refused(self):
-        """If the system refuses to open the root folder: never `OK`."""
-        for manifest in hostile_manifests():
-            self.write("l", manifest)
-            options = "-P / -e trace=openat -e inject=openat:error=EACCES"
-            ran, _ = self.traced(options, "md5sum -c l", preexec_fn=lambda: os.close(0))
-            self.assertEqual(ran, Ran(1, b"-: FAILED open or read\n", as_bytes([FAULT, ONE_UNREAD])))
-
-    @needs_strace
-    def test_nothing_is_opened_in_its_place(self):
+@needs_strace
+class NothingInItsPlace(Traced):
+    def test_nothing_is_opened(self):
         """The first file that is opened is the manifest, and it is opened once."""
         self.write("l", [f"{M}  a"])
         ran, calls = self.traced("-e trace=openat,open", "md5sum -c l", preexec_fn=lambda: os.close(0))

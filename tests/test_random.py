@@ -12,20 +12,19 @@ from harness import Case
 # What names are made of: whatever lines, escapes and words treat in a way of their own.
 CHARACTERS = ["a", "b", "n", "r", "0", "f", "é", " ", "\t", "*", "\\", "\n", "\r", "(", ")", "=", "#", "-"]
 
+# Names under which no file can be read.
+UNREADABLE = ["folder", "folder/", "folder/x", "loop", "loop/x", "a/", "a/x", "socket", "n" * 256, "./" * 2048 + "a"]
+
 # What is put into lines in place of a few of their bytes.
 DAMAGE = [b"", b" ", b"  ", b"\t", b"\\", b"*", b"(", b")", b"=", b"#", b"\r", b"\r\r", b"\0", b"\xff", b"n", b"0",
           b"8", b"F", b"-", b"BLAKE2b-", b"MD5", b"SHA1"]
 
 WORDS = """-b -c -t -z -w -bz -cw -cq -zl -bl256 -l -l8 -l256 -é --length --length=8 --len --le --l --s --st --sta --str
     --t --te --ta --c --z --w --q --i --b --bin --v --ver --h --he --=x --foo --foo=1 --tag= --tag=1 --help=1 --\\ --
-    - 256 0 512 520 12 0256 +8 ٣ a e x manifest""".split()
+    - 256 0 512 520 12 0256 +8 ٣ a e x folder manifest""".split()
 WORDS += [f"--{name}" for name in reference_words.NAMES]
 WORDS += ["", "9" * 50, "0" * 30 + "8", "-b\n", "--a\nb", "q\\\nz"]
 WORDS += ["\udcff", "r\udce9\n", "-\udcff"]  # which aren't UTF-8
-
-# Names under which no file can be read.
-UNREADABLE = ["folder", "folder/", "folder/x", "loop", "loop/x", "a/", "a/x", "socket", "n" * 256, "./" * 2048 + "a"]
-WORDS += UNREADABLE
 
 
 class AtRandom(Case):
@@ -110,5 +109,5 @@ class AtRandom(Case):
 
     def test_words(self):
         for _ in self.cases():
-            words = self.random.choices(WORDS, k=self.random.randrange(6))
+            words = self.random.choices(WORDS + UNREADABLE, k=self.random.randrange(6))
             self.compare(self.random.choice(list(reference.ALGORITHMS)), words)
