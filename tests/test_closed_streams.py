@@ -75,9 +75,9 @@ class ClosedInput(Closing):
 class NothingInItsPlace(Traced):
     def test_nothing_is_opened(self):
         """The first file that is opened is the manifest, and it is opened once."""
-        self.write("l", [f"{M}  a"])
+        self.write("l", [f"{M}  a", f"{E}  -"])
         ran, calls = self.traced("-e trace=openat,open", "md5sum -c l", preexec_fn=lambda: os.close(0))
-        self.assertEqual(ran, Ran(0, b"a: OK\n", b""))
+        self.assertEqual(ran, Ran(1, b"a: OK\n-: FAILED open or read\n", as_bytes([FAULT, ONE_UNREAD])))
         opened = [call.split('"')[1] for call in calls]
         own = [name for name in opened if not name.startswith(("/etc/", "/lib", "/usr/"))]
         self.assertEqual(own, ["l", "a"])
