@@ -1,17 +1,15 @@
 -- The reading of the arguments, one after another, gives the command line.
-use Rattle.std.proofs.Common.{rules, ℕ, ◌≡◌, ◌+◌, ◌-◌, ◌<◌, ◌≤◌, true, false, not, ◌==◌, zero, suc, List, [], ◌∷◌, length, drop, Some, None, refl, ap, sym, ◌∙◌, arith, inr, add-one, slice_get, Option, ◌++◌, Any, IsSomeAnd}
+use Rattle.std.proofs.Common.{ℕ, ◌≡◌, ◌+◌, ◌-◌, ◌<◌, ◌≤◌, not, ◌==◌, zero, suc, List, [], ◌∷◌, length, drop, Some, None, refl, ap, sym, ◌∙◌, arith, inr, add-one, slice_get, Option, ◌++◌, Any, IsSomeAnd}
 use Rattle.std.proofs.lemmas.List.Sums.{suffix_len_is}
 use Rattle.std.proofs.lemmas.Bool.{not_from_false, not_from_true, false_from_ne_true}
 use Rattle.std.specs.List.{suffix_len}
 use Rattle.std.proofs.lemmas.Option.{slice_get_within, get_or_from_slice_get, IfSome_then}
 use Rattle.std.proofs.Math.Seq.{drop-cons}
 use Rattle.std.proofs.lemmas.List.{append-nil, append_assoc}
-use Rattle.std.proofs.lemmas.List.Folds.{list_all-append}
-use Rattle.sum_words.specs.Tools.{Tool, tool_called}
-use Rattle.sum_words.specs.Items.{ByteString, is_readable}
+use Rattle.sum_words.specs.Items.{ByteString}
 use Rattle.memchr.specs.Find.{Passes, Nowhere, is_byte}
 use Rattle.sum_words.specs.CommandLines.{last_part}
-use Rattle.sum_words.specs.refinement.Arguments.{ArgumentIs, IsFirstWord, WordsUpTo, WordsAre, HasArgument, IsLonger, MayBeUnread}
+use Rattle.sum_words.specs.refinement.Arguments.{ArgumentIs, WordsUpTo, WordsAre, HasArgument, IsLonger, MayBeUnread}
 
 -- ---- the last part of a path
 
@@ -47,16 +45,6 @@ pub has_argument : (known : Option (List ByteString)) (first place : ℕ) (word 
 has_argument known first place word h le =
     IfSome_then known h (λ all at. omega (arith, slice_get_within all place word at, le))
 
--- the tool by the first word
-pub is_first_word : (known : Option (List ByteString)) (word : ByteString) (tool : Option Tool)
-    → ArgumentIs known 1 (Some word) → true ≡ is_readable word → tool ≡ tool_called word → IsFirstWord known tool
-is_first_word = search rules
-
--- the first word, which can't be read
-pub unreadable_first_word : (known : Option (List ByteString)) (word : ByteString)
-    → ArgumentIs known 1 (Some word) → false ≡ is_readable word → MayBeUnread known
-unreadable_first_word = search rules
-
 -- a long argument is one of them
 longer : (all : List ByteString) (place : ℕ) → IsSomeAnd (slice_get all place) (λ a. 4096 < length a)
     → Any (λ a. 4096 < length a) all
@@ -68,30 +56,24 @@ longer (a ∷ all) (suc place) h =
 
 pub longer_unread : (known : Option (List ByteString)) (place : ℕ) → IsLonger known place 4096 → MayBeUnread known
 longer_unread None place h = tt
-longer_unread (Some all) place h = inr (inr (longer all place h))
-
--- the lemmas of the reading of the first word
-pub ruleset first_word_steps = (is_first_word, unreadable_first_word, longer_unread)
+longer_unread (Some all) place h = inr (longer all place h)
 
 -- ---- the words, one after another
 
 -- one more word was read
 pub words_more : (known : Option (List ByteString)) (first place : ℕ) (words : List ByteString) (word : ByteString)
-    → WordsUpTo known first place words → ArgumentIs known place (Some word) → true ≡ is_readable word
+    → WordsUpTo known first place words → ArgumentIs known place (Some word)
     → WordsUpTo known first (place + 1) (words ++ word ∷ [])
-words_more None first place words word w h reads = tt
-words_more (Some all) first place words word w h reads =
-    let next : drop place all ≡ word ∷ drop (place + 1) all = drop_at_some all place h in (
-      w.0 ∙ rw (next, ← append_assoc words (word ∷ []) (drop (place + 1) all)) refl,
-      rw (list_all-append is_readable words (word ∷ []), w.1, ← reads) refl,
-    )
+words_more None first place words word w h = tt
+words_more (Some all) first place words word w h =
+    w ∙ rw (drop_at_some all place h, ← append_assoc words (word ∷ []) (drop (place + 1) all)) refl
 
 -- all words were read
 pub words_all : (known : Option (List ByteString)) (first place : ℕ) (words : List ByteString)
     → WordsUpTo known first place words → ArgumentIs known place None → WordsAre known first words
 words_all None first place words w h = tt
 words_all (Some all) first place words w h =
-    (sym (w.0 ∙ ap (λ l. words ++ l) (drop_at_none all place h) ∙ append-nil words), w.1)
+    sym (w ∙ ap (λ l. words ++ l) (drop_at_none all place h) ∙ append-nil words)
 
 -- the lemmas of the reading of the words
 pub ruleset word_steps = (has_argument, words_more, words_all)

@@ -1,5 +1,5 @@
 -- Worked command lines: what the definitions give for each, computed.
-use Rattle.std.proofs.Common.{rules, ◌≡◌, ◌==◌, ◌≤◌, ◌<◌, List, ℕ, [], ◌∷◌, Result, Ok, Err, Some, None, refl, codes, true, false, length, arith, Any as SomeOne}
+use Rattle.std.proofs.Common.{rules, ◌≡◌, ◌==◌, ◌≤◌, ◌<◌, List, ℕ, [], ◌∷◌, Result, Ok, Err, refl, codes, true, false, length, arith, Any as SomeOne}
 use Rattle.std.proofs.lemmas.Grind.{common_steps}
 use Rattle.std.specs.List.{AllByRecursion, slice_split}
 use Rattle.std.specs.Str.{byte, chars, is_utf8}
@@ -11,8 +11,8 @@ use Rattle.sum_words.specs.Request.{Mode, Request, Generate, Check, Help, Versio
 use Rattle.sum_words.specs.Items.{Long, Short, ByteString, name_or_fault, option_of_letter}
 use Rattle.sum_words.specs.Tools.{tool_called}
 use Rattle.sum_words.specs.declared.tool.Tool.TheVariants.{Md5sum, Sha256sum, B2sum, Anysum}
-use Rattle.sum_words.specs.WordFaults.{WordFaultValue, unknown_long, ambiguous_long, value_not_allowed, value_missing, unknown_short, length_invalid, length_not_bytes, tag_with_text, zero_with_check, tag_with_check, mode_with_check, ignore_without_check, status_without_check, warn_without_check, quiet_without_check, strict_without_check, check_needed}
-use Rattle.sum_words.specs.CommandLines.{unknown_tool, invoke, command_line, NeedsMemory, MayNotRead}
+use Rattle.sum_words.specs.WordFaults.{WordFaultValue, unknown_long, ambiguous_long, value_not_allowed, value_missing, unknown_short, length_invalid, length_not_bytes, tag_with_text, zero_with_check, tag_with_check, mode_with_check, ignore_without_check, status_without_check, warn_without_check, quiet_without_check, strict_without_check, check_needed, not_text}
+use Rattle.sum_words.specs.CommandLines.{unknown_tool, invoke, command_line, NeedsMemory}
 use Rattle.sum_lines.specs.declared.writing.put_line.Mode.TheVariants as modes
 use Rattle.sum_engine.specs.declared.settings.Report.TheVariants as reports
 
@@ -46,7 +46,7 @@ lengths :
     × (request B2sum (words "-l 99999999999999999999999999999999999999999999999999 e")
     ≡ Err (length_invalid (codes "99999999999999999999999999999999999999999999999999")))
     × (request B2sum (words "-l 0000000000000000000000000000008 e") ≡ generates Blake2b 1 modes.Text (words "e"))
-unfolding chars encode name_or_fault option_of_letter
+unfolding chars encode name_or_fault option_of_letter is_utf8
 lengths = (refl, refl, refl, refl, refl, refl, refl, refl, refl, refl, refl, refl, refl, refl, refl, refl, refl, refl)
 
 -- options, abbreviated ones among them, and their faults
@@ -66,7 +66,7 @@ options :
     × (request Md5sum (words "--help=1") ≡ Err (value_not_allowed (codes "help")))
     × (request Sha256sum (words "-- -b") ≡ generates Sha256 32 modes.Text (words "-b"))
     × (request Md5sum (words "--version a") ≡ Ok Version)
-unfolding chars encode name_or_fault option_of_letter
+unfolding chars encode name_or_fault option_of_letter is_utf8
 options = (refl, refl, refl, refl, refl, refl, refl, refl, refl, refl, refl, refl, refl, refl, refl)
 
 -- which of several options or faults counts
@@ -81,7 +81,7 @@ order :
     × (request Md5sum (words "--quiet -w --status a") ≡ Err status_without_check)
     × (request Md5sum (words "--status -w a") ≡ Err warn_without_check)
     × (request Md5sum (words "-c -t --tag -t l") ≡ Err tag_with_text)
-unfolding chars encode name_or_fault option_of_letter
+unfolding chars encode name_or_fault option_of_letter is_utf8
 order = (refl, refl, refl, refl, refl, refl, refl, refl, refl, refl)
 
 -- what anysum is asked, and what is checked, and how
@@ -97,7 +97,7 @@ checking :
     (record { algo = Any; report = reports.Warn; strict = true; ignore_missing = false }) (words "m n")))
     × (request B2sum (words "-c -l 8 --status --quiet --ignore-missing - l") ≡ Ok (Check
     (record { algo = One Blake2b; report = reports.Quiet; strict = false; ignore_missing = true }) (words "- l")))
-unfolding chars encode name_or_fault option_of_letter
+unfolding chars encode name_or_fault option_of_letter is_utf8
 checking = (refl, refl, refl, refl, refl, refl, refl, refl, refl)
 
 -- words of any bytes
@@ -105,11 +105,16 @@ odd_words :
     (request Md5sum (codes "a" ∷ (233 ∷ []) ∷ codes "--" ∷ (255 ∷ []) ∷ [])
     ≡ generates Md5 16 modes.Text (codes "a" ∷ (233 ∷ []) ∷ (255 ∷ []) ∷ []))
     × (request B2sum (codes "-l" ∷ (255 ∷ []) ∷ []) ≡ Err (length_invalid (255 ∷ [])))
-    × (command_line (codes "digests" ∷ codes "md5sum" ∷ (233 ∷ []) ∷ []) ≡ Some (invoke Md5sum ((233 ∷ []) ∷ [])))
-    × (command_line (codes "md5sum" ∷ codes "a" ∷ (45 ∷ 255 ∷ []) ∷ []) ≡ None)
-    × (command_line (codes "digests" ∷ (255 ∷ []) ∷ []) ≡ Some unknown_tool)
+    × (request B2sum (codes "-l" ∷ (45 ∷ 255 ∷ []) ∷ []) ≡ Err (length_invalid (45 ∷ 255 ∷ [])))
+    × (request Md5sum (codes "a" ∷ (45 ∷ 255 ∷ []) ∷ codes "--help" ∷ []) ≡ Err (not_text (45 ∷ 255 ∷ [])))
+    × (request Md5sum (codes "--help" ∷ (45 ∷ 255 ∷ []) ∷ []) ≡ Ok Help)
+    × (request B2sum ((45 ∷ 108 ∷ 252 ∷ []) ∷ []) ≡ Err (not_text (45 ∷ 108 ∷ 252 ∷ [])))
+    × (request Md5sum (codes "--" ∷ (45 ∷ 255 ∷ []) ∷ []) ≡ generates Md5 16 modes.Text ((45 ∷ 255 ∷ []) ∷ []))
+    × (command_line (codes "digests" ∷ codes "md5sum" ∷ (45 ∷ 233 ∷ []) ∷ []) ≡ invoke Md5sum ((45 ∷ 233 ∷ []) ∷ []))
+    × (command_line (codes "digests" ∷ (255 ∷ []) ∷ []) ≡ unknown_tool)
+    × (command_line (codes "digests" ∷ (45 ∷ 255 ∷ []) ∷ codes "a" ∷ []) ≡ unknown_tool)
 unfolding chars encode name_or_fault option_of_letter tool_called is_utf8
-odd_words = (refl, refl, refl, refl, refl)
+odd_words = (refl, refl, refl, refl, refl, refl, refl, refl, refl, refl)
 
 -- no argument of these is longer than the page
 not_longer : (all : List ByteString) → AllByRecursion (λ a. length a ≤ 4096) all → SomeOne (λ a. 4096 < length a) all
@@ -117,7 +122,7 @@ not_longer : (all : List ByteString) → AllByRecursion (λ a. length a ≤ 4096
 not_longer = grind (arith, common_steps)
 
 -- a command line without a word is always read, if the name is no longer than the page
-no_words : (name : ByteString) → length name ≤ 4096 → MayNotRead (name ∷ []) → ⊥
+no_words : (name : ByteString) → length name ≤ 4096 → NeedsMemory (name ∷ []) → ⊥
 no_words = search rules
 
 -- a word that names the tool needs no memory

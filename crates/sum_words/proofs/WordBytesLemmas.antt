@@ -1,37 +1,13 @@
 -- Bytes cut into pieces: one more piece, and the piece at a place.
-use Rattle.std.proofs.Common.{◌≡◌, ℕ, zero, suc, ◌-◌, ◌<◌, ◌≤◌, List, [], ◌∷◌, ◌++◌, length, take, drop, get_or, Option, None, Some, IfSome, refl, ap, sym, arith, length-append, length-drop, slice_get, true, ltb, option_copied, IsUtf8}
-use denote.Ref.{Bor}
-use Rattle.std.specs.List.{list_all}
-use Rattle.std.proofs.lemmas.Str.{is_utf8-from_IsUtf8}
+use Rattle.std.proofs.Common.{◌≡◌, ℕ, zero, suc, ◌-◌, ◌<◌, ◌≤◌, List, [], ◌∷◌, ◌++◌, length, take, drop, get_or, Some, refl, ap, sym, arith, length-append, length-drop, slice_get, true, ltb}
 use Rattle.std.proofs.lemmas.List.{take-append-le, drop-append-le}
-use Rattle.std.proofs.lemmas.List.Folds.{list_all-append}
 use Rattle.std.proofs.lemmas.Bool.{ltb-true}
-use Rattle.std.proofs.lemmas.List.Sums.{AllPass-from_list_all}
-use Rattle.std.proofs.lemmas.Option.{get_or_from_slice_get, slice_get_within}
-use Rattle.std.proofs.Math.Bool.{or-true}
 use Rattle.std.proofs.Math.Seq.{drop-append_seam, take-length}
-use Rattle.sum_words.specs.Items.{ByteString, is_readable}
-use Rattle.sum_words.specs.refinement.WordBytes.{pieces_cut, CutsAt, AreWords}
-
--- ---- what can be read
-
--- a text can be read
-pub readable_text : (word : ByteString) → IsUtf8 word → is_readable word ≡ true
-readable_text word valid = rw (is_utf8-from_IsUtf8 word valid) (or-true _)
-
--- if all words can be read, the one at a place can
-pub readable_at : (words : List ByteString) (i : ℕ) (r : Option (Bor ByteString)) → list_all is_readable words ≡ true
-    → option_copied r ≡ slice_get words i → IfSome r (λ word. is_readable word.now ≡ true)
-readable_at words i None all at = tt
-readable_at words i (Some word) all at =
-    let each = AllPass-from_list_all is_readable words all in
-    rw (get_or_from_slice_get words i word.now word.now (sym at))
-    at (each i word.now (slice_get_within words i word.now (sym at)))
-
--- ---- pieces
+use Rattle.sum_words.specs.Items.{ByteString}
+use Rattle.sum_words.specs.refinement.WordBytes.{pieces_cut, CutsAt}
 
 -- one more word, with its end, still cuts the bytes
-CutsAt-push : (bytes word : List ℕ) (from : ℕ) (ends : List ℕ) → CutsAt bytes from ends
+pub CutsAt-push : (bytes word : List ℕ) (from : ℕ) (ends : List ℕ) → CutsAt bytes from ends
     → CutsAt (bytes ++ word) from (ends ++ length (bytes ++ word) ∷ [])
 CutsAt-push bytes word from [] cuts = (omega (arith, cuts, length-append bytes word), refl)
 CutsAt-push bytes word from (end ∷ ends) cuts = (cuts.0, CutsAt-push bytes word end ends cuts.1)
@@ -57,19 +33,6 @@ pieces_cut-push bytes word from (end ∷ ends) cuts =
     rw (first, pieces_cut-push bytes word end ends cuts.1) refl
 
 pub ruleset pushed = (pieces_cut-push)
-
--- so a word more that can be read makes words
-pub AreWords-push : (bytes word ends : List ℕ) → is_readable word ≡ true → AreWords bytes ends
-    → AreWords (bytes ++ word) (ends ++ length (bytes ++ word) ∷ [])
-AreWords-push bytes word ends reads words = record {
-  cuts = CutsAt-push bytes word 0 ends words.cuts;
-  readable = rw (
-    pieces_cut-push bytes word 0 ends words.cuts,
-    list_all-append is_readable (pieces_cut bytes 0 ends) (word ∷ []),
-    words.readable,
-    reads,
-  ) refl;
-}
 
 -- there are as many pieces as places
 pub pieces_cut-length : (bytes : List ℕ) (from : ℕ) (ends : List ℕ)

@@ -1,15 +1,19 @@
 -- One word: its prefixes, its characters, and what is left of it for a value.
-use Rattle.std.proofs.Common.{rules, ◌≡◌, ◌==◌, ◌≢◌, ℕ, ◌+◌, true, false, List, [], ◌∷◌, ◌++◌, codes, length, drop, Option, None, Some, Result, Ok, Err, is_ok, refl, ap, sym, ◌∙◌, eqb, MatchOption, MatchResult, chars, encode_utf8_all, IsUtf8, encode_utf8}
+use Rattle.std.proofs.Common.{rules, ◌≡◌, ◌==◌, ◌≢◌, ℕ, ◌+◌, true, false, List, [], ◌∷◌, ◌++◌, codes, length, drop, Option, None, Some, refl, ap, sym, ◌∙◌, eqb, MatchOption, encode_utf8_all, IsUtf8, encode_utf8, bytes_eq}
 use denote.Ref.{Bor}
 use Rattle.std.specs.List.{starts_with}
-use Rattle.std.specs.Str.{is_utf8}
+use Rattle.std.specs.Str.{chars, is_utf8}
 use Rattle.std.specs.Str.Pattern.{FindsTextPrefix}
 use Rattle.std.proofs.lemmas.Str.Pattern.{starts_text}
 use Rattle.std.proofs.lemmas.Str.{chars-nil, chars_past_char, encodes-chars, IsUtf8-from_is_utf8, is_utf8-from_IsUtf8}
 use Rattle.std.proofs.lemmas.List.{nil_from_length}
-use Rattle.std.proofs.lemmas.Bool.{eqb-true, and_parts, false_from_ne_true}
+use Rattle.std.proofs.lemmas.Slice.Eq.{bytes_eq-Decides}
+use Rattle.std.proofs.lemmas.Bool.{eqb-true, false_from_ne_true}
 use Rattle.std.proofs.Math.Bool.{and-true}
-use Rattle.sum_words.specs.Items.{Short, attached_value, a_value, a_word, length_value, is_option_word, is_readable}
+use lib.Utf8.{encode}
+use Rattle.sum_words.specs.declared.tool.Tool.{Tool}
+use Rattle.sum_words.specs.Items.{Short, attached_value, a_value, a_word, length_value, fault, is_option_word, items_from}
+use Rattle.sum_words.specs.WordFaults.{not_text}
 use Rattle.sum_words.specs.refinement.ItemIterator.{IsAfterPrefix}
 
 -- the rest of a text after a prefix, as `strip_prefix` returns it
@@ -34,17 +38,24 @@ starts_with_dash b bs h = sym (eqb-true 45 b (sym (and-true (eqb 45 b)) ∙ h))
 pub nonempty_after_dash : (word rest : List ℕ) → is_option_word word ≡ true → rest ≡ drop 1 word → rest ≡ [] → ⊥
 nonempty_after_dash = search rules
 
--- such a word that can be read is a text
-pub option_text : (word : List ℕ) → is_readable word ≡ true → is_option_word word ≡ true → IsUtf8 word
-option_text word reads dash =
-    let front : starts_with ◌==◌ word (codes "-") ≡ true = (and_parts _ _ dash).0 in
-    IsUtf8-from_is_utf8 word (rw front at reads)
+-- what isn't UTF-8 is no "--"
+dashes_text : IsUtf8 (codes "--")
+unfolding chars encode is_utf8
+dashes_text = IsUtf8-from_is_utf8 (codes "--") refl
 
--- whether it is a text, as `from_utf8` decides
-pub is_ok-text : {E : Type 0} (word : List ℕ) (r : Result (Bor (List ℕ)) E) (P : E → Type 0)
-    → MatchResult r (λ s. (s.now ≡ word) × IsUtf8 word) (λ e. (IsUtf8 word → ⊥) × P e) → is_ok r ≡ is_utf8 word
-is_ok-text word (Ok s) P text = sym (is_utf8-from_IsUtf8 word text.1)
-is_ok-text word (Err e) P none = sym (false_from_ne_true _ (λ text. none.0 (IsUtf8-from_is_utf8 word text)))
+no_dashes : (word : List ℕ) → (IsUtf8 word → ⊥) → bytes_eq word (codes "--") ≡ false
+no_dashes word none =
+    false_from_ne_true _ (λ same. none (rw ((bytes_eq-Decides word (codes "--")).0 same) dashes_text))
+
+-- such a word is a fault, and the last item
+pub no_text : (t : Tool) (word : List ℕ) (words : List (List ℕ)) → is_option_word word ≡ true → (IsUtf8 word → ⊥)
+    → fault (not_text word) ∷ [] ≡ items_from t a_word (word ∷ words)
+no_text t word words dash none =
+    let odd : is_utf8 word ≡ false = false_from_ne_true _ (λ text. none (IsUtf8-from_is_utf8 word text)) in
+    rw (no_dashes word none, dash, odd) refl
+
+-- a text is UTF-8
+pub ruleset utf8 = (is_utf8-from_IsUtf8)
 
 -- nothing is left of the word: the value is in the next one
 pub no_value : (bs : List ℕ) → length bs ≡ 0 → attached_value (chars bs) ≡ ([], a_value Short)

@@ -1,9 +1,9 @@
 -- What a command line asks for, by the list of arguments, of which the first is the program's name.
-use Rattle.std.specs.Prelude.{◌≡◌, ◌<◌, ◌⊎◌, ◌==◌, List, Any, length, drop, slice_get, Option, None, Some, is_some, if◌then◌else◌, option_and_then}
-use Rattle.std.specs.List.{after_last, list_all}
+use Rattle.std.specs.Prelude.{◌<◌, ◌⊎◌, ◌==◌, List, Any, length, drop, slice_get, Option, is_some, if◌then◌else◌, option_and_then}
+use Rattle.std.specs.List.{after_last}
 use Rattle.std.specs.Option.{option_map_or}
 use Rattle.sum_words.specs.Tools.{Tool, tool_called}
-use Rattle.sum_words.specs.Items.{ByteString, is_readable}
+use Rattle.sum_words.specs.Items.{ByteString}
 
 -- the last part of a path: what follows its last slash (47)
 abbrev pub last_part : ByteString → ByteString
@@ -19,15 +19,10 @@ abbrev pub tool_and_words : List ByteString → Option Tool × List ByteString
 tool_and_words all = let called = option_and_then (λ name. tool_called (last_part name)) (slice_get all 0) in
     if is_some called then (called, drop 1 all) else (option_and_then tool_called (slice_get all 1), drop 2 all)
 
--- what a command line asks for; `None` if a word that begins with a dash isn't UTF-8
-abbrev pub command_line : List ByteString → Option CommandLineValue
-command_line all = if list_all is_readable (drop 1 all)
-    then Some (option_map_or (λ tool. invoke tool (tool_and_words all).1) (tool_and_words all).0 unknown_tool) else None
+-- what a command line asks for
+abbrev pub command_line : List ByteString → CommandLineValue
+command_line all = option_map_or (λ tool. invoke tool (tool_and_words all).1) (tool_and_words all).0 unknown_tool
 
 -- memory is needed: for a word of the tool, or for an argument that is longer than a page
 abbrev pub NeedsMemory : List ByteString → Type 0
 NeedsMemory all = (0 < length (tool_and_words all).1) ⊎ Any (λ argument. 4096 < length argument) all
-
--- the command line may be left unread only if a word can't be read, or if memory is needed
-abbrev pub MayNotRead : List ByteString → Type 0
-MayNotRead all = (command_line all ≡ None) ⊎ NeedsMemory all

@@ -10,7 +10,7 @@ use Rattle.sum_words.specs.contracts.tool.Tool.{the_type as tool_type}
 use Rattle.sum_words.specs.contracts.parsing.options.Flag.{the_type as flag_type}
 pub use Rattle.sum_words.specs.declared.parsing.options.Spelling.{Spelling}
 pub use Rattle.sum_words.specs.declared.parsing.options.Spelling.TheVariants.{Long, Short}
-use Rattle.sum_words.specs.WordFaults.{WordFaultValue, unknown_long, ambiguous_long, value_not_allowed, value_missing, unknown_short}
+use Rattle.sum_words.specs.WordFaults.{WordFaultValue, unknown_long, ambiguous_long, value_not_allowed, value_missing, unknown_short, not_text}
 use Rattle.sum_words.specs.declared.tool.Tool.TheVariants as tools
 use Rattle.sum_words.specs.declared.parsing.options.Flag.TheVariants as flags
 
@@ -110,17 +110,14 @@ cluster t (c ∷ cs) = let rest = cluster t cs in elim (option_of_letter t c) [
   | None ↦ (fault (unknown_short c) ∷ [], no_word)
 ]
 
--- whether a word can be read: one that begins with a dash has to be UTF-8, any other may hold any bytes
-abbrev pub is_readable : ByteString → Bool
-is_readable word = not (starts_with ◌==◌ word (codes "-")) || is_utf8 word
-
 -- whether a word begins with a dash and goes on
 abbrev pub is_option_word : ByteString → Bool
 is_option_word word = starts_with ◌==◌ word (codes "-") && not (bytes_eq word (codes "-"))
 
--- a word by itself: an operand; after "-" a cluster; after "--" a long option
+-- a word by itself: an operand, or options, which have to be UTF-8: after "-" a cluster, after "--" a long option
 abbrev pub read_word : Tool → ByteString → List ItemValue × NextWord
 read_word t word = if not (is_option_word word) then (operand word ∷ [], a_word)
+    else if not (is_utf8 word) then (fault (not_text word) ∷ [], no_word)
     else if not (starts_with ◌==◌ word (codes "--")) then cluster t (chars (drop 1 word))
     else long_option (name_or_fault t (name_part (drop 2 word))) (value_part (drop 2 word))
 

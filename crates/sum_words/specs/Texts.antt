@@ -9,7 +9,7 @@ use Rattle.sum_lines.specs.Escape.{escape}
 use Rattle.sum_engine.specs.declared.stop.Stop.{Stop}
 use Rattle.sum_engine.specs.declared.stop.Stop.TheVariants.{Memory, Write}
 use Rattle.sum_words.specs.Items.{Long, Short, Flag, ByteString, row_of, full_name, takes_value, flags_of}
-use Rattle.sum_words.specs.WordFaults.{WordFaultValue, unknown_long, ambiguous_long, value_not_allowed, value_missing, unknown_short, length_invalid, length_not_bytes, tag_with_text, zero_with_check, tag_with_check, mode_with_check, ignore_without_check, status_without_check, warn_without_check, quiet_without_check, strict_without_check, check_needed}
+use Rattle.sum_words.specs.WordFaults.{WordFaultValue, unknown_long, ambiguous_long, value_not_allowed, value_missing, unknown_short, length_invalid, length_not_bytes, tag_with_text, zero_with_check, tag_with_check, mode_with_check, ignore_without_check, status_without_check, warn_without_check, quiet_without_check, strict_without_check, check_needed, not_text}
 
 -- the text of a fault, in which what was typed is escaped as names are
 abbrev pub wording : WordFaultValue → ByteString
@@ -31,6 +31,7 @@ wording warn_without_check = codes "the --warn option is meaningful only when ve
 wording quiet_without_check = codes "the --quiet option is meaningful only when verifying checksums"
 wording strict_without_check = codes "the --strict option is meaningful only when verifying checksums"
 wording check_needed = codes "--check is required"
+wording (not_text word) = codes "unrecognized option '" ++ escape word ++ codes "'"
 
 -- the two lines for a fault
 abbrev pub fault_lines : Tool → WordFaultValue → ByteString

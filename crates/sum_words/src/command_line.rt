@@ -8,7 +8,7 @@ ghost use Rattle.sum_words.specs.CommandLines.{last_part};
 
 use crate::arguments::Arguments;
 use crate::tool::Tool;
-use crate::words::{Words, is_readable};
+use crate::words::Words;
 use memchr::memrchr;
 use std::alloc::{AllocError, Allocator};
 use std::env::FillError;
@@ -17,7 +17,7 @@ use thiserror::Error;
 /// The longest argument that is read without taking memory. A page costs a short run the least.
 const PAGE: usize = 4096;
 
-/// The words could not be read: one that begins with a dash isn't UTF-8, or memory was refused.
+/// The words could not be read: memory was refused.
 #[derive(Clone, Copy, Debug, PartialEq, Eq, Error)]
 #[error("words not read")]
 pub struct NotRead;
@@ -32,15 +32,15 @@ pub enum CommandLine<A: Allocator> {
 }
 
 /// Reads the command line. If the last part of the name by which the program was called is a tool's name, it names the
-/// tool; else the first word does. `NotRead` if a word that begins with a dash isn't UTF-8, or if memory is refused.
-/// Memory is needed only if a word follows the tool's name, known or not, or if an argument is longer than a page.
+/// tool; else the first word does. `NotRead` if memory is refused. Memory is needed only if a word follows the tool's
+/// name, known or not, or if an argument is longer than a page.
 pub fn read_command_line<A: Allocator + Copy, G: Arguments>(
     alloc: A,
     arguments: &G,
 ) -> Result<CommandLine<A>, NotRead>
     // If the arguments are known: what they ask for.
     ensures line { IfOk result (λ line. IsCommandLine (G.known arguments.now) (command_line_value line)) }
-    // If the arguments are known: a word is unreadable, or memory is needed.
+    // If the arguments are known: memory is needed.
     ensures not_read { OnErr result (MayBeUnread (G.known arguments.now)) }
 {
     let mut room = Room {
@@ -150,7 +150,7 @@ fn last_part(path: &[u8]) -> &[u8]
 }
 
 // The tool that the first word names.
-#[tactic(auto, using(crate::proofs::CommandLineLemmas::first_word_steps))]
+#[tactic(auto, using(crate::proofs::CommandLineLemmas::longer_unread))]
 fn tool_called_by_word<A: Allocator, G: Arguments>(
     arguments: &G,
     room: &mut Room<A>,
@@ -158,14 +158,11 @@ fn tool_called_by_word<A: Allocator, G: Arguments>(
     ensures tool { IfOk result (λ tool. IsFirstWord (G.known arguments.now) tool) }
     ensures not_read { OnErr result (MayBeUnread (G.known arguments.now)) }
 {
-    match room.argument(arguments, 1)? {
-        Some(word) if is_readable(word) => Ok(Tool::of_name(word)),
-        Some(_) => Err(NotRead),
-        None => Ok(None),
-    }
+    let word = room.argument(arguments, 1)?;
+    Ok(word.and_then(Tool::of_name))
 }
 
-// The arguments from this place on; each has to be readable as a word.
+// The arguments from this place on.
 #[tactic(auto, using(crate::proofs::CommandLineLemmas::word_steps))]
 fn words_from<A: Allocator + Copy, G: Arguments>(
     alloc: A,
@@ -182,9 +179,6 @@ fn words_from<A: Allocator + Copy, G: Arguments>(
         let Some(word) = room.argument(arguments, place)? else {
             return Ok(words);
         };
-        if !is_readable(word) {
-            return Err(NotRead);
-        }
         let Ok(()) = words.add_bytes(word) else {
             return Err(NotRead);
         };

@@ -31,4 +31,4 @@ pub use parsing::items::{Item, Items, Operands};
 pub use parsing::options::{Flag, Spelling};
 pub use parsing::request::{Request, read_words};
 pub use tool::Tool;
-pub use words::{LentWords, NoRoom, Words, is_readable};
+pub use words::{LentWords, NoRoom, Words};

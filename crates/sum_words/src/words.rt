@@ -1,30 +1,14 @@
 //! The words of a command line.
-ghost use Rattle.std.specs.Prelude.{◌≡◌, ◌<◌, [], ◌∷◌, ◌++◌, ◌+◌, ◌^◌, true, OnOk, OnErr, OnSome, IfSome, length};
+ghost use Rattle.std.specs.Prelude.{◌≡◌, ◌<◌, [], ◌∷◌, ◌++◌, ◌+◌, ◌^◌, OnOk, OnErr, OnSome, length};
 ghost use Rattle.std.specs.Prelude.{slice_get, slice_index};
 ghost use Rattle.std.specs.Option.{option_copied};
-ghost use Rattle.std.specs.Str.{is_utf8};
-ghost use Rattle.sum_words.specs.Items.{is_readable};
 ghost use Rattle.sum_words.specs.refinement.WordBytes.{pieces_cut, CutsAt};
 
 use std::alloc::Allocator;
 use std::marker::Model;
 pub use sum_sources::NoRoom;
 
-/// Whether a word can be read: one that begins with a dash has to be UTF-8, any other may hold any bytes.
-pub fn is_readable(word: &[u8]) -> bool
-    ensures { result ≡ is_readable word.now }
-{
-    !word.starts_with(b"-") || is_text(word)
-}
-
-// Whether bytes are UTF-8.
-fn is_text(word: &[u8]) -> bool
-    ensures { result ≡ is_utf8 word.now }
-{
-    str::from_utf8(word).is_ok()
-}
-
-/// A list of words: their bytes, and the place where each of them ends. Each can be read ([`is_readable`]).
+/// A list of words of any bytes: all of them, and the place where each word ends.
 #[derive(Drop)]
 pub struct Words<A: Allocator> {
     bytes: Vec<u8, A>,
@@ -33,13 +17,13 @@ pub struct Words<A: Allocator> {
 
 impl<A: Allocator> Model for Words<A> {
     ghost use Rattle.std.specs.Prelude.{List, ℕ};
-    ghost use Rattle.sum_words.specs.refinement.WordBytes.{pieces_cut, AreWords};
+    ghost use Rattle.sum_words.specs.refinement.WordBytes.{pieces_cut, CutsAt};
 
     ghost Value = { List (List ℕ) };
 
     ghost view = { λ w. pieces_cut w.bytes.items 0 w.ends.items };
 
-    ghost invariant = { λ w. AreWords w.bytes.items w.ends.items };
+    ghost invariant = { λ w. CutsAt w.bytes.items 0 w.ends.items };
 }
 
 impl<A: Allocator + Copy> Words<A> {
@@ -56,7 +40,6 @@ impl<A: Allocator + Copy> Words<A> {
 
 impl<A: Allocator> Words<A> {
     /// Adds a text at the end. `NoRoom` if memory is refused; the list is then unchanged.
-    #[tactic(auto, using(crate::proofs::WordBytesLemmas::readable_text))]
     pub fn add(&mut self, word: &str) -> Result<(), NoRoom>
         ensures ok { OnOk result (self.new ≡ self.old ++ word.now ∷ []) }
         ensures err { OnErr result (self.new ≡ self.old) }
@@ -64,11 +47,9 @@ impl<A: Allocator> Words<A> {
         self.add_bytes(word.as_bytes())
     }
 
-    /// Adds a word that can be read ([`is_readable`]) at the end. `NoRoom` if memory is refused; the list is then
-    /// unchanged.
+    /// Adds a word at the end. `NoRoom` if memory is refused; the list is then unchanged.
     #[tactic(auto, using(crate::proofs::WordBytesLemmas::pushed))]
     pub fn add_bytes(&mut self, word: &[u8]) -> Result<(), NoRoom>
-        requires { is_readable word.now ≡ true }
         ensures ok { OnOk result (self.new ≡ self.old ++ word.now ∷ []) }
         ensures err { OnErr result (self.new ≡ self.old) }
     {
@@ -85,8 +66,7 @@ impl<A: Allocator> Words<A> {
 
     /// The word at this place, counted from 0; `None` past the last.
     pub fn get(&self, i: usize) -> Option<&[u8]>
-        ensures word { option_copied result ≡ slice_get self.now i }
-        ensures readable { IfSome result (λ word. is_readable word.now ≡ true) }
+        ensures { option_copied result ≡ slice_get self.now i }
     {
         self.lent().get(i)
     }
@@ -111,21 +91,19 @@ pub struct LentWords<'a> {
 
 impl<'a> Model for LentWords<'a> {
     ghost use Rattle.std.specs.Prelude.{List, ℕ};
-    ghost use Rattle.sum_words.specs.refinement.WordBytes.{pieces_cut, AreWords};
+    ghost use Rattle.sum_words.specs.refinement.WordBytes.{pieces_cut, CutsAt};
 
     ghost Value = { List (List ℕ) };
 
     ghost view = { λ w. pieces_cut w.bytes.now 0 w.ends.now };
 
-    ghost invariant = { λ w. AreWords w.bytes.now w.ends.now };
+    ghost invariant = { λ w. CutsAt w.bytes.now 0 w.ends.now };
 }
 
 impl<'a> LentWords<'a> {
     /// The word at this place, counted from 0; `None` past the last.
-    #[tactic(auto, using(crate::proofs::WordBytesLemmas::readable_at))]
     pub fn get(&self, i: usize) -> Option<&'a [u8]>
         ensures word { option_copied result ≡ slice_get self.now i }
-        ensures readable { IfSome result (λ word. is_readable word.now ≡ true) }
         // So the next place is a `usize`, too.
         ensures within { OnSome result (i + 1 < 2 ^ 64) }
     {

@@ -1,13 +1,12 @@
 -- Relates the reading of the arguments to their list. Each definition holds if the arguments aren't known.
-use Rattle.std.specs.Prelude.{ℕ, ◌≡◌, ◌<◌, true, List, ◌++◌, take, drop, length, slice_get, Option, None, Some, IfSome, IsSomeAnd, Result, Ok, Err, ⊤, option_and_then}
-use Rattle.std.specs.List.{list_all}
+use Rattle.std.specs.Prelude.{ℕ, ◌≡◌, ◌<◌, List, ◌++◌, take, drop, length, slice_get, Option, None, Some, IfSome, IsSomeAnd, Result, Ok, Err, ⊤, option_and_then}
 use Rattle.std.specs.declared.env.FillError.{FillError}
 use Rattle.std.specs.declared.env.FillError.TheVariants.{NotPresent, TooLong}
 use Rattle.sum_words.specs.Tools.{Tool, tool_called}
 use Rattle.sum_words.specs.declared.command_line.CommandLine.{CommandLine}
-use Rattle.sum_words.specs.Items.{ByteString, is_readable}
+use Rattle.sum_words.specs.Items.{ByteString}
 use Rattle.sum_words.specs.declared.command_line.CommandLine.TheVariants.{UnknownTool, Invoke}
-use Rattle.sum_words.specs.CommandLines.{CommandLineValue, unknown_tool, invoke, last_part, command_line, MayNotRead}
+use Rattle.sum_words.specs.CommandLines.{CommandLineValue, unknown_tool, invoke, last_part, command_line, NeedsMemory}
 
 -- one call: the buffer starts with the argument at the place; there is none; or it is longer than the buffer
 abbrev pub Fills : Option (List ByteString) → ℕ → List ℕ → Result ℕ FillError → Type 0
@@ -33,19 +32,17 @@ abbrev pub IsNameOf : Option (List ByteString) → Option Tool → Type 0
 IsNameOf known tool =
     IfSome known (λ all. tool ≡ option_and_then (λ name. tool_called (last_part name)) (slice_get all 0))
 
--- the tool that the first word names; that word can be read
+-- the tool that the first word names
 abbrev pub IsFirstWord : Option (List ByteString) → Option Tool → Type 0
-IsFirstWord known tool = IfSome known (λ all.
-    (tool ≡ option_and_then tool_called (slice_get all 1)) × (list_all is_readable (take 1 (drop 1 all)) ≡ true))
+IsFirstWord known tool = IfSome known (λ all. tool ≡ option_and_then tool_called (slice_get all 1))
 
--- the words are the arguments from a place on, and can be read
+-- the words are the arguments from a place on
 abbrev pub WordsAre : Option (List ByteString) → ℕ → List ByteString → Type 0
-WordsAre known place words = IfSome known (λ all. (words ≡ drop place all) × (list_all is_readable words ≡ true))
+WordsAre known place words = IfSome known (λ all. words ≡ drop place all)
 
--- the words are the arguments from the first place up to another, and can be read
+-- the words are the arguments from the first place up to another
 abbrev pub WordsUpTo : Option (List ByteString) → ℕ → ℕ → List ByteString → Type 0
-WordsUpTo known first place words =
-    IfSome known (λ all. (drop first all ≡ words ++ drop place all) × (list_all is_readable words ≡ true))
+WordsUpTo known first place words = IfSome known (λ all. drop first all ≡ words ++ drop place all)
 
 -- the value of a `CommandLine`
 abbrev pub command_line_value : {A : Type 0} → CommandLine A → CommandLineValue
@@ -54,8 +51,8 @@ command_line_value (Invoke tool words) = invoke tool words
 
 -- the arguments ask for this
 abbrev pub IsCommandLine : Option (List ByteString) → CommandLineValue → Type 0
-IsCommandLine known c = IfSome known (λ all. command_line all ≡ Some c)
+IsCommandLine known c = IfSome known (λ all. command_line all ≡ c)
 
 -- these arguments may be left unread
 abbrev pub MayBeUnread : Option (List ByteString) → Type 0
-MayBeUnread known = IfSome known MayNotRead
+MayBeUnread known = IfSome known NeedsMemory

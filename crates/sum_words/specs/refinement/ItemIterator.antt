@@ -3,7 +3,7 @@ use Rattle.std.specs.Prelude.{◌≡◌, ◌==◌, ℕ, drop, length, true, map,
 use Rattle.std.specs.List.{starts_with}
 use Rattle.sum_words.specs.declared.tool.Tool.{Tool}
 use Rattle.sum_words.specs.declared.messages.word_faults.WordFault.{WordFault}
-use Rattle.sum_words.specs.WordFaults.{WordFaultValue, unknown_long, ambiguous_long, value_not_allowed, value_missing, unknown_short, length_invalid, length_not_bytes, tag_with_text, zero_with_check, tag_with_check, mode_with_check, ignore_without_check, status_without_check, warn_without_check, quiet_without_check, strict_without_check, check_needed}
+use Rattle.sum_words.specs.WordFaults.{WordFaultValue, unknown_long, ambiguous_long, value_not_allowed, value_missing, unknown_short, length_invalid, length_not_bytes, tag_with_text, zero_with_check, tag_with_check, mode_with_check, ignore_without_check, status_without_check, warn_without_check, quiet_without_check, strict_without_check, check_needed, not_text}
 use Rattle.sum_words.specs.declared.parsing.items.Item.{Item as WordItem}
 use Rattle.sum_words.specs.declared.parsing.items.ParserState.{ParserState}
 use Rattle.sum_words.specs.declared.parsing.items.ParserStep.{ParserStep}
@@ -37,6 +37,7 @@ fault_of words.WarnWithoutCheck = warn_without_check
 fault_of words.QuietWithoutCheck = quiet_without_check
 fault_of words.StrictWithoutCheck = strict_without_check
 fault_of words.CheckNeeded = check_needed
+fault_of (words.NotText word) = not_text word.now
 
 -- the value of an `Item`
 abbrev pub item_of : WordItem → ItemValue

@@ -1,7 +1,6 @@
 -- Relates `Words` to the list of its words: bytes, cut at the places where the words end.
-use Rattle.std.specs.Prelude.{ℕ, ◌≡◌, ◌≤◌, ◌-◌, true, List, [], ◌∷◌, take, drop, length}
-use Rattle.std.specs.List.{list_all}
-use Rattle.sum_words.specs.Items.{ByteString, is_readable}
+use Rattle.std.specs.Prelude.{ℕ, ◌≡◌, ◌≤◌, ◌-◌, List, [], ◌∷◌, take, drop, length}
+use Rattle.sum_words.specs.Items.{ByteString}
 
 -- the pieces of bytes from a place on that end at these places
 abbrev pub pieces_cut : List ℕ → ℕ → List ℕ → List ByteString
@@ -12,8 +11,3 @@ pieces_cut bytes from (end ∷ ends) = take (end - from) (drop from bytes) ∷ p
 abbrev pub CutsAt : List ℕ → ℕ → List ℕ → Type 0
 CutsAt bytes from [] = from ≡ length bytes
 CutsAt bytes from (end ∷ ends) = (from ≤ end) × CutsAt bytes end ends
-
--- the places cut the bytes, and each piece can be read
-pub record AreWords (bytes ends : List ℕ) : Type 0 where
-  pub cuts : CutsAt bytes 0 ends
-  pub readable : list_all is_readable (pieces_cut bytes 0 ends) ≡ true

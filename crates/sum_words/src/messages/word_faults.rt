@@ -14,8 +14,8 @@ use crate::tool::Tool;
 use sum_engine::Stop;
 use sum_lines::{Part, Sink, SinkFault, put_all, put_parts};
 
-/// A fault in the words, with what its text shows. Of the first five, each of one option, the first among the words
-/// counts; the others follow in the order of the variants.
+/// A fault in the words, with what its text shows. Of the first five and the last, each of one word, the first among
+/// the words counts; the others follow in the order of the variants.
 #[derive(Clone, Copy, Debug, PartialEq, Eq)]
 pub enum WordFault<'a> {
     /// A long option, of this name as it was typed, that no option's name begins with.
@@ -52,6 +52,8 @@ pub enum WordFault<'a> {
     StrictWithoutCheck,
     /// `anysum` without `--check`.
     CheckNeeded,
+    /// This word, which begins with a dash and goes on, isn't UTF-8.
+    NotText(&'a [u8]),
 }
 
 /// Writes the two lines of a fault, or returns `SinkFault` as [`sum_lines::put_all`] does.
@@ -116,6 +118,7 @@ fn wording<'a>(fault: WordFault<'a>, buffer: &'a mut [u8; 4]) -> (&'static str, 
         WordFault::StrictWithoutCheck =>
             ("the --strict option is meaningful only when verifying checksums", NOTHING, ""),
         WordFault::CheckNeeded => ("--check is required", NOTHING, ""),
+        WordFault::NotText(word) => ("unrecognized option '", Part::Escaped(word), "'"),
     }
 }
 

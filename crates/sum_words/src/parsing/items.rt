@@ -1,11 +1,11 @@
 //! The items of the words: options, values, operands, or a fault.
-ghost use Rattle.std.specs.Prelude.{◌≡◌, ◌==◌, List, ℕ, [], ◌∷◌, IfSome, MatchOption, drop, true, false, filter_map};
+ghost use Rattle.std.specs.Prelude.{◌≡◌, ◌==◌, List, ℕ, [], ◌∷◌, MatchOption, drop, true, false, filter_map};
 ghost use Rattle.std.specs.Iterator.{item_count};
 ghost use Rattle.std.specs.Option.{option_copied};
 ghost use Rattle.std.specs.List.{starts_with};
 ghost use Rattle.std.specs.Str.{chars};
 ghost use Rattle.sum_words.specs.Items.{a_word, name_part, value_part, long_option, name_or_fault};
-ghost use Rattle.sum_words.specs.Items.{attached_value, cluster, is_option_word, is_readable, items_from, operand_in};
+ghost use Rattle.sum_words.specs.Items.{attached_value, cluster, is_option_word, items_from, operand_in};
 ghost use Rattle.sum_words.specs.refinement.ItemIterator.{remaining_items, read_then, step_items, item_of, TakesFirst};
 ghost use Rattle.sum_words.specs.refinement.ItemIterator.{IsAfterPrefix};
 ghost use Rattle.sum_words.specs.declared.tool.Tool.{Tool};
@@ -98,8 +98,7 @@ impl<'a> Iterator for Items<'a> {
 // The word at a place, which moves to the next.
 #[tactic(auto, using(crate::proofs::CommandLineLemmas::drop_at_none, crate::proofs::CommandLineLemmas::drop_at_some))]
 fn take_word<'a>(words: &LentWords<'a>, at: &mut usize) -> Option<&'a [u8]>
-    ensures word { TakesFirst (λ word. word) (drop at.old words.now) (option_copied result) (drop at.new words.now) }
-    ensures readable { IfSome result (λ word. is_readable word.now ≡ true) }
+    ensures { TakesFirst (λ word. word) (drop at.old words.now) (option_copied result) (drop at.new words.now) }
 {
     let word = words.get(*at)?;
     *at += 1;
@@ -140,9 +139,8 @@ fn say<'a>(
 }
 
 // The step of a whole word.
-#[tactic(auto, using(crate::proofs::WordLemmas::option_text))]
+#[tactic(auto, using(crate::proofs::WordLemmas::no_text))]
 fn word_step<'a>(tool: Tool, word: &'a [u8]) -> ParserStep<'a>
-    requires { is_readable word.now ≡ true }
     ensures { (ws : List (List ℕ)) → step_items tool result ws ≡ items_from tool a_word (word.now ∷ ws) }
 {
     if !is_option_word(word) {
@@ -150,7 +148,7 @@ fn word_step<'a>(tool: Tool, word: &'a [u8]) -> ParserStep<'a>
     }
     match str::from_utf8(word) {
         Ok(text) => option_step(tool, text),
-        Err(_) => unreachable!(),
+        Err(_) => ParserStep::Say(Item::Fault(WordFault::NotText(word)), ParserState::Ended),
     }
 }
 
@@ -161,7 +159,8 @@ fn is_option_word(word: &[u8]) -> bool
     matches!(word, [b'-', _, ..])
 }
 
-// The step of such a word.
+// The step of such a word, which is a text.
+#[tactic(auto, using(crate::proofs::WordLemmas::utf8))]
 fn option_step<'a>(tool: Tool, word: &'a str) -> ParserStep<'a>
     requires { is_option_word word.now ≡ true }
     ensures { (ws : List (List ℕ)) → step_items tool result ws ≡ items_from tool a_word (word.now ∷ ws) }
