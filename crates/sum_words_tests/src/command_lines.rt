@@ -1,20 +1,7 @@
 //! Command lines.
 use std::process::Abort;
 use std::test::Fail;
-use sum_words::{CommandLine, NotRead, ToldArguments, Tool, read_command_line};
-
-// Whichever word it is: the tool's, one behind a tool that there isn't, or one of a tool that the name says.
-#[test]
-fn words_that_are_not_read(rt: HostRuntime) {
-    for arguments in [
-        [b"digests".as_slice(), b"-\xff"].as_slice(),
-        [b"digests".as_slice(), b"shasum", b"-\xff"].as_slice(),
-        [b"md5sum".as_slice(), b"a", b"--", b"--\xc3"].as_slice(),
-    ] {
-        let line = read_command_line(rt.alloc(), &ToldArguments::new(arguments));
-        assert_eq!(rt; line.err(), Some(NotRead));
-    }
-}
+use sum_words::{CommandLine, ToldArguments, Tool, read_command_line};
 
 // That these arguments call for this tool, with this word first.
 fn assert_asks(
@@ -37,8 +24,13 @@ fn assert_asks(
 fn words_of_any_bytes(rt: HostRuntime) -> Result<(), Fail> {
     assert_asks(&rt, &[b"\xff/md5sum", b"\xff"], (Tool::Md5sum, b"\xff"))?;
     assert_asks(&rt, &[b"\xff", b"md5sum", b"\xff"], (Tool::Md5sum, b"\xff"))?;
-    for word in [b"\xff".as_slice(), b"md5sum\xff"] {
-        let arguments = [b"digests".as_slice(), word, b"\xff"];
+    assert_asks(
+        &rt,
+        &[b"md5sum", b"--\xc3", b"--"],
+        (Tool::Md5sum, b"--\xc3"),
+    )?;
+    for word in [b"\xff".as_slice(), b"md5sum\xff", b"-\xff"] {
+        let arguments = [b"digests".as_slice(), word, b"-\xff"];
         let line = read_command_line(rt.alloc(), &ToldArguments::new(&arguments));
         assert!(rt; matches!(line, Ok(CommandLine::UnknownTool)));
     }

@@ -1,10 +1,11 @@
 //! Faults of command lines, each with its text.
+use crate::requests::asked;
 use crate::words::{words_and, words_of};
 use std::alloc::Global;
 use std::process::Abort;
 use std::test::Fail;
 use sum_lines::ToldSink;
-use sum_words::{Tool, Words, put_fault, read_words};
+use sum_words::{Request, Tool, WordFault, Words, put_fault, read_words};
 
 // The lines of the fault that words have. Without a contract, so that a test knows no more of them than it sees.
 fn fault_of(tool: Tool, words: &Words<Global>) -> Result<ToldSink<256>, Fail> {
@@ -84,6 +85,45 @@ fn lengths_of_any_bytes(rt: HostRuntime) -> Result<(), Fail> {
             "in {line}"
         );
     }
+    Ok(())
+}
+
+// An option word that isn't UTF-8 stands in the text as it was typed, escaped.
+#[test]
+fn words_that_are_no_texts(rt: HostRuntime) -> Result<(), Fail> {
+    for (word, shown) in [
+        (b"-\xff".as_slice(), b"-\xff".as_slice()),
+        (b"-l\xfc", b"-l\xfc"),
+        (b"--length=\xc3", b"--length=\xc3"),
+        (b"--\\\n\r\xed\xa0\x80", b"--\\\\\\n\\r\xed\xa0\x80"),
+    ] {
+        let words = words_and(rt.alloc(), "e -b", word)?;
+        let mut lines = Vec::new(rt.alloc());
+        lines.extend_from_slice(b"b2sum: unrecognized option '")?;
+        lines.extend_from_slice(shown)?;
+        lines.extend_from_slice(b"'\nTry 'b2sum --help' for more information.\n")?;
+        assert_eq!(rt; fault_of(Tool::B2sum, &words)?.bytes(), lines.as_slice());
+    }
+    Ok(())
+}
+
+// It is a fault in its place, as the other faults of one word are.
+#[test]
+fn first_faults_count(rt: HostRuntime) -> Result<(), Fail> {
+    let words = words_and(rt.alloc(), "--foo", b"-\xff")?;
+    assert_eq!(rt;
+        asked(Tool::Md5sum, &words).err(),
+        Some(WordFault::UnknownLong("foo"))
+    );
+    let mut words = words_and(rt.alloc(), "-l 12 -c", b"-\xff")?;
+    words.add("--foo")?;
+    words.add("--help")?;
+    assert_eq!(rt;
+        asked(Tool::B2sum, &words).err(),
+        Some(WordFault::NotText(b"-\xff"))
+    );
+    let words = words_and(rt.alloc(), "--version", b"-\xff")?;
+    assert!(rt; matches!(asked(Tool::Md5sum, &words), Ok(Request::Version)));
     Ok(())
 }
 

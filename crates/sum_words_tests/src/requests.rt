@@ -8,13 +8,18 @@ use sum_engine::{CheckSettings, Report, Settings};
 use sum_lines::{Mode, Style};
 use sum_words::{Operands, Request, Tool, WordFault, Words, read_words};
 
-// What words ask for. Without a contract, so that a test knows no more of it than it sees.
-fn asked<'a>(tool: Tool, words: &'a Words<Global>) -> Result<Request<'a>, WordFault<'a>> {
+/// What words ask for. Without a contract, so that a test knows no more of it than it sees.
+pub(crate) fn asked<'a>(
+    tool: Tool,
+    words: &'a Words<Global>,
+) -> Result<Request<'a>, WordFault<'a>> {
     read_words(tool, words)
 }
 
-// The settings and operands of a request for lines.
-fn generation<'a>(asked: Result<Request<'a>, WordFault<'a>>) -> Option<(Settings, Operands<'a>)> {
+/// The settings and operands of a request for lines.
+pub(crate) fn generation<'a>(
+    asked: Result<Request<'a>, WordFault<'a>>,
+) -> Option<(Settings, Operands<'a>)> {
     match asked {
         Ok(Request::Generate(settings, operands)) => Some((settings, operands)),
         _ => None,
@@ -31,8 +36,8 @@ fn checking<'a>(
     }
 }
 
-// That these are the operands.
-fn assert_operands(rt: &impl Abort, mut operands: Operands, want: &[&[u8]]) {
+/// That these are the operands.
+pub(crate) fn assert_operands(rt: &impl Abort, mut operands: Operands, want: &[&[u8]]) {
     for operand in want {
         assert_eq!(rt; operands.next(), Some(*operand));
     }
@@ -123,8 +128,8 @@ fn operands_are_any_bytes(rt: HostRuntime) -> Result<(), Fail> {
 
 #[test]
 fn odd_operand_behind_two_dashes(rt: HostRuntime) -> Result<(), Fail> {
-    let words = words_and(rt.alloc(), "-- -b", b"\xff")?;
+    let words = words_and(rt.alloc(), "-- -b", b"--\xff")?;
     let (_, operands) = generation(asked(Tool::Md5sum, &words)).ok_or("refused")?;
-    assert_operands(&rt, operands, &[b"-b", b"\xff"]);
+    assert_operands(&rt, operands, &[b"-b", b"--\xff"]);
     Ok(())
 }

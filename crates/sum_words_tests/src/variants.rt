@@ -9,7 +9,7 @@ use sum_words::{
     read_command_line,
 };
 
-// The place of a fault among all, in the order in which they count.
+// The number of a fault. From 6 to 17 they count in this order.
 fn number_of_fault(fault: &WordFault<'_>) -> u8 {
     match fault {
         WordFault::UnknownLong(_) => 1,
@@ -29,6 +29,7 @@ fn number_of_fault(fault: &WordFault<'_>) -> u8 {
         WordFault::QuietWithoutCheck => 15,
         WordFault::StrictWithoutCheck => 16,
         WordFault::CheckNeeded => 17,
+        WordFault::NotText(_) => 18,
     }
 }
 
@@ -52,8 +53,9 @@ fn faults(rt: HostRuntime) {
         WordFault::QuietWithoutCheck,
         WordFault::StrictWithoutCheck,
         WordFault::CheckNeeded,
+        WordFault::NotText(b"-\xff"),
     ];
-    for (i, fault) in (1..18).zip(&faults) {
+    for (i, fault) in (1..19).zip(&faults) {
         assert_eq!(rt; number_of_fault(fault), i);
     }
 }

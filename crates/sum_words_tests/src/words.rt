@@ -1,7 +1,7 @@
 //! Lists of words.
 use std::alloc::Global;
 use std::test::Fail;
-use sum_words::{NoRoom, Words, is_readable};
+use sum_words::{NoRoom, Words};
 
 /// The words of a line, parted by single spaces.
 pub(crate) fn words_of(alloc: Global, line: &str) -> Result<Words<Global>, NoRoom> {
@@ -13,11 +13,8 @@ pub(crate) fn words_of(alloc: Global, line: &str) -> Result<Words<Global>, NoRoo
 }
 
 /// The words of a line, and behind them one of any bytes.
-pub(crate) fn words_and(alloc: Global, line: &str, last: &[u8]) -> Result<Words<Global>, Fail> {
+pub(crate) fn words_and(alloc: Global, line: &str, last: &[u8]) -> Result<Words<Global>, NoRoom> {
     let mut words = words_of(alloc, line)?;
-    if !is_readable(last) {
-        return Err(Fail::from("a word that can't be read"));
-    }
     words.add_bytes(last)?;
     Ok(words)
 }
@@ -25,11 +22,6 @@ pub(crate) fn words_and(alloc: Global, line: &str, last: &[u8]) -> Result<Words<
 // The word at a place. Without a contract, so that a test knows no more of it than it sees.
 fn word_at(words: &Words<Global>, i: usize) -> Option<&[u8]> {
     words.get(i)
-}
-
-// Whether a word can be read, likewise.
-fn can_be_read(word: &[u8]) -> bool {
-    is_readable(word)
 }
 
 // An empty word is a word, and NUL and newlines stand in words as any other character.
@@ -48,24 +40,16 @@ fn words_are_any_texts(rt: HostRuntime) -> Result<(), Fail> {
     Ok(())
 }
 
-// A word that doesn't begin with a dash, and a dash alone, may hold any bytes.
 #[test]
 fn words_of_any_bytes(rt: HostRuntime) -> Result<(), Fail> {
-    let words = words_and(rt.alloc(), "\u{e4} -b", b"r\xe9sum\xe9\n")?;
-    assert_eq!(rt; word_at(&words, 2), Some(b"r\xe9sum\xe9\n".as_slice()));
-    for (word, reads) in [
-        (b"".as_slice(), true),
-        (b"-", true),
-        (b"\xff", true),
-        (b"a-\xed\xa0\x80", true),
-        (b"--", true),
-        (b"-\xc3\xa4", true),
-        (b"-\xff", false),
-        (b"--\xc3", false),
-        (b"--length=\xed\xa0\x80", false),
-        (b"-l\xc0\xaf", false),
+    for word in [
+        b"r\xe9sum\xe9\n".as_slice(),
+        b"a-\xed\xa0\x80",
+        b"-\xff",
+        b"--length=\xed\xa0\x80",
     ] {
-        assert_eq!(rt; can_be_read(word), reads);
+        let words = words_and(rt.alloc(), "\u{e4} -b", word)?;
+        assert_eq!(rt; word_at(&words, 2), Some(word));
     }
     Ok(())
 }
