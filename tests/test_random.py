@@ -24,7 +24,7 @@ WORDS = """-b -c -t -z -w -bz -cw -cq -zl -bl256 -l -l8 -l256 -é --length --len
     - 256 0 512 520 12 0256 +8 ٣ a e x folder manifest""".split()
 WORDS += [f"--{name}" for name in reference_words.NAMES]
 WORDS += ["", "9" * 50, "0" * 30 + "8", "-b\n", "--a\nb", "q\\\nz"]
-WORDS += ["\udcff", "r\udce9\n", "-\udcff"]  # which aren't UTF-8
+WORDS += ["\udcff", "r\udce9\n", "-\udcff", "-l\udcfc", "--\udcc3\n"]  # which aren't UTF-8
 
 
 class AtRandom(Case):

@@ -113,6 +113,8 @@ class OneWriteALine(Packets):
         for words, text in faults:
             lines = [f"md5sum: {text}", "Try 'md5sum --help' for more information."]
             self.expect_packets(["md5sum", *words], err=[lines], status=1)
+        lines = [b"md5sum: unrecognized option '-\xff'", "Try 'md5sum --help' for more information."]
+        self.expect_packets(["md5sum", b"-\xff"], err=[lines], status=1)
 
     def test_the_programs_own_lines(self):
         """An unknown tool and a write error are one write each."""

@@ -3,8 +3,8 @@
 import os
 
 import harness
-from harness import B, E, M, S, TOOLS, Case
-from reference_words import help_text
+from harness import B, E, M, S, TOOLS, Case, gnu
+from reference_words import help_text, meaning
 
 WITH_CHECK = "meaningless when verifying checksums"
 WITHOUT_CHECK = "meaningful only when verifying checksums"
@@ -182,6 +182,32 @@ class Combinations(Case):
         self.expect("md5sum --tag -t -b a", out=[f"MD5 (a) = {M}"])
         self.write("l", [f"{B}  e"])
         self.expect("b2sum -c -l 8 l", out=["e: OK"])
+
+
+class EachByte(Case):
+    """Each byte but NUL, which no word can hold."""
+
+    def test_by_the_rules(self):
+        """As a word, behind one dash and two, before and behind `--`, and as a length."""
+        os.chdir(self.folder)
+        self.addCleanup(os.chdir, harness.TOP)
+        for number in range(1, 256):
+            byte = bytes([number])
+            lines = [[b"-l" + byte], [b"--length=" + byte]]
+            for word in (byte, b"-" + byte, b"--" + byte):
+                lines += [word], ["--", word], ["-l", word]
+            for line in lines:
+                expected = meaning("b2sum", [os.fsdecode(word) for word in line], b"abc")
+                self.assertEqual(self.run_words(["b2sum", *line], b"abc"), expected, line)
+
+    def test_beside_gnu(self):
+        """Behind two dashes what isn't UTF-8 has GNU's lines."""
+        if gnu("md5sum") is None:
+            self.skipTest("there is no GNU md5sum here")
+        for number in range(128, 256):
+            words = ["md5sum", b"--" + bytes([number]), "a"]
+            ran = self.run_words(words)
+            self.assertEqual(ran, self.run_command(words, executable=gnu("md5sum")), words)
 
 
 class LaterProcessors(Case):

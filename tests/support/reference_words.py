@@ -21,14 +21,9 @@ def shown(text):
     return os.fsdecode(escape(os.fsencode(text)))
 
 
-def is_unreadable(word):
-    """Whether a word begins with a dash, goes on, and isn't UTF-8."""
-    return len(word) > 1 and word[0] == "-" and re.search("[\ud800-\udfff]", word) is not None
-
-
 class Words:
     """The options, length values and operands of a command line, in their order, up to the first fault, `--help` or
-    `--version`, which decides."""
+    `--version`, which decides. In a word that isn't UTF-8 a byte is one of Python's lone surrogates."""
 
     def __init__(self, tool, words):
         self.tool, self.rest = tool, list(words)
@@ -44,12 +39,14 @@ class Words:
         if word == "--":
             self.operands += self.rest
             self.rest = []
+        elif word == "-" or not word.startswith("-"):
+            self.operands.append(word)
+        elif re.search("[\udc80-\udcff]", word):
+            raise WordFault(f"unrecognized option '{shown(word)}'")
         elif word.startswith("--"):
             self.take_long(word[2:])
-        elif word.startswith("-") and word != "-":
-            self.take_letters(word[1:])
         else:
-            self.operands.append(word)
+            self.take_letters(word[1:])
 
     def take_long(self, text):
         typed, equals, value = text.partition("=")
@@ -150,10 +147,7 @@ def help_text(tool):
 
 
 def meaning(tool, words, stdin):
-    """What a command line writes and answers, with this on standard input. In a word that isn't UTF-8 a byte is one of
-    Python's lone surrogates."""
-    if any(map(is_unreadable, words)):
-        return Ran(1, b"", b"digests: words not read\n")
+    """What a command line writes and answers, with this on standard input."""
     read = Words(tool, words)
     try:
         if isinstance(read.decided, WordFault):
