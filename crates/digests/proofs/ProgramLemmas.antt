@@ -77,7 +77,7 @@ program_ends state status line a b outputs (Err stop) ran failed (later, m, flus
 abbrev pub Gives : {S : Type 0} → (S → SourceState) → Option (List ByteString) → StreamsState S → StreamsState S → ℕ
     → Type 0
 Gives state known a b status = IfSome known (λ arguments.
-    CallPerforms state (command_line arguments) a b status
+    CallPerforms state (Some (command_line arguments)) a b status
     ⊎ (NeedsMemory arguments × CallPerforms state None a b status))
 
 -- the command line is what they say
@@ -87,13 +87,11 @@ pub program_read : {S : Type 0} (state : S → SourceState) (a b : StreamsState 
     → Gives state known a b status
 program_read state a b status None c is h = tt
 program_read state a b status (Some arguments) c is h =
-    inl (subst (λ line. CallPerforms state line a b status) (sym is) h)
+    inl (subst (λ line. CallPerforms state (Some line) a b status) (sym is) h)
 
 -- it couldn't be read
 pub program_unread : {S : Type 0} (state : S → SourceState) (a b : StreamsState S) (status : ℕ)
     (known : Option (List ByteString)) → MayBeUnread known → CallPerforms state None a b status
     → Gives state known a b status
 program_unread state a b status None is h = tt
-program_unread state a b status (Some arguments) (inl none) h =
-    inl (subst (λ line. CallPerforms state line a b status) (sym none) h)
-program_unread state a b status (Some arguments) (inr memory) h = inr (memory, h)
+program_unread state a b status (Some arguments) memory h = inr (memory, h)

@@ -46,5 +46,5 @@ CallPerforms {S} state line a b status = (answer : Result ℕ Stop) × (between 
 abbrev pub ProgramPerforms :
     {S : Type 0} → (S → SourceState) → Option (List ByteString) → StreamsState S → StreamsState S → ℕ → Type 0
 ProgramPerforms state known a b status = IsFlushed a.outputs → IfSome known (λ arguments.
-    CallPerforms state (command_line arguments) a b status
+    CallPerforms state (Some (command_line arguments)) a b status
     ⊎ (NeedsMemory arguments × CallPerforms state None a b status))

@@ -1,6 +1,7 @@
 //! Words that aren't UTF-8.
 use super::program::status_of;
 use super::{add_files, assert_bytes};
+use std::alloc::Allocator;
 use std::process::Abort;
 use std::test::Fail;
 use sum_engine::Streams;
@@ -11,8 +12,6 @@ const LINE_OF_A: &[u8] = b"900150983cd24fb0d6963f7d28e17f72  a\n";
 
 // A command line, what it writes on standard output and on standard error, and its status.
 type Row<'a> = (&'a [&'a [u8]], &'a [u8], &'a [u8], u8);
-
-const NOT_READ: &[u8] = b"digests: words not read\n";
 
 const UNKNOWN: &[u8] = b"digests: unknown tool\n";
 
@@ -108,16 +107,16 @@ fn odd_manifests(rt: HostRuntime) -> Result<(), Fail> {
     )
 }
 
-// Only what begins with a dash has to be a text.
+// An option has to be a text, and nothing else.
 #[test]
 fn odd_words(rt: HostRuntime) -> Result<(), Fail> {
     let invalid =
         b"b2sum: invalid length: '\xff8'\nTry 'b2sum --help' for more information.\n".as_slice();
-    let rows: [Row; 8] = [
-        (&[b"md5sum", b"a", b"-\xff"], b"", NOT_READ, 1),
-        (&[b"md5sum", b"--help", b"--\xc3"], b"", NOT_READ, 1),
-        (&[b"md5sum", b"--", b"-\xff"], b"", NOT_READ, 1),
-        (&[b"digests", b"-\xff"], b"", NOT_READ, 1),
+    let option =
+        b"md5sum: unrecognized option '-\xff\\n'\nTry 'md5sum --help' for more information.\n".as_slice();
+    let rows: [Row; 6] = [
+        (&[b"md5sum", b"a", b"-\xff\n", b"--help"], b"", option, 1),
+        (&[b"digests", b"-\xff"], b"", UNKNOWN, 1),
         (&[b"digests", b"\xff"], b"", UNKNOWN, 1),
         (&[b"digests", b"md5sum\x80", b"a"], b"", UNKNOWN, 1),
         (&[b"b2sum", b"-l", b"\xff8", b"e"], b"", invalid, 1),
@@ -125,6 +124,69 @@ fn odd_words(rt: HostRuntime) -> Result<(), Fail> {
     ];
     for row in rows {
         assert_row(&rt, row)?;
+    }
+    Ok(())
+}
+
+// Texts that are written one after another.
+fn joined<A: Allocator + Copy>(alloc: A, texts: &[&[u8]]) -> Result<Vec<u8, A>, Fail> {
+    let mut all = Vec::new(alloc);
+    for text in texts {
+        all.extend_from_slice(text)?;
+    }
+    Ok(all)
+}
+
+// What standard error gets for a fault of these words, which ends so.
+fn word_fault<A: Allocator + Copy>(
+    alloc: A,
+    tool: &[u8],
+    text: &[u8],
+    word: &[u8],
+) -> Result<Vec<u8, A>, Fail> {
+    let help = b" --help' for more information.\n".as_slice();
+    joined(alloc, &[tool, text, word, b"'\nTry '", tool, help])
+}
+
+// That a name that isn't there, which follows this word, is reported.
+fn assert_missing(rt: &(impl Abort + AllocGlobal), first: &[u8], name: &[u8]) -> Result<(), Fail> {
+    let missing = joined(
+        rt.alloc(),
+        &[b"md5sum: ", name, b": No such file or directory\n"],
+    )?;
+    assert_row(
+        rt,
+        (&[b"md5sum", first, name, b"a"], LINE_OF_A, &missing, 1),
+    )
+}
+
+// Each byte as a word, but those of names that are there or have an escape; each that begins no text after `--`, after
+// one dash and two, as a length, and in the word of one.
+#[test]
+fn each_byte(rt: HostRuntime) -> Result<(), Fail> {
+    let unrecognized = b": unrecognized option '".as_slice();
+    for byte in 1..=255 {
+        if !b"\n\r\\-ael".contains(&byte) {
+            assert_missing(&rt, b"-t", &[byte])?;
+        }
+        if byte < 128 {
+            continue;
+        }
+        assert_missing(&rt, b"--", &[b'-', byte])?;
+        let fault = word_fault(rt.alloc(), b"md5sum", unrecognized, &[b'-', byte])?;
+        assert_row(&rt, (&[b"md5sum", &[b'-', byte], b"a"], b"", &fault, 1))?;
+        let fault = word_fault(rt.alloc(), b"md5sum", unrecognized, &[b'-', b'-', byte])?;
+        assert_row(
+            &rt,
+            (&[b"md5sum", b"a", &[b'-', b'-', byte]], b"", &fault, 1),
+        )?;
+        let fault = word_fault(rt.alloc(), b"b2sum", unrecognized, &[b'-', b'l', byte])?;
+        assert_row(
+            &rt,
+            (&[b"b2sum", &[b'-', b'l', byte], b"e"], b"", &fault, 1),
+        )?;
+        let fault = word_fault(rt.alloc(), b"b2sum", b": invalid length: '", &[byte])?;
+        assert_row(&rt, (&[b"b2sum", b"-l", &[byte], b"e"], b"", &fault, 1))?;
     }
     Ok(())
 }

@@ -295,7 +295,7 @@ fn closed_standard_input(rt: HostRuntime) -> Result<(), Fail> {
         closed,
         AMPLE,
     )?;
-    assert_left(&rt, &ended, ("", "md5sum: -: Input/output error\n", 1))
+    assert_left(&rt, &ended, ("", "md5sum: -: Bad file descriptor\n", 1))
 }
 
 // Calls the program on a heap with room for so many times 8 bytes: how many it took, or `None` where the words weren't
