@@ -1,7 +1,8 @@
 -- Contents that are the same, what was read of one so far, and when it is its own clip.
-use Rattle.std.proofs.Common.{◌≡◌, ℕ, ◌^◌, ◌<◌, List, ◌++◌, length, refl, nat_lt, arith}
+use Rattle.std.proofs.Common.{◌≡◌, ℕ, ◌^◌, ◌<◌, List, [], ◌++◌, length, Option, None, Some, IfSome, Ok, Err, refl, nat_lt, arith}
 use Rattle.std.proofs.lemmas.Bool.{cond-true, lt-ltb}
-use Rattle.sum_sources.specs.Contents.{Content, clip, limit}
+use Rattle.digest_kinds.specs.Kinds.{KindValue, digest}
+use Rattle.sum_sources.specs.Contents.{Content, Fault, Whole, Broken, Hashes, clip, limit}
 use Rattle.sum_sources.specs.LineReaders.{with_prefix}
 
 -- these bytes were read between the two
@@ -20,3 +21,20 @@ limit-value = refl
 -- a short content is its own clip
 pub clip-short : (c : Content) → length c.bytes < 2 ^ 61 → clip c ≡ c
 clip-short c short = cond-true (nat_lt (length c.bytes) limit) _ _ (lt-ltb _ _ (rw limit-value short))
+
+-- some content has the digest of these bytes, or the known one
+pub some_digest : (kind : KindValue) (x : Option Content) (m d : List ℕ) → length m < 2 ^ 61 → d ≡ digest kind m
+    → IfSome x (λ c. Hashes kind (clip c) (Ok d))
+    → (c : Content) × IfSome x (λ k. c ≡ k) × Hashes kind (clip c) (Ok d)
+some_digest kind None m d few is h =
+    let c : Content = record { bytes = m; ending = Whole } in
+    (c, tt, rw (clip-short c few) (refl, is))
+some_digest kind (Some c) m d few is h = (c, refl, h)
+
+-- some content ends by this fault, or the known one
+pub some_fault : (kind : KindValue) (x : Option Content) (f : Fault) → IfSome x (λ c. Hashes kind (clip c) (Err f))
+    → (c : Content) × IfSome x (λ k. c ≡ k) × Hashes kind (clip c) (Err f)
+some_fault kind None f h =
+    let c : Content = record { bytes = []; ending = Broken f } in
+    (c, tt, rw (clip-short c (omega arith)) refl)
+some_fault kind (Some c) f h = (c, refl, h)

@@ -1,4 +1,5 @@
 -- Reads of the bytes that count, up to the limit.
+use Rattle.std.proofs.lemmas.Grind.{common_steps}
 use Rattle.std.proofs.Common.{◌≡◌, ℕ, ◌+◌, ◌-◌, ◌^◌, ◌<◌, ◌≤◌, List, [], ◌++◌, length, take, Ok, Err, ap, sym, Option, refl, arith, nat_lt, inl, inr, length-append}
 use Rattle.std.proofs.lemmas.Bool.{cond-true, cond-false, lt-ltb, le-ltb, cases_lt}
 use Rattle.std.proofs.lemmas.List.{length-take-le, take-append-le}
@@ -15,6 +16,10 @@ clip_to-short n c short = cond-true (nat_lt (length c.bytes) n) c _ (lt-ltb _ _ 
 clip_to-long : (n : ℕ) (c : Content) → n ≤ length c.bytes
     → clip_to n c ≡ record { bytes = take (n - 1) c.bytes; ending = Broken Other }
 clip_to-long n c long = cond-false (nat_lt (length c.bytes) n) c _ (le-ltb _ _ long)
+
+-- fewer than n bytes count
+pub length-clip_to : (n : ℕ) (c : Content) → 0 < n → length (clip_to n c).bytes < n
+length-clip_to n c some = grind (arith, common_steps)
 
 -- a prefix of a content may be clipped with it or before it
 clip_to-with_prefix : (n k : ℕ) (prefix : List ℕ) (c : Content) → n ≡ length prefix + k → 0 < k

@@ -1,14 +1,13 @@
 -- Pieces and lines at the steps of the line reader.
 use Rattle.std.proofs.lemmas.Grind.{common_steps}
-use Rattle.std.proofs.Common.{◌≡◌, ℕ, ◌+◌, ◌<◌, false, List, [], ◌∷◌, ◌++◌, length, map, Option, Some, Result, Ok, Err, OnOk, refl, ap, append_assoc, arith, ◌==◌, option_map, rules}
+use Rattle.std.proofs.Common.{◌≡◌, ℕ, ◌<◌, false, List, [], ◌∷◌, ◌++◌, length, map, Ok, Err, refl, ap, append_assoc, arith, ◌==◌, rules}
 use Rattle.std.specs.List.{after_first}
 use Rattle.std.specs.Str.Lines.{strip_carriage_return}
 use Rattle.std.proofs.lemmas.List.{append-nil}
 use Rattle.std.proofs.lemmas.List.Splits.{slice_split_at, slice_split_none, length-slice_split}
 use Rattle.std.proofs.lemmas.List.Elements.{All-head, All-tail}
-use Rattle.sum_sources.specs.Contents.{Fault, Ending, Whole, Broken, Content, IfKnown, empty_content}
-use Rattle.sum_sources.specs.ManifestLines.{Next, Line, NoMore, LineStop, last_line, raw_lines, lines, NoNewline, NextLineIs}
-use Rattle.sum_sources.specs.LineReaders.{left_by}
+use Rattle.sum_sources.specs.Contents.{Fault, Ending, Whole, Broken, Content, empty_content}
+use Rattle.sum_sources.specs.ManifestLines.{Line, NoMore, last_line, raw_lines, lines, NoNewline, NextLineIs}
 use Rattle.sum_sources.proofs.ContentLemmas.{Gave, Gave-is}
 use Rattle.sum_sources.specs.declared.line_reader.LineStop.TheVariants as stops
 
@@ -61,28 +60,6 @@ pub NextLineIs-fault : (c d : Content) (f : Fault) (piece : List ℕ) → NoNewl
 NextLineIs-fault c d f piece none gave =
     rw (Gave-is c (record { bytes = []; ending = Broken f }) piece gave, append-nil)
     (ap (map strip_carriage_return) (pieces-last (Broken f) piece none), refl)
-
--- what next_line's first clause says of two contents, by the numbers of bytes consumed
-abbrev Gives : ℕ → ℕ → Result Next LineStop → List ℕ → Content → Content → Type 0
-Gives n m r line c d = NextLineIs c d r line × OnOk r (n + length d.bytes ≡ m + length c.bytes)
-
--- what remains after a stop doesn't matter
-pub gives_stop : {r : Result Next LineStop} {e : LineStop} (x z : Option Content) (f g : Content → Content)
-    (piece line : List ℕ) (n m : ℕ) → r ≡ Err e → IfKnown x (option_map f z) (λ c d. NextLineIs c d r piece)
-    → IfKnown x (option_map g z) (Gives n m r line)
-gives_stop x z f g piece line n m is h = grind arith
-
--- the end was returned before, and is returned again
-pub gives_ended : (z : Option Content) (line : List ℕ) (n : ℕ)
-    → IfKnown (option_map (λ _. empty_content) z) (option_map (λ _. empty_content) z) (Gives n n (Ok NoMore) line)
-gives_ended z line n = grind (arith, lines-nil)
-
--- so is a stop
-pub gives_stopped : (e : LineStop) (z : Option Content) (f : Content → Content) (line : List ℕ)
-    → (e ≡ stops.Memory → (c : Content) → 0 < length (f c).bytes)
-    → IfKnown (option_map (λ c. left_by (Some (Err e)) (f c)) z) (option_map (λ c. left_by (Some (Err e)) (f c)) z)
-    (Gives 0 0 (Err e) line)
-gives_stopped e z f line some = grind (arith, lines-nil)
 
 -- what has a line has a byte
 some_bytes : (bytes line : List ℕ) (e : Ending) (ls : List (List ℕ))

@@ -1,5 +1,4 @@
 -- The piece of a line in the reader's buffer.
-use Rattle.std.proofs.lemmas.Grind.{common_steps}
 use Rattle.std.proofs.Common.{◌≡◌, ℕ, ◌+◌, ◌-◌, ◌<◌, ◌≤◌, ◌==◌, List, ◌∷◌, ◌++◌, length, take, drop, get_or, false, refl, ap, ◌∙◌, arith, add-one, length-take, length-drop}
 use Rattle.std.proofs.lemmas.List.{length-take-le, get_or-take, drop-take, drop-drop}
 use Rattle.std.proofs.lemmas.Bool.{false_from_ne_true}
@@ -12,10 +11,9 @@ use Rattle.sum_sources.specs.ManifestLines.{NoNewline}
 pub length-buffered : (buf : List ℕ) (s e : ℕ) → s ≤ e → e ≤ length buf → length (take (e - s) (drop s buf)) ≡ e - s
 length-buffered buf s e low high = simp (length-take, length-drop) (omega arith)
 
--- some remain if some are buffered
-pub some_buffered : (buf rest : List ℕ) (s e : ℕ) → s < e → e ≤ length buf
-    → 0 < length (take (e - s) (drop s buf) ++ rest)
-some_buffered buf rest s e low high = grind (arith, common_steps)
+-- so some are buffered if these differ
+pub some_buffered : (buf : List ℕ) (s e : ℕ) → s < e → e ≤ length buf → 0 < length (take (e - s) (drop s buf))
+some_buffered buf s e low high = rw (length-buffered buf s e (omega arith) high) (omega arith)
 
 -- the bytes before the first newline that is found have none
 pub plain_prefix : (bytes : List ℕ) (n : ℕ) → n ≤ length bytes → Nowhere (Passes (is_byte 10) bytes) 0 n

@@ -1,21 +1,24 @@
 -- The part of a line that was read so far, and what reading on adds to it.
 use Rattle.std.proofs.lemmas.Grind.{common_steps}
-use Rattle.std.proofs.Common.{◌≡◌, ℕ, true, false, List, [], ◌∷◌, ◌++◌, Option, None, Ok, append_assoc, ◌==◌, option_map, arith}
+use Rattle.std.proofs.Common.{◌≡◌, ℕ, ◌+◌, ◌^◌, ◌<◌, ◌≤◌, true, false, List, [], ◌∷◌, ◌++◌, length, Option, None, Some, Result, Ok, Err, OnOk, refl, ap, append_assoc, ◌==◌, rules, arith, length-append}
+use Rattle.std.specs.Prelude.{⊤}
 use Rattle.std.proofs.lemmas.List.Elements.{All-append}
-use Rattle.sum_sources.specs.ManifestLines.{Line, NoNewline, NextLineIs}
-use Rattle.sum_sources.specs.Contents.{Content, InputState, IfKnown, empty_content}
-use Rattle.sum_sources.specs.LineReaders.{LineReaderValue, remaining_content}
+use Rattle.sum_sources.specs.ManifestLines.{Next, Line, LineStop, NoNewline, NextLineIs}
+use Rattle.sum_sources.specs.Contents.{Broken, Content, InputState, IfKnown}
+use Rattle.sum_sources.specs.LineReaders.{LineReaderValue, Bounded, remaining_content, consumed, MayRemain, ReadsSomeLine}
 use Rattle.sum_sources.specs.refinement.LineStates.{TakesPiece}
+use Rattle.sum_sources.specs.declared.line_reader.LineStop.TheVariants as stops
 use Rattle.std.specs.Str.Lines.{strip_carriage_return}
 use Rattle.sum_sources.proofs.ContentLemmas.{Gave}
-use Rattle.sum_sources.proofs.LineLemmas.{NextLineIs-ended}
-use Rattle.sum_sources.proofs.KnownLemmas.{IfKnown-map}
+use Rattle.sum_sources.proofs.LineLemmas.{NextLineIs-ended, lines-nil}
+use Rattle.sum_sources.proofs.RemainLemmas.{below_limit, some_ahead, some_line}
 
 -- this much of a line was read, and no newline: a record, so that antt finds what it speaks of
 pub record LineSoFar {I : Type 0} (state : I → InputState) (old s : LineReaderValue I) (line : List ℕ) : Type 0 where
   pub read : IfKnown (remaining_content state old) (remaining_content state s) (λ c d. Gave c d line)
   pub plain : NoNewline line
   pub going : s.final_answer ≡ None
+  pub sum : consumed s ≡ consumed old + length line
 
 -- bytes that were ahead are read, too
 took : {I : Type 0} {state : I → InputState} {old s s' : LineReaderValue I} {line : List ℕ} (prefix : List ℕ)
@@ -25,31 +28,65 @@ took prefix h same ahead = grind (arith, common_steps)
 
 -- the whole buffer joins the line if it has no newline
 pub LineSoFar-piece : {I : Type 0} {state : I → InputState} {old s s' : LineReaderValue I} {line line' : List ℕ}
-    → LineSoFar state old s line → s' ≡ record s { ahead = s'.ahead }
+    → LineSoFar state old s line → s' ≡ record s { ahead = s'.ahead } → length s.ahead ≤ s'.taken
     → TakesPiece false s.ahead s'.ahead line line' → LineSoFar state old s' line'
-LineSoFar-piece h same piece = grind (arith, common_steps)
+LineSoFar-piece h same few piece = grind (arith, common_steps)
 
 -- a newline in the buffer ends the line
 pub ends_line : {I : Type 0} {state : I → InputState} {old s s' : LineReaderValue I} {line line' : List ℕ}
     → LineSoFar state old s line → s' ≡ record s { ahead = s'.ahead }
-    → TakesPiece true s.ahead s'.ahead line line'
-    → IfKnown (remaining_content state old) (remaining_content state s')
-    (λ c d. NextLineIs c d (Ok Line) (strip_carriage_return line'))
-ends_line {state = state} {old = old} {s' = s'} {line = line} h same (piece, plain, cut, is) =
-    rw is (IfKnown-map (remaining_content state old) (remaining_content state s') (λ c d gave.
-    NextLineIs-ended c d (line ++ piece) (All-append (λ b. (b == 10) ≡ false) line piece h.plain plain)
-    (rw (append_assoc line piece (10 ∷ [])) gave)) (took (piece ++ 10 ∷ []) h same (rw append_assoc cut)))
+    → (s'.taken < 2 ^ 61) × (length s.ahead ≤ s'.taken) → TakesPiece true s.ahead s'.ahead line line'
+    → ReadsSomeLine state old s' (Ok Line) (strip_carriage_return line')
+ends_line {I = I} {state = state} {old = old} {s = s} {s' = s'} {line = line} {line' = line'} h same few
+    (piece, plain, cut, is) =
+    λ d may.
+    let size : length s.ahead ≡ length piece + (1 + length s'.ahead) = rw (cut, length-append) (omega arith) in
+    let sum : consumed s' ≡ consumed old + length line' + 1 =
+    rw (is, length-append) (omega (arith, h.sum, ap (λ (r : LineReaderValue I). r.taken) same)) in
+    let going : s'.final_answer ≡ None = search rules in
+    let none : NoNewline line' = rw is (All-append (λ b. (b == 10) ≡ false) line piece h.plain plain) in
+    let read : IfKnown (remaining_content state old) (remaining_content state s') (λ c d. Gave c d (line' ++ 10 ∷ [])) =
+    rw (is, append_assoc) (took (piece ++ 10 ∷ []) h same (rw append_assoc cut)) in
+    let more = length-append line' (10 ∷ []) in
+    some_line _ (remaining_content state old) (remaining_content state s') (Ok Line) (strip_carriage_return line')
+    (line' ++ 10 ∷ []) (consumed old) (consumed s') d d read may
+    (omega (arith, below_limit (state s'.input).content s'.ahead s'.taken d (few.0, omega arith) (rw going at may))) (omega arith)
+    (λ c. NextLineIs-ended c d line' none)
 
--- the line is all that was read, if just this remains
-pub all_read : {I : Type 0} {state : I → InputState} {old s : LineReaderValue I} {line : List ℕ} (y : Option Content)
-    (rest : Content) → LineSoFar state old s line → IfKnown (remaining_content state s) y (λ c d. c ≡ rest)
-    → IfKnown (remaining_content state old) y (λ c d. Gave c rest line)
-all_read y rest h is = grind arith
+-- if just the rest remains, the line is all that was read before it
+pub ends_at : {I : Type 0} {state : I → InputState} {old s : LineReaderValue I} {line : List ℕ} (y : Option Content)
+    (rest : Content) (r : Result Next LineStop) (line' : List ℕ) (m : ℕ) (d : Content) → LineSoFar state old s line
+    → IfKnown (remaining_content state s) y (λ c d. c ≡ rest)
+    → consumed old + (length line + length rest.bytes) < 2 ^ 61
+    → OnOk r (m + length d.bytes ≡ consumed old + (length line + length rest.bytes))
+    → ((c : Content) → Gave c rest line → NextLineIs c d r line')
+    → (c : Content) × MayRemain state old c × NextLineIs c d r line'
+    × OnOk r (m + length d.bytes ≡ consumed old + length c.bytes)
+ends_at {state = state} {old = old} {line = line} y rest r line' m d h is few sum of =
+    let read : IfKnown (remaining_content state old) (Some rest) (λ c d. Gave c d line) = grind arith in
+    some_line ⊤ (remaining_content state old) (Some rest) r line' line (consumed old) m rest d read refl few sum of
 
--- so the input's end ends the line, or leaves none
-pub ends_last : {I : Type 0} {state : I → InputState} {old s : LineReaderValue I} {line : List ℕ}
-    (z : Option Content) (f : Content → Content) (Q : Content → Content → Type 0) → LineSoFar state old s line
-    → IfKnown (remaining_content state s) (option_map f z) (λ c d. c ≡ empty_content)
-    → ((c : Content) → Gave c empty_content line → Q c empty_content)
-    → IfKnown (remaining_content state old) (option_map (λ _. empty_content) z) Q
-ends_last z f Q h ended all = grind arith
+-- want of memory means that something remained
+pub no_memory : {I : Type 0} {state : I → InputState} {old s : LineReaderValue I} {line : List ℕ}
+    → LineSoFar state old s line → (s.taken < 2 ^ 61) × (length s.ahead ≤ s.taken) → 0 < length s.ahead
+    → (c : Content) × MayRemain state old c × (0 < length c.bytes) × ⊤
+no_memory {state = state} {old = old} {s = s} {line = line} h few some =
+    let x = (state s.input).content in
+    let (d, remains, more) = some_ahead x s.ahead s.taken few some in
+    let known : MayRemain state s d = rw h.going remains in
+    some_line _ (remaining_content state old) (remaining_content state s) (Err stops.Memory) [] line (consumed old) 0 d d
+    h.read known (omega (arith, h.sum, below_limit x s.ahead s.taken d few remains)) tt
+    (λ c gave. rw (gave.0, length-append) (omega arith))
+
+-- a stop is returned again
+pub stopped_again : {I : Type 0} (state : I → InputState) (r : LineReaderValue I) (stop : LineStop) (line : List ℕ)
+    → r.final_answer ≡ Some (Err stop) → Bounded r → (stop ≡ stops.Memory → 0 < length r.ahead)
+    → ReadsSomeLine state r r (Err stop) line
+stopped_again state r (stops.Fault f) line is bounds some =
+    λ d may.
+    (record { bytes = []; ending = Broken f }, rw is refl, (lines-nil (Broken f), refl), tt)
+stopped_again state r stops.Memory line is bounds some =
+    λ d may.
+    let few : (r.taken < 2 ^ 61) × (length r.ahead ≤ r.taken) = grind (arith, common_steps) in
+    let (c, remains, more) = some_ahead (state r.input).content r.ahead r.taken few (some refl) in
+    (c, rw is remains, more, tt)

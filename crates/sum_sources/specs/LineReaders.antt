@@ -1,8 +1,8 @@
 -- The state of a reader of lines, and what a call changes in it.
-use Rattle.std.specs.Prelude.{ℕ, ◌≡◌, ◌+◌, ◌-◌, ◌≤◌, ◌⊎◌, ⊤, List, [], ◌++◌, take, length, nat_lt, if◌then◌else◌, Option, None, Some, Result, Ok, Err, option_map}
+use Rattle.std.specs.Prelude.{ℕ, ◌≡◌, ◌+◌, ◌-◌, ◌<◌, ◌≤◌, ◌⊎◌, ⊤, List, [], ◌++◌, take, length, nat_lt, if◌then◌else◌, Option, None, Some, Result, Ok, Err, OnOk, MatchOption, option_map}
 use Rattle.digest_kinds.specs.Limits.{LIMIT}
-use Rattle.sum_sources.specs.Contents.{Other, Broken, Content, InputState, limit, empty_content}
-use Rattle.sum_sources.specs.ManifestLines.{Next, Line, NoMore, LineStop, NoNewline, lines_after}
+use Rattle.sum_sources.specs.Contents.{Fault, Other, Broken, Content, InputState, limit, empty_content}
+use Rattle.sum_sources.specs.ManifestLines.{Next, Line, NoMore, LineStop, NoNewline, NextLineIs, lines_after}
 use Rattle.sum_sources.specs.Phases.{Phase, Reading, Ended}
 use Rattle.sum_sources.specs.declared.line_reader.LineStop.TheVariants as stops
 
@@ -23,6 +23,8 @@ pub record Bounded {I : Type 0} (r : LineReaderValue I) : Type 0 where
   pub lines : r.lines + length r.ahead ≤ r.taken
   pub ahead : length r.ahead ≤ 8192
   pub taken : r.taken ≤ LIMIT
+  -- only a fault may come with the limit
+  pub under : (r.taken < LIMIT) ⊎ ((f : Fault) × (r.final_answer ≡ Some (Err (stops.Fault f))))
 
 -- a content of which fewer than n bytes count
 abbrev pub clip_to : ℕ → Content → Content
@@ -33,15 +35,26 @@ abbrev pub with_prefix : List ℕ → Content → Content
 with_prefix prefix c = record { bytes = prefix ++ c.bytes; ending = c.ending }
 
 -- the remaining content, given the final answer: nothing after the end, and just the fault after a fault
-abbrev pub left_by : Option (Result Next LineStop) → Content → Content
-left_by (Some (Ok n)) c = empty_content
-left_by (Some (Err (stops.Fault f))) c = record { bytes = []; ending = Broken f }
+abbrev pub left_by : Option (Result Next LineStop) → Option Content → Option Content
+left_by (Some (Ok n)) c = Some empty_content
+left_by (Some (Err (stops.Fault f))) c = Some (record { bytes = []; ending = Broken f })
 left_by _ c = c
 
--- the remaining content: the bytes read ahead and then the input's content, as far as the limit allows
+-- the remaining content, if known: the bytes read ahead and then the input's content, as far as the limit allows
 abbrev pub remaining_content : {I : Type 0} → (I → InputState) → LineReaderValue I → Option Content
 remaining_content state r =
-    option_map (λ c. left_by r.final_answer (with_prefix r.ahead (clip_to (limit - r.taken) c))) (state r.input).content
+    left_by r.final_answer (option_map (λ c. with_prefix r.ahead (clip_to (limit - r.taken) c)) (state r.input).content)
+
+-- a content that may remain: the known one, or any that the limit allows
+abbrev pub MayRemain : {I : Type 0} → (I → InputState) → LineReaderValue I → Content → Type 0
+MayRemain state r c = MatchOption (remaining_content state r) (consumed r + length c.bytes < limit) (λ d. c ≡ d)
+
+-- the next line was read: each content that may remain is what it left of one that may have remained; and if `Ok`,
+-- bytes consumed and remaining add up to the same
+abbrev pub ReadsSomeLine : {I : Type 0} → (I → InputState) → LineReaderValue I → LineReaderValue I
+    → Result Next LineStop → List ℕ → Type 0
+ReadsSomeLine state old new result line = (d : Content) → MayRemain state new d → (c : Content) × MayRemain state old c
+    × NextLineIs c d result line × OnOk result (consumed new + length d.bytes ≡ consumed old + length c.bytes)
 
 -- what every later call returns, once this was returned: after a line nothing is settled, or the end; after the end or
 -- a stop, the same

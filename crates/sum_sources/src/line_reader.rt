@@ -1,6 +1,6 @@
 //! The lines of a manifest, one at a time.
 ghost use Rattle.std.specs.Prelude.{◌≡◌, ◌≤◌, ◌<◌, ◌+◌, [], true, false, length};
-ghost use Rattle.std.specs.Prelude.{None, IfOk, IfSome, IsErr, OnOk, if◌then◌else◌};
+ghost use Rattle.std.specs.Prelude.{None, Some, Err, IfOk, IfSome, IsErr, MatchResult, if◌then◌else◌};
 ghost use Rattle.std.specs.Str.Lines.{strip_carriage_return};
 ghost use Rattle.digest_kinds.specs.Limits.{LIMIT};
 ghost use Rattle.sum_sources.specs.Contents.{IfKnown};
@@ -76,9 +76,9 @@ fn drop_return<A: Allocator>(line: &mut Vec<u8, A>)
 impl<I: Input> LineReader<I> {
     ghost use Rattle.std.specs.Option.{option_map};
     ghost use Rattle.sum_sources.specs.Contents.{clip};
-    ghost use Rattle.sum_sources.specs.ManifestLines.{NextLineIs, NoNewline};
+    ghost use Rattle.sum_sources.specs.ManifestLines.{NoNewline};
     ghost use Rattle.sum_sources.specs.LineReaders.{remaining_content, consumed, Bounded, FinalAnswerAfter};
-    ghost use Rattle.sum_sources.specs.LineReaders.{AdvancesLines, IsReadSoFar};
+    ghost use Rattle.sum_sources.specs.LineReaders.{AdvancesLines, IsReadSoFar, ReadsSomeLine};
     ghost use Rattle.sum_sources.specs.refinement.LineStates.{FillOf, TakesPiece};
 
     /// A reader of the lines of `input`. An input of `LIMIT` bytes or more counts as its first
@@ -121,7 +121,7 @@ impl<I: Input> LineReader<I> {
         self.input
     }
 
-    // Reads into the empty buffer. Returns false if the input has ended.
+    // Reads into the empty buffer. Returns false if the input has ended. A fault is final.
     fn fill(&mut self) -> Result<bool, Fault>
         requires empty { self.old.ahead ≡ [] }
         requires going { self.old.final_answer ≡ None }
@@ -132,13 +132,20 @@ impl<I: Input> LineReader<I> {
         ensures input { IfKnown (I.state self.old.input).content (I.state self.new.input).content
             (λ c d. self.new.taken + length d.bytes ≡ self.old.taken + length c.bytes) }
         ensures lines { self.new.lines ≡ self.old.lines }
-        ensures final_answer { IfOk result (λ _. self.new.final_answer ≡ None) }
+        ensures final_answer { MatchResult result (λ _. self.new.final_answer ≡ None)
+            (λ fault. self.new.final_answer ≡ Some (Err (LineStop.Fault fault))) }
         ensures phase { IfOk result (λ more. (I.state self.old.input).phase ≡ Phase.Reading
             → (I.state self.new.input).phase ≡ (if more then Phase.Reading else Phase.Ended)) }
     {
         self.start = 0;
         self.end = 0;
-        self.end = read_limited(&mut self.input, &mut self.taken, &mut self.buf)?;
+        self.end = match read_limited(&mut self.input, &mut self.taken, &mut self.buf) {
+            Ok(size) => size,
+            Err(fault) => {
+                self.state = ReaderState::Stopped(LineStop::Fault(fault));
+                return Err(fault);
+            }
+        };
         Ok(self.end != 0)
     }
 
@@ -152,6 +159,7 @@ impl<I: Input> LineReader<I> {
         ensures consumed { IfOk result (λ ended. consumed self.new + length line.old.items
             ≡ consumed self.old + length line.new.items + (if ended then 1 else 0)) }
         ensures same { self.new ≡ record self.old { ahead = self.new.ahead } }
+        ensures few { (self.new.taken < LIMIT) × (length self.old.ahead ≤ self.new.taken) }
     {
         if self.start == self.end {
             return Ok(false);
@@ -175,25 +183,23 @@ impl<I: Input> LineReader<I> {
     fn read_on<A: Allocator>(&mut self, line: &mut Vec<u8, A>) -> Result<Next, LineStop>
         requires empty { line.old.items ≡ [] }
         requires going { self.old.final_answer ≡ None }
-        ensures line { IfKnown (remaining_content I.state self.old) (remaining_content I.state self.new)
-            (λ c d. NextLineIs c d result (strip_carriage_return line.new.items)) }
-        ensures memory { result ≡ Err LineStop.Memory → 0 < length self.new.ahead }
-        ensures consumed { OnOk result (IfKnown (remaining_content I.state self.old)
-            (remaining_content I.state self.new)
-            (λ c d. consumed self.new + length d.bytes ≡ consumed self.old + length c.bytes)) }
+        ensures line { ReadsSomeLine I.state self.old self.new result (strip_carriage_return line.new.items) }
         ensures input { IfKnown (I.state self.old.input).content (I.state self.new.input).content
             (λ c d. self.new.taken + length d.bytes ≡ self.old.taken + length c.bytes) }
         ensures some { result ≡ Ok Next.Line → consumed self.old < consumed self.new }
         ensures lines { self.new.lines ≡ self.old.lines }
-        ensures final_answer { OnOk result (FinalAnswerAfter result self.new.final_answer) }
-        ensures phase { OnOk result (IsReadSoFar I.state self.old → IsReadSoFar I.state self.new) }
+        ensures final_answer { FinalAnswerAfter result self.new.final_answer }
+        ensures phase { IsReadSoFar I.state self.old → IsReadSoFar I.state self.new }
         ensures ahead { ¬ NoNewline self.old.ahead → self.new.input ≡ self.old.input }
     {
         loop {
             match self.take_piece(line) {
                 Ok(true) => return Ok(Next::Line),
                 Ok(false) => {}
-                Err(_) => return Err(LineStop::Memory),
+                Err(_) => {
+                    self.state = ReaderState::Stopped(LineStop::Memory);
+                    return Err(LineStop::Memory);
+                }
             }
             match self.fill() {
                 Ok(true) => {}
@@ -214,10 +220,9 @@ impl<I: Input> LineReader<I> {
     /// the line was refused. Every later call returns the same, and doesn't read the input. The content of `line` is
     /// unspecified after these, and doesn't matter before.
     pub fn next_line<A: Allocator>(&mut self, line: &mut Vec<u8, A>) -> Result<Next, LineStop>
-        // If known: the next line of what remained; and if `Ok`, bytes consumed and remaining add up to the same.
-        ensures line { IfKnown (remaining_content I.state self.old) (remaining_content I.state self.new)
-            (λ c d. NextLineIs c d result line.new.items
-            × OnOk result (consumed self.new + length d.bytes ≡ consumed self.old + length c.bytes)) }
+        // Known or not: the next line of some content that remained, which is the known one, if it is known; and if
+        // `Ok`, bytes consumed and remaining add up to the same.
+        ensures line { ReadsSomeLine I.state self.old self.new result line.new.items }
         // A final answer is returned again; the reader stays as it is.
         ensures repeats { IfSome self.old.final_answer (λ answer. (result ≡ answer) × (self.new ≡ self.old)) }
         // Known or not: the lines counted, how far the input was read, and which answers are final.
@@ -235,13 +240,9 @@ impl<I: Input> LineReader<I> {
         }
         line.clear();
         let result = self.read_on(line);
-        match result {
-            Ok(Next::Line) => {
-                drop_return(line);
-                self.lines += 1;
-            }
-            Ok(Next::NoMore) => {}
-            Err(stop) => self.state = ReaderState::Stopped(stop),
+        if let Ok(Next::Line) = result {
+            drop_return(line);
+            self.lines += 1;
         }
         result
     }

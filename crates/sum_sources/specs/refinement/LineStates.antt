@@ -1,5 +1,5 @@
 -- The view of a reader of lines, its invariant, and what its steps change.
-use Rattle.std.specs.Prelude.{◌≡◌, ◌+◌, ◌-◌, ◌<◌, ◌≤◌, take, drop, Option, None, Some, Result, Ok, Err, Bool, true, false, ℕ, List, [], ◌∷◌, ◌++◌}
+use Rattle.std.specs.Prelude.{◌≡◌, ◌+◌, ◌-◌, ◌<◌, ◌≤◌, ◌⊎◌, take, drop, Option, None, Some, Result, Ok, Err, Bool, true, false, ℕ, List, [], ◌∷◌, ◌++◌}
 use Rattle.digest_kinds.specs.Limits.{LIMIT}
 use Rattle.sum_sources.specs.declared.inputs.input.TheConstants.{PIECE}
 use Rattle.sum_sources.specs.Contents.{Fault, Broken, Content, empty_content}
@@ -32,6 +32,7 @@ pub record LineReaderInvariant {I : Type 0} (s : Inside I) : Type 0 where
   pub end_in : s.end ≤ PIECE
   pub each : s.lines + (s.end - s.start) ≤ s.taken
   pub most : s.taken ≤ LIMIT
+  pub under : (s.taken < LIMIT) ⊎ ((f : Fault) × (s.state ≡ Stopped (stops.Fault f)))
   pub wants : s.state ≡ Stopped stops.Memory → s.start < s.end
 
 -- filling the empty buffer: the remaining content stays, or nothing remains, by the ending

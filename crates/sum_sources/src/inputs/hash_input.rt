@@ -1,6 +1,6 @@
 //! The digest of an input.
 ghost use Rattle.std.specs.Prelude.{◌≡◌, [], length, IfOk, IfSome};
-ghost use Rattle.sum_sources.specs.Contents.{clip, Hashes};
+ghost use Rattle.sum_sources.specs.Contents.{Content, clip, Hashes};
 
 use crate::inputs::size_limit::read_limited;
 use crate::{Fault, Input, PIECE, Phase};
@@ -11,7 +11,9 @@ use digest_kinds::{Digest, Hasher};
 /// hasher has to be a new one.
 pub fn hash_input<I: Input, H: Hasher + Drop>(input: &mut I, hasher: H) -> Result<Digest, Fault>
     requires { H.holds hasher [] }
-    ensures digest { IfSome (I.state input.old).content (λ c. Hashes (H.kind_of hasher) (clip c) result) }
+    // Known or not: that of some content, which is the known one, if it is known.
+    ensures digest { (c : Content) × IfSome (I.state input.old).content (λ d. c ≡ d)
+        × Hashes (H.kind_of hasher) (clip c) result }
     ensures len { IfOk result (λ d. length d ≡ (H.kind_of hasher).len) }
     // A digest is returned only if no read failed, and the input was not read again after its end.
     ensures phase { IfOk result (λ _. (I.state input.old).phase ≡ Phase.Reading
@@ -29,7 +31,9 @@ pub fn hash_input_over<I: Input, H: Hasher + Drop>(
     buffer: &mut [u8; PIECE],
 ) -> Result<Digest, Fault>
     requires { H.holds hasher [] }
-    ensures digest { IfSome (I.state input.old).content (λ c. Hashes (H.kind_of hasher) (clip c) result) }
+    // Known or not: that of some content, which is the known one, if it is known.
+    ensures digest { (c : Content) × IfSome (I.state input.old).content (λ d. c ≡ d)
+        × Hashes (H.kind_of hasher) (clip c) result }
     ensures len { IfOk result (λ d. length d ≡ (H.kind_of hasher).len) }
     // A digest is returned only if no read failed, and the input was not read again after its end.
     ensures phase { IfOk result (λ _. (I.state input.old).phase ≡ Phase.Reading

@@ -1,21 +1,23 @@
-use Rattle.std.proofs.Common.{[], ap, arith, ◌∙◌}
+use Rattle.std.proofs.lemmas.Grind.{common_steps}
+use Rattle.std.proofs.Common.{ap, arith, refl, ◌∙◌}
 use Rattle.sum_sources.specs.declared.line_reader.ReaderState.TheVariants.{Stopped}
+use Rattle.sum_sources.specs.Contents.{empty_content, Whole}
+use Rattle.sum_sources.proofs.LineLemmas.{lines-nil}
+use Rattle.sum_sources.proofs.ReadOnLemmas.{stopped_again}
+use Rattle.sum_sources.specs.refinement.LineStates.{line_reader_view, final_answer_in}
 use Rattle.sum_sources.proofs.PieceLemmas.{some_buffered}
-use Rattle.sum_sources.proofs.LineLemmas.{gives_ended, gives_stopped, gives_stop}
 use Rattle.sum_sources.proofs.line_reader.LineReader.next_line.Goals as goal
 
 -- the end is returned again
 pub returns-in-Ended-clause-line : goal.returns-in-Ended-clause-line
-returns-in-Ended-clause-line g c = rw (← c.self.view_is, c.in-Ended.is) (gives_ended _ [] _)
+returns-in-Ended-clause-line g c =
+    rw (← c.self.view_is, c.in-Ended.is) (λ d is. (empty_content, refl, (lines-nil Whole, refl), rw is refl))
 
 -- a stop is returned again
 pub returns-in-Stopped-clause-line : goal.returns-in-Stopped-clause-line
-returns-in-Stopped-clause-line g c = rw (← c.self.view_is, c.in-Stopped.is) (gives_stopped _ _ _ _
-    (λ is k. some_buffered c.self.inside.buf _ _ _ (c.self.invariant.wants (c.in-Stopped.is ∙ ap Stopped is))
+returns-in-Stopped-clause-line g c =
+    rw (← c.self.view_is)
+    (stopped_again g.I.Input.state (line_reader_view c.self.inside) _ _ (ap final_answer_in c.in-Stopped.is)
+    (grind (arith, common_steps))
+    (λ is. some_buffered c.self.inside.buf _ _ (c.self.invariant.wants (c.in-Stopped.is ∙ ap Stopped is))
     (omega (arith, c.self.invariant.end_in, c.self.told))))
-
--- a stop
-pub returns-in-Err-clause-line : goal.returns-in-Err-clause-line
-returns-in-Err-clause-line g c =
-    gives_stop _ _ _ _ _ _ _ _ c.in-Err.is
-    (rw (← c.self-2.view_is) at c.read_on-result.ensures.line)

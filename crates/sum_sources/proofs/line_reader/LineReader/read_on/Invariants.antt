@@ -1,6 +1,5 @@
 use Rattle.std.proofs.Common.{◌≡◌, length, ◌^◌, ◌-◌, ◌+◌, ◌⊎◌}
 use Rattle.sum_sources.specs.Contents.{IfKnown}
-use Rattle.sum_sources.specs.LineReaders.{consumed}
 use Rattle.sum_sources.proofs.ReadOnLemmas.{LineSoFar}
 use Rattle.sum_sources.specs.ManifestLines.{NoNewline}
 use Rattle.sum_sources.specs.Phases.{Reading}
@@ -12,7 +11,6 @@ invariant-loop-self g l = record {
   so_far : LineSoFar g.I.Input.state l.fn.self l.self l.line.items;
   input : IfKnown (g.I.Input.state l.fn.self.input).content (g.I.Input.state l.self.input).content
       (λ c d. l.self.taken + length d.bytes ≡ l.fn.self.taken + length c.bytes);
-  consumed : consumed l.self ≡ consumed l.fn.self + length l.line.items;
   lines : l.self.lines ≡ l.fn.self.lines;
   unread : (l.self ≡ l.fn.self) ⊎ NoNewline l.fn.self.ahead;
   phase : (g.I.Input.state l.fn.self.input).phase ≡ Reading → (g.I.Input.state l.self.input).phase ≡ Reading;

@@ -1,0 +1,67 @@
+use Rattle.std.proofs.Common.{rules, ◌≡◌, ◌∙◌, ◌+◌, ◌<◌, ℕ, [], length, Option, None, Some, IfSome, MatchOption, Ok, Err, ap, sym, subst, refl, arith}
+use Rattle.std.proofs.lemmas.Result.{err_from_is_err_and}
+use Rattle.sum_sources.specs.Contents.{Content, InputState, limit}
+use Rattle.sum_sources.specs.declared.fault.Ending.TheVariants.{Whole, Broken}
+use Rattle.sum_sources.specs.LineReaders.{MayRemain, remaining_content, consumed}
+use Rattle.sum_sources.specs.ManifestLines.{lines}
+use Rattle.sum_sources.specs.declared.line_reader.LineReader.{LineReader}
+use Rattle.sum_sources.specs.declared.line_reader.Next.TheVariants.{Line, NoMore}
+use Rattle.sum_sources.specs.declared.line_reader.LineStop.TheVariants as stops
+use Rattle.example_same.proofs.count_lines.Goals as goal
+
+-- what holds of a content that may remain holds of the known one
+known : {I : Type 0} (state : I → InputState) (r : LineReader I) (P : Content → Type 0)
+    → (c : Content) × MayRemain state r c × P c → IfSome (remaining_content state r) P
+known state r P some = by (remaining_content state r) some.0 some.1 some.2
+  where
+    by : (x : Option Content) (c : Content) → MatchOption x (consumed r + length c.bytes < limit) (λ d. c ≡ d) → P c
+        → IfSome x P
+    by None c may p = tt
+    by (Some d) c is p = subst P is p
+
+-- a line more was read
+pub loop-line-preserved : goal.loop-line-preserved
+loop-line-preserved g c =
+    let so_far = c.loop-line.invariant in
+    let is : c.in_ok-next_line.field-0 ≡ Line = search rules in
+    let gives = rw is at c.in_ok-next_line.ensures.line in
+    let number = rw is at c.in_ok-next_line.ensures.reader.lines in
+    record {
+      lines = λ d may.
+          let read = gives d may in
+          let before = so_far.lines read.0 read.1 in (
+            before.0,
+            before.1,
+            omega (arith, before.2, ap length read.2.0, number),
+            ap (λ (c : Content). c.ending) read.2.1
+                ∙ before.3,
+          );
+      phase = λ phase. c.in_ok-next_line.ensures.reader.phase (so_far.phase phase);
+    }
+
+-- none is left
+pub returns-clause-count : goal.returns-clause-count
+returns-clause-count g c =
+    let is : c.in_ok-next_line.field-0 ≡ NoMore = search rules in
+    let read = (rw is at c.in_ok-next_line.ensures.line) (record { bytes = []; ending = Whole })
+    (rw (rw is at c.in_ok-next_line.ensures.reader.final_answer) refl) in
+    let before = c.loop-line.invariant.lines read.0 read.1 in
+    let number = rw is at c.in_ok-next_line.ensures.reader.lines in
+    known g.I.Input.state c.args.from.now (λ k. (k.ending ≡ Whole)
+    × (c.lines.result ≡ c.args.from.now.lines + length (lines k))) (
+      before.0,
+      before.1,
+      (
+        sym before.3 ∙ read.2.1,
+        omega (arith, c.lines.ensures, number, before.2, ap length read.2.0),
+      ),
+    )
+
+-- the input ended by a fault
+pub returns-in_err-next_line-clause-fault : goal.returns-in_err-next_line-clause-fault
+returns-in_err-next_line-clause-fault g c = λ fault returned.
+    let is : c.in_err-next_line.field-0.0 ≡ stops.Fault fault = search rules in
+    let read = (rw is at c.in_err-next_line.ensures.line) (record { bytes = []; ending = Broken fault })
+    (rw (rw is at c.in_err-next_line.ensures.reader.final_answer) refl) in
+    let before = c.loop-line.invariant.lines read.0 read.1 in
+    known g.I.Input.state c.args.from.now (λ k. k.ending ≡ Broken fault) (before.0, before.1, sym before.3 ∙ read.2.1)
